@@ -1,0 +1,83 @@
+-- Looking a timer of a `PlainWheel` up, and taking it away.
+use Rattle.std.proofs.Common.{◌≡◌, ◌≢◌, ◌<◌, ◌≤◌, ℕ, Bool, true, false, not, ◌==◌, List, [], ◌∷◌, length, refl, sym, ◌∙◌, ap, inl, inr, arith}
+use Rattle.std.specs.Prelude.{slice_get, map, filter, find, if◌then◌else◌, Some, None}
+use Rattle.std.proofs.lemmas.Bool.Decides.{nat_tests}
+use Rattle.timer_base.specs.declared.timer.Timer.{Timer}
+use Rattle.timer_base.specs.declared.timer.Handle.{Handle}
+use Rattle.timer_base.specs.Order.{in_order, itself, AreRising}
+use Rattle.timer_base.specs.OrderLaws.{either, filter-in_order}
+use Rattle.timer_base.specs.Pending.{is_due_at, has_serial, has_handle, first_timer, without_found}
+use Rattle.timer_base.specs.WheelState.{timer_at, after_stop}
+use Rattle.timer_base.specs.PlainState.{is_after, due_count, at_first_place, plain_state}
+use Rattle.timer_base.proofs.PlainSteps.{state_is, filter-map, filter_after, AreAfter}
+use Rattle.timer_base.proofs.PlainExpiries.{find-filter}
+
+not_zero : (n : ℕ) → n ≢ 0 → (0 == n) ≡ false
+not_zero n h = grind (arith, nat_tests)
+
+-- no other place has a timer
+pub no_place : (h : Handle) (ts : List Timer) → h.place ≢ 0 → first_timer (has_handle h) (map at_first_place ts) ≡ None
+no_place h [] n = refl
+no_place h (t ∷ ts) n = rw (not_zero h.place n) (no_place h ts n)
+
+is_zero : (n : ℕ) → n ≡ 0 → (0 == n) ≡ true
+is_zero n h = grind (arith, nat_tests)
+
+at_place : (h : Handle) (ts : List Timer) → h.place ≡ 0 → first_timer (has_handle h) (map at_first_place ts) ≡ find (has_serial h.serial) ts
+at_place h [] z = refl
+at_place h (t ∷ ts) z = rw (is_zero h.place z) (ap (λ o. if has_serial h.serial t then Some t else o) (at_place h ts z))
+
+filter-filter_same : (p q : Timer → Bool) (ts : List Timer) → filter p (filter q ts) ≡ filter q (filter p ts)
+filter-filter_same p q [] = refl
+filter-filter_same p q (t ∷ ts) = elim (either (p t)) [
+  | inl h ↦ elim (either (q t)) [ inl k ↦ simp (h, k) (ap (λ us. t ∷ us) (filter-filter_same p q ts)) | inr k ↦ simp (h, k) (filter-filter_same p q ts) ]
+  | inr h ↦ elim (either (q t)) [ inl k ↦ simp (h, k) (filter-filter_same p q ts) | inr k ↦ simp (h, k) (filter-filter_same p q ts) ]
+]
+
+-- at most one has the serial
+no_serial : (k low : ℕ) (ts : List Timer) → k ≤ low → AreRising low ts → filter (has_serial k) ts ≡ []
+no_serial k low [] l r = refl
+no_serial k low (t ∷ ts) l r =
+    let r0 : low < t.serial = r.0 in
+    rw (other t.serial k (omega arith)) (no_serial k t.serial ts (omega arith) r.1)
+  where
+    other : (a b : ℕ) → b < a → (a == b) ≡ false
+    other a b h = grind (arith, nat_tests)
+
+eq_is : (a b : ℕ) → (a == b) ≡ true → a ≡ b
+eq_is a b h = grind (arith, nat_tests)
+
+one_serial : (k low : ℕ) (ts : List Timer) → AreRising low ts → in_order itself (filter (has_serial k) ts) ≡ filter (has_serial k) ts
+one_serial k low [] r = refl
+one_serial k low (t ∷ ts) r = elim (either (has_serial k t)) [
+  | inl h ↦ let same : t.serial ≡ k = eq_is t.serial k h in
+      let none : filter (has_serial k) ts ≡ [] = no_serial k t.serial ts (omega arith) r.1 in
+      rw (h, none) refl
+  | inr h ↦ rw h (one_serial k t.serial ts r.1)
+]
+
+find_in_order : (k : ℕ) (ts : List Timer) → AreRising 0 ts → find (has_serial k) (in_order itself ts) ≡ find (has_serial k) ts
+find_in_order k ts r = find-filter (has_serial k) (in_order itself ts)
+    ∙ ap (λ us. slice_get us 0) (filter-in_order itself (has_serial k) ts ∙ one_serial k 0 ts r)
+    ∙ sym (find-filter (has_serial k) ts)
+
+pub look_here : (now last : ℕ) (ts : List Timer) (h : Handle) → AreRising 0 ts → AreAfter now ts → h.place ≡ 0 → find (has_serial h.serial) ts ≡ timer_at h (plain_state now last ts)
+look_here now last ts h r a z =
+    sym (at_place h (in_order itself (filter (is_after now) ts)) z ∙ ap (λ us. find (has_serial h.serial) (in_order itself us)) (filter_after now ts a) ∙ find_in_order h.serial ts r)
+
+-- with nothing due, nothing is due of what is left
+still_none : (now : ℕ) (q : Timer → Bool) (ts : List Timer) → filter (is_due_at now) ts ≡ [] → filter (is_due_at now) (filter q ts) ≡ filter (is_due_at now) ts
+still_none now q ts h = filter-filter_same (is_due_at now) q ts ∙ ap (filter q) h ∙ sym h
+
+pub due_count-without : (now : ℕ) (q : Timer → Bool) (ts : List Timer) → filter (is_due_at now) ts ≡ [] → due_count now (filter q ts) ≡ due_count now ts
+due_count-without now q ts h = ap length (still_none now q ts h)
+
+pub plain_state-after_stop : (now last : ℕ) (ts : List Timer) (h : Handle) (t : Timer) → filter (is_due_at now) ts ≡ [] → timer_at h (plain_state now last ts) ≡ Some t
+    → plain_state now last (filter (λ u. not (has_serial t.serial u)) ts) ≡ after_stop h (plain_state now last ts)
+plain_state-after_stop now last ts h t d f =
+    state_is now last
+    (ap (λ us. map at_first_place (in_order itself us)) (filter-filter_same (is_after now) (λ u. not (has_serial t.serial u)) ts)
+    ∙ ap (map at_first_place) (sym (filter-in_order itself (λ u. not (has_serial t.serial u)) (filter (is_after now) ts)))
+    ∙ sym (filter-map (λ u. not (has_serial t.serial u)) (in_order itself (filter (is_after now) ts))))
+    (still_none now (λ u. not (has_serial t.serial u)) ts d)
+    ∙ ap (λ o. record (plain_state now last ts) { pending = without_found o (plain_state now last ts).pending }) (sym f)

@@ -1,0 +1,6 @@
+pub mod OneOrder
+pub mod Order
+pub mod OrderLaws
+pub mod Pending
+pub mod PlainState
+pub mod WheelState

@@ -1,0 +1,56 @@
+-- The order of timers: by deadline, and then by serial. What is ordered may be timers, or anything that has one.
+use Rattle.std.specs.Prelude.{◌≡◌, ◌≢◌, ◌<◌, ℕ, Bool, false, ◌||◌, ◌&&◌, ◌==◌, nat_lt, if◌then◌else◌, List, [], ◌∷◌}
+use Rattle.timer_base.specs.declared.timer.Timer.{Timer}
+
+-- a is handed out before b: its deadline is earlier, or the same and its serial is lower
+abbrev pub is_before : Timer → Timer → Bool
+is_before a b = nat_lt a.deadline b.deadline || (a.deadline == b.deadline && nat_lt a.serial b.serial)
+
+-- x goes before the first one that is handed out after it
+abbrev pub insert_in_order : {X : Type 0} → (X → Timer) → X → List X → List X
+insert_in_order timer x [] = x ∷ []
+insert_in_order timer x (y ∷ ys) = if is_before (timer x) (timer y) then x ∷ y ∷ ys else y ∷ insert_in_order timer x ys
+
+-- the members of a list by deadline, and then by serial
+abbrev pub in_order : {X : Type 0} → (X → Timer) → List X → List X
+in_order timer [] = []
+in_order timer (x ∷ xs) = insert_in_order timer x (in_order timer xs)
+
+-- x goes before the first one with a later deadline, or last where there is none
+abbrev pub insert_by_deadline : {X : Type 0} → (X → Timer) → X → List X → List X
+insert_by_deadline timer x [] = x ∷ []
+insert_by_deadline timer x (y ∷ ys) = if nat_lt (timer x).deadline (timer y).deadline then x ∷ y ∷ ys else y ∷ insert_by_deadline timer x ys
+
+-- none of the timers is handed out before this one
+abbrev pub IsFirst : Timer → List Timer → Type 0
+IsFirst t [] = Unit {0}
+IsFirst t (u ∷ us) = (is_before u t ≡ false) × IsFirst t us
+
+-- no timer is handed out before an earlier one of the list
+abbrev pub IsOrdered : List Timer → Type 0
+IsOrdered [] = Unit {0}
+IsOrdered (t ∷ ts) = IsFirst t ts × IsOrdered ts
+
+-- none of the timers has this serial
+abbrev pub IsNotAmong : ℕ → List Timer → Type 0
+IsNotAmong serial [] = Unit {0}
+IsNotAmong serial (t ∷ ts) = (t.serial ≢ serial) × IsNotAmong serial ts
+
+-- no serial stands twice
+abbrev pub AreDistinct : List Timer → Type 0
+AreDistinct [] = Unit {0}
+AreDistinct (t ∷ ts) = IsNotAmong t.serial ts × AreDistinct ts
+
+-- each serial is above the one before it, the first above low
+abbrev pub AreRising : ℕ → List Timer → Type 0
+AreRising low [] = Unit {0}
+AreRising low (t ∷ ts) = (low < t.serial) × AreRising t.serial ts
+
+-- each serial is below high
+abbrev pub AreBelow : ℕ → List Timer → Type 0
+AreBelow high [] = Unit {0}
+AreBelow high (t ∷ ts) = (t.serial < high) × AreBelow high ts
+
+-- a timer that stands alone
+abbrev pub itself : Timer → Timer
+itself t = t

@@ -1,0 +1,71 @@
+-- What a wheel means, and what each call makes of it.
+use Rattle.std.specs.Prelude.{ℕ, ◌+◌, ◌<◌, ◌≤◌, List, [], Option, drop, slice_get}
+use Rattle.std.specs.List.{AllByRecursion}
+use Rattle.timer_base.specs.declared.timer.Timer.{Timer}
+use Rattle.timer_base.specs.declared.timer.Handle.{Handle}
+use Rattle.timer_base.specs.declared.limits.TheConstants.{LAST}
+use Rattle.timer_base.specs.Order.{IsOrdered, AreDistinct, AreRising}
+use Rattle.timer_base.specs.Pending.{Entry, timers_of, put, has_handle, first_timer, without_found, entries_due, entries_left}
+
+pub record WheelState : Type 0 where
+  -- the last tick of the wheel's clock; no call changes it
+  pub last_tick : ℕ
+  -- the present tick
+  pub now : ℕ
+  -- by deadline, and then by serial
+  pub pending : List Entry
+  -- by serial
+  pub due : List Timer
+  -- 0 where none was started
+  pub last_serial : ℕ
+
+-- a new wheel
+abbrev pub empty_wheel : ℕ → ℕ → WheelState
+empty_wheel last_tick first_tick = record { last_tick = last_tick; now = first_tick; pending = []; due = []; last_serial = 0 }
+
+-- a timer is started at a place
+abbrev pub after_start : ℕ → Timer → WheelState → WheelState
+after_start place timer w = record w { pending = put (record { place = place; timer = timer }) w.pending; last_serial = timer.serial }
+
+-- the pending timer with just this handle
+abbrev pub timer_at : Handle → WheelState → Option Timer
+timer_at handle w = first_timer (has_handle handle) w.pending
+
+-- the timer with this handle is taken away, if there is one
+abbrev pub after_stop : Handle → WheelState → WheelState
+after_stop handle w = record w { pending = without_found (timer_at handle w) w.pending }
+
+-- the next tick: what has it as its deadline is due, and is pending no more
+abbrev pub after_tick : WheelState → WheelState
+after_tick w = record w {
+  now = w.now + 1;
+  pending = entries_left (w.now + 1) w.pending;
+  due = timers_of (entries_due (w.now + 1) w.pending);
+}
+
+abbrev pub first_due : WheelState → Option Timer
+first_due w = slice_get w.due 0
+
+-- the first due timer is taken, if there is one
+abbrev pub after_expiry : WheelState → WheelState
+after_expiry w = record w { due = drop 1 w.due }
+
+-- nothing is pending
+abbrev pub after_clear : WheelState → WheelState
+after_clear w = record w { pending = [] }
+
+-- a pending timer's deadline is after now and within the clock, and its serial at most the last one
+pub record IsPending (last_tick now last_serial : ℕ) (t : Timer) : Type 0 where
+  pub later : now < t.deadline
+  pub in_range : t.deadline ≤ last_tick
+  pub serial : t.serial ≤ last_serial
+
+-- what every wheel keeps
+pub record IsWellFormed (w : WheelState) : Type 0 where
+  pub last_in_range : w.last_tick ≤ LAST
+  pub now_in_range : w.now ≤ w.last_tick
+  pub serial_in_range : w.last_serial ≤ LAST
+  pub ordered : IsOrdered (timers_of w.pending)
+  pub distinct : AreDistinct (timers_of w.pending)
+  pub each : AllByRecursion (IsPending w.last_tick w.now w.last_serial) (timers_of w.pending)
+  pub due_rising : AreRising 0 w.due

@@ -1,0 +1,33 @@
+//! Why a call gave up.
+ghost use Rattle.std.specs.Prelude.{◌≡◌};
+
+use std::alloc::{AllocError, AllocFailed};
+use thiserror::Error;
+
+/// A growth was refused. What was to grow is as it was.
+#[derive(Clone, Copy, Debug, PartialEq, Eq, Error)]
+#[error("out of memory")]
+pub struct OutOfMemory;
+
+impl From<AllocError> for OutOfMemory {
+    fn from(_: AllocError) -> Self {
+        OutOfMemory
+    }
+}
+
+impl<T: Drop> From<AllocFailed<T>> for OutOfMemory {
+    fn from(_: AllocFailed<T>) -> Self {
+        OutOfMemory
+    }
+}
+
+/// Why a wheel was not made, in the order in which it is tested.
+#[derive(Clone, Copy, Debug, PartialEq, Eq, Error)]
+pub enum MakeFault {
+    #[error("the number of slots is out of range")]
+    Slots,
+    #[error("the first tick is out of range")]
+    FirstTick,
+    #[error("out of memory")]
+    OutOfMemory,
+}

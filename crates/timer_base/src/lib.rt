@@ -1,0 +1,29 @@
+//! What every part of the timer facility speaks of: timers and their handles, what a wheel is, and
+//! the plainest wheel.
+//!
+//! The layer above knows a wheel by the trait [`Wheel`] alone: the present tick, one list of pending
+//! timers by deadline and then serial, the timers that are due, and the last serial. Read `wheel`
+//! first, with `specs/WheelState.antt` beside it, and then `plain`, the shortest body that does it.
+//! `laws` has what follows for every wheel.
+#![tactic(auto)]
+
+mod fault;
+mod laws;
+mod limits;
+mod plain;
+mod sorting;
+mod timer;
+mod wheel;
+
+pub use fault::{MakeFault, OutOfMemory};
+pub use laws::{
+    a_start_keeps_the_order, a_stop_takes_one, a_tick_cuts_the_front, the_order_is_one,
+};
+pub use limits::LAST;
+pub use plain::PlainWheel;
+pub use sorting::sort_timers;
+pub use timer::{Handle, Timer};
+pub use wheel::Wheel;
+
+#[cfg(test)]
+mod tests;

@@ -1,0 +1,166 @@
+//! The plain wheel: Scheme 1 of G. Varghese and T. Lauck, "Hashed and Hierarchical Timing Wheels",
+//! SOSP 1987.
+//!
+//! One `Vec` of timers in order of starting, and no slots at all: each tick goes through all of them.
+//! What has the present tick as its deadline is due, and stays where it is until it is taken. It is
+//! slow, and the shortest body that is a wheel.
+//!
+//! Three timers, started at tick 0 for the deadlines 5, 3 and 5 (written serial:deadline):
+//!
+//!     now   the timers        pending, in order   due
+//!       0   1:5 2:3 3:5       2:3 1:5 3:5
+//!       3   1:5 2:3 3:5       1:5 3:5             2:3
+//!           1:5 3:5           1:5 3:5                   2 is taken
+//!       5   1:5 3:5                               1:5 3:5
+//!
+//! Each handle has place 0: the serial alone says which timer is meant.
+ghost use Rattle.std.specs.Prelude.{◌≡◌, ◌≤◌, ◌<◌, ◌↔◌, IfOk, IfErr, IsErr, length, filter, find, not};
+ghost use Rattle.std.proofs.Math.Nat.{ℕ_set};
+ghost use Rattle.std.specs.List.{AllByRecursion};
+ghost use Rattle.timer_base.specs.declared.limits.TheConstants.{LAST};
+ghost use Rattle.timer_base.specs.Order.{AreRising};
+ghost use Rattle.timer_base.specs.OrderLaws.{AreRising-prop};
+ghost use Rattle.timer_base.specs.Pending.{has_serial, is_due_at};
+ghost use Rattle.timer_base.specs.PlainState.{IsKept, IsKept-prop, due_count, plain_state, plain_state-well_formed};
+ghost use Rattle.timer_base.specs.WheelState.{empty_wheel};
+
+use crate::fault::{MakeFault, OutOfMemory};
+use crate::limits::LAST;
+use crate::sorting::sort_timers;
+use crate::timer::{Handle, Timer};
+use crate::wheel::Wheel;
+use std::alloc::Global;
+
+/// One list of timers, which every tick goes through (Scheme 1).
+#[derive(Drop)]
+pub struct PlainWheel {
+    now: u64,
+    last_serial: u64,
+    // In order of starting, the due ones among them.
+    timers: Vec<Timer>,
+    // How many of them are due, so that `len` needs no walk.
+    due: usize,
+    ghost now_in_range: { now ≤ LAST },
+    ghost serial_in_range: { last_serial ≤ LAST },
+    ghost rising: { AreRising 0 timers.items } by { AreRising-prop 0 timers.items },
+    ghost kept: { AllByRecursion (IsKept now last_serial) timers.items } by { IsKept-prop now last_serial timers.items },
+    ghost counted: { due ≡ due_count now timers.items } by { ℕ_set _ _ },
+}
+
+impl PlainWheel {
+    /// A wheel with no timer, at a first tick of at most `LAST`. That is its only fault: it takes
+    /// no memory.
+    pub fn new(alloc: Global, first_tick: u64) -> Result<PlainWheel, MakeFault>
+        ensures made { IfOk result (λ wheel. ⟦<PlainWheel as Wheel>⟧.state wheel ≡ empty_wheel LAST first_tick) }
+        ensures fault { IsErr result ↔ (LAST < first_tick) }
+        ensures first_tick { IfErr result (λ fault. fault ≡ MakeFault.FirstTick) }
+    {
+        if first_tick > LAST {
+            return Err(MakeFault::FirstTick);
+        }
+        Ok(PlainWheel {
+            now: first_tick,
+            last_serial: 0,
+            timers: Vec::new(alloc),
+            due: 0,
+        })
+    }
+}
+
+impl Wheel for PlainWheel {
+    ghost state = { λ w. plain_state w.now w.last_serial w.timers.items };
+
+    ghost well_formed = { λ w. plain_state-well_formed w.now w.last_serial w.timers.items w.now_in_range w.serial_in_range w.rising w.kept };
+
+    fn last_tick(&self) -> u64 {
+        LAST
+    }
+
+    fn now(&self) -> u64 {
+        self.now
+    }
+
+    fn len(&self) -> usize {
+        self.timers.len() - self.due
+    }
+
+    fn has_due(&self) -> bool {
+        self.due != 0
+    }
+
+    fn last_serial(&self) -> u64 {
+        self.last_serial
+    }
+
+    fn start(&mut self, timer: Timer) -> Result<Handle, OutOfMemory> {
+        self.timers.push(timer)?;
+        self.last_serial = timer.serial;
+        Ok(Handle {
+            place: 0,
+            serial: timer.serial,
+        })
+    }
+
+    fn look(&self, handle: Handle) -> Option<Timer> {
+        if handle.place != 0 {
+            return None;
+        }
+        find_serial(self.timers.as_slice(), handle.serial)
+    }
+
+    fn stop(&mut self, handle: Handle) -> Option<Timer> {
+        let stopped = self.look(handle)?;
+        drop_serial(&mut self.timers, stopped.serial);
+        Some(stopped)
+    }
+
+    fn per_tick(&mut self) {
+        self.now += 1;
+        self.due = count_due(self.timers.as_slice(), self.now);
+    }
+
+    fn expire(&mut self) -> Option<Timer> {
+        let first = find_due(self.timers.as_slice(), self.now)?;
+        drop_serial(&mut self.timers, first.serial);
+        self.due -= 1;
+        Some(first)
+    }
+
+    fn list(&self) -> Result<Vec<Timer>, OutOfMemory> {
+        let mut timers = Vec::from_slice(*self.timers.allocator(), self.timers.as_slice())?;
+        sort_timers(&mut timers);
+        Ok(timers)
+    }
+
+    fn clear(&mut self) {
+        self.timers.clear();
+    }
+}
+
+/// How many of the timers are due at the tick.
+fn count_due(timers: &[Timer], tick: u64) -> usize
+    ensures { result ≡ due_count tick timers.now }
+{
+    timers.iter().filter(|t| t.deadline == tick).count()
+}
+
+/// The first of the timers that is due at the tick.
+fn find_due(timers: &[Timer], tick: u64) -> Option<Timer>
+    ensures { result ≡ find (is_due_at tick) timers.now }
+{
+    timers.iter().copied().find(|t| t.deadline == tick)
+}
+
+/// The first of the timers with the serial.
+fn find_serial(timers: &[Timer], serial: u64) -> Option<Timer>
+    ensures { result ≡ find (has_serial serial) timers.now }
+{
+    timers.iter().copied().find(|t| t.serial == serial)
+}
+
+/// Takes away what has the serial, and keeps the order of the others.
+fn drop_serial(timers: &mut Vec<Timer>, serial: u64)
+    ensures { timers.new.items ≡ filter (λ t. not (has_serial serial t)) timers.old.items }
+{
+    timers.retain(|t| t.serial != serial);
+}

@@ -1,0 +1,98 @@
+//! What a wheel is: it keeps timers until the tick of their deadline.
+//!
+//! One record, `WheelState`, is what a wheel means, however it keeps its timers:
+//!
+//!     last_tick     the last tick of its clock, which never changes
+//!     now           the present tick
+//!     pending       the timers that wait, by deadline and then serial, each with its place
+//!     due           the timers whose deadline is now, by serial, until they are taken
+//!     last_serial   the serial of the last start, 0 where there was none
+//!
+//! Each call that changes a wheel is one equation on this record. The four routines of G. Varghese
+//! and T. Lauck, "Hashed and Hierarchical Timing Wheels" (SOSP 1987), are `start` (START_TIMER),
+//! `stop` (STOP_TIMER), `per_tick` (PER_TICK_BOOKKEEPING) and `expire` (the timers that their
+//! EXPIRY_PROCESSING is for).
+ghost use Rattle.std.specs.Prelude.{◌≡◌, ◌<◌, ◌≤◌, ◌↔◌, [], length, IsTrue, IfOk, OnErr};
+ghost use Rattle.timer_base.specs.declared.limits.TheConstants.{LAST};
+ghost use Rattle.timer_base.specs.Pending.{timers_of};
+ghost use Rattle.timer_base.specs.WheelState.{WheelState, IsWellFormed, timer_at, first_due, after_start, after_stop, after_tick, after_expiry, after_clear};
+
+use crate::fault::OutOfMemory;
+use crate::timer::{Handle, Timer};
+
+/// Keeps timers until the tick of their deadline.
+pub trait Wheel {
+    /// What the wheel means, however it keeps its timers.
+    ghost state: { Self → WheelState };
+
+    /// The last tick of the wheel's clock: a fixed number, at most `LAST`.
+    fn last_tick(&self) -> u64
+        ensures { result ≡ (state self.now).last_tick };
+
+    /// The present tick.
+    fn now(&self) -> u64
+        ensures { result ≡ (state self.now).now };
+
+    /// How many timers are pending. Those that are due are not counted.
+    fn len(&self) -> usize
+        ensures { result ≡ length (state self.now).pending };
+
+    /// Whether a timer is due and was not yet taken.
+    fn has_due(&self) -> bool
+        ensures { IsTrue result ↔ (0 < length (state self.now).due) };
+
+    /// The serial of the last start, or 0 where none was started.
+    fn last_serial(&self) -> u64
+        ensures { result ≡ (state self.now).last_serial };
+
+    /// Starts a timer (START_TIMER), and answers its handle.
+    ///
+    /// Only a refused growth is an error, and then nothing changes. The place is a free choice.
+    fn start(&mut self, timer: Timer) -> Result<Handle, OutOfMemory>
+        requires nothing_due { (state self.old).due ≡ [] }
+        requires later { (state self.old).now < timer.deadline }
+        requires deadline { timer.deadline ≤ (state self.old).last_tick }
+        requires fresh { (state self.old).last_serial < timer.serial }
+        requires serial { timer.serial ≤ LAST }
+        ensures named { IfOk result (λ handle. handle.serial ≡ timer.serial) }
+        ensures started { IfOk result (λ handle. state self.new ≡ after_start handle.place timer (state self.old)) }
+        ensures err { OnErr result (state self.new ≡ state self.old) };
+
+    /// The pending timer with just this handle, place and serial. It takes no memory.
+    fn look(&self, handle: Handle) -> Option<Timer>
+        requires { (state self.now).due ≡ [] }
+        ensures { result ≡ timer_at handle (state self.now) };
+
+    /// Takes away the pending timer with just this handle (STOP_TIMER), and answers it.
+    ///
+    /// Where there is none, nothing changes. It takes no memory.
+    fn stop(&mut self, handle: Handle) -> Option<Timer>
+        requires { (state self.old).due ≡ [] }
+        ensures timer { result ≡ timer_at handle (state self.old) }
+        ensures stopped { state self.new ≡ after_stop handle (state self.old) };
+
+    /// Goes to the next tick (PER_TICK_BOOKKEEPING): the pending timers with that deadline become
+    /// due, by serial. It takes no memory.
+    fn per_tick(&mut self)
+        requires nothing_due { (state self.old).due ≡ [] }
+        requires before_last { (state self.old).now < (state self.old).last_tick }
+        ensures { state self.new ≡ after_tick (state self.old) };
+
+    /// Takes the first of the due timers. It takes no memory.
+    fn expire(&mut self) -> Option<Timer>
+        ensures first { result ≡ first_due (state self.old) }
+        ensures rest { state self.new ≡ after_expiry (state self.old) };
+
+    /// The pending timers, by deadline and then serial. Only a refused growth is an error.
+    fn list(&self) -> Result<Vec<Timer>, OutOfMemory>
+        requires { (state self.now).due ≡ [] }
+        ensures { IfOk result (λ timers. timers.items ≡ timers_of (state self.now).pending) };
+
+    /// Drops what is pending. The tick and the last serial stay. It takes no memory.
+    fn clear(&mut self)
+        requires { (state self.old).due ≡ [] }
+        ensures { state self.new ≡ after_clear (state self.old) };
+
+    /// What each wheel keeps.
+    ghost well_formed: { (wheel : Self) → IsWellFormed (state wheel) };
+}
