@@ -1,0 +1,110 @@
+-- Facts of rows and of lists of rows.
+use Rattle.std.proofs.Common.{◌≡◌, ◌≢◌, ◌<◌, ◌≤◌, ◌+◌, ℕ, zero, suc, List, [], ◌∷◌, ◌++◌, length, refl, sym, ap, subst, inl, inr, arith}
+use Rattle.std.specs.Prelude.{map, Some, None, slice_set}
+use Rattle.std.proofs.lemmas.Bool.{eq-eqb, ne_eqb}
+use Rattle.timer_links.specs.declared.node.Node.{Node}
+use Rattle.timer_links.specs.Lists.{node_in, node_at, list_at, row_count, without_key}
+use Rattle.timer_links.specs.Linked.{Has, IsDistinct}
+use Rattle.timer_links.proofs.Sides.{has_right}
+
+pub some_none : {X : Type 0} (x : X) → Some x ≢ None
+some_none x = λ (h : Some x ≡ None). cc
+
+pub has_as : (k j : ℕ) (rows : List (ℕ × Node)) → k ≡ j → Has k rows → Has j rows
+has_as k j rows e h = let P : ℕ → Type 0 = λ x. Has x rows in subst P e h
+
+pub has_in : (k : ℕ) (xs ys : List (ℕ × Node)) → xs ≡ ys → Has k xs → Has k ys
+has_in k xs ys e h = let P : List (ℕ × Node) → Type 0 = λ x. Has k x in subst P e h
+
+pub distinct_in : (xs ys : List (ℕ × Node)) → xs ≡ ys → IsDistinct xs → IsDistinct ys
+distinct_in xs ys e h = let P : List (ℕ × Node) → Type 0 = λ x. IsDistinct x in subst P e h
+
+module _ (key : ℕ) (node : Node) (rest : List (ℕ × Node)) where
+  pub has_more : (k : ℕ) (front : List (ℕ × Node)) → Has k (front ++ rest) → Has k (front ++ (key, node) ∷ rest)
+  has_more k [] h = inr h
+  has_more k (x ∷ xs) (inl e) = inl e
+  has_more k (x ∷ xs) (inr h) = inr (has_more k xs h)
+
+  pub has_other : (k : ℕ) (front : List (ℕ × Node)) → k ≢ key → Has k (front ++ (key, node) ∷ rest) → Has k (front ++ rest)
+  has_other k [] n (inl e) = absurd (n (sym e))
+  has_other k [] n (inr h) = h
+  has_other k (x ∷ xs) n (inl e) = inl e
+  has_other k (x ∷ xs) n (inr h) = inr (has_other k xs n h)
+
+  pub has_this : (front : List (ℕ × Node)) → Has key (front ++ (key, node) ∷ rest)
+  has_this front = has_right key front ((key, node) ∷ rest) (inl refl)
+
+  pub distinct_without : (front : List (ℕ × Node)) → IsDistinct (front ++ (key, node) ∷ rest) → IsDistinct (front ++ rest)
+  distinct_without [] d = d.1
+  distinct_without (x ∷ xs) d = ((λ h. d.0 (has_more x.0 xs h)), distinct_without xs d.1)
+
+  pub distinct_apart : (front : List (ℕ × Node)) → IsDistinct (front ++ (key, node) ∷ rest) → Has key (front ++ rest) → ⊥
+  distinct_apart [] d h = d.0 h
+  distinct_apart (x ∷ xs) d (inl e) = d.0 (has_as key x.0 (xs ++ (key, node) ∷ rest) (sym e) (has_this xs))
+  distinct_apart (x ∷ xs) d (inr h) = distinct_apart xs d.1 h
+
+  pub length_split : (front : List (ℕ × Node)) → length (front ++ (key, node) ∷ rest) ≡ length (front ++ rest) + 1
+  length_split [] = omega arith
+  length_split (x ∷ xs) = let h : length (xs ++ (key, node) ∷ rest) ≡ length (xs ++ rest) + 1 = length_split xs in omega arith
+
+pub without_absent : (key : ℕ) (rows : List (ℕ × Node)) → (Has key rows → ⊥) → without_key key rows ≡ rows
+without_absent key [] n = refl
+without_absent key (r ∷ rs) n = rw (ne_eqb r.0 key (λ (e : r.0 ≡ key). n (inl e))) (ap (λ (x : List (ℕ × Node)). r ∷ x) (without_absent key rs (λ h. n (inr h))))
+
+pub without_split : (key : ℕ) (node : Node) (front rest : List (ℕ × Node)) → IsDistinct (front ++ (key, node) ∷ rest) → without_key key (front ++ (key, node) ∷ rest) ≡ front ++ rest
+without_split key node [] rest d = rw (eq-eqb key key refl) (without_absent key rest d.0)
+without_split key node (x ∷ xs) rest d =
+    let n : x.0 ≢ key = λ (e : x.0 ≡ key). d.0 (has_as key x.0 (xs ++ (key, node) ∷ rest) (sym e) (has_this key node rest xs)) in
+    rw (ne_eqb x.0 key n) (ap (λ (y : List (ℕ × Node)). x ∷ y) (without_split key node xs rest d.1))
+
+pub node_in-absent : (k : ℕ) (rows : List (ℕ × Node)) → (Has k rows → ⊥) → node_in k rows ≡ None
+node_in-absent k [] n = refl
+node_in-absent k (r ∷ rs) n = rw (ne_eqb r.0 k (λ (e : r.0 ≡ k). n (inl e))) (node_in-absent k rs (λ h. n (inr h)))
+
+pub node_in-split : (key : ℕ) (node : Node) (front rest : List (ℕ × Node)) → IsDistinct (front ++ (key, node) ∷ rest) → node_in key (front ++ (key, node) ∷ rest) ≡ Some node
+node_in-split key node [] rest d = rw (eq-eqb key key refl) refl
+node_in-split key node (x ∷ xs) rest d =
+    let n : x.0 ≢ key = λ (e : x.0 ≡ key). d.0 (has_as key x.0 (xs ++ (key, node) ∷ rest) (sym e) (has_this key node rest xs)) in
+    rw (ne_eqb x.0 key n) (node_in-split key node xs rest d.1)
+
+-- where a key stands in a list
+pub record IsSplit (key : ℕ) (rows : List (ℕ × Node)) : Type 0 where
+  pub front : List (ℕ × Node)
+  pub node : Node
+  pub rest : List (ℕ × Node)
+  pub is : rows ≡ front ++ (key, node) ∷ rest
+
+pub split_at : (key : ℕ) (rows : List (ℕ × Node)) → Has key rows → IsSplit key rows
+split_at key [] h = absurd h
+split_at key (r ∷ rs) (inl e) = record { front = []; node = r.1; rest = rs; is = ap (λ (y : ℕ). (y, r.1) ∷ rs) e }
+split_at key (r ∷ rs) (inr h) =
+    let i = split_at key rs h in
+    record { front = r ∷ i.front; node = i.node; rest = i.rest; is = ap (λ (y : List (ℕ × Node)). r ∷ y) i.is }
+
+pub map_each : (f : List (ℕ × Node) → List (ℕ × Node)) (lists : List (List (ℕ × Node))) → ((l : ℕ) → l < length lists → f (list_at l lists) ≡ list_at l lists) → map f lists ≡ lists
+map_each f [] h = refl
+map_each f (x ∷ xs) h = rw (h 0 (omega arith)) (ap (λ (y : List (List (ℕ × Node))). x ∷ y) (map_each f xs (λ l b. h (suc l) (omega arith))))
+
+pub map_without : (key l : ℕ) (lists : List (List (ℕ × Node))) → ((m : ℕ) → m < length lists → m ≢ l → without_key key (list_at m lists) ≡ list_at m lists) → map (without_key key) lists ≡ slice_set lists l (without_key key (list_at l lists))
+map_without key l [] h = refl
+map_without key zero (y ∷ ys) h = ap (λ (z : List (List (ℕ × Node))). without_key key y ∷ z) (map_each (without_key key) ys (λ m b. h (suc m) (omega arith) (omega arith)))
+map_without key (suc l) (y ∷ ys) h = rw (h 0 (omega arith) (omega arith)) (ap (λ (z : List (List (ℕ × Node))). y ∷ z) (map_without key l ys (λ m b n. h (suc m) (omega arith) (omega arith))))
+
+pub node_at-none : (k : ℕ) (lists : List (List (ℕ × Node))) → ((l : ℕ) → l < length lists → node_in k (list_at l lists) ≡ None) → node_at k lists ≡ None
+node_at-none k [] h = refl
+node_at-none k (x ∷ xs) h = rw (h 0 (omega arith)) (node_at-none k xs (λ l b. h (suc l) (omega arith)))
+
+pub node_at-some : (k l : ℕ) (n : Node) (lists : List (List (ℕ × Node))) → l < length lists → node_in k (list_at l lists) ≡ Some n → ((m : ℕ) → m < length lists → m ≢ l → node_in k (list_at m lists) ≡ None) → node_at k lists ≡ Some n
+node_at-some k l n [] b h o = absurd (omega arith)
+node_at-some k zero n (x ∷ xs) b h o = rw h refl
+node_at-some k (suc l) n (x ∷ xs) b h o = rw (o 0 (omega arith) (omega arith)) (node_at-some k l n xs (omega arith) h (λ m d e. o (suc m) (omega arith) (omega arith)))
+
+pub row_count-set : (lists : List (List (ℕ × Node))) (l : ℕ) (rows : List (ℕ × Node)) → l < length lists → row_count (slice_set lists l rows) + length (list_at l lists) ≡ row_count lists + length rows
+row_count-set [] l rows h = absurd (omega arith)
+row_count-set (x ∷ xs) zero rows h = omega arith
+row_count-set (x ∷ xs) (suc l) rows h = let e : row_count (slice_set xs l rows) + length (list_at l xs) ≡ row_count xs + length rows = row_count-set xs l rows (omega arith) in omega arith
+
+pub length_list_at : (lists : List (List (ℕ × Node))) (l : ℕ) → length (list_at l lists) ≤ row_count lists
+length_list_at [] l = omega arith
+length_list_at (x ∷ xs) zero = omega arith
+length_list_at (x ∷ xs) (suc l) = let h : length (list_at l xs) ≤ row_count xs = length_list_at xs l in omega arith

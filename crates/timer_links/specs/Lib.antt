@@ -1,0 +1,4 @@
+pub mod LinkWord
+pub mod Lists
+pub mod Web
+pub mod Linked

@@ -1,0 +1,86 @@
+-- Lists of nodes, each under its key: what a layer above knows of `Links`.
+use Rattle.std.specs.Prelude.{◌≡◌, ◌<◌, ℕ, ◌+◌, not, ◌==◌, if◌then◌else◌, List, [], ◌∷◌, ◌++◌, length, map, filter, Option, Some, None, slice_index_or, slice_set}
+use Rattle.timer_links.specs.declared.node.Node.{Node}
+
+-- the node under a key of one list
+abbrev pub node_in : ℕ → List (ℕ × Node) → Option Node
+node_in key [] = None
+node_in key (row ∷ rest) = if row.0 == key then Some row.1 else node_in key rest
+
+-- the first of two that is there
+abbrev pub first_of : Option Node → Option Node → Option Node
+first_of (Some node) other = Some node
+first_of None other = other
+
+-- the node under a key, in whichever list it stands
+abbrev pub node_at : ℕ → List (List (ℕ × Node)) → Option Node
+node_at key [] = None
+node_at key (rows ∷ lists) = first_of (node_in key rows) (node_at key lists)
+
+-- the key of the first row
+abbrev pub first_key : List (ℕ × Node) → Option ℕ
+first_key [] = None
+first_key (row ∷ rest) = Some row.0
+
+-- the rows with other keys
+abbrev pub without_key : ℕ → List (ℕ × Node) → List (ℕ × Node)
+without_key key rows = filter (λ row. not (row.0 == key)) rows
+
+-- the list of this number, counted from 0
+abbrev pub list_at : ℕ → List (List (ℕ × Node)) → List (ℕ × Node)
+list_at l lists = slice_index_or lists l []
+
+-- the row goes to the back of one list
+abbrev pub with_row : ℕ → ℕ × Node → List (List (ℕ × Node)) → List (List (ℕ × Node))
+with_row l row lists = slice_set lists l (list_at l lists ++ row ∷ [])
+
+-- how many rows stand in all lists
+abbrev pub row_count : List (List (ℕ × Node)) → ℕ
+row_count [] = 0
+row_count (rows ∷ lists) = length rows + row_count lists
+
+-- the first row of one list is given out, where there is one
+abbrev pub PopsFront : ℕ → List (List (ℕ × Node)) → Option (ℕ × Node) → List (List (ℕ × Node)) → Type 0
+PopsFront l old None new = (list_at l old ≡ []) × (new ≡ old)
+PopsFront l old (Some row) new = (rest : List (ℕ × Node)) × (list_at l old ≡ row ∷ rest) × (new ≡ slice_set old l rest)
+
+-- the node goes to the back of one list, and keeps its key
+abbrev pub moved_back : ℕ → ℕ → Node → List (List (ℕ × Node)) → List (List (ℕ × Node))
+moved_back key l node lists = with_row l (key, node) (map (without_key key) lists)
+
+-- the key's node goes to the back of one list
+abbrev pub MovesBack : ℕ → ℕ → List (List (ℕ × Node)) → List (List (ℕ × Node)) → Type 0
+MovesBack key l old new = (node : Node) → node_at key old ≡ Some node → new ≡ moved_back key l node old
+
+-- of these rows of one list the first goes to the back of another, where there is one
+abbrev pub first_row_moved : ℕ → ℕ → List (List (ℕ × Node)) → List (ℕ × Node) → List (List (ℕ × Node))
+first_row_moved from to lists [] = lists
+first_row_moved from to lists (row ∷ rest) = with_row to row (slice_set lists from rest)
+
+-- the first row of one list goes to the back of another, where there is one
+abbrev pub front_moved : ℕ → ℕ → List (List (ℕ × Node)) → List (List (ℕ × Node))
+front_moved from to lists = first_row_moved from to lists (list_at from lists)
+
+-- all rows of one list go to the back of another, in their order
+abbrev pub appended : ℕ → ℕ → List (List (ℕ × Node)) → List (List (ℕ × Node))
+appended from to lists = slice_set (slice_set lists from []) to (list_at to lists ++ list_at from lists)
+
+-- wherever the key stands, this is the key behind it, or none where it is the last one
+abbrev pub IsNext : ℕ → List (List (ℕ × Node)) → Option ℕ → Type 0
+IsNext key lists found =
+    (l : ℕ) (front : List (ℕ × Node)) (node : Node) (rest : List (ℕ × Node))
+    → l < length lists → list_at l lists ≡ front ++ (key, node) ∷ rest → found ≡ first_key rest
+
+-- wherever the key stands, its node has these rounds, and all else stays
+abbrev pub SetsRounds : ℕ → ℕ → List (List (ℕ × Node)) → List (List (ℕ × Node)) → Type 0
+SetsRounds key rounds old new =
+    (l : ℕ) (front : List (ℕ × Node)) (node : Node) (rest : List (ℕ × Node))
+    → l < length old → list_at l old ≡ front ++ (key, node) ∷ rest
+    → new ≡ slice_set old l (front ++ (key, record node { rounds = rounds }) ∷ rest)
+
+-- a row's key stands nowhere else
+abbrev pub AreApart : List (List (ℕ × Node)) → Type 0
+AreApart lists =
+    (l : ℕ) (front : List (ℕ × Node)) (row : ℕ × Node) (rest : List (ℕ × Node))
+    → l < length lists → list_at l lists ≡ front ++ row ∷ rest
+    → (node_at row.0 lists ≡ Some row.1) × (map (without_key row.0) lists ≡ slice_set lists l (front ++ rest))
