@@ -1,0 +1,12 @@
+pub mod RowLemmas
+pub mod WheelLemmas
+pub mod WalkLemmas
+pub mod Wide
+pub mod MigrationLemmas
+pub mod TickLemmas
+pub mod EmptyingLemmas
+pub mod NextTick
+pub mod HierLemmas
+pub mod ShownLemmas
+pub mod SweepLemmas
+pub mod HashedTicks

@@ -1,0 +1,225 @@
+-- The rows of the first n lists, after one list or each list was changed.
+use Rattle.std.proofs.Common.{◌≡◌, ◌<◌, ◌≤◌, ◌+◌, ℕ, zero, suc, ◌==◌, List, [], ◌∷◌, ◌++◌, length, refl, sym, ◌∙◌, ap, inl, inr, arith, append_assoc}
+use Rattle.std.specs.Prelude.{Bool, map, filter, not, slice_set}
+use Rattle.std.specs.List.{AllByRecursion}
+use Rattle.timer_base.specs.declared.timer.Timer.{Timer}
+use Rattle.timer_base.specs.Order.{AreBelow, AreDistinct, IsNotAmong}
+use Rattle.timer_base.specs.OrderLaws.{either}
+use Rattle.timer_base.specs.Pending.{Entry}
+use Rattle.timer_links.specs.declared.node.Node.{Node}
+use Rattle.timer_links.specs.Lists.{list_at, with_row, without_key}
+use Rattle.timer_wheels.specs.WheelLists.{timer_in, timers_in, entry_of, entries_of, rows_below}
+
+-- Facts of every row.
+
+pub all-append : {X : Type 0} (P : X → Type 0) (xs ys : List X) → AllByRecursion P xs → AllByRecursion P ys → AllByRecursion P (xs ++ ys)
+all-append P [] ys a b = b
+all-append P (x ∷ xs) ys a b = (a.0, all-append P xs ys a.1 b)
+
+pub all-front : {X : Type 0} (P : X → Type 0) (xs ys : List X) → AllByRecursion P (xs ++ ys) → AllByRecursion P xs
+all-front P [] ys a = tt
+all-front P (x ∷ xs) ys a = (a.0, all-front P xs ys a.1)
+
+pub all-rest : {X : Type 0} (P : X → Type 0) (xs ys : List X) → AllByRecursion P (xs ++ ys) → AllByRecursion P ys
+all-rest P [] ys a = a
+all-rest P (x ∷ xs) ys a = all-rest P xs ys a.1
+
+-- what holds of each row of each list, holds of all rows
+pub all-rows_below : (P : ℕ × Node → Type 0) (n : ℕ) (lists : List (List (ℕ × Node))) → ((s : ℕ) → s < n → AllByRecursion P (list_at s lists)) → AllByRecursion P (rows_below n lists)
+all-rows_below P zero lists h = tt
+all-rows_below P (suc n) [] h = tt
+all-rows_below P (suc n) (x ∷ xs) h = all-append P x (rows_below n xs) (h 0 (omega arith)) (all-rows_below P n xs (λ s b. h (suc s) (omega arith)))
+
+-- and back
+pub all-list_at : (P : ℕ × Node → Type 0) (n : ℕ) (lists : List (List (ℕ × Node))) → AllByRecursion P (rows_below n lists) → (s : ℕ) → s < n → AllByRecursion P (list_at s lists)
+all-list_at P zero lists a s b = absurd (omega arith)
+all-list_at P (suc n) [] a s b = tt
+all-list_at P (suc n) (x ∷ xs) a zero b = all-front P x (rows_below n xs) a
+all-list_at P (suc n) (x ∷ xs) a (suc s) b = all-list_at P n xs (all-rest P x (rows_below n xs) a) s (omega arith)
+
+-- One list is written anew.
+
+-- the rows before and behind those of one list
+pub record IsAround (n l : ℕ) (lists : List (List (ℕ × Node))) : Type 0 where
+  pub front : List (ℕ × Node)
+  pub rest : List (ℕ × Node)
+  pub rows : rows_below n lists ≡ front ++ (list_at l lists ++ rest)
+  pub with_rows : (rows : List (ℕ × Node)) → rows_below n (slice_set lists l rows) ≡ front ++ (rows ++ rest)
+
+pub around : (n l : ℕ) (lists : List (List (ℕ × Node))) → l < n → l < length lists → IsAround n l lists
+around zero l lists h b = absurd (omega arith)
+around (suc n) l [] h b = absurd (omega arith)
+around (suc n) zero (x ∷ xs) h b = record { front = []; rest = rows_below n xs; rows = refl; with_rows = λ rows. refl }
+around (suc n) (suc l) (x ∷ xs) h b =
+    let ih = around n l xs (omega arith) (omega arith) in
+    record {
+      front = x ++ ih.front;
+      rest = ih.rest;
+      rows = ap (λ (y : List (ℕ × Node)). x ++ y) ih.rows ∙ sym (append_assoc x ih.front (list_at l xs ++ ih.rest));
+      with_rows = λ rows. ap (λ (y : List (ℕ × Node)). x ++ y) (ih.with_rows rows) ∙ sym (append_assoc x ih.front (rows ++ ih.rest));
+    }
+
+-- a list behind the first n is none of theirs
+pub rows_below-above : (n l : ℕ) (lists : List (List (ℕ × Node))) (rows : List (ℕ × Node)) → n ≤ l → rows_below n (slice_set lists l rows) ≡ rows_below n lists
+rows_below-above zero l lists rows h = refl
+rows_below-above (suc n) l [] rows h = refl
+rows_below-above (suc n) zero (x ∷ xs) rows h = absurd (omega arith)
+rows_below-above (suc n) (suc l) (x ∷ xs) rows h = ap (λ (y : List (ℕ × Node)). x ++ y) (rows_below-above n l xs rows (omega arith))
+
+-- lists that are alike in the first n have the same rows there
+pub rows_below-same : (n : ℕ) (old new : List (List (ℕ × Node))) → length old ≡ length new → ((s : ℕ) → s < n → list_at s new ≡ list_at s old) → rows_below n new ≡ rows_below n old
+rows_below-same zero old new e h = refl
+rows_below-same (suc n) [] [] e h = refl
+rows_below-same (suc n) [] (y ∷ ys) e h = absurd (omega arith)
+rows_below-same (suc n) (x ∷ xs) [] e h = absurd (omega arith)
+rows_below-same (suc n) (x ∷ xs) (y ∷ ys) e h =
+    let a : y ≡ x = h 0 (omega arith) in
+    rw (a, rows_below-same n xs ys (omega arith) (λ s b. h (suc s) (omega arith))) refl
+
+-- empty lists have no rows
+pub rows_below-none : (n : ℕ) (lists : List (List (ℕ × Node))) → ((s : ℕ) → s < n → list_at s lists ≡ []) → rows_below n lists ≡ []
+rows_below-none zero lists h = refl
+rows_below-none (suc n) [] h = refl
+rows_below-none (suc n) (x ∷ xs) h =
+    let a : x ≡ [] = h 0 (omega arith) in
+    rw (a, rows_below-none n xs (λ s b. h (suc s) (omega arith))) refl
+
+-- A row is put in.
+
+-- the new rows are the old ones with one more put in
+pub record IsInserted (row : ℕ × Node) (old new : List (ℕ × Node)) : Type 0 where
+  pub front : List (ℕ × Node)
+  pub rest : List (ℕ × Node)
+  pub old_is : old ≡ front ++ rest
+  pub new_is : new ≡ front ++ row ∷ rest
+
+-- a row is put into one list, anywhere
+pub rows_below-inserted : (n l : ℕ) (row : ℕ × Node) (before after : List (ℕ × Node)) (lists : List (List (ℕ × Node))) → l < n → l < length lists → list_at l lists ≡ before ++ after
+    → IsInserted row (rows_below n lists) (rows_below n (slice_set lists l (before ++ row ∷ after)))
+rows_below-inserted n l row before after lists h b e =
+    let a = around n l lists h b in
+    record {
+      front = a.front ++ before;
+      rest = after ++ a.rest;
+      old_is = a.rows ∙ (ap (λ (y : List (ℕ × Node)). a.front ++ (y ++ a.rest)) e ∙ (ap (λ (y : List (ℕ × Node)). a.front ++ y) (append_assoc before after a.rest) ∙ sym (append_assoc a.front before (after ++ a.rest))));
+      new_is = a.with_rows (before ++ row ∷ after) ∙ (ap (λ (y : List (ℕ × Node)). a.front ++ y) (append_assoc before (row ∷ after) a.rest) ∙ sym (append_assoc a.front before (row ∷ (after ++ a.rest))));
+    }
+
+pub append-nil : {X : Type 0} (xs : List X) → xs ++ [] ≡ xs
+append-nil [] = refl
+append-nil (x ∷ xs) = ap (λ r. x ∷ r) (append-nil xs)
+
+-- a row goes to the back of one list
+pub rows_below-with_row : (n l : ℕ) (row : ℕ × Node) (lists : List (List (ℕ × Node))) → l < n → l < length lists → IsInserted row (rows_below n lists) (rows_below n (with_row l row lists))
+rows_below-with_row n l row lists h b = rows_below-inserted n l row (list_at l lists) [] lists h b (sym (append-nil (list_at l lists)))
+
+-- A row is taken out.
+
+pub filter-append : {X : Type 0} (p : X → Bool) (xs ys : List X) → filter p (xs ++ ys) ≡ filter p xs ++ filter p ys
+filter-append p [] ys = refl
+filter-append p (x ∷ xs) ys = elim (either (p x)) [
+  | inl k ↦ rw k (ap (λ r. x ∷ r) (filter-append p xs ys))
+  | inr k ↦ rw k (filter-append p xs ys)
+]
+
+pub rows_below-without_key : (n key : ℕ) (lists : List (List (ℕ × Node))) → rows_below n (map (without_key key) lists) ≡ without_key key (rows_below n lists)
+rows_below-without_key zero key lists = refl
+rows_below-without_key (suc n) key [] = refl
+rows_below-without_key (suc n) key (x ∷ xs) = ap (λ (y : List (ℕ × Node)). without_key key x ++ y) (rows_below-without_key n key xs) ∙ sym (filter-append (λ r. not (r.0 == key)) x (rows_below n xs))
+
+pub list_at-without_key : (s key : ℕ) (lists : List (List (ℕ × Node))) → list_at s (map (without_key key) lists) ≡ without_key key (list_at s lists)
+list_at-without_key s key [] = refl
+list_at-without_key zero key (x ∷ xs) = refl
+list_at-without_key (suc s) key (x ∷ xs) = list_at-without_key s key xs
+
+-- Rows, entries and timers.
+
+pub timers-append : (xs ys : List (ℕ × Node)) → timers_in (xs ++ ys) ≡ timers_in xs ++ timers_in ys
+timers-append [] ys = refl
+timers-append (x ∷ xs) ys = ap (λ r. timer_in x ∷ r) (timers-append xs ys)
+
+pub entries-append : (xs ys : List (ℕ × Node)) → entries_of (xs ++ ys) ≡ entries_of xs ++ entries_of ys
+entries-append [] ys = refl
+entries-append (x ∷ xs) ys = ap (λ r. entry_of x ∷ r) (entries-append xs ys)
+
+pub filter-entries : (p : Entry → Bool) (rows : List (ℕ × Node)) → filter p (entries_of rows) ≡ entries_of (filter (λ r. p (entry_of r)) rows)
+filter-entries p [] = refl
+filter-entries p (x ∷ xs) = elim (either (p (entry_of x))) [
+  | inl k ↦ rw k (ap (λ r. entry_of x ∷ r) (filter-entries p xs))
+  | inr k ↦ rw k (filter-entries p xs)
+]
+
+pub filter-timers : (p : Timer → Bool) (rows : List (ℕ × Node)) → filter p (timers_in rows) ≡ timers_in (filter (λ r. p (timer_in r)) rows)
+filter-timers p [] = refl
+filter-timers p (x ∷ xs) = elim (either (p (timer_in x))) [
+  | inl k ↦ rw k (ap (λ r. timer_in x ∷ r) (filter-timers p xs))
+  | inr k ↦ rw k (filter-timers p xs)
+]
+
+-- Serials.
+
+pub AreBelow-timers : (high : ℕ) (rows : List (ℕ × Node)) → AllByRecursion (λ row. (timer_in row).serial < high) rows → AreBelow high (timers_in rows)
+AreBelow-timers high [] a = tt
+AreBelow-timers high (x ∷ xs) a = (a.0, AreBelow-timers high xs a.1)
+
+pub IsNotAmong-append : (serial : ℕ) (xs ys : List Timer) → IsNotAmong serial xs → IsNotAmong serial ys → IsNotAmong serial (xs ++ ys)
+IsNotAmong-append serial [] ys a b = b
+IsNotAmong-append serial (x ∷ xs) ys a b = (a.0, IsNotAmong-append serial xs ys a.1 b)
+
+pub IsNotAmong-front : (serial : ℕ) (xs ys : List Timer) → IsNotAmong serial (xs ++ ys) → IsNotAmong serial xs
+IsNotAmong-front serial [] ys a = tt
+IsNotAmong-front serial (x ∷ xs) ys a = (a.0, IsNotAmong-front serial xs ys a.1)
+
+pub IsNotAmong-rest : (serial : ℕ) (xs ys : List Timer) → IsNotAmong serial (xs ++ ys) → IsNotAmong serial ys
+IsNotAmong-rest serial [] ys a = a
+IsNotAmong-rest serial (x ∷ xs) ys a = IsNotAmong-rest serial xs ys a.1
+
+pub IsNotAmong-filter : (serial : ℕ) (p : Timer → Bool) (ts : List Timer) → IsNotAmong serial ts → IsNotAmong serial (filter p ts)
+IsNotAmong-filter serial p [] a = tt
+IsNotAmong-filter serial p (t ∷ ts) a = elim (either (p t)) [
+  | inl k ↦ rw k (a.0, IsNotAmong-filter serial p ts a.1)
+  | inr k ↦ rw k (IsNotAmong-filter serial p ts a.1)
+]
+
+pub AreDistinct-filter : (p : Timer → Bool) (ts : List Timer) → AreDistinct ts → AreDistinct (filter p ts)
+AreDistinct-filter p [] d = tt
+AreDistinct-filter p (t ∷ ts) d = elim (either (p t)) [
+  | inl k ↦ rw k (IsNotAmong-filter t.serial p ts d.0, AreDistinct-filter p ts d.1)
+  | inr k ↦ rw k (AreDistinct-filter p ts d.1)
+]
+
+pub IsNotAmong-below : (high : ℕ) (ts : List Timer) → AreBelow high ts → IsNotAmong high ts
+IsNotAmong-below high [] b = tt
+IsNotAmong-below high (t ∷ ts) b = ((λ e. let b0 : t.serial < high = b.0 in let e0 : t.serial ≡ high = e in omega arith), IsNotAmong-below high ts b.1)
+
+-- a timer with a serial of its own may stand anywhere
+pub AreDistinct-inserted : (t : Timer) (xs ys : List Timer) → IsNotAmong t.serial (xs ++ ys) → AreDistinct (xs ++ ys) → AreDistinct (xs ++ t ∷ ys)
+AreDistinct-inserted t [] ys n d = (n, d)
+AreDistinct-inserted t (x ∷ xs) ys n d =
+    (IsNotAmong-append x.serial xs (t ∷ ys) (IsNotAmong-front x.serial xs ys d.0) ((λ e. n.0 (sym e)), IsNotAmong-rest x.serial xs ys d.0), AreDistinct-inserted t xs ys n.1 d.1)
+
+-- and may be taken out
+pub AreDistinct-taken : (t : Timer) (xs ys : List Timer) → AreDistinct (xs ++ t ∷ ys) → AreDistinct (xs ++ ys)
+AreDistinct-taken t [] ys d = d.1
+AreDistinct-taken t (x ∷ xs) ys d =
+    (IsNotAmong-append x.serial xs ys (IsNotAmong-front x.serial xs (t ∷ ys) d.0) (IsNotAmong-rest x.serial xs (t ∷ ys) d.0).1, AreDistinct-taken t xs ys d.1)
+
+-- no other of the timers has its serial
+pub IsNotAmong-others : (t : Timer) (xs ys : List Timer) → AreDistinct (xs ++ t ∷ ys) → IsNotAmong t.serial (xs ++ ys)
+IsNotAmong-others t [] ys d = d.0
+IsNotAmong-others t (x ∷ xs) ys d = ((λ e. (IsNotAmong-rest x.serial xs (t ∷ ys) d.0).0 (sym e)), IsNotAmong-others t xs ys d.1)
+
+-- one list more
+pub rows_below-more : (n : ℕ) (lists : List (List (ℕ × Node))) → n < length lists → rows_below (suc n) lists ≡ rows_below n lists ++ list_at n lists
+rows_below-more zero [] h = absurd (omega arith)
+rows_below-more zero (x ∷ xs) h = append-nil x
+rows_below-more (suc n) [] h = absurd (omega arith)
+rows_below-more (suc n) (x ∷ xs) h = ap (λ (y : List (ℕ × Node)). x ++ y) (rows_below-more n xs (omega arith)) ∙ sym (append_assoc x (rows_below n xs) (list_at n xs))
+
+-- the timers copied from one list more
+pub timers_below-more : (n : ℕ) (lists : List (List (ℕ × Node))) (old new : List Timer) → n < length lists → old ≡ timers_in (rows_below n lists) → new ≡ old ++ timers_in (list_at n lists) → new ≡ timers_in (rows_below (n + 1) lists)
+timers_below-more n lists old new h a b =
+    let e : n + 1 ≡ suc n = omega arith in
+    b ∙ (ap (λ (y : List Timer). y ++ timers_in (list_at n lists)) a
+    ∙ (sym (timers-append (rows_below n lists) (list_at n lists))
+    ∙ ap timers_in (sym (ap (λ (y : ℕ). rows_below y lists) e ∙ rows_below-more n lists h))))

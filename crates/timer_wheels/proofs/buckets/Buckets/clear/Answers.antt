@@ -1,0 +1,26 @@
+use Rattle.std.proofs.Common.{◌≤◌, ℕ, ◌∙◌, arith}
+use Rattle.timer_wheels.proofs.RowLemmas.{rows_below-none}
+use Rattle.timer_wheels.proofs.WheelLemmas.{cleared, cleared-in_order}
+use Rattle.timer_wheels.proofs.buckets.Buckets.clear.Goals as goal
+
+not_below : (n : ℕ) → n ≤ n
+not_below n = omega arith
+
+pub invariant_of-self-clause-has_lists : goal.invariant_of-self-clause-has_lists
+invariant_of-self-clause-has_lists c = c.empty_lists.ensures.length ∙ c.args.self.now.has_lists
+
+pub invariant_of-self-clause-pending : goal.invariant_of-self-clause-pending
+invariant_of-self-clause-pending c = rw (rows_below-none c.args.self.now.slots c.empty_lists.new.links c.empty_lists.ensures.emptied) tt
+
+pub invariant_of-self-clause-distinct : goal.invariant_of-self-clause-distinct
+invariant_of-self-clause-distinct c = rw (rows_below-none c.args.self.now.slots c.empty_lists.new.links c.empty_lists.ensures.emptied) tt
+
+pub invariant_of-self-clause-in_order : goal.invariant_of-self-clause-in_order
+invariant_of-self-clause-in_order c =
+    let b = c.args.self.now in
+    cleared-in_order b.slots b.links c.empty_lists.new.links c.empty_lists.ensures.emptied (c.empty_lists.ensures.others b.slots (not_below b.slots)) b.in_order
+
+pub returns-clause-cleared : goal.returns-clause-cleared
+returns-clause-cleared c =
+    let b = c.args.self.now in
+    cleared b.slots b.last_tick b.tick b.last_serial b.links c.empty_lists.new.links c.empty_lists.ensures.emptied (c.empty_lists.ensures.others b.slots (not_below b.slots))

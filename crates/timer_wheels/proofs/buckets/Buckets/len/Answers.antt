@@ -1,0 +1,18 @@
+use Rattle.std.proofs.Common.{◌≡◌, ◌+◌, length, arith}
+use Rattle.timer_links.specs.Lists.{list_at, row_count}
+use Rattle.timer_wheels.specs.WheelLists.{rows_below, pending_in}
+use Rattle.timer_wheels.proofs.WheelLemmas.{row_count-parts, length-pending_in}
+use Rattle.timer_wheels.proofs.buckets.Buckets.len.Goals as goal
+
+pub overflow_sub-result : goal.overflow_sub-result
+overflow_sub-result c =
+    let b = c.args.self.now in
+    let parts : row_count b.links ≡ length (rows_below b.slots b.links) + length (list_at b.slots b.links) = row_count-parts b.slots b.links b.has_lists in
+    omega (arith, c.list_len.ensures)
+
+pub returns : goal.returns
+returns c =
+    let b = c.args.self.now in
+    let parts : row_count b.links ≡ length (rows_below b.slots b.links) + length (list_at b.slots b.links) = row_count-parts b.slots b.links b.has_lists in
+    let rows : length (pending_in (rows_below b.slots b.links)) ≡ length (rows_below b.slots b.links) = length-pending_in (rows_below b.slots b.links) in
+    omega (arith, c.list_len.ensures)

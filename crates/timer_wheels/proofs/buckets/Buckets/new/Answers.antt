@@ -1,0 +1,30 @@
+use Rattle.std.proofs.Common.{◌≡◌, ◌+◌, ℕ, List, [], length, refl, ◌∙◌, ap}
+use Rattle.std.specs.Prelude.{replicate}
+use Rattle.std.proofs.lemmas.List.{length-replicate}
+use Rattle.timer_links.specs.declared.node.Node.{Node}
+use Rattle.timer_links.specs.Lists.{list_at}
+use Rattle.timer_wheels.specs.WheelLists.{rows_below}
+use Rattle.timer_wheels.proofs.RowLemmas.{rows_below-none}
+use Rattle.timer_wheels.proofs.WheelLemmas.{list_at-replicate}
+use Rattle.timer_wheels.proofs.buckets.Buckets.new.Goals as goal
+
+at_new : (n k s : ℕ) (lists : List (List (ℕ × Node))) → lists ≡ replicate k [] → list_at s lists ≡ []
+at_new n k s lists e = ap (list_at s) e ∙ list_at-replicate k s
+
+rows_new : (n k : ℕ) (lists : List (List (ℕ × Node))) → lists ≡ replicate k [] → rows_below n lists ≡ []
+rows_new n k lists e = rows_below-none n lists (λ s h. at_new n k s lists e)
+
+pub invariant_of-result-clause-has_lists : goal.invariant_of-result-clause-has_lists
+invariant_of-result-clause-has_lists c = ap (λ (y : List (List (ℕ × Node))). length y) c.in_ok-new.ensures ∙ length-replicate (c.args.slots + 1) []
+
+pub invariant_of-result-clause-pending : goal.invariant_of-result-clause-pending
+invariant_of-result-clause-pending c = rw (rows_new c.args.slots (c.args.slots + 1) c.in_ok-new.field-0 c.in_ok-new.ensures) tt
+
+pub invariant_of-result-clause-distinct : goal.invariant_of-result-clause-distinct
+invariant_of-result-clause-distinct c = rw (rows_new c.args.slots (c.args.slots + 1) c.in_ok-new.field-0 c.in_ok-new.ensures) tt
+
+pub invariant_of-result-clause-in_order : goal.invariant_of-result-clause-in_order
+invariant_of-result-clause-in_order c = λ s h. rw (at_new c.args.slots (c.args.slots + 1) s c.in_ok-new.field-0 c.in_ok-new.ensures) tt
+
+pub returns-clause-state : goal.returns-clause-state
+returns-clause-state c = rw (rows_new c.args.slots (c.args.slots + 1) c.in_ok-new.field-0 c.in_ok-new.ensures, at_new c.args.slots (c.args.slots + 1) c.args.slots c.in_ok-new.field-0 c.in_ok-new.ensures) refl

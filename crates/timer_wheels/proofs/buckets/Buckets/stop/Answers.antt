@@ -1,0 +1,31 @@
+use Rattle.std.proofs.Common.{◌+◌, ℕ, List, length, sym, ◌∙◌, ap}
+use Rattle.std.proofs.lemmas.List.{length-map}
+use Rattle.timer_links.specs.declared.node.Node.{Node}
+use Rattle.timer_links.specs.Lists.{list_at, without_key}
+use Rattle.timer_wheels.proofs.WheelLemmas.{no_rows, stop-found, stopped-pending, stopped-distinct, stopped-in_order}
+use Rattle.timer_wheels.proofs.buckets.Buckets.stop.Goals as goal
+
+pub invariant_of-self-clause-has_lists : goal.invariant_of-self-clause-has_lists
+invariant_of-self-clause-has_lists c =
+    let b = c.args.self.now in
+    ap (λ (y : List (List (ℕ × Node))). length y) c.unlink-node.ensures.taken ∙ (length-map b.links (without_key c.args.handle.place) ∙ b.has_lists)
+
+pub invariant_of-self-clause-pending : goal.invariant_of-self-clause-pending
+invariant_of-self-clause-pending c =
+    let b = c.args.self.now in
+    rw c.unlink-node.ensures.taken (stopped-pending b.slots b.last_tick b.tick b.last_serial c.args.handle.place b.links b.pending)
+
+pub invariant_of-self-clause-distinct : goal.invariant_of-self-clause-distinct
+invariant_of-self-clause-distinct c =
+    let b = c.args.self.now in
+    rw c.unlink-node.ensures.taken (stopped-distinct b.slots c.args.handle.place b.links b.distinct)
+
+pub invariant_of-self-clause-in_order : goal.invariant_of-self-clause-in_order
+invariant_of-self-clause-in_order c =
+    let b = c.args.self.now in
+    rw c.unlink-node.ensures.taken (stopped-in_order (b.slots + 1) c.args.handle.place b.links b.in_order)
+
+pub returns-clause-stopped : goal.returns-clause-stopped
+returns-clause-stopped c =
+    let b = c.args.self.now in
+    stop-found b.slots c.args.handle b.links b.has_lists (no_rows (list_at b.slots b.links) c.requires) c.keys_are_apart.ensures b.last_tick b.tick b.last_serial c.in_ok-timer.timer c.unlink-node.new.self b.distinct (sym c.in_ok-timer.ensures) c.unlink-node.ensures.taken

@@ -1,0 +1,9 @@
+use Rattle.timer_wheels.specs.Hashed.{slot_of, rounds_of}
+use Rattle.timer_wheels.proofs.ShownLemmas.{shows}
+use Rattle.timer_wheels.proofs.hashed.HashedWheel.links.Goals as goal
+
+pub returns : goal.returns
+returns c =
+    let w = c.args.self.now in
+    let b = w.buckets in
+    shows b.slots (slot_of b.slots) (rounds_of b.slots b.tick) b.links b.has_lists w.in_buckets b.last_tick b.tick b.last_serial b.in_order

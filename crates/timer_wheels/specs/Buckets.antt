@@ -1,0 +1,20 @@
+-- What the buckets of a wheel, its clock and its last serial mean together.
+use Rattle.std.specs.Prelude.{◌≡◌}
+use Rattle.timer_base.specs.WheelState.{WheelState, IsWellFormed}
+use Rattle.timer_wheels.specs.declared.buckets.Buckets.{Buckets}
+use Rattle.timer_wheels.specs.WheelLists.{wheel_state}
+use Rattle.timer_wheels.specs.WheelLaws.{wheel_state-well_formed}
+
+-- the wheel whose buckets these are
+abbrev pub state_of : Buckets → WheelState
+state_of buckets = wheel_state buckets.slots buckets.last_tick buckets.tick buckets.last_serial buckets.links
+
+-- the clock and the number of buckets are as they were
+pub record IsSameFrame (old new : Buckets) : Type 0 where
+  pub last_tick : new.last_tick ≡ old.last_tick
+  pub tick : new.tick ≡ old.tick
+  pub slots : new.slots ≡ old.slots
+
+-- the invariant of the buckets is what every wheel keeps
+pub state_of-well_formed : (buckets : Buckets) → IsWellFormed (state_of buckets)
+state_of-well_formed buckets = wheel_state-well_formed buckets.slots buckets.last_tick buckets.tick buckets.last_serial buckets.links buckets.last_in_range buckets.tick_in_range buckets.serial_in_range buckets.pending buckets.distinct buckets.in_order

@@ -1,0 +1,12 @@
+pub mod WheelLists
+pub mod WheelLaws
+pub mod Buckets
+pub mod Digits
+pub mod DigitLaws
+pub mod Placement
+pub mod Migration
+pub mod Shown
+pub mod Hashed
+pub mod Swept
+pub mod HashedWheel
+pub mod Making

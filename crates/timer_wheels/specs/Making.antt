@@ -1,0 +1,11 @@
+-- When a hashed wheel is not made.
+use Rattle.std.specs.Prelude.{ℕ, ◌||◌, ◌==◌, nat_lt, if◌then◌else◌, Option, Some, None}
+use Rattle.timer_base.specs.declared.limits.TheConstants.{LAST}
+use Rattle.timer_base.specs.declared.fault.MakeFault.{MakeFault}
+use Rattle.timer_base.specs.declared.fault.MakeFault.TheVariants.{Slots, FirstTick}
+
+-- the fault that no memory would cure: the number of slots is tested before the first tick
+abbrev pub fault_of : ℕ → ℕ → Option MakeFault
+fault_of slots first_tick =
+    if slots == 0 || nat_lt 65536 slots then Some Slots
+    else (if nat_lt LAST first_tick then Some FirstTick else None)

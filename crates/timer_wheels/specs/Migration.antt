@@ -1,0 +1,44 @@
+-- What the emptying of one bucket leaves: each row, from the front, at the back of the list that it goes to.
+use Rattle.std.specs.Prelude.{◌≡◌, ◌≢◌, ℕ, ◌≤◌, not, if◌then◌else◌, List, [], ◌∷◌, filter, slice_set, Option, Some, None}
+use Rattle.timer_base.specs.declared.limits.TheConstants.{LAST}
+use Rattle.timer_base.specs.Pending.{is_due_at}
+use Rattle.timer_links.specs.declared.node.Node.{Node}
+use Rattle.timer_links.specs.Lists.{list_at, with_row}
+use Rattle.timer_wheels.specs.Digits.{bucket, slots}
+use Rattle.timer_wheels.specs.WheelLists.{timer_in}
+
+-- the list that a row goes to at this tick: that of the due timers at its deadline, and else its bucket
+abbrev pub target : List ℕ → ℕ → ℕ × Node → ℕ
+target table tick row = if is_due_at tick (timer_in row) then slots table else bucket table tick (timer_in row).deadline
+
+-- the rows go, one after the other, to the back of their lists
+abbrev pub spread : List ℕ → ℕ → List (ℕ × Node) → List (List (ℕ × Node)) → List (List (ℕ × Node))
+spread table tick [] lists = lists
+spread table tick (row ∷ rows) lists = spread table tick rows (with_row (target table tick row) row lists)
+
+-- one list is emptied from its front
+abbrev pub migrated : List ℕ → ℕ → ℕ → List (List (ℕ × Node)) → List (List (ℕ × Node))
+migrated table tick l lists = spread table tick (list_at l lists) (slice_set lists l [])
+
+-- the rows that are due at this tick
+abbrev pub due_rows : ℕ → List (ℕ × Node) → List (ℕ × Node)
+due_rows tick rows = filter (λ row. is_due_at tick (timer_in row)) rows
+
+-- the rows that are not
+abbrev pub left_rows : ℕ → List (ℕ × Node) → List (ℕ × Node)
+left_rows tick rows = filter (λ row. not (is_due_at tick (timer_in row))) rows
+
+-- a row that is due at this tick
+abbrev pub IsOfTick : ℕ → ℕ × Node → Type 0
+IsOfTick tick row = (timer_in row).deadline ≡ tick
+
+-- the deadline of the first row
+abbrev pub first_deadline : List (ℕ × Node) → Option ℕ
+first_deadline [] = None
+first_deadline (row ∷ rows) = Some (timer_in row).deadline
+
+-- a row of a list that is emptied at this tick: it goes to another list
+pub record MayMigrate (table : List ℕ) (tick l : ℕ) (row : ℕ × Node) : Type 0 where
+  pub elsewhere : target table tick row ≢ l
+  pub not_past : tick ≤ (timer_in row).deadline
+  pub in_range : (timer_in row).deadline ≤ LAST

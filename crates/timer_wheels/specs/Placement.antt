@@ -1,0 +1,38 @@
+-- In which bucket each pending timer stands, and how often it still moves: what `links`, `moves` and `starts` show.
+use Rattle.std.specs.Prelude.{◌≡◌, ℕ, ◌+◌, ◌*◌, ◌≤◌, List, [], ◌∷◌}
+use Rattle.std.specs.Coded.{×_prop}
+use Rattle.std.proofs.Props.{props}
+use Rattle.timer_base.specs.declared.timer.Timer.{Timer}
+use Rattle.timer_base.specs.Pending.{Entry}
+use Rattle.timer_links.specs.declared.node.Node.{Node}
+use Rattle.timer_wheels.specs.Digits.{level, bucket, hops}
+use Rattle.timer_wheels.specs.WheelLists.{timer_in}
+
+-- the list of a pending timer
+abbrev pub bucket_at : List ℕ → ℕ → Timer → ℕ
+bucket_at table now t = bucket table now t.deadline
+
+-- no timer has rounds
+abbrev pub no_rounds : Timer → ℕ
+no_rounds t = 0
+
+-- a row of list s: the list is the timer's bucket, and it has no rounds
+abbrev pub IsPlaced : List ℕ → ℕ → ℕ → ℕ × Node → Type 0
+IsPlaced table now s row = (bucket table now (timer_in row).deadline ≡ s) × (row.1.rounds ≡ 0)
+
+pub IsPlaced-prop : (table : List ℕ) (now s : ℕ) (row : ℕ × Node) → IsProp (IsPlaced table now s row)
+IsPlaced-prop table now s row = ×_prop (hlevel props) (hlevel props)
+
+-- how many of the next so many ticks move these timers, all together
+abbrev pub hops_of : List ℕ → ℕ → ℕ → List Entry → ℕ
+hops_of table now ticks [] = 0
+hops_of table now ticks (entry ∷ entries) = hops table now ticks entry.timer.deadline + hops_of table now ticks entries
+
+-- the sum of the levels of these timers
+abbrev pub levels_of : List ℕ → ℕ → List Entry → ℕ
+levels_of table now [] = 0
+levels_of table now (entry ∷ entries) = level table now entry.timer.deadline + levels_of table now entries
+
+-- each start allows nine moves, and each move lowers a level: what is left to move is counted too
+abbrev pub IsPaid : List ℕ → ℕ → ℕ → ℕ → List Entry → Type 0
+IsPaid table starts moves now pending = moves + levels_of table now pending ≤ 9 * starts

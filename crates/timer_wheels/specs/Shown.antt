@@ -1,0 +1,32 @@
+-- What a look at the buckets shows: the pending timers, each in its bucket.
+use Rattle.std.specs.Prelude.{◌≡◌, ◌==◌, ℕ, ◌+◌, ◌<◌, List, length, map, filter}
+use Rattle.timer_base.specs.declared.timer.Timer.{Timer}
+use Rattle.timer_base.specs.Order.{in_order}
+use Rattle.timer_base.specs.Pending.{Entry}
+use Rattle.timer_base.specs.WheelState.{WheelState}
+use Rattle.timer_links.specs.declared.node.Node.{Node}
+use Rattle.timer_links.specs.Lists.{list_at}
+use Rattle.timer_wheels.specs.WheelLists.{timers_in}
+
+-- the timer, were its deadline 0
+abbrev pub without_deadline : Entry → Timer
+without_deadline entry = record entry.timer { deadline = 0 }
+
+-- the entries by serial: the order of timers where all have one deadline
+abbrev pub by_serial : List Entry → List Entry
+by_serial entries = in_order without_deadline entries
+
+-- the entry as a row: under its place, with its timer's rounds
+abbrev pub row_of : (Timer → ℕ) → Entry → ℕ × Node
+row_of rounds_of entry = (entry.place, record { timer = entry.timer; rounds = rounds_of entry.timer })
+
+-- the pending timers of one bucket
+abbrev pub entries_at : (Timer → ℕ) → ℕ → List Entry → List Entry
+entries_at bucket_of s entries = filter (λ entry. bucket_of entry.timer == s) entries
+
+-- of n + 1 lists each of the first n has the pending timers of its bucket, by serial, each under its place with its
+-- rounds, and the next one has what is due
+pub record ShowsBuckets (n : ℕ) (bucket_of rounds_of : Timer → ℕ) (w : WheelState) (lists : List (List (ℕ × Node))) : Type 0 where
+  pub count : length lists ≡ n + 1
+  pub buckets : (s : ℕ) → s < n → list_at s lists ≡ map (row_of rounds_of) (by_serial (entries_at bucket_of s w.pending))
+  pub due : timers_in (list_at n lists) ≡ w.due

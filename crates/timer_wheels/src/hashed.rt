@@ -1,0 +1,186 @@
+//! The hashed timing wheel: Scheme 6 of G. Varghese and T. Lauck, "Hashed and Hierarchical Timing
+//! Wheels", SOSP 1987.
+//!
+//! N buckets. A timer goes to the back of bucket (deadline mod N), with its rounds: how often the
+//! clock still passes it by, (interval - 1) div N. Tick t goes through bucket (t mod N) alone, from
+//! its front: what has no rounds left is due, and any other timer has one round less.
+//!
+//!     N = 8, at tick 0, intervals 1, 8, 9, 16, 8 (written serial:rounds, from the front)
+//!                bucket 0        bucket 1     due
+//!     started    2:0 4:1 5:0     1:0 3:1
+//!     tick 1     2:0 4:1 5:0     3:0          1
+//!     tick 8     4:0             3:0          2 5
+//!
+//! Timer 4, followed to its end: 16 mod 8 is 0 and (16 - 1) div 8 is 1, so it stands in bucket 0 with
+//! one round. Tick 8 passes it by, and leaves it no round. Tick 16 finds it there, and it is due.
+//!
+//! A bucket is in order of starting and not of deadlines, so a start needs no walk. The rounds are
+//! counted from the interval less 1, since an interval of N ends when the clock is back at the slot
+//! for the first time.
+ghost use Rattle.std.specs.Prelude.{◌≡◌, ◌⊎◌, ◌<◌, ◌≤◌, ◌+◌, ◌%◌, [], IfOk, IfErr, OnErr, Some, None};
+ghost use Rattle.timer_base.specs.declared.limits.TheConstants.{LAST};
+ghost use Rattle.timer_base.specs.WheelState.{empty_wheel, first_due, timer_at, after_start, after_stop, after_tick, after_expiry, after_clear};
+ghost use Rattle.timer_wheels.specs.Hashed.{IsHashed, AreInBuckets, AreInBuckets-prop};
+ghost use Rattle.timer_wheels.specs.Making.{fault_of};
+
+use crate::buckets::Buckets;
+use crate::slot::slot_after;
+use crate::sweep::turn;
+use std::alloc::Global;
+use timer_base::{Handle, LAST, MakeFault, OutOfMemory, Timer, Wheel};
+use timer_links::Links;
+
+/// The most slots that a hashed wheel may have.
+const MOST_SLOTS: usize = 65536;
+
+/// A table of buckets with a count of rounds (Scheme 6).
+#[derive(Drop)]
+pub struct HashedWheel {
+    buckets: Buckets,
+    // That of the present tick.
+    slot: usize,
+    ghost to_last: { buckets.last_tick ≡ LAST },
+    ghost has_slots: { 0 < buckets.slots },
+    ghost slots_in_range: { buckets.slots ≤ 65536 },
+    ghost at_tick: { slot ≡ buckets.tick % buckets.slots },
+    ghost in_buckets: { AreInBuckets buckets.slots buckets.tick buckets.links } by { AreInBuckets-prop buckets.slots buckets.tick buckets.links },
+}
+
+impl HashedWheel {
+    ghost use Rattle.timer_wheels.specs.HashedWheel.{slots_of};
+
+    /// A wheel with no timer, of 1 to 65,536 slots, at a first tick of at most `LAST`.
+    ///
+    /// The number of slots is tested first, then the first tick, and then the memory is taken.
+    pub fn new(alloc: Global, slots: usize, first_tick: u64) -> Result<HashedWheel, MakeFault>
+        ensures ok { IfOk result (λ wheel. ⟦<HashedWheel as Wheel>⟧.state wheel ≡ empty_wheel LAST first_tick) }
+        ensures slots { IfOk result (λ wheel. slots_of wheel ≡ slots) }
+        ensures no_fault { IfOk result (λ wheel. fault_of slots first_tick ≡ None) }
+        ensures err { IfErr result (λ fault. (fault_of slots first_tick ≡ Some fault) ⊎ ((fault_of slots first_tick ≡ None) × (fault ≡ MakeFault.OutOfMemory))) }
+    {
+        if slots == 0 || slots > MOST_SLOTS {
+            return Err(MakeFault::Slots);
+        }
+        if first_tick > LAST {
+            return Err(MakeFault::FirstTick);
+        }
+        let Ok(buckets) = Buckets::new(alloc, slots, LAST, first_tick) else {
+            return Err(MakeFault::OutOfMemory);
+        };
+        let slot = (first_tick % slots as u64) as usize;
+        Ok(HashedWheel { buckets, slot })
+    }
+
+    /// How many slots there are. It takes no memory.
+    pub fn slots(&self) -> usize
+        ensures { result ≡ slots_of self.now }
+    {
+        self.buckets.slots
+    }
+
+    /// The buckets, and behind them the list of what is due. It takes no memory.
+    ///
+    /// List s, for s below the number N of slots, holds the pending timers with deadline mod N = s,
+    /// by serial, each under its handle's place. List N holds the due ones, by serial.
+    pub fn links(&self) -> &Links
+        ensures { IsHashed (slots_of self.now) (⟦<HashedWheel as Wheel>⟧.state self.now) result.now }
+    {
+        &self.buckets.links
+    }
+}
+
+// A call that changes the wheel repeats the clauses of the trait, which its own would replace, and adds
+// that the number of slots stays: so `links` shows the same slots from `new` on.
+impl Wheel for HashedWheel {
+    ghost use Rattle.timer_wheels.specs.HashedWheel.{slots_of};
+    ghost use Rattle.timer_wheels.specs.Buckets.{state_of, state_of-well_formed};
+
+    ghost state = { λ wheel. state_of wheel.buckets };
+
+    ghost well_formed = { λ wheel. state_of-well_formed wheel.buckets };
+
+    fn last_tick(&self) -> u64 {
+        self.buckets.last_tick
+    }
+
+    fn now(&self) -> u64 {
+        self.buckets.tick
+    }
+
+    fn len(&self) -> usize {
+        self.buckets.len()
+    }
+
+    fn has_due(&self) -> bool {
+        self.buckets.has_due()
+    }
+
+    fn last_serial(&self) -> u64 {
+        self.buckets.last_serial
+    }
+
+    fn start(&mut self, timer: Timer) -> Result<Handle, OutOfMemory>
+        requires nothing_due { (state_of self.old.buckets).due ≡ [] }
+        requires later { (state_of self.old.buckets).now < timer.deadline }
+        requires deadline { timer.deadline ≤ (state_of self.old.buckets).last_tick }
+        requires fresh { (state_of self.old.buckets).last_serial < timer.serial }
+        requires serial { timer.serial ≤ LAST }
+        ensures named { IfOk result (λ handle. handle.serial ≡ timer.serial) }
+        ensures started { IfOk result (λ handle. state_of self.new.buckets ≡ after_start handle.place timer (state_of self.old.buckets)) }
+        ensures err { OnErr result (state_of self.new.buckets ≡ state_of self.old.buckets) }
+        ensures slots { slots_of self.new ≡ slots_of self.old }
+    {
+        let buckets = &mut self.buckets;
+        // What is left of the interval behind the next tick: one division gives its rounds and its slots.
+        let rest = timer.deadline - buckets.tick - 1;
+        let rounds = rest / buckets.slots as u64;
+        let steps = (rest % buckets.slots as u64) as usize + 1;
+        let bucket = slot_after(self.slot, steps, buckets.slots);
+        buckets.start(bucket, timer, rounds)
+    }
+
+    fn look(&self, handle: Handle) -> Option<Timer> {
+        self.buckets.look(handle)
+    }
+
+    fn stop(&mut self, handle: Handle) -> Option<Timer>
+        requires { (state_of self.old.buckets).due ≡ [] }
+        ensures timer { result ≡ timer_at handle (state_of self.old.buckets) }
+        ensures stopped { state_of self.new.buckets ≡ after_stop handle (state_of self.old.buckets) }
+        ensures slots { slots_of self.new ≡ slots_of self.old }
+    {
+        self.buckets.stop(handle)
+    }
+
+    fn per_tick(&mut self)
+        requires nothing_due { (state_of self.old.buckets).due ≡ [] }
+        requires before_last { (state_of self.old.buckets).now < (state_of self.old.buckets).last_tick }
+        ensures ticked { state_of self.new.buckets ≡ after_tick (state_of self.old.buckets) }
+        ensures slots { slots_of self.new ≡ slots_of self.old }
+    {
+        let buckets = &mut self.buckets;
+        let slot = slot_after(self.slot, 1, buckets.slots);
+        turn(buckets, slot);
+        self.slot = slot;
+    }
+
+    fn expire(&mut self) -> Option<Timer>
+        ensures first { result ≡ first_due (state_of self.old.buckets) }
+        ensures rest { state_of self.new.buckets ≡ after_expiry (state_of self.old.buckets) }
+        ensures slots { slots_of self.new ≡ slots_of self.old }
+    {
+        self.buckets.expire()
+    }
+
+    fn list(&self) -> Result<Vec<Timer>, OutOfMemory> {
+        self.buckets.list()
+    }
+
+    fn clear(&mut self)
+        requires { (state_of self.old.buckets).due ≡ [] }
+        ensures cleared { state_of self.new.buckets ≡ after_clear (state_of self.old.buckets) }
+        ensures slots { slots_of self.new ≡ slots_of self.old }
+    {
+        self.buckets.clear()
+    }
+}
