@@ -1,0 +1,15 @@
+pub mod HandedOut
+pub mod CloseSteps
+pub mod TickRuns
+pub mod PlayedLemmas
+pub mod RecordedLemmas
+pub mod Lists
+pub mod Verdicts
+pub mod Reading
+pub mod Keeps
+pub mod Owed
+pub mod Bare
+pub mod Closed
+pub mod Once
+pub mod Refusals
+pub mod Parts

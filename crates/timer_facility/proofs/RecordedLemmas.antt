@@ -1,0 +1,194 @@
+-- What the record of places tells of the pending entries.
+use Rattle.std.proofs.Common.{◌≡◌, ◌<◌, ◌≤◌, ◌+◌, ◌-◌, ℕ, Bool, true, false, ◌==◌, ◌&&◌, List, [], ◌∷◌, ◌++◌, length, refl, sym, ◌∙◌, ap, subst, arith, inl, inr, length-append}
+use Rattle.std.specs.Prelude.{nat_lt, if◌then◌else◌, Option, Some, None, slice_get}
+use Rattle.std.specs.List.{AllByRecursion}
+use Rattle.std.proofs.Math.ListN.{get_or-append}
+use Rattle.std.proofs.Math.Seq.{get_or-append_seam}
+use Rattle.std.proofs.lemmas.Option.{slice_get_within, slice_get-get_or, get_or_from_slice_get}
+use Rattle.std.proofs.lemmas.Bool.Decides.{nat_tests}
+use Rattle.timer_base.specs.declared.timer.Timer.{Timer}
+use Rattle.timer_base.specs.declared.timer.Handle.{Handle}
+use Rattle.timer_base.specs.OrderLaws.{either, All-filter, All-weaken}
+use Rattle.timer_base.specs.Pending.{Entry, put, has_handle, has_serial, first_timer}
+use Rattle.timer_facility.specs.declared.request.Reason.{Reason}
+use Rattle.timer_facility.specs.declared.request.NotTaken.{NotTaken}
+use Rattle.timer_facility.specs.declared.request.TickFault.{TickFault}
+use Rattle.timer_facility.specs.declared.request.Request.TheVariants as Requests
+use Rattle.timer_facility.specs.declared.request.Answer.{Answer}
+use Rattle.timer_facility.specs.declared.request.Answer.TheVariants.{Started, Stopped, Refused}
+use Rattle.timer_facility.specs.declared.event.Out.TheVariants as Outs
+use Rattle.timer_facility.specs.State.{FacilityState, Asked, Tick, Close, Start, Stop, StopSerial}
+use Rattle.timer_facility.specs.Verdict.{not_taken, start_refusal, tick_refusal, of_client, named}
+use Rattle.timer_facility.specs.Step.{Step, step, step_of_request, step_of_tick, step_of_close, after_start, after_stop, answer_to_start, answer_to_stop, with_number, new_timer}
+use Rattle.timer_facility.specs.Run.{notices_in}
+use Rattle.timer_facility.specs.Standing.{Standing, place_in, IsTaken}
+use Rattle.timer_facility.specs.Recorded.{Places, IsRecorded, AreRecorded, IsPlayer}
+
+recorded_tick : (places : Places) (s : FacilityState) (refusal : Option TickFault) → AreRecorded places s → AreRecorded places (step_of_tick s refusal).state
+recorded_tick places s (Some fault) a = a
+recorded_tick places s None a = record { all_serials = a.all_serials; each = All-filter (IsRecorded places) (IsRecorded places) _ s.pending (λ e _ r. r) a.each }
+
+-- a tick takes entries away, and adds none
+pub AreRecorded-tick : (places : Places) (s : FacilityState) → AreRecorded places s → AreRecorded places (step s Tick 0).state
+AreRecorded-tick places s a = recorded_tick places s (tick_refusal s) a
+
+recorded_close : (places : Places) (s : FacilityState) (closed : Bool) → AreRecorded places s → AreRecorded places (step_of_close s closed).state
+recorded_close places s true a = a
+recorded_close places s false a = record { all_serials = a.all_serials; each = tt }
+
+-- a close leaves none
+pub AreRecorded-close : (places : Places) (s : FacilityState) → AreRecorded places s → AreRecorded places (step s Close 0).state
+AreRecorded-close places s a = recorded_close places s s.is_closed a
+
+All-put : (P : Entry → Type 0) (e : Entry) (es : List Entry) → P e → AllByRecursion P es → AllByRecursion P (put e es)
+All-put P e [] p a = (p, tt)
+All-put P e (x ∷ xs) p a = elim (either (nat_lt e.timer.deadline x.timer.deadline)) [
+  | inl k ↦ rw k (p, a)
+  | inr k ↦ rw k (a.0, All-put P e xs p a.1)
+]
+
+slice_get-more : (xs : List ℕ) (y i x : ℕ) → slice_get xs i ≡ Some x → slice_get (xs ++ y ∷ []) i ≡ Some x
+slice_get-more xs y i x h =
+    let within : i < length xs = slice_get_within xs i x h in
+    let len : length (xs ++ y ∷ []) ≡ length xs + 1 = length-append xs (y ∷ []) in
+    slice_get-get_or (xs ++ y ∷ []) i 0 (omega arith) ∙ ap (λ n. Some n) (get_or-append xs (y ∷ []) 0 i within ∙ get_or_from_slice_get xs i x 0 h)
+
+slice_get-last : (xs : List ℕ) (y : ℕ) → slice_get (xs ++ y ∷ []) (length xs) ≡ Some y
+slice_get-last xs y =
+    let len : length (xs ++ y ∷ []) ≡ length xs + 1 = length-append xs (y ∷ []) in
+    slice_get-get_or (xs ++ y ∷ []) (length xs) 0 (omega arith) ∙ ap (λ n. Some n) (get_or-append_seam xs y [] 0)
+
+-- the places with one more
+abbrev pub with_place : ℕ → Places → Places
+with_place place places = record places { list = places.list ++ place ∷ [] }
+
+IsRecorded-more : (places : Places) (place : ℕ) (e : Entry) → IsRecorded places e → IsRecorded (with_place place places) e
+IsRecorded-more places place e r = record {
+  started_here = r.started_here;
+  at_its_serial = slice_get-more places.list place (e.timer.serial - places.first) e.place r.at_its_serial;
+}
+
+IsRecorded-new : (places : Places) (place : ℕ) (t : Timer) → places.first + length places.list ≡ t.serial → IsRecorded (with_place place places) (record { place = place; timer = t })
+IsRecorded-new places place t h =
+    let at : t.serial - places.first ≡ length places.list = omega arith in
+    record {
+      started_here = omega arith;
+      at_its_serial = ap (slice_get (places.list ++ place ∷ [])) at ∙ slice_get-last places.list place;
+    }
+
+-- what the answer to a start adds to the places
+abbrev pub with_answer : Answer → Places → Places
+with_answer (Started handle deadline) places = with_place handle.place places
+with_answer (Stopped serial) places = places
+with_answer (Refused reason) places = places
+
+AreRecorded-put : (places : Places) (s : FacilityState) (client number place : ℕ) (t : Timer) → t.serial ≡ s.next_serial → AreRecorded places s
+    → AreRecorded (with_place place places) (with_number client number (after_start None place t s))
+AreRecorded-put places s client number place t n a =
+    let next : places.first + length places.list ≡ s.next_serial = a.all_serials in
+    let len : length (places.list ++ place ∷ []) ≡ length places.list + 1 = length-append places.list (place ∷ []) in
+    record {
+      all_serials = omega arith;
+      each = All-put (IsRecorded (with_place place places)) (record { place = place; timer = t }) s.pending (IsRecorded-new places place t (next ∙ sym n))
+          (All-weaken (IsRecorded places) (IsRecorded (with_place place places)) s.pending (IsRecorded-more places place) a.each);
+    }
+
+recorded_answer : (places : Places) (s : FacilityState) (client number place : ℕ) (t : Timer) (refusal : Option Reason) → t.serial ≡ s.next_serial → AreRecorded places s
+    → AreRecorded (with_answer (answer_to_start refusal place t) places) (with_number client number (after_start refusal place t s))
+recorded_answer places s client number place t (Some reason) n a = record { all_serials = a.all_serials; each = a.each }
+recorded_answer places s client number place t None n a = AreRecorded-put places s client number place t n a
+
+-- the answer that stands in the one out of a request
+answer_is : (c n c' n' : ℕ) (x y : Answer) → Outs.Answered c n x ∷ [] ≡ Outs.Answered c' n' y ∷ [] → x ≡ y
+answer_is c n c' n' x y h = cc
+
+recorded_start : (places : Places) (s : FacilityState) (client number interval action place : ℕ) (answer : Answer) (refusal : Option NotTaken) → AreRecorded places s
+    → (step_of_request s client number (Start interval action) place refusal).outs ≡ Outs.Answered client number answer ∷ []
+    → AreRecorded (with_answer answer places) (step_of_request s client number (Start interval action) place refusal).state
+recorded_start places s client number interval action place answer (Some reason) a h = absurd (cc)
+recorded_start places s client number interval action place answer None a h =
+    let t : Timer = new_timer s client number interval action in
+    let is : answer_to_start (start_refusal s interval) place t ≡ answer = answer_is client number client number _ answer h in
+    subst (λ x. AreRecorded (with_answer x places) (with_number client number (after_start (start_refusal s interval) place t s))) is
+    (recorded_answer places s client number place t (start_refusal s interval) refl a)
+
+recorded_without : (places : Places) (s : FacilityState) (client number : ℕ) (found : Option Timer) → AreRecorded places s → AreRecorded places (with_number client number (after_stop found s))
+recorded_without places s client number None a = record { all_serials = a.all_serials; each = a.each }
+recorded_without places s client number (Some t) a = record { all_serials = a.all_serials; each = All-filter (IsRecorded places) (IsRecorded places) _ s.pending (λ e _ r. r) a.each }
+
+recorded_stop : (places : Places) (s : FacilityState) (client number place : ℕ) (handle : Handle) (refusal : Option NotTaken) → AreRecorded places s
+    → AreRecorded places (step_of_request s client number (Stop handle) place refusal).state
+recorded_stop places s client number place handle (Some reason) a = a
+recorded_stop places s client number place handle None a = recorded_without places s client number (named s client (Stop handle)) a
+
+-- nothing waits after a request that is taken
+waiting-taken : (s : FacilityState) (client number : ℕ) (request : _) (answer : Answer) (new : Standing) → IsTaken s client number request answer new → new.waiting ≡ []
+waiting-taken s client number request answer new h = ap (λ (v : Standing). v.waiting) h.left ∙ ap notices_in h.answered
+
+-- what a player keeps over a start that is taken, and over a stop
+pub IsPlayer-start : (f new : Standing) (places : Places) (client number interval action : ℕ) (answer : Answer) → IsPlayer f places
+    → IsTaken f.state client number (Requests.Start interval action) answer new → IsPlayer new (with_answer answer places)
+IsPlayer-start f new places client number interval action answer i h = record {
+  waiting = waiting-taken f.state client number (Requests.Start interval action) answer new h;
+  recorded = subst (λ (v : Standing). AreRecorded (with_answer answer places) v.state) (sym h.left)
+      (recorded_start places f.state client number interval action (place_in answer) answer (not_taken f.state client number) i.recorded h.answered);
+}
+
+pub IsPlayer-stop : (f new : Standing) (places : Places) (client number : ℕ) (handle : Handle) (answer : Answer) → IsPlayer f places
+    → IsTaken f.state client number (Requests.Stop handle) answer new → IsPlayer new places
+IsPlayer-stop f new places client number handle answer i h = record {
+  waiting = waiting-taken f.state client number (Requests.Stop handle) answer new h;
+  recorded = subst (λ (v : Standing). AreRecorded places v.state) (sym h.left)
+      (recorded_stop places f.state client number (place_in answer) handle (not_taken f.state client number) i.recorded);
+}
+
+-- the handle is the recorded one of this serial, where there is one
+pub record IsHandleOf (places : Places) (serial : ℕ) (handle : Handle) : Type 0 where
+  pub same_serial : handle.serial ≡ serial
+  pub same_place : (place : ℕ) → places.first ≤ serial → slice_get places.list (serial - places.first) ≡ Some place → handle.place ≡ place
+
+both_true : (p q r t : ℕ) → p ≡ q → r ≡ t → (p == q && r == t) ≡ true
+both_true p q r t h k = grind (arith, nat_tests)
+
+second_false : (b : Bool) → (b && false) ≡ false
+second_false true = refl
+second_false false = refl
+
+is_equal : (m n : ℕ) → (m == n) ≡ true → m ≡ n
+is_equal m n h = grind (arith, nat_tests)
+
+-- of a recorded entry the recorded handle tests the serial alone
+same_test : (places : Places) (serial : ℕ) (handle : Handle) (e : Entry) → IsHandleOf places serial handle → IsRecorded places e → has_handle handle e ≡ has_serial serial e.timer
+same_test places serial handle e h r = elim (either (e.timer.serial == serial)) [
+  | inl k ↦
+      let is : e.timer.serial ≡ serial = is_equal e.timer.serial serial k in
+      let here : places.first ≤ serial = subst (λ n. places.first ≤ n) is r.started_here in
+      let at : slice_get places.list (serial - places.first) ≡ Some e.place = subst (λ n. slice_get places.list (n - places.first) ≡ Some e.place) is r.at_its_serial in
+      both_true e.place handle.place e.timer.serial handle.serial (sym (h.same_place e.place here at)) (is ∙ sym h.same_serial) ∙ sym k
+  | inr k ↦ ap (λ n. e.place == handle.place && e.timer.serial == n) h.same_serial ∙ ap (λ b. e.place == handle.place && b) k ∙ second_false (e.place == handle.place) ∙ sym k
+]
+
+first_timer_same : (p q : Entry → Bool) (es : List Entry) → AllByRecursion (λ e. p e ≡ q e) es → first_timer p es ≡ first_timer q es
+first_timer_same p q [] a = refl
+first_timer_same p q (e ∷ es) a = ap (λ b. if b then Some e.timer else first_timer p es) a.0 ∙ ap (λ o. if q e then Some e.timer else o) (first_timer_same p q es a.1)
+
+-- so a stop by the recorded handle is the stop by the serial
+pub named-recorded : (places : Places) (s : FacilityState) (client serial : ℕ) (handle : Handle) → AreRecorded places s → IsHandleOf places serial handle
+    → named s client (Stop handle) ≡ named s client (StopSerial serial)
+named-recorded places s client serial handle a h =
+    ap (of_client client) (first_timer_same (has_handle handle) (λ e. has_serial serial e.timer) s.pending
+    (All-weaken (IsRecorded places) (λ e. has_handle handle e ≡ has_serial serial e.timer) s.pending (λ e r. same_test places serial handle e h r) a.each))
+
+step_by_serial : (s : FacilityState) (client number serial place : ℕ) (handle : Handle) (refusal : Option NotTaken) → named s client (Stop handle) ≡ named s client (StopSerial serial)
+    → step_of_request s client number (Stop handle) place refusal ≡ step_of_request s client number (StopSerial serial) place refusal
+step_by_serial s client number serial place handle (Some reason) h = refl
+step_by_serial s client number serial place handle None h =
+    let of_found : Option Timer → Step = λ found. record { outs = Outs.Answered client number (answer_to_stop found) ∷ []; state = with_number client number (after_stop found s) } in
+    ap of_found h
+
+pub step-recorded : (places : Places) (s : FacilityState) (client number serial place : ℕ) (handle : Handle) → AreRecorded places s → IsHandleOf places serial handle
+    → step s (Asked client number (Stop handle)) place ≡ step s (Asked client number (StopSerial serial)) place
+step-recorded places s client number serial place handle a h = step_by_serial s client number serial place handle (not_taken s client number) (named-recorded places s client serial handle a h)
+
+pub places_are : (first first' : ℕ) (xs xs' : List ℕ) → first ≡ first' → xs ≡ xs' → let a : Places = record { first = first; list = xs } in let b : Places = record { first = first'; list = xs' } in a ≡ b
+places_are first first' xs xs' h k = cc

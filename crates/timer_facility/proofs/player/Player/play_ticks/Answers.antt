@@ -1,0 +1,7 @@
+use Rattle.timer_facility.proofs.player.Player.play_ticks.Goals as goal
+
+pub invariant_of-self : goal.invariant_of-self
+invariant_of-self g c = record {
+  waiting = c.pass_ticks.ensures.waiting;
+  recorded = c.pass_ticks.ensures.places _ c.self.invariant.recorded;
+}

@@ -1,0 +1,10 @@
+pub mod Config
+pub mod State
+pub mod Verdict
+pub mod Step
+pub mod Run
+pub mod Owed
+pub mod Opened
+pub mod Standing
+pub mod Played
+pub mod Recorded

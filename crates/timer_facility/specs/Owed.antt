@@ -1,0 +1,128 @@
+-- What is owed for a history, read from its requests and answers alone. No list of pending timers is kept.
+use Rattle.std.specs.Prelude.{◌≡◌, ℕ, zero, suc, ◌+◌, Bool, true, false, ◌&&◌, ◌||◌, ◌==◌, not, nat_lt, if◌then◌else◌, List, [], ◌∷◌, ◌++◌, map, filter}
+use Rattle.std.specs.List.{AllByRecursion}
+use Rattle.timer_base.specs.declared.timer.Timer.{Timer}
+use Rattle.timer_base.specs.Order.{in_order, AreDistinct}
+use Rattle.timer_base.specs.Pending.{timers_of}
+use Rattle.timer_facility.specs.declared.request.Answer.TheVariants.{Started, Stopped}
+use Rattle.timer_facility.specs.declared.request.Notice.{Notice}
+use Rattle.timer_facility.specs.declared.request.Notice.TheVariants.{Expired, Returned}
+use Rattle.timer_facility.specs.declared.event.Out.{Out}
+use Rattle.timer_facility.specs.declared.event.Out.TheVariants as Outs
+use Rattle.timer_facility.specs.State.{FacilityState, SingleEvent, Asked, Tick, Start}
+use Rattle.timer_facility.specs.Run.{Happened, notices}
+
+-- the timer that a start and its answer tell of, where it was accepted
+abbrev pub timer_told : ℕ → ℕ → ℕ → Out → List Timer
+timer_told client number action (Outs.Answered c n (Started handle deadline)) =
+    record { serial = handle.serial; client = client; number = number; deadline = deadline; action = action } ∷ []
+timer_told client number action _ = []
+
+-- the timers that a start and what came of it tell of
+abbrev pub timers_told : ℕ → ℕ → ℕ → List Out → List Timer
+timers_told client number action [] = []
+timers_told client number action (out ∷ outs) = timer_told client number action out ++ timers_told client number action outs
+
+-- the timers that an event started
+abbrev pub started_by : SingleEvent → List Out → List Timer
+started_by (Asked client number (Start interval action)) outs = timers_told client number action outs
+started_by _ outs = []
+
+-- the timers of the accepted starts
+abbrev pub accepted_starts : List Happened → List Timer
+accepted_starts [] = []
+accepted_starts (h ∷ hs) = started_by h.event h.outs ++ accepted_starts hs
+
+-- the serial that an answer to an accepted stop tells
+abbrev pub serial_told : Out → List ℕ
+serial_told (Outs.Answered c n (Stopped serial)) = serial ∷ []
+serial_told _ = []
+
+-- the serials that answers to accepted stops tell
+abbrev pub serials_told : List Out → List ℕ
+serials_told [] = []
+serials_told (out ∷ outs) = serial_told out ++ serials_told outs
+
+-- the timers pending in s, and those of the accepted starts since
+abbrev pub started : FacilityState → List Happened → List Timer
+started s hs = timers_of s.pending ++ accepted_starts hs
+
+-- the serials in the answers to the accepted stops
+abbrev pub stopped : List Happened → List ℕ
+stopped [] = []
+stopped (h ∷ hs) = serials_told h.outs ++ stopped hs
+
+-- the out says that a tick was refused
+abbrev pub is_tick_refusal : Out → Bool
+is_tick_refusal (Outs.TickRefused fault) = true
+is_tick_refusal _ = false
+
+-- the out says that the facility was closed
+abbrev pub is_closing : Out → Bool
+is_closing (Outs.Closed count) = true
+is_closing _ = false
+
+-- one of the outs passes the test
+abbrev pub any_out : (Out → Bool) → List Out → Bool
+any_out test [] = false
+any_out test (out ∷ outs) = test out || any_out test outs
+
+-- a tick is accepted where it is not refused
+abbrev pub ticks_by : SingleEvent → List Out → ℕ
+ticks_by Tick outs = if any_out is_tick_refusal outs then 0 else 1
+ticks_by _ outs = 0
+
+-- how many ticks were accepted
+abbrev pub accepted_ticks : List Happened → ℕ
+accepted_ticks [] = 0
+accepted_ticks (h ∷ hs) = ticks_by h.event h.outs + accepted_ticks hs
+
+-- a close was accepted
+abbrev pub has_closed : List Happened → Bool
+has_closed [] = false
+has_closed (h ∷ hs) = any_out is_closing h.outs || has_closed hs
+
+-- the number is in the list
+abbrev pub is_among : ℕ → List ℕ → Bool
+is_among n [] = false
+is_among n (k ∷ ks) = k == n || is_among n ks
+
+-- the timers by deadline, and then by serial
+abbrev pub timers_in_order : List Timer → List Timer
+timers_in_order ts = in_order (λ t. t) ts
+
+-- of the started timers those with this deadline that were not stopped, by serial
+abbrev pub due : FacilityState → List Happened → ℕ → List Timer
+due s hs tick = timers_in_order (filter (λ t. t.deadline == tick && not (is_among t.serial (stopped hs))) (started s hs))
+
+-- those with a later deadline that were not stopped, by deadline and then by serial
+abbrev pub left_after : FacilityState → List Happened → ℕ → List Timer
+left_after s hs tick = timers_in_order (filter (λ t. nat_lt tick t.deadline && not (is_among t.serial (stopped hs))) (started s hs))
+
+-- what is due at each of the first n ticks after s in turn
+abbrev pub owed_by_ticks : FacilityState → List Happened → ℕ → List Notice
+owed_by_ticks s hs zero = []
+owed_by_ticks s hs (suc n) = owed_by_ticks s hs n ++ map (λ t. Expired t) (due s hs (s.now + suc n))
+
+-- at a close, all others
+abbrev pub owed_by_close : FacilityState → List Happened → Bool → List Notice
+owed_by_close s hs false = []
+owed_by_close s hs true = map (λ t. Returned t) (left_after s hs (s.now + accepted_ticks hs))
+
+-- what is to be handed out for a history that begins in s: at each accepted tick what is due, at an accepted close the others
+abbrev pub owed : FacilityState → List Happened → List Notice
+owed s hs = owed_by_ticks s hs (accepted_ticks hs) ++ owed_by_close s hs (has_closed hs)
+
+-- the timer that a notice hands out
+abbrev pub timer_handed : Notice → Timer
+timer_handed (Expired t) = t
+timer_handed (Returned t) = t
+
+-- the timers that a history hands out, in their order
+abbrev pub handed_out : List Happened → List Timer
+handed_out hs = map timer_handed (notices hs)
+
+-- no timer is handed out twice, and none that was stopped
+pub record AreHandedOutOnce (hs : List Happened) : Type 0 where
+  pub once : AreDistinct (handed_out hs)
+  pub not_stopped : AllByRecursion (λ t. is_among t.serial (stopped hs) ≡ false) (handed_out hs)

@@ -1,0 +1,43 @@
+-- What a player promises of the events that it plays.
+use Rattle.std.specs.Prelude.{◌≡◌, ℕ, ◌+◌, ◌-◌, min, if◌then◌else◌, List, [], ◌∷◌, ◌++◌, map, take, replicate}
+use Rattle.timer_facility.specs.declared.event.Event.{Event}
+use Rattle.timer_facility.specs.declared.event.Event.TheVariants as Events
+use Rattle.timer_facility.specs.declared.event.Out.{Out}
+use Rattle.timer_facility.specs.State.{FacilityState, SingleEvent, Asked, Tick, Close, Start, StopSerial}
+use Rattle.timer_facility.specs.Run.{Placed, history, state_after, run, notices}
+use Rattle.timer_facility.specs.Owed.{owed}
+
+-- how many ticks can still be accepted
+abbrev pub ticks_left : FacilityState → ℕ
+ticks_left s = if s.is_closed then 0 else s.last - s.now
+
+-- the single events that an event stands for: ticks are cut after the first refused one
+abbrev pub singles_of : FacilityState → Event → List SingleEvent
+singles_of s (Events.Start client number interval action) = Asked client number (Start interval action) ∷ []
+singles_of s (Events.Stop client number serial) = Asked client number (StopSerial serial) ∷ []
+singles_of s (Events.Ticks count) = replicate (min count (ticks_left s + 1)) Tick
+singles_of s Events.Close = Close ∷ []
+
+-- the single events of these events, each with some place
+abbrev pub ArePlaced : FacilityState → List Event → List Placed → Type 0
+ArePlaced s [] placed = placed ≡ []
+ArePlaced s (event ∷ events) placed = (one rest : List Placed) × (placed ≡ one ++ rest) × (map (λ p. p.event) one ≡ singles_of s event) × ArePlaced (state_after s one) events rest
+
+-- the outs and the state are those of a run of the events
+pub record IsRun (s : FacilityState) (events : List Event) (outs : List Out) (after : FacilityState) : Type 0 where
+  -- the single events, each with the place that the wheel gave
+  pub placed : List Placed
+  pub singles : ArePlaced s events placed
+  pub outs_are : outs ≡ (run s placed).outs
+  pub after_is : after ≡ (run s placed).state
+
+-- the same, and after every single event the notices so far are what is owed
+pub record IsPlayed (s : FacilityState) (events : List Event) (outs : List Out) (after : FacilityState) : Type 0 where
+  pub runs : IsRun s events outs after
+  pub notices_owed : (k : ℕ) → notices (take k (history s runs.placed)) ≡ owed s (take k (history s runs.placed))
+
+-- one more event was played, and its outs added
+pub record AddsRun (s : FacilityState) (event : Event) (before outs : List Out) (after : FacilityState) : Type 0 where
+  pub more : List Out
+  pub appended : outs ≡ before ++ more
+  pub runs : IsRun s (event ∷ []) more after

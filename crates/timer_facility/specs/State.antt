@@ -1,0 +1,52 @@
+-- What a facility means, and the single events that may come to it.
+use Rattle.std.specs.Prelude.{◌<◌, ◌≤◌, ℕ, ◌+◌, Bool, List, length, slice_index}
+use Rattle.std.specs.List.{AllByRecursion}
+use Rattle.timer_base.specs.declared.limits.TheConstants.{LAST}
+use Rattle.timer_base.specs.declared.timer.Handle.{Handle}
+use Rattle.timer_base.specs.Order.{IsOrdered, AreDistinct, AreBelow}
+use Rattle.timer_base.specs.Pending.{Entry, timers_of}
+use Rattle.timer_facility.specs.declared.limits.TheConstants.{MOST_CLIENTS, MOST_PENDING}
+
+pub record FacilityState : Type 0 where
+  -- the most timers that may be pending; no event changes it
+  pub capacity : ℕ
+  -- the last tick of the clock; no event changes it
+  pub last : ℕ
+  -- the present tick
+  pub now : ℕ
+  -- the serial of the next timer
+  pub next_serial : ℕ
+  -- one list, by deadline and then by serial
+  pub pending : List Entry
+  -- the next request number of each client; no event changes how many there are
+  pub numbers : List ℕ
+  pub is_closed : Bool
+
+-- the next request number of a client
+abbrev pub number_of : FacilityState → ℕ → ℕ
+number_of s client = slice_index s.numbers client
+
+-- what a request asks for: a start with its interval and action, or a stop of the timer with a handle, or with a serial
+pub data Wanted : Type 0 where
+  Start : ℕ → ℕ → Wanted
+  Stop : Handle → Wanted
+  StopSerial : ℕ → Wanted
+
+-- one event: what a client asks under a number, one tick, or the close
+pub data SingleEvent : Type 0 where
+  Asked : ℕ → ℕ → Wanted → SingleEvent
+  Tick : SingleEvent
+  Close : SingleEvent
+
+-- what each state keeps
+pub record IsSound (s : FacilityState) : Type 0 where
+  pub few_clients : length s.numbers ≤ MOST_CLIENTS
+  pub capacity_in_range : s.capacity ≤ MOST_PENDING
+  pub last_in_range : s.last ≤ LAST
+  pub now_in_range : s.now ≤ s.last
+  pub serial_in_range : s.next_serial ≤ LAST + 1
+  pub few_pending : length s.pending ≤ s.capacity
+  pub ordered : IsOrdered (timers_of s.pending)
+  pub distinct : AreDistinct (timers_of s.pending)
+  pub later : AllByRecursion (λ t. s.now < t.deadline) (timers_of s.pending)
+  pub below : AreBelow s.next_serial (timers_of s.pending)

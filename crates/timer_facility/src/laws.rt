@@ -1,0 +1,49 @@
+//! What every run of a facility keeps to, whatever the events are and whichever wheel it stands on.
+//! Each of these functions does nothing, and its contract is the law.
+ghost use Rattle.std.specs.Prelude.{◌≡◌, List, [], ℕ, take, map, true, Some};
+ghost use Rattle.std.specs.List.{AllByRecursion};
+ghost use Rattle.timer_facility.specs.State.{FacilityState, IsSound, SingleEvent};
+ghost use Rattle.timer_facility.specs.Verdict.{Refusal, verdict};
+ghost use Rattle.timer_facility.specs.Step.{step, refused};
+ghost use Rattle.timer_facility.specs.Run.{Placed, history, run, notices, notices_in, bare_outs, bare_state, NamesBySerial, AreSameButForPlaces};
+ghost use Rattle.timer_facility.specs.Owed.{owed, AreHandedOutOnce};
+ghost use Rattle.timer_facility.specs.Played.{IsRun};
+ghost use Rattle.timer_facility.specs.declared.event.Event.{Event};
+ghost use Rattle.timer_facility.specs.declared.event.Out.{Out};
+
+/// Whatever the events are, at every moment the notices so far are what is owed.
+pub fn notices_are_owed()
+    ensures { (s : FacilityState) (placed : List Placed) (k : ℕ) → IsSound s
+        → notices (take k (history s placed)) ≡ owed s (take k (history s placed)) }
+{}
+
+/// No timer is handed out twice, and a stopped one never is.
+pub fn each_timer_is_handed_out_once()
+    ensures { (s : FacilityState) (placed : List Placed) → IsSound s → AreHandedOutOnce (history s placed) }
+{}
+
+/// What comes of events, and the state after them, do not depend on the places that a wheel gives,
+/// where each stop names its timer by the serial.
+pub fn bare_outs_do_not_depend_on_places()
+    ensures { (s t : FacilityState) (placed others : List Placed) → bare_state s ≡ bare_state t
+        → map (λ p. p.event) placed ≡ map (λ p. p.event) others → AllByRecursion NamesBySerial (map (λ p. p.event) placed)
+        → AreSameButForPlaces (run s placed) (run t others) }
+{}
+
+/// Any two players give the same outs for one list of events, but for places.
+pub fn players_give_the_same()
+    ensures { (s t : FacilityState) (events : List Event) (outs others : List Out) (after end : FacilityState) → bare_state s ≡ bare_state t
+        → IsRun s events outs after → IsRun t events others end → (bare_outs outs ≡ bare_outs others) × (bare_state after ≡ bare_state end) }
+{}
+
+/// A refused event changes nothing, but that a request which is taken uses up its number.
+pub fn a_refusal_changes_at_most_the_number()
+    ensures { (s : FacilityState) (event : SingleEvent) (place : ℕ) (refusal : Refusal) → verdict s event ≡ Some refusal
+        → step s event place ≡ refused s event refusal }
+{}
+
+/// After the close nothing is handed out, and nothing changes.
+pub fn nothing_comes_after_the_close()
+    ensures { (s : FacilityState) (placed : List Placed) → s.is_closed ≡ true
+        → (notices_in (run s placed).outs ≡ []) × ((run s placed).state ≡ s) }
+{}

@@ -1,0 +1,37 @@
+//! Clients, their numbered requests, ticks and the close, over any wheel.
+//!
+//! A `Config` says how many clients there are and where the numbers begin. The layer above knows a
+//! facility by its state and by the notices that wait in it: read `specs/State.antt`, then
+//! `specs/Verdict.antt` (which event is accepted) and `specs/Step.antt` (what comes of it), then
+//! `facility`, which does it, and `player`, which plays whole lists of events over it. What must
+//! have been handed out for a history of requests and answers is `owed`, in `specs/Owed.antt`, and
+//! `notices_are_owed` in `laws` says that it was.
+#![tactic(auto)]
+
+mod config;
+mod event;
+mod facility;
+mod handles;
+mod laws;
+mod limits;
+mod player;
+mod request;
+
+pub use config::{Checked, Config, ConfigFault};
+pub use event::{Event, Out};
+pub use facility::Facility;
+pub use laws::{
+    a_refusal_changes_at_most_the_number, bare_outs_do_not_depend_on_places,
+    each_timer_is_handed_out_once, nothing_comes_after_the_close, notices_are_owed,
+    players_give_the_same,
+};
+pub use limits::{MOST_CLIENTS, MOST_PENDING};
+pub use player::{PlayStop, Player};
+pub use request::{Answer, CloseFault, NotTaken, Notice, Reason, Request, TickFault};
+
+#[cfg(test)]
+mod player_tests;
+#[cfg(test)]
+mod refusing;
+#[cfg(test)]
+mod tests;

@@ -1,0 +1,7 @@
+//! How much a facility may hold.
+
+/// The most clients that a facility may have.
+pub const MOST_CLIENTS: u64 = 64;
+
+/// The most timers that a facility may be asked to hold pending.
+pub const MOST_PENDING: u64 = 1048576;

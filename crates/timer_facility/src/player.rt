@@ -1,0 +1,286 @@
+//! Plays lists of events.
+//!
+//! Room for all that an event can give is made before the event: one out, one handle for a start, and
+//! one notice for each timer that is pending. After that nothing can fail, so an event is played
+//! whole or not at all.
+ghost use Rattle.std.specs.Prelude.{◌≡◌, ◌<◌, ◌≤◌, ◌+◌, ◌++◌, ◌∷◌, ◌↔◌, ℕ, List, [], None, length, map, take, IsTrue, IfOk, IfErr, OnErr, OnOk, vec_len, vec_capacity};
+ghost use Rattle.timer_facility.specs.State.{FacilityState, IsSound, Tick, Close};
+ghost use Rattle.timer_facility.specs.Verdict.{tick_refusal};
+ghost use Rattle.timer_facility.specs.Step.{step};
+ghost use Rattle.timer_facility.specs.Standing.{with_nothing_waiting};
+ghost use Rattle.timer_facility.specs.Played.{IsPlayed, AddsRun};
+ghost use Rattle.timer_facility.specs.Recorded.{Places, AreRecorded};
+
+use crate::event::{Event, Out};
+use crate::facility::Facility;
+use crate::handles::Handles;
+use crate::request::{Answer, CloseFault, NotTaken, Request};
+use std::alloc::Global;
+use std::marker::Model;
+use timer_base::{OutOfMemory, Wheel};
+
+/// What was played before a growth was refused. The next event changed nothing.
+#[derive(Debug, Drop)]
+pub struct PlayStop {
+    /// How many events were played.
+    pub done: usize,
+    /// What came of them.
+    pub outs: Vec<Out>,
+}
+
+/// A facility whose events are played from lists.
+///
+/// It keeps the place of each timer that it ever started, so that a stop can name one by its serial.
+#[derive(Drop)]
+pub struct Player<W: Wheel + Drop> {
+    facility: Facility<W>,
+    handles: Handles,
+    alloc: Global,
+}
+
+impl<W: Wheel + Drop> Model for Player<W> {
+    ghost use Rattle.timer_facility.specs.State.{FacilityState};
+    ghost use Rattle.timer_facility.specs.Recorded.{IsPlayer};
+
+    ghost Value = { FacilityState };
+
+    ghost view = { λ p. p.facility.state };
+
+    ghost invariant = { λ p. IsPlayer p.facility (record { first = p.handles.first; list = p.handles.places.items }) };
+}
+
+impl<W: Wheel + Drop> Player<W> {
+    /// A player of this facility, in which no timer is pending and nothing waits. It takes no memory.
+    pub fn open(alloc: Global, facility: Facility<W>) -> Player<W>
+        requires pending { facility.state.pending ≡ [] }
+        requires waiting { facility.waiting ≡ [] }
+        ensures { result ≡ facility.state }
+    {
+        let first = facility.next_serial();
+        Player {
+            facility,
+            handles: Handles::new(alloc, first),
+            alloc,
+        }
+    }
+
+    /// The facility. Nothing waits in it. It takes no memory.
+    pub fn facility(&self) -> &Facility<W>
+        ensures state { result.now.state ≡ self.now }
+        ensures waiting { result.now.waiting ≡ [] }
+    {
+        &self.facility
+    }
+
+    /// Plays the events one after another, and gives what comes of them in order.
+    ///
+    /// Only want of memory stops it, before an event that then changed nothing: `play` may be called
+    /// again with that event and the rest.
+    pub fn play(&mut self, events: &[Event]) -> Result<Vec<Out>, PlayStop>
+        ensures played { IfOk result (λ outs. IsPlayed self.old events.now outs.items self.new) }
+        ensures within { IfErr result (λ stop. stop.done < length events.now) }
+        ensures stopped { IfErr result (λ stop. IsPlayed self.old (take stop.done events.now) stop.outs.items self.new) }
+    {
+        // What `owed` rests on is known of the state from here on.
+        let _now = self.facility.now();
+        let mut outs = Vec::new(self.alloc);
+        for (i, event) in events.iter().enumerate() {
+            match self.play_one(*event, &mut outs) {
+                Ok(()) => {}
+                Err(_) => return Err(PlayStop { done: i, outs }),
+            }
+        }
+        Ok(outs)
+    }
+
+    /// Plays one event after those before it.
+    fn play_one(&mut self, event: Event, outs: &mut Vec<Out>) -> Result<(), OutOfMemory>
+        ensures ok { OnOk result (AddsRun self.old event outs.old.items outs.new.items self.new) }
+        ensures state { OnErr result (self.new ≡ self.old) }
+        ensures outs { OnErr result (outs.new.items ≡ outs.old.items) }
+    {
+        match event {
+            Event::Start {
+                client,
+                number,
+                interval,
+                action,
+            } => self.play_start(client, number, interval, action, outs),
+            Event::Stop {
+                client,
+                number,
+                serial,
+            } => self.play_stop(client, number, serial, outs),
+            Event::Ticks { count } => self.play_ticks(count, outs),
+            Event::Close => self.play_close(outs),
+        }
+    }
+
+    /// Plays a start, and keeps the place of the timer that it started.
+    fn play_start(
+        &mut self,
+        client: u64,
+        number: u64,
+        interval: u64,
+        action: u64,
+        outs: &mut Vec<Out>,
+    ) -> Result<(), OutOfMemory>
+        ensures ok { OnOk result (AddsRun self.old (Event.Start client number interval action) outs.old.items outs.new.items self.new) }
+        ensures state { OnErr result (self.new ≡ self.old) }
+        ensures outs { OnErr result (outs.new.items ≡ outs.old.items) }
+    {
+        outs.reserve(1)?;
+        self.handles.make_room()?;
+        match self
+            .facility
+            .take(client, number, Request::Start { interval, action })
+        {
+            Ok(answer) => {
+                if let Answer::Started { handle, .. } = answer {
+                    self.handles.push(handle.place);
+                }
+                outs.push_reserved(Out::Answered {
+                    client,
+                    number,
+                    answer,
+                });
+                Ok(())
+            }
+            Err(reason) => {
+                if let NotTaken::OutOfMemory = reason {
+                    return Err(OutOfMemory);
+                }
+                outs.push_reserved(Out::NotTaken {
+                    client,
+                    number,
+                    reason,
+                });
+                Ok(())
+            }
+        }
+    }
+
+    /// Plays a stop, which names its timer by the serial.
+    fn play_stop(
+        &mut self,
+        client: u64,
+        number: u64,
+        serial: u64,
+        outs: &mut Vec<Out>,
+    ) -> Result<(), OutOfMemory>
+        ensures ok { OnOk result (AddsRun self.old (Event.Stop client number serial) outs.old.items outs.new.items self.new) }
+        ensures state { OnErr result (self.new ≡ self.old) }
+        ensures outs { OnErr result (outs.new.items ≡ outs.old.items) }
+    {
+        outs.reserve(1)?;
+        let handle = self.handles.handle_of(serial);
+        match self.facility.take(client, number, Request::Stop(handle)) {
+            Ok(answer) => outs.push_reserved(Out::Answered {
+                client,
+                number,
+                answer,
+            }),
+            Err(reason) => outs.push_reserved(Out::NotTaken {
+                client,
+                number,
+                reason,
+            }),
+        }
+        Ok(())
+    }
+
+    /// Plays so many ticks, up to the first that is refused.
+    fn play_ticks(&mut self, count: u64, outs: &mut Vec<Out>) -> Result<(), OutOfMemory>
+        ensures ok { OnOk result (AddsRun self.old (Event.Ticks count) outs.old.items outs.new.items self.new) }
+        ensures state { OnErr result (self.new ≡ self.old) }
+        ensures outs { OnErr result (outs.new.items ≡ outs.old.items) }
+    {
+        make_room(&self.facility, outs)?;
+        pass_ticks(&mut self.facility, count, outs);
+        Ok(())
+    }
+
+    /// Plays the close. The timers that it hands back come after its own out.
+    fn play_close(&mut self, outs: &mut Vec<Out>) -> Result<(), OutOfMemory>
+        ensures ok { OnOk result (AddsRun self.old Event.Close outs.old.items outs.new.items self.new) }
+        ensures state { OnErr result (self.new ≡ self.old) }
+        ensures outs { OnErr result (outs.new.items ≡ outs.old.items) }
+    {
+        make_room(&self.facility, outs)?;
+        match self.facility.close() {
+            Ok(count) => {
+                outs.push_reserved(Out::Closed { count });
+                hand_out(&mut self.facility, outs);
+                Ok(())
+            }
+            Err(CloseFault::Closed) => {
+                outs.push_reserved(Out::CloseRefused);
+                Ok(())
+            }
+            Err(CloseFault::OutOfMemory) => Err(OutOfMemory),
+        }
+    }
+}
+
+/// Makes room for one out and for a notice of each pending timer. Ticks and a close give no more.
+fn make_room<W: Wheel + Drop>(
+    facility: &Facility<W>,
+    outs: &mut Vec<Out>,
+) -> Result<(), OutOfMemory>
+    ensures items { outs.new.items ≡ outs.old.items }
+    ensures room { OnOk result (vec_len outs.new + length facility.now.state.pending < vec_capacity outs.new) }
+    ensures sound { IsSound facility.now.state }
+{
+    outs.reserve(facility.pending() + 1)?;
+    Ok(())
+}
+
+/// So many ticks, up to the first that is refused, each with its notices. Room for them was made.
+fn pass_ticks<W: Wheel + Drop>(facility: &mut Facility<W>, count: u64, outs: &mut Vec<Out>)
+    requires sound { IsSound facility.old.state }
+    requires waiting { facility.old.waiting ≡ [] }
+    requires room { vec_len outs.old + length facility.old.state.pending < vec_capacity outs.old }
+    ensures run { AddsRun facility.old.state (Event.Ticks count) outs.old.items outs.new.items facility.new.state }
+    ensures waiting { facility.new.waiting ≡ [] }
+    ensures places { (places : Places) → AreRecorded places facility.old.state → AreRecorded places facility.new.state }
+{
+    for _passed in 0..count {
+        if !pass_tick(facility, outs) {
+            return;
+        }
+    }
+}
+
+/// One tick and its notices, or its refusal. Says whether it was accepted.
+fn pass_tick<W: Wheel + Drop>(facility: &mut Facility<W>, outs: &mut Vec<Out>) -> bool
+    requires waiting { facility.old.waiting ≡ [] }
+    requires room { vec_len outs.old + length facility.old.state.pending < vec_capacity outs.old }
+    ensures accepted { IsTrue result ↔ (tick_refusal facility.old.state ≡ None) }
+    ensures facility { facility.new ≡ with_nothing_waiting (step facility.old.state Tick 0).state }
+    ensures outs { outs.new.items ≡ outs.old.items ++ (step facility.old.state Tick 0).outs }
+    ensures room { IsTrue result → vec_len outs.new + length facility.new.state.pending < vec_capacity outs.new }
+{
+    match facility.tick() {
+        Ok(()) => {
+            hand_out(facility, outs);
+            true
+        }
+        Err(fault) => {
+            outs.push_reserved(Out::TickRefused(fault));
+            false
+        }
+    }
+}
+
+/// Hands out all that waits. Room for it was made.
+fn hand_out<W: Wheel + Drop>(facility: &mut Facility<W>, outs: &mut Vec<Out>)
+    requires { vec_len outs.old + length facility.old.waiting ≤ vec_capacity outs.old }
+    ensures facility { facility.new ≡ with_nothing_waiting facility.old.state }
+    ensures outs { outs.new.items ≡ outs.old.items ++ map (λ notice. Out.Notice notice) facility.old.waiting }
+    ensures len { vec_len outs.new ≡ vec_len outs.old + length facility.old.waiting }
+    ensures capacity { vec_capacity outs.new ≡ vec_capacity outs.old }
+{
+    while let Some(notice) = facility.next_out() {
+        outs.push_reserved(Out::Notice(notice));
+    }
+}

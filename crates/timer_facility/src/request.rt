@@ -1,0 +1,81 @@
+//! What a client asks for, and what it is answered.
+use timer_base::{Handle, Timer};
+
+/// What a request asks for.
+#[derive(Clone, Copy, Debug, PartialEq, Eq)]
+pub enum Request {
+    /// Start a timer that expires after `interval` ticks, and hand `action` back with it.
+    Start { interval: u64, action: u64 },
+    /// Stop the timer with this handle.
+    Stop(Handle),
+}
+
+/// What a request that was taken is answered.
+#[derive(Clone, Copy, Debug, PartialEq, Eq)]
+pub enum Answer {
+    /// The timer runs, and expires at the tick `deadline`.
+    Started { handle: Handle, deadline: u64 },
+    /// The timer with this serial will never be handed out.
+    Stopped { serial: u64 },
+    /// The request used up its number, and nothing else changed.
+    Refused(Reason),
+}
+
+/// Why a request that was taken is refused. A start is tested against the first four in this order.
+#[derive(Clone, Copy, Debug, PartialEq, Eq)]
+pub enum Reason {
+    /// The interval is 0.
+    ZeroInterval,
+    /// The deadline would be after the last tick.
+    TooLate,
+    /// Each serial was used.
+    SerialsSpent,
+    /// As many timers are pending as the facility may hold.
+    Full,
+    /// No pending timer of this client has this handle.
+    NoSuch,
+}
+
+/// Why a request was not taken, in the order in which it is tested. Nothing changed.
+#[derive(Clone, Copy, Debug, PartialEq, Eq)]
+pub enum NotTaken {
+    /// The facility was closed.
+    Closed,
+    /// There is no such client.
+    NoClient,
+    /// The number was taken before; `next` is the client's next one.
+    Repeated { next: u64 },
+    /// The client used each of its numbers.
+    NumbersSpent,
+    /// An earlier number is missing; `next` is the client's next one.
+    Ahead { next: u64 },
+    /// A growth was refused. The same request may be tried again.
+    OutOfMemory,
+}
+
+/// A timer that is handed out.
+#[derive(Clone, Copy, Debug, PartialEq, Eq)]
+pub enum Notice {
+    /// The tick is the timer's deadline.
+    Expired(Timer),
+    /// The facility was closed before the timer's deadline.
+    Returned(Timer),
+}
+
+/// Why a tick is refused, in the order in which it is tested. Nothing changed.
+#[derive(Clone, Copy, Debug, PartialEq, Eq)]
+pub enum TickFault {
+    /// The facility was closed.
+    Closed,
+    /// The clock stands at its last tick.
+    ClockEnd,
+}
+
+/// Why a close is refused, in the order in which it is tested. Nothing changed.
+#[derive(Clone, Copy, Debug, PartialEq, Eq)]
+pub enum CloseFault {
+    /// The facility was closed.
+    Closed,
+    /// A growth was refused. The close may be tried again.
+    OutOfMemory,
+}
