@@ -1,0 +1,5 @@
+pub mod Digits
+pub mod Lines
+pub mod Scripts
+pub mod Known
+pub mod BareText

@@ -1,0 +1,55 @@
+-- The text that answers a script: one line for each out, and the end line.
+use Rattle.std.specs.Prelude.{ℕ, List, [], ◌∷◌, ◌++◌, codes, decimal}
+use Rattle.std.specs.List.{flat_map}
+use Rattle.timer_facility.specs.declared.request.Reason.{Reason}
+use Rattle.timer_facility.specs.declared.request.Reason.TheVariants as reason
+use Rattle.timer_facility.specs.declared.request.NotTaken.{NotTaken}
+use Rattle.timer_facility.specs.declared.request.NotTaken.TheVariants as refusal
+use Rattle.timer_facility.specs.declared.request.TickFault.{TickFault}
+use Rattle.timer_facility.specs.declared.request.TickFault.TheVariants as fault
+use Rattle.timer_facility.specs.declared.request.Answer.TheVariants.{Started, Stopped, Refused}
+use Rattle.timer_facility.specs.declared.request.Notice.TheVariants.{Expired, Returned}
+use Rattle.timer_facility.specs.declared.event.Out.{Out}
+use Rattle.timer_facility.specs.declared.event.Out.TheVariants as out
+
+-- the word for a refusal of a request that was taken
+abbrev pub reason_word : Reason → List ℕ
+reason_word reason.ZeroInterval = codes "zero-interval"
+reason_word reason.TooLate = codes "too-late"
+reason_word reason.SerialsSpent = codes "serials-spent"
+reason_word reason.Full = codes "full"
+reason_word reason.NoSuch = codes "no-such"
+
+-- the word for a request that was not taken
+abbrev pub refusal_word : NotTaken → List ℕ
+refusal_word refusal.Closed = codes "closed"
+refusal_word refusal.NoClient = codes "no-client"
+refusal_word (refusal.Repeated next) = codes "repeated"
+refusal_word refusal.NumbersSpent = codes "numbers-spent"
+refusal_word (refusal.Ahead next) = codes "ahead"
+refusal_word refusal.OutOfMemory = codes "out-of-memory"
+
+-- the word for a refused tick
+abbrev pub fault_word : TickFault → List ℕ
+fault_word fault.Closed = codes "closed"
+fault_word fault.ClockEnd = codes "clock-end"
+
+-- each number in decimal, behind a space
+abbrev pub numbers : List ℕ → List ℕ
+numbers all = flat_map (λ n. 32 ∷ decimal n) all
+
+-- the line of an out, with its line feed
+abbrev pub out_line : Out → List ℕ
+out_line (out.Answered client number (Started handle deadline)) = codes "started" ++ numbers (client ∷ number ∷ handle.serial ∷ deadline ∷ []) ++ codes "\n"
+out_line (out.Answered client number (Stopped serial)) = codes "stopped" ++ numbers (client ∷ number ∷ serial ∷ []) ++ codes "\n"
+out_line (out.Answered client number (Refused why)) = codes "refused" ++ numbers (client ∷ number ∷ []) ++ codes " " ++ reason_word why ++ codes "\n"
+out_line (out.NotTaken client number why) = codes "refused" ++ numbers (client ∷ number ∷ []) ++ codes " " ++ refusal_word why ++ codes "\n"
+out_line (out.Notice (Expired t)) = codes "expired" ++ numbers (t.deadline ∷ t.client ∷ t.serial ∷ t.action ∷ []) ++ codes "\n"
+out_line (out.Notice (Returned t)) = codes "returned" ++ numbers (t.client ∷ t.serial ∷ t.deadline ∷ t.action ∷ []) ++ codes "\n"
+out_line (out.TickRefused why) = codes "tick refused " ++ fault_word why ++ codes "\n"
+out_line (out.Closed count) = codes "closed" ++ numbers (count ∷ []) ++ codes "\n"
+out_line out.CloseRefused = codes "close refused closed\n"
+
+-- a line for each out, and then the end line
+abbrev pub text : List Out → ℕ → ℕ → List ℕ
+text outs now pending = flat_map out_line outs ++ codes "end" ++ numbers (now ∷ pending ∷ []) ++ codes "\n"

@@ -1,0 +1,33 @@
+//! Writes a text by a loop of its own over `write`, so that it is known how much went out where the
+//! writer fails. No error is tried again.
+ghost use Rattle.std.specs.Prelude.{◌≡◌, ◌<◌, length, take, Ok, IfOk, IfErr, OnOk, true, false};
+ghost use Rattle.std.specs.Io.KnownBytes.{Appends};
+ghost use Rattle.timer_program.specs.Writing.{StopsWriting};
+
+use crate::fault::RunFault;
+use crate::watched::Watched;
+use std::io::Write;
+
+/// Writes the text and nothing else.
+///
+/// `Write` is the only fault. It comes where the writer failed, or took no byte, and has how many
+/// bytes of the text were written before.
+pub fn write_text<S: Write>(writer: &mut Watched<S>, text: &[u8]) -> Result<(), RunFault>
+    requires { writer.old.failed ≡ false }
+    ensures ok { OnOk result (Appends (S.contents writer.old.inner) (S.contents writer.new.inner) text.now) }
+    ensures good { OnOk result (writer.new.failed ≡ false) }
+    ensures fault { IfErr result (λ fault. StopsWriting fault (S.contents writer.old.inner) (S.contents writer.new.inner) writer.new.failed text.now) }
+{
+    let mut written = 0;
+    while written < text.len() {
+        let fault = RunFault::Write { written };
+        let Ok(n) = writer.write(&text[written..]) else {
+            return Err(fault);
+        };
+        if n == 0 {
+            return Err(fault);
+        }
+        written += n;
+    }
+    Ok(())
+}

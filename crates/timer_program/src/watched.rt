@@ -1,0 +1,93 @@
+//! A reader or a writer that remembers whether it failed.
+//!
+//! An error that was answered once may be gone at the next call. Here it stays known, so a contract
+//! can say that a fault comes only where the reader or the writer itself failed.
+ghost use Rattle.std.specs.Prelude.{◌≡◌, ◌||◌, ◌&&◌, ◌==◌, ◌<◌, not, false, length, is_ok, is_err};
+ghost use Rattle.std.specs.Io.{ReadsAtMost, WritesAtMost};
+ghost use Rattle.std.specs.Io.KnownBytes.{Keeps, ReadConsumes, WriteAppends};
+ghost use Rattle.timer_program.specs.Writing.{took_nothing};
+
+use std::io;
+use std::io::{Read, Write};
+
+/// Passes reads and writes on to `inner`, as they are, and keeps whether one failed.
+#[derive(Drop)]
+pub struct Watched<T> {
+    inner: T,
+    failed: bool,
+}
+
+impl<T> Watched<T> {
+    /// It has not failed yet. It takes no memory.
+    pub fn new(inner: T) -> Watched<T>
+        ensures inner { result.inner ≡ inner }
+        ensures good { result.failed ≡ false }
+    {
+        Watched {
+            inner,
+            failed: false,
+        }
+    }
+
+    /// What was watched.
+    pub fn into_inner(self) -> T
+        ensures { result ≡ self.inner }
+    {
+        self.inner
+    }
+
+    /// Whether an error was answered, or no byte was taken of a piece that wasn't empty.
+    pub fn failed(&self) -> bool
+        ensures { result ≡ self.now.failed }
+    {
+        self.failed
+    }
+}
+
+impl<T: Read> Read for Watched<T> {
+    ghost remaining = { λ w. T.remaining w.inner };
+
+    fn read(&mut self, buf: &mut [u8]) -> io::Result<usize>
+        ensures bound { ReadsAtMost result buf.new }
+        ensures bytes { ReadConsumes (T.remaining self.old.inner) (T.remaining self.new.inner) result buf.new }
+        ensures failed { self.new.failed ≡ (self.old.failed || is_err result) }
+    {
+        let result = self.inner.read(buf);
+        if result.is_err() {
+            self.failed = true;
+        }
+        result
+    }
+}
+
+impl<T: Write> Write for Watched<T> {
+    ghost contents = { λ w. T.contents w.inner };
+
+    fn write(&mut self, buf: &[u8]) -> io::Result<usize>
+        ensures bound { WritesAtMost result buf.now }
+        ensures bytes { WriteAppends (T.contents self.old.inner) (T.contents self.new.inner) result buf.now }
+        ensures failed { self.new.failed ≡ (self.old.failed || took_nothing result buf.now) }
+    {
+        let result = self.inner.write(buf);
+        match &result {
+            Ok(n) => {
+                if *n == 0 && !buf.is_empty() {
+                    self.failed = true;
+                }
+            }
+            Err(_) => self.failed = true,
+        }
+        result
+    }
+
+    fn flush(&mut self) -> io::Result<()>
+        ensures bytes { Keeps (T.contents self.old.inner) (T.contents self.new.inner) }
+        ensures failed { self.new.failed ≡ (self.old.failed || is_err result) }
+    {
+        let result = self.inner.flush();
+        if result.is_err() {
+            self.failed = true;
+        }
+        result
+    }
+}
