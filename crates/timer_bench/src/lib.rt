@@ -1,0 +1,55 @@
+//! Replays a benchmark's trace of operations over a wheel, for a driver in C.
+//!
+//! The driver hands over a whole trace in one call, so that no call crosses a language border inside
+//! the measured loop. `bench/bench.h` says what an operation is, and what the eight sums are. It is
+//! no part of the program.
+#![tactic(auto)]
+
+mod replay;
+mod sums;
+
+use replay::replay;
+use std::alloc::Global;
+use timer_wheels::{HashedWheel, HierWheel};
+
+/// The slots of the hashed wheel that is measured: the most that there can be.
+const SLOTS: usize = 65536;
+
+/// Replays a trace over the hierarchy of wheels. The last of the sums is not 0 where it gave up.
+#[unsafe(no_mangle)]
+pub extern "C" fn timers_bench_hier(
+    alloc: Global,
+    operations: &[u64],
+    owners: usize,
+    sums: &mut [u64],
+) {
+    let Ok(wheel) = HierWheel::new(alloc, 0) else {
+        return tell(sums, None);
+    };
+    tell(sums, replay(alloc, wheel, operations, owners).ok());
+}
+
+/// Replays a trace over the hashed wheel. The last of the sums is not 0 where it gave up.
+#[unsafe(no_mangle)]
+pub extern "C" fn timers_bench_hashed(
+    alloc: Global,
+    operations: &[u64],
+    owners: usize,
+    sums: &mut [u64],
+) {
+    let Ok(wheel) = HashedWheel::new(alloc, SLOTS, 0) else {
+        return tell(sums, None);
+    };
+    tell(sums, replay(alloc, wheel, operations, owners).ok());
+}
+
+/// Hands the words to the driver, or the fault.
+fn tell(sums: &mut [u64], words: Option<[u64; 8]>) {
+    if sums.len() < 8 {
+        return;
+    }
+    match words {
+        Some(words) => sums[..8].copy_from_slice(&words),
+        None => sums[7] = 1,
+    }
+}

@@ -1,0 +1,50 @@
+//! What a replay tells its driver.
+use timer_base::Timer;
+
+const MIX_A: u64 = 0x9E3779B97F4A7C15;
+
+const MIX_B: u64 = 0xC2B2AE3D27D4EB4F;
+
+const MIX_C: u64 = 0x00000100000001B3;
+
+/// What was handed out and stopped, mixed so that two wheels' answers can be compared.
+#[derive(Clone, Copy, Default)]
+pub struct Sums {
+    expired: u64,
+    set: u64,
+    sequence: u64,
+    stopped: u64,
+    stop_mix: u64,
+}
+
+impl Sums {
+    /// A timer was handed out at this tick.
+    #[inline]
+    pub fn add_expired(&mut self, now: u64, timer: Timer) {
+        let mixed = now.wrapping_mul(MIX_A) ^ timer.serial.wrapping_mul(MIX_B);
+        self.expired = self.expired.wrapping_add(1);
+        self.set = self.set.wrapping_add(mixed);
+        self.sequence = (self.sequence ^ mixed).wrapping_mul(MIX_C);
+    }
+
+    /// A stop found this timer.
+    #[inline]
+    pub fn add_stopped(&mut self, timer: Timer) {
+        self.stopped = self.stopped.wrapping_add(1);
+        self.stop_mix = self.stop_mix.wrapping_add(timer.deadline ^ timer.action);
+    }
+
+    /// The eight words that the driver reads, with no fault.
+    pub fn words(&self, now: u64, pending: usize) -> [u64; 8] {
+        [
+            self.expired,
+            self.set,
+            self.sequence,
+            self.stopped,
+            self.stop_mix,
+            now,
+            pending as u64,
+            0,
+        ]
+    }
+}
