@@ -1,247 +1,124 @@
 -- A list goes to the back of another as a whole.
-use Rattle.std.proofs.Common.{◌≡◌, ◌≢◌, ◌<◌, ◌+◌, ◌==◌, ℕ, List, [], ◌∷◌, ◌++◌, length, refl, sym, ◌∙◌, ap, subst, inl, inr, arith, length-set, get_or-set_same, get_or-set_other, length-append}
-use Rattle.std.specs.Prelude.{if◌then◌else◌, Some, slice_set}
-use Rattle.std.proofs.lemmas.Bool.{cases_eq, eq-eqb, ne_eqb}
-use Rattle.slab.specs.Slab.{slab_len}
+use Rattle.std.proofs.Common.{◌≡◌, ◌≢◌, ◌<◌, ◌+◌, ℕ, List, [], ◌∷◌, ◌++◌, length, refl, sym, ◌∙◌, ap, subst, inl, inr, arith, length-set, length-append, get_or-set_same, get_or-set_other}
+use Rattle.std.specs.Prelude.{Option, Some, None, slice_set}
+use Rattle.std.proofs.lemmas.Bool.{cases_eq}
+use Rattle.std.proofs.lemmas.List.{append_assoc}
+use Rattle.slab.specs.Slab.{Slab}
 use Rattle.timer_links.specs.declared.node.Node.{Node}
-use Rattle.timer_links.specs.declared.link.Side.{Side}
-use Rattle.timer_links.specs.declared.link.Side.TheVariants.{Key, End}
-use Rattle.timer_links.specs.declared.web.Web.{Web}
-use Rattle.timer_links.specs.Lists.{list_at, row_count}
-use Rattle.timer_links.specs.Web.{after_of, before_of, node_of, Joins, KeepsNodes}
-use Rattle.timer_links.specs.Linked.{Has, IsDistinct, IsPath, IsLinked}
-use Rattle.timer_links.proofs.Sides.{key_end, end_key, same_end, same_key, last_side, IsOff, off_end, off_key, has_left, has_right, has_either, last_not, path_same, keeps_both}
-use Rattle.timer_links.proofs.Rows.{has_in, distinct_in, row_count-set}
+use Rattle.timer_links.specs.declared.ring.Sides.{Sides}
+use Rattle.timer_links.specs.Lists.{first_key, node_at, list_at, row_count, appended}
+use Rattle.timer_links.specs.Ring.{sides_at, Joins}
+use Rattle.timer_links.specs.Linked.{places, AreRings, IsLinked}
+use Rattle.timer_links.proofs.Chains.{last}
+use Rattle.timer_links.proofs.Rows.{Has, has_either, Found, found, some_none, split_at, node_in-absent, node_at-none, row_count-set}
+use Rattle.timer_links.proofs.Rings.{node_at-here}
+use Rattle.timer_links.proofs.Moves.{joins_as, ends_are, rings_appended}
+use Rattle.timer_links.proofs.Calls.{low}
+use Rattle.timer_links.proofs.Fronts.{front_of}
 
--- what stood between the end `from` and itself stands between the back of `to` and its end
-pub record IsAppended (w u : Web) (to from : ℕ) (back first last : Side) : Type 0 where
-  pub seam_forth : after_of u back ≡ first
-  pub seam_back : before_of u first ≡ back
-  pub end_forth : after_of u last ≡ End to
-  pub end_back : before_of u (End to) ≡ last
-  pub empty_forth : after_of u (End from) ≡ End from
-  pub empty_back : before_of u (End from) ≡ End from
-  pub afters : (side : Side) → side ≢ back → side ≢ last → side ≢ End from → after_of u side ≡ after_of w side
-  pub befores : (side : Side) → side ≢ first → side ≢ End to → side ≢ End from → before_of u side ≡ before_of w side
-  pub keeps : KeepsNodes w u
+module _ (v : List (List (ℕ × Node))) (from to : ℕ) (o : to ≢ from) (bf : from < length v) (bt : to < length v) where
+  emptied : length (slice_set v from []) ≡ length v
+  emptied = length-set v from []
 
-pub is_appended : (w a b u : Web) (to from : ℕ) (back first last : Side) → to ≢ from → back ≢ last → back ≢ End from → last ≢ End from → first ≢ End to → first ≢ End from
-    → Joins back first w a → Joins last (End to) a b → Joins (End from) (End from) b u → IsAppended w u to from back first last
-is_appended w a b u to from back first last n nl nb nz nf ng x y z =
-    let te : End to ≢ End from = λ (e : End to ≡ End from). n (same_end to from e) in
-    record {
-      seam_forth = z.afters back nb ∙ (y.afters back nl ∙ x.forth);
-      seam_back = z.befores first ng ∙ (y.befores first nf ∙ x.back_to);
-      end_forth = z.afters last nz ∙ y.forth;
-      end_back = z.befores (End to) te ∙ y.back_to;
-      empty_forth = z.forth;
-      empty_back = z.back_to;
-      afters = λ s m o p. z.afters s p ∙ (y.afters s o ∙ x.afters s m);
-      befores = λ s m o p. z.befores s p ∙ (y.befores s o ∙ x.befores s m);
-      keeps = keeps_both w b u (keeps_both w a b x.keeps y.keeps) z.keeps;
+  pub many_now : length (appended from to v) ≡ length v
+  many_now = length-set (slice_set v from []) to (list_at to v ++ list_at from v) ∙ emptied
+
+  at_to : list_at to (appended from to v) ≡ list_at to v ++ list_at from v
+  at_to = get_or-set_same (slice_set v from []) to (list_at to v ++ list_at from v) [] (rw emptied bt)
+
+  at_from : list_at from (appended from to v) ≡ []
+  at_from = get_or-set_other (slice_set v from []) to from (list_at to v ++ list_at from v) [] (λ (q : from ≡ to). o (sym q)) ∙ get_or-set_same v from [] [] bf
+
+  at_other : (m : ℕ) → m ≢ to → m ≢ from → list_at m (appended from to v) ≡ list_at m v
+  at_other m n p = get_or-set_other (slice_set v from []) to m (list_at to v ++ list_at from v) [] n ∙ get_or-set_other v from m [] [] p
+
+  at_l : (l m : ℕ) (rows : List (ℕ × Node)) → l ≡ m → list_at l v ≡ rows → list_at m v ≡ rows
+  at_l l m rows q e = let P : ℕ → Type 0 = λ x. list_at x v ≡ rows in subst P q e
+
+  found_now : (k : ℕ) (node : Node) → Found k node v → Found k node (appended from to v)
+  found_now k node f = elim (cases_eq f.l from) [
+    | inl q ↦ record {
+      l = to;
+      below = rw many_now bt;
+      front = list_at to v ++ f.front;
+      rest = f.rest;
+      is = at_to ∙ (ap (λ (x : List (ℕ × Node)). list_at to v ++ x) (at_l f.l from (f.front ++ (k, node) ∷ f.rest) q f.is) ∙ sym (append_assoc (list_at to v) f.front ((k, node) ∷ f.rest)));
     }
-
-module _ (w u : Web) (to from : ℕ) (back first last : Side) (t : IsAppended w u to from back first last) where
-  appended_tail : (key : ℕ) (rows : List (ℕ × Node)) → IsPath w (Key key) rows (End from) → last ≡ last_side (Key key) rows → (Has key rows → ⊥) → IsDistinct rows
-      → Key key ≢ back → IsOff back rows → IsOff first rows → IsPath u (Key key) rows (End to)
-  appended_tail key [] c e n d b ob of = record { forth = ap (after_of u) (sym e) ∙ t.end_forth; back_to = t.end_back ∙ e }
-  appended_tail key (r ∷ rs) c e n d b ob of =
-      let o : Key key ≢ last = λ (q : Key key ≡ last). last_not (Key key) (Key r.0) rs (λ (z : Key key ≡ Key r.0). n (inl (sym (same_key key r.0 z)))) (off_key key rs (λ h. n (inr h))) (q ∙ e) in (
-        record {
-          forth = t.afters (Key key) b o (key_end key from) ∙ c.0.forth;
-          back_to = t.befores (Key r.0) (λ (z : Key r.0 ≡ first). of r.0 (inl refl) (sym z)) (key_end r.0 to) (key_end r.0 from) ∙ c.0.back_to;
-        },
-        (
-          t.keeps.nodes r.0 ∙ c.1.0,
-          appended_tail r.0 rs c.1.1 e d.0 d.1 (λ (z : Key r.0 ≡ back). ob r.0 (inl refl) (sym z)) (λ k h. ob k (inr h)) (λ k h. of k (inr h)),
-        ),
-      )
-
-  appended_front : (y : ℕ × Node) (ys : List (ℕ × Node)) (side : Side) (rows : List (ℕ × Node)) → IsPath w side rows (End to) → back ≡ last_side side rows → first ≡ Key y.0 → node_of w y.0 ≡ Some y.1
-      → IsPath u (Key y.0) ys (End to) → IsDistinct rows → IsOff side rows → side ≢ last → side ≢ End from → IsOff last rows → IsOff first rows → IsPath u side (rows ++ y ∷ ys) (End to)
-  appended_front y ys side [] c e f g p d o m n ol of = (
-    record { forth = ap (after_of u) (sym e) ∙ (t.seam_forth ∙ f); back_to = ap (before_of u) (sym f) ∙ (t.seam_back ∙ e) },
-    (t.keeps.nodes y.0 ∙ g, p),
-  )
-  appended_front y ys side (r ∷ rs) c e f g p d o m n ol of =
-      let b : side ≢ back = λ (q : side ≡ back). last_not side (Key r.0) rs (o r.0 (inl refl)) (λ k h. o k (inr h)) (q ∙ e) in (
-        record {
-          forth = t.afters side b m n ∙ c.0.forth;
-          back_to = t.befores (Key r.0) (λ (z : Key r.0 ≡ first). of r.0 (inl refl) (sym z)) (key_end r.0 to) (key_end r.0 from) ∙ c.0.back_to;
-        },
-        (
-          t.keeps.nodes r.0 ∙ c.1.0,
-          appended_front y ys (Key r.0) rs c.1.1 e f g p d.1 (off_key r.0 rs d.0) (λ (z : Key r.0 ≡ last). ol r.0 (inl refl) (sym z)) (key_end r.0 from) (λ k h. ol k (inr h)) (λ k h. of k (inr h)),
-        ),
-      )
-
-distinct_both : (xs ys : List (ℕ × Node)) → ((k : ℕ) → Has k xs → Has k ys → ⊥) → IsDistinct xs → IsDistinct ys → IsDistinct (xs ++ ys)
-distinct_both [] ys n d f = f
-distinct_both (x ∷ xs) ys n d f = (
-  (λ h. elim (has_either x.0 xs ys h) [ inl a ↦ d.0 a | inr b ↦ n x.0 (inl refl) b ]),
-  distinct_both xs ys (λ k a b. n k (inr a) b) d.1 f,
-)
-
-pub off_last : (k : ℕ) (from : Side) (rows : List (ℕ × Node)) → Key k ≢ from → (Has k rows → ⊥) → Key k ≢ last_side from rows
-off_last k from rows n h = last_not (Key k) from rows n (off_key k rows h)
-
-module _ (w u : Web) (v : List (List (ℕ × Node))) (to from : ℕ) (y : ℕ × Node) (ys : List (ℕ × Node)) (h : IsLinked w v) (bt : to < length v) (bf : from < length v) (apart : to ≢ from) (e : list_at from v ≡ y ∷ ys)
-    (t : IsAppended w u to from (last_side (End to) (list_at to v)) (Key y.0) (last_side (Key y.0) ys)) where
-  xs : List (ℕ × Node)
-  xs = list_at to v
-
-  home_from : (k : ℕ) → Has k (y ∷ ys) → h.home k ≡ from
-  home_from k x = h.homes from bf k (has_in k (y ∷ ys) (list_at from v) (sym e) x)
-
-  path_from : IsPath w (End from) (y ∷ ys) (End from)
-  path_from = let P : List (ℕ × Node) → Type 0 = λ rows. IsPath w (End from) rows (End from) in subst P e (h.paths from bf)
-
-  distinct_from : IsDistinct (y ∷ ys)
-  distinct_from = distinct_in (list_at from v) (y ∷ ys) e (h.distinct from bf)
-
-  -- a key of another list is none of the list that moves
-  not_from : (m k : ℕ) → m < length v → m ≢ from → Has k (list_at m v) → Has k (y ∷ ys) → ⊥
-  not_from m k d n a b = n (sym (h.homes m d k a) ∙ home_from k b)
-
-  not_to : (m k : ℕ) → m < length v → m ≢ to → Has k (list_at m v) → Has k (list_at to v) → ⊥
-  not_to m k d n a b = n (sym (h.homes m d k a) ∙ h.homes to bt k b)
-
-  -- a key that does not move is not the first or the last that does
-  off_moved_last : (k : ℕ) → (Has k (y ∷ ys) → ⊥) → Key k ≢ last_side (Key y.0) ys
-  off_moved_last k n = off_last k (Key y.0) ys (λ (q : Key k ≡ Key y.0). n (inl (sym (same_key k y.0 q)))) (λ x. n (inr x))
-
-  off_moved_first : (k : ℕ) → (Has k (y ∷ ys) → ⊥) → Key k ≢ Key y.0
-  off_moved_first k n = λ (q : Key k ≡ Key y.0). n (inl (sym (same_key k y.0 q)))
-
-  end_moved_last : (l : ℕ) → End l ≢ last_side (Key y.0) ys
-  end_moved_last l = last_not (End l) (Key y.0) ys (end_key l y.0) (off_end l ys)
-
-  moved_in_from : (k : ℕ) → Has k (y ∷ ys) → Has k (list_at from v)
-  moved_in_from k x = has_in k (y ∷ ys) (list_at from v) (sym e) x
-
-  path_to : IsPath u (End to) (list_at to v ++ y ∷ ys) (End to)
-  path_to =
-      let back : (k : ℕ) → Has k (y ∷ ys) → Key k ≢ last_side (End to) (list_at to v) = λ k x. off_last k (End to) (list_at to v) (key_end k to) (λ z. not_from to k bt apart z x) in
-      appended_front w u to from (last_side (End to) (list_at to v)) (Key y.0) (last_side (Key y.0) ys) t y ys (End to) (list_at to v) (h.paths to bt) refl refl path_from.1.0
-      (appended_tail w u to from (last_side (End to) (list_at to v)) (Key y.0) (last_side (Key y.0) ys) t y.0 ys path_from.1.1 refl distinct_from.0 distinct_from.1
-      (back y.0 (inl refl))
-      (λ k x. λ (q : last_side (End to) (list_at to v) ≡ Key k). back k (inr x) (sym q))
-      (off_key y.0 ys distinct_from.0))
-      (h.distinct to bt) (off_end to (list_at to v)) (end_moved_last to) (λ (q : End to ≡ End from). apart (same_end to from q))
-      (λ k x. λ (q : last_side (Key y.0) ys ≡ Key k). off_moved_last k (not_from to k bt apart x) (sym q))
-      (λ k x. λ (q : Key y.0 ≡ Key k). off_moved_first k (not_from to k bt apart x) (sym q))
-
-  path_other : (m : ℕ) → m < length v → m ≢ to → m ≢ from → IsPath u (End m) (list_at m v) (End m)
-  path_other m d nt nf =
-      let zt : End m ≢ End to = λ (q : End m ≡ End to). nt (same_end m to q) in
-      let zf : End m ≢ End from = λ (q : End m ≡ End from). nf (same_end m from q) in
-      path_same w u (End m) (list_at m v) (End m)
-      (t.afters (End m) (last_not (End m) (End to) (list_at to v) zt (off_end m (list_at to v))) (end_moved_last m) zf)
-      (t.befores (End m) (end_key m y.0) zt zf)
-      (λ k x. record {
-        after = t.afters (Key k) (off_last k (End to) (list_at to v) (key_end k to) (not_to m k d nt x)) (off_moved_last k (not_from m k d nf x)) (key_end k from);
-        before = t.befores (Key k) (off_moved_first k (not_from m k d nf x)) (key_end k to) (key_end k from);
-        node = t.keeps.nodes k;
-      })
-      (h.paths m d)
-
-  abbrev emptied : List (List (ℕ × Node))
-  emptied = slice_set v from []
-
-  abbrev now : List (List (ℕ × Node))
-  now = slice_set (slice_set v from []) to (list_at to v ++ y ∷ ys)
-
-  len_emptied : length (slice_set v from []) ≡ length v
-  len_emptied = length-set v from []
-
-  len_now : length (slice_set (slice_set v from []) to (list_at to v ++ y ∷ ys)) ≡ length v
-  len_now = length-set (slice_set v from []) to (list_at to v ++ y ∷ ys) ∙ len_emptied
-
-  at_to : list_at to (slice_set (slice_set v from []) to (list_at to v ++ y ∷ ys)) ≡ list_at to v ++ y ∷ ys
-  at_to = get_or-set_same (slice_set v from []) to (list_at to v ++ y ∷ ys) [] (rw len_emptied bt)
-
-  at_other : (m : ℕ) → m ≢ to → list_at m (slice_set (slice_set v from []) to (list_at to v ++ y ∷ ys)) ≡ list_at m (slice_set v from [])
-  at_other m n = get_or-set_other (slice_set v from []) to m (list_at to v ++ y ∷ ys) [] n
-
-  at_from : list_at from (slice_set (slice_set v from []) to (list_at to v ++ y ∷ ys)) ≡ []
-  at_from = at_other from (λ (q : from ≡ to). apart (sym q)) ∙ get_or-set_same v from [] [] bf
-
-  at_rest : (m : ℕ) → m ≢ to → m ≢ from → list_at m (slice_set (slice_set v from []) to (list_at to v ++ y ∷ ys)) ≡ list_at m v
-  at_rest m n o = at_other m n ∙ get_or-set_other v from m [] [] o
-
-  -- which of the three kinds a list is
-  by_list : (P : ℕ → List (ℕ × Node) → Type 0) → P to (list_at to v ++ y ∷ ys) → P from [] → ((m : ℕ) → m < length v → m ≢ to → m ≢ from → P m (list_at m v)) → (m : ℕ) → m < length v → P m (list_at m (slice_set (slice_set v from []) to (list_at to v ++ y ∷ ys)))
-  by_list P a b c m d = elim (cases_eq m to) [
-    | inl q ↦ rw (q, at_to) a
-    | inr n ↦ elim (cases_eq m from) [
-      | inl q ↦ rw (q, at_from) b
-      | inr o ↦ rw (at_rest m n o) (c m d n o)
+    | inr p ↦ elim (cases_eq f.l to) [
+      | inl q ↦ record {
+        l = to;
+        below = rw many_now bt;
+        front = f.front;
+        rest = f.rest ++ list_at from v;
+        is = at_to ∙ (ap (λ (x : List (ℕ × Node)). x ++ list_at from v) (at_l f.l to (f.front ++ (k, node) ∷ f.rest) q f.is) ∙ append_assoc f.front ((k, node) ∷ f.rest) (list_at from v));
+      }
+      | inr n ↦ record { l = f.l; below = rw many_now f.below; front = f.front; rest = f.rest; is = at_other f.l n p ∙ f.is }
     ]
   ]
 
-  -- the list of a key now
-  abbrev home_now : ℕ → ℕ
-  home_now k = if h.home k == from then to else h.home k
-
-  home_moved : (k : ℕ) → h.home k ≡ from → home_now k ≡ to
-  home_moved k q = rw (eq-eqb (h.home k) from q) refl
-
-  home_kept : (k m : ℕ) → h.home k ≡ m → m ≢ from → home_now k ≡ m
-  home_kept k m q n = rw (ne_eqb (h.home k) from (λ (z : h.home k ≡ from). n (sym q ∙ z))) q
-
-  home_to : (k : ℕ) → Has k (list_at to v ++ y ∷ ys) → home_now k ≡ to
-  home_to k x = elim (has_either k (list_at to v) (y ∷ ys) x) [
-    | inl a ↦ home_kept k to (h.homes to bt k a) apart
-    | inr b ↦ home_moved k (home_from k b)
+  -- where a key of the new lists stood
+  stood : (m k : ℕ) → m < length v → Has k (list_at m (appended from to v)) → (l : ℕ) × (l < length v) × Has k (list_at l v)
+  stood m k b x = elim (cases_eq m to) [
+    | inl q ↦ elim (has_either k (list_at to v) (list_at from v) (rw (q, at_to) at x)) [ inl y ↦ (to, bt, y) | inr y ↦ (from, bf, y) ]
+    | inr n ↦ elim (cases_eq m from) [
+      | inl q ↦ let z : ⊥ = rw (q, at_from) at x in absurd z
+      | inr p ↦ (m, b, rw (at_other m n p) at x)
+    ]
   ]
 
-  held : (k j : ℕ) → home_now k ≡ j → j < length v → Has k (list_at j (slice_set (slice_set v from []) to (list_at to v ++ y ∷ ys))) → (home_now k < length now) × Has k (list_at (home_now k) now)
-  held k j q d x =
-      let P : ℕ → Type 0 = λ z. (z < length now) × Has k (list_at z now) in
-      subst P (sym q) (rw len_now d, x)
-
-  held_from : (k : ℕ) → h.home k ≡ from → Has k (list_at (h.home k) v) → (home_now k < length now) × Has k (list_at (home_now k) now)
-  held_from k q x =
-      let z : Has k (list_at from v) = let P : ℕ → Type 0 = λ j. Has k (list_at j v) in subst P q x in
-      held k to (home_moved k q) bt (has_in k (list_at to v ++ y ∷ ys) (list_at to now) (sym at_to) (has_right k (list_at to v) (y ∷ ys) (has_in k (list_at from v) (y ∷ ys) e z)))
-
-  held_to : (k : ℕ) → h.home k ≡ to → Has k (list_at (h.home k) v) → (home_now k < length now) × Has k (list_at (home_now k) now)
-  held_to k q x =
-      let z : Has k (list_at to v) = let P : ℕ → Type 0 = λ j. Has k (list_at j v) in subst P q x in
-      held k to (home_kept k to q apart) bt (has_in k (list_at to v ++ y ∷ ys) (list_at to now) (sym at_to) (has_left k (list_at to v) (y ∷ ys) z))
-
-  held_rest : (k m : ℕ) → h.home k ≡ m → m < length v → m ≢ to → m ≢ from → Has k (list_at m v) → (home_now k < length now) × Has k (list_at (home_now k) now)
-  held_rest k m q d n o x = held k m (home_kept k m q o) d (has_in k (list_at m v) (list_at m now) (sym (at_rest m n o)) x)
-
-  total_now : slab_len u.entries ≡ row_count now
-  total_now =
-      let bt2 : to < length (slice_set v from []) = rw len_emptied bt in
+  pub count_now : row_count (appended from to v) ≡ row_count v
+  count_now =
+      let bt2 : to < length (slice_set v from []) = rw emptied bt in
       let c1 : row_count (slice_set v from []) + length (list_at from v) ≡ row_count v + 0 = row_count-set v from [] bf in
-      let c2 : row_count (slice_set (slice_set v from []) to (list_at to v ++ y ∷ ys)) + length (list_at to (slice_set v from [])) ≡ row_count (slice_set v from []) + length (list_at to v ++ y ∷ ys) = row_count-set (slice_set v from []) to (list_at to v ++ y ∷ ys) bt2 in
-      let c3 : length (list_at to (slice_set v from [])) ≡ length (list_at to v) = ap (λ (z : List (ℕ × Node)). length z) (get_or-set_other v from to [] [] apart) in
-      let c4 : length (list_at to v ++ y ∷ ys) ≡ length (list_at to v) + length (y ∷ ys) = length-append (list_at to v) (y ∷ ys) in
-      let c5 : length (list_at from v) ≡ length (y ∷ ys) = ap (λ (z : List (ℕ × Node)). length z) e in
-      let c6 : slab_len w.entries ≡ row_count v = h.total in
-      let c7 : slab_len u.entries ≡ slab_len w.entries = t.keeps.count in
+      let c2 : row_count (slice_set (slice_set v from []) to (list_at to v ++ list_at from v)) + length (list_at to (slice_set v from [])) ≡ row_count (slice_set v from []) + length (list_at to v ++ list_at from v) = row_count-set (slice_set v from []) to (list_at to v ++ list_at from v) bt2 in
+      let c3 : length (list_at to (slice_set v from [])) ≡ length (list_at to v) = ap (λ (z : List (ℕ × Node)). length z) (get_or-set_other v from to [] [] o) in
+      let c4 : length (list_at to v ++ list_at from v) ≡ length (list_at to v) + length (list_at from v) = length-append (list_at to v) (list_at from v) in
       omega arith
 
-  pub appended_linked : IsLinked u (slice_set (slice_set v from []) to (list_at to v ++ y ∷ ys))
-  appended_linked = record {
-    as_many = t.keeps.lists ∙ (h.as_many ∙ sym len_now);
-    few = rw len_now h.few;
-    home = home_now;
-    paths = λ m d. by_list (λ j rows. IsPath u (End j) rows (End j)) path_to (record { forth = t.empty_forth; back_to = t.empty_back }) path_other m (rw len_now at d);
-    distinct = λ m d. by_list (λ j rows. IsDistinct rows) (distinct_both (list_at to v) (y ∷ ys) (λ k a b. not_from to k bt apart a b) (h.distinct to bt) distinct_from) tt (λ j b n o. h.distinct j b) m (rw len_now at d);
-    homes = λ m d k x. by_list (λ j rows. Has k rows → home_now k ≡ j) (home_to k) (λ z. absurd z) (λ j b n o z. home_kept k j (h.homes j b k z) o) m (rw len_now at d) x;
-    covers = λ k n g.
-        let c = h.covers k n (sym (t.keeps.nodes k) ∙ g) in
-        elim (cases_eq (h.home k) from) [
-          | inl q ↦ held_from k q c.1
-          | inr o ↦ elim (cases_eq (h.home k) to) [
-            | inl q ↦ held_to k q c.1
-            | inr n ↦ held_rest k (h.home k) refl c.0 n o c.1
-          ]
-        ];
-    small = λ k n g. h.small k n (sym (t.keeps.nodes k) ∙ g);
-    total = total_now;
-  }
+  -- each key has the node that it had
+  module _ (n : ℕ) (s u : List Sides) (h : AreRings n s v) (g : AreRings n u (appended from to v)) (many : length v ≡ n) where
+    by_old : (k : ℕ) (a : Option Node) → node_at k v ≡ a → node_at k (appended from to v) ≡ a
+    by_old k (Some node) e =
+        let f = found_now k node (found k node v e) in
+        let b : f.l < n = let d : f.l < length (appended from to v) = f.below in rw (sym many, sym many_now) d in
+        node_at-here n u (appended from to v) g k f.l f.front node f.rest b f.is (many_now ∙ many)
+    by_old k None e = node_at-none k (appended from to v) (λ m d. node_in-absent k (list_at m (appended from to v)) (λ x.
+        let b : m < length v = rw (sym many_now) d in
+        let z = stood m k b x in
+        let i = split_at k (list_at z.0 v) z.2 in
+        let c : z.0 < n = rw (sym many) z.1 in
+        some_none i.node (sym (node_at-here n s v h k z.0 i.front i.node i.rest c i.is many) ∙ e)))
+
+    pub node_now : (k : ℕ) → node_at k (appended from to v) ≡ node_at k v
+    node_now k = by_old k (node_at k v) refl
+
+pub appended_linked : (n : ℕ) (nodes : Slab Node) (s t a u : List Sides) (v : List (List (ℕ × Node))) (from to key : ℕ) → IsLinked n nodes s v → (bf : from < length v) → (bt : to < length v) → (o : to ≢ from) → first_key (list_at from v) ≡ Some key
+    → Joins (sides_at s to).before (sides_at s from).after s t → Joins (sides_at s from).before to t a → Joins from from a u → IsLinked n nodes u (appended from to v)
+appended_linked n nodes s t a u v from to key h bf bt o e i j k =
+    let f = front_of n nodes s v from key h bf e in
+    let cf : from < n = low n nodes s v h from bf in
+    let ct : to < n = low n nodes s v h to bt in
+    let z = ends_are n s v h.rings from to (key, f.node) f.rest cf ct o f.is in
+    let g : AreRings n u (appended from to v) = rings_appended n s v h.rings from to (key, f.node) f.rest cf ct o f.is t a u h.many
+    (joins_as s t (sides_at s to).before (sides_at s from).after (last to (places n (list_at to v))) (n + key) z.2 z.0 i)
+    (joins_as t a (sides_at s from).before to (last (n + key) (places n f.rest)) to z.1 refl j) k in
+    let size : length u ≡ length s = k.size ∙ (j.size ∙ i.size) in
+    record {
+      many = many_now v from to o bf bt ∙ h.many;
+      few = h.few;
+      rings = g;
+      held = λ x. h.held x ∙ sym (node_now v from to o bf bt n s u h.rings g h.many x);
+      total = h.total ∙ sym (count_now v from to o bf bt);
+      roots = rw size h.roots;
+      reached = λ x y. rw size (h.reached x y);
+      numbered = rw size h.numbered;
+    }
+
+-- the joins, of the sides that were read
+pub joins_between : (s t u : List Sides) (p q : ℕ) (x y : Sides) → t ≡ s → x ≡ sides_at s p → y ≡ sides_at s q → Joins y.before x.after t u → Joins (sides_at s q).before (sides_at s p).after s u
+joins_between s t u p q x y e f g j =
+    let P : List Sides → Type 0 = λ a. Joins y.before x.after a u in
+    joins_as s u y.before x.after (sides_at s q).before (sides_at s p).after (ap (λ (z : Sides). z.before) g) (ap (λ (z : Sides). z.after) f) (subst P e j)
+
+pub joins_behind : (s t u : List Sides) (p to : ℕ) (x : Sides) → x ≡ sides_at s p → Joins x.before to t u → Joins (sides_at s p).before to t u
+joins_behind s t u p to x f j = joins_as t u x.before to (sides_at s p).before to (ap (λ (z : Sides). z.before) f) refl j

@@ -1,8 +1,12 @@
-pub mod Sides
+pub mod Chains
 pub mod Rows
-pub mod Linked
-pub mod Attach
-pub mod Append
-pub mod Rounds
+pub mod NodeAt
+pub mod Rings
 pub mod Moves
+pub mod Linked
+pub mod Calls
+pub mod Alone
+pub mod Fronts
+pub mod Append
+pub mod Nodes
 pub mod Empty

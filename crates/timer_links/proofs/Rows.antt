@@ -1,14 +1,39 @@
 -- Facts of rows and of lists of rows.
-use Rattle.std.proofs.Common.{◌≡◌, ◌≢◌, ◌<◌, ◌≤◌, ◌+◌, ℕ, zero, suc, List, [], ◌∷◌, ◌++◌, length, refl, sym, ap, subst, inl, inr, arith}
-use Rattle.std.specs.Prelude.{map, Some, None, slice_set}
-use Rattle.std.proofs.lemmas.Bool.{eq-eqb, ne_eqb}
+use Rattle.std.proofs.Common.{◌≡◌, ◌≢◌, ◌<◌, ◌≤◌, ◌+◌, ℕ, ◌⊎◌, zero, suc, List, [], ◌∷◌, ◌++◌, length, refl, sym, ◌∙◌, ap, subst, inl, inr, arith}
+use Rattle.std.specs.Prelude.{map, Option, Some, None, IsSome, slice_set}
+use Rattle.std.proofs.lemmas.Bool.{cases_eq, eq-eqb, ne_eqb}
 use Rattle.timer_links.specs.declared.node.Node.{Node}
-use Rattle.timer_links.specs.Lists.{node_in, node_at, list_at, row_count, without_key}
-use Rattle.timer_links.specs.Linked.{Has, IsDistinct}
-use Rattle.timer_links.proofs.Sides.{has_right}
+use Rattle.timer_links.specs.Lists.{node_in, node_at, first_of, list_at, row_count, without_key}
 
 pub some_none : {X : Type 0} (x : X) → Some x ≢ None
 some_none x = λ (h : Some x ≡ None). cc
+
+pub none_is : IsSome {T = Node} None → ⊥
+none_is h = cc
+
+-- the key is one of these rows'
+abbrev pub Has : ℕ → List (ℕ × Node) → Type 0
+Has key [] = ⊥
+Has key (row ∷ rest) = (row.0 ≡ key) ⊎ Has key rest
+
+-- no key stands twice in the list
+abbrev pub IsDistinct : List (ℕ × Node) → Type 0
+IsDistinct [] = Unit {0}
+IsDistinct (row ∷ rest) = (Has row.0 rest → ⊥) × IsDistinct rest
+
+pub has_left : (k : ℕ) (xs ys : List (ℕ × Node)) → Has k xs → Has k (xs ++ ys)
+has_left k [] ys h = absurd h
+has_left k (x ∷ xs) ys (inl e) = inl e
+has_left k (x ∷ xs) ys (inr h) = inr (has_left k xs ys h)
+
+pub has_right : (k : ℕ) (xs ys : List (ℕ × Node)) → Has k ys → Has k (xs ++ ys)
+has_right k [] ys h = h
+has_right k (x ∷ xs) ys h = inr (has_right k xs ys h)
+
+pub has_either : (k : ℕ) (xs ys : List (ℕ × Node)) → Has k (xs ++ ys) → Has k xs ⊎ Has k ys
+has_either k [] ys h = inr h
+has_either k (x ∷ xs) ys (inl e) = inl (inl e)
+has_either k (x ∷ xs) ys (inr h) = elim (has_either k xs ys h) [ inl a ↦ inl (inr a) | inr b ↦ inr b ]
 
 pub has_as : (k j : ℕ) (rows : List (ℕ × Node)) → k ≡ j → Has k rows → Has j rows
 has_as k j rows e h = let P : ℕ → Type 0 = λ x. Has x rows in subst P e h
@@ -19,29 +44,25 @@ has_in k xs ys e h = let P : List (ℕ × Node) → Type 0 = λ x. Has k x in su
 pub distinct_in : (xs ys : List (ℕ × Node)) → xs ≡ ys → IsDistinct xs → IsDistinct ys
 distinct_in xs ys e h = let P : List (ℕ × Node) → Type 0 = λ x. IsDistinct x in subst P e h
 
+-- what is known of the two parts of such a list
+pub record Parts (xs ys : List (ℕ × Node)) : Type 0 where
+  pub front : IsDistinct xs
+  pub back : IsDistinct ys
+  pub between : (k : ℕ) → Has k xs → Has k ys → ⊥
+
+pub distinct_parts : (xs ys : List (ℕ × Node)) → IsDistinct (xs ++ ys) → Parts xs ys
+distinct_parts [] ys d = record { front = tt; back = d; between = λ k i j. i }
+distinct_parts (x ∷ xs) ys d =
+    let p = distinct_parts xs ys d.1 in
+    record {
+      front = ((λ h. d.0 (has_left x.0 xs ys h)), p.front);
+      back = p.back;
+      between = λ k i j. elim i [ inl e ↦ d.0 (has_right x.0 xs ys (has_as k x.0 ys (sym e) j)) | inr h ↦ p.between k h j ];
+    }
+
 module _ (key : ℕ) (node : Node) (rest : List (ℕ × Node)) where
-  pub has_more : (k : ℕ) (front : List (ℕ × Node)) → Has k (front ++ rest) → Has k (front ++ (key, node) ∷ rest)
-  has_more k [] h = inr h
-  has_more k (x ∷ xs) (inl e) = inl e
-  has_more k (x ∷ xs) (inr h) = inr (has_more k xs h)
-
-  pub has_other : (k : ℕ) (front : List (ℕ × Node)) → k ≢ key → Has k (front ++ (key, node) ∷ rest) → Has k (front ++ rest)
-  has_other k [] n (inl e) = absurd (n (sym e))
-  has_other k [] n (inr h) = h
-  has_other k (x ∷ xs) n (inl e) = inl e
-  has_other k (x ∷ xs) n (inr h) = inr (has_other k xs n h)
-
   pub has_this : (front : List (ℕ × Node)) → Has key (front ++ (key, node) ∷ rest)
   has_this front = has_right key front ((key, node) ∷ rest) (inl refl)
-
-  pub distinct_without : (front : List (ℕ × Node)) → IsDistinct (front ++ (key, node) ∷ rest) → IsDistinct (front ++ rest)
-  distinct_without [] d = d.1
-  distinct_without (x ∷ xs) d = ((λ h. d.0 (has_more x.0 xs h)), distinct_without xs d.1)
-
-  pub distinct_apart : (front : List (ℕ × Node)) → IsDistinct (front ++ (key, node) ∷ rest) → Has key (front ++ rest) → ⊥
-  distinct_apart [] d h = d.0 h
-  distinct_apart (x ∷ xs) d (inl e) = d.0 (has_as key x.0 (xs ++ (key, node) ∷ rest) (sym e) (has_this xs))
-  distinct_apart (x ∷ xs) d (inr h) = distinct_apart xs d.1 h
 
   pub length_split : (front : List (ℕ × Node)) → length (front ++ (key, node) ∷ rest) ≡ length (front ++ rest) + 1
   length_split [] = omega arith
@@ -80,6 +101,54 @@ split_at key (r ∷ rs) (inl e) = record { front = []; node = r.1; rest = rs; is
 split_at key (r ∷ rs) (inr h) =
     let i = split_at key rs h in
     record { front = r ∷ i.front; node = i.node; rest = i.rest; is = ap (λ (y : List (ℕ × Node)). r ∷ y) i.is }
+
+-- the same, for the node that the lists have under a key
+pub record Found (key : ℕ) (node : Node) (v : List (List (ℕ × Node))) : Type 0 where
+  pub l : ℕ
+  pub below : l < length v
+  pub front : List (ℕ × Node)
+  pub rest : List (ℕ × Node)
+  pub is : list_at l v ≡ front ++ (key, node) ∷ rest
+
+record FoundIn (key : ℕ) (node : Node) (rows : List (ℕ × Node)) : Type 0 where
+  pub front : List (ℕ × Node)
+  pub rest : List (ℕ × Node)
+  pub is : rows ≡ front ++ (key, node) ∷ rest
+
+pub same_node : (a b : Node) → Some a ≡ Some b → a ≡ b
+same_node a b h = cc
+
+found_in : (key : ℕ) (node : Node) (rows : List (ℕ × Node)) → node_in key rows ≡ Some node → FoundIn key node rows
+found_in key node [] h = absurd (some_none node (sym h))
+found_in key node (r ∷ rs) h = elim (cases_eq r.0 key) [
+  | inl e ↦
+      let q : r.1 ≡ node = same_node r.1 node (rw (eq-eqb r.0 key e) at h) in
+      record { front = []; rest = rs; is = ap (λ (y : ℕ). (y, r.1) ∷ rs) e ∙ ap (λ (y : Node). (key, y) ∷ rs) q }
+  | inr n ↦
+      let i = found_in key node rs (rw (ne_eqb r.0 key n) at h) in
+      record { front = r ∷ i.front; rest = i.rest; is = ap (λ (y : List (ℕ × Node)). r ∷ y) i.is }
+]
+
+-- which of the two it is
+of_first : (o : Option Node) → (o ≡ None) ⊎ IsSome o
+of_first None = inl refl
+of_first (Some x) = inr refl
+
+first_some : (a b : Option Node) (node : Node) → IsSome a → first_of a b ≡ Some node → a ≡ Some node
+first_some None b node i h = absurd (none_is i)
+first_some (Some x) b node i h = h
+
+pub found : (key : ℕ) (node : Node) (v : List (List (ℕ × Node))) → node_at key v ≡ Some node → Found key node v
+found key node [] h = absurd (some_none node (sym h))
+found key node (x ∷ xs) h = elim (of_first (node_in key x)) [
+  | inl e ↦
+      let f = found key node xs (rw e at h) in
+      let b : f.l < length xs = f.below in
+      record { l = suc f.l; below = omega arith; front = f.front; rest = f.rest; is = f.is }
+  | inr i ↦
+      let f = found_in key node x (first_some (node_in key x) (node_at key xs) node i h) in
+      record { l = 0; below = omega arith; front = f.front; rest = f.rest; is = f.is }
+]
 
 pub map_each : (f : List (ℕ × Node) → List (ℕ × Node)) (lists : List (List (ℕ × Node))) → ((l : ℕ) → l < length lists → f (list_at l lists) ≡ list_at l lists) → map f lists ≡ lists
 map_each f [] h = refl

@@ -1,4 +1,3 @@
-pub mod LinkWord
 pub mod Lists
-pub mod Web
+pub mod Ring
 pub mod Linked

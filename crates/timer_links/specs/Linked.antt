@@ -1,70 +1,48 @@
--- How a web of nodes stands for lists. No public clause cites this file.
-use Rattle.std.specs.Prelude.{◌≡◌, ◌≢◌, ℕ, ◌<◌, ◌≤◌, zero, suc, ◌⊎◌, List, [], ◌∷◌, length, map, Option, Some, None}
-use Rattle.slab.specs.Slab.{slab_len}
+-- How nodes and sides stand for lists. No public clause cites this file.
+use Rattle.std.specs.Prelude.{◌≡◌, ℕ, ◌+◌, ◌<◌, ◌≤◌, zero, suc, List, [], ◌∷◌, ◌++◌, length, map, Option, Some, None}
+use Rattle.std.specs.List.{range_with_len}
+use Rattle.slab.specs.Slab.{Slab, get, slab_len, ContainsKey}
 use Rattle.timer_links.specs.declared.node.Node.{Node}
-use Rattle.timer_links.specs.declared.link.Side.{Side}
-use Rattle.timer_links.specs.declared.link.Side.TheVariants.{Key, End}
-use Rattle.timer_links.specs.declared.link.TheConstants.{KEYS}
-use Rattle.timer_links.specs.declared.web.Web.{Web}
-use Rattle.timer_links.specs.Lists.{list_at, row_count}
-use Rattle.timer_links.specs.Web.{after_of, before_of, node_of}
+use Rattle.timer_links.specs.declared.ring.Sides.{Sides}
+use Rattle.timer_links.specs.declared.ring.TheConstants.{PLACES}
+use Rattle.timer_links.specs.Lists.{list_at, node_at, row_count}
+use Rattle.timer_links.specs.Ring.{sides_at, key_of, IsChain}
 
--- a row, and what follows it
-abbrev pub follow : ℕ → Option Node → List (ℕ × Node) → List (ℕ × Node)
-follow key None rest = []
-follow key (Some node) rest = (key, node) ∷ rest
+-- the row of a key and its node, before these rows
+abbrev pub row_of : ℕ → Option Node → List (ℕ × Node) → List (ℕ × Node)
+row_of key None rest = []
+row_of key (Some node) rest = (key, node) ∷ rest
 
--- the rows from a side on, at most so many
-abbrev pub walk : ℕ → Web → Side → List (ℕ × Node)
-walk zero w side = []
-walk (suc n) w (End list) = []
-walk (suc n) w (Key key) = follow key (node_of w key) (walk n w (after_of w (Key key)))
+abbrev pub rows_of : Slab Node → Option ℕ → List (ℕ × Node) → List (ℕ × Node)
+rows_of nodes None rest = []
+rows_of nodes (Some key) rest = row_of key (get nodes key) rest
 
--- the lists, each walked from its front
-abbrev pub lists_of : Web → List (List (ℕ × Node))
-lists_of w = map (λ ends. walk (slab_len w.entries) w ends.first) w.ends.items
+-- the rows from a place on to the root, at most so many
+abbrev pub walk : ℕ → ℕ → Slab Node → List Sides → ℕ → List (ℕ × Node)
+walk zero lists nodes sides place = []
+walk (suc n) lists nodes sides place = rows_of nodes (key_of lists place) (walk n lists nodes sides (sides_at sides place).after)
 
--- the key is one of these rows'
-abbrev pub Has : ℕ → List (ℕ × Node) → Type 0
-Has key [] = ⊥
-Has key (row ∷ rest) = (row.0 ≡ key) ⊎ Has key rest
+-- the lists, each walked from behind its root
+abbrev pub lists_of : ℕ → Slab Node → List Sides → List (List (ℕ × Node))
+lists_of lists nodes sides = map (λ root. walk (slab_len nodes) lists nodes sides (sides_at sides root).after) (range_with_len 0 lists)
 
--- no key stands twice in the list
-abbrev pub IsDistinct : List (ℕ × Node) → Type 0
-IsDistinct [] = Unit {0}
-IsDistinct (row ∷ rest) = (Has row.0 rest → ⊥) × IsDistinct rest
+-- the places of these rows
+abbrev pub places : ℕ → List (ℕ × Node) → List ℕ
+places lists [] = []
+places lists (row ∷ rest) = (lists + row.0) ∷ places lists rest
 
--- the one side stands right behind the other
-pub record Meet (w : Web) (front back : Side) : Type 0 where
-  pub forth : after_of w front ≡ back
-  pub back_to : before_of w back ≡ front
+-- each list is a ring: its root, its nodes in their order, and back to the root
+abbrev pub AreRings : ℕ → List Sides → List (List (ℕ × Node)) → Type 0
+AreRings lists sides v = (l : ℕ) → l < lists → IsChain sides l (places lists (list_at l v) ++ l ∷ [])
 
--- from the first side one comes along these rows to the last side, and back
-abbrev pub IsPath : Web → Side → List (ℕ × Node) → Side → Type 0
-IsPath w from [] to = Meet w from to
-IsPath w from (row ∷ rest) to = Meet w from (Key row.0) × ((node_of w row.0 ≡ Some row.1) × IsPath w (Key row.0) rest to)
-
--- the nodes of these keys stand in these lists, and each list is a path from its end to its end
-pub record IsLinked (w : Web) (lists : List (List (ℕ × Node))) : Type 0 where
-  pub as_many : length w.ends.items ≡ length lists
-  pub few : length lists ≤ 65537
-  -- the list of a key
-  pub home : ℕ → ℕ
-  pub paths : (l : ℕ) → l < length lists → IsPath w (End l) (list_at l lists) (End l)
-  pub distinct : (l : ℕ) → l < length lists → IsDistinct (list_at l lists)
-  pub homes : (l : ℕ) → l < length lists → (key : ℕ) → Has key (list_at l lists) → home key ≡ l
-  pub covers : (key : ℕ) (node : Node) → node_of w key ≡ Some node → (home key < length lists) × Has key (list_at (home key) lists)
-  pub small : (key : ℕ) (node : Node) → node_of w key ≡ Some node → key < KEYS
-  pub total : slab_len w.entries ≡ row_count lists
-
--- as IsLinked, but for one key, which stands in no list
-pub record IsLinkedBut (w : Web) (loose : ℕ) (lists : List (List (ℕ × Node))) : Type 0 where
-  pub as_many : length w.ends.items ≡ length lists
-  pub few : length lists ≤ 65537
-  pub home : ℕ → ℕ
-  pub paths : (l : ℕ) → l < length lists → IsPath w (End l) (list_at l lists) (End l)
-  pub distinct : (l : ℕ) → l < length lists → IsDistinct (list_at l lists)
-  pub homes : (l : ℕ) → l < length lists → (key : ℕ) → Has key (list_at l lists) → home key ≡ l
-  pub covers : (key : ℕ) (node : Node) → key ≢ loose → node_of w key ≡ Some node → (home key < length lists) × Has key (list_at (home key) lists)
-  pub small : (key : ℕ) (node : Node) → key ≢ loose → node_of w key ≡ Some node → key < KEYS
-  pub apart : (l : ℕ) → l < length lists → Has loose (list_at l lists) → ⊥
+-- the nodes under these keys stand in these lists, and each list is a ring
+pub record IsLinked (lists : ℕ) (nodes : Slab Node) (sides : List Sides) (v : List (List (ℕ × Node))) : Type 0 where
+  pub many : length v ≡ lists
+  pub few : lists ≤ 65537
+  pub rings : AreRings lists sides v
+  pub held : (key : ℕ) → get nodes key ≡ node_at key v
+  pub total : slab_len nodes ≡ row_count v
+  -- each root has a place, each key in use has one, and each place has a number
+  pub roots : lists ≤ length sides
+  pub reached : (key : ℕ) → ContainsKey nodes key → lists + key < length sides
+  pub numbered : length sides ≤ PLACES

@@ -78,6 +78,29 @@ SetsRounds key rounds old new =
     → l < length old → list_at l old ≡ front ++ (key, node) ∷ rest
     → new ≡ slice_set old l (front ++ (key, record node { rounds = rounds }) ∷ rest)
 
+-- wherever the key stands, it has this node, and all else stays
+abbrev pub SetsNode : ℕ → Node → List (List (ℕ × Node)) → List (List (ℕ × Node)) → Type 0
+SetsNode key node old new =
+    (l : ℕ) (front : List (ℕ × Node)) (was : Node) (rest : List (ℕ × Node))
+    → l < length old → list_at l old ≡ front ++ (key, was) ∷ rest
+    → new ≡ slice_set old l (front ++ (key, node) ∷ rest)
+
+-- the list, where nothing stands before and behind
+abbrev pub only : ℕ → List (ℕ × Node) → List (ℕ × Node) → Option ℕ
+only l [] [] = Some l
+only l [] (x ∷ xs) = None
+only l (x ∷ xs) rest = None
+
+-- wherever the key stands, this is that list where nothing else stands in it
+abbrev pub TellsEmptied : ℕ → List (List (ℕ × Node)) → Option ℕ → Type 0
+TellsEmptied key lists emptied =
+    (l : ℕ) (front : List (ℕ × Node)) (node : Node) (rest : List (ℕ × Node))
+    → l < length lists → list_at l lists ≡ front ++ (key, node) ∷ rest → emptied ≡ only l front rest
+
+-- the node under the key has these rounds
+abbrev pub HasRounds : ℕ → List (List (ℕ × Node)) → ℕ → Type 0
+HasRounds key lists rounds = (node : Node) → node_at key lists ≡ Some node → rounds ≡ node.rounds
+
 -- a row's key stands nowhere else
 abbrev pub AreApart : List (List (ℕ × Node)) → Type 0
 AreApart lists =

@@ -1,7 +1,7 @@
-//! What no clause says: that each call succeeds where memory is ample, and what two lists hold
-//! after each call of one worked example.
+//! What no clause says: that each call succeeds while memory is available, what the lists of worked
+//! examples hold after each call, and that a push goes on after one that ran out of memory.
 
-use crate::{Links, Node};
+use crate::{Links, Node, Step, Taken};
 use timer_base::Timer;
 
 fn node(serial: u64) -> Node {
@@ -41,6 +41,14 @@ fn push(links: &mut Links, list: usize, node: Node) -> Option<usize> {
     links.push_back(list, node).ok()
 }
 
+/// A push that hands its node back where it runs out of memory.
+fn try_push(links: &mut Links, list: usize, node: Node) -> Result<usize, Node> {
+    if list >= links.lists() {
+        return Err(node);
+    }
+    links.push_back(list, node).map_err(|failed| failed.0)
+}
+
 fn move_back(links: &mut Links, key: usize, list: usize) -> bool {
     match links.get(key) {
         Some(_) if list < links.lists() => {
@@ -59,6 +67,52 @@ fn set_rounds(links: &mut Links, key: usize, rounds: u64) -> bool {
         }
         None => false,
     }
+}
+
+fn set_node(links: &mut Links, key: usize, node: Node) -> bool {
+    match links.get(key) {
+        Some(_) => {
+            links.set_node(key, node);
+            true
+        }
+        None => false,
+    }
+}
+
+/// A step as its two answers, and None where the key is not in use.
+fn step(links: &Links, key: usize) -> Option<(u64, Option<usize>)> {
+    match links.get(key) {
+        Some(_) => {
+            let Step { rounds, next } = links.step(key);
+            Some((rounds, next))
+        }
+        None => None,
+    }
+}
+
+/// The serial of the node that was taken, and the list that it left empty.
+fn take(links: &mut Links, key: usize) -> Option<(u64, Option<usize>)> {
+    match links.get(key) {
+        Some(_) => {
+            let Taken { node, emptied } = links.take(key);
+            Some((node.timer.serial, emptied))
+        }
+        None => None,
+    }
+}
+
+fn is_empty(links: &Links, list: usize) -> Option<bool> {
+    if list >= links.lists() {
+        return None;
+    }
+    Some(links.is_empty(list))
+}
+
+fn front(links: &Links, list: usize) -> Option<Option<usize>> {
+    if list >= links.lists() {
+        return None;
+    }
+    Some(links.front(list))
 }
 
 fn next(links: &Links, key: usize) -> Option<Option<usize>> {
@@ -116,8 +170,69 @@ fn a_node_keeps_its_key_wherever_it_goes(rt: HostRuntime) {
     assert!(rt; move_back(&mut links, a, 0));
     assert_eq!(rt; pop(&mut links, 0), Some((c, node(3))));
     assert_eq!(rt; serials(&links, 0), 41);
-    assert_eq!(rt; serials(&links, 2), 0);
+    assert_eq!(rt; front(&links, 2), Some(None));
     assert_eq!(rt; links.len(), 2);
+}
+
+#[test]
+fn a_node_is_replaced_where_it_stands(rt: HostRuntime) {
+    let mut links = Links::new(rt.alloc(), 2).expect(&rt, "memory is ample");
+    let a = push(&mut links, 1, node(1)).expect(&rt, "memory is ample");
+    let b = push(&mut links, 1, node(2)).expect(&rt, "memory is ample");
+    let c = push(&mut links, 1, node(3)).expect(&rt, "memory is ample");
+    assert!(rt; set_node(&mut links, b, node(7)));
+    assert_eq!(rt; links.get(b), Some(node(7)));
+    assert_eq!(rt; serials(&links, 1), 173);
+    assert!(rt; set_node(&mut links, a, node(8)));
+    assert!(rt; set_node(&mut links, c, node(9)));
+    assert_eq!(rt; serials(&links, 1), 879);
+    assert_eq!(rt; serials(&links, 0), 0);
+    assert_eq!(rt; links.len(), 3);
+
+    assert_eq!(rt; links.unlink(c), Some(node(9)));
+    assert!(rt; !set_node(&mut links, c, node(4)));
+    assert_eq!(rt; serials(&links, 1), 87);
+}
+
+#[test]
+fn a_taken_node_tells_the_list_that_it_leaves_empty(rt: HostRuntime) {
+    let mut links = Links::new(rt.alloc(), 3).expect(&rt, "memory is ample");
+    let mut keys = [0; 4];
+    for serial in 1..5 {
+        let list = if serial == 4 { 0 } else { 2 };
+        let key = push(&mut links, list, node(serial)).expect(&rt, "memory is ample");
+        keys[serial as usize - 1] = key;
+    }
+    let [a, b, c, d] = keys;
+    // From the middle, from the back, and as the last one of its list.
+    assert_eq!(rt; take(&mut links, b), Some((2, None)));
+    assert_eq!(rt; serials(&links, 2), 13);
+    assert_eq!(rt; take(&mut links, c), Some((3, None)));
+    assert_eq!(rt; serials(&links, 2), 1);
+    assert_eq!(rt; take(&mut links, a), Some((1, Some(2))));
+    assert_eq!(rt; serials(&links, 2), 0);
+    assert_eq!(rt; take(&mut links, a), None);
+    assert_eq!(rt; serials(&links, 0), 4);
+    assert_eq!(rt; take(&mut links, d), Some((4, Some(0))));
+    assert_eq!(rt; is_empty(&links, 0), Some(true));
+    assert_eq!(rt; links.len(), 0);
+}
+
+#[test]
+fn a_step_gives_the_rounds_and_the_key_after(rt: HostRuntime) {
+    let mut links = Links::new(rt.alloc(), 2).expect(&rt, "memory is ample");
+    let a = push(&mut links, 1, node(1)).expect(&rt, "memory is ample");
+    let b = push(&mut links, 1, node(2)).expect(&rt, "memory is ample");
+    let c = push(&mut links, 1, node(3)).expect(&rt, "memory is ample");
+    for key in [a, b, c] {
+        assert!(rt; set_rounds(&mut links, key, key as u64 + 5));
+    }
+    assert_eq!(rt; step(&links, a), Some((a as u64 + 5, Some(b))));
+    assert_eq!(rt; step(&links, b), Some((b as u64 + 5, Some(c))));
+    assert_eq!(rt; step(&links, c), Some((c as u64 + 5, None)));
+    assert!(rt; links.unlink(b).is_some());
+    assert_eq!(rt; step(&links, b), None);
+    assert_eq!(rt; step(&links, a), Some((a as u64 + 5, Some(c))));
 }
 
 #[test]
@@ -149,4 +264,28 @@ fn lists_move_as_a_whole_and_node_by_node(rt: HostRuntime) {
     changed.rounds = 7;
     assert_eq!(rt; links.get(first), Some(changed));
     assert_eq!(rt; links.len(), 5);
+    assert_eq!(rt; is_empty(&links, 0), Some(true));
+    assert_eq!(rt; is_empty(&links, 1), Some(false));
+}
+
+/// The links of new nodes are made 64 at a time, and those made before keep their order. With an
+/// allocation failing, a push that runs out of memory hands its node back, and the next one succeeds.
+#[test]
+fn the_lists_grow_past_a_push_that_runs_out_of_memory(rt: HostRuntime) {
+    let Ok(mut links) = Links::new(rt.alloc(), 3) else {
+        return;
+    };
+    for serial in 0..200 {
+        if let Err(back) = try_push(&mut links, 1, node(serial)) {
+            assert_eq!(rt; back, node(serial));
+            assert_eq!(rt; links.len(), serial as usize);
+            assert!(rt; push(&mut links, 1, back).is_some());
+        }
+    }
+    append(&mut links, 1, 2);
+    for serial in 0..200 {
+        let popped = pop(&mut links, 2).map(|row| row.1);
+        assert_eq!(rt; popped, Some(node(serial)));
+    }
+    assert_eq!(rt; links.len(), 0);
 }

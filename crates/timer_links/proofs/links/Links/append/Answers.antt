@@ -1,23 +1,41 @@
-use Rattle.std.proofs.Common.{sym, ◌∙◌, refl}
-use Rattle.timer_links.specs.declared.link.Side.TheVariants.{End}
-use Rattle.timer_links.proofs.Linked.{opened, closed, lists_are}
-use Rattle.timer_links.proofs.Moves.{front_none, append_stays, last_side_in, first_side_in, in_kept, all_appended, joins_to}
+use Rattle.std.proofs.Common.{◌∙◌, sym}
+use Rattle.timer_links.proofs.Linked.{opened, closed, written, lists_are}
+use Rattle.timer_links.proofs.Calls.{read_root}
+use Rattle.timer_links.proofs.Append.{appended_linked, joins_between, joins_behind}
 use Rattle.timer_links.proofs.links.Links.append.Goals as goal
 
-pub returns-in_default : goal.returns-in_default
-returns-in_default c = append_stays c.args.self.now c.args.from c.args.to (front_none c.self.inside.web c.args.self.now c.args.from c.in_default.field-0 (opened c.self.inside.web c.args.self.now c.self.view_is c.self.invariant) c.requires.from (sym c.first-first.ensures ∙ (sym c.side.ensures ∙ c.in_default.is)))
-
 pub join-requires-clause-front : goal.join-requires-clause-front
-join-requires-clause-front c = last_side_in c.self.inside.web c.args.self.now c.args.to c.last-back.result (opened c.self.inside.web c.args.self.now c.self.view_is c.self.invariant) c.requires.to c.last-back.ensures
+join-requires-clause-front c =
+    let h = opened c.self.inside c.args.self.now c.self.view_is c.self.invariant in
+    let y = read_root _ _ _ _ c.args.to _ _ h c.requires.to c.as_mut_slice-sides.ensures.value c.index-2.ensures in
+    y.before
 
 pub join-requires-clause-back : goal.join-requires-clause-back
-join-requires-clause-back c = first_side_in c.self.inside.web c.args.self.now c.args.from c.in-Key.field-0 c.first-first.result (opened c.self.inside.web c.args.self.now c.self.view_is c.self.invariant) c.requires.from c.first-first.ensures (sym c.side.ensures ∙ c.in-Key.is)
+join-requires-clause-back c =
+    let h = opened c.self.inside c.args.self.now c.self.view_is c.self.invariant in
+    let x = read_root _ _ _ _ c.args.from _ _ h c.requires.from c.as_mut_slice-sides.ensures.value c.index.ensures in
+    x.after
 
-pub join_last-requires-clause-front : goal.join_last-requires-clause-front
-join_last-requires-clause-front c = in_kept c.self.inside.web c.join.new.self c.last-last.result c.join.ensures.keeps (last_side_in c.self.inside.web c.args.self.now c.args.from c.last-last.result (opened c.self.inside.web c.args.self.now c.self.view_is c.self.invariant) c.requires.from c.last-last.ensures)
+pub join-requires-2-clause-front : goal.join-requires-2-clause-front
+join-requires-2-clause-front c =
+    let h = opened c.self.inside c.args.self.now c.self.view_is c.self.invariant in
+    let x = read_root _ _ _ _ c.args.from _ _ h c.requires.from c.as_mut_slice-sides.ensures.value c.index.ensures in
+    rw c.join.ensures.size x.before
 
 pub invariant_of-self : goal.invariant_of-self
-invariant_of-self c = closed _ _ (all_appended c.self.inside.web c.join.new.self c.join_last.new.self c.join_first.new.self c.args.self.now c.args.from c.args.to c.in-Key.field-0 c.first-first.result c.last-last.result c.last-back.result (opened c.self.inside.web c.args.self.now c.self.view_is c.self.invariant) c.requires.from c.requires.to c.requires.apart c.first-first.ensures (sym c.side.ensures ∙ c.in-Key.is) c.last-last.ensures c.last-back.ensures c.join.ensures c.join_last.ensures (joins_to c.join_last.new.self c.join_first.new.self (End c.args.from) c.end.result (End c.args.from) (End c.args.from) refl c.end.ensures c.join_first.ensures))
+invariant_of-self c =
+    let h = opened c.self.inside c.args.self.now c.self.view_is c.self.invariant in
+    let x = read_root _ _ _ _ c.args.from _ _ h c.requires.from c.as_mut_slice-sides.ensures.value c.index.ensures in
+    let y = read_root _ _ _ _ c.args.to _ _ h c.requires.to c.as_mut_slice-sides.ensures.value c.index-2.ensures in
+    closed _ _ _ _ (written _ _ c.self.inside.sides _ _ (c.join-3.ensures.size ∙ (c.join-2.ensures.size ∙ (c.join.ensures.size ∙ c.as_mut_slice-sides.ensures.len)))
+    (appended_linked _ _ _ _ _ _ _ c.args.from c.args.to c.in-Some.field-0 h c.requires.from c.requires.to c.requires.apart (sym c.in-Some.ensures)
+    (joins_between _ _ _ _ _ _ _ c.as_mut_slice-sides.ensures.value x.is y.is c.join.ensures) (joins_behind c.self.inside.sides.items _ _ c.args.from _ _ x.is c.join-2.ensures) c.join-3.ensures))
 
 pub returns : goal.returns
-returns c = lists_are _ _ (all_appended c.self.inside.web c.join.new.self c.join_last.new.self c.join_first.new.self c.args.self.now c.args.from c.args.to c.in-Key.field-0 c.first-first.result c.last-last.result c.last-back.result (opened c.self.inside.web c.args.self.now c.self.view_is c.self.invariant) c.requires.from c.requires.to c.requires.apart c.first-first.ensures (sym c.side.ensures ∙ c.in-Key.is) c.last-last.ensures c.last-back.ensures c.join.ensures c.join_last.ensures (joins_to c.join_last.new.self c.join_first.new.self (End c.args.from) c.end.result (End c.args.from) (End c.args.from) refl c.end.ensures c.join_first.ensures))
+returns c =
+    let h = opened c.self.inside c.args.self.now c.self.view_is c.self.invariant in
+    let x = read_root _ _ _ _ c.args.from _ _ h c.requires.from c.as_mut_slice-sides.ensures.value c.index.ensures in
+    let y = read_root _ _ _ _ c.args.to _ _ h c.requires.to c.as_mut_slice-sides.ensures.value c.index-2.ensures in
+    lists_are _ _ _ _ (written _ _ c.self.inside.sides _ _ (c.join-3.ensures.size ∙ (c.join-2.ensures.size ∙ (c.join.ensures.size ∙ c.as_mut_slice-sides.ensures.len)))
+    (appended_linked _ _ _ _ _ _ _ c.args.from c.args.to c.in-Some.field-0 h c.requires.from c.requires.to c.requires.apart (sym c.in-Some.ensures)
+    (joins_between _ _ _ _ _ _ _ c.as_mut_slice-sides.ensures.value x.is y.is c.join.ensures) (joins_behind c.self.inside.sides.items _ _ c.args.from _ _ x.is c.join-2.ensures) c.join-3.ensures))

@@ -1,6 +1,8 @@
 use Rattle.timer_links.proofs.Linked.{opened}
-use Rattle.timer_links.proofs.Moves.{apart}
+use Rattle.timer_links.proofs.Rings.{apart}
 use Rattle.timer_links.proofs.links.Links.keys_are_apart.Goals as goal
 
 pub returns : goal.returns
-returns c = apart c.self.inside.web c.args.self.now (opened c.self.inside.web c.args.self.now c.self.view_is c.self.invariant)
+returns c =
+    let h = opened c.self.inside c.args.self.now c.self.view_is c.self.invariant in
+    apart _ _ _ h.rings h.many

@@ -1,13 +1,12 @@
-use Rattle.std.proofs.Common.{sym, ◌∙◌}
+use Rattle.std.proofs.Common.{◌∙◌, ap, refl}
+use Rattle.timer_links.specs.Ring.{key_of}
+use Rattle.timer_links.specs.declared.ring.Sides.{Sides}
 use Rattle.timer_links.proofs.Linked.{opened}
-use Rattle.timer_links.proofs.Moves.{used, next_key, next_none}
+use Rattle.timer_links.proofs.Calls.{used, next_key, read_node}
 use Rattle.timer_links.proofs.links.Links.next.Goals as goal
 
-pub index-requires : goal.index-requires
-index-requires c = used c.self.inside.web c.args.self.now c.args.key (opened c.self.inside.web c.args.self.now c.self.view_is c.self.invariant) c.requires
-
-pub returns-in-Key : goal.returns-in-Key
-returns-in-Key c = next_key c.self.inside.web c.args.self.now c.args.key c.in-Key.next c.index.result.now (opened c.self.inside.web c.args.self.now c.self.view_is c.self.invariant) c.index.ensures (sym c.side.ensures ∙ c.in-Key.is)
-
-pub returns-in-End : goal.returns-in-End
-returns-in-End c = next_none c.self.inside.web c.args.self.now c.args.key c.in-End.field-0 c.index.result.now (opened c.self.inside.web c.args.self.now c.self.view_is c.self.invariant) c.index.ensures (sym c.side.ensures ∙ c.in-End.is)
+pub returns : goal.returns
+returns c l front node rest b e =
+    let h = opened c.self.inside c.args.self.now c.self.view_is c.self.invariant in
+    let r = read_node _ _ _ _ c.args.key c.self.inside.sides.items _ h (used _ _ _ _ h c.args.key c.requires) refl c.index.ensures in
+    c.key_at.ensures ∙ (ap (λ (x : Sides). key_of c.self.inside.lists x.after) r.is ∙ next_key _ _ _ _ h c.args.key l front node rest b e)

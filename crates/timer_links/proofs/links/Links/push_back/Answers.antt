@@ -1,22 +1,50 @@
-use Rattle.std.proofs.Common.{refl}
-use Rattle.timer_links.proofs.Linked.{opened, closed, lists_are}
-use Rattle.timer_links.proofs.Moves.{same_web, pushed, push_last_in, node_at-unused}
+use Rattle.std.proofs.Common.{◌≡◌, ◌<◌, ◌+◌, ◌∙◌, sym, length}
+use Rattle.timer_links.proofs.Linked.{opened, closed, written, lists_are}
+use Rattle.timer_links.proofs.Calls.{low, back_in, grown, refused, pushed, size_last, joins_last_read}
 use Rattle.timer_links.proofs.links.Links.push_back.Goals as goal
 
 pub invariant_of-self : goal.invariant_of-self
-invariant_of-self c = closed _ _ (same_web c.self.inside.web c.insert.new.self c.args.self.now (opened c.self.inside.web c.args.self.now c.self.view_is c.self.invariant) c.in_default.ensures.err)
+invariant_of-self c =
+    let h = opened c.self.inside c.args.self.now c.self.view_is c.self.invariant in
+    closed _ _ _ _ (grown _ _ _ _ _ h c.reach.ensures.kept c.reach.ensures.few)
 
 pub returns-in_default-clause-err : goal.returns-in_default-clause-err
-returns-in_default-clause-err c = lists_are _ _ (same_web c.self.inside.web c.insert.new.self c.args.self.now (opened c.self.inside.web c.args.self.now c.self.view_is c.self.invariant) c.in_default.ensures.err)
+returns-in_default-clause-err c =
+    let h = opened c.self.inside c.args.self.now c.self.view_is c.self.invariant in
+    lists_are _ _ _ _ (grown _ _ _ _ _ h c.reach.ensures.kept c.reach.ensures.few)
 
-pub join_back-requires-clause-last : goal.join_back-requires-clause-last
-join_back-requires-clause-last c = push_last_in c.self.inside.web c.insert.new.self c.args.self.now c.in-Ok.key c.args.list c.last-last.result _ (opened c.self.inside.web c.args.self.now c.self.view_is c.self.invariant) c.requires c.in-Ok.ensures.vacant c.last-last.ensures c.in-Ok.ensures.inserted
+pub invariant_of-self-in_default-insert : goal.invariant_of-self-in_default-insert
+invariant_of-self-in_default-insert c =
+    let h = opened c.self.inside c.args.self.now c.self.view_is c.self.invariant in
+    let g = grown _ _ _ _ _ h c.reach.ensures.kept c.reach.ensures.few in
+    closed _ _ _ _ (refused _ _ _ _ _ g c.in_default-insert.ensures.err)
+
+pub returns-in_default-insert-clause-err : goal.returns-in_default-insert-clause-err
+returns-in_default-insert-clause-err c =
+    let h = opened c.self.inside c.args.self.now c.self.view_is c.self.invariant in
+    let g = grown _ _ _ _ _ h c.reach.ensures.kept c.reach.ensures.few in
+    lists_are _ _ _ _ (refused _ _ _ _ _ g c.in_default-insert.ensures.err)
+
+pub join_last-requires-clause-last : goal.join_last-requires-clause-last
+join_last-requires-clause-last c =
+    let h = opened c.self.inside c.args.self.now c.self.view_is c.self.invariant in
+    let g = grown _ _ _ _ _ h c.reach.ensures.kept c.reach.ensures.few in
+    rw c.as_mut_slice.ensures.value (back_in _ _ _ _ g c.args.list (low _ _ _ _ g c.args.list c.requires))
 
 pub invariant_of-self-2 : goal.invariant_of-self-2
-invariant_of-self-2 c = closed _ _ (pushed c.self.inside.web c.insert.new.self c.join_back.new.self c.args.self.now c.in-Ok.key c.args.list c.last-last.result c.end.result _ (opened c.self.inside.web c.args.self.now c.self.view_is c.self.invariant) c.requires c.in-Ok.ensures.vacant c.in-Ok.ensures.small c.last-last.ensures c.end.ensures refl refl c.in-Ok.ensures.inserted c.join_back.ensures)
-
-pub returns-clause-fresh : goal.returns-clause-fresh
-returns-clause-fresh c = node_at-unused c.self.inside.web c.args.self.now c.in-Ok.key (opened c.self.inside.web c.args.self.now c.self.view_is c.self.invariant) c.in-Ok.ensures.vacant
+invariant_of-self-2 c =
+    let h = opened c.self.inside c.args.self.now c.self.view_is c.self.invariant in
+    let g = grown _ _ _ _ _ h c.reach.ensures.kept c.reach.ensures.few in
+    let key : c.in-Ok-insert.key ≡ c.vacant_key-key.result = c.in-Ok-insert.ensures.key ∙ sym c.vacant_key-key.ensures.value in
+    let room : c.self.inside.lists + c.in-Ok-insert.key < length c.reach.new.sides.items = rw key c.in-Ok.ensures.reached in
+    closed _ _ _ _ (written _ _ c.reach.new.sides _ _ (size_last _ _ _ _ c.join_last.ensures ∙ c.as_mut_slice.ensures.len)
+    (pushed _ _ _ _ _ _ c.in-Ok-insert.key c.args.list c.args.node g c.requires c.in-Ok-insert.ensures.was_vacant c.in-Ok-insert.ensures.updates c.in-Ok-insert.ensures.len room (joins_last_read _ _ _ _ _ c.as_mut_slice.ensures.value c.join_last.ensures)))
 
 pub returns-clause-pushed : goal.returns-clause-pushed
-returns-clause-pushed c = lists_are _ _ (pushed c.self.inside.web c.insert.new.self c.join_back.new.self c.args.self.now c.in-Ok.key c.args.list c.last-last.result c.end.result _ (opened c.self.inside.web c.args.self.now c.self.view_is c.self.invariant) c.requires c.in-Ok.ensures.vacant c.in-Ok.ensures.small c.last-last.ensures c.end.ensures refl refl c.in-Ok.ensures.inserted c.join_back.ensures)
+returns-clause-pushed c =
+    let h = opened c.self.inside c.args.self.now c.self.view_is c.self.invariant in
+    let g = grown _ _ _ _ _ h c.reach.ensures.kept c.reach.ensures.few in
+    let key : c.in-Ok-insert.key ≡ c.vacant_key-key.result = c.in-Ok-insert.ensures.key ∙ sym c.vacant_key-key.ensures.value in
+    let room : c.self.inside.lists + c.in-Ok-insert.key < length c.reach.new.sides.items = rw key c.in-Ok.ensures.reached in
+    lists_are _ _ _ _ (written _ _ c.reach.new.sides _ _ (size_last _ _ _ _ c.join_last.ensures ∙ c.as_mut_slice.ensures.len)
+    (pushed _ _ _ _ _ _ c.in-Ok-insert.key c.args.list c.args.node g c.requires c.in-Ok-insert.ensures.was_vacant c.in-Ok-insert.ensures.updates c.in-Ok-insert.ensures.len room (joins_last_read _ _ _ _ _ c.as_mut_slice.ensures.value c.join_last.ensures)))

@@ -1,12 +1,19 @@
-use Rattle.timer_links.proofs.Linked.{opened, lists_are}
-use Rattle.timer_links.proofs.Moves.{used, rounds_set, rounds_closed}
+use Rattle.std.proofs.Common.{◌∙◌, ◌++◌, ◌∷◌, ap}
+use Rattle.std.specs.Prelude.{slice_set}
+use Rattle.timer_links.specs.declared.node.Node.{Node}
+use Rattle.timer_links.proofs.Linked.{opened, closed, lists_are}
+use Rattle.timer_links.proofs.Calls.{seat}
+use Rattle.timer_links.proofs.Nodes.{node_set, node_was}
 use Rattle.timer_links.proofs.links.Links.set_rounds.Goals as goal
 
-pub set_rounds-requires : goal.set_rounds-requires
-set_rounds-requires c = used c.self.inside.web c.args.self.now c.args.key (opened c.self.inside.web c.args.self.now c.self.view_is c.self.invariant) c.requires
-
 pub invariant_of-self : goal.invariant_of-self
-invariant_of-self c = rounds_closed c.self.inside.web c.set_rounds.new.self c.args.self.now c.args.key c.args.rounds (opened c.self.inside.web c.args.self.now c.self.view_is c.self.invariant) c.requires c.set_rounds.ensures
+invariant_of-self c =
+    let h = opened c.self.inside c.args.self.now c.self.view_is c.self.invariant in
+    let f = seat _ _ _ _ h c.args.key _ c.index_mut.ensures.value in
+    closed _ _ _ _ (node_set _ _ _ _ c.args.key f.l f.front _ (record c.index_mut.result.now { rounds = c.args.rounds }) f.rest h f.below f.is)
 
 pub returns : goal.returns
-returns c l front node rest b e = lists_are _ _ (rounds_set c.self.inside.web c.set_rounds.new.self c.args.self.now c.args.key c.args.rounds l front node rest (opened c.self.inside.web c.args.self.now c.self.view_is c.self.invariant) c.set_rounds.ensures b e)
+returns c l front node rest b e =
+    let h = opened c.self.inside c.args.self.now c.self.view_is c.self.invariant in
+    lists_are _ _ _ _ (node_set _ _ _ _ c.args.key l front node (record c.index_mut.result.now { rounds = c.args.rounds }) rest h b e)
+    ∙ ap (λ (x : Node). slice_set c.args.self.now l (front ++ (c.args.key, record x { rounds = c.args.rounds }) ∷ rest)) (node_was _ _ _ _ c.args.key l front node c.index_mut.result.now rest h b e c.index_mut.ensures.value)

@@ -1,0 +1,15 @@
+use Rattle.timer_links.proofs.Linked.{opened, closed, lists_are}
+use Rattle.timer_links.proofs.Calls.{seat}
+use Rattle.timer_links.proofs.Nodes.{node_set}
+use Rattle.timer_links.proofs.links.Links.set_node.Goals as goal
+
+pub invariant_of-self : goal.invariant_of-self
+invariant_of-self c =
+    let h = opened c.self.inside c.args.self.now c.self.view_is c.self.invariant in
+    let f = seat _ _ _ _ h c.args.key _ c.index_mut.ensures.value in
+    closed _ _ _ _ (node_set _ _ _ _ c.args.key f.l f.front _ c.args.node f.rest h f.below f.is)
+
+pub returns : goal.returns
+returns c l front was rest b e =
+    let h = opened c.self.inside c.args.self.now c.self.view_is c.self.invariant in
+    lists_are _ _ _ _ (node_set _ _ _ _ c.args.key l front was c.args.node rest h b e)

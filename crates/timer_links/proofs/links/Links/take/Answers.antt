@@ -1,0 +1,40 @@
+use Rattle.std.proofs.Common.{ℕ, ◌∙◌, sym, subst}
+use Rattle.std.specs.Prelude.{Option}
+use Rattle.timer_links.specs.Lists.{TellsEmptied}
+use Rattle.timer_links.proofs.Linked.{opened, closed, written, lists_are}
+use Rattle.timer_links.proofs.Calls.{some_is, read_node, joins_read, unlinked}
+use Rattle.timer_links.proofs.Alone.{tells_emptied}
+use Rattle.timer_links.proofs.links.Links.take.Goals as goal
+
+pub join-requires-clause-front : goal.join-requires-clause-front
+join-requires-clause-front c =
+    let h = opened c.self.inside c.args.self.now c.self.view_is c.self.invariant in
+    (read_node _ _ _ _ c.args.key _ _ h (some_is _ _ c.remove-node.ensures.value) c.as_mut_slice.ensures.value c.index-sides.ensures).before
+
+pub join-requires-clause-back : goal.join-requires-clause-back
+join-requires-clause-back c =
+    let h = opened c.self.inside c.args.self.now c.self.view_is c.self.invariant in
+    (read_node _ _ _ _ c.args.key _ _ h (some_is _ _ c.remove-node.ensures.value) c.as_mut_slice.ensures.value c.index-sides.ensures).after
+
+pub invariant_of-self : goal.invariant_of-self
+invariant_of-self c =
+    let h = opened c.self.inside c.args.self.now c.self.view_is c.self.invariant in
+    let i = some_is _ _ c.remove-node.ensures.value in
+    let r = read_node _ _ _ _ c.args.key _ _ h i c.as_mut_slice.ensures.value c.index-sides.ensures in
+    closed _ _ _ _ (written _ _ c.self.inside.sides _ _ (c.join.ensures.size ∙ c.as_mut_slice.ensures.len)
+    (unlinked _ _ _ _ _ _ c.args.key h i c.remove-node.ensures.updates c.remove-node.ensures.len (joins_read _ _ _ _ _ c.as_mut_slice.ensures.value r.is c.join.ensures)))
+
+pub returns-clause-taken : goal.returns-clause-taken
+returns-clause-taken c =
+    let h = opened c.self.inside c.args.self.now c.self.view_is c.self.invariant in
+    let i = some_is _ _ c.remove-node.ensures.value in
+    let r = read_node _ _ _ _ c.args.key _ _ h i c.as_mut_slice.ensures.value c.index-sides.ensures in
+    lists_are _ _ _ _ (written _ _ c.self.inside.sides _ _ (c.join.ensures.size ∙ c.as_mut_slice.ensures.len)
+    (unlinked _ _ _ _ _ _ c.args.key h i c.remove-node.ensures.updates c.remove-node.ensures.len (joins_read _ _ _ _ _ c.as_mut_slice.ensures.value r.is c.join.ensures)))
+
+pub returns-clause-emptied : goal.returns-clause-emptied
+returns-clause-emptied c =
+    let h = opened c.self.inside c.args.self.now c.self.view_is c.self.invariant in
+    let r = read_node _ _ _ _ c.args.key _ _ h (some_is _ _ c.remove-node.ensures.value) c.as_mut_slice.ensures.value c.index-sides.ensures in
+    let P : Option ℕ → Type 0 = TellsEmptied c.args.key c.args.self.now in
+    subst P (sym c.only_neighbour.ensures) (tells_emptied _ _ _ _ c.args.key _ h r.is)
