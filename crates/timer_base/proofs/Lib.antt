@@ -1,6 +1,8 @@
 pub mod PendingLaws
 pub mod PlainExpiries
-pub mod PlainList
+pub mod PlainClears
 pub mod PlainLooks
 pub mod PlainSteps
 pub mod SortedTimers
+pub mod PlainRestarts
+pub mod PlainWakeUps

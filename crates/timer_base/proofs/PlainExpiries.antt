@@ -33,7 +33,7 @@ find_some : (p : Timer → Bool) (f : Timer) (ts : List Timer) → find p ts ≡
 find_some p f [] h = absurd (cc)
 find_some p f (t ∷ ts) h = some_step p t f ts (find_some p f ts) (either (p t)) h
 
-same_some : (t f : Timer) → Some t ≡ Some f → t ≡ f
+pub same_some : (t f : Timer) → Some t ≡ Some f → t ≡ f
 same_some t f h = cc
 
 found_above_step : (p : Timer → Bool) (low : ℕ) (t f : Timer) (ts : List Timer) → (find p ts ≡ Some f → AreRising t.serial ts → t.serial < f.serial) → (p t ≡ true) ⊎ (p t ≡ false) → find p (t ∷ ts) ≡ Some f → AreRising low (t ∷ ts) → low < f.serial
@@ -87,7 +87,7 @@ taken_out p low f [] e r = refl
 taken_out p low f (t ∷ ts) e r = taken_step p low t f ts (taken_out p t.serial f ts) (either (p t)) e r
 
 -- and of no others
-others_stay : (p q : Timer → Bool) (low : ℕ) (f : Timer) (ts : List Timer) → ((t : Timer) → p t ≡ true → q t ≡ false) → find p ts ≡ Some f → AreRising low ts → filter q (filter (λ t. not (has_serial f.serial t)) ts) ≡ filter q ts
+pub others_stay : (p q : Timer → Bool) (low : ℕ) (f : Timer) (ts : List Timer) → ((t : Timer) → p t ≡ true → q t ≡ false) → find p ts ≡ Some f → AreRising low ts → filter q (filter (λ t. not (has_serial f.serial t)) ts) ≡ filter q ts
 others_stay p q low f [] x e r = refl
 others_stay p q low f (t ∷ ts) x e r = stay_step p q low t f ts x (others_stay p q t.serial f ts x) (either (p t)) e r
 

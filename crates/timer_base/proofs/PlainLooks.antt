@@ -1,16 +1,17 @@
 -- Looking a timer of a `PlainWheel` up, and taking it away.
-use Rattle.std.proofs.Common.{◌≡◌, ◌≢◌, ◌<◌, ◌≤◌, ℕ, Bool, true, false, not, ◌==◌, List, [], ◌∷◌, length, refl, sym, ◌∙◌, ap, inl, inr, arith}
+use Rattle.std.proofs.Common.{◌≡◌, ◌≢◌, ◌<◌, ◌≤◌, ℕ, Bool, true, false, not, ◌&&◌, ◌==◌, List, [], ◌∷◌, length, refl, sym, ◌∙◌, ap, inl, inr, arith}
 use Rattle.std.specs.Prelude.{slice_get, map, filter, find, if◌then◌else◌, Some, None}
+use Rattle.std.proofs.lemmas.Bool.{cases_eq}
 use Rattle.std.proofs.lemmas.Bool.Decides.{nat_tests}
 use Rattle.timer_base.specs.declared.timer.Timer.{Timer}
 use Rattle.timer_base.specs.declared.timer.Handle.{Handle}
 use Rattle.timer_base.specs.Order.{in_order, itself, AreRising}
-use Rattle.timer_base.specs.OrderLaws.{either, filter-in_order}
+use Rattle.timer_base.specs.OrderLaws.{either, filter-in_order, AreRising-filter}
 use Rattle.timer_base.specs.Pending.{is_due_at, has_serial, has_handle, first_timer, without_found}
 use Rattle.timer_base.specs.WheelState.{timer_at, after_stop}
-use Rattle.timer_base.specs.PlainState.{is_after, due_count, at_first_place, plain_state}
-use Rattle.timer_base.proofs.PlainSteps.{state_is, filter-map, filter_after, AreAfter}
-use Rattle.timer_base.proofs.PlainExpiries.{find-filter}
+use Rattle.timer_base.specs.PlainState.{is_after, is_pending_with, due_count, at_first_place, plain_state}
+use Rattle.timer_base.proofs.PlainSteps.{state_is, filter-map}
+use Rattle.timer_base.proofs.PlainExpiries.{find-filter, others_stay, same_some}
 
 not_zero : (n : ℕ) → n ≢ 0 → (0 == n) ≡ false
 not_zero n h = grind (arith, nat_tests)
@@ -61,23 +62,66 @@ find_in_order k ts r = find-filter (has_serial k) (in_order itself ts)
     ∙ ap (λ us. slice_get us 0) (filter-in_order itself (has_serial k) ts ∙ one_serial k 0 ts r)
     ∙ sym (find-filter (has_serial k) ts)
 
-pub look_here : (now last : ℕ) (ts : List Timer) (h : Handle) → AreRising 0 ts → AreAfter now ts → h.place ≡ 0 → find (has_serial h.serial) ts ≡ timer_at h (plain_state now last ts)
-look_here now last ts h r a z =
-    sym (at_place h (in_order itself (filter (is_after now) ts)) z ∙ ap (λ us. find (has_serial h.serial) (in_order itself us)) (filter_after now ts a) ∙ find_in_order h.serial ts r)
+find-both : (p q : Timer → Bool) (ts : List Timer) → find (λ t. p t && q t) ts ≡ find p (filter q ts)
+find-both p q [] = refl
+find-both p q (t ∷ ts) = elim (either (p t)) [
+  | inl h ↦ elim (either (q t)) [ inl k ↦ simp (h, k) refl | inr k ↦ simp (h, k) (find-both p q ts) ]
+  | inr h ↦ elim (either (q t)) [ inl k ↦ simp (h, k) (find-both p q ts) | inr k ↦ simp (h, k) (find-both p q ts) ]
+]
 
--- with nothing due, nothing is due of what is left
-still_none : (now : ℕ) (q : Timer → Bool) (ts : List Timer) → filter (is_due_at now) ts ≡ [] → filter (is_due_at now) (filter q ts) ≡ filter (is_due_at now) ts
-still_none now q ts h = filter-filter_same (is_due_at now) q ts ∙ ap (filter q) h ∙ sym h
+pub look_here : (now last : ℕ) (ts : List Timer) (h : Handle) → AreRising 0 ts → h.place ≡ 0 → find (is_pending_with now h.serial) ts ≡ timer_at h (plain_state now last ts)
+look_here now last ts h r z =
+    let after : List Timer = filter (is_after now) ts in
+    find-both (has_serial h.serial) (is_after now) ts
+    ∙ sym (at_place h (in_order itself after) z ∙ find_in_order h.serial after (AreRising-filter (is_after now) 0 ts r))
 
-pub due_count-without : (now : ℕ) (q : Timer → Bool) (ts : List Timer) → filter (is_due_at now) ts ≡ [] → due_count now (filter q ts) ≡ due_count now ts
-due_count-without now q ts h = ap length (still_none now q ts h)
+passes : (p : Timer → Bool) (f : Timer) (ts : List Timer) → find p ts ≡ Some f → p f ≡ true
+passes p f [] e = absurd (cc)
+passes p f (t ∷ ts) e = elim (either (p t)) [
+  | inl h ↦ let g = rw h at e in ap p (sym (same_some t f g)) ∙ h
+  | inr h ↦ passes p f ts (rw h at e)
+]
 
-pub plain_state-after_stop : (now last : ℕ) (ts : List Timer) (h : Handle) (t : Timer) → filter (is_due_at now) ts ≡ [] → timer_at h (plain_state now last ts) ≡ Some t
+both_first : (a b : Bool) → (a && b) ≡ true → a ≡ true
+both_first true b e = refl
+both_first false b e = e
+
+both_second : (a b : Bool) → (a && b) ≡ true → b ≡ true
+both_second true b e = e
+both_second false b e = absurd (cc)
+
+no_timer : (t : Timer) → None ≡ Some t → ⊥
+no_timer t e = cc
+
+-- a timer that is looked up stands there under its own serial
+found_at : (now last : ℕ) (ts : List Timer) (h : Handle) (t : Timer) → AreRising 0 ts → timer_at h (plain_state now last ts) ≡ Some t → find (is_pending_with now t.serial) ts ≡ Some t
+found_at now last ts h t r f = elim (cases_eq h.place 0) [
+  | inl z ↦
+      let e : find (is_pending_with now h.serial) ts ≡ Some t = look_here now last ts h r z ∙ f in
+      let s : t.serial ≡ h.serial = eq_is t.serial h.serial (both_first (has_serial h.serial t) (is_after now t) (passes (is_pending_with now h.serial) t ts e)) in
+      ap (λ (k : ℕ). find (is_pending_with now k) ts) s ∙ e
+  | inr n ↦ absurd (no_timer t (sym (no_place h (in_order itself (filter (is_after now) ts)) n) ∙ f))
+]
+
+pending_not_due : (now k : ℕ) (t : Timer) → is_pending_with now k t ≡ true → is_due_at now t ≡ false
+pending_not_due now k t h = elim (either (is_after now t)) [
+  | inl a ↦ grind (arith, nat_tests)
+  | inr a ↦ absurd (let e = both_second (has_serial k t) (is_after now t) h in cc)
+]
+
+-- what is due stays
+still_due : (now last : ℕ) (ts : List Timer) (h : Handle) (t : Timer) → AreRising 0 ts → timer_at h (plain_state now last ts) ≡ Some t → filter (is_due_at now) (filter (λ u. not (has_serial t.serial u)) ts) ≡ filter (is_due_at now) ts
+still_due now last ts h t r f = others_stay (is_pending_with now t.serial) (is_due_at now) 0 t ts (pending_not_due now t.serial) (found_at now last ts h t r f) r
+
+pub due_count-without : (now last : ℕ) (ts : List Timer) (h : Handle) (t : Timer) → AreRising 0 ts → timer_at h (plain_state now last ts) ≡ Some t → due_count now (filter (λ u. not (has_serial t.serial u)) ts) ≡ due_count now ts
+due_count-without now last ts h t r f = ap length (still_due now last ts h t r f)
+
+pub plain_state-after_stop : (now last : ℕ) (ts : List Timer) (h : Handle) (t : Timer) → AreRising 0 ts → timer_at h (plain_state now last ts) ≡ Some t
     → plain_state now last (filter (λ u. not (has_serial t.serial u)) ts) ≡ after_stop h (plain_state now last ts)
-plain_state-after_stop now last ts h t d f =
+plain_state-after_stop now last ts h t r f =
     state_is now last
     (ap (λ us. map at_first_place (in_order itself us)) (filter-filter_same (is_after now) (λ u. not (has_serial t.serial u)) ts)
     ∙ ap (map at_first_place) (sym (filter-in_order itself (λ u. not (has_serial t.serial u)) (filter (is_after now) ts)))
     ∙ sym (filter-map (λ u. not (has_serial t.serial u)) (in_order itself (filter (is_after now) ts))))
-    (still_none now (λ u. not (has_serial t.serial u)) ts d)
+    (still_due now last ts h t r f)
     ∙ ap (λ o. record (plain_state now last ts) { pending = without_found o (plain_state now last ts).pending }) (sym f)

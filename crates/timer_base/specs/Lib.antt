@@ -4,3 +4,5 @@ pub mod OrderLaws
 pub mod Pending
 pub mod PlainState
 pub mod WheelState
+pub mod TickLaws
+pub mod WakeUps

@@ -1,5 +1,5 @@
 -- What timers in order of starting mean as a wheel: those after now are pending, and those at now are due.
-use Rattle.std.specs.Prelude.{◌≡◌, ◌≤◌, ℕ, Bool, true, nat_lt, List, [], ◌∷◌, map, filter, length, refl}
+use Rattle.std.specs.Prelude.{◌≡◌, ◌≤◌, ℕ, Bool, true, ◌&&◌, nat_lt, min, if◌then◌else◌, List, [], ◌∷◌, Option, Some, None, map, filter, length, refl}
 use Rattle.std.specs.List.{AllByRecursion, AllByRecursion-prop}
 use Rattle.std.specs.Coded.{le_prop}
 use Rattle.std.proofs.Common.{ap, arith}
@@ -9,12 +9,16 @@ use Rattle.timer_base.specs.declared.limits.TheConstants.{LAST}
 use Rattle.timer_base.specs.Order.{in_order, itself, IsOrdered, AreRising, AreDistinct}
 use Rattle.timer_base.specs.OrderLaws.{IsOrdered-in_order, AreDistinct-in_order, AreDistinct-rising, AreRising-filter, All-in_order, All-filter}
 use Rattle.timer_base.specs.OneOrder.{map-itself}
-use Rattle.timer_base.specs.Pending.{Entry, timers_of, is_due_at}
+use Rattle.timer_base.specs.Pending.{Entry, timers_of, has_serial, is_due_at}
 use Rattle.timer_base.specs.WheelState.{WheelState, IsPending, IsWellFormed}
 
 -- the deadline is after the tick
 abbrev pub is_after : ℕ → Timer → Bool
 is_after tick t = nat_lt tick t.deadline
+
+-- the timer has this serial, and its deadline is after the tick
+abbrev pub is_pending_with : ℕ → ℕ → Timer → Bool
+is_pending_with tick serial t = has_serial serial t && is_after tick t
 
 -- every timer has place 0
 abbrev pub at_first_place : Timer → Entry
@@ -33,6 +37,17 @@ plain_state now last_serial timers = record {
 -- how many of the timers are due
 abbrev pub due_count : ℕ → List Timer → ℕ
 due_count now timers = length (filter (is_due_at now) timers)
+
+-- the earlier one of two deadlines, each of which may be missing
+abbrev pub earliest : Option ℕ → Option ℕ → Option ℕ
+earliest None second = second
+earliest (Some first) None = Some first
+earliest (Some first) (Some second) = Some (min first second)
+
+-- the earliest deadline after the tick, if there is one
+abbrev pub first_after : ℕ → List Timer → Option ℕ
+first_after tick [] = None
+first_after tick (t ∷ ts) = if is_after tick t then earliest (Some t.deadline) (first_after tick ts) else first_after tick ts
 
 -- the deadline is not before now and not after the last tick, and the serial is at most the last one
 pub record IsKept (now last_serial : ℕ) (t : Timer) : Type 0 where

@@ -1,5 +1,5 @@
 -- What a wheel means, and what each call makes of it.
-use Rattle.std.specs.Prelude.{ℕ, ◌+◌, ◌<◌, ◌≤◌, List, [], Option, drop, slice_get}
+use Rattle.std.specs.Prelude.{◌≡◌, ℕ, ◌+◌, ◌<◌, ◌≤◌, zero, suc, List, [], Option, Some, None, drop, slice_get, length}
 use Rattle.std.specs.List.{AllByRecursion}
 use Rattle.timer_base.specs.declared.timer.Timer.{Timer}
 use Rattle.timer_base.specs.declared.timer.Handle.{Handle}
@@ -43,12 +43,36 @@ after_tick w = record w {
   due = timers_of (entries_due (w.now + 1) w.pending);
 }
 
+-- so many ticks, one after the other
+abbrev pub after_ticks : ℕ → WheelState → WheelState
+after_ticks zero w = w
+after_ticks (suc n) w = after_tick (after_ticks n w)
+
+-- of at most so many ticks so many were passed, and nothing was due before the last of them
+pub record Advances (most passed : ℕ) (old new : WheelState) : Type 0 where
+  pub some : 0 < passed
+  pub at_most : passed ≤ most
+  pub ticked : new ≡ after_ticks passed old
+  pub quiet : (n : ℕ) → n < passed → (after_ticks n old).due ≡ []
+  -- it stops early only where something is due
+  pub early : passed < most → 0 < length new.due
+
 abbrev pub first_due : WheelState → Option Timer
 first_due w = slice_get w.due 0
 
 -- the first due timer is taken, if there is one
 abbrev pub after_expiry : WheelState → WheelState
 after_expiry w = record w { due = drop 1 w.due }
+
+-- the old timer, where a restart found one
+abbrev pub old_timer : Option (Handle × Timer) → Option Timer
+old_timer None = None
+old_timer (Some r) = Some r.1
+
+-- a restart that found its timer takes it away, and starts the new one at the place that it answers
+abbrev pub after_restart : Option (Handle × Timer) → Handle → Timer → WheelState → WheelState
+after_restart None handle timer w = w
+after_restart (Some r) handle timer w = after_start r.0.place timer (after_stop handle w)
 
 -- nothing is pending
 abbrev pub after_clear : WheelState → WheelState

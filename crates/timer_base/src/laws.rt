@@ -3,13 +3,15 @@
 //!
 //! The pending timers are one ordered list: a tick takes its front, a start puts one timer in, a stop
 //! takes one out. Timers have one order only, so a wheel has no choice in what it lists or makes due.
-ghost use Rattle.std.specs.Prelude.{◌≡◌, ℕ, ◌+◌, ◌<◌, ◌++◌, List, ◌∷◌, Some, length};
+ghost use Rattle.std.specs.Prelude.{◌≡◌, ℕ, ◌+◌, ◌<◌, ◌++◌, List, [], ◌∷◌, Some, length};
 ghost use Rattle.std.specs.List.Sorted.{IsPermutation};
 ghost use Rattle.timer_base.specs.declared.timer.Handle.{Handle};
 ghost use Rattle.timer_base.specs.declared.timer.Timer.{Timer};
+ghost use Rattle.timer_base.specs.declared.limits.TheConstants.{LAST};
 ghost use Rattle.timer_base.specs.Order.{AreDistinct, IsOrdered, in_order};
 ghost use Rattle.timer_base.specs.Pending.{entries_due, entries_left, timer_of};
-ghost use Rattle.timer_base.specs.WheelState.{IsWellFormed, WheelState, after_start, after_stop, timer_at};
+ghost use Rattle.timer_base.specs.WakeUps.{IsWakeUp};
+ghost use Rattle.timer_base.specs.WheelState.{IsWellFormed, WheelState, after_start, after_stop, after_ticks, timer_at};
 
 /// What a tick makes due is the front of the pending timers, and the others stay behind it.
 pub fn a_tick_cuts_the_front()
@@ -24,6 +26,16 @@ pub fn a_start_keeps_the_order()
 /// A stop that finds a timer takes away one timer.
 pub fn a_stop_takes_one()
     ensures { (w : WheelState) (handle : Handle) (t : Timer) → IsWellFormed w → timer_at handle w ≡ Some t → length (after_stop handle w).pending + 1 ≡ length w.pending }
+{}
+
+/// Nothing becomes due before a tick to wake up at: it is safe to sleep until then.
+pub fn nothing_is_due_before_the_wake_up()
+    ensures { (w : WheelState) (tick n : ℕ) → w.due ≡ [] → IsWakeUp tick w → w.now + n < tick → (after_ticks n w).due ≡ [] }
+{}
+
+/// The last tick, interval, serial and request number as a literal: 2^60 - 1.
+pub fn the_last_number()
+    ensures { LAST ≡ 1152921504606846975 }
 {}
 
 /// Distinct timers have one order: two ordered lists of the same timers are equal.

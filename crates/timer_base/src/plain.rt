@@ -14,14 +14,15 @@
 //!       5   1:5 3:5                               1:5 3:5
 //!
 //! Each handle has place 0: the serial alone says which timer is meant.
-ghost use Rattle.std.specs.Prelude.{◌≡◌, ◌≤◌, ◌<◌, ◌↔◌, IfOk, IfErr, IsErr, length, filter, find, not};
+ghost use Rattle.std.specs.Prelude.{◌≡◌, ◌≤◌, ◌<◌, ◌↔◌, IfOk, IfErr, IsErr, Some, length, filter, find, not, vec_len, vec_capacity};
 ghost use Rattle.std.proofs.Math.Nat.{ℕ_set};
 ghost use Rattle.std.specs.List.{AllByRecursion};
 ghost use Rattle.timer_base.specs.declared.limits.TheConstants.{LAST};
 ghost use Rattle.timer_base.specs.Order.{AreRising};
 ghost use Rattle.timer_base.specs.OrderLaws.{AreRising-prop};
 ghost use Rattle.timer_base.specs.Pending.{has_serial, is_due_at};
-ghost use Rattle.timer_base.specs.PlainState.{IsKept, IsKept-prop, due_count, plain_state, plain_state-well_formed};
+ghost use Rattle.timer_base.specs.PlainState.{IsKept, IsKept-prop, is_after, is_pending_with, due_count, earliest, first_after, plain_state, plain_state-well_formed};
+ghost use Rattle.timer_base.specs.WakeUps.{IsQuietUntil, next_deadline};
 ghost use Rattle.timer_base.specs.WheelState.{empty_wheel};
 
 use crate::fault::{MakeFault, OutOfMemory};
@@ -48,8 +49,8 @@ pub struct PlainWheel {
 }
 
 impl PlainWheel {
-    /// A wheel with no timer, at a first tick of at most `LAST`. That is its only fault: it takes
-    /// no memory.
+    /// A wheel with no timer, at a first tick of at most `LAST`. That is its only error: it does
+    /// not allocate.
     pub fn new(alloc: Global, first_tick: u64) -> Result<PlainWheel, MakeFault>
         ensures made { IfOk result (λ wheel. ⟦<PlainWheel as Wheel>⟧.state wheel ≡ empty_wheel LAST first_tick) }
         ensures fault { IsErr result ↔ (LAST < first_tick) }
@@ -105,7 +106,7 @@ impl Wheel for PlainWheel {
         if handle.place != 0 {
             return None;
         }
-        find_serial(self.timers.as_slice(), handle.serial)
+        find_pending(self.timers.as_slice(), handle.serial, self.now)
     }
 
     fn stop(&mut self, handle: Handle) -> Option<Timer> {
@@ -114,9 +115,30 @@ impl Wheel for PlainWheel {
         Some(stopped)
     }
 
+    fn restart(&mut self, handle: Handle, timer: Timer) -> Option<(Handle, Timer)> {
+        let old = self.look(handle)?;
+        drop_serial(&mut self.timers, old.serial);
+        // The room of the old one is there.
+        self.timers.push_reserved(timer);
+        self.last_serial = timer.serial;
+        let handle = Handle {
+            place: 0,
+            serial: timer.serial,
+        };
+        Some((handle, old))
+    }
+
     fn per_tick(&mut self) {
         self.now += 1;
         self.due = count_due(self.timers.as_slice(), self.now);
+    }
+
+    /// Exactly the first pending deadline. It goes through all timers.
+    fn quiet_until(&self) -> Option<u64>
+        ensures wake_up { IsQuietUntil result (plain_state self.entry.now.now self.entry.now.last_serial self.entry.now.timers.items) }
+        ensures exact { result ≡ next_deadline (plain_state self.entry.now.now self.entry.now.last_serial self.entry.now.timers.items).pending }
+    {
+        first_deadline(self.timers.as_slice(), self.now)
     }
 
     fn expire(&mut self) -> Option<Timer> {
@@ -128,12 +150,13 @@ impl Wheel for PlainWheel {
 
     fn list(&self) -> Result<Vec<Timer>, OutOfMemory> {
         let mut timers = Vec::from_slice(*self.timers.allocator(), self.timers.as_slice())?;
+        keep_pending(&mut timers, self.now);
         sort_timers(&mut timers);
         Ok(timers)
     }
 
     fn clear(&mut self) {
-        self.timers.clear();
+        keep_due(&mut self.timers, self.now);
     }
 }
 
@@ -151,16 +174,57 @@ fn find_due(timers: &[Timer], tick: u64) -> Option<Timer>
     timers.iter().copied().find(|t| t.deadline == tick)
 }
 
-/// The first of the timers with the serial.
-fn find_serial(timers: &[Timer], serial: u64) -> Option<Timer>
-    ensures { result ≡ find (has_serial serial) timers.now }
+/// The earliest deadline after the tick.
+fn first_deadline(timers: &[Timer], tick: u64) -> Option<u64>
+    ensures { result ≡ first_after tick timers.now }
 {
-    timers.iter().copied().find(|t| t.serial == serial)
+    let mut first = None;
+    for timer in timers {
+        if timer.deadline > tick {
+            first = Some(earlier(first, timer.deadline));
+        }
+    }
+    first
+}
+
+/// The earlier one of two deadlines, of which the first may be missing.
+fn earlier(first: Option<u64>, deadline: u64) -> u64
+    ensures { Some result ≡ earliest first (Some deadline) }
+{
+    match first {
+        Some(first) => first.min(deadline),
+        None => deadline,
+    }
+}
+
+/// The first of the timers with the serial that is due after the tick.
+fn find_pending(timers: &[Timer], serial: u64, tick: u64) -> Option<Timer>
+    ensures { result ≡ find (is_pending_with tick serial) timers.now }
+{
+    timers
+        .iter()
+        .copied()
+        .find(|t| t.serial == serial && t.deadline > tick)
 }
 
 /// Takes away what has the serial, and keeps the order of the others.
 fn drop_serial(timers: &mut Vec<Timer>, serial: u64)
-    ensures { timers.new.items ≡ filter (λ t. not (has_serial serial t)) timers.old.items }
+    ensures items { timers.new.items ≡ filter (λ t. not (has_serial serial t)) timers.old.items }
+    ensures room { length timers.new.items < length timers.old.items → vec_len timers.new < vec_capacity timers.new }
 {
     timers.retain(|t| t.serial != serial);
+}
+
+/// Keeps the timers that are due after the tick, in their order.
+fn keep_pending(timers: &mut Vec<Timer>, tick: u64)
+    ensures { timers.new.items ≡ filter (is_after tick) timers.old.items }
+{
+    timers.retain(|t| t.deadline > tick);
+}
+
+/// Keeps the timers that are due at the tick, in their order.
+fn keep_due(timers: &mut Vec<Timer>, tick: u64)
+    ensures { timers.new.items ≡ filter (is_due_at tick) timers.old.items }
+{
+    timers.retain(|t| t.deadline == tick);
 }

@@ -7,7 +7,7 @@ ghost use Rattle.timer_base.specs.Order.{AreDistinct, in_order, itself};
 
 use crate::timer::Timer;
 
-/// Sorts timers by deadline and then serial. It takes no memory.
+/// Sorts timers by deadline and then serial. Does not allocate.
 pub fn sort_timers(timers: &mut Vec<Timer>)
     requires distinct { AreDistinct timers.old.items }
     ensures { timers.new.items ≡ in_order itself timers.old.items }

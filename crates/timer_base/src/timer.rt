@@ -3,7 +3,7 @@
 /// A timer that was started.
 #[derive(Clone, Copy, Debug, PartialEq, Eq)]
 pub struct Timer {
-    /// Its place in the order of starting. No other timer ever has it.
+    /// Its number in the order of starting. No other timer ever has it.
     pub serial: u64,
     /// Who started it.
     pub client: u64,

@@ -12,10 +12,11 @@
 //! and T. Lauck, "Hashed and Hierarchical Timing Wheels" (SOSP 1987), are `start` (START_TIMER),
 //! `stop` (STOP_TIMER), `per_tick` (PER_TICK_BOOKKEEPING) and `expire` (the timers that their
 //! EXPIRY_PROCESSING is for).
-ghost use Rattle.std.specs.Prelude.{◌≡◌, ◌<◌, ◌≤◌, ◌↔◌, [], length, IsTrue, IfOk, OnErr};
+ghost use Rattle.std.specs.Prelude.{◌≡◌, ◌<◌, ◌≤◌, ◌-◌, ◌↔◌, [], length, IsTrue, IfOk, OnErr, MatchOption};
 ghost use Rattle.timer_base.specs.declared.limits.TheConstants.{LAST};
 ghost use Rattle.timer_base.specs.Pending.{timers_of};
-ghost use Rattle.timer_base.specs.WheelState.{WheelState, IsWellFormed, timer_at, first_due, after_start, after_stop, after_tick, after_expiry, after_clear};
+ghost use Rattle.timer_base.specs.WakeUps.{IsQuietUntil};
+ghost use Rattle.timer_base.specs.WheelState.{WheelState, IsWellFormed, timer_at, first_due, after_start, after_stop, after_tick, after_expiry, after_clear, after_restart, old_timer, Advances};
 
 use crate::fault::OutOfMemory;
 use crate::timer::{Handle, Timer};
@@ -45,11 +46,12 @@ pub trait Wheel {
     fn last_serial(&self) -> u64
         ensures { result ≡ (state self.now).last_serial };
 
-    /// Starts a timer (START_TIMER), and answers its handle.
+    /// Starts a timer (START_TIMER), and returns its handle.
     ///
-    /// Only a refused growth is an error, and then nothing changes. The place is a free choice.
+    /// The only error is out of memory, and then nothing changes. A wheel whose places are limited in
+    /// number returns it at its limit too, though no allocation failed. The place is a free choice.
+    /// Timers that are due may wait meanwhile, here and in `look`, `stop`, `restart`, `list` and `clear`.
     fn start(&mut self, timer: Timer) -> Result<Handle, OutOfMemory>
-        requires nothing_due { (state self.old).due ≡ [] }
         requires later { (state self.old).now < timer.deadline }
         requires deadline { timer.deadline ≤ (state self.old).last_tick }
         requires fresh { (state self.old).last_serial < timer.serial }
@@ -58,39 +60,76 @@ pub trait Wheel {
         ensures started { IfOk result (λ handle. state self.new ≡ after_start handle.place timer (state self.old)) }
         ensures err { OnErr result (state self.new ≡ state self.old) };
 
-    /// The pending timer with just this handle, place and serial. It takes no memory.
+    /// Returns the pending timer with just this handle, place and serial, or None where there is none: a
+    /// timer that is due is pending no more. Does not allocate.
     fn look(&self, handle: Handle) -> Option<Timer>
-        requires { (state self.now).due ≡ [] }
         ensures { result ≡ timer_at handle (state self.now) };
 
-    /// Takes away the pending timer with just this handle (STOP_TIMER), and answers it.
+    /// Takes away the pending timer with just this handle (STOP_TIMER), and returns it.
     ///
-    /// Where there is none, nothing changes. It takes no memory.
+    /// Where there is none, nothing changes. Does not allocate.
     fn stop(&mut self, handle: Handle) -> Option<Timer>
-        requires { (state self.old).due ≡ [] }
         ensures timer { result ≡ timer_at handle (state self.old) }
         ensures stopped { state self.new ≡ after_stop handle (state self.old) };
 
+    /// Takes away the pending timer with just this handle and starts another in its stead (RESTART), and
+    /// returns the new handle and the old timer.
+    ///
+    /// Where there is none, nothing changes. Does not allocate. The place is a free choice.
+    fn restart(&mut self, handle: Handle, timer: Timer) -> Option<(Handle, Timer)>
+        requires later { (state self.old).now < timer.deadline }
+        requires deadline { timer.deadline ≤ (state self.old).last_tick }
+        requires fresh { (state self.old).last_serial < timer.serial }
+        requires serial { timer.serial ≤ LAST }
+        ensures old { old_timer result ≡ timer_at handle (state self.old) }
+        ensures named { MatchOption result (Unit {0}) (λ r. r.0.serial ≡ timer.serial) }
+        ensures restarted { state self.new ≡ after_restart result handle timer (state self.old) };
+
     /// Goes to the next tick (PER_TICK_BOOKKEEPING): the pending timers with that deadline become
-    /// due, by serial. It takes no memory.
+    /// due, by serial. Does not allocate.
     fn per_tick(&mut self)
         requires nothing_due { (state self.old).due ≡ [] }
         requires before_last { (state self.old).now < (state self.old).last_tick }
         ensures { state self.new ≡ after_tick (state self.old) };
 
-    /// Takes the first of the due timers. It takes no memory.
+    /// Passes ticks, at least one and at most so many, and returns how many.
+    ///
+    /// Nothing is due before the last of them, and fewer are passed only where something is due then.
+    /// Does not allocate.
+    fn advance(&mut self, most: u64) -> u64
+        requires nothing_due { (state self.old).due ≡ [] }
+        requires some { 0 < most }
+        requires before_last { most ≤ (state self.old).last_tick - (state self.old).now }
+        ensures { Advances most result (state self.old) (state self.new) }
+    {
+        for passed in 0..most {
+            self.per_tick();
+            if self.has_due() {
+                return passed + 1;
+            }
+        }
+        most
+    }
+
+    /// Returns a tick until which nothing becomes due, or None exactly where nothing is pending.
+    ///
+    /// It is after the present tick and at most the first pending deadline, so an owner sleeps until
+    /// then, calls `advance`, and asks again. A wheel may wake its owner before the first deadline
+    /// rather than search for it. Does not allocate.
+    fn quiet_until(&self) -> Option<u64>
+        ensures { IsQuietUntil result (state self.now) };
+
+    /// Takes the first of the due timers. Does not allocate.
     fn expire(&mut self) -> Option<Timer>
         ensures first { result ≡ first_due (state self.old) }
         ensures rest { state self.new ≡ after_expiry (state self.old) };
 
-    /// The pending timers, by deadline and then serial. Only a refused growth is an error.
+    /// The pending timers, by deadline and then serial. The only error is out of memory.
     fn list(&self) -> Result<Vec<Timer>, OutOfMemory>
-        requires { (state self.now).due ≡ [] }
         ensures { IfOk result (λ timers. timers.items ≡ timers_of (state self.now).pending) };
 
-    /// Drops what is pending. The tick and the last serial stay. It takes no memory.
+    /// Drops what is pending. The tick and the last serial stay. Does not allocate.
     fn clear(&mut self)
-        requires { (state self.old).due ≡ [] }
         ensures { state self.new ≡ after_clear (state self.old) };
 
     /// What each wheel keeps.

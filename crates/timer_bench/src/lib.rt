@@ -5,6 +5,7 @@
 //! no part of the program.
 #![tactic(auto)]
 
+mod costs;
 mod replay;
 mod sums;
 

@@ -117,12 +117,19 @@ fn pass_ticks<W: Wheel>(wheel: &mut W, sums: &mut Sums, count: u64) -> Result<()
     requires { (W.state wheel.old).due ≡ [] }
     ensures { (W.state wheel.new).due ≡ [] }
 {
-    for _ in 0..count {
-        if wheel.now() >= wheel.last_tick() {
+    let mut left = count;
+    while left > 0 {
+        let now = wheel.now();
+        let last = wheel.last_tick();
+        if now >= last || left > last - now {
             return Err(Fault::Trace);
         }
-        wheel.per_tick();
+        let passed = wheel.advance(left);
         drain(wheel, sums);
+        if passed == 0 || passed > left {
+            return Err(Fault::Trace);
+        }
+        left -= passed;
     }
     Ok(())
 }

@@ -4,20 +4,18 @@ use Rattle.std.specs.Prelude.{true, false, slice_set, Some, None}
 use Rattle.std.specs.List.{AllByRecursion}
 use Rattle.std.proofs.lemmas.List.{set-get_or}
 use Rattle.std.proofs.lemmas.Bool.{eq-eqb, ne_eqb}
-use Rattle.timer_base.specs.declared.limits.TheConstants.{LAST}
 use Rattle.timer_base.specs.Pending.{is_due_at}
 use Rattle.timer_links.specs.declared.node.Node.{Node}
 use Rattle.timer_links.specs.Lists.{list_at, with_row, row_count, front_moved, first_row_moved, appended, node_at, first_key, AreApart}
-use Rattle.timer_wheels.specs.Digits.{wide, slots, bucket}
+use Rattle.timer_wheels.specs.Digits.{slots, bucket, last_of}
 use Rattle.timer_wheels.specs.WheelLists.{timer_in}
 use Rattle.timer_wheels.specs.Migration.{target, spread, migrated, left_rows, first_deadline, MayMigrate, IsOfTick}
 use Rattle.timer_wheels.proofs.MigrationLemmas.{target_due, target_left}
-use Rattle.timer_wheels.proofs.Wide.{slots-wide}
 use Rattle.timer_wheels.proofs.RowLemmas.{append-nil}
 
 -- Lists that are written twice.
 
-set_twice : (v : List (List (ℕ × Node))) (i : ℕ) (a b : List (ℕ × Node)) → slice_set (slice_set v i a) i b ≡ slice_set v i b
+pub set_twice : (v : List (List (ℕ × Node))) (i : ℕ) (a b : List (ℕ × Node)) → slice_set (slice_set v i a) i b ≡ slice_set v i b
 set_twice [] i a b = refl
 set_twice (x ∷ xs) zero a b = refl
 set_twice (x ∷ xs) (suc i) a b = ap (λ (y : List (List (ℕ × Node))). x ∷ y) (set_twice xs i a b)
@@ -118,6 +116,7 @@ none_long (x ∷ xs) h = absurd (omega arith)
 pub record IsEmptied (table : List ℕ) (l tick moves : ℕ) (old lists : List (List (ℕ × Node))) : Type 0 where
   pub lists_are : lists ≡ migrated table tick l old
   pub moves_are : moves ≡ length (left_rows tick (list_at l old))
+  pub emptied : list_at l lists ≡ []
 
 at_end : (table : List ℕ) (l tick step moves : ℕ) (old lists : List (List (ℕ × Node))) → IsEmptying table l tick step moves old lists → list_at l lists ≡ [] → IsEmptied table l tick moves old lists
 at_end table l tick step moves old lists s e =
@@ -126,6 +125,7 @@ at_end table l tick step moves old lists s e =
     record {
       lists_are = sym (ap (λ (y : List (ℕ × Node)). spread table tick y (slice_set lists l [])) e ∙ (ap (slice_set lists l) (sym e) ∙ set-get_or lists l [])) ∙ s.leads;
       moves_are = omega arith;
+      emptied = e;
     }
 
 pub ended_none : (table : List ℕ) (l tick step moves : ℕ) (old lists : List (List (ℕ × Node))) → IsEmptying table l tick step moves old lists → None ≡ first_deadline (list_at l lists) → IsEmptied table l tick moves old lists
@@ -181,11 +181,17 @@ module _ (table : List ℕ) (l tick step moves d : ℕ) (old lists new : List (L
       let m1 : length (left_rows tick (f.row ∷ f.rest)) ≡ suc (length (left_rows tick f.rest)) = left_more tick f.row f.rest k in
       next to moves2 (q ∙ (ap (bucket table tick) (sym f.deadline) ∙ sym (target_left table tick f.row k))) p (omega arith) (omega arith)
 
+  pub goes_elsewhere : (to : ℕ) → to ≡ bucket table tick d → d ≢ tick → to ≢ l
+  goes_elsewhere to q n =
+      let k : is_due_at tick (timer_in f.row) ≡ false = ne_eqb (timer_in f.row).deadline tick (λ (e : (timer_in f.row).deadline ≡ tick). n (sym f.deadline ∙ e)) in
+      let t : to ≡ target table tick f.row = q ∙ (ap (bucket table tick) (sym f.deadline) ∙ sym (target_left table tick f.row k)) in
+      λ (e : to ≡ l). f.first.elsewhere (sym t ∙ e)
+
   pub later_than : d ≢ tick → tick < d
   later_than n = let a : tick ≤ (timer_in f.row).deadline = f.first.not_past in let e : (timer_in f.row).deadline ≡ d = f.deadline in omega arith
 
-  pub not_beyond : d ≤ LAST
-  not_beyond = let a : (timer_in f.row).deadline ≤ LAST = f.first.in_range in let e : (timer_in f.row).deadline ≡ d = f.deadline in omega arith
+  pub not_beyond : d ≤ last_of table
+  not_beyond = let a : (timer_in f.row).deadline ≤ last_of table = f.first.in_range in let e : (timer_in f.row).deadline ≡ d = f.deadline in omega arith
 
 -- A bucket whose rows are all due goes as a whole.
 
@@ -207,13 +213,10 @@ migrated_whole table tick l lists b n a =
     spread_whole table tick (list_at l lists) (slice_set lists l []) (rw (length-set lists l []) b) a
     ∙ ap (λ (y : List (ℕ × Node)). slice_set (slice_set lists l []) (slots table) (y ++ list_at l lists)) (get_or-set_other lists l (slots table) [] [] n)
 
-as_wide : (k tick l : ℕ) (lists : List (List (ℕ × Node))) → slots wide ≡ k → length lists ≡ k + 1 → l < k → AllByRecursion (IsOfTick tick) (list_at l lists) → appended l k lists ≡ migrated wide tick l lists
-as_wide k tick l lists e b h a =
-    let n : slots wide ≢ l = λ (x : slots wide ≡ l). omega arith in
-    sym (migrated_whole wide tick l lists (omega arith) n a ∙ ap (λ (y : ℕ). appended l y lists) e)
-
-pub migrated_wide : (tick l : ℕ) (lists : List (List (ℕ × Node))) → length lists ≡ 641 → l < 640 → AllByRecursion (IsOfTick tick) (list_at l lists) → appended l 640 lists ≡ migrated wide tick l lists
-migrated_wide tick l lists b h a = as_wide 640 tick l lists slots-wide b h a
+pub append_whole : (table : List ℕ) (k tick l : ℕ) (lists : List (List (ℕ × Node))) → k ≡ slots table → length lists ≡ slots table + 1 → l < slots table → AllByRecursion (IsOfTick tick) (list_at l lists) → appended l k lists ≡ migrated table tick l lists
+append_whole table k tick l lists e b h a =
+    let n : slots table ≢ l = λ (x : slots table ≡ l). omega arith in
+    ap (λ (y : ℕ). appended l y lists) e ∙ sym (migrated_whole table tick l lists (omega arith) n a)
 
 pub none_left_over : (tick : ℕ) (rows : List (ℕ × Node)) → AllByRecursion (IsOfTick tick) rows → left_rows tick rows ≡ []
 none_left_over tick [] a = refl

@@ -33,7 +33,7 @@ distance n now d z h = record { is = omega arith; over = omega arith }
 quotient_is : (n q r x : ℕ) → r < n → x ≡ n * q + r → x / n ≡ q
 quotient_is n q r x h e = let f : x ≡ q * n + r = omega arith in ap (λ (y : ℕ). y / n) f ∙ div-mul-add q n r h
 
-remainder_is : (n q r x : ℕ) → r < n → x ≡ n * q + r → x % n ≡ r
+pub remainder_is : (n q r x : ℕ) → r < n → x ≡ n * q + r → x % n ≡ r
 remainder_is n q r x h e = let f : x ≡ q * n + r = omega arith in ap (λ (y : ℕ). y % n) f ∙ mod-mul-add q n r h
 
 -- so many steps behind a tick is another slot, unless it is none

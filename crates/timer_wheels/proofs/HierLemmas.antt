@@ -11,13 +11,15 @@ use Rattle.timer_links.specs.declared.node.Node.{Node}
 use Rattle.timer_links.specs.Lists.{list_at, with_row, without_key}
 use Rattle.timer_wheels.specs.declared.buckets.Buckets.{Buckets}
 use Rattle.timer_wheels.specs.Buckets.{state_of, IsSameFrame}
-use Rattle.timer_wheels.specs.Digits.{wide, level, bucket}
+use Rattle.timer_wheels.specs.Digits.{slots, level, bucket, last_of}
+use Rattle.timer_wheels.specs.DigitLaws.{level_in_table, digits_down}
 use Rattle.timer_wheels.specs.WheelLists.{EachRow}
-use Rattle.timer_wheels.specs.Placement.{IsPlaced, bucket_at, no_rounds, levels_of, IsPaid}
+use Rattle.timer_wheels.specs.Placement.{IsPlaced, bucket_at, no_rounds, levels_of, IsPaid, most_moves}
 use Rattle.timer_wheels.proofs.WheelLemmas.{each-with_row, each-without_key, each-none}
 use Rattle.timer_wheels.specs.Shown.{ShowsBuckets}
 use Rattle.timer_wheels.proofs.ShownLemmas.{shows}
-use Rattle.timer_wheels.proofs.Wide.{level_below_ten}
+use Rattle.timer_wheels.proofs.TableLaws.{IsClock}
+use Rattle.std.proofs.lemmas.Nat.{mul-le}
 
 -- The levels of the timers that are pending.
 
@@ -42,11 +44,20 @@ levels-without : (table : List ℕ) (now : ℕ) (found : Option Timer) (es : Lis
 levels-without table now None es = omega arith
 levels-without table now (Some t) es = levels-filter table now _ es
 
-paid_more : (moves new more old starts : ℕ) → new ≡ more + old → more < 10 → moves + old ≤ 9 * starts → moves + new ≤ 9 * (starts + 1)
-paid_more moves new more old starts e d p = omega arith
+times_more : (k n : ℕ) → k * (n + 1) ≡ k * n + k
+times_more k zero = omega arith
+times_more zero (suc n) = omega arith
+times_more (suc k) (suc n) =
+    let ih : k * (suc n + 1) ≡ k * suc n + k = times_more k (suc n) in
+    let a : suc k * (suc n + 1) ≡ k * (suc n + 1) + (suc n + 1) = omega arith in
+    let b : suc k * suc n ≡ k * suc n + suc n = omega arith in
+    omega arith
 
-paid_less : (moves new old starts : ℕ) → new ≤ old → moves + old ≤ 9 * starts → moves + new ≤ 9 * starts
-paid_less moves new old starts e p = omega arith
+paid_more : (moves new more old top starts : ℕ) → new ≡ more + old → more ≤ top → moves + old ≤ top * starts → moves + new ≤ top * (starts + 1)
+paid_more moves new more old top starts e d p = let x : top * (starts + 1) ≡ top * starts + top = times_more top starts in omega arith
+
+paid_less : (moves new old paid : ℕ) → new ≤ old → moves + old ≤ paid → moves + new ≤ paid
+paid_less moves new old paid e p = omega arith
 
 -- A new wheel.
 
@@ -55,52 +66,88 @@ list_at-replicate s zero = refl
 list_at-replicate zero (suc n) = refl
 list_at-replicate (suc s) (suc n) = list_at-replicate s n
 
-pub new_placed : (b : Buckets) (n : ℕ) → b.links ≡ replicate n [] → EachRow (IsPlaced wide b.tick) 640 b.links
-new_placed b n e = each-none (IsPlaced wide b.tick) 640 b.links (λ s h. ap (list_at s) e ∙ list_at-replicate s n)
+pub new_placed : (table : List ℕ) (b : Buckets) (n : ℕ) → b.links ≡ replicate n [] → EachRow (IsPlaced table b.tick) b.slots b.links
+new_placed table b n e = each-none (IsPlaced table b.tick) b.slots b.links (λ s h. ap (list_at s) e ∙ list_at-replicate s n)
 
-pub new_paid : (b : Buckets) (last first : ℕ) → state_of b ≡ empty_wheel last first → IsPaid wide 0 0 b.tick (state_of b).pending
-new_paid b last first e = let h : levels_of wide b.tick (state_of b).pending ≡ 0 = ap (λ (w : WheelState). levels_of wide b.tick w.pending) e in omega arith
+pub new_paid : (table : List ℕ) (b : Buckets) (last first : ℕ) → state_of b ≡ empty_wheel last first → IsPaid table 0 0 b.tick (state_of b).pending
+new_paid table b last first e = let h : levels_of table b.tick (state_of b).pending ≡ 0 = ap (λ (w : WheelState). levels_of table b.tick w.pending) e in omega arith
 
 -- A start.
 
-pub started_placed : (old new : Buckets) (list place : ℕ) (t : Timer) → old.slots ≡ 640 → list < 640 → list ≡ bucket wide old.tick t.deadline → EachRow (IsPlaced wide old.tick) 640 old.links
-    → new.links ≡ with_row list (place, record { timer = t; rounds = 0 }) old.links → IsSameFrame old new → EachRow (IsPlaced wide new.tick) 640 new.links
-started_placed old new list place t s h at p e f =
-    let Q : ℕ → Type 0 = λ k. EachRow (IsPlaced wide k) 640 new.links in
-    let P : List (List (ℕ × Node)) → Type 0 = λ lists. EachRow (IsPlaced wide old.tick) 640 lists in
-    let len : length old.links ≡ old.slots + 1 = old.has_lists in
-    subst Q (sym f.tick) (subst P (sym e) (each-with_row (IsPlaced wide old.tick) 640 list (place, record { timer = t; rounds = 0 }) old.links (omega arith) (sym at, refl) p))
+module _ (table : List ℕ) (old new : Buckets) where
+  pub started_placed : (list place : ℕ) (t : Timer) → list < old.slots → list ≡ bucket table old.tick t.deadline → EachRow (IsPlaced table old.tick) old.slots old.links
+      → new.links ≡ with_row list (place, record { timer = t; rounds = 0 }) old.links → IsSameFrame old new → EachRow (IsPlaced table new.tick) new.slots new.links
+  started_placed list place t h at p e f =
+      let Q : ℕ → Type 0 = λ k. EachRow (IsPlaced table k) new.slots new.links in
+      let R : ℕ → Type 0 = λ k. EachRow (IsPlaced table old.tick) k new.links in
+      let P : List (List (ℕ × Node)) → Type 0 = λ lists. EachRow (IsPlaced table old.tick) old.slots lists in
+      let len : length old.links ≡ old.slots + 1 = old.has_lists in
+      subst Q (sym f.tick) (subst R (sym f.slots) (subst P (sym e) (each-with_row (IsPlaced table old.tick) old.slots list (place, record { timer = t; rounds = 0 }) old.links (omega arith) (sym at, refl) p)))
 
-pub started_paid : (old new : Buckets) (place starts moves : ℕ) (t : Timer) → IsPaid wide starts moves old.tick (state_of old).pending → old.tick < t.deadline → t.deadline ≤ LAST → state_of new ≡ after_start place t (state_of old) → IsSameFrame old new
-    → IsPaid wide (starts + 1) moves new.tick (state_of new).pending
-started_paid old new place starts moves t p later range e f =
-    let x : levels_of wide new.tick (state_of new).pending ≡ level wide old.tick t.deadline + levels_of wide old.tick (state_of old).pending =
-    ap (λ (k : ℕ). levels_of wide k (state_of new).pending) f.tick ∙ (ap (λ (w : WheelState). levels_of wide old.tick w.pending) e ∙ levels-put wide old.tick (record { place = place; timer = t }) (state_of old).pending) in
-    paid_more moves (levels_of wide new.tick (state_of new).pending) (level wide old.tick t.deadline) (levels_of wide old.tick (state_of old).pending) starts x (level_below_ten old.tick t.deadline later range) p
+  pub started_paid : (place starts moves : ℕ) (t : Timer) → IsClock table → IsPaid table starts moves old.tick (state_of old).pending → old.tick < t.deadline → t.deadline ≤ last_of table → state_of new ≡ after_start place t (state_of old) → IsSameFrame old new
+      → IsPaid table (starts + 1) moves new.tick (state_of new).pending
+  started_paid place starts moves t k p later range e f =
+      let x : levels_of table new.tick (state_of new).pending ≡ level table old.tick t.deadline + levels_of table old.tick (state_of old).pending =
+      ap (λ (k : ℕ). levels_of table k (state_of new).pending) f.tick ∙ (ap (λ (w : WheelState). levels_of table old.tick w.pending) e ∙ levels-put table old.tick (record { place = place; timer = t }) (state_of old).pending) in
+      let b : level table old.tick t.deadline < length table = level_in_table table old.tick t.deadline k.is_table (digits_down table t.deadline (last_of table) k.is_table range k.digits) later in
+      paid_more moves (levels_of table new.tick (state_of new).pending) (level table old.tick t.deadline) (levels_of table old.tick (state_of old).pending) (most_moves table) starts x (omega arith) p
 
-pub started_few : (old new : Buckets) (place starts : ℕ) (t : Timer) → starts ≤ old.last_serial → old.last_serial < t.serial → state_of new ≡ after_start place t (state_of old) → starts + 1 ≤ new.last_serial
-started_few old new place starts t h k e = let x : new.last_serial ≡ t.serial = ap (λ (w : WheelState). w.last_serial) e in omega arith
+  pub started_few : (place starts : ℕ) (t : Timer) → starts ≤ old.last_serial → old.last_serial < t.serial → state_of new ≡ after_start place t (state_of old) → starts + 1 ≤ new.last_serial
+  started_few place starts t h k e = let x : new.last_serial ≡ t.serial = ap (λ (w : WheelState). w.last_serial) e in omega arith
 
--- A stop.
+  -- A stop.
 
-placed_lists : (now key : ℕ) (found : Option Timer) (old new : List (List (ℕ × Node))) → MatchOption found (new ≡ old) (λ t. new ≡ map (without_key key) old) → EachRow (IsPlaced wide now) 640 old → EachRow (IsPlaced wide now) 640 new
-placed_lists now key None old new m p = let P : List (List (ℕ × Node)) → Type 0 = λ lists. EachRow (IsPlaced wide now) 640 lists in subst P (sym m) p
-placed_lists now key (Some t) old new m p = let P : List (List (ℕ × Node)) → Type 0 = λ lists. EachRow (IsPlaced wide now) 640 lists in subst P (sym m) (each-without_key (IsPlaced wide now) 640 key old p)
+  placed_lists : (now key n : ℕ) (found : Option Timer) (before after : List (List (ℕ × Node))) → MatchOption found (after ≡ before) (λ t. after ≡ map (without_key key) before) → EachRow (IsPlaced table now) n before → EachRow (IsPlaced table now) n after
+  placed_lists now key n None before after m p = let P : List (List (ℕ × Node)) → Type 0 = λ lists. EachRow (IsPlaced table now) n lists in subst P (sym m) p
+  placed_lists now key n (Some t) before after m p = let P : List (List (ℕ × Node)) → Type 0 = λ lists. EachRow (IsPlaced table now) n lists in subst P (sym m) (each-without_key (IsPlaced table now) n key before p)
 
-pub stopped_placed : (old new : Buckets) (key : ℕ) (found : Option Timer) → MatchOption found (new.links ≡ old.links) (λ t. new.links ≡ map (without_key key) old.links) → EachRow (IsPlaced wide old.tick) 640 old.links → IsSameFrame old new → EachRow (IsPlaced wide new.tick) 640 new.links
-stopped_placed old new key found m p f = let Q : ℕ → Type 0 = λ k. EachRow (IsPlaced wide k) 640 new.links in subst Q (sym f.tick) (placed_lists old.tick key found old.links new.links m p)
+  pub stopped_placed : (key : ℕ) (found : Option Timer) → MatchOption found (new.links ≡ old.links) (λ t. new.links ≡ map (without_key key) old.links) → EachRow (IsPlaced table old.tick) old.slots old.links → IsSameFrame old new → EachRow (IsPlaced table new.tick) new.slots new.links
+  stopped_placed key found m p f =
+      let Q : ℕ → Type 0 = λ k. EachRow (IsPlaced table k) new.slots new.links in
+      let R : ℕ → Type 0 = λ k. EachRow (IsPlaced table old.tick) k new.links in
+      subst Q (sym f.tick) (subst R (sym f.slots) (placed_lists old.tick key old.slots found old.links new.links m p))
 
-pub stopped_paid : (old new : Buckets) (handle : Handle) (starts moves : ℕ) → IsPaid wide starts moves old.tick (state_of old).pending → state_of new ≡ after_stop handle (state_of old) → IsSameFrame old new → IsPaid wide starts moves new.tick (state_of new).pending
-stopped_paid old new handle starts moves p e f =
-    let x : levels_of wide new.tick (state_of new).pending ≡ levels_of wide old.tick (without_found (timer_at handle (state_of old)) (state_of old).pending) =
-    ap (λ (k : ℕ). levels_of wide k (state_of new).pending) f.tick ∙ ap (λ (w : WheelState). levels_of wide old.tick w.pending) e in
-    let y : levels_of wide old.tick (without_found (timer_at handle (state_of old)) (state_of old).pending) ≤ levels_of wide old.tick (state_of old).pending = levels-without wide old.tick (timer_at handle (state_of old)) (state_of old).pending in
-    paid_less moves (levels_of wide new.tick (state_of new).pending) (levels_of wide old.tick (state_of old).pending) starts (omega arith) p
+  pub stopped_paid : (handle : Handle) (starts moves : ℕ) → IsPaid table starts moves old.tick (state_of old).pending → state_of new ≡ after_stop handle (state_of old) → IsSameFrame old new → IsPaid table starts moves new.tick (state_of new).pending
+  stopped_paid handle starts moves p e f =
+      let x : levels_of table new.tick (state_of new).pending ≡ levels_of table old.tick (without_found (timer_at handle (state_of old)) (state_of old).pending) =
+      ap (λ (k : ℕ). levels_of table k (state_of new).pending) f.tick ∙ ap (λ (w : WheelState). levels_of table old.tick w.pending) e in
+      let y : levels_of table old.tick (without_found (timer_at handle (state_of old)) (state_of old).pending) ≤ levels_of table old.tick (state_of old).pending = levels-without table old.tick (timer_at handle (state_of old)) (state_of old).pending in
+      paid_less moves (levels_of table new.tick (state_of new).pending) (levels_of table old.tick (state_of old).pending) (most_moves table * starts) (omega arith) p
+
+-- A restart: a stop, and then a start.
+
+levels-after_start : (table : List ℕ) (now place : ℕ) (t : Timer) (w : WheelState) → levels_of table now (after_start place t w).pending ≡ level table now t.deadline + levels_of table now w.pending
+levels-after_start table now place t w = levels-put table now (record { place = place; timer = t }) w.pending
+
+pub restarted_paid : (table : List ℕ) (old new : Buckets) (handle : Handle) (place starts moves : ℕ) (t : Timer) → IsClock table → IsPaid table starts moves old.tick (state_of old).pending → old.tick < t.deadline → t.deadline ≤ last_of table
+    → state_of new ≡ after_start place t (after_stop handle (state_of old)) → IsSameFrame old new → IsPaid table (starts + 1) moves new.tick (state_of new).pending
+restarted_paid table old new handle place starts moves t k p later range e f =
+    let rest : WheelState = after_stop handle (state_of old) in
+    let x : levels_of table new.tick (state_of new).pending ≡ level table old.tick t.deadline + levels_of table old.tick rest.pending =
+    ap (λ (k : ℕ). levels_of table k (state_of new).pending) f.tick ∙ (ap (λ (w : WheelState). levels_of table old.tick w.pending) e ∙ levels-after_start table old.tick place t rest) in
+    let y : levels_of table old.tick rest.pending ≤ levels_of table old.tick (state_of old).pending = levels-without table old.tick (timer_at handle (state_of old)) (state_of old).pending in
+    let b : level table old.tick t.deadline < length table = level_in_table table old.tick t.deadline k.is_table (digits_down table t.deadline (last_of table) k.is_table range k.digits) later in
+    let q : moves + levels_of table old.tick rest.pending ≤ most_moves table * starts = paid_less moves (levels_of table old.tick rest.pending) (levels_of table old.tick (state_of old).pending) (most_moves table * starts) y p in
+    paid_more moves (levels_of table new.tick (state_of new).pending) (level table old.tick t.deadline) (levels_of table old.tick rest.pending) (most_moves table) starts x (omega arith) q
+
+pub restarted_few : (old new : Buckets) (handle : Handle) (place starts : ℕ) (t : Timer) → starts ≤ old.last_serial → old.last_serial < t.serial → state_of new ≡ after_start place t (after_stop handle (state_of old)) → starts + 1 ≤ new.last_serial
+restarted_few old new handle place starts t h k e = let x : new.last_serial ≡ t.serial = ap (λ (w : WheelState). w.last_serial) e in omega arith
 
 -- What the buckets show.
 
-pub shown : (b : Buckets) → b.slots ≡ 640 → EachRow (IsPlaced wide b.tick) 640 b.links → ShowsBuckets 640 (bucket_at wide b.tick) no_rounds (state_of b) b.links
-shown b s p =
-    let P : ℕ → Type 0 = λ n. ShowsBuckets n (bucket_at wide b.tick) no_rounds (state_of b) b.links in
-    let Q : ℕ → Type 0 = λ n. EachRow (IsPlaced wide b.tick) n b.links in
-    subst P s (shows b.slots (bucket_at wide b.tick) no_rounds b.links b.has_lists (subst Q (sym s) p) b.last_tick b.tick b.last_serial b.in_order)
+pub shown : (table : List ℕ) (b : Buckets) → b.slots ≡ slots table → EachRow (IsPlaced table b.tick) b.slots b.links → ShowsBuckets (slots table) (bucket_at table b.tick) no_rounds (state_of b) b.links
+shown table b s p =
+    let P : ℕ → Type 0 = λ n. ShowsBuckets n (bucket_at table b.tick) no_rounds (state_of b) b.links in
+    subst P s (shows b.slots (bucket_at table b.tick) no_rounds b.links b.has_lists p b.last_tick b.tick b.last_serial b.in_order)
+
+-- Counts that fit.
+
+pub paid_bound : (table : List ℕ) (starts moves last_serial now : ℕ) (es : List Entry) → IsClock table → starts ≤ last_serial → last_serial ≤ LAST → IsPaid table starts moves now es → moves + levels_of table now es ≤ 9 * LAST
+paid_bound table starts moves last_serial now es k f r p =
+    let t : most_moves table ≤ 9 = k.few_wheels in
+    let s : starts ≤ LAST = omega arith in
+    let x : most_moves table * starts ≤ 9 * LAST = mul-le (most_moves table) starts 9 LAST t s in
+    omega arith
+
+pub moves_fit : (moves more left levels : ℕ) → moves + levels ≤ 9 * LAST → more + left ≤ levels → moves + more < 18446744073709551616
+moves_fit moves more left levels a b = omega arith

@@ -10,3 +10,15 @@ pub mod HierLemmas
 pub mod ShownLemmas
 pub mod SweepLemmas
 pub mod HashedTicks
+pub mod OccupiedLemmas
+pub mod StopLaws
+pub mod LeapLemmas
+pub mod WideStops
+pub mod HierLeaps
+pub mod HierStops
+pub mod ClockLaws
+pub mod TableLaws
+pub mod Stands
+pub mod Restarts
+pub mod WakingLemmas
+pub mod SlotLaws

@@ -9,10 +9,9 @@ use Rattle.timer_base.specs.Order.{AreDistinct, AreRising, in_order, insert_in_o
 use Rattle.timer_base.specs.OrderLaws.{either, map-in_order, in_order-same, AllAt, All-filter, All-weaken, All-in_order}
 use Rattle.timer_base.specs.Pending.{Entry, timer_of, timers_of, is_due_at, entries_due, entries_left}
 use Rattle.timer_base.specs.WheelState.{WheelState, IsPending, after_tick}
-use Rattle.timer_base.specs.declared.limits.TheConstants.{LAST}
 use Rattle.timer_links.specs.declared.node.Node.{Node}
 use Rattle.timer_links.specs.Lists.{list_at}
-use Rattle.timer_wheels.specs.Digits.{IsTable, HasDigits, level, lowest, slots_below, slots, bucket, emptied, hops}
+use Rattle.timer_wheels.specs.Digits.{IsTable, HasDigits, level, lowest, slots_below, slots, bucket, emptied, hops, last_of}
 use Rattle.timer_wheels.specs.DigitLaws.{IsPassed, passed, digits_down, emptied_in_range}
 use Rattle.timer_wheels.specs.WheelLists.{timer_in, timers_in, entry_of, entries_of, rows_below, pending_in, ArePending, AreInOrder, EachRow, wheel_state}
 use Rattle.timer_wheels.specs.Placement.{IsPlaced, hops_of, levels_of}
@@ -441,7 +440,7 @@ module _ (table : List ℕ) (last_tick a last_serial : ℕ) (lists : List (List 
 
   -- What the emptying asks for.
 
-  may_migrate : last_tick ≤ LAST → (row : ℕ × Node) → Stands table last_tick a last_serial l row → MayMigrate table (a + 1) l row
+  may_migrate : last_tick ≤ last_of table → (row : ℕ × Node) → Stands table last_tick a last_serial l row → MayMigrate table (a + 1) l row
   may_migrate range row h = record {
     elsewhere = elsewhere (going table last_tick a last_serial row h);
     not_past = (let p : a < (timer_in row).deadline = h.pending.later in omega arith);
@@ -451,7 +450,7 @@ module _ (table : List ℕ) (last_tick a last_serial : ℕ) (lists : List (List 
     elsewhere (inl e) = λ (x : target table (a + 1) row ≡ l). let g : target table (a + 1) row ≡ slots table = target_due table (a + 1) row (is_due (a + 1) (timer_in row) e) in let k : l < slots table = l_in_range in omega arith
     elsewhere (inr y) = λ (x : target table (a + 1) row ≡ l). let g : target table (a + 1) row ≡ bucket table (a + 1) (timer_in row).deadline = target_left table (a + 1) row (is_left (a + 1) (timer_in row) y.0) in let z : bucket table (a + 1) (timer_in row).deadline < m = y.1.1 in let q : m ≤ l = not_below_m in omega arith
 
-  pub all_may_migrate : last_tick ≤ LAST → AllByRecursion (MayMigrate table (a + 1) l) rows_l
+  pub all_may_migrate : last_tick ≤ last_of table → AllByRecursion (MayMigrate table (a + 1) l) rows_l
   all_may_migrate range = All-weaken (Stands table last_tick a last_serial l) (MayMigrate table (a + 1) l) rows_l (may_migrate range) (stands l l_in_range)
 
   -- A bucket of the lowest wheel has only timers of this tick.

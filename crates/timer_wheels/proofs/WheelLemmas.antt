@@ -1,18 +1,18 @@
 -- What each call makes of the lists of a wheel, and so of what the wheel means.
-use Rattle.std.proofs.Common.{◌≡◌, ◌≢◌, ◌<◌, ◌≤◌, ◌+◌, ℕ, zero, suc, ◌==◌, List, [], ◌∷◌, ◌++◌, length, refl, sym, ◌∙◌, ap, subst, inl, inr, arith, append_assoc, length-append, get_or-set_same, get_or-set_other}
+use Rattle.std.proofs.Common.{◌≡◌, ◌≢◌, ◌<◌, ◌≤◌, ◌+◌, ◌⊎◌, ℕ, zero, suc, ◌==◌, List, [], ◌∷◌, ◌++◌, length, refl, sym, ◌∙◌, ap, subst, inl, inr, arith, append_assoc, length-append, get_or-set_same, get_or-set_other}
 use Rattle.std.specs.Prelude.{Bool, true, false, map, filter, not, slice_set, slice_get, replicate, Option, Some, None}
 use Rattle.std.specs.List.{AllByRecursion}
-use Rattle.std.proofs.lemmas.Bool.{cases_eq, eq-eqb, ne_eqb}
+use Rattle.std.proofs.lemmas.Bool.{cases_eq, cases_lt, eq-eqb, eqb-true, ne_eqb}
 use Rattle.timer_base.specs.declared.timer.Timer.{Timer}
 use Rattle.timer_base.specs.declared.timer.Handle.{Handle}
 use Rattle.timer_base.specs.Order.{in_order, insert_in_order, AreBelow, AreDistinct, AreRising, IsNotAmong}
 use Rattle.timer_base.specs.OrderLaws.{either, in_order-newest, in_order-anywhere, filter-in_order, length-in_order, All-filter, All-weaken, AreRising-append, AreRising-weaken}
-use Rattle.timer_base.specs.Pending.{Entry, timer_of, put, has_handle, has_serial, first_timer, without_serial, without_found}
+use Rattle.timer_base.specs.Pending.{Entry, timer_of, timers_of, is_due_at, entries_due, put, has_handle, has_serial, first_timer, without_serial, without_found}
 use Rattle.timer_base.specs.WheelState.{WheelState, IsPending, after_start, after_stop, after_expiry, after_clear}
 use Rattle.timer_links.specs.declared.node.Node.{Node}
 use Rattle.timer_links.specs.Lists.{list_at, node_in, node_at, first_of, with_row, without_key, row_count, AreApart}
 use Rattle.timer_wheels.specs.WheelLaws.{timers_of-entries}
-use Rattle.timer_wheels.specs.WheelLists.{timer_in, timers_in, entry_of, entries_of, rows_below, pending_in, wheel_state, ArePending, AreInOrder, EachRow}
+use Rattle.timer_wheels.specs.WheelLists.{timer_in, timers_in, entry_of, entries_of, rows_below, pending_in, wheel_state, ArePending, ArePast, AreInOrder, EachRow}
 use Rattle.timer_wheels.proofs.RowLemmas.{all-append, all-front, all-rest, all-rows_below, rows_below-above, rows_below-none, IsInserted, rows_below-with_row, rows_below-without_key, list_at-without_key, timers-append, entries-append, filter-entries, AreBelow-timers, IsNotAmong-front, IsNotAmong-below, AreDistinct-inserted, AreDistinct-taken, IsNotAmong-others}
 
 -- A row is put in.
@@ -195,16 +195,24 @@ node_in-append key (x ∷ xs) ys = elim (either (x.0 == key)) [
   | inr k ↦ rw k (node_in-append key xs ys)
 ]
 
-none_in : (key : ℕ) (rows : List (ℕ × Node)) → rows ≡ [] → first_of (node_in key rows) None ≡ None
-none_in key rows e = rw e refl
+first_of-none : (o : Option Node) → first_of o None ≡ o
+first_of-none None = refl
+first_of-none (Some n) = refl
 
--- where nothing is due, each key is that of a pending timer
-pub node_at-pending : (n key : ℕ) (lists : List (List (ℕ × Node))) → length lists ≡ n + 1 → list_at n lists ≡ [] → node_at key lists ≡ node_in key (rows_below n lists)
-node_at-pending zero key [] l e = absurd (omega arith)
-node_at-pending zero key (x ∷ []) l e = none_in key x e
-node_at-pending zero key (x ∷ y ∷ ys) l e = absurd (omega arith)
-node_at-pending (suc n) key [] l e = absurd (omega arith)
-node_at-pending (suc n) key (x ∷ xs) l e = ap (first_of (node_in key x)) (node_at-pending n key xs (omega arith) e) ∙ sym (node_in-append key x (rows_below n xs))
+first_of-assoc : (a b c : Option Node) → first_of a (first_of b c) ≡ first_of (first_of a b) c
+first_of-assoc None b c = refl
+first_of-assoc (Some n) b c = refl
+
+-- each key is that of a pending timer or of one that is due
+node_at-parts : (n key : ℕ) (lists : List (List (ℕ × Node))) → length lists ≡ n + 1 → node_at key lists ≡ first_of (node_in key (rows_below n lists)) (node_in key (list_at n lists))
+node_at-parts zero key [] l = absurd (omega arith)
+node_at-parts zero key (x ∷ []) l = first_of-none (node_in key x)
+node_at-parts zero key (x ∷ y ∷ ys) l = absurd (omega arith)
+node_at-parts (suc n) key [] l = absurd (omega arith)
+node_at-parts (suc n) key (x ∷ xs) l =
+    let last : Option Node = node_in key (list_at n xs) in
+    ap (first_of (node_in key x)) (node_at-parts n key xs (omega arith))
+    ∙ (first_of-assoc (node_in key x) (node_in key (rows_below n xs)) last ∙ ap (λ (o : Option Node). first_of o last) (sym (node_in-append key x (rows_below n xs))))
 
 -- each row under the key has the key's node
 abbrev pub HasNode : ℕ → Option Node → ℕ × Node → Type 0
@@ -219,6 +227,59 @@ apart_from lists l key front (x ∷ xs) a b e = (
 
 pub apart_rows : (n key : ℕ) (lists : List (List (ℕ × Node))) → n ≤ length lists → AreApart lists → AllByRecursion (HasNode key (node_at key lists)) (rows_below n lists)
 apart_rows n key lists b a = all-rows_below (HasNode key (node_at key lists)) n lists (λ s h. apart_from lists s key [] (list_at s lists) a (omega arith) refl)
+
+-- Pending and due, parted by the clock.
+
+-- the deadline of each pending row is after the tick
+abbrev pub AreLater : ℕ → List (ℕ × Node) → Type 0
+AreLater now rows = AllByRecursion (λ row. now < (timer_in row).deadline) rows
+
+-- the rows of the first n lists are after the tick, and those of the next list are not
+pub record IsParted (now n : ℕ) (lists : List (List (ℕ × Node))) : Type 0 where
+  pub later : AreLater now (rows_below n lists)
+  pub past : ArePast now (list_at n lists)
+
+pub parted : (last_tick now last n : ℕ) (lists : List (List (ℕ × Node))) → ArePending last_tick now last (rows_below n lists) → ArePast now (list_at n lists) → IsParted now n lists
+parted last_tick now last n lists p q = record {
+  later = All-weaken (λ row. IsPending last_tick now last (timer_in row)) (λ row. now < (timer_in row).deadline) (rows_below n lists) (λ row r. r.later) p;
+  past = q;
+}
+
+same_node : (a b : Node) → Some a ≡ Some b → a ≡ b
+same_node a b e = cc
+
+no_node : (a : Node) → None ≡ Some a → ⊥
+no_node a e = cc
+
+-- a node whose timer is not due stands in no list of due ones
+not_past : (now key : ℕ) (node : Node) (rows : List (ℕ × Node)) → ArePast now rows → now < node.timer.deadline → node_in key rows ≡ Some node → ⊥
+not_past now key node [] a h e = no_node node e
+not_past now key node (x ∷ xs) a h e = elim (either (x.0 == key)) [
+  | inl k ↦ (
+      let f : Some x.1 ≡ Some node = rw k at e in
+      let q : x.1.timer.deadline ≡ node.timer.deadline = ap (λ (y : Node). y.timer.deadline) (same_node x.1 node f) in
+      let b : x.1.timer.deadline ≤ now = a.0 in
+      omega arith)
+  | inr k ↦ not_past now key node xs a.1 h (rw k at e)
+]
+
+pending_part : (now key : ℕ) (node : Node) (found : Option Node) (due : List (ℕ × Node)) → ArePast now due → now < node.timer.deadline → first_of found (node_in key due) ≡ Some node → found ≡ Some node
+pending_part now key node None due a h e = absurd (not_past now key node due a h e)
+pending_part now key node (Some n) due a h e = e
+
+-- it stands among the pending ones
+pending_there : (now n key : ℕ) (node : Node) (lists : List (List (ℕ × Node))) → length lists ≡ n + 1 → IsParted now n lists → now < node.timer.deadline → node_at key lists ≡ Some node → node_in key (rows_below n lists) ≡ Some node
+pending_there now n key node lists len p h e = pending_part now key node (node_in key (rows_below n lists)) (list_at n lists) p.past h (sym (node_at-parts n key lists len) ∙ e)
+
+-- so none of the due ones goes with it
+due_without : (now key : ℕ) (node : Node) (rows : List (ℕ × Node)) → ArePast now rows → now < node.timer.deadline → AllByRecursion (HasNode key (Some node)) rows → without_key key rows ≡ rows
+due_without now key node [] a h b = refl
+due_without now key node (x ∷ xs) a h b =
+    let k : x.0 ≢ key = λ (k : x.0 ≡ key). (
+      let q : x.1.timer.deadline ≡ node.timer.deadline = ap (λ (y : Node). y.timer.deadline) (same_node x.1 node (b.0 k)) in
+      let d : x.1.timer.deadline ≤ now = a.0 in
+      omega arith) in
+    rw (ne_eqb x.0 key k) (ap (λ (r : List (ℕ × Node)). x ∷ r) (due_without now key node xs a.1 h b.1))
 
 -- A look.
 
@@ -255,27 +316,31 @@ some_is a b e = cc
 some_none : (a : Node) → Some a ≡ None → ⊥
 some_none a e = cc
 
--- what the look finds is not what the handle names
-abbrev pub IsOther : Handle → Option Node → Type 0
-IsOther handle None = Unit {0}
-IsOther handle (Some node) = node.timer.serial ≢ handle.serial
+-- what the look finds is not what the handle names, or it is due
+abbrev pub IsOther : ℕ → Handle → Option Node → Type 0
+IsOther now handle None = Unit {0}
+IsOther now handle (Some node) = (node.timer.serial ≢ handle.serial) ⊎ (node.timer.deadline ≤ now)
 
-not_this : (handle : Handle) (found : Option Node) (row : ℕ × Node) → IsOther handle found → HasNode handle.place found row → has_handle handle (entry_of row) ≡ false
-not_this handle None row o h = elim (cases_eq row.0 handle.place) [
+not_this : (now : ℕ) (handle : Handle) (found : Option Node) (row : ℕ × Node) → now < (timer_in row).deadline → IsOther now handle found → HasNode handle.place found row → has_handle handle (entry_of row) ≡ false
+not_this now handle None row l o h = elim (cases_eq row.0 handle.place) [
   | inl k ↦ absurd (some_none row.1 (h k))
   | inr k ↦ other_place handle (entry_of row) k
 ]
-not_this handle (Some node) row o h = elim (cases_eq row.0 handle.place) [
+not_this now handle (Some node) row l (inl o) h = elim (cases_eq row.0 handle.place) [
   | inl k ↦ other_serial handle (entry_of row) (λ (s : row.1.timer.serial ≡ handle.serial). o (ap (λ (y : Node). y.timer.serial) (sym (some_is row.1 node (h k))) ∙ s))
   | inr k ↦ other_place handle (entry_of row) k
 ]
+not_this now handle (Some node) row l (inr d) h = elim (cases_eq row.0 handle.place) [
+  | inl k ↦ absurd (let q : row.1.timer.deadline ≡ node.timer.deadline = ap (λ (y : Node). y.timer.deadline) (some_is row.1 node (h k)) in omega arith)
+  | inr k ↦ other_place handle (entry_of row) k
+]
 
-none_has : (handle : Handle) (found : Option Node) (rows : List (ℕ × Node)) → IsOther handle found → AllByRecursion (HasNode handle.place found) rows → filter (has_handle handle) (entries_of rows) ≡ []
-none_has handle found [] o a = refl
-none_has handle found (x ∷ xs) o a = rw (not_this handle found x o a.0) (none_has handle found xs o a.1)
+none_has : (now : ℕ) (handle : Handle) (found : Option Node) (rows : List (ℕ × Node)) → AreLater now rows → IsOther now handle found → AllByRecursion (HasNode handle.place found) rows → filter (has_handle handle) (entries_of rows) ≡ []
+none_has now handle found [] l o a = refl
+none_has now handle found (x ∷ xs) l o a = rw (not_this now handle found x l.0 o a.0) (none_has now handle found xs l.1 o a.1)
 
-pub looked-none : (handle : Handle) (found : Option Node) (rows : List (ℕ × Node)) → IsOther handle found → AllByRecursion (HasNode handle.place found) rows → first_timer (has_handle handle) (pending_in rows) ≡ None
-looked-none handle found rows o a = first_timer-pending_in (has_handle handle) rows ∙ ap (λ (y : List Entry). first_of_entries (in_order timer_of y)) (none_has handle found rows o a)
+pub looked-none : (now : ℕ) (handle : Handle) (found : Option Node) (rows : List (ℕ × Node)) → AreLater now rows → IsOther now handle found → AllByRecursion (HasNode handle.place found) rows → first_timer (has_handle handle) (pending_in rows) ≡ None
+looked-none now handle found rows l o a = first_timer-pending_in (has_handle handle) rows ∙ ap (λ (y : List Entry). first_of_entries (in_order timer_of y)) (none_has now handle found rows l o a)
 
 none_with : (handle : Handle) (rows : List (ℕ × Node)) → IsNotAmong handle.serial (timers_in rows) → filter (has_handle handle) (entries_of rows) ≡ []
 none_with handle [] n = refl
@@ -341,16 +406,17 @@ same_part key node (x ∷ xs) a e d = elim (cases_eq x.0 key) [
       same_there key node x xs d.0 k f (same_part key node xs a.1 f d.1)
 ]
 
-pub stopped : (n last_tick now last key : ℕ) (node : Node) (lists : List (List (ℕ × Node))) → length lists ≡ n + 1 → list_at n lists ≡ [] → AreApart lists → node_at key lists ≡ Some node → AreDistinct (timers_in (rows_below n lists))
+pub stopped : (n last_tick now last key : ℕ) (node : Node) (lists : List (List (ℕ × Node))) → length lists ≡ n + 1 → IsParted now n lists → AreApart lists → now < node.timer.deadline → node_at key lists ≡ Some node → AreDistinct (timers_in (rows_below n lists))
     → wheel_state n last_tick now last (map (without_key key) lists) ≡ (let w : WheelState = wheel_state n last_tick now last lists in record w { pending = without_found (Some node.timer) w.pending })
-stopped n last_tick now last key node lists len none apart e d =
+stopped n last_tick now last key node lists len p apart h e d =
     let rows : List (ℕ × Node) = rows_below n lists in
     let each : AllByRecursion (HasNode key (Some node)) rows = subst (λ (o : Option Node). AllByRecursion (HasNode key o) rows) e (apart_rows n key lists (omega arith) apart) in
-    let q : entries_of (without_key key rows) ≡ without_serial node.timer.serial (entries_of rows) = same_part key node rows each (sym (node_at-pending n key lists len none) ∙ e) d in
+    let due_each : AllByRecursion (HasNode key (Some node)) (list_at n lists) = subst (λ (o : Option Node). AllByRecursion (HasNode key o) (list_at n lists)) e (apart_from lists n key [] (list_at n lists) apart (omega arith) refl) in
+    let q : entries_of (without_key key rows) ≡ without_serial node.timer.serial (entries_of rows) = same_part key node rows each (pending_there now n key node lists len p h e) d in
     let a : pending_in (rows_below n (map (without_key key) lists)) ≡ without_serial node.timer.serial (pending_in rows) =
     ap pending_in (rows_below-without_key n key lists)
     ∙ (ap (in_order timer_of) q ∙ sym (filter-in_order timer_of (λ (entry : Entry). not (has_serial node.timer.serial entry.timer)) (entries_of rows))) in
-    let b : list_at n (map (without_key key) lists) ≡ list_at n lists = list_at-without_key n key lists ∙ rw none refl in
+    let b : list_at n (map (without_key key) lists) ≡ list_at n lists = list_at-without_key n key lists ∙ due_without now key node (list_at n lists) p.past h due_each in
     rw (a, b) refl
 
 pub stopped-pending : (n last_tick now last key : ℕ) (lists : List (List (ℕ × Node))) → ArePending last_tick now last (rows_below n lists) → ArePending last_tick now last (rows_below n (map (without_key key) lists))
@@ -373,10 +439,11 @@ list_at-replicate (suc k) (suc s) = list_at-replicate k s
 -- What a stop finds.
 
 -- the node under the key has this timer
-pub record HasTimer (key : ℕ) (t : Timer) (lists : List (List (ℕ × Node))) : Type 0 where
+pub record HasTimer (now key : ℕ) (t : Timer) (lists : List (List (ℕ × Node))) : Type 0 where
   pub node : Node
   pub at : node_at key lists ≡ Some node
   pub timer : node.timer ≡ t
+  pub later : now < node.timer.deadline
 
 no_timer : (t : Timer) → Some t ≡ None → ⊥
 no_timer t e = cc
@@ -384,34 +451,67 @@ no_timer t e = cc
 same_timer : (a b : Timer) → Some a ≡ Some b → a ≡ b
 same_timer a b e = cc
 
-module _ (n : ℕ) (handle : Handle) (lists : List (List (ℕ × Node))) (len : length lists ≡ n + 1) (none : list_at n lists ≡ []) (apart : AreApart lists) where
+module _ (now n : ℕ) (handle : Handle) (lists : List (List (ℕ × Node))) (len : length lists ≡ n + 1) (p : IsParted now n lists) (apart : AreApart lists) where
   each_has : (found : Option Node) → node_at handle.place lists ≡ found → AllByRecursion (HasNode handle.place found) (rows_below n lists)
   each_has found e = subst (λ (o : Option Node). AllByRecursion (HasNode handle.place o) (rows_below n lists)) e (apart_rows n handle.place lists (omega arith) apart)
 
-  pub look-none : (found : Option Node) → found ≡ node_at handle.place lists → IsOther handle found → None ≡ first_timer (has_handle handle) (pending_in (rows_below n lists))
-  look-none found e o = sym (looked-none handle found (rows_below n lists) o (each_has found (sym e)))
+  pub look-none : (found : Option Node) → found ≡ node_at handle.place lists → IsOther now handle found → None ≡ first_timer (has_handle handle) (pending_in (rows_below n lists))
+  look-none found e o = sym (looked-none now handle found (rows_below n lists) p.later o (each_has found (sym e)))
 
-  pub look-some : (node : Node) → Some node ≡ node_at handle.place lists → node.timer.serial ≡ handle.serial → AreDistinct (timers_in (rows_below n lists)) → Some node.timer ≡ first_timer (has_handle handle) (pending_in (rows_below n lists))
-  look-some node e s d = sym (looked-some handle node (rows_below n lists) s (sym (node_at-pending n handle.place lists len none) ∙ sym e) d)
+  pub look-some : (node : Node) → Some node ≡ node_at handle.place lists → node.timer.serial ≡ handle.serial → now < node.timer.deadline → AreDistinct (timers_in (rows_below n lists)) → Some node.timer ≡ first_timer (has_handle handle) (pending_in (rows_below n lists))
+  look-some node e s h d = sym (looked-some handle node (rows_below n lists) s (pending_there now n handle.place node lists len p h (sym e)) d)
 
-  look-timer : (t : Timer) (found : Option Node) → node_at handle.place lists ≡ found → AreDistinct (timers_in (rows_below n lists)) → first_timer (has_handle handle) (pending_in (rows_below n lists)) ≡ Some t → HasTimer handle.place t lists
+  look-timer : (t : Timer) (found : Option Node) → node_at handle.place lists ≡ found → AreDistinct (timers_in (rows_below n lists)) → first_timer (has_handle handle) (pending_in (rows_below n lists)) ≡ Some t → HasTimer now handle.place t lists
   look-timer t None e d h = absurd (no_timer t (sym h ∙ sym (look-none None (sym e) tt)))
   look-timer t (Some node) e d h = elim (cases_eq node.timer.serial handle.serial) [
-    | inl s ↦ record { node = node; at = e; timer = same_timer node.timer t (look-some node (sym e) s d ∙ h) }
-    | inr s ↦ absurd (no_timer t (sym h ∙ sym (look-none (Some node) (sym e) s)))
+    | inl s ↦ elim (cases_lt now node.timer.deadline) [
+      | inl l ↦ record { node = node; at = e; timer = same_timer node.timer t (look-some node (sym e) s l d ∙ h); later = l }
+      | inr l ↦ absurd (no_timer t (sym h ∙ sym (look-none (Some node) (sym e) (inr l))))
+    ]
+    | inr s ↦ absurd (no_timer t (sym h ∙ sym (look-none (Some node) (sym e) (inl s))))
   ]
 
-  pub look-has : (t : Timer) → AreDistinct (timers_in (rows_below n lists)) → first_timer (has_handle handle) (pending_in (rows_below n lists)) ≡ Some t → HasTimer handle.place t lists
+  pub look-has : (t : Timer) → AreDistinct (timers_in (rows_below n lists)) → first_timer (has_handle handle) (pending_in (rows_below n lists)) ≡ Some t → HasTimer now handle.place t lists
   look-has t d h = look-timer t (node_at handle.place lists) refl d h
 
-  pub stop-found : (last_tick now last : ℕ) (t : Timer) (new : List (List (ℕ × Node))) → AreDistinct (timers_in (rows_below n lists)) → first_timer (has_handle handle) (pending_in (rows_below n lists)) ≡ Some t → new ≡ map (without_key handle.place) lists
+  pub stop-found : (last_tick last : ℕ) (t : Timer) (new : List (List (ℕ × Node))) → AreDistinct (timers_in (rows_below n lists)) → first_timer (has_handle handle) (pending_in (rows_below n lists)) ≡ Some t → new ≡ map (without_key handle.place) lists
       → wheel_state n last_tick now last new ≡ after_stop handle (wheel_state n last_tick now last lists)
-  stop-found last_tick now last t new d h e =
+  stop-found last_tick last t new d h e =
       let f = look-has t d h in
       let w : WheelState = wheel_state n last_tick now last lists in
       ap (wheel_state n last_tick now last) e
-      ∙ (stopped n last_tick now last handle.place f.node lists len none apart f.at d
+      ∙ (stopped n last_tick now last handle.place f.node lists len p apart f.later f.at d
       ∙ ap (λ (o : Option Timer). record w { pending = without_found o w.pending }) (ap (λ (u : Timer). Some u) f.timer ∙ sym h))
+
+-- What is due stays past.
+
+pub past-with_row : (now n bucket : ℕ) (row : ℕ × Node) (lists : List (List (ℕ × Node))) → bucket < n → ArePast now (list_at n lists) → ArePast now (list_at n (with_row bucket row lists))
+past-with_row now n bucket row lists h a =
+    let m : n ≢ bucket = omega arith in
+    subst (ArePast now) (sym (get_or-set_other lists bucket n (list_at bucket lists ++ row ∷ []) [] m)) a
+
+pub past-without_key : (now n key : ℕ) (lists : List (List (ℕ × Node))) → ArePast now (list_at n lists) → ArePast now (list_at n (map (without_key key) lists))
+past-without_key now n key lists a = rw (list_at-without_key n key lists)
+    (All-filter (λ (row : ℕ × Node). (timer_in row).deadline ≤ now) (λ (row : ℕ × Node). (timer_in row).deadline ≤ now) (λ (r : ℕ × Node). not (r.0 == key)) (list_at n lists) (λ r e f. f) a)
+
+timers_past : (now : ℕ) (es : List Entry) → AllByRecursion (λ t. t.deadline ≤ now) (timers_of (entries_due now es))
+timers_past now [] = tt
+timers_past now (e ∷ es) = elim (either (is_due_at now e.timer)) [
+  | inl k ↦ rw k (let d : e.timer.deadline ≡ now = eqb-true e.timer.deadline now k in omega arith, timers_past now es)
+  | inr k ↦ rw k (timers_past now es)
+]
+
+rows_past : (now : ℕ) (rows : List (ℕ × Node)) → AllByRecursion (λ t. t.deadline ≤ now) (timers_in rows) → ArePast now rows
+rows_past now [] a = tt
+rows_past now (x ∷ xs) a = (a.0, rows_past now xs a.1)
+
+-- what became due at a tick has it as its deadline
+pub due_past : (now : ℕ) (es : List Entry) (rows : List (ℕ × Node)) → timers_in rows ≡ timers_of (entries_due now es) → ArePast now rows
+due_past now es rows e = rows_past now rows (let P : List Timer → Type 0 = AllByRecursion (λ t. t.deadline ≤ now) in subst P (sym e) (timers_past now es))
+
+pub none_past : (now : ℕ) (rows : List (ℕ × Node)) → timers_in rows ≡ [] → ArePast now rows
+none_past now [] e = tt
+none_past now (x ∷ xs) e = absurd (cc)
 
 -- An expiry.
 
@@ -427,6 +527,9 @@ module _ (n : ℕ) (row : ℕ × Node) (rest : List (ℕ × Node)) (lists : List
 
   pub expired-first : Some (timer_in row) ≡ slice_get (timers_in (list_at n lists)) 0
   expired-first = rw e refl
+
+  pub expired-past : (now : ℕ) → ArePast now (list_at n lists) → ArePast now (list_at n (slice_set lists n rest))
+  expired-past now a = subst (ArePast now) (sym expired-due) (subst (ArePast now) e a).1
 
   pub expired-in_order : AreInOrder (n + 1) lists → AreInOrder (n + 1) (slice_set lists n rest)
   expired-in_order o s h = elim (cases_eq s n) [

@@ -1,9 +1,27 @@
 -- The digits of a tick, and the slot of the wheels in which a timer stands. A table has the radix of each digit, the lowest digit first.
-use Rattle.std.specs.Prelude.{◌≡◌, ◌≢◌, ℕ, ◌+◌, ◌/◌, ◌%◌, ◌<◌, zero, suc, ◌==◌, ◌&&◌, nat_lt, not, if◌then◌else◌, List, [], ◌∷◌, length}
+use Rattle.std.specs.Prelude.{◌≡◌, ◌≢◌, ℕ, ◌+◌, ◌-◌, ◌*◌, ◌/◌, ◌%◌, ◌<◌, zero, suc, ◌==◌, ◌&&◌, nat_lt, not, if◌then◌else◌, List, [], ◌∷◌, length}
 
 -- ten digits in base 64
 unfoldable pub wide : List ℕ
 wide = 64 ∷ 64 ∷ 64 ∷ 64 ∷ 64 ∷ 64 ∷ 64 ∷ 64 ∷ 64 ∷ 64 ∷ []
+
+-- seconds, minutes, hours and days
+unfoldable pub clock : List ℕ
+clock = 60 ∷ 60 ∷ 24 ∷ 100 ∷ []
+
+-- the product of the radices
+abbrev pub span : List ℕ → ℕ
+span [] = 1
+span (r ∷ rs) = r * span rs
+
+-- the last tick that has its digits in the table
+abbrev pub last_of : List ℕ → ℕ
+last_of table = span table - 1
+
+-- the lowest radix
+abbrev pub base : List ℕ → ℕ
+base [] = 1
+base (r ∷ rs) = r
 
 -- each radix is above 0
 abbrev pub IsTable : List ℕ → Type 0
@@ -20,6 +38,18 @@ abbrev pub digit : List ℕ → ℕ → ℕ → ℕ
 digit [] k t = 0
 digit (r ∷ rs) zero t = t % r
 digit (r ∷ rs) (suc k) t = digit rs k (t / r)
+
+-- the radix of digit k: how many slots wheel k has
+abbrev pub radix : ℕ → List ℕ → ℕ
+radix k [] = 1
+radix zero (r ∷ rs) = r
+radix (suc k) (r ∷ rs) = radix k rs
+
+-- the weight of digit k, the product of the radices below it: how many ticks a slot of wheel k is
+abbrev pub weight : ℕ → List ℕ → ℕ
+weight k [] = 1
+weight zero (r ∷ rs) = 1
+weight (suc k) (r ∷ rs) = r * weight k rs
 
 -- the highest digit in which a and b differ, or 0
 abbrev pub level : List ℕ → ℕ → ℕ → ℕ

@@ -10,3 +10,9 @@ pub mod Hashed
 pub mod Swept
 pub mod HashedWheel
 pub mod Making
+pub mod Occupied
+pub mod Leaps
+pub mod Hier
+pub mod Tables
+pub mod TakenOut
+pub mod HierWheel

@@ -1,10 +1,9 @@
 -- What the emptying of one bucket leaves: each row, from the front, at the back of the list that it goes to.
 use Rattle.std.specs.Prelude.{◌≡◌, ◌≢◌, ℕ, ◌≤◌, not, if◌then◌else◌, List, [], ◌∷◌, filter, slice_set, Option, Some, None}
-use Rattle.timer_base.specs.declared.limits.TheConstants.{LAST}
 use Rattle.timer_base.specs.Pending.{is_due_at}
 use Rattle.timer_links.specs.declared.node.Node.{Node}
 use Rattle.timer_links.specs.Lists.{list_at, with_row}
-use Rattle.timer_wheels.specs.Digits.{bucket, slots}
+use Rattle.timer_wheels.specs.Digits.{bucket, slots, last_of}
 use Rattle.timer_wheels.specs.WheelLists.{timer_in}
 
 -- the list that a row goes to at this tick: that of the due timers at its deadline, and else its bucket
@@ -41,4 +40,4 @@ first_deadline (row ∷ rows) = Some (timer_in row).deadline
 pub record MayMigrate (table : List ℕ) (tick l : ℕ) (row : ℕ × Node) : Type 0 where
   pub elsewhere : target table tick row ≢ l
   pub not_past : tick ≤ (timer_in row).deadline
-  pub in_range : (timer_in row).deadline ≤ LAST
+  pub in_range : (timer_in row).deadline ≤ last_of table

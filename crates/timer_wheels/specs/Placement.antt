@@ -1,5 +1,5 @@
 -- In which bucket each pending timer stands, and how often it still moves: what `links`, `moves` and `starts` show.
-use Rattle.std.specs.Prelude.{◌≡◌, ℕ, ◌+◌, ◌*◌, ◌≤◌, List, [], ◌∷◌}
+use Rattle.std.specs.Prelude.{◌≡◌, ℕ, ◌+◌, ◌-◌, ◌*◌, ◌/◌, ◌%◌, ◌≤◌, ◌==◌, ◌&&◌, not, Bool, true, false, if◌then◌else◌, length, List, [], ◌∷◌}
 use Rattle.std.specs.Coded.{×_prop}
 use Rattle.std.proofs.Props.{props}
 use Rattle.timer_base.specs.declared.timer.Timer.{Timer}
@@ -33,6 +33,19 @@ abbrev pub levels_of : List ℕ → ℕ → List Entry → ℕ
 levels_of table now [] = 0
 levels_of table now (entry ∷ entries) = level table now entry.timer.deadline + levels_of table now entries
 
--- each start allows nine moves, and each move lowers a level: what is left to move is counted too
+-- a timer moves at most so often: once into each wheel but the highest
+abbrev pub most_moves : List ℕ → ℕ
+most_moves table = length table - 1
+
+-- each start allows so many moves, and each move lowers a level: what is left to move is counted too
 abbrev pub IsPaid : List ℕ → ℕ → ℕ → ℕ → List Entry → Type 0
-IsPaid table starts moves now pending = moves + levels_of table now pending ≤ 9 * starts
+IsPaid table starts moves now pending = moves + levels_of table now pending ≤ most_moves table * starts
+
+-- whether there is one
+abbrev pub has_any : List Timer → Bool
+has_any [] = false
+has_any (t ∷ ts) = true
+
+-- how many buckets are emptied from tick a to b: one at each multiple of the lowest radix, and that of b where something is due there
+abbrev pub visited_between : ℕ → ℕ → ℕ → Bool → ℕ
+visited_between r a b due = b / r - a / r + (if due && not (b % r == 0) then 1 else 0)

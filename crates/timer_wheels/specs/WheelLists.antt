@@ -1,7 +1,7 @@
 -- What the lists of a wheel mean: the first n are its buckets, and the next one holds what is due.
-use Rattle.std.specs.Prelude.{ℕ, ◌<◌, zero, suc, List, [], ◌∷◌, ◌++◌, map}
+use Rattle.std.specs.Prelude.{ℕ, ◌<◌, ◌≤◌, zero, suc, List, [], ◌∷◌, ◌++◌, map}
 use Rattle.std.specs.List.{AllByRecursion, AllByRecursion-prop}
-use Rattle.std.specs.Coded.{Π_prop}
+use Rattle.std.specs.Coded.{Π_prop, le_prop}
 use Rattle.std.proofs.Props.{props}
 use Rattle.timer_base.specs.declared.timer.Timer.{Timer}
 use Rattle.timer_base.specs.Order.{in_order, AreDistinct, AreRising, IsNotAmong}
@@ -54,6 +54,10 @@ ArePending last_tick now last_serial rows = AllByRecursion (λ row. IsPending la
 abbrev pub AreInOrder : ℕ → List (List (ℕ × Node)) → Type 0
 AreInOrder n lists = (s : ℕ) → s < n → AreRising 0 (timers_in (list_at s lists))
 
+-- the deadline of each row is not after the tick: they are due
+abbrev pub ArePast : ℕ → List (ℕ × Node) → Type 0
+ArePast now rows = AllByRecursion (λ row. (timer_in row).deadline ≤ now) rows
+
 -- each row of the first n lists is as the fact says of its list
 abbrev pub EachRow : (ℕ → ℕ × Node → Type 0) → ℕ → List (List (ℕ × Node)) → Type 0
 EachRow fact n lists = (s : ℕ) → s < n → AllByRecursion (fact s) (list_at s lists)
@@ -63,6 +67,9 @@ IsPending-prop last_tick now last_serial t = hlevel props
 
 pub ArePending-prop : (last_tick now last_serial : ℕ) (rows : List (ℕ × Node)) → IsProp (ArePending last_tick now last_serial rows)
 ArePending-prop last_tick now last_serial rows = AllByRecursion-prop (λ row. IsPending last_tick now last_serial (timer_in row)) (λ row. IsPending-prop last_tick now last_serial (timer_in row)) rows
+
+pub ArePast-prop : (now : ℕ) (rows : List (ℕ × Node)) → IsProp (ArePast now rows)
+ArePast-prop now rows = AllByRecursion-prop (λ row. (timer_in row).deadline ≤ now) (λ row. le_prop) rows
 
 pub AreInOrder-prop : (n : ℕ) (lists : List (List (ℕ × Node))) → IsProp (AreInOrder n lists)
 AreInOrder-prop n lists = Π_prop (λ s. Π_prop (λ b. AreRising-prop 0 (timers_in (list_at s lists))))

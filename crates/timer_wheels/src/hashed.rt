@@ -17,23 +17,26 @@
 //! A bucket is in order of starting and not of deadlines, so a start needs no walk. The rounds are
 //! counted from the interval less 1, since an interval of N ends when the clock is back at the slot
 //! for the first time.
-ghost use Rattle.std.specs.Prelude.{◌≡◌, ◌⊎◌, ◌<◌, ◌≤◌, ◌+◌, ◌%◌, [], IfOk, IfErr, OnErr, Some, None};
+ghost use Rattle.std.specs.Prelude.{◌≡◌, ◌⊎◌, ◌<◌, ◌≤◌, ◌+◌, ◌-◌, ◌%◌, [], IfOk, IfErr, OnErr, Some, None, MatchOption};
 ghost use Rattle.timer_base.specs.declared.limits.TheConstants.{LAST};
-ghost use Rattle.timer_base.specs.WheelState.{empty_wheel, first_due, timer_at, after_start, after_stop, after_tick, after_expiry, after_clear};
+ghost use Rattle.timer_base.specs.WheelState.{empty_wheel, first_due, timer_at, after_start, after_stop, after_tick, after_expiry, after_clear, after_restart, old_timer, Advances};
 ghost use Rattle.timer_wheels.specs.Hashed.{IsHashed, AreInBuckets, AreInBuckets-prop};
 ghost use Rattle.timer_wheels.specs.Making.{fault_of};
 
 use crate::buckets::Buckets;
 use crate::slot::slot_after;
-use crate::sweep::turn;
+use crate::sweep::{first_visit, turn};
 use std::alloc::Global;
 use timer_base::{Handle, LAST, MakeFault, OutOfMemory, Timer, Wheel};
 use timer_links::Links;
 
-/// The most slots that a hashed wheel may have.
-const MOST_SLOTS: usize = 65536;
+/// The greatest number of slots of a hashed wheel.
+pub const MOST_SLOTS: usize = 65536;
 
-/// A table of buckets with a count of rounds (Scheme 6).
+/// A table of buckets with a count of rounds (Scheme 6): a clock of 2^60 ticks.
+///
+/// At 2,147,483,648 timers, more than which its links cannot name, `start` returns out of memory though
+/// no allocation failed.
 #[derive(Drop)]
 pub struct HashedWheel {
     buckets: Buckets,
@@ -51,7 +54,8 @@ impl HashedWheel {
 
     /// A wheel with no timer, of 1 to 65,536 slots, at a first tick of at most `LAST`.
     ///
-    /// The number of slots is tested first, then the first tick, and then the memory is taken.
+    /// Refused, in this order: `Slots` where there are none or more than `MOST_SLOTS`; `FirstTick` above
+    /// `LAST`; `OutOfMemory`.
     pub fn new(alloc: Global, slots: usize, first_tick: u64) -> Result<HashedWheel, MakeFault>
         ensures ok { IfOk result (λ wheel. ⟦<HashedWheel as Wheel>⟧.state wheel ≡ empty_wheel LAST first_tick) }
         ensures slots { IfOk result (λ wheel. slots_of wheel ≡ slots) }
@@ -71,14 +75,14 @@ impl HashedWheel {
         Ok(HashedWheel { buckets, slot })
     }
 
-    /// How many slots there are. It takes no memory.
+    /// How many slots there are. Does not allocate.
     pub fn slots(&self) -> usize
         ensures { result ≡ slots_of self.now }
     {
         self.buckets.slots
     }
 
-    /// The buckets, and behind them the list of what is due. It takes no memory.
+    /// The buckets, and behind them the list of what is due. Does not allocate.
     ///
     /// List s, for s below the number N of slots, holds the pending timers with deadline mod N = s,
     /// by serial, each under its handle's place. List N holds the due ones, by serial.
@@ -120,7 +124,6 @@ impl Wheel for HashedWheel {
     }
 
     fn start(&mut self, timer: Timer) -> Result<Handle, OutOfMemory>
-        requires nothing_due { (state_of self.old.buckets).due ≡ [] }
         requires later { (state_of self.old.buckets).now < timer.deadline }
         requires deadline { timer.deadline ≤ (state_of self.old.buckets).last_tick }
         requires fresh { (state_of self.old.buckets).last_serial < timer.serial }
@@ -144,12 +147,29 @@ impl Wheel for HashedWheel {
     }
 
     fn stop(&mut self, handle: Handle) -> Option<Timer>
-        requires { (state_of self.old.buckets).due ≡ [] }
         ensures timer { result ≡ timer_at handle (state_of self.old.buckets) }
         ensures stopped { state_of self.new.buckets ≡ after_stop handle (state_of self.old.buckets) }
         ensures slots { slots_of self.new ≡ slots_of self.old }
     {
         self.buckets.stop(handle)
+    }
+
+    fn restart(&mut self, handle: Handle, timer: Timer) -> Option<(Handle, Timer)>
+        requires later { (state_of self.old.buckets).now < timer.deadline }
+        requires deadline { timer.deadline ≤ (state_of self.old.buckets).last_tick }
+        requires fresh { (state_of self.old.buckets).last_serial < timer.serial }
+        requires serial { timer.serial ≤ LAST }
+        ensures old { old_timer result ≡ timer_at handle (state_of self.old.buckets) }
+        ensures named { MatchOption result (Unit {0}) (λ r. r.0.serial ≡ timer.serial) }
+        ensures restarted { state_of self.new.buckets ≡ after_restart result handle timer (state_of self.old.buckets) }
+        ensures slots { slots_of self.new ≡ slots_of self.old }
+    {
+        let buckets = &mut self.buckets;
+        let rest = timer.deadline - buckets.tick - 1;
+        let rounds = rest / buckets.slots as u64;
+        let steps = (rest % buckets.slots as u64) as usize + 1;
+        let bucket = slot_after(self.slot, steps, buckets.slots);
+        buckets.restart(handle, bucket, timer, rounds)
     }
 
     fn per_tick(&mut self)
@@ -162,6 +182,27 @@ impl Wheel for HashedWheel {
         let slot = slot_after(self.slot, 1, buckets.slots);
         turn(buckets, slot);
         self.slot = slot;
+    }
+
+    fn advance(&mut self, most: u64) -> u64
+        requires nothing_due { (state_of self.old.buckets).due ≡ [] }
+        requires some { 0 < most }
+        requires before_last { most ≤ (state_of self.old.buckets).last_tick - (state_of self.old.buckets).now }
+        ensures advances { Advances most result (state_of self.old.buckets) (state_of self.new.buckets) }
+        ensures slots { slots_of self.new ≡ slots_of self.old }
+    {
+        for passed in 0..most {
+            self.per_tick();
+            if self.has_due() {
+                return passed + 1;
+            }
+        }
+        most
+    }
+
+    /// The tick of the first slot ahead that has a timer, due then or later. It looks at each slot before it.
+    fn quiet_until(&self) -> Option<u64> {
+        first_visit(&self.buckets, self.slot)
     }
 
     fn expire(&mut self) -> Option<Timer>
@@ -177,7 +218,6 @@ impl Wheel for HashedWheel {
     }
 
     fn clear(&mut self)
-        requires { (state_of self.old.buckets).due ≡ [] }
         ensures cleared { state_of self.new.buckets ≡ after_clear (state_of self.old.buckets) }
         ensures slots { slots_of self.new ≡ slots_of self.old }
     {

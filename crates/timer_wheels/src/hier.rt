@@ -1,21 +1,30 @@
 //! The hierarchical timing wheel: Scheme 7 of G. Varghese and T. Lauck, "Hashed and Hierarchical
 //! Timing Wheels", SOSP 1987.
 //!
-//! Ten wheels of 64 slots. Digit k of a tick t is (t div 64^k) mod 64.
+//! One body serves two tables of radices. Digit k of a tick t is t divided by the product of the lower
+//! radices, modulo radix k, and wheel k has a slot for each value of digit k.
 //!
-//!     wheel 9   [ 0 | 1 | 2 | .. | 63 ]   a slot is 64^9 ticks    lists 576 to 639
+//!     Wide: ticks 0 to 2^60 - 1
+//!     wheel 9   [ 0 | 1 | 2 | .. | 63 ]   a slot is 64^9 ticks     lists 576 to 639
 //!       ..
-//!     wheel 2   [ 0 | 1 | 2 | .. | 63 ]   a slot is 4096 ticks    lists 128 to 191
-//!     wheel 1   [ 0 | 1 | 2 | .. | 63 ]   a slot is 64 ticks      lists  64 to 127
-//!     wheel 0   [ 0 | 1 | 2 | .. | 63 ]   a slot is 1 tick        lists   0 to  63
-//!     due                                                         list  640
+//!     wheel 2   [ 0 | 1 | 2 | .. | 63 ]   a slot is 4,096 ticks    lists 128 to 191
+//!     wheel 1   [ 0 | 1 | 2 | .. | 63 ]   a slot is 64 ticks       lists  64 to 127
+//!     wheel 0   [ 0 | 1 | 2 | .. | 63 ]   a slot is 1 tick         lists   0 to  63
+//!     due                                                          list  640
+//!
+//!     Clock: ticks 0 to 8,639,999
+//!     days      [ 0 | 1 | 2 | .. | 99 ]   a slot is 86,400 ticks   lists 144 to 243
+//!     hours     [ 0 | 1 | 2 | .. | 23 ]   a slot is 3,600 ticks    lists 120 to 143
+//!     minutes   [ 0 | 1 | 2 | .. | 59 ]   a slot is 60 ticks       lists  60 to 119
+//!     seconds   [ 0 | 1 | 2 | .. | 59 ]   a slot is 1 tick         lists   0 to  59
+//!     due                                                          list  244
 //!
 //! A pending timer stands in wheel k, slot s, where k is the highest digit in which its deadline
 //! differs from now, and s is digit k of its deadline. A start puts it at the back of that bucket.
 //! A tick empties one bucket, of the tick's lowest digit that isn't zero: a timer whose deadline it
 //! is becomes due, and any other goes to the back of its bucket in a lower wheel.
 //!
-//! One timer, started at tick 0 for deadline 4161 = 1 * 4096 + 1 * 64 + 1:
+//! One timer of Wide, started at tick 0 for deadline 4161 = 1 * 4096 + 1 * 64 + 1:
 //!
 //!      now   digits 2 1 0   emptied           then the timer stands in
 //!        0          0 0 0                     wheel 2, slot 1
@@ -23,20 +32,35 @@
 //!     4160          1 1 0   wheel 1, slot 1   wheel 0, slot 1
 //!     4161          1 1 1   wheel 0, slot 1   the due list
 //!
-//! A timer may skip wheels: one for 4097 moves once, from wheel 2 to wheel 0. Slot 0 of a wheel stays
-//! empty, since at that wheel the deadline's digit is above that of now.
-ghost use Rattle.std.specs.Prelude.{◌≡◌, ◌+◌, ◌*◌, ◌<◌, ◌≤◌, ◌↔◌, ◌⊎◌, [], length, IsTrue, IfOk, IfErr, OnErr};
+//! And one of Clock, started at 11 days 10:24:30 for 11 days 11:15:15:
+//!
+//!         now   digits 3 2 1 0   emptied             then the timer stands in
+//!     987,870      11 10 24 30                       hours, slot 11
+//!     990,000      11 11  0  0   hours, slot 11      minutes, slot 15
+//!     990,900      11 11 15  0   minutes, slot 15    seconds, slot 15
+//!     990,915      11 11 15 15   seconds, slot 15    the due list
+//!
+//! A timer may skip wheels: in Wide one for 4097 moves once, from wheel 2 to wheel 0. Slot 0 of a wheel
+//! stays empty, since at that wheel the deadline's digit is above that of now.
+ghost use Rattle.std.specs.Prelude.{◌≡◌, ◌+◌, ◌-◌, ◌*◌, ◌<◌, ◌≤◌, ◌↔◌, ◌⊎◌, [], length, IsTrue, IfOk, IfErr, OnErr, MatchOption};
 ghost use Rattle.timer_base.specs.declared.limits.TheConstants.{LAST};
-ghost use Rattle.timer_base.specs.WheelState.{empty_wheel, timer_at, first_due, after_start, after_stop, after_tick, after_expiry, after_clear};
+ghost use Rattle.timer_base.specs.WheelState.{empty_wheel, timer_at, first_due, after_start, after_stop, after_tick, after_expiry, after_clear, after_restart, old_timer, Advances};
 ghost use Rattle.timer_wheels.specs.Buckets.{state_of, state_of-well_formed};
 ghost use Rattle.timer_wheels.specs.WheelLists.{EachRow, EachRow-prop};
-ghost use Rattle.timer_wheels.specs.Digits.{wide};
-ghost use Rattle.timer_wheels.specs.Placement.{IsPlaced, IsPlaced-prop, IsPaid, hops_of, bucket_at, no_rounds};
+ghost use Rattle.timer_wheels.specs.Digits.{slots, last_of, base};
+ghost use Rattle.timer_wheels.specs.Tables.{radices, last_of_table};
+ghost use Rattle.timer_wheels.specs.declared.table.Table.TheVariants.{Wide};
+ghost use Rattle.timer_wheels.specs.Occupied.{Tells, Tells-prop};
+ghost use Rattle.timer_wheels.specs.Placement.{IsPlaced, IsPlaced-prop, IsPaid, hops_of, bucket_at, no_rounds, visited_between, has_any, most_moves};
 ghost use Rattle.timer_wheels.specs.Shown.{ShowsBuckets};
 
 use crate::buckets::Buckets;
-use crate::digits::{BUCKETS, bucket_of};
+use crate::digits::{bucket_of, buckets_of, last_tick_of};
+use crate::leap::{first_stop, pass_ticks, visits_between};
 use crate::migration::next_tick;
+use crate::occupied::Occupied;
+use crate::stopping::{restart_timer, stop_timer};
+use crate::table::Table;
 use std::alloc::Global;
 use timer_base::{Handle, LAST, MakeFault, OutOfMemory, Timer, Wheel};
 use timer_links::Links;
@@ -44,45 +68,82 @@ use timer_links::Links;
 /// What a wheel did since it was made.
 #[derive(Clone, Copy, Drop)]
 struct Counts {
-    /// Timers that were started.
+    /// Timers that were started or restarted.
     starts: u64,
     /// Timers that were put into a lower wheel.
     moves: u64,
-    /// Buckets that were emptied.
+    /// Buckets that were emptied. Those known to be empty are counted without a look.
     visits: u64,
 }
 
-/// Ten wheels of 64 slots, whose timers go to lower wheels as the clock comes near their deadline.
+impl Counts {
+    /// Adds to the moves. Most ticks move nothing, and leave the word alone.
+    #[inline]
+    fn add_moves(&mut self, moves: u64)
+        requires { self.old.moves + moves < 18446744073709551616 }
+        ensures { self.new ≡ record self.old { moves = self.old.moves + moves } }
+    {
+        if moves > 0 {
+            self.moves += moves;
+        }
+    }
+}
+
+/// Wheels with the slots of a table, whose timers go to lower wheels as the clock comes near their deadline.
 ///
-/// A timer moves at most nine times, and keeps its place in the order of starting.
+/// A timer moves at most nine times in `Table::Wide` and three times in `Table::Clock`, and keeps its
+/// place in the order of starting. At 2,147,483,648 timers, more than which its links cannot name,
+/// `start` returns out of memory though no allocation failed.
 #[derive(Drop)]
 pub struct HierWheel {
+    table: Table,
     buckets: Buckets,
+    // Which buckets have a timer.
+    occupied: Occupied,
     counts: Counts,
-    ghost has_slots: { buckets.slots ≡ 640 },
-    ghost has_clock: { buckets.last_tick ≡ LAST },
+    ghost has_slots: { buckets.slots ≡ slots (radices table) },
+    ghost has_clock: { buckets.last_tick ≡ last_of (radices table) },
     // Each timer stands in its bucket.
-    ghost placed: { EachRow (IsPlaced wide buckets.tick) 640 buckets.links } by { EachRow-prop (IsPlaced wide buckets.tick) (IsPlaced-prop wide buckets.tick) 640 buckets.links },
+    ghost placed: { EachRow (IsPlaced (radices table) buckets.tick) buckets.slots buckets.links } by { EachRow-prop (IsPlaced (radices table) buckets.tick) (IsPlaced-prop (radices table) buckets.tick) buckets.slots buckets.links },
+    ghost told: { Tells buckets.slots occupied buckets.links } by { Tells-prop buckets.slots occupied buckets.links },
     ghost few_starts: { counts.starts ≤ buckets.last_serial },
     ghost few_visits: { counts.visits ≤ buckets.tick },
     // A start allows nine moves and each move lowers a level, so what is left to move is counted too.
-    ghost paid: { IsPaid wide counts.starts counts.moves buckets.tick (state_of buckets).pending },
+    ghost paid: { IsPaid (radices table) counts.starts counts.moves buckets.tick (state_of buckets).pending },
 }
 
 impl HierWheel {
-    /// An empty wheel at its first tick.
+    ghost use Rattle.timer_wheels.specs.HierWheel.{hier_state, table_of, counts_of, starts_of, moves_of, visits_of};
+
+    /// An empty hierarchy of ten wheels of 64 slots, a clock of 2^60 ticks, at its first tick.
     ///
     /// Refused, in this order: `FirstTick` above `LAST`; `OutOfMemory`.
     pub fn new(alloc: Global, first_tick: u64) -> Result<HierWheel, MakeFault>
-        ensures state { IfOk result (λ wheel. ⟦<HierWheel as Wheel>⟧.state wheel ≡ empty_wheel LAST first_tick) }
-        ensures counts { IfOk result (λ wheel. wheel.counts ≡ record { starts = 0; moves = 0; visits = 0 }) }
+        ensures state { IfOk result (λ wheel. hier_state wheel ≡ empty_wheel LAST first_tick) }
+        ensures counts { IfOk result (λ wheel. counts_of wheel ≡ record { starts = 0; moves = 0; visits = 0 }) }
+        ensures table { IfOk result (λ wheel. table_of wheel ≡ Wide) }
         ensures in_range { IfOk result (λ wheel. first_tick ≤ LAST) }
         ensures fault { IfErr result (λ fault. ((fault ≡ MakeFault.FirstTick) × (LAST < first_tick)) ⊎ ((fault ≡ MakeFault.OutOfMemory) × (first_tick ≤ LAST))) }
     {
-        if first_tick > LAST {
+        HierWheel::with_table(alloc, Table::Wide, first_tick)
+    }
+
+    /// An empty hierarchy at its first tick, whose wheels have the slots of the table.
+    ///
+    /// Refused, in this order: `FirstTick` above the table's last tick, which is `LAST` or
+    /// `LAST_OF_CLOCK`; `OutOfMemory`.
+    pub fn with_table(alloc: Global, table: Table, first_tick: u64) -> Result<HierWheel, MakeFault>
+        ensures state { IfOk result (λ wheel. hier_state wheel ≡ empty_wheel (last_of_table table) first_tick) }
+        ensures counts { IfOk result (λ wheel. counts_of wheel ≡ record { starts = 0; moves = 0; visits = 0 }) }
+        ensures table { IfOk result (λ wheel. table_of wheel ≡ table) }
+        ensures in_range { IfOk result (λ wheel. first_tick ≤ last_of_table table) }
+        ensures fault { IfErr result (λ fault. ((fault ≡ MakeFault.FirstTick) × (last_of_table table < first_tick)) ⊎ ((fault ≡ MakeFault.OutOfMemory) × (first_tick ≤ last_of_table table))) }
+    {
+        let last_tick = last_tick_of(table);
+        if first_tick > last_tick {
             return Err(MakeFault::FirstTick);
         }
-        let Ok(buckets) = Buckets::new(alloc, BUCKETS, LAST, first_tick) else {
+        let Ok(buckets) = Buckets::new(alloc, buckets_of(table), last_tick, first_tick) else {
             return Err(MakeFault::OutOfMemory);
         };
         let counts = Counts {
@@ -90,44 +151,59 @@ impl HierWheel {
             moves: 0,
             visits: 0,
         };
-        Ok(HierWheel { buckets, counts })
+        Ok(HierWheel {
+            table,
+            buckets,
+            occupied: Occupied::new(),
+            counts,
+        })
     }
 
-    /// The buckets: list `64 * k + s` is slot s of wheel k, and list 640 has the due timers.
+    /// The buckets, and behind them the list of the due timers, which is list 640 of `Table::Wide` and
+    /// list 244 of `Table::Clock`.
     ///
-    /// The timers of a bucket stand by serial, each under its handle's place, with rounds 0. It takes
-    /// no memory.
+    /// Slot s of wheel k is the list whose number is s more than the lower wheels have slots: `64 * k + s`
+    /// in `Table::Wide`. The timers of a bucket stand by serial, each under its handle's place, with
+    /// rounds 0. Does not allocate.
     pub fn links(&self) -> &Links
-        ensures { ShowsBuckets 640 (bucket_at wide (⟦<HierWheel as Wheel>⟧.state self.now).now) no_rounds (⟦<HierWheel as Wheel>⟧.state self.now) result.now }
+        ensures { ShowsBuckets (slots (radices (table_of self.now))) (bucket_at (radices (table_of self.now)) (hier_state self.now).now) no_rounds (hier_state self.now) result.now }
     {
         &self.buckets.links
     }
 
-    /// How many timers were started since the wheel was made. It takes no memory.
+    /// How many timers were started or restarted since the wheel was made. Does not allocate.
     pub fn starts(&self) -> u64
-        ensures { result ≡ self.now.counts.starts }
+        ensures { result ≡ starts_of self.now }
     {
         self.counts.starts
     }
 
-    /// How many times a timer was put into a lower wheel since the wheel was made. It takes no memory.
+    /// How many times a timer was put into a lower wheel since the wheel was made. Does not allocate.
     pub fn moves(&self) -> u64
-        ensures value { result ≡ self.now.counts.moves }
-        ensures at_most_nine { result ≤ 9 * self.now.counts.starts }
+        ensures value { result ≡ moves_of self.now }
+        ensures at_most { result ≤ most_moves (radices (table_of self.now)) * starts_of self.now }
     {
         self.counts.moves
     }
 
-    /// How many buckets were emptied since the wheel was made: one a tick. It takes no memory.
+    /// How many buckets were emptied since the wheel was made. Does not allocate.
+    ///
+    /// `per_tick` empties one. `advance` counts one at each multiple of the lowest wheel's slots that it
+    /// passes, and that of its last tick where something is due then: buckets emptied, and those known to
+    /// be empty are counted without a look.
     pub fn visits(&self) -> u64
-        ensures { result ≡ self.now.counts.visits }
+        ensures { result ≡ visits_of self.now }
     {
         self.counts.visits
     }
 }
 
+// A call that changes the wheel repeats the clauses of the trait, which its own would replace, and adds
+// what it counts and that the table stays.
 impl Wheel for HierWheel {
-    ghost state = { λ wheel. state_of wheel.buckets };
+    ghost use Rattle.timer_wheels.specs.HierWheel.{hier_state, table_of, counts_of, starts_of, moves_of, visits_of};
+
+    ghost state = { λ wheel. hier_state wheel };
 
     fn last_tick(&self) -> u64 {
         self.buckets.last_tick
@@ -150,19 +226,20 @@ impl Wheel for HierWheel {
     }
 
     fn start(&mut self, timer: Timer) -> Result<Handle, OutOfMemory>
-        requires nothing_due { (state_of self.old.buckets).due ≡ [] }
-        requires later { self.old.buckets.tick < timer.deadline }
-        requires deadline { timer.deadline ≤ self.old.buckets.last_tick }
-        requires fresh { self.old.buckets.last_serial < timer.serial }
+        requires later { (hier_state self.old).now < timer.deadline }
+        requires deadline { timer.deadline ≤ (hier_state self.old).last_tick }
+        requires fresh { (hier_state self.old).last_serial < timer.serial }
         requires serial { timer.serial ≤ LAST }
         ensures named { IfOk result (λ handle. handle.serial ≡ timer.serial) }
-        ensures started { IfOk result (λ handle. state_of self.new.buckets ≡ after_start handle.place timer (state_of self.old.buckets)) }
-        ensures err { OnErr result (state_of self.new.buckets ≡ state_of self.old.buckets) }
-        ensures counted { IfOk result (λ handle. self.new.counts ≡ record self.old.counts { starts = self.old.counts.starts + 1 }) }
-        ensures not_counted { OnErr result (self.new.counts ≡ self.old.counts) }
+        ensures started { IfOk result (λ handle. hier_state self.new ≡ after_start handle.place timer (hier_state self.old)) }
+        ensures err { OnErr result (hier_state self.new ≡ hier_state self.old) }
+        ensures counted { IfOk result (λ handle. counts_of self.new ≡ record (counts_of self.old) { starts = starts_of self.old + 1 }) }
+        ensures not_counted { OnErr result (counts_of self.new ≡ counts_of self.old) }
+        ensures table { table_of self.new ≡ table_of self.old }
     {
-        let list = bucket_of(self.buckets.tick, timer.deadline);
+        let list = bucket_of(self.table, self.buckets.tick, timer.deadline);
         let handle = self.buckets.start(list, timer, 0)?;
+        self.occupied.insert(list);
         let counts = &mut self.counts;
         counts.starts += 1;
         Ok(handle)
@@ -173,30 +250,78 @@ impl Wheel for HierWheel {
     }
 
     fn stop(&mut self, handle: Handle) -> Option<Timer>
-        requires { (state_of self.old.buckets).due ≡ [] }
-        ensures timer { result ≡ timer_at handle (state_of self.old.buckets) }
-        ensures stopped { state_of self.new.buckets ≡ after_stop handle (state_of self.old.buckets) }
-        ensures counts { self.new.counts ≡ self.old.counts }
+        ensures timer { result ≡ timer_at handle (hier_state self.old) }
+        ensures stopped { hier_state self.new ≡ after_stop handle (hier_state self.old) }
+        ensures counts { counts_of self.new ≡ counts_of self.old }
+        ensures table { table_of self.new ≡ table_of self.old }
     {
-        self.buckets.stop(handle)
+        stop_timer(self.table, &mut self.buckets, &mut self.occupied, handle)
+    }
+
+    fn restart(&mut self, handle: Handle, timer: Timer) -> Option<(Handle, Timer)>
+        requires later { (hier_state self.old).now < timer.deadline }
+        requires deadline { timer.deadline ≤ (hier_state self.old).last_tick }
+        requires fresh { (hier_state self.old).last_serial < timer.serial }
+        requires serial { timer.serial ≤ LAST }
+        ensures old { old_timer result ≡ timer_at handle (hier_state self.old) }
+        ensures named { MatchOption result (Unit {0}) (λ r. r.0.serial ≡ timer.serial) }
+        ensures restarted { hier_state self.new ≡ after_restart result handle timer (hier_state self.old) }
+        ensures counted { MatchOption result (counts_of self.new ≡ counts_of self.old) (λ r. counts_of self.new ≡ record (counts_of self.old) { starts = starts_of self.old + 1 }) }
+        ensures table { table_of self.new ≡ table_of self.old }
+    {
+        let restarted = restart_timer(
+            self.table,
+            &mut self.buckets,
+            &mut self.occupied,
+            handle,
+            timer,
+        )?;
+        let counts = &mut self.counts;
+        counts.starts += 1;
+        Some(restarted)
     }
 
     fn per_tick(&mut self)
-        requires nothing_due { (state_of self.old.buckets).due ≡ [] }
-        requires before_last { self.old.buckets.tick < self.old.buckets.last_tick }
-        ensures ticked { state_of self.new.buckets ≡ after_tick (state_of self.old.buckets) }
-        ensures counted { self.new.counts ≡ record self.old.counts { moves = self.old.counts.moves + hops_of wide self.old.buckets.tick 1 (state_of self.old.buckets).pending; visits = self.old.counts.visits + 1 } }
+        requires nothing_due { (hier_state self.old).due ≡ [] }
+        requires before_last { (hier_state self.old).now < (hier_state self.old).last_tick }
+        ensures ticked { hier_state self.new ≡ after_tick (hier_state self.old) }
+        ensures counted { counts_of self.new ≡ record (counts_of self.old) { moves = moves_of self.old + hops_of (radices (table_of self.old)) (hier_state self.old).now 1 (hier_state self.old).pending; visits = visits_of self.old + 1 } }
+        ensures table { table_of self.new ≡ table_of self.old }
     {
-        let moves = next_tick(&mut self.buckets);
+        let moves = next_tick(self.table, &mut self.buckets, &mut self.occupied);
         let counts = &mut self.counts;
-        counts.moves += moves;
+        counts.add_moves(moves);
         counts.visits += 1;
     }
 
+    fn advance(&mut self, most: u64) -> u64
+        requires nothing_due { (hier_state self.old).due ≡ [] }
+        requires some { 0 < most }
+        requires before_last { most ≤ (hier_state self.old).last_tick - (hier_state self.old).now }
+        ensures advances { Advances most result (hier_state self.old) (hier_state self.new) }
+        ensures counted { counts_of self.new ≡ record (counts_of self.old) { moves = moves_of self.old + hops_of (radices (table_of self.old)) (hier_state self.old).now result (hier_state self.old).pending; visits = visits_of self.old + visited_between (base (radices (table_of self.old))) (hier_state self.old).now (hier_state self.new).now (has_any (hier_state self.new).due) } }
+        ensures table { table_of self.new ≡ table_of self.old }
+    {
+        let first = self.buckets.tick;
+        let moves = pass_ticks(self.table, &mut self.buckets, &mut self.occupied, most);
+        let last = self.buckets.tick;
+        let visits = visits_between(self.table, first, last, self.buckets.has_due());
+        let counts = &mut self.counts;
+        counts.moves += moves;
+        counts.visits += visits;
+        last - first
+    }
+
+    /// The next tick at which a bucket with a timer is emptied: a timer is due then, or moves to a lower wheel.
+    fn quiet_until(&self) -> Option<u64> {
+        first_stop(self.table, &self.buckets, &self.occupied)
+    }
+
     fn expire(&mut self) -> Option<Timer>
-        ensures first { result ≡ first_due (state_of self.old.buckets) }
-        ensures rest { state_of self.new.buckets ≡ after_expiry (state_of self.old.buckets) }
-        ensures counts { self.new.counts ≡ self.old.counts }
+        ensures first { result ≡ first_due (hier_state self.old) }
+        ensures rest { hier_state self.new ≡ after_expiry (hier_state self.old) }
+        ensures counts { counts_of self.new ≡ counts_of self.old }
+        ensures table { table_of self.new ≡ table_of self.old }
     {
         self.buckets.expire()
     }
@@ -206,11 +331,12 @@ impl Wheel for HierWheel {
     }
 
     fn clear(&mut self)
-        requires { (state_of self.old.buckets).due ≡ [] }
-        ensures cleared { state_of self.new.buckets ≡ after_clear (state_of self.old.buckets) }
-        ensures counts { self.new.counts ≡ self.old.counts }
+        ensures cleared { hier_state self.new ≡ after_clear (hier_state self.old) }
+        ensures counts { counts_of self.new ≡ counts_of self.old }
+        ensures table { table_of self.new ≡ table_of self.old }
     {
         self.buckets.clear();
+        self.occupied = Occupied::new();
     }
 
     ghost well_formed = { λ wheel. state_of-well_formed wheel.buckets };

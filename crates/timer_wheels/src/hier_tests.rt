@@ -1,304 +1,300 @@
-//! Worked examples of the hierarchy of wheels: where each timer stands, tick by tick, and the counts.
-ghost use Rattle.std.specs.Prelude.{◌≡◌, ◌<◌, [], length};
-
-use crate::HierWheel;
+//! Where the timers of a hierarchy of wheels stand, as the pictures show them, and the counts.
+use crate::testing::{advance, expire, has_serials, start, tick_until};
+use crate::{HierWheel, Table};
 use std::process::Abort;
 use std::test::Fail;
-use timer_base::{Handle, LAST, MakeFault, OutOfMemory, Timer, Wheel};
-use timer_links::Links;
+use timer_base::{LAST, MakeFault, OutOfMemory, Wheel};
 
-/// The list of the due timers.
-const DUE: usize = 640;
-
-/// Goes on only where nothing is due.
-fn settle<W: Wheel>(rt: &impl Abort, wheel: &W)
-    ensures { (W.state wheel.now).due ≡ [] }
-{
-    assert!(rt; !wheel.has_due());
+/// One step of a picture. Serials are counted from 1.
+#[derive(Clone, Copy, Drop)]
+enum Step {
+    /// Starts the next timer, with this deadline.
+    Start(u64),
+    /// Goes on to the tick, and nothing is due before it.
+    Until(u64),
+    /// In this wheel and slot stand the timers with these serials, and no others are pending.
+    In(usize, usize, &'static [u64]),
+    /// The timers with these serials are due, and are taken.
+    Due(&'static [u64]),
 }
 
-/// A timer of client 7, whose request number is its serial and whose action is 99.
-fn timer(serial: u64, deadline: u64) -> Timer
-    ensures { result ≡ record { serial = serial; client = 7; number = serial; deadline = deadline; action = 99 } }
-{
-    Timer {
-        serial,
-        client: 7,
-        number: serial,
-        deadline,
-        action: 99,
-    }
+/// A name, the table, the first tick, the steps, and then starts, moves and visits.
+type Picture = (
+    &'static str,
+    Table,
+    u64,
+    &'static [Step],
+    (u64, u64, u64),
+);
+
+const PICTURES: [Picture; 11] = [
+    (
+        "rollover",
+        Table::Wide,
+        0,
+        &[
+            Step::Start(4096),
+            Step::In(2, 1, &[1]),
+            Step::Until(4090),
+            Step::Start(4096),
+            Step::In(2, 1, &[1, 2]),
+            Step::Until(4095),
+            Step::Start(4096),
+            Step::In(2, 1, &[1, 2, 3]),
+            Step::Until(4096),
+            Step::Due(&[1, 2, 3]),
+        ],
+        (3, 0, 4096),
+    ),
+    (
+        "migration",
+        Table::Wide,
+        0,
+        &[
+            Step::Start(130),
+            Step::In(1, 2, &[1]),
+            Step::Until(64),
+            Step::In(1, 2, &[1]),
+            Step::Until(128),
+            Step::In(0, 2, &[1]),
+            Step::Start(130),
+            Step::In(0, 2, &[1, 2]),
+            Step::Until(130),
+            Step::Due(&[1, 2]),
+        ],
+        (2, 1, 130),
+    ),
+    (
+        "clock_face",
+        Table::Wide,
+        987870,
+        &[
+            Step::Start(990915),
+            Step::In(1, 59, &[1]),
+            Step::Until(990911),
+            Step::In(1, 59, &[1]),
+            Step::Until(990912),
+            Step::In(0, 3, &[1]),
+            Step::Until(990915),
+            Step::Due(&[1]),
+        ],
+        (1, 1, 3045),
+    ),
+    // Hour 11, then minute 15, then second 15.
+    (
+        "clock_face",
+        Table::Clock,
+        987870,
+        &[
+            Step::Start(990915),
+            Step::In(2, 11, &[1]),
+            Step::Until(989999),
+            Step::In(2, 11, &[1]),
+            Step::Until(990000),
+            Step::In(1, 15, &[1]),
+            Step::Until(990899),
+            Step::In(1, 15, &[1]),
+            Step::Until(990900),
+            Step::In(0, 15, &[1]),
+            Step::Until(990915),
+            Step::Due(&[1]),
+        ],
+        (1, 2, 3045),
+    ),
+    (
+        "two_moves",
+        Table::Wide,
+        0,
+        &[
+            Step::Start(4161),
+            Step::In(2, 1, &[1]),
+            Step::Until(4096),
+            Step::In(1, 1, &[1]),
+            Step::Until(4160),
+            Step::In(0, 1, &[1]),
+            Step::Until(4161),
+            Step::Due(&[1]),
+        ],
+        (1, 2, 4161),
+    ),
+    (
+        "a timer that skips a wheel",
+        Table::Wide,
+        0,
+        &[
+            Step::Start(4097),
+            Step::In(2, 1, &[1]),
+            Step::Until(4096),
+            Step::In(0, 1, &[1]),
+            Step::Until(4097),
+            Step::Due(&[1]),
+        ],
+        (1, 1, 4097),
+    ),
+    (
+        "spread",
+        Table::Wide,
+        0,
+        &[
+            Step::Start(3661),
+            Step::Until(3600),
+            Step::Start(3661),
+            Step::In(1, 57, &[1, 2]),
+            Step::Until(3648),
+            Step::In(0, 13, &[1, 2]),
+            Step::Until(3661),
+            Step::Due(&[1, 2]),
+        ],
+        (2, 2, 3661),
+    ),
+    (
+        "spread",
+        Table::Clock,
+        0,
+        &[
+            Step::Start(3661),
+            Step::In(2, 1, &[1]),
+            Step::Until(3600),
+            Step::In(1, 1, &[1]),
+            Step::Start(3661),
+            Step::In(1, 1, &[1, 2]),
+            Step::Until(3660),
+            Step::In(0, 1, &[1, 2]),
+            Step::Until(3661),
+            Step::Due(&[1, 2]),
+        ],
+        (2, 3, 3661),
+    ),
+    (
+        "clock_day",
+        Table::Clock,
+        86399,
+        &[
+            Step::Start(86400),
+            Step::In(3, 1, &[1]),
+            Step::Until(86400),
+            Step::Due(&[1]),
+        ],
+        (1, 0, 1),
+    ),
+    (
+        "clock_end",
+        Table::Wide,
+        1152921504606846974,
+        &[
+            Step::Start(1152921504606846975),
+            Step::In(0, 63, &[1]),
+            Step::Until(1152921504606846975),
+            Step::Due(&[1]),
+        ],
+        (1, 0, 1),
+    ),
+    (
+        "clock_too_late",
+        Table::Clock,
+        8639990,
+        &[
+            Step::Start(8639999),
+            Step::In(0, 59, &[1]),
+            Step::Until(8639999),
+            Step::Due(&[1]),
+        ],
+        (1, 0, 9),
+    ),
+];
+
+/// The list of a slot of a wheel: the slots of the lower wheels come before it.
+fn list_of(rt: &impl Abort, table: Table, level: usize, slot: usize) -> usize {
+    assert!(rt; level < 10 && slot < 100);
+    let before = match (table, level) {
+        (Table::Wide, _) => 64 * level,
+        (Table::Clock, 0) => 0,
+        (Table::Clock, 1) => 60,
+        (Table::Clock, 2) => 120,
+        (Table::Clock, _) => 144,
+    };
+    before + slot
 }
 
-fn start<W: Wheel>(
-    rt: &impl Abort,
-    wheel: &mut W,
-    serial: u64,
-    deadline: u64,
-) -> Result<Handle, OutOfMemory> {
-    settle(rt, wheel);
-    assert!(rt; wheel.now() < deadline);
-    assert!(rt; deadline <= wheel.last_tick());
-    assert!(rt; wheel.last_serial() < serial);
-    assert!(rt; serial <= LAST);
-    wheel.start(timer(serial, deadline))
-}
-
-fn look<W: Wheel>(rt: &impl Abort, wheel: &W, handle: Handle) -> Option<Timer> {
-    settle(rt, wheel);
-    wheel.look(handle)
-}
-
-fn stop<W: Wheel>(rt: &impl Abort, wheel: &mut W, handle: Handle) -> Option<Timer> {
-    settle(rt, wheel);
-    wheel.stop(handle)
-}
-
-/// Goes on to the tick. Nothing is due before it.
-fn tick_until<W: Wheel>(rt: &impl Abort, wheel: &mut W, tick: u64) {
-    for _ in wheel.now()..tick {
-        settle(rt, wheel);
-        assert!(rt; wheel.now() < wheel.last_tick());
-        wheel.per_tick();
-    }
-}
-
-/// The list of slot `slot` of wheel `level`.
-fn list_of(rt: &impl Abort, level: usize, slot: usize) -> usize
-    ensures { result < 640 }
-{
-    assert!(rt; level < 10);
-    assert!(rt; slot < 64);
-    64 * level + slot
-}
-
-/// Whether the timers of a list have these serials, from its front.
-fn has_serials(links: &Links, list: usize, serials: &[u64]) -> bool
-    requires { list < length links.now }
-{
-    let mut at = links.front(list);
-    for serial in serials {
-        let Some(key) = at else {
-            return false;
-        };
-        let Some(node) = links.get(key) else {
-            return false;
-        };
-        if node.timer.serial != *serial || node.rounds != 0 {
-            return false;
+fn see(rt: &impl Abort, picture: Picture, wheel: &mut HierWheel) -> Result<(), OutOfMemory> {
+    let (name, table, _, steps, counts) = picture;
+    for step in steps {
+        match *step {
+            Step::Start(deadline) => {
+                start(rt, wheel, deadline)?;
+            }
+            Step::Until(tick) => tick_until(rt, wheel, tick),
+            Step::In(level, slot, serials) => {
+                let list = list_of(rt, table, level, slot);
+                assert!(rt;
+                    has_serials(rt, wheel.links(), list, serials),
+                    "{name}: not in ({level}, {slot}) at tick {}",
+                    wheel.now()
+                );
+                assert_eq!(rt; wheel.len(), serials.len());
+            }
+            Step::Due(serials) => expire(rt, wheel, serials),
         }
-        at = links.next(key);
     }
-    at.is_none()
-}
-
-/// Sees that the only pending timers are these, in this order, in slot `slot` of wheel `level`.
-fn stand_in(rt: &impl Abort, wheel: &HierWheel, level: usize, slot: usize, serials: &[u64]) {
-    assert!(rt;
-        has_serials(wheel.links(), list_of(rt, level, slot), serials),
-        "not in ({level}, {slot})"
-    );
-    assert_eq!(rt; wheel.len(), serials.len());
-}
-
-/// Takes the due timers, whose serials are these.
-fn expire(rt: &impl Abort, wheel: &mut HierWheel, serials: &[u64]) {
-    assert!(rt; has_serials(wheel.links(), DUE, serials));
-    for serial in serials {
-        let Some(timer) = wheel.expire() else {
-            panic!(rt; "nothing is due");
-        };
-        assert_eq!(rt; timer.serial, *serial);
-        assert_eq!(rt; timer.deadline, wheel.now());
-    }
-    assert_eq!(rt; wheel.expire(), None);
+    assert_eq!(rt; (wheel.starts(), wheel.moves(), wheel.visits()), counts, "{name}");
+    Ok(())
 }
 
 #[test]
-fn starts_stops_and_expires(rt: HostRuntime) -> Result<(), Fail> {
+fn each_timer_stands_where_the_pictures_show_it(rt: HostRuntime) -> Result<(), Fail> {
+    for picture in PICTURES {
+        let (_, table, first_tick, _, _) = picture;
+        let mut wheel = HierWheel::with_table(rt.alloc(), table, first_tick)?;
+        see(&rt, picture, &mut wheel)?;
+    }
+    Ok(())
+}
+
+#[test]
+fn many_ticks_stop_at_the_first_due_timer(rt: HostRuntime) -> Result<(), Fail> {
     let mut wheel = HierWheel::new(rt.alloc(), 0)?;
-    let first = start(&rt, &mut wheel, 1, 2)?;
-    let second = start(&rt, &mut wheel, 2, 1)?;
-    assert_eq!(rt; wheel.len(), 2);
-    assert_eq!(rt; look(&rt, &wheel, second), Some(timer(2, 1)));
-    settle(&rt, &wheel);
-    assert_eq!(rt;
-        wheel.list()?.as_slice(),
-        [timer(2, 1), timer(1, 2)].as_slice()
-    );
+    for deadline in [5, 64, 64, 4161] {
+        start(&rt, &mut wheel, deadline)?;
+    }
+    let calls: [(u64, u64, &[u64]); 4] =
+        [(10, 5, &[1]), (100, 59, &[2, 3]), (4096, 4096, &[]), (1, 1, &[4])];
+    for (most, passed, due) in calls {
+        assert_eq!(rt; advance(&rt, &mut wheel, most), passed);
+        expire(&rt, &mut wheel, due);
+    }
+    assert_eq!(rt; (wheel.now(), wheel.moves(), wheel.visits()), (4161, 2, 67));
+    Ok(())
+}
 
-    assert_eq!(rt; stop(&rt, &mut wheel, first), Some(timer(1, 2)));
-    assert_eq!(rt; stop(&rt, &mut wheel, first), None);
-    stand_in(&rt, &wheel, 0, 1, &[2]);
+#[test]
+fn the_clock_face_needs_few_visits(rt: HostRuntime) -> Result<(), Fail> {
+    let mut wheel = HierWheel::new(rt.alloc(), 987870)?;
+    start(&rt, &mut wheel, 990915)?;
+    assert_eq!(rt; advance(&rt, &mut wheel, 3045), 3045);
+    assert_eq!(rt; (wheel.moves(), wheel.visits()), (1, 49));
 
-    tick_until(&rt, &mut wheel, 1);
+    let mut wheel = HierWheel::with_table(rt.alloc(), Table::Clock, 987870)?;
+    start(&rt, &mut wheel, 990915)?;
+    for (tick, moves) in [(989999, 0), (990000, 1), (990899, 1), (990900, 2), (990915, 2)] {
+        assert!(rt; wheel.now() < tick);
+        let ticks = tick - wheel.now();
+        assert_eq!(rt; advance(&rt, &mut wheel, ticks), ticks);
+        assert_eq!(rt; wheel.moves(), moves, "at tick {tick}");
+    }
     assert!(rt; wheel.has_due());
-    assert_eq!(rt; wheel.len(), 0);
-    expire(&rt, &mut wheel, &[2]);
-
-    start(&rt, &mut wheel, 3, 4)?;
-    settle(&rt, &wheel);
-    wheel.clear();
-    assert_eq!(rt; wheel.len(), 0);
-    assert_eq!(rt; wheel.now(), 1);
-    assert_eq!(rt; wheel.last_serial(), 3);
-    assert_eq!(rt; wheel.last_tick(), LAST);
-    assert_eq!(rt; (wheel.starts(), wheel.moves(), wheel.visits()), (3, 0, 1));
     Ok(())
 }
 
 #[test]
 fn a_first_tick_past_the_last_one_is_refused(rt: HostRuntime) -> Result<(), Fail> {
-    assert_eq!(rt;
-        HierWheel::new(rt.alloc(), LAST + 1).err(),
-        Some(MakeFault::FirstTick)
-    );
-    assert_eq!(rt; HierWheel::new(rt.alloc(), LAST)?.now(), LAST);
-    Ok(())
-}
-
-#[test]
-fn a_used_place_does_not_let_an_old_handle_stop(rt: HostRuntime) -> Result<(), Fail> {
-    let mut wheel = HierWheel::new(rt.alloc(), 0)?;
-    let old = start(&rt, &mut wheel, 1, 5)?;
-    assert_eq!(rt; stop(&rt, &mut wheel, old), Some(timer(1, 5)));
-    let new = start(&rt, &mut wheel, 2, 5)?;
-    assert!(rt; new.place < 1000);
-    let stale = [
-        Handle {
-            place: new.place,
-            serial: 1,
-        },
-        Handle {
-            place: new.place + 1,
-            serial: 2,
-        },
-    ];
-    for handle in stale {
-        assert_eq!(rt; look(&rt, &wheel, handle), None, "looked at {handle:?}");
-        assert_eq!(rt; stop(&rt, &mut wheel, handle), None, "stopped {handle:?}");
+    for (table, last) in [(Table::Wide, LAST), (Table::Clock, 8639999)] {
+        assert_eq!(rt;
+            HierWheel::with_table(rt.alloc(), table, last + 1).err(),
+            Some(MakeFault::FirstTick)
+        );
+        let wheel = HierWheel::with_table(rt.alloc(), table, last)?;
+        assert_eq!(rt; (wheel.now(), wheel.last_tick()), (last, last));
     }
-    tick_until(&rt, &mut wheel, 5);
-    expire(&rt, &mut wheel, &[2]);
-    Ok(())
-}
-
-#[test]
-fn a_timer_due_at_the_rollover_tick_is_not_moved(rt: HostRuntime) -> Result<(), Fail> {
-    let mut wheel = HierWheel::new(rt.alloc(), 0)?;
-    start(&rt, &mut wheel, 1, 4096)?;
-    stand_in(&rt, &wheel, 2, 1, &[1]);
-    tick_until(&rt, &mut wheel, 4090);
-    start(&rt, &mut wheel, 2, 4096)?;
-    stand_in(&rt, &wheel, 2, 1, &[1, 2]);
-    tick_until(&rt, &mut wheel, 4095);
-    start(&rt, &mut wheel, 3, 4096)?;
-    stand_in(&rt, &wheel, 2, 1, &[1, 2, 3]);
-    tick_until(&rt, &mut wheel, 4096);
-    expire(&rt, &mut wheel, &[1, 2, 3]);
-    assert_eq!(rt;
-        (wheel.starts(), wheel.moves(), wheel.visits()),
-        (3, 0, 4096)
-    );
-    Ok(())
-}
-
-#[test]
-fn a_timer_started_later_stands_behind_one_that_moved(rt: HostRuntime) -> Result<(), Fail> {
-    let mut wheel = HierWheel::new(rt.alloc(), 0)?;
-    start(&rt, &mut wheel, 1, 130)?;
-    stand_in(&rt, &wheel, 1, 2, &[1]);
-    tick_until(&rt, &mut wheel, 64);
-    stand_in(&rt, &wheel, 1, 2, &[1]);
-    tick_until(&rt, &mut wheel, 128);
-    stand_in(&rt, &wheel, 0, 2, &[1]);
-    start(&rt, &mut wheel, 2, 130)?;
-    stand_in(&rt, &wheel, 0, 2, &[1, 2]);
-    tick_until(&rt, &mut wheel, 130);
-    expire(&rt, &mut wheel, &[1, 2]);
-    assert_eq!(rt;
-        (wheel.starts(), wheel.moves(), wheel.visits()),
-        (2, 1, 130)
-    );
-    Ok(())
-}
-
-#[test]
-fn the_clock_face_of_the_paper_moves_its_timer_once(rt: HostRuntime) -> Result<(), Fail> {
-    let mut wheel = HierWheel::new(rt.alloc(), 987870)?;
-    start(&rt, &mut wheel, 1, 990915)?;
-    stand_in(&rt, &wheel, 1, 59, &[1]);
-    tick_until(&rt, &mut wheel, 990911);
-    stand_in(&rt, &wheel, 1, 59, &[1]);
-    tick_until(&rt, &mut wheel, 990912);
-    stand_in(&rt, &wheel, 0, 3, &[1]);
-    tick_until(&rt, &mut wheel, 990915);
-    expire(&rt, &mut wheel, &[1]);
-    assert_eq!(rt;
-        (wheel.starts(), wheel.moves(), wheel.visits()),
-        (1, 1, 3045)
-    );
-    Ok(())
-}
-
-#[test]
-fn timers_that_move_keep_their_order_of_starting(rt: HostRuntime) -> Result<(), Fail> {
-    let mut wheel = HierWheel::new(rt.alloc(), 0)?;
-    start(&rt, &mut wheel, 1, 3661)?;
-    tick_until(&rt, &mut wheel, 3600);
-    start(&rt, &mut wheel, 2, 3661)?;
-    stand_in(&rt, &wheel, 1, 57, &[1, 2]);
-    tick_until(&rt, &mut wheel, 3648);
-    stand_in(&rt, &wheel, 0, 13, &[1, 2]);
-    tick_until(&rt, &mut wheel, 3661);
-    expire(&rt, &mut wheel, &[1, 2]);
-    assert_eq!(rt;
-        (wheel.starts(), wheel.moves(), wheel.visits()),
-        (2, 2, 3661)
-    );
-    Ok(())
-}
-
-#[test]
-fn a_timer_moves_through_two_lower_wheels(rt: HostRuntime) -> Result<(), Fail> {
-    let mut wheel = HierWheel::new(rt.alloc(), 0)?;
-    start(&rt, &mut wheel, 1, 4161)?;
-    stand_in(&rt, &wheel, 2, 1, &[1]);
-    tick_until(&rt, &mut wheel, 4096);
-    stand_in(&rt, &wheel, 1, 1, &[1]);
-    tick_until(&rt, &mut wheel, 4160);
-    stand_in(&rt, &wheel, 0, 1, &[1]);
-    tick_until(&rt, &mut wheel, 4161);
-    expire(&rt, &mut wheel, &[1]);
-    assert_eq!(rt;
-        (wheel.starts(), wheel.moves(), wheel.visits()),
-        (1, 2, 4161)
-    );
-    Ok(())
-}
-
-#[test]
-fn a_timer_skips_a_wheel_that_it_does_not_need(rt: HostRuntime) -> Result<(), Fail> {
-    let mut wheel = HierWheel::new(rt.alloc(), 0)?;
-    start(&rt, &mut wheel, 1, 4097)?;
-    stand_in(&rt, &wheel, 2, 1, &[1]);
-    tick_until(&rt, &mut wheel, 4096);
-    stand_in(&rt, &wheel, 0, 1, &[1]);
-    assert_eq!(rt; wheel.moves(), 1);
-    tick_until(&rt, &mut wheel, 4097);
-    expire(&rt, &mut wheel, &[1]);
-    assert_eq!(rt; wheel.moves(), 1);
-    Ok(())
-}
-
-#[test]
-fn the_clock_goes_to_its_last_tick(rt: HostRuntime) -> Result<(), Fail> {
-    let mut wheel = HierWheel::new(rt.alloc(), LAST - 1)?;
-    start(&rt, &mut wheel, 1, LAST)?;
-    stand_in(&rt, &wheel, 0, 63, &[1]);
-    tick_until(&rt, &mut wheel, LAST);
-    expire(&rt, &mut wheel, &[1]);
-    assert_eq!(rt; (wheel.starts(), wheel.moves(), wheel.visits()), (1, 0, 1));
-    assert_eq!(rt; wheel.now(), wheel.last_tick());
+    assert_eq!(rt; HierWheel::new(rt.alloc(), LAST + 1).err(), Some(MakeFault::FirstTick));
     Ok(())
 }

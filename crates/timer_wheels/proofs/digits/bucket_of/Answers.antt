@@ -1,10 +1,17 @@
-use Rattle.std.proofs.Common.{◌+◌, ◌*◌, ℕ, ap, ◌∙◌}
-use Rattle.timer_wheels.specs.Digits.{wide, digit, slot}
-use Rattle.timer_wheels.proofs.Wide.{slot_by_product}
+use Rattle.std.proofs.Common.{sym}
+use Rattle.timer_wheels.specs.Digits.{slots, last_of}
+use Rattle.timer_wheels.specs.Tables.{radices}
+use Rattle.timer_wheels.proofs.TableLaws.{wide_last, clock_last, wide_slots, clock_slots, at_most, below}
 use Rattle.timer_wheels.proofs.digits.bucket_of.Goals as goal
 
-pub returns-clause-value : goal.returns-clause-value
-returns-clause-value c =
-    ap (λ (x : ℕ). 64 * c.level_of-level.result + x) c.digit_of.ensures.value
-    ∙ (slot_by_product c.level_of-level.result (digit wide c.level_of-level.result c.args.deadline) c.level_of-level.ensures.in_range
-    ∙ ap (λ (x : ℕ). slot wide x (digit wide x c.args.deadline)) c.level_of-level.ensures.value)
+pub wide_bucket-requires-clause-deadline : goal.wide_bucket-requires-clause-deadline
+wide_bucket-requires-clause-deadline c = at_most c.args.deadline (last_of (radices c.args.table)) 1152921504606846975 (wide_last c.args.table c.in-Wide.is) c.requires.deadline
+
+pub returns-in-Wide-clause-in_range : goal.returns-in-Wide-clause-in_range
+returns-in-Wide-clause-in_range c = below c.wide_bucket.result 640 (slots (radices c.args.table)) (sym (wide_slots c.args.table c.in-Wide.is)) c.wide_bucket.ensures.in_range
+
+pub clock_bucket-requires-clause-deadline : goal.clock_bucket-requires-clause-deadline
+clock_bucket-requires-clause-deadline c = at_most c.args.deadline (last_of (radices c.args.table)) 8639999 (clock_last c.args.table c.in-Clock.is) c.requires.deadline
+
+pub returns-in-Clock-clause-in_range : goal.returns-in-Clock-clause-in_range
+returns-in-Clock-clause-in_range c = below c.clock_bucket.result 244 (slots (radices c.args.table)) (sym (clock_slots c.args.table c.in-Clock.is)) c.clock_bucket.ensures.in_range

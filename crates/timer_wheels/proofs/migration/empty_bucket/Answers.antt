@@ -1,13 +1,27 @@
-use Rattle.std.proofs.Common.{ℕ, List, length, sym, ◌∙◌, ap}
+use Rattle.std.proofs.Common.{◌<◌, ◌≤◌, ℕ, List, length, sym, ◌∙◌, ap, arith}
 use Rattle.timer_links.specs.declared.node.Node.{Node}
 use Rattle.timer_links.specs.Lists.{list_at}
-use Rattle.timer_wheels.proofs.EmptyingLemmas.{migrated_wide, none_left_over}
+use Rattle.timer_wheels.specs.Digits.{slots, base}
+use Rattle.timer_wheels.specs.Tables.{radices}
+use Rattle.timer_wheels.proofs.EmptyingLemmas.{append_whole, none_left_over}
+use Rattle.timer_wheels.proofs.TableLaws.{of_table, below}
 use Rattle.timer_wheels.proofs.migration.empty_bucket.Goals as goal
 
-pub returns-then-list-lt-RADIX-clause-migrated : goal.returns-then-list-lt-RADIX-clause-migrated
-returns-then-list-lt-RADIX-clause-migrated c =
-    c.append.ensures ∙ migrated_wide c.args.tick c.args.list c.args.links.now c.requires.lists c.requires.list (c.requires.lowest c.if-list-lt-RADIX.true)
+in_word : (l n : ℕ) → l < n → n ≤ 640 → l < 640
+in_word l n a b = omega arith
 
-pub returns-then-list-lt-RADIX-clause-moves : goal.returns-then-list-lt-RADIX-clause-moves
-returns-then-list-lt-RADIX-clause-moves c =
-    ap (λ (y : List (ℕ × Node)). length y) (sym (none_left_over c.args.tick (list_at c.args.list c.args.links.now) (c.requires.lowest c.if-list-lt-RADIX.true)))
+pub has-requires : goal.has-requires
+has-requires c = in_word c.args.list (slots (radices c.args.table)) c.requires.list (of_table c.args.table).few_slots
+
+pub remove-requires : goal.remove-requires
+remove-requires c = in_word c.args.list (slots (radices c.args.table)) c.requires.list (of_table c.args.table).few_slots
+
+pub returns-then-list-lowest_slots-clause-migrated : goal.returns-then-list-lowest_slots-clause-migrated
+returns-then-list-lowest_slots-clause-migrated c =
+    c.append.ensures ∙ append_whole (radices c.args.table) c.buckets_of.result c.args.tick c.args.list c.args.links.now c.buckets_of.ensures.value c.requires.lists c.requires.list
+    (c.requires.lowest (below c.args.list c.lowest_slots.result (base (radices c.args.table)) c.lowest_slots.ensures.value c.if-list-lowest_slots.true))
+
+pub returns-then-list-lowest_slots-clause-moves : goal.returns-then-list-lowest_slots-clause-moves
+returns-then-list-lowest_slots-clause-moves c =
+    ap (λ (y : List (ℕ × Node)). length y) (sym (none_left_over c.args.tick (list_at c.args.list c.args.links.now)
+    (c.requires.lowest (below c.args.list c.lowest_slots.result (base (radices c.args.table)) c.lowest_slots.ensures.value c.if-list-lowest_slots.true))))

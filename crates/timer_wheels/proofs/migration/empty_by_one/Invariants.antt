@@ -1,6 +1,13 @@
-use Rattle.timer_wheels.specs.Digits.{wide}
+use Rattle.std.proofs.Common.{◌≡◌}
+use Rattle.timer_wheels.specs.Digits.{slots}
+use Rattle.timer_wheels.specs.Tables.{radices}
+use Rattle.timer_wheels.specs.Occupied.{bit_of, TellsBut}
 use Rattle.timer_wheels.proofs.EmptyingLemmas.{IsEmptying}
 use Rattle.timer_wheels.proofs.migration.empty_by_one.Given as goal
 
 abbrev pub invariant-loop-step : goal.invariant-loop-step
-invariant-loop-step l = IsEmptying wide l.list l.tick l.step l.moves l.initial.links l.links
+invariant-loop-step l = record {
+  emptying : IsEmptying (radices l.table) l.list l.tick l.step l.moves l.initial.links l.links;
+  clear : bit_of l.occupied l.list ≡ 0;
+  told : TellsBut (slots (radices l.table)) l.list l.occupied l.links;
+}

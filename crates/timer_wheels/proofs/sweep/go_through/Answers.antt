@@ -7,8 +7,8 @@ use Rattle.timer_wheels.proofs.sweep.go_through.Goals as goal
 pub loop-step-init : goal.loop-step-init
 loop-step-init c = begun c.args.bucket c.args.due c.args.links.now c.front-at.result c.front-at.ensures
 
-pub next-at-requires : goal.next-at-requires
-next-at-requires c =
+pub step-here-requires : goal.step-here-requires
+step-here-requires c =
     let s = c.loop-step in
     let w = next_row c.args.bucket c.args.due s.step c.args.links.now s.links s.at c.in-Some.key s.invariant c.in-Some.is in
     in_use c.args.bucket c.args.due s.step c.args.links.now s.links c.requires.other c.requires.bucket c.requires.due c.in-Some.key w c.keys_are_apart.ensures
@@ -23,8 +23,8 @@ pub loop-step-preserved : goal.loop-step-preserved
 loop-step-preserved c =
     let s = c.loop-step in
     let w = next_row c.args.bucket c.args.due s.step c.args.links.now s.links s.at c.in-Some.key s.invariant c.in-Some.is in
-    passed c.args.bucket c.args.due s.step c.args.links.now s.links c.requires.other c.requires.bucket c.requires.due c.in-Some.key w c.pass.new.links c.next-at.result c.keys_are_apart.ensures c.pass.ensures.due c.pass.ensures.later
-    (c.next-at.ensures c.args.bucket (due_later w.past) w.node w.rest (in_range c.args.bucket c.args.due s.step c.args.links.now s.links c.requires.other c.requires.bucket c.requires.due c.in-Some.key w) (standing c.args.bucket c.args.due s.step c.args.links.now s.links c.requires.other c.requires.bucket c.requires.due c.in-Some.key w))
+    passed c.args.bucket c.args.due s.step c.args.links.now s.links c.requires.other c.requires.bucket c.requires.due c.in-Some.key w c.pass.new.links c.step-here.result.next c.keys_are_apart.ensures c.pass.ensures.due c.pass.ensures.later
+    (c.step-here.ensures.next c.args.bucket (due_later w.past) w.node w.rest (in_range c.args.bucket c.args.due s.step c.args.links.now s.links c.requires.other c.requires.bucket c.requires.due c.in-Some.key w) (standing c.args.bucket c.args.due s.step c.args.links.now s.links c.requires.other c.requires.bucket c.requires.due c.in-Some.key w))
 
 pub returns-after-loop-step : goal.returns-after-loop-step
 returns-after-loop-step c =

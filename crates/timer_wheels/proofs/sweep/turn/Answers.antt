@@ -1,8 +1,10 @@
 use Rattle.std.proofs.Common.{◌≡◌, ◌+◌, ◌%◌, ℕ, List, length, ◌∙◌, ap}
 use Rattle.timer_links.specs.declared.node.Node.{Node}
 use Rattle.timer_links.specs.Lists.{list_at}
+use Rattle.timer_base.specs.WheelState.{WheelState}
+use Rattle.timer_wheels.specs.Buckets.{state_of}
 use Rattle.timer_wheels.specs.Swept.{swept}
-use Rattle.timer_wheels.proofs.WheelLemmas.{no_rows}
+use Rattle.timer_wheels.proofs.WheelLemmas.{no_rows, due_past}
 use Rattle.timer_wheels.proofs.HashedTicks.{length-swept, ticked, ticked-pending, ticked-distinct, ticked-in_order, ticked-in_buckets}
 use Rattle.timer_wheels.proofs.sweep.turn.Goals as goal
 
@@ -32,6 +34,13 @@ invariant_of-buckets-clause-in_order c =
     let b = c.args.buckets.now in
     rw (gone_through b.slots b.tick c.args.slot b.links c.go_through.new.links c.go_through.ensures c.requires.slot)
     (ticked-in_order b.slots b.last_tick b.tick b.last_serial b.links c.requires.has_slots b.has_lists b.pending c.requires.in_buckets (no_rows (list_at b.slots b.links) c.requires.nothing_due) b.in_order)
+
+pub invariant_of-buckets-clause-past : goal.invariant_of-buckets-clause-past
+invariant_of-buckets-clause-past c =
+    let b = c.args.buckets.now in
+    rw (gone_through b.slots b.tick c.args.slot b.links c.go_through.new.links c.go_through.ensures c.requires.slot)
+    (due_past (b.tick + 1) (state_of b).pending (list_at b.slots (swept ((b.tick + 1) % b.slots) b.slots b.links))
+    (ap (λ (w : WheelState). w.due) (ticked b.slots b.last_tick b.tick b.last_serial b.links c.requires.has_slots b.has_lists b.pending c.requires.in_buckets (no_rows (list_at b.slots b.links) c.requires.nothing_due) b.in_order)))
 
 pub returns-clause-ticked : goal.returns-clause-ticked
 returns-clause-ticked c =

@@ -27,12 +27,12 @@ overflow_sub-self c =
     omega arith
 
 pub invariant_of-self-clause-rising : goal.invariant_of-self-clause-rising
-invariant_of-self-clause-rising c = rw c.drop_serial.ensures (AreRising-filter _ 0 c.args.self.now.timers.items c.args.self.now.rising)
+invariant_of-self-clause-rising c = rw c.drop_serial.ensures.items (AreRising-filter _ 0 c.args.self.now.timers.items c.args.self.now.rising)
 
 pub invariant_of-self-clause-kept : goal.invariant_of-self-clause-kept
 invariant_of-self-clause-kept c =
     let s = c.args.self.now in
-    rw c.drop_serial.ensures (All-filter (IsKept s.now s.last_serial) (IsKept s.now s.last_serial) _ s.timers.items (λ x e k. k) s.kept)
+    rw c.drop_serial.ensures.items (All-filter (IsKept s.now s.last_serial) (IsKept s.now s.last_serial) _ s.timers.items (λ x e k. k) s.kept)
 
 pub invariant_of-self-clause-counted : goal.invariant_of-self-clause-counted
 invariant_of-self-clause-counted c =
@@ -40,7 +40,7 @@ invariant_of-self-clause-counted c =
     let seen : c.find_due.result ≡ find (is_due_at s.now) s.timers.items = c.find_due.ensures ∙ ap (find (is_due_at s.now)) c.as_slice.ensures.value in
     let counted : s.due ≡ due_count s.now s.timers.items = s.counted in
     let rest = due_count-after_expiry s.now s.timers.items c.in_ok-first.first (sym seen ∙ c.in_ok-first.was) s.rising in
-    rw c.drop_serial.ensures (omega arith)
+    rw c.drop_serial.ensures.items (omega arith)
 
 pub returns-clause-first : goal.returns-clause-first
 returns-clause-first c =
@@ -52,4 +52,4 @@ pub returns-clause-rest : goal.returns-clause-rest
 returns-clause-rest c =
     let s = c.args.self.now in
     let seen : c.find_due.result ≡ find (is_due_at s.now) s.timers.items = c.find_due.ensures ∙ ap (find (is_due_at s.now)) c.as_slice.ensures.value in
-    rw c.drop_serial.ensures (plain_state-after_expiry s.now s.last_serial s.timers.items c.in_ok-first.first (sym seen ∙ c.in_ok-first.was) s.rising)
+    rw c.drop_serial.ensures.items (plain_state-after_expiry s.now s.last_serial s.timers.items c.in_ok-first.first (sym seen ∙ c.in_ok-first.was) s.rising)

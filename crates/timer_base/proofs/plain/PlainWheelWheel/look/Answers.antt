@@ -1,9 +1,7 @@
 use Rattle.std.proofs.Common.{sym, ◌∙◌, ap}
 use Rattle.std.specs.Prelude.{find, filter}
 use Rattle.timer_base.specs.Order.{in_order, itself}
-use Rattle.timer_base.specs.Pending.{has_serial}
-use Rattle.timer_base.specs.PlainState.{is_after}
-use Rattle.timer_base.proofs.PlainSteps.{all_after}
+use Rattle.timer_base.specs.PlainState.{is_after, is_pending_with}
 use Rattle.timer_base.proofs.PlainLooks.{no_place, look_here}
 use Rattle.timer_base.proofs.plain.PlainWheelWheel.look.Goals as goal
 
@@ -15,5 +13,5 @@ returns-then-handle-ne0 c =
 pub returns : goal.returns
 returns c =
     let s = c.args.self.now in
-    c.find_serial.ensures ∙ ap (find (has_serial c.args.handle.serial)) c.as_slice.ensures.value
-    ∙ look_here s.now s.last_serial s.timers.items c.args.handle s.rising (all_after s.now s.last_serial s.timers.items s.kept c.requires) c.if-handle-ne0.false
+    c.find_pending.ensures ∙ ap (find (is_pending_with s.now c.args.handle.serial)) c.as_slice.ensures.value
+    ∙ look_here s.now s.last_serial s.timers.items c.args.handle s.rising c.if-handle-ne0.false

@@ -4,7 +4,7 @@ use Rattle.timer_links.specs.declared.node.Node.{Node}
 use Rattle.timer_links.specs.Lists.{list_at, with_row}
 use Rattle.timer_wheels.specs.WheelLists.{timer_in}
 use Rattle.timer_wheels.proofs.RowLemmas.{all-list_at}
-use Rattle.timer_wheels.proofs.WheelLemmas.{started, started-pending, started-distinct, in_order-with_row, AreBelow-pending}
+use Rattle.timer_wheels.proofs.WheelLemmas.{started, started-pending, started-distinct, past-with_row, in_order-with_row, AreBelow-pending}
 use Rattle.timer_wheels.proofs.buckets.Buckets.start.Goals as goal
 
 length-with_row : (l : ℕ) (row : ℕ × Node) (lists : List (List (ℕ × Node))) → length (with_row l row lists) ≡ length lists
@@ -27,6 +27,11 @@ pub invariant_of-self-2-clause-distinct : goal.invariant_of-self-2-clause-distin
 invariant_of-self-2-clause-distinct c =
     let b = c.args.self.now in
     rw c.in-Ok.ensures.pushed (started-distinct b.slots b.last_tick b.tick b.last_serial c.args.bucket c.in-Ok.place (record { timer = c.args.timer; rounds = c.args.rounds }) b.links c.requires.bucket (in_range b.slots c.args.bucket b.links c.requires.bucket b.has_lists) c.requires.fresh b.pending b.distinct)
+
+pub invariant_of-self-2-clause-past : goal.invariant_of-self-2-clause-past
+invariant_of-self-2-clause-past c =
+    let b = c.args.self.now in
+    rw c.in-Ok.ensures.pushed (past-with_row b.tick b.slots c.args.bucket (c.in-Ok.place, record { timer = c.args.timer; rounds = c.args.rounds }) b.links c.requires.bucket b.past)
 
 pub invariant_of-self-2-clause-in_order : goal.invariant_of-self-2-clause-in_order
 invariant_of-self-2-clause-in_order c =

@@ -1,0 +1,43 @@
+use Rattle.std.proofs.Common.{◌+◌, ℕ, List, length, sym, ◌∙◌, ap}
+use Rattle.std.proofs.lemmas.List.{length-map}
+use Rattle.timer_links.specs.declared.node.Node.{Node}
+use Rattle.timer_links.specs.Lists.{without_key}
+use Rattle.timer_wheels.proofs.WheelLemmas.{parted, past-without_key, look-has, stop-found, stopped-pending, stopped-distinct, stopped-in_order}
+use Rattle.timer_wheels.proofs.Stands.{is_used}
+use Rattle.timer_wheels.proofs.buckets.Buckets.take.Goals as goal
+
+pub invariant_of-self-clause-has_lists : goal.invariant_of-self-clause-has_lists
+invariant_of-self-clause-has_lists c =
+    let b = c.args.self.now in
+    ap (λ (y : List (List (ℕ × Node))). length y) c.take-taken.ensures.taken ∙ (length-map b.links (without_key c.args.handle.place) ∙ b.has_lists)
+
+pub invariant_of-self-clause-pending : goal.invariant_of-self-clause-pending
+invariant_of-self-clause-pending c =
+    let b = c.args.self.now in
+    rw c.take-taken.ensures.taken (stopped-pending b.slots b.last_tick b.tick b.last_serial c.args.handle.place b.links b.pending)
+
+pub invariant_of-self-clause-distinct : goal.invariant_of-self-clause-distinct
+invariant_of-self-clause-distinct c =
+    let b = c.args.self.now in
+    rw c.take-taken.ensures.taken (stopped-distinct b.slots c.args.handle.place b.links b.distinct)
+
+pub invariant_of-self-clause-past : goal.invariant_of-self-clause-past
+invariant_of-self-clause-past c =
+    let b = c.args.self.now in
+    rw c.take-taken.ensures.taken (past-without_key b.tick b.slots c.args.handle.place b.links b.past)
+
+pub invariant_of-self-clause-in_order : goal.invariant_of-self-clause-in_order
+invariant_of-self-clause-in_order c =
+    let b = c.args.self.now in
+    rw c.take-taken.ensures.taken (stopped-in_order (b.slots + 1) c.args.handle.place b.links b.in_order)
+
+pub returns-clause-stopped : goal.returns-clause-stopped
+returns-clause-stopped c =
+    let b = c.args.self.now in
+    stop-found b.tick b.slots c.args.handle b.links b.has_lists (parted b.last_tick b.tick b.last_serial b.slots b.links b.pending b.past) c.keys_are_apart.ensures b.last_tick b.last_serial c.in_ok-timer.timer c.take-taken.new.self b.distinct (sym c.look.ensures ∙ c.in_ok-timer.was) c.take-taken.ensures.taken
+
+pub take-taken-requires : goal.take-taken-requires
+take-taken-requires c =
+    let b = c.args.self.now in
+    let f = look-has b.tick b.slots c.args.handle b.links b.has_lists (parted b.last_tick b.tick b.last_serial b.slots b.links b.pending b.past) c.keys_are_apart.ensures c.in_ok-timer.timer b.distinct (sym c.look.ensures ∙ c.in_ok-timer.was) in
+    is_used c.args.handle.place f.node b.links f.at

@@ -1,0 +1,42 @@
+-- A bit for each bucket, which tells whether it has rows.
+use Rattle.std.specs.Prelude.{◌≡◌, ◌≢◌, ℕ, ◌<◌, ◌≤◌, ◌/◌, ◌%◌, List, [], ◌∷◌, Option, Some, None, slice_index_or}
+use Rattle.std.specs.Int.{bit_at}
+use Rattle.std.specs.Coded.{Π_prop, ×_prop}
+use Rattle.std.proofs.Math.Nat.{ℕ_set}
+use Rattle.timer_links.specs.declared.node.Node.{Node}
+use Rattle.timer_links.specs.Lists.{list_at}
+
+-- the bit of list s
+abbrev pub bit_of : List ℕ → ℕ → ℕ
+bit_of words s = bit_at (slice_index_or words (s / 64) 0) (s % 64)
+
+-- the first list whose bit is set, if one is
+abbrev pub IsFirstSet : List ℕ → Option ℕ → Type 0
+IsFirstSet words None = (s : ℕ) → s < 640 → bit_of words s ≡ 0
+IsFirstSet words (Some l) = (l < 640) × (bit_of words l ≡ 1) × ((s : ℕ) → s < l → bit_of words s ≡ 0)
+
+-- the lowest bit of a word that is set
+pub record IsLowestSet (word bit : ℕ) : Type 0 where
+  pub in_range : bit < 64
+  pub is_set : bit_at word bit ≡ 1
+  pub below : (i : ℕ) → i < bit → bit_at word i ≡ 0
+
+-- 1 where there are rows
+abbrev pub filled : List (ℕ × Node) → ℕ
+filled [] = 0
+filled (row ∷ rows) = 1
+
+-- no bit is set from this one on
+abbrev pub IsClearFrom : ℕ → List ℕ → Type 0
+IsClearFrom n words = (s : ℕ) → n ≤ s → s < 640 → bit_of words s ≡ 0
+
+-- each bit of the first n lists tells whether its list has rows, and no other is set
+abbrev pub Tells : ℕ → List ℕ → List (List (ℕ × Node)) → Type 0
+Tells n words lists = ((s : ℕ) → s < n → bit_of words s ≡ filled (list_at s lists)) × IsClearFrom n words
+
+-- the same but for the bit of one list
+abbrev pub TellsBut : ℕ → ℕ → List ℕ → List (List (ℕ × Node)) → Type 0
+TellsBut n l words lists = ((s : ℕ) → s < n → s ≢ l → bit_of words s ≡ filled (list_at s lists)) × IsClearFrom n words
+
+pub Tells-prop : (n : ℕ) (words : List ℕ) (lists : List (List (ℕ × Node))) → IsProp (Tells n words lists)
+Tells-prop n words lists = ×_prop (Π_prop (λ s. Π_prop (λ b. ℕ_set (bit_of words s) (filled (list_at s lists))))) (Π_prop (λ s. Π_prop (λ a. Π_prop (λ b. ℕ_set (bit_of words s) 0))))

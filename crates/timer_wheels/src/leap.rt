@@ -1,0 +1,130 @@
+//! Many ticks of a hierarchy of wheels, without a look at those at which nothing happens.
+//!
+//! A bucket with a timer is emptied next at the tick that has the bucket's digit in place of now's, and
+//! zeros below it. The first of these ticks is that of the first bucket with a timer. Up to it nothing
+//! moves and nothing is due, so the clock alone goes on.
+ghost use Rattle.std.specs.Prelude.{◌≡◌, ◌+◌, ◌-◌, ◌*◌, ◌<◌, ◌≤◌, ℕ, [], MatchOption};
+ghost use Rattle.timer_base.specs.declared.limits.TheConstants.{LAST};
+ghost use Rattle.timer_base.specs.WakeUps.{IsQuietUntil};
+ghost use Rattle.timer_base.specs.WheelState.{Advances};
+ghost use Rattle.timer_wheels.specs.Digits.{base, last_of, slots};
+ghost use Rattle.timer_wheels.specs.Tables.{radices};
+ghost use Rattle.timer_wheels.specs.Placement.{IsPlaced, levels_of, visited_between};
+ghost use Rattle.timer_wheels.specs.Buckets.{state_of};
+ghost use Rattle.timer_wheels.specs.Leaps.{AreNotBefore, Leaps};
+ghost use Rattle.timer_wheels.specs.Hier.{IsHier};
+ghost use Rattle.timer_wheels.specs.WheelLists.{EachRow};
+
+use crate::buckets::Buckets;
+use crate::digits::{lowest_slots, stop_of};
+use crate::migration::next_tick;
+use crate::occupied::Occupied;
+use crate::table::Table;
+
+/// Passes ticks up to the first at which something is due, and at most so many.
+///
+/// Returns how many timers went to a lower wheel. Does not allocate.
+pub fn pass_ticks(table: Table, buckets: &mut Buckets, occupied: &mut Occupied, most: u64) -> u64
+    requires hier { IsHier table buckets.old occupied.old }
+    requires nothing_due { (state_of buckets.old).due ≡ [] }
+    requires some { 0 < most }
+    requires before_last { most ≤ buckets.old.last_tick - buckets.old.tick }
+    requires few { levels_of (radices table) buckets.old.tick (state_of buckets.old).pending ≤ 9 * LAST }
+    ensures hier { IsHier table buckets.new occupied.new }
+    ensures leaps { Leaps (radices table) result (state_of buckets.old) (state_of buckets.new) }
+    ensures advances { Advances most (buckets.new.tick - buckets.old.tick) (state_of buckets.old) (state_of buckets.new) }
+{
+    let end = buckets.tick + most;
+    let mut moves = 0;
+    while buckets.tick < end {
+        moves += leap(table, buckets, occupied, end);
+        if buckets.has_due() {
+            return moves;
+        }
+    }
+    moves
+}
+
+/// Goes on to the next tick that empties a bucket with a timer, or to the end where that comes first.
+fn leap(table: Table, buckets: &mut Buckets, occupied: &mut Occupied, end: u64) -> u64
+    requires hier { IsHier table buckets.old occupied.old }
+    requires nothing_due { (state_of buckets.old).due ≡ [] }
+    requires before_end { buckets.old.tick < end }
+    requires end { end ≤ buckets.old.last_tick }
+    ensures hier { IsHier table buckets.new occupied.new }
+    ensures leaps { Leaps (radices table) result (state_of buckets.old) (state_of buckets.new) }
+    ensures later { buckets.old.tick < buckets.new.tick }
+    ensures end { buckets.new.tick ≤ end }
+{
+    let stop = next_stop(table, buckets, occupied, end);
+    if end < stop {
+        wait_until(table, buckets, occupied, end);
+        0
+    } else {
+        wait_until(table, buckets, occupied, stop - 1);
+        next_tick(table, buckets, occupied)
+    }
+}
+
+/// The next tick that empties a bucket with a timer, or the one after the end where there is none.
+fn next_stop(table: Table, buckets: &Buckets, occupied: &Occupied, end: u64) -> u64
+    requires hier { IsHier table buckets.now occupied.now }
+    requires before_end { buckets.now.tick < end }
+    requires end { end ≤ buckets.now.last_tick }
+    ensures later { buckets.now.tick < result }
+    ensures not_before { AreNotBefore (radices table) buckets.now.slots buckets.now.tick result buckets.now.links }
+{
+    match first_stop(table, buckets, occupied) {
+        Some(stop) => stop,
+        None => end + 1,
+    }
+}
+
+/// The next tick that empties a bucket with a timer, or None where no bucket has one.
+#[inline]
+pub fn first_stop(table: Table, buckets: &Buckets, occupied: &Occupied) -> Option<u64>
+    requires { IsHier table buckets.now occupied.now }
+    ensures quiet { IsQuietUntil result (state_of buckets.now) }
+    ensures not_before { MatchOption result ((stop : ℕ) → AreNotBefore (radices table) buckets.now.slots buckets.now.tick stop buckets.now.links) (λ stop. AreNotBefore (radices table) buckets.now.slots buckets.now.tick stop buckets.now.links) }
+{
+    match occupied.first() {
+        Some(list) => Some(stop_of(table, list, buckets.tick)),
+        None => None,
+    }
+}
+
+/// Lets the clock go on, where no bucket with a timer is emptied.
+fn wait_until(table: Table, buckets: &mut Buckets, occupied: &Occupied, tick: u64)
+    requires hier { IsHier table buckets.old occupied.now }
+    requires nothing_due { (state_of buckets.old).due ≡ [] }
+    requires later { buckets.old.tick ≤ tick }
+    requires in_range { tick ≤ buckets.old.last_tick }
+    requires not_before { AreNotBefore (radices table) buckets.old.slots buckets.old.tick (tick + 1) buckets.old.links }
+    ensures leaps { Leaps (radices table) 0 (state_of buckets.old) (state_of buckets.new) }
+    ensures hier { IsHier table buckets.new occupied.now }
+    ensures tick { buckets.new.tick ≡ tick }
+    ensures last_tick { buckets.new.last_tick ≡ buckets.old.last_tick }
+    ensures nothing_due { (state_of buckets.new).due ≡ [] }
+{
+    buckets.tick = tick;
+}
+
+/// How many buckets the ticks behind the first up to the last empty: one at each multiple of the lowest
+/// wheel's slots, and
+/// that of the last tick where something is due then.
+///
+/// An empty bucket counts without a look at it, since emptying it changes nothing.
+pub fn visits_between(table: Table, first: u64, last: u64, due: bool) -> u64
+    requires later { first < last }
+    requires range { last ≤ LAST }
+    ensures value { result ≡ visited_between (base (radices table)) first last due }
+    ensures few { result ≤ last - first }
+{
+    let slots = lowest_slots(table) as u64;
+    let multiples = last / slots - first / slots;
+    if due && last % slots != 0 {
+        multiples + 1
+    } else {
+        multiples
+    }
+}

@@ -1,0 +1,120 @@
+//! Which buckets of a hierarchy of wheels have a timer: a bit for each of them.
+//!
+//!     word 0   bit s: slot s of wheel 0 has a timer     lists   0 to  63
+//!     word 1   bit s: slot s of wheel 1 has a timer     lists  64 to 127
+//!       ..
+//!
+//! The lowest bit that is set is that of the bucket that the clock empties next, of those with a timer:
+//! a lower wheel comes before a higher one, and in a wheel the slots come in turn.
+ghost use Rattle.std.specs.Prelude.{◌≡◌, ◌≢◌, ◌<◌, ℕ, List, length, true, false, MatchOption};
+ghost use Rattle.timer_wheels.specs.TakenOut.{Clears};
+ghost use Rattle.timer_wheels.specs.Occupied.{bit_of, IsFirstSet, IsLowestSet, filled};
+ghost use Rattle.timer_links.specs.Lists.{list_at};
+
+use std::marker::Model;
+use timer_links::Links;
+
+/// A bit for each of 640 buckets.
+#[derive(Drop)]
+pub struct Occupied {
+    words: [u64; 10],
+}
+
+impl Model for Occupied {
+    ghost Value = { List ℕ };
+
+    ghost view = { λ o. o.words };
+
+    ghost invariant = { λ o. length o.words ≡ 10 };
+}
+
+impl Occupied {
+    /// No bit is set.
+    #[inline]
+    pub fn new() -> Occupied
+        ensures { (s : ℕ) → bit_of result s ≡ 0 }
+    {
+        Occupied { words: [0; 10] }
+    }
+
+    /// Whether a bucket's bit is set.
+    #[inline]
+    pub fn has(&self, list: usize) -> bool
+        requires { list < 640 }
+        ensures yes { result ≡ true → bit_of self.now list ≡ 1 }
+        ensures no { result ≡ false → bit_of self.now list ≡ 0 }
+    {
+        self.words[list / 64] >> (list % 64) & 1 == 1
+    }
+
+    /// Sets a bucket's bit.
+    #[inline]
+    pub fn insert(&mut self, list: usize)
+        requires { list < 640 }
+        ensures here { bit_of self.new list ≡ 1 }
+        ensures others { (s : ℕ) → s ≢ list → bit_of self.new s ≡ bit_of self.old s }
+    {
+        let word = list / 64;
+        self.words[word] = self.words[word] | 1 << (list % 64);
+    }
+
+    /// Clears a bucket's bit.
+    #[inline]
+    pub fn remove(&mut self, list: usize)
+        requires { list < 640 }
+        ensures here { bit_of self.new list ≡ 0 }
+        ensures others { (s : ℕ) → s ≢ list → bit_of self.new s ≡ bit_of self.old s }
+    {
+        let word = list / 64;
+        self.words[word] = self.words[word] & !(1 << (list % 64));
+    }
+
+    /// The first bucket whose bit is set.
+    #[inline]
+    pub fn first(&self) -> Option<usize>
+        ensures { IsFirstSet self.now result }
+    {
+        for k in 0..10 {
+            let word = self.words[k];
+            if word != 0 {
+                return Some(64 * k + lowest_bit(word));
+            }
+        }
+        None
+    }
+}
+
+/// The place of the lowest bit that is set.
+#[inline]
+fn lowest_bit(word: u64) -> usize
+    requires { word ≢ 0 }
+    ensures { IsLowestSet word result }
+{
+    word.trailing_zeros() as usize
+}
+
+/// Clears the bit of a bucket where no timer is left in it.
+#[inline]
+pub fn look_again(links: &Links, occupied: &mut Occupied, list: usize)
+    requires list { list < 640 }
+    requires lists { list < length links.now }
+    requires was { bit_of occupied.old list ≡ 1 }
+    ensures empty { filled (list_at list links.now) ≡ 0 → bit_of occupied.new list ≡ 0 }
+    ensures kept { filled (list_at list links.now) ≡ 1 → bit_of occupied.new list ≡ 1 }
+    ensures others { (s : ℕ) → s ≢ list → bit_of occupied.new s ≡ bit_of occupied.old s }
+{
+    if links.front(list).is_none() {
+        occupied.remove(list);
+    }
+}
+
+/// Clears the bit of a bucket that was emptied, if one was.
+#[inline]
+pub fn clear_emptied(occupied: &mut Occupied, emptied: Option<usize>)
+    requires { MatchOption emptied (Unit {0}) (λ list. list < 640) }
+    ensures { Clears emptied occupied.old occupied.new }
+{
+    if let Some(list) = emptied {
+        occupied.remove(list);
+    }
+}

@@ -1,0 +1,62 @@
+//! A stop and a restart in a hierarchy of wheels.
+ghost use Rattle.std.specs.Prelude.{◌≡◌, ◌<◌, ◌≤◌, [], MatchOption};
+ghost use Rattle.timer_base.specs.declared.limits.TheConstants.{LAST};
+ghost use Rattle.timer_base.specs.WheelState.{after_stop, after_restart, old_timer, timer_at};
+ghost use Rattle.timer_wheels.specs.Buckets.{state_of, IsSameFrame};
+ghost use Rattle.timer_wheels.specs.Hier.{IsHier};
+
+use crate::buckets::Buckets;
+use crate::digits::bucket_of;
+use crate::occupied::{Occupied, clear_emptied, look_again};
+use crate::table::Table;
+use timer_base::{Handle, Timer};
+
+/// Takes away the pending timer with just this handle, and clears its bucket's bit where it was the
+/// last one there. Does not allocate.
+#[inline]
+pub fn stop_timer(
+    table: Table,
+    buckets: &mut Buckets,
+    occupied: &mut Occupied,
+    handle: Handle,
+) -> Option<Timer>
+    requires hier { IsHier table buckets.old occupied.old }
+    ensures timer { result ≡ timer_at handle (state_of buckets.old) }
+    ensures stopped { state_of buckets.new ≡ after_stop handle (state_of buckets.old) }
+    ensures hier { IsHier table buckets.new occupied.new }
+    ensures frame { IsSameFrame buckets.old buckets.new }
+{
+    buckets.links.keys_are_apart();
+    let (timer, emptied) = buckets.take(handle)?;
+    clear_emptied(occupied, emptied);
+    Some(timer)
+}
+
+/// Takes away the pending timer with just this handle, and starts another at its place. The bits are
+/// those of what stands in the buckets then. Does not allocate.
+pub fn restart_timer(
+    table: Table,
+    buckets: &mut Buckets,
+    occupied: &mut Occupied,
+    handle: Handle,
+    timer: Timer,
+) -> Option<(Handle, Timer)>
+    requires hier { IsHier table buckets.old occupied.old }
+    requires later { buckets.old.tick < timer.deadline }
+    requires deadline { timer.deadline ≤ buckets.old.last_tick }
+    requires fresh { buckets.old.last_serial < timer.serial }
+    requires serial { timer.serial ≤ LAST }
+    ensures old { old_timer result ≡ timer_at handle (state_of buckets.old) }
+    ensures named { MatchOption result (Unit {0}) (λ r. r.0.serial ≡ timer.serial) }
+    ensures restarted { state_of buckets.new ≡ after_restart result handle timer (state_of buckets.old) }
+    ensures hier { IsHier table buckets.new occupied.new }
+    ensures frame { IsSameFrame buckets.old buckets.new }
+{
+    buckets.links.keys_are_apart();
+    let list = bucket_of(table, buckets.tick, timer.deadline);
+    let (restarted, old) = buckets.restart(handle, list, timer, 0)?;
+    let from = bucket_of(table, buckets.tick, old.deadline);
+    occupied.insert(list);
+    look_again(&buckets.links, occupied, from);
+    Some((restarted, old))
+}

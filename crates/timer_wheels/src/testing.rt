@@ -1,0 +1,263 @@
+//! What the tests of the wheels share: calls whose conditions are tested first, a look at one bucket,
+//! and rows of calls with what expires.
+ghost use Rattle.std.specs.Prelude.{◌≡◌, []};
+
+use std::alloc::Global;
+use std::process::Abort;
+use timer_base::{Handle, LAST, OutOfMemory, Timer, Wheel};
+use timer_links::Links;
+
+/// One call on a wheel. Serials are counted from 1, in the order of the starts and restarts.
+#[derive(Clone, Copy, Drop)]
+pub enum Call {
+    /// Starts the next timer, with this deadline.
+    Start(u64),
+    /// Stops the timer with this serial, which is pending.
+    Stop(u64),
+    /// Replaces the timer with this serial, which is pending, by the next one, with this deadline.
+    Restart(u64, u64),
+    /// The place of a serial's handle, so many further, names no timer with the other serial.
+    NoSuch(u64, usize, u64),
+    /// The pending timers are listed in this order.
+    List(&'static [u64]),
+    /// Drops what is pending.
+    Clear,
+    /// Goes on to the tick. Each pair is a tick and the serial of a timer that expires then.
+    Until(u64, &'static [(u64, u64)]),
+}
+
+/// How a wheel is taken from one tick to a later one.
+#[derive(Clone, Copy, Drop)]
+pub enum Pace {
+    /// By `per_tick`, one tick after the other.
+    SingleTicks,
+    /// By `advance`, which stops where something is due.
+    ManyTicks,
+}
+
+/// Goes on only where nothing is due.
+pub fn settle<W: Wheel>(rt: &impl Abort, wheel: &W)
+    ensures { (W.state wheel.now).due ≡ [] }
+{
+    assert!(rt; !wheel.has_due());
+}
+
+/// A timer of client 7, whose request number is its serial and whose action is 99.
+pub fn timer(serial: u64, deadline: u64) -> Timer
+    ensures { result ≡ record { serial = serial; client = 7; number = serial; deadline = deadline; action = 99 } }
+{
+    Timer {
+        serial,
+        client: 7,
+        number: serial,
+        deadline,
+        action: 99,
+    }
+}
+
+/// Starts the next timer.
+pub fn start<W: Wheel>(
+    rt: &impl Abort,
+    wheel: &mut W,
+    deadline: u64,
+) -> Result<Handle, OutOfMemory> {
+    settle(rt, wheel);
+    assert!(rt; wheel.now() < deadline);
+    assert!(rt; deadline <= wheel.last_tick());
+    assert!(rt; wheel.last_serial() < LAST);
+    let serial = wheel.last_serial() + 1;
+    wheel.start(timer(serial, deadline))
+}
+
+/// Replaces a timer by the next one.
+pub fn restart<W: Wheel>(
+    rt: &impl Abort,
+    wheel: &mut W,
+    handle: Handle,
+    deadline: u64,
+) -> Option<(Handle, Timer)> {
+    settle(rt, wheel);
+    assert!(rt; wheel.now() < deadline);
+    assert!(rt; deadline <= wheel.last_tick());
+    assert!(rt; wheel.last_serial() < LAST);
+    let serial = wheel.last_serial() + 1;
+    wheel.restart(handle, timer(serial, deadline))
+}
+
+pub fn look<W: Wheel>(rt: &impl Abort, wheel: &W, handle: Handle) -> Option<Timer> {
+    settle(rt, wheel);
+    wheel.look(handle)
+}
+
+pub fn stop<W: Wheel>(rt: &impl Abort, wheel: &mut W, handle: Handle) -> Option<Timer> {
+    settle(rt, wheel);
+    wheel.stop(handle)
+}
+
+/// Passes up to so many ticks, and tells how many.
+pub fn advance<W: Wheel>(rt: &impl Abort, wheel: &mut W, most: u64) -> u64 {
+    settle(rt, wheel);
+    assert!(rt; most > 0);
+    assert!(rt; wheel.now() <= wheel.last_tick());
+    assert!(rt; most <= wheel.last_tick() - wheel.now());
+    wheel.advance(most)
+}
+
+/// Goes on to the tick by single ticks. Nothing is due before it.
+pub fn tick_until<W: Wheel>(rt: &impl Abort, wheel: &mut W, tick: u64) {
+    for _ in wheel.now()..tick {
+        settle(rt, wheel);
+        assert!(rt; wheel.now() < wheel.last_tick());
+        wheel.per_tick();
+    }
+}
+
+/// Takes the due timers, whose serials are these.
+pub fn expire<W: Wheel>(rt: &impl Abort, wheel: &mut W, serials: &[u64]) {
+    for serial in serials {
+        let Some(timer) = wheel.expire() else {
+            panic!(rt; "serial {serial} is not due at tick {}", wheel.now());
+        };
+        assert_eq!(rt; timer.serial, *serial);
+        assert_eq!(rt; timer.deadline, wheel.now());
+    }
+    assert_eq!(rt; wheel.expire(), None);
+}
+
+/// Whether the timers of a list have these serials, from its front.
+pub fn has_serials(rt: &impl Abort, links: &Links, list: usize, serials: &[u64]) -> bool {
+    assert!(rt; list < links.lists());
+    let mut at = links.front(list);
+    for serial in serials {
+        let Some(key) = at else {
+            return false;
+        };
+        let Some(node) = links.get(key) else {
+            return false;
+        };
+        if node.timer.serial != *serial {
+            return false;
+        }
+        at = links.next(key);
+    }
+    at.is_none()
+}
+
+/// Makes the calls on a wheel, and sees that each does what it says.
+pub fn play<W: Wheel>(
+    rt: &impl Abort,
+    alloc: Global,
+    wheel: &mut W,
+    calls: &[Call],
+    pace: Pace,
+) -> Result<(), OutOfMemory> {
+    let mut handles = Vec::new(alloc);
+    for call in calls {
+        match *call {
+            Call::Start(deadline) => handles.push(start(rt, wheel, deadline)?)?,
+            Call::Stop(serial) => {
+                let handle = handle_of(rt, handles.as_slice(), serial);
+                let found = stop(rt, wheel, handle);
+                assert_eq!(rt; found.map(|timer| timer.serial), Some(serial));
+                finds_nothing(rt, wheel, handle);
+            }
+            Call::Restart(serial, deadline) => {
+                let handle = handle_of(rt, handles.as_slice(), serial);
+                let Some((restarted, old)) = restart(rt, wheel, handle, deadline) else {
+                    panic!(rt; "serial {serial} is not pending");
+                };
+                assert_eq!(rt; old.serial, serial);
+                assert_eq!(rt;
+                    look(rt, wheel, restarted),
+                    Some(timer(restarted.serial, deadline))
+                );
+                finds_nothing(rt, wheel, handle);
+                handles.push(restarted)?;
+            }
+            Call::NoSuch(at, further, serial) => {
+                let Handle { place, .. } = handle_of(rt, handles.as_slice(), at);
+                assert!(rt; place < 1000 && further < 1000);
+                finds_nothing(
+                    rt,
+                    wheel,
+                    Handle {
+                        place: place + further,
+                        serial,
+                    },
+                );
+            }
+            Call::List(serials) => {
+                settle(rt, wheel);
+                lists(rt, wheel.list()?.as_slice(), serials);
+                assert_eq!(rt; wheel.len(), serials.len());
+            }
+            Call::Clear => {
+                settle(rt, wheel);
+                wheel.clear();
+            }
+            Call::Until(tick, expired) => expires(rt, wheel, tick, expired, pace),
+        }
+    }
+    Ok(())
+}
+
+/// The handle of a timer that was started.
+fn handle_of(rt: &impl Abort, handles: &[Handle], serial: u64) -> Handle {
+    let Some(handle) = handles.iter().copied().find(|handle| handle.serial == serial) else {
+        panic!(rt; "serial {serial} was not started");
+    };
+    handle
+}
+
+/// Sees that no timer is found by the handle, and that asking changes nothing.
+fn finds_nothing<W: Wheel>(rt: &impl Abort, wheel: &mut W, handle: Handle) {
+    let before = (wheel.len(), wheel.last_serial());
+    assert_eq!(rt; look(rt, wheel, handle), None, "looked at {handle:?}");
+    assert_eq!(rt; stop(rt, wheel, handle), None, "stopped {handle:?}");
+    assert!(rt; wheel.now() < LAST);
+    let deadline = wheel.now() + 1;
+    assert_eq!(rt; restart(rt, wheel, handle, deadline), None, "restarted {handle:?}");
+    assert_eq!(rt; (wheel.len(), wheel.last_serial()), before);
+}
+
+/// Sees that the timers have these serials, in this order.
+fn lists(rt: &impl Abort, timers: &[Timer], serials: &[u64]) {
+    assert_eq!(rt; timers.len(), serials.len());
+    for (timer, serial) in timers.iter().zip(serials) {
+        assert_eq!(rt; timer.serial, *serial);
+    }
+}
+
+/// Goes on to the tick, and sees that just these timers expire on the way, each at its tick.
+fn expires<W: Wheel>(
+    rt: &impl Abort,
+    wheel: &mut W,
+    last: u64,
+    expired: &[(u64, u64)],
+    pace: Pace,
+) {
+    for (tick, serial) in expired {
+        if wheel.now() < *tick {
+            go_on(rt, wheel, *tick, last, pace);
+        }
+        let Some(timer) = wheel.expire() else {
+            panic!(rt; "serial {serial} is not due at tick {tick}");
+        };
+        assert_eq!(rt; (timer.deadline, timer.serial), (*tick, *serial));
+        assert_eq!(rt; wheel.now(), *tick);
+    }
+    if wheel.now() < last {
+        go_on(rt, wheel, last, last, pace);
+    }
+    assert_eq!(rt; wheel.expire(), None);
+}
+
+/// Goes on to the tick, which is the last one or the next at which something is due.
+fn go_on<W: Wheel>(rt: &impl Abort, wheel: &mut W, tick: u64, last: u64, pace: Pace) {
+    let now = wheel.now();
+    assert!(rt; now <= tick && tick <= last);
+    match pace {
+        Pace::SingleTicks => tick_until(rt, wheel, tick),
+        Pace::ManyTicks => assert_eq!(rt; advance(rt, wheel, last - now), tick - now),
+    }
+}

@@ -1,0 +1,226 @@
+//! The worked rows, over every wheel: the schemes and their sizes are the columns.
+use crate::testing::{Call, Pace, has_serials, play};
+use crate::{HashedWheel, HierWheel, Table};
+use std::alloc::Global;
+use std::process::Abort;
+use std::test::Fail;
+use timer_base::{PlainWheel, Wheel};
+
+/// The numbers of slots of the hashed wheels.
+const SIZES: [usize; 4] = [1, 8, 256, 65536];
+
+/// A name, the first tick, and the calls.
+type Row = (&'static str, u64, &'static [Call]);
+
+const ROWS: [Row; 16] = [
+    (
+        "rollover",
+        0,
+        &[
+            Call::Start(4096),
+            Call::Until(4090, &[]),
+            Call::Start(4096),
+            Call::Until(4095, &[]),
+            Call::Start(4096),
+            Call::Until(4096, &[(4096, 1), (4096, 2), (4096, 3)]),
+        ],
+    ),
+    (
+        "migration",
+        0,
+        &[
+            Call::Start(130),
+            Call::Until(128, &[]),
+            Call::Start(130),
+            Call::Until(130, &[(130, 1), (130, 2)]),
+        ],
+    ),
+    (
+        "rounds",
+        0,
+        &[
+            Call::Start(1),
+            Call::Start(8),
+            Call::Start(9),
+            Call::Start(16),
+            Call::Start(8),
+            Call::Until(16, &[(1, 1), (8, 2), (8, 5), (9, 3), (16, 4)]),
+        ],
+    ),
+    (
+        "stop_middle",
+        0,
+        &[
+            Call::Start(10),
+            Call::Start(10),
+            Call::Start(10),
+            Call::Stop(2),
+            Call::Until(10, &[(10, 1), (10, 3)]),
+        ],
+    ),
+    (
+        "stop_twice",
+        0,
+        &[
+            Call::Start(5),
+            Call::Stop(1),
+            Call::NoSuch(1, 0, 1),
+            Call::Until(5, &[]),
+        ],
+    ),
+    (
+        "stale_handle",
+        0,
+        &[
+            Call::Start(5),
+            Call::Stop(1),
+            Call::Start(5),
+            Call::NoSuch(2, 0, 1),
+            Call::NoSuch(2, 1, 2),
+            Call::Until(5, &[(5, 2)]),
+        ],
+    ),
+    (
+        "close",
+        0,
+        &[
+            Call::Start(5),
+            Call::Start(3),
+            Call::Start(5),
+            Call::List(&[2, 1, 3]),
+            Call::Clear,
+            Call::List(&[]),
+            Call::Until(2, &[]),
+        ],
+    ),
+    (
+        "clock_end",
+        1152921504606846974,
+        &[
+            Call::Start(1152921504606846975),
+            Call::Until(1152921504606846975, &[(1152921504606846975, 1)]),
+        ],
+    ),
+    (
+        "clock_too_late",
+        8639990,
+        &[
+            Call::Start(8639999),
+            Call::Until(8639999, &[(8639999, 1)]),
+        ],
+    ),
+    (
+        "clock_day",
+        86399,
+        &[
+            Call::Start(86400),
+            Call::Until(86400, &[(86400, 1)]),
+        ],
+    ),
+    (
+        "clock_face",
+        987870,
+        &[
+            Call::Start(990915),
+            Call::Until(990915, &[(990915, 1)]),
+        ],
+    ),
+    (
+        "spread",
+        0,
+        &[
+            Call::Start(3661),
+            Call::Until(3600, &[]),
+            Call::Start(3661),
+            Call::Until(3661, &[(3661, 1), (3661, 2)]),
+        ],
+    ),
+    (
+        "advance",
+        0,
+        &[
+            Call::Start(5),
+            Call::Start(64),
+            Call::Start(64),
+            Call::Start(4161),
+            Call::Until(4161, &[(5, 1), (64, 2), (64, 3), (4161, 4)]),
+        ],
+    ),
+    (
+        "restart",
+        0,
+        &[
+            Call::Start(5),
+            Call::Until(3, &[]),
+            Call::Restart(1, 8),
+            Call::Until(8, &[(8, 2)]),
+        ],
+    ),
+    (
+        "restart_order",
+        0,
+        &[
+            Call::Start(5),
+            Call::Start(5),
+            Call::Restart(1, 5),
+            Call::Until(5, &[(5, 2), (5, 3)]),
+        ],
+    ),
+    (
+        "restart_full",
+        0,
+        &[
+            Call::Start(5),
+            Call::Restart(1, 2),
+            Call::Until(2, &[(2, 2)]),
+        ],
+    ),
+];
+
+/// Makes a row's calls on each wheel whose clock goes so far.
+fn play_on_every_wheel(
+    rt: &impl Abort,
+    alloc: Global,
+    row: Row,
+    pace: Pace,
+) -> Result<(), Fail> {
+    let (name, first_tick, calls) = row;
+    play(rt, alloc, &mut PlainWheel::new(alloc, first_tick)?, calls, pace)?;
+    for slots in SIZES {
+        play(rt, alloc, &mut HashedWheel::new(alloc, slots, first_tick)?, calls, pace)?;
+    }
+    play(rt, alloc, &mut HierWheel::new(alloc, first_tick)?, calls, pace)?;
+    if first_tick <= 8639999 {
+        let mut wheel = HierWheel::with_table(alloc, Table::Clock, first_tick)?;
+        play(rt, alloc, &mut wheel, calls, pace)?;
+    }
+    Ok(())
+}
+
+#[test]
+fn every_wheel_expires_the_same_timers(rt: HostRuntime) -> Result<(), Fail> {
+    for row in ROWS {
+        play_on_every_wheel(&rt, rt.alloc(), row, Pace::SingleTicks)?;
+        play_on_every_wheel(&rt, rt.alloc(), row, Pace::ManyTicks)?;
+    }
+    Ok(())
+}
+
+#[test]
+fn a_restarted_timer_stands_behind_the_others(rt: HostRuntime) -> Result<(), Fail> {
+    let calls = [Call::Start(5), Call::Start(5), Call::Restart(1, 5)];
+    for slots in SIZES {
+        let mut wheel = HashedWheel::new(rt.alloc(), slots, 0)?;
+        play(&rt, rt.alloc(), &mut wheel, &calls, Pace::SingleTicks)?;
+        assert!(rt; slots > 0);
+        assert!(rt; has_serials(&rt, wheel.links(), 5 % slots, &[2, 3]), "{slots} slots");
+    }
+    for table in [Table::Wide, Table::Clock] {
+        let mut wheel = HierWheel::with_table(rt.alloc(), table, 0)?;
+        play(&rt, rt.alloc(), &mut wheel, &calls, Pace::SingleTicks)?;
+        assert!(rt; has_serials(&rt, wheel.links(), 5, &[2, 3]));
+        assert_eq!(rt; wheel.starts(), 3);
+        assert_eq!(rt; wheel.now(), 0);
+    }
+    Ok(())
+}
