@@ -13,9 +13,9 @@ use Rattle.timer_facility.specs.declared.event.Event.{Event}
 use Rattle.timer_facility.specs.declared.event.Event.TheVariants as Events
 use Rattle.timer_facility.specs.declared.event.Out.{Out}
 use Rattle.timer_facility.specs.declared.event.Out.TheVariants as Outs
-use Rattle.timer_facility.specs.State.{FacilityState, Wanted, Start, Stop, StopSerial, SingleEvent, Asked, Tick, Close}
-use Rattle.timer_facility.specs.Verdict.{not_taken, named, of_client, start_refusal, tick_refusal}
-use Rattle.timer_facility.specs.Step.{Step, step, step_of_request, step_of_tick, step_of_close, with_number, new_timer, after_start, after_stop, answer_to_start, answer_to_stop}
+use Rattle.timer_facility.specs.State.{FacilityState, Wanted, Start, Stop, StopSerial, Restart, RestartSerial, SingleEvent, Asked, Tick, Close}
+use Rattle.timer_facility.specs.Verdict.{not_taken, named, of_client, start_refusal, interval_refusal, tick_refusal}
+use Rattle.timer_facility.specs.Step.{Step, step, step_of_request, step_of_tick, step_of_close, with_number, new_timer, after_start, after_stop, after_restart, answer_to_start, answer_to_stop, answer_to_restart}
 use Rattle.timer_facility.specs.Run.{Placed, state_after, run, bare_answer, bare, bare_outs, bare_entry, bare_state, NamesBySerial, AreSameButForPlaces}
 use Rattle.timer_facility.specs.Played.{ticks_left, singles_of, ArePlaced, IsRun}
 use Rattle.timer_facility.proofs.Lists.{either}
@@ -62,6 +62,10 @@ start_refusal-bare : (s : FacilityState) (interval : ℕ) → start_refusal (bar
 unfolding start_refusal
 start_refusal-bare s interval = rw (length-bare s.pending) refl
 
+interval_refusal-bare : (s : FacilityState) (interval : ℕ) → interval_refusal (bare_state s) interval ≡ interval_refusal s interval
+unfolding interval_refusal
+interval_refusal-bare s interval = refl
+
 tick_refusal-bare : (s : FacilityState) → tick_refusal (bare_state s) ≡ tick_refusal s
 unfolding tick_refusal
 tick_refusal-bare s = refl
@@ -90,6 +94,16 @@ answer_to_stop-bare (Some t) = refl
 after_stop-bare : (found : Option Timer) (s : FacilityState) → bare_state (after_stop found s) ≡ after_stop found (bare_state s)
 after_stop-bare found s = ap (λ es. record s { pending = es }) (without_found-bare found s.pending)
 
+answer_to_restart-bare : (found : Option Timer) (v : Option Reason) (place : ℕ) (t : Timer) → bare_answer (answer_to_restart found v place t) ≡ answer_to_restart found v 0 t
+answer_to_restart-bare None v place t = refl
+answer_to_restart-bare (Some old) (Some reason) place t = refl
+answer_to_restart-bare (Some old) None place t = refl
+
+after_restart-bare : (found : Option Timer) (v : Option Reason) (place : ℕ) (t : Timer) (s : FacilityState) → bare_state (after_restart found v place t s) ≡ after_restart found v 0 t (bare_state s)
+after_restart-bare None v place t s = refl
+after_restart-bare (Some old) (Some reason) place t s = refl
+after_restart-bare (Some old) None place t s = after_start-bare None place t (after_stop (Some old) s) ∙ ap (after_start None 0 t) (after_stop-bare (Some old) s)
+
 request-bare : (s : FacilityState) (client number : ℕ) (wanted : Wanted) (place : ℕ) (v : Option NotTaken) → NamesBySerial (Asked client number wanted)
     → IsBareStep (step_of_request s client number wanted place v) (step_of_request (bare_state s) client number wanted 0 v)
 request-bare s client number wanted place (Some reason) n = (refl, refl)
@@ -103,6 +117,16 @@ request-bare s client number (StopSerial serial) place None n =
     let found : Option Timer = named s client (StopSerial serial) in (
       ap (λ a. Outs.Answered client number a ∷ []) (answer_to_stop-bare found ∙ ap answer_to_stop (sym (named-bare s client serial))),
       ap (with_number client number) (after_stop-bare found s ∙ ap (λ o. after_stop o (bare_state s)) (sym (named-bare s client serial))),
+    )
+request-bare s client number (Restart handle interval action) place None n = absurd n
+request-bare s client number (RestartSerial serial interval action) place None n =
+    let t : Timer = new_timer s client number interval action in
+    let found : Option Timer = named s client (RestartSerial serial interval action) in
+    let v : Option Reason = interval_refusal s interval in (
+      ap (λ a. Outs.Answered client number a ∷ []) (answer_to_restart-bare found v place t ∙ ap (λ o. answer_to_restart o v 0 t) (sym (named-bare s client serial))
+          ∙ ap (λ w. answer_to_restart (named (bare_state s) client (StopSerial serial)) w 0 t) (sym (interval_refusal-bare s interval))),
+      ap (with_number client number) (after_restart-bare found v place t s ∙ ap (λ o. after_restart o v 0 t (bare_state s)) (sym (named-bare s client serial))
+          ∙ ap (λ w. after_restart (named (bare_state s) client (StopSerial serial)) w 0 t (bare_state s)) (sym (interval_refusal-bare s interval))),
     )
 
 notices-bare : (f : Timer → Notice) (ts : List Timer) → bare_outs (map (λ t. Outs.Notice (f t)) ts) ≡ map (λ t. Outs.Notice (f t)) ts
@@ -176,6 +200,7 @@ runs-bare s t ps qs e f n =
 singles_of-bare : (s : FacilityState) (event : Event) → singles_of (bare_state s) event ≡ singles_of s event
 singles_of-bare s (Events.Start client number interval action) = refl
 singles_of-bare s (Events.Stop client number serial) = refl
+singles_of-bare s (Events.Restart client number serial interval action) = refl
 singles_of-bare s (Events.Ticks count) = refl
 singles_of-bare s Events.Close = refl
 
@@ -186,6 +211,7 @@ ticks_name (suc n) = (tt, ticks_name n)
 singles_name : (s : FacilityState) (event : Event) → AllByRecursion NamesBySerial (singles_of s event)
 singles_name s (Events.Start client number interval action) = (tt, tt)
 singles_name s (Events.Stop client number serial) = (tt, tt)
+singles_name s (Events.Restart client number serial interval action) = (tt, tt)
 singles_name s (Events.Ticks count) = ticks_name (min count (ticks_left s + 1))
 singles_name s Events.Close = (tt, tt)
 

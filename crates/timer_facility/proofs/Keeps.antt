@@ -10,7 +10,7 @@ use Rattle.timer_facility.specs.declared.request.Notice.{Notice}
 use Rattle.timer_facility.specs.declared.request.Notice.TheVariants.{Expired, Returned}
 use Rattle.timer_facility.specs.State.{FacilityState}
 use Rattle.timer_facility.specs.Owed.{timers_in_order, is_among}
-use Rattle.timer_facility.proofs.Lists.{either, or_false, insert_newest, timers_in_order-append, filter-timers_in_order, filter-append, filter_same, filter_ext, filter-filter, timers_of-put, timers_of-filter, Among, Among-in_order, Among-filter, AreBelow-among, IsOnly, AreDistinct-only, AreDistinct-append, AreBelow-append, AreBelow-filter, is_among-append, is_among_below, All-append, All_numbers-weaken, All_timers-weaken}
+use Rattle.timer_facility.proofs.Lists.{either, or_false, insert_newest, timers_in_order-append, filter-timers_in_order, filter-append, filter_same, filter_ext, filter-filter, timers_of-put, timers_of-filter, Among, Among-in_order, Among-filter, AreBelow-among, IsOnly, AreDistinct-only, AreDistinct-append, AreBelow-append, AreBelow-filter, is_among-append, is_among_below, All-append, All_numbers-weaken, All_timers-weaken, All_timers-append}
 use Rattle.timer_facility.proofs.Reading.{Reading, all_started, is_owed_at, is_left_at, due_at, owed_at_ticks, owed_at_close, owed_for}
 
 -- between two events: from s the answers read are r and the notices are ns, and c is the state now
@@ -22,6 +22,7 @@ pub record Keeps (s : FacilityState) (r : Reading) (ns : List Notice) (c : Facil
   pub distinct : AreDistinct (all_started s r)
   pub below : AreBelow c.next_serial (all_started s r)
   pub stopped_below : AllByRecursion (λ k. k < c.next_serial) r.stopped
+  pub later : AllByRecursion (λ t. s.now < t.deadline) (all_started s r)
 
 pub not_closed : (s : FacilityState) (r : Reading) (ns : List Notice) (c : FacilityState) → Keeps s r ns c → c.is_closed ≡ false → r.is_closed ≡ false
 not_closed s r ns c k h = elim (either r.is_closed) [ inl m ↦ let n : c.is_closed ≡ true = k.shut m in absurd (cc) | inr m ↦ m ]
@@ -104,6 +105,7 @@ keeps-start s r ns c c' place t k h l fresh same_now next pending =
       distinct = rw (all_with_start s r t) (AreDistinct-append t (all_started s r) k.distinct below);
       below = rw (all_with_start s r t, next) (AreBelow-append c.next_serial t (all_started s r) k.below fresh);
       stopped_below = rw next (All_numbers-weaken (λ n. n < c.next_serial) (λ n. n < c.next_serial + 1) r.stopped (λ n m. let m' : n < c.next_serial = m in omega arith) k.stopped_below);
+      later = rw (all_with_start s r t) (All_timers-append (λ x. s.now < x.deadline) (all_started s r) t k.later (let n : c.now ≡ s.now + r.ticks = k.now_is in omega arith));
     }
 
 -- a stop
@@ -177,6 +179,7 @@ keeps-stop s r ns c c' t k h among same_now next pending =
       distinct = k.distinct;
       below = rw next k.below;
       stopped_below = rw next (All-append (λ m. m < c.next_serial) r.stopped t.serial k.stopped_below (AreBelow-among c.next_serial t (all_started s r) k.below passed.0));
+      later = k.later;
     }
 
 -- a tick
@@ -245,6 +248,7 @@ keeps-tick s r ns c c' k h next_now next pending =
       distinct = k.distinct;
       below = rw next k.below;
       stopped_below = rw next k.stopped_below;
+      later = k.later;
     }
 
 -- a close
@@ -268,6 +272,7 @@ keeps-close s r ns c c' k h same_now next closed =
       distinct = k.distinct;
       below = rw next k.below;
       stopped_below = rw next k.stopped_below;
+      later = k.later;
     }
 
 pub keeps-same : (s : FacilityState) (r : Reading) (ns : List Notice) (c c' : FacilityState)
@@ -281,4 +286,5 @@ keeps-same s r ns c c' k same_now next pending closed = record {
   distinct = k.distinct;
   below = rw next k.below;
   stopped_below = rw next k.stopped_below;
+  later = k.later;
 }

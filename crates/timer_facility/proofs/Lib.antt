@@ -3,6 +3,8 @@ pub mod CloseSteps
 pub mod TickRuns
 pub mod PlayedLemmas
 pub mod RecordedLemmas
+pub mod Counts
+pub mod PendingOf
 pub mod Lists
 pub mod Verdicts
 pub mod Reading
@@ -11,5 +13,9 @@ pub mod Owed
 pub mod Bare
 pub mod Closed
 pub mod Once
+pub mod AtLeastOnce
+pub mod Told
 pub mod Refusals
 pub mod Parts
+pub mod ManyTicks
+pub mod WakeUpLemmas

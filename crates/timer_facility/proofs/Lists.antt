@@ -108,7 +108,7 @@ pub AreBelow-among : (high : ℕ) (t : Timer) (xs : List Timer) → AreBelow hig
 AreBelow-among high t [] b a = absurd a
 AreBelow-among high t (x ∷ xs) b a = elim a [ inl h ↦ rw h b.0 | inr h ↦ AreBelow-among high t xs b.1 h ]
 
-not_among : (s : ℕ) (t : Timer) (xs : List Timer) → IsNotAmong s xs → Among t xs → t.serial ≢ s
+pub not_among : (s : ℕ) (t : Timer) (xs : List Timer) → IsNotAmong s xs → Among t xs → t.serial ≢ s
 not_among s t [] n a = absurd a
 not_among s t (x ∷ xs) n a = elim a [ inl h ↦ rw h n.0 | inr h ↦ not_among s t xs n.1 h ]
 
@@ -171,6 +171,10 @@ All_numbers-weaken P Q (k ∷ ks) f a = (f k a.0, All_numbers-weaken P Q ks f a.
 pub All_timers-weaken : (P Q : Timer → Type 0) (ts : List Timer) → ((t : Timer) → P t → Q t) → AllByRecursion P ts → AllByRecursion Q ts
 All_timers-weaken P Q [] f a = tt
 All_timers-weaken P Q (t ∷ ts) f a = (f t a.0, All_timers-weaken P Q ts f a.1)
+
+pub All_timers-append : (P : Timer → Type 0) (ts : List Timer) (t : Timer) → AllByRecursion P ts → P t → AllByRecursion P (ts ++ t ∷ [])
+All_timers-append P [] t a p = (p, tt)
+All_timers-append P (x ∷ xs) t a p = (a.0, All_timers-append P xs t a.1 p)
 
 strictly_first : (x y : Timer) → is_before y x ≡ false → y.serial ≢ x.serial → is_before x y ≡ true
 strictly_first x y h n = grind (arith, nat_tests)

@@ -1,6 +1,7 @@
 -- The notices of every run are what is owed for it.
 use Rattle.std.proofs.Common.{◌≡◌, ◌<◌, ◌+◌, ℕ, zero, suc, Bool, true, false, ◌||◌, List, [], ◌∷◌, ◌++◌, refl, sym, ◌∙◌, ap, arith, append-nil, append_assoc}
 use Rattle.std.specs.Prelude.{take, map, filter, if◌then◌else◌, Option, Some, None}
+use Rattle.std.specs.List.{AllByRecursion}
 use Rattle.std.proofs.lemmas.Bool.Decides.{nat_tests}
 use Rattle.timer_base.specs.declared.timer.Timer.{Timer}
 use Rattle.timer_base.specs.Order.{AreDistinct}
@@ -12,13 +13,13 @@ use Rattle.timer_facility.specs.declared.request.Reason.{Reason}
 use Rattle.timer_facility.specs.declared.request.TickFault.{TickFault}
 use Rattle.timer_facility.specs.declared.event.Out.{Out}
 use Rattle.timer_facility.specs.declared.event.Out.TheVariants as Outs
-use Rattle.timer_facility.specs.State.{FacilityState, IsSound, SingleEvent, Asked, Tick, Close, Wanted, Start, Stop, StopSerial}
-use Rattle.timer_facility.specs.Verdict.{not_taken, start_refusal, named, of_client, tick_refusal}
-use Rattle.timer_facility.specs.Step.{Step, step, step_of_request, step_of_tick, step_of_close, new_timer, with_number, after_start, after_stop, answer_to_start, answer_to_stop}
+use Rattle.timer_facility.specs.State.{FacilityState, IsSound, SingleEvent, Asked, Tick, Close, Wanted, Start, Stop, StopSerial, Restart, RestartSerial}
+use Rattle.timer_facility.specs.Verdict.{not_taken, start_refusal, interval_refusal, named, of_client, tick_refusal}
+use Rattle.timer_facility.specs.Step.{Step, step, step_of_request, step_of_tick, step_of_close, new_timer, with_number, after_start, after_stop, after_restart, answer_to_start, answer_to_stop, answer_to_restart}
 use Rattle.timer_facility.specs.Run.{Placed, history, state_after, notices, notice_in, notices_in, outs_of}
-use Rattle.timer_facility.specs.Owed.{owed, started, timers_in_order, serials_told, any_out, is_closing, is_tick_refusal}
+use Rattle.timer_facility.specs.Owed.{owed, started, timers_in_order, serials_told, timers_restarted, any_out, is_closing, is_tick_refusal}
 use Rattle.timer_facility.proofs.Lists.{or_false, filter_all, Among, All_timers-weaken, timers_in_order-ordered, first_timer-among, of_client_some}
-use Rattle.timer_facility.proofs.Verdicts.{open_when, open_at_tick, startable}
+use Rattle.timer_facility.proofs.Verdicts.{open_when, open_at_tick, startable, timely}
 use Rattle.timer_facility.proofs.Reading.{Reading, nothing_read, read_more, read_on, reading_is, all_started, is_left_at, owed_is, started_is}
 use Rattle.timer_facility.proofs.Keeps.{Keeps, not_closed, keeps-start, keeps-stop, keeps-tick, keeps-close, keeps-same}
 
@@ -70,14 +71,43 @@ keeps_asked_stop s r ns c client number (Some t) e k o =
     (append-nil ns)
     (keeps-stop s r ns c c' t k (not_closed s r ns c k o) (e t refl) refl refl refl)
 
+keeps_asked_restart : (s : FacilityState) (r : Reading) (ns : List Notice) (c : FacilityState) (client number interval action place : ℕ) (found : Option Timer) (v : Option Reason)
+    → ((t : Timer) → found ≡ Some t → Among t (timers_of c.pending)) → interval_refusal c interval ≡ v → Keeps s r ns c → c.is_closed ≡ false
+    → let outs : List Out = Outs.Answered client number (answer_to_restart found v place (new_timer c client number interval action)) ∷ [] in
+    Keeps s (record { started = r.started ++ timers_restarted client number action outs; stopped = r.stopped ++ serials_told outs; ticks = r.ticks + 0; is_closed = r.is_closed || false })
+    (ns ++ []) (with_number client number (after_restart found v place (new_timer c client number interval action) c))
+keeps_asked_restart s r ns c client number interval action place None v e i k o =
+    keeps_read s r _ ns (ns ++ []) (with_number client number c) (read_none r) (append-nil ns) (keeps-same s r ns c (with_number client number c) k refl refl refl refl)
+keeps_asked_restart s r ns c client number interval action place (Some old) (Some reason) e i k o =
+    keeps_read s r _ ns (ns ++ []) (with_number client number c) (read_none r) (append-nil ns) (keeps-same s r ns c (with_number client number c) k refl refl refl refl)
+keeps_asked_restart s r ns c client number interval action place (Some old) None e i k o =
+    let t : Timer = new_timer c client number interval action in
+    let between : FacilityState = after_stop (Some old) c in
+    let c' : FacilityState = with_number client number (after_start None place t between) in
+    let stopped : Reading = record r { stopped = r.stopped ++ old.serial ∷ [] } in
+    let r' : Reading = record stopped { started = r.started ++ t ∷ [] } in
+    let without : Keeps s stopped ns between = keeps-stop s r ns c between old k (not_closed s r ns c k o) (e old refl) refl refl refl in
+    let p : 0 < interval = (timely c interval i).positive in
+    let later : c.now < c.now + interval = omega arith in
+    keeps_read s r' _ ns (ns ++ []) c'
+    (reading_is (r.started ++ t ∷ []) (r.started ++ t ∷ []) (r.stopped ++ old.serial ∷ []) (r.stopped ++ old.serial ∷ []) (r.ticks + 0) r.ticks (r.is_closed || false) r.is_closed refl refl (omega arith) (or_false r.is_closed))
+    (append-nil ns)
+    (keeps-start s stopped ns between c' place t without (not_closed s r ns c k o) later refl refl refl refl)
+
 keeps_asked : (s : FacilityState) (r : Reading) (ns : List Notice) (c : FacilityState) (client number : ℕ) (wanted : Wanted) (place : ℕ) (v : Option NotTaken)
     → not_taken c client number ≡ v → Keeps s r ns c → KeepsStep s r ns (Asked client number wanted) (step_of_request c client number wanted place v)
 keeps_asked s r ns c client number (Start interval action) place (Some reason) e k = keeps_read s r _ ns (ns ++ []) c (read_none r) (append-nil ns) k
 keeps_asked s r ns c client number (Stop handle) place (Some reason) e k = keeps_read s r _ ns (ns ++ []) c (read_none r) (append-nil ns) k
 keeps_asked s r ns c client number (StopSerial serial) place (Some reason) e k = keeps_read s r _ ns (ns ++ []) c (read_none r) (append-nil ns) k
+keeps_asked s r ns c client number (Restart handle interval action) place (Some reason) e k = keeps_read s r _ ns (ns ++ []) c (read_none r) (append-nil ns) k
+keeps_asked s r ns c client number (RestartSerial serial interval action) place (Some reason) e k = keeps_read s r _ ns (ns ++ []) c (read_none r) (append-nil ns) k
 keeps_asked s r ns c client number (Start interval action) place None e k = keeps_asked_start s r ns c client number interval action place (start_refusal c interval) refl k (open_when c client number e)
 keeps_asked s r ns c client number (Stop handle) place None e k = keeps_asked_stop s r ns c client number (named c client (Stop handle)) (named_among c client (has_handle handle)) k (open_when c client number e)
 keeps_asked s r ns c client number (StopSerial serial) place None e k = keeps_asked_stop s r ns c client number (named c client (StopSerial serial)) (named_among c client (λ e. has_serial serial e.timer)) k (open_when c client number e)
+keeps_asked s r ns c client number (Restart handle interval action) place None e k =
+    keeps_asked_restart s r ns c client number interval action place (named c client (Restart handle interval action)) (interval_refusal c interval) (named_among c client (has_handle handle)) refl k (open_when c client number e)
+keeps_asked s r ns c client number (RestartSerial serial interval action) place None e k =
+    keeps_asked_restart s r ns c client number interval action place (named c client (RestartSerial serial interval action)) (interval_refusal c interval) (named_among c client (λ e. has_serial serial e.timer)) refl k (open_when c client number e)
 
 -- the outs of an accepted tick or close, read
 pub notices_in-map : (f : Timer → Notice) (ts : List Timer) → notices_in (map (λ t. Outs.Notice (f t)) ts) ≡ map f ts
@@ -169,6 +199,7 @@ keeps_first s i =
       distinct = rw all i.distinct;
       below = rw all i.below;
       stopped_below = tt;
+      later = rw all i.later;
     }
 
 -- whatever the events and the places are, the notices of a run are what is owed for it
@@ -178,6 +209,10 @@ notices-history s ps i = (keeps_run s nothing_read [] s ps (keeps_first s i)).to
 -- no two of the timers that were started have one serial
 pub started-distinct : (s : FacilityState) (ps : List Placed) → IsSound s → AreDistinct (started s (history s ps))
 started-distinct s ps i = rw (started_is s (history s ps)) (keeps_run s nothing_read [] s ps (keeps_first s i)).distinct
+
+-- each of them has its deadline after the beginning
+pub started-later : (s : FacilityState) (ps : List Placed) → IsSound s → AllByRecursion (λ t. s.now < t.deadline) (started s (history s ps))
+started-later s ps i = rw (started_is s (history s ps)) (keeps_run s nothing_read [] s ps (keeps_first s i)).later
 
 -- the beginning of a history is a history
 pub take-history : (k : ℕ) (s : FacilityState) (ps : List Placed) → take k (history s ps) ≡ history s (take k ps)

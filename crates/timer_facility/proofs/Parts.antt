@@ -1,32 +1,44 @@
 -- The parts of a facility: what they tell of its state, and what each call makes of them.
-use Rattle.std.proofs.Common.{◌≡◌, ◌≢◌, ◌<◌, ◌≤◌, ◌+◌, ℕ, zero, suc, Bool, true, false, not, List, [], ◌∷◌, ◌++◌, length, refl, sym, ◌∙◌, ap, subst, inl, inr, arith, append-nil}
-use Rattle.std.specs.Prelude.{map, filter, drop, take, replicate, nat_lt, Option, Some, None, slice_index, slice_set}
+use Rattle.std.proofs.Common.{◌≡◌, ◌≢◌, ◌<◌, ◌≤◌, ◌+◌, ◌-◌, ℕ, zero, suc, Bool, true, false, ◌==◌, ◌⊎◌, not, List, [], ◌∷◌, ◌++◌, length, refl, sym, ◌∙◌, ap, subst, inl, inr, arith, append-nil, get_or, add-one}
+use Rattle.std.specs.Prelude.{map, filter, drop, take, replicate, nat_lt, if◌then◌else◌, Option, Some, None, slice_get, slice_index, slice_set}
 use Rattle.std.specs.List.{AllByRecursion}
-use Rattle.std.proofs.Math.Seq.{take-set-lt}
+use Rattle.std.proofs.lemmas.Bool.Decides.{nat_tests}
+use Rattle.std.proofs.Math.Seq.{take-set-lt, drop-cons}
+use Rattle.std.proofs.lemmas.Option.{slice_get_within, slice_get_read, get_or_from_slice_get}
 use Rattle.std.proofs.lemmas.List.{get_or-take, length-take-le, length-set}
 use Rattle.timer_base.specs.declared.limits.TheConstants.{LAST}
 use Rattle.timer_base.specs.declared.timer.Timer.{Timer}
 use Rattle.timer_base.specs.declared.timer.Handle.{Handle}
-use Rattle.timer_base.specs.Order.{AreBelow}
-use Rattle.timer_base.specs.Pending.{Entry, timers_of, put, is_due_at, without_found, has_serial}
+use Rattle.timer_base.specs.Order.{AreBelow, AreDistinct}
+use Rattle.timer_base.specs.Pending.{Entry, timers_of, put, is_due_at, has_handle, first_timer, without_found, has_serial}
 use Rattle.timer_base.specs.WheelState as Wheels
+use Rattle.timer_facility.specs.declared.limits.TheConstants.{MOST_PENDING}
 use Rattle.timer_facility.specs.declared.config.Config.{Config}
-use Rattle.timer_facility.specs.declared.request.Answer.TheVariants.{Started}
+use Rattle.timer_facility.specs.declared.request.Answer.TheVariants.{Started, Restarted}
 use Rattle.timer_facility.specs.declared.request.Reason.{Reason}
 use Rattle.timer_facility.specs.declared.request.TickFault.{TickFault}
 use Rattle.timer_facility.specs.declared.request.Notice.{Notice}
 use Rattle.timer_facility.specs.declared.request.Notice.TheVariants.{Expired, Returned}
-use Rattle.timer_facility.specs.State.{FacilityState, Start, Stop, Tick, Close, IsSound}
-use Rattle.timer_facility.specs.Verdict.{not_taken, start_refusal, named, tick_refusal}
-use Rattle.timer_facility.specs.Step.{step, step_of_tick, step_of_close, new_timer, with_number, after_start, after_stop, after_taken}
+use Rattle.timer_facility.specs.State.{FacilityState, Start, Stop, Restart, Tick, Close, IsSound, one_of, count_of, pending_of}
+use Rattle.timer_facility.specs.Verdict.{of_client, not_taken, start_refusal, interval_refusal, named, tick_refusal}
+use Rattle.timer_facility.specs.Step.{step, step_of_tick, step_of_close, new_timer, with_number, after_start, after_stop, after_restart, after_taken}
 use Rattle.timer_facility.specs.Run.{notices_in}
 use Rattle.timer_facility.specs.Opened.{opened}
-use Rattle.timer_facility.specs.Standing.{Standing, Parts, standing_of, AreParts, standing_after, with_nothing_waiting}
-use Rattle.timer_facility.proofs.Lists.{either, timers_of-filter, All_timers-weaken, of_client_some}
+use Rattle.timer_facility.specs.Config.{IsInRange}
+use Rattle.timer_facility.specs.Standing.{Standing, Parts, standing_of, kept, AreCounted, AreParts, standing_after, with_nothing_waiting}
+use Rattle.timer_facility.proofs.Counts.{count-kept, count-put, count-tick, count-without, count-front, counted-none, counted-as, counted-more, counted-less, IsCounted, is_counted, count_in_range}
+use Rattle.timer_facility.proofs.Lists.{Among, first_timer-among, either, timers_of-filter, All_timers-weaken, of_client_some}
 use Rattle.timer_facility.proofs.Owed.{notices_in-map}
 use Rattle.timer_facility.proofs.Verdicts.{IsKnown, takable, tick_refusal-none}
 
 -- Lengths.
+
+length_timers : (es : List Entry) → length (timers_of es) ≡ length es
+length_timers [] = refl
+length_timers (e ∷ es) = ap suc (length_timers es)
+
+is_equal : (m n : ℕ) → (m == n) ≡ true → m ≡ n
+is_equal m n h = grind (arith, nat_tests)
 
 length-filter : {X : Type 0} (p : X → Bool) (xs : List X) → length (filter p xs) ≤ length xs
 length-filter p [] = omega arith
@@ -62,7 +74,7 @@ nothing_due {p} {v} a e h =
     let x : (standing_of p).waiting ≡ [] = ap (λ (u : Standing). u.waiting) e ∙ h in
     no_front p.wheel.due (map (λ t. Returned t) (drop p.handed p.returned)) x
 
-nothing_returned : {p : Parts} {v : Standing} → AreParts p → standing_of p ≡ v → v.waiting ≡ [] → map (λ t. Returned t) (drop p.handed p.returned) ≡ []
+pub nothing_returned : {p : Parts} {v : Standing} → AreParts p → standing_of p ≡ v → v.waiting ≡ [] → map (λ t. Returned t) (drop p.handed p.returned) ≡ []
 nothing_returned {p} {v} a e h =
     no_back (map (λ t. Expired t) p.wheel.due) (map (λ t. Returned t) (drop p.handed p.returned)) (ap (λ (u : Standing). u.waiting) e ∙ h)
 
@@ -162,6 +174,7 @@ first_parts w c returned = record {
   capacity = c.capacity;
   next_serial = c.first_serial;
   numbers = replicate 64 c.first_number;
+  counts = replicate 64 0;
   is_closed = false;
   returned = returned;
   handed = 0;
@@ -176,7 +189,7 @@ standing-open w c returned p d n few r =
 
 -- Ticks.
 
-standing_is : (s : FacilityState) (xs ys : List Notice) → xs ≡ ys → let a : Standing = record { state = s; waiting = xs } in let b : Standing = record { state = s; waiting = ys } in a ≡ b
+pub standing_is : (s : FacilityState) (xs ys : List Notice) → xs ≡ ys → let a : Standing = record { state = s; waiting = xs } in let b : Standing = record { state = s; waiting = ys } in a ≡ b
 standing_is s xs ys h = cc
 
 timers_due : (now : ℕ) (es : List Entry) → timers_of (filter (λ x. is_due_at (now + 1) x.timer) es) ≡ filter (is_due_at (now + 1)) (timers_of es)
@@ -198,8 +211,16 @@ standing-tick {p} {v} a e h c n w' t =
     ∙ ap (λ r. standing_after (step_of_tick s r)) (sym (tick_refusal-none s c n))
     ∙ ap (λ (u : Standing). standing_after (step u.state Tick 0)) e
 
-pub parts-tick : {p : Parts} → AreParts p → (w' : Wheels.WheelState) → w' ≡ Wheels.after_tick p.wheel → AreParts (record p { wheel = w' })
-parts-tick {p} a w' t =
+kept_after_tick : (p : Parts) → p.wheel.due ≡ [] → (client : ℕ) → count_of client (kept (record p { wheel = Wheels.after_tick p.wheel })) ≡ count_of client (kept p)
+kept_after_tick p h client =
+    let due : count_of client p.wheel.due ≡ 0 = ap (count_of client) h in
+    let before = count-kept client p in
+    let after = count-kept client (record p { wheel = Wheels.after_tick p.wheel }) in
+    let cut = count-tick client (p.wheel.now + 1) p.wheel.pending in
+    omega arith
+
+pub parts-tick : {p : Parts} → AreParts p → p.wheel.due ≡ [] → (w' : Wheels.WheelState) → w' ≡ Wheels.after_tick p.wheel → AreParts (record p { wheel = w' })
+parts-tick {p} a h w' t =
     let here : AreParts (record p { wheel = Wheels.after_tick p.wheel }) = record {
       all_numbers = a.all_numbers;
       few_clients = a.few_clients;
@@ -208,6 +229,7 @@ parts-tick {p} a w' t =
       serial_unused = a.serial_unused;
       serial_in_range = a.serial_in_range;
       handed_in_range = a.handed_in_range;
+      counted = counted-as a.counted (kept (record p { wheel = Wheels.after_tick p.wheel })) (kept_after_tick p h);
     } in
     subst (λ (u : Wheels.WheelState). AreParts (record p { wheel = u })) (sym t) here
 
@@ -295,13 +317,29 @@ parts-used {p} a client number = record {
   serial_unused = a.serial_unused;
   serial_in_range = a.serial_in_range;
   handed_in_range = a.handed_in_range;
+  counted = a.counted;
 }
 
-pub parts-start : {p : Parts} → AreParts p → p.next_serial ≤ LAST → length p.wheel.pending ≢ p.capacity → (place : ℕ) (t : Timer) → t.serial ≡ p.next_serial
-    → (w' : Wheels.WheelState) → w' ≡ Wheels.after_start place t p.wheel → AreParts (record p { wheel = w'; next_serial = p.next_serial + 1 })
-parts-start {p} a unspent room place t fresh w' e =
+kept_after_start : (p : Parts) (place : ℕ) (t : Timer) (client : ℕ) → count_of client (kept (record p { wheel = Wheels.after_start place t p.wheel })) ≡ one_of client t + count_of client (kept p)
+kept_after_start p place t client =
+    let before = count-kept client p in
+    let after = count-kept client (record p { wheel = Wheels.after_start place t p.wheel }) in
+    let more = count-put client (record { place = place; timer = t }) p.wheel.pending in
+    omega arith
+
+-- the parts with one timer more of the client
+abbrev pub with_one_more : ℕ → Parts → Parts
+with_one_more client p = record p { counts = slice_set p.counts client (slice_index p.counts client + 1) }
+
+-- the parts with one timer less of the client
+abbrev pub with_one_less : ℕ → Parts → Parts
+with_one_less client p = record p { counts = slice_set p.counts client (slice_index p.counts client - 1) }
+
+pub parts-start : {p : Parts} → AreParts p → p.next_serial ≤ LAST → length p.wheel.pending ≢ p.capacity → (place : ℕ) (t : Timer) → t.serial ≡ p.next_serial → t.client < p.clients
+    → (w' : Wheels.WheelState) → w' ≡ Wheels.after_start place t p.wheel → AreParts (with_one_more t.client (record p { wheel = w'; next_serial = p.next_serial + 1 }))
+parts-start {p} a unspent room place t fresh known w' e =
     let entry : Entry = record { place = place; timer = t } in
-    let here : AreParts (record p { wheel = Wheels.after_start place t p.wheel; next_serial = p.next_serial + 1 }) = record {
+    let here : AreParts (with_one_more t.client (record p { wheel = Wheels.after_start place t p.wheel; next_serial = p.next_serial + 1 })) = record {
       all_numbers = a.all_numbers;
       few_clients = a.few_clients;
       capacity_in_range = a.capacity_in_range;
@@ -309,8 +347,9 @@ parts-start {p} a unspent room place t fresh w' e =
       serial_unused = omega arith;
       serial_in_range = omega arith;
       handed_in_range = a.handed_in_range;
+      counted = counted-more a.counted t (kept (record p { wheel = Wheels.after_start place t p.wheel })) known a.few_clients (kept_after_start p place t);
     } in
-    subst (λ (u : Wheels.WheelState). AreParts (record p { wheel = u; next_serial = p.next_serial + 1 })) (sym e) here
+    subst (λ (u : Wheels.WheelState). AreParts (with_one_more t.client (record p { wheel = u; next_serial = p.next_serial + 1 }))) (sym e) here
 
 -- a stop, whether it finds its timer or not
 stop_core : (p : Parts) (client number : ℕ) (handle : Handle) (found : Option Timer) → client < p.clients → (standing_of p).waiting ≡ [] → named (standing_of p).state client (Stop handle) ≡ found
@@ -330,18 +369,28 @@ standing-stop {p} {v} a e client number handle found l h r w' t =
     → standing_of (with_used client number (record p { wheel = record p.wheel { pending = without_found found p.wheel.pending } })) ≡ with_nothing_waiting (after_taken u.state client number (Stop handle) 0))
     e (stop_core p client number handle found l) h r
 
-pub parts-stop : {p : Parts} → AreParts p → (found : Option Timer) → (w' : Wheels.WheelState) → w' ≡ record p.wheel { pending = without_found found p.wheel.pending } → AreParts (record p { wheel = w' })
-parts-stop {p} a found w' t =
-    let here : AreParts (record p { wheel = record p.wheel { pending = without_found found p.wheel.pending } }) = record {
+kept_after_stop : (p : Parts) (t : Timer) → AreDistinct (timers_of p.wheel.pending) → Among t (timers_of p.wheel.pending) → (client : ℕ)
+    → count_of client (kept p) ≡ one_of client t + count_of client (kept (record p { wheel = record p.wheel { pending = without_found (Some t) p.wheel.pending } }))
+kept_after_stop p t d m client =
+    let before = count-kept client p in
+    let after = count-kept client (record p { wheel = record p.wheel { pending = without_found (Some t) p.wheel.pending } }) in
+    let less = count-without client t p.wheel.pending d m in
+    omega arith
+
+pub parts-stop : {p : Parts} → AreParts p → (t : Timer) → AreDistinct (timers_of p.wheel.pending) → Among t (timers_of p.wheel.pending)
+    → (w' : Wheels.WheelState) → w' ≡ record p.wheel { pending = without_found (Some t) p.wheel.pending } → AreParts (with_one_less t.client (record p { wheel = w' }))
+parts-stop {p} a t d m w' e =
+    let here : AreParts (with_one_less t.client (record p { wheel = record p.wheel { pending = without_found (Some t) p.wheel.pending } })) = record {
       all_numbers = a.all_numbers;
       few_clients = a.few_clients;
       capacity_in_range = a.capacity_in_range;
-      few_pending = let n = length-without found p.wheel.pending in let m = a.few_pending in omega arith;
+      few_pending = let n = length-without (Some t) p.wheel.pending in let k = a.few_pending in omega arith;
       serial_unused = a.serial_unused;
       serial_in_range = a.serial_in_range;
       handed_in_range = a.handed_in_range;
+      counted = counted-less a.counted t (kept (record p { wheel = record p.wheel { pending = without_found (Some t) p.wheel.pending } })) (kept_after_stop p t d m);
     } in
-    subst (λ (u : Wheels.WheelState). AreParts (record p { wheel = u })) (sym t) here
+    subst (λ (u : Wheels.WheelState). AreParts (with_one_less t.client (record p { wheel = u }))) (sym e) here
 
 -- what is found for a client is what stands under the handle
 pub found_there : {p : Parts} {v : Standing} → AreParts p → standing_of p ≡ v → (client : ℕ) (handle : Handle) (t : Timer) → named v.state client (Stop handle) ≡ Some t → Wheels.timer_at handle p.wheel ≡ Some t
@@ -349,5 +398,298 @@ found_there {p} {v} a e client handle t h =
     let here : named (standing_of p).state client (Stop handle) ≡ Some t = ap (λ (u : Standing). named u.state client (Stop handle)) e ∙ h in
     of_client_some client (Wheels.timer_at handle p.wheel) t here
 
+of_client_is : (client : ℕ) (o : Option Timer) (t : Timer) → of_client client o ≡ Some t → t.client ≡ client
+of_client_is client None t h = absurd (cc)
+of_client_is client (Some x) t h = found_client client x t (either (x.client == client)) h
+  where
+    found_client : (client : ℕ) (x t : Timer) → ((x.client == client) ≡ true) ⊎ ((x.client == client) ≡ false) → of_client client (Some x) ≡ Some t → t.client ≡ client
+    found_client client x t (inl k) h = let e : x ≡ t = cc (rw k at h) in ap (λ (u : Timer). u.client) (sym e) ∙ is_equal x.client client k
+    found_client client x t (inr k) h = let e = rw k at h in absurd (cc)
+
 pub answer_started : (h : Handle) (serial deadline told : ℕ) → h.serial ≡ serial → told ≡ deadline → Started h told ≡ Started (record { place = h.place; serial = serial }) deadline
 answer_started h serial deadline told e f = rw (← e, f) refl
+
+-- The counts.
+
+unmapped : (ts : List Timer) → map (λ t. Returned t) ts ≡ [] → ts ≡ []
+unmapped [] k = refl
+unmapped (t ∷ ts) k = absurd (cc)
+
+drop_at : (i : ℕ) (ts : List Timer) (t : Timer) → slice_get ts i ≡ Some t → drop i ts ≡ t ∷ drop (i + 1) ts
+drop_at i ts t h =
+    let l : i < length ts = slice_get_within ts i t h in
+    let g : get_or ts i t ≡ t = get_or_from_slice_get ts i t t h in
+    rw (add-one) (drop-cons ts i t l ∙ ap (λ u. u ∷ drop (suc i) ts) g)
+
+none_at : (ts : List Timer) → slice_get ts 0 ≡ None → drop 1 ts ≡ ts
+none_at [] h = refl
+none_at (t ∷ ts) h = absurd (cc)
+
+-- what the counts tell of a state in which nothing waits
+pub pending_is : {p : Parts} {v : Standing} → AreParts p → standing_of p ≡ v → v.waiting ≡ [] → (client : ℕ) → slice_index p.counts client ≡ pending_of v.state client
+pending_is {p} {v} a e h client =
+    let due : count_of client p.wheel.due ≡ 0 = ap (count_of client) (nothing_due a e h) in
+    let back : count_of client (drop p.handed p.returned) ≡ 0 = ap (count_of client) (unmapped (drop p.handed p.returned) (nothing_returned a e h)) in
+    let all = count-kept client p in
+    let each : slice_index p.counts client ≡ count_of client (kept p) = a.counted.each client in
+    let here : slice_index p.counts client ≡ count_of client (timers_of p.wheel.pending) = omega arith in
+    here ∙ ap (λ (u : Standing). pending_of u.state client) e
+
+pub pending_of_none : {p : Parts} {v : Standing} → AreParts p → standing_of p ≡ v → v.waiting ≡ [] → (client : ℕ) → p.clients ≤ client → pending_of v.state client ≡ 0
+pending_of_none {p} {v} a e h client l = sym (pending_is a e h client) ∙ a.counted.no_others client l
+
+kept_after_expiry : (p : Parts) (t : Timer) → Wheels.first_due p.wheel ≡ Some t → (client : ℕ)
+    → count_of client (kept p) ≡ one_of client t + count_of client (kept (record p { wheel = Wheels.after_expiry p.wheel }))
+kept_after_expiry p t h client =
+    let before = count-kept client p in
+    let after = count-kept client (record p { wheel = Wheels.after_expiry p.wheel }) in
+    let less = count-front client t p.wheel.due h in
+    omega arith
+
+kept_after_return : (p : Parts) (t : Timer) → slice_get p.returned p.handed ≡ Some t → (client : ℕ)
+    → count_of client (kept p) ≡ one_of client t + count_of client (kept (record p { handed = p.handed + 1 }))
+kept_after_return p t h client =
+    let before = count-kept client p in
+    let after = count-kept client (record p { handed = p.handed + 1 }) in
+    let less : count_of client (drop p.handed p.returned) ≡ one_of client t + count_of client (drop (p.handed + 1) p.returned) =
+    ap (count_of client) (drop_at p.handed p.returned t h) in
+    omega arith
+
+nothing_first : (w : Wheels.WheelState) → Wheels.first_due w ≡ None → Wheels.after_expiry w ≡ w
+nothing_first w h = ap (λ ds. let v : Wheels.WheelState = record w { due = ds } in v) (none_at w.due h)
+
+pub parts-expiry : {p : Parts} → AreParts p → (t : Timer) → Wheels.first_due p.wheel ≡ Some t → (w' : Wheels.WheelState) → w' ≡ Wheels.after_expiry p.wheel
+    → AreParts (with_one_less t.client (record p { wheel = w' }))
+parts-expiry {p} a t h w' e =
+    let here : AreParts (with_one_less t.client (record p { wheel = Wheels.after_expiry p.wheel })) = record {
+      all_numbers = a.all_numbers;
+      few_clients = a.few_clients;
+      capacity_in_range = a.capacity_in_range;
+      few_pending = a.few_pending;
+      serial_unused = a.serial_unused;
+      serial_in_range = a.serial_in_range;
+      handed_in_range = a.handed_in_range;
+      counted = counted-less a.counted t (kept (record p { wheel = Wheels.after_expiry p.wheel })) (kept_after_expiry p t h);
+    } in
+    subst (λ (u : Wheels.WheelState). AreParts (with_one_less t.client (record p { wheel = u }))) (sym e) here
+
+-- where nothing is due, taking the first leaves the wheel as it was
+pub parts-nothing_due : {p : Parts} → AreParts p → Wheels.first_due p.wheel ≡ None → (w' : Wheels.WheelState) → w' ≡ Wheels.after_expiry p.wheel → AreParts (record p { wheel = w' })
+parts-nothing_due {p} a h w' e = subst (λ (u : Wheels.WheelState). AreParts (record p { wheel = u })) (sym (e ∙ nothing_first p.wheel h)) a
+
+pub parts-returned : {p : Parts} → AreParts p → (t : Timer) → slice_get p.returned p.handed ≡ Some t → AreParts (with_one_less t.client (record p { handed = p.handed + 1 }))
+parts-returned {p} a t h = record {
+  all_numbers = a.all_numbers;
+  few_clients = a.few_clients;
+  capacity_in_range = a.capacity_in_range;
+  few_pending = a.few_pending;
+  serial_unused = a.serial_unused;
+  serial_in_range = a.serial_in_range;
+  handed_in_range = let l = slice_get_within p.returned p.handed t h in omega arith;
+  counted = counted-less a.counted t (kept (record p { handed = p.handed + 1 })) (kept_after_return p t h);
+}
+
+-- a timer that a facility has can be taken out of its counts
+pub due_counted : {p : Parts} → AreParts p → (t : Timer) → Wheels.first_due p.wheel ≡ Some t → IsCounted p.clients p.counts t
+due_counted {p} a t h = is_counted a.counted t (kept (record p { wheel = Wheels.after_expiry p.wheel })) (kept_after_expiry p t h)
+
+pub returned_counted : {p : Parts} → AreParts p → (t : Timer) → slice_get p.returned p.handed ≡ Some t → IsCounted p.clients p.counts t
+returned_counted {p} a t h = is_counted a.counted t (kept (record p { handed = p.handed + 1 })) (kept_after_return p t h)
+
+-- a close: the pending timers are returned
+kept_after_close : (p : Parts) (list : List Timer) → p.wheel.due ≡ [] → drop p.handed p.returned ≡ [] → list ≡ timers_of p.wheel.pending → (client : ℕ)
+    → count_of client (kept (record p { wheel = Wheels.after_clear p.wheel; is_closed = true; returned = list; handed = 0 })) ≡ count_of client (kept p)
+kept_after_close p list d b l client =
+    let due : count_of client p.wheel.due ≡ 0 = ap (count_of client) d in
+    let back : count_of client (drop p.handed p.returned) ≡ 0 = ap (count_of client) b in
+    let moved : count_of client list ≡ count_of client (timers_of p.wheel.pending) = ap (count_of client) l in
+    let before = count-kept client p in
+    let after = count-kept client (record p { wheel = Wheels.after_clear p.wheel; is_closed = true; returned = list; handed = 0 }) in
+    omega arith
+
+pub parts-close : {p : Parts} {v : Standing} → AreParts p → standing_of p ≡ v → v.waiting ≡ [] → (list : List Timer) → list ≡ timers_of p.wheel.pending → (w' : Wheels.WheelState) → w' ≡ Wheels.after_clear p.wheel
+    → AreParts (record p { wheel = w'; is_closed = true; returned = list; handed = 0 })
+parts-close {p} {v} a e h list l w' t =
+    let here : AreParts (record p { wheel = Wheels.after_clear p.wheel; is_closed = true; returned = list; handed = 0 }) = record {
+      all_numbers = a.all_numbers;
+      few_clients = a.few_clients;
+      capacity_in_range = a.capacity_in_range;
+      few_pending = omega arith;
+      serial_unused = a.serial_unused;
+      serial_in_range = a.serial_in_range;
+      handed_in_range = omega arith;
+      counted = counted-as a.counted (kept (record p { wheel = Wheels.after_clear p.wheel; is_closed = true; returned = list; handed = 0 }))
+          (kept_after_close p list (nothing_due a e h) (unmapped (drop p.handed p.returned) (nothing_returned a e h)) l);
+    } in
+    subst (λ (u : Wheels.WheelState). AreParts (record p { wheel = u; is_closed = true; returned = list; handed = 0 })) (sym t) here
+
+-- a new facility
+pub parts-open : (w : Wheels.WheelState) (c : Config) (returned : List Timer) → IsInRange c → w.pending ≡ [] → w.due ≡ [] → w.last_serial < c.first_serial → returned ≡ [] → AreParts (first_parts w c returned)
+parts-open w c returned i p d l r =
+    let none : kept (first_parts w c returned) ≡ [] = ap (λ es. timers_of es ++ (w.due ++ drop 0 returned)) p ∙ ap (λ ts. ts ++ drop 0 returned) d ∙ r in
+    let few : c.clients ≤ 64 = i.few_clients in
+    let serial : c.first_serial ≤ LAST = i.serial_in_range in
+    let empty : length w.pending ≡ 0 = ap (λ es. length es) p in
+    record {
+      all_numbers = refl;
+      few_clients = i.few_clients;
+      capacity_in_range = i.capacity_in_range;
+      few_pending = omega arith;
+      serial_unused = l;
+      serial_in_range = omega arith;
+      handed_in_range = omega arith;
+      counted = subst (λ ts. AreCounted c.clients (replicate 64 0) ts) (sym none) (counted-none c.clients);
+    }
+
+-- a stop of a client's timer
+pub parts-stopped : {p : Parts} {v : Standing} → AreParts p → standing_of p ≡ v → Wheels.IsWellFormed p.wheel → (client : ℕ) (handle : Handle) (t : Timer) → named v.state client (Stop handle) ≡ Some t
+    → (w' : Wheels.WheelState) → w' ≡ record p.wheel { pending = without_found (Some t) p.wheel.pending } → AreParts (with_one_less client (record p { wheel = w' }))
+parts-stopped {p} {v} a e i client handle t h w' s =
+    let here : named (standing_of p).state client (Stop handle) ≡ Some t = ap (λ (u : Standing). named u.state client (Stop handle)) e ∙ h in
+    let owner : t.client ≡ client = of_client_is client (Wheels.timer_at handle p.wheel) t here in
+    let there : Wheels.timer_at handle p.wheel ≡ Some t = of_client_some client (Wheels.timer_at handle p.wheel) t here in
+    subst (λ k. AreParts (with_one_less k (record p { wheel = w' }))) owner (parts-stop a t i.distinct (first_timer-among (has_handle handle) t p.wheel.pending there) w' s)
+
+-- how many a client has when nothing waits, at most as many as are pending
+pub few_counted : {p : Parts} {v : Standing} → AreParts p → standing_of p ≡ v → v.waiting ≡ [] → (client : ℕ) → slice_index p.counts client ≤ MOST_PENDING
+few_counted {p} {v} a e h client =
+    let n = pending_is a e h client in
+    let k = count_in_range client (timers_of v.state.pending) in
+    let m = (tells a e).length_is in
+    let f = a.few_pending in
+    let c = a.capacity_in_range in
+    let l = length_timers v.state.pending in
+    omega arith
+
+pub stopped_counted : {p : Parts} {v : Standing} → AreParts p → standing_of p ≡ v → Wheels.IsWellFormed p.wheel → (client : ℕ) (handle : Handle) (t : Timer) → named v.state client (Stop handle) ≡ Some t
+    → IsCounted p.clients p.counts (record t { client = client })
+stopped_counted {p} {v} a e i client handle t h =
+    let here : named (standing_of p).state client (Stop handle) ≡ Some t = ap (λ (u : Standing). named u.state client (Stop handle)) e ∙ h in
+    let owner : t.client ≡ client = of_client_is client (Wheels.timer_at handle p.wheel) t here in
+    let there : Wheels.timer_at handle p.wheel ≡ Some t = of_client_some client (Wheels.timer_at handle p.wheel) t here in
+    let counted : IsCounted p.clients p.counts t = is_counted a.counted t (kept (record p { wheel = record p.wheel { pending = without_found (Some t) p.wheel.pending } }))
+    (kept_after_stop p t i.distinct (first_timer-among (has_handle handle) t p.wheel.pending there)) in
+    record {
+      some = subst (λ k. 0 < slice_index p.counts k) owner counted.some;
+      is_client = subst (λ k. k < p.clients) owner counted.is_client;
+      within = subst (λ k. k < 64) owner counted.within;
+    }
+
+-- the timer that is handed out next of those that a close returned
+pub returned_next : {p : Parts} → AreParts p → (n : ℕ) → n ≡ length p.returned → p.handed ≢ n → (t : Timer) → t ≡ get_or p.returned p.handed t → slice_get p.returned p.handed ≡ Some t
+returned_next {p} a n e o t h =
+    let k = a.handed_in_range in
+    slice_get_read p.returned n p.handed t e (omega arith) h
+
+-- Restarts.
+
+-- a restart that is refused uses up the number
+pub standing-unchanged : {p : Parts} {v : Standing} → AreParts p → standing_of p ≡ v → (client number : ℕ) → client < p.clients → v.waiting ≡ [] → (c : FacilityState) → c ≡ v.state
+    → standing_of (with_used client number p) ≡ with_nothing_waiting (with_number client number c)
+standing-unchanged {p} {v} a e client number l h c f =
+    let here : (standing_of p).waiting ≡ [] = ap (λ (u : Standing). u.waiting) e ∙ h in
+    numbered_is (standing_of p).state (take p.clients (slice_set p.numbers client (number + 1))) (slice_set (take p.clients p.numbers) client (number + 1)) (standing_of p).waiting []
+    (take-set-lt p.clients p.numbers client (number + 1) l) here
+    ∙ ap (λ (u : Standing). with_nothing_waiting (with_number client number u.state)) e
+    ∙ ap (λ d. with_nothing_waiting (with_number client number d)) (sym f)
+
+pub restart_idle : (found : Option Timer) (reason : Option Reason) (r : Reason) (place : ℕ) (t : Timer) (s : FacilityState) → reason ≡ Some r → after_restart found reason place t s ≡ s
+restart_idle None reason r place t s h = refl
+restart_idle (Some old) (Some reason) r place t s h = refl
+restart_idle (Some old) None r place t s h = absurd (cc)
+
+restart_core : (p : Parts) (client number : ℕ) (handle : Handle) (interval action : ℕ) (old : Timer) (place : ℕ) → client < p.clients → (standing_of p).waiting ≡ []
+    → named (standing_of p).state client (Restart handle interval action) ≡ Some old → interval_refusal (standing_of p).state interval ≡ None
+    → let w : Wheels.WheelState = record p.wheel { pending = without_found (Some old) p.wheel.pending } in
+    standing_of (with_used client number (record p { wheel = Wheels.after_start place (new_timer (standing_of p).state client number interval action) w; next_serial = p.next_serial + 1 }))
+    ≡ with_nothing_waiting (after_taken (standing_of p).state client number (Restart handle interval action) place)
+restart_core p client number handle interval action old place l h f r =
+    let s : FacilityState = (standing_of p).state in
+    let t : Timer = new_timer s client number interval action in
+    numbered_is (after_restart (Some old) None place t s) (take p.clients (slice_set p.numbers client (number + 1))) (slice_set (take p.clients p.numbers) client (number + 1)) (standing_of p).waiting []
+    (take-set-lt p.clients p.numbers client (number + 1) l) h
+    ∙ ap (λ o. with_nothing_waiting (with_number client number (after_restart o None place t s))) (sym f)
+    ∙ ap (λ v. with_nothing_waiting (with_number client number (after_restart (named s client (Restart handle interval action)) v place t s))) (sym r)
+
+-- an accepted restart: what the wheel restarted, and under which number and serial
+pub record IsRenewed (p : Parts) (client number : ℕ) (handle : Handle) (interval action : ℕ) (now : ℕ) (old : Timer) (place : ℕ) (w' : Wheels.WheelState) : Type 0 where
+  pub is_client : client < p.clients
+  pub now_is : now ≡ p.wheel.now
+  pub there : Wheels.timer_at handle p.wheel ≡ Some old
+  pub restarted : w' ≡ Wheels.after_start place (record { serial = p.next_serial; client = client; number = number; deadline = now + interval; action = action }) (Wheels.after_stop handle p.wheel)
+
+pub standing-restart : {p : Parts} {v : Standing} → AreParts p → standing_of p ≡ v → (client number : ℕ) (handle : Handle) (interval action now : ℕ) (old : Timer) (place : ℕ) (w' : Wheels.WheelState)
+    → IsRenewed p client number handle interval action now old place w' → v.waiting ≡ []
+    → named v.state client (Restart handle interval action) ≡ Some old → interval_refusal v.state interval ≡ None
+    → standing_of (with_used client number (record p { wheel = w'; next_serial = p.next_serial + 1 })) ≡ with_nothing_waiting (after_taken v.state client number (Restart handle interval action) place)
+standing-restart {p} {v} a e client number handle interval action now old place w' i h f r =
+    let t : ℕ → Timer = λ m. record { serial = p.next_serial; client = client; number = number; deadline = m + interval; action = action } in
+    let w : Wheels.WheelState = record p.wheel { pending = without_found (Some old) p.wheel.pending } in
+    let x : w' ≡ Wheels.after_start place (t p.wheel.now) w =
+    i.restarted ∙ ap (λ m. Wheels.after_start place (t m) (Wheels.after_stop handle p.wheel)) i.now_is
+    ∙ ap (λ o. Wheels.after_start place (t p.wheel.now) (record p.wheel { pending = without_found o p.wheel.pending })) i.there in
+    ap (λ u. standing_of (with_used client number (record p { wheel = u; next_serial = p.next_serial + 1 }))) x
+    ∙ subst (λ (u : Standing). u.waiting ≡ [] → named u.state client (Restart handle interval action) ≡ Some old → interval_refusal u.state interval ≡ None
+    → standing_of (with_used client number (record p { wheel = Wheels.after_start place (t p.wheel.now) w; next_serial = p.next_serial + 1 }))
+    ≡ with_nothing_waiting (after_taken u.state client number (Restart handle interval action) place))
+    e (restart_core p client number handle interval action old place i.is_client) h f r
+
+same_serial : (x t : Timer) → Some x ≡ Some t → not (has_serial t.serial x) ≡ false
+same_serial x t h = let e : x.serial ≡ t.serial = ap (λ (o : Timer). o.serial) (the_timer x t h) in grind (arith, nat_tests)
+  where
+    the_timer : (x t : Timer) → Some x ≡ Some t → x ≡ t
+    the_timer x t h = cc
+
+-- a timer that was found is taken away
+length-found : (test : Entry → Bool) (t : Timer) (es : List Entry) → first_timer test es ≡ Some t → length (without_found (Some t) es) + 1 ≤ length es
+length-found test t [] h = absurd (cc)
+length-found test t (e ∷ es) h = elim (either (test e)) [
+  | inl k ↦ let f : Some e.timer ≡ Some t = rw k at h in
+      let n = length-filter (λ x. not (has_serial t.serial x.timer)) es in
+      rw (same_serial e.timer t f) (omega arith)
+  | inr k ↦ let f : first_timer test es ≡ Some t = rw k at h in
+      let n = length-found test t es f in
+      elim (either (not (has_serial t.serial e.timer))) [
+        | inl m ↦ rw m (omega arith)
+        | inr m ↦ rw m (omega arith)
+      ]
+]
+
+-- a restart starts a timer of the client whose timer it stops: no client has more or fewer
+kept_after_restart : (p : Parts) (old : Timer) (place : ℕ) (t : Timer) → AreDistinct (timers_of p.wheel.pending) → Among old (timers_of p.wheel.pending) → old.client ≡ t.client → (client : ℕ)
+    → count_of client (kept (record p { wheel = Wheels.after_start place t (record p.wheel { pending = without_found (Some old) p.wheel.pending }) })) ≡ count_of client (kept p)
+kept_after_restart p old place t d m o client =
+    let w : Wheels.WheelState = record p.wheel { pending = without_found (Some old) p.wheel.pending } in
+    let less : count_of client (kept p) ≡ one_of client old + count_of client (kept (record p { wheel = w })) = kept_after_stop p old d m client in
+    let more : count_of client (kept (record p { wheel = Wheels.after_start place t w })) ≡ one_of client t + count_of client (kept (record p { wheel = w })) =
+    kept_after_start (record p { wheel = w }) place t client in
+    let same : one_of client old ≡ one_of client t = ap (λ k. if k == client then 1 else 0) o in
+    omega arith
+
+pub parts-restart : {p : Parts} {v : Standing} → AreParts p → standing_of p ≡ v → Wheels.IsWellFormed p.wheel → (client number : ℕ) (handle : Handle) (interval action now : ℕ) (old : Timer) (place : ℕ) (w' : Wheels.WheelState)
+    → IsRenewed p client number handle interval action now old place w' → named v.state client (Stop handle) ≡ Some old → p.next_serial ≤ LAST → AreParts (record p { wheel = w'; next_serial = p.next_serial + 1 })
+parts-restart {p} {v} a e i client number handle interval action now old place w' r h unspent =
+    let t : Timer = record { serial = p.next_serial; client = client; number = number; deadline = now + interval; action = action } in
+    let left : List Entry = without_found (Some old) p.wheel.pending in
+    let w : Wheels.WheelState = record p.wheel { pending = left } in
+    let x : w' ≡ Wheels.after_start place t w = r.restarted ∙ ap (λ o. Wheels.after_start place t (record p.wheel { pending = without_found o p.wheel.pending })) r.there in
+    let one : length (put (record { place = place; timer = t }) left) ≡ length left + 1 = length-put (record { place = place; timer = t }) left in
+    let less : length left + 1 ≤ length p.wheel.pending = length-found (has_handle handle) old p.wheel.pending r.there in
+    let few : length p.wheel.pending ≤ p.capacity = a.few_pending in
+    let among : Among old (timers_of p.wheel.pending) = first_timer-among (has_handle handle) old p.wheel.pending r.there in
+    let owner : old.client ≡ client = of_client_is client (Wheels.timer_at handle p.wheel) old (ap (λ (u : Standing). named u.state client (Stop handle)) e ∙ h) in
+    let here : AreParts (record p { wheel = Wheels.after_start place t w; next_serial = p.next_serial + 1 }) = record {
+      all_numbers = a.all_numbers;
+      few_clients = a.few_clients;
+      capacity_in_range = a.capacity_in_range;
+      few_pending = omega arith;
+      serial_unused = omega arith;
+      serial_in_range = omega arith;
+      handed_in_range = a.handed_in_range;
+      counted = counted-as a.counted (kept (record p { wheel = Wheels.after_start place t w })) (kept_after_restart p old place t i.distinct among owner);
+    } in
+    subst (λ (u : Wheels.WheelState). AreParts (record p { wheel = u; next_serial = p.next_serial + 1 })) (sym x) here
+
+-- the answer that an accepted restart gives
+pub answer_restarted : (h : Handle) (serial deadline told old : ℕ) → h.serial ≡ serial → told ≡ deadline → Restarted h told old ≡ Restarted (record { place = h.place; serial = serial }) deadline old
+answer_restarted h serial deadline told old e f = rw (← e, f) refl

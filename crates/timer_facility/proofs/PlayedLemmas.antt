@@ -10,11 +10,11 @@ use Rattle.timer_base.specs.declared.timer.Handle.{Handle}
 use Rattle.timer_facility.specs.declared.event.Event.{Event}
 use Rattle.timer_facility.specs.declared.event.Event.TheVariants as Events
 use Rattle.timer_facility.specs.Recorded.{Places, AreRecorded}
-use Rattle.timer_facility.proofs.RecordedLemmas.{IsHandleOf, step-recorded}
+use Rattle.timer_facility.proofs.RecordedLemmas.{IsHandleOf, step-recorded, restart-recorded}
 use Rattle.timer_facility.proofs.Owed.{notices-take}
 use Rattle.timer_facility.specs.declared.event.Out.{Out}
 use Rattle.timer_facility.specs.declared.event.Out.TheVariants as Outs
-use Rattle.timer_facility.specs.State.{FacilityState, IsSound, SingleEvent, Wanted, Asked, Stop, StopSerial}
+use Rattle.timer_facility.specs.State.{FacilityState, IsSound, SingleEvent, Wanted, Asked, Stop, StopSerial, Restart, RestartSerial}
 use Rattle.timer_facility.specs.Verdict.{not_taken}
 use Rattle.timer_facility.specs.Step.{Step, step, step_of_request}
 use Rattle.timer_facility.specs.Run.{Placed, Happened, history, state_after, outs_of}
@@ -119,6 +119,23 @@ pub AddsRun-stopped : (places : Places) (s : FacilityState) (client number seria
 AddsRun-stopped places s client number serial handle answer before outs new a h t o =
     let same : step s (Asked client number (Stop handle)) (place_in answer) ≡ step s (Asked client number (StopSerial serial)) (place_in answer) = step-recorded places s client number serial (place_in answer) handle a h in
     AddsRun-one s (Events.Stop client number serial) (Asked client number (StopSerial serial)) (place_in answer) before outs new.state refl
+    (o ∙ ap (λ os. before ++ os) (sym t.answered ∙ ap (λ (st : Step). st.outs) same))
+    (ap (λ (v : Standing). v.state) t.left ∙ ap (λ (st : Step). st.state) same)
+
+-- a restart takes no memory
+pub reason-restart : (s : FacilityState) (client number : ℕ) (handle : Handle) (interval action : ℕ) (reason : NotTaken) → IsNotTaken s client number (Requests.Restart handle interval action) reason
+    → not_taken s client number ≡ Some reason
+reason-restart s client number handle interval action reason (inl h) = h
+reason-restart s client number handle interval action reason (inr h) = absurd h.1
+
+-- a restart that is taken with the recorded handle of its serial
+pub AddsRun-restarted : (places : Places) (s : FacilityState) (client number serial interval action : ℕ) (handle : Handle) (answer : Answer) (before outs : List Out) (new : Standing)
+    → AreRecorded places s → IsHandleOf places serial handle → IsTaken s client number (Requests.Restart handle interval action) answer new → outs ≡ before ++ Outs.Answered client number answer ∷ []
+    → AddsRun s (Events.Restart client number serial interval action) before outs new.state
+AddsRun-restarted places s client number serial interval action handle answer before outs new a h t o =
+    let same : step s (Asked client number (Restart handle interval action)) (place_in answer) ≡ step s (Asked client number (RestartSerial serial interval action)) (place_in answer) =
+    restart-recorded places s client number serial interval action (place_in answer) handle a h in
+    AddsRun-one s (Events.Restart client number serial interval action) (Asked client number (RestartSerial serial interval action)) (place_in answer) before outs new.state refl
     (o ∙ ap (λ os. before ++ os) (sym t.answered ∙ ap (λ (st : Step). st.outs) same))
     (ap (λ (v : Standing). v.state) t.left ∙ ap (λ (st : Step). st.state) same)
 

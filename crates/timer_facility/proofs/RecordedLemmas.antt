@@ -1,5 +1,5 @@
 -- What the record of places tells of the pending entries.
-use Rattle.std.proofs.Common.{◌≡◌, ◌<◌, ◌≤◌, ◌+◌, ◌-◌, ℕ, Bool, true, false, ◌==◌, ◌&&◌, List, [], ◌∷◌, ◌++◌, length, refl, sym, ◌∙◌, ap, subst, arith, inl, inr, length-append}
+use Rattle.std.proofs.Common.{zero, suc, ◌≡◌, ◌<◌, ◌≤◌, ◌+◌, ◌-◌, ℕ, Bool, true, false, ◌==◌, ◌&&◌, List, [], ◌∷◌, ◌++◌, length, refl, sym, ◌∙◌, ap, subst, arith, inl, inr, length-append}
 use Rattle.std.specs.Prelude.{nat_lt, if◌then◌else◌, Option, Some, None, slice_get}
 use Rattle.std.specs.List.{AllByRecursion}
 use Rattle.std.proofs.Math.ListN.{get_or-append}
@@ -15,12 +15,13 @@ use Rattle.timer_facility.specs.declared.request.NotTaken.{NotTaken}
 use Rattle.timer_facility.specs.declared.request.TickFault.{TickFault}
 use Rattle.timer_facility.specs.declared.request.Request.TheVariants as Requests
 use Rattle.timer_facility.specs.declared.request.Answer.{Answer}
-use Rattle.timer_facility.specs.declared.request.Answer.TheVariants.{Started, Stopped, Refused}
+use Rattle.timer_facility.specs.declared.request.Answer.TheVariants.{Started, Stopped, Restarted, Refused}
 use Rattle.timer_facility.specs.declared.event.Out.TheVariants as Outs
-use Rattle.timer_facility.specs.State.{FacilityState, Asked, Tick, Close, Start, Stop, StopSerial}
-use Rattle.timer_facility.specs.Verdict.{not_taken, start_refusal, tick_refusal, of_client, named}
-use Rattle.timer_facility.specs.Step.{Step, step, step_of_request, step_of_tick, step_of_close, after_start, after_stop, answer_to_start, answer_to_stop, with_number, new_timer}
-use Rattle.timer_facility.specs.Run.{notices_in}
+use Rattle.timer_facility.specs.State.{FacilityState, Asked, Tick, Close, Start, Stop, StopSerial, Restart, RestartSerial}
+use Rattle.timer_facility.specs.Verdict.{not_taken, start_refusal, interval_refusal, tick_refusal, of_client, named}
+use Rattle.timer_facility.specs.Step.{Step, step, step_of_request, step_of_tick, step_of_close, after_start, after_stop, after_restart, answer_to_start, answer_to_stop, answer_to_restart, with_number, new_timer}
+use Rattle.timer_facility.specs.Run.{notices_in, state_after}
+use Rattle.timer_facility.specs.Ticked.{ticks, AreTicked}
 use Rattle.timer_facility.specs.Standing.{Standing, place_in, IsTaken}
 use Rattle.timer_facility.specs.Recorded.{Places, IsRecorded, AreRecorded, IsPlayer}
 
@@ -31,6 +32,14 @@ recorded_tick places s None a = record { all_serials = a.all_serials; each = All
 -- a tick takes entries away, and adds none
 pub AreRecorded-tick : (places : Places) (s : FacilityState) → AreRecorded places s → AreRecorded places (step s Tick 0).state
 AreRecorded-tick places s a = recorded_tick places s (tick_refusal s) a
+
+-- nor do many
+AreRecorded-run : (places : Places) (n : ℕ) (s : FacilityState) → AreRecorded places s → AreRecorded places (state_after s (ticks n))
+AreRecorded-run places zero s a = a
+AreRecorded-run places (suc n) s a = AreRecorded-run places n (step s Tick 0).state (AreRecorded-tick places s a)
+
+pub AreRecorded-ticks : (places : Places) (limit passed : ℕ) (s : FacilityState) (v : Standing) → AreTicked limit passed s v → AreRecorded places s → AreRecorded places v.state
+AreRecorded-ticks places limit passed s v t a = subst (λ (u : Standing). AreRecorded places u.state) (sym t.ticked) (AreRecorded-run places passed s a)
 
 recorded_close : (places : Places) (s : FacilityState) (closed : Bool) → AreRecorded places s → AreRecorded places (step_of_close s closed).state
 recorded_close places s true a = a
@@ -76,10 +85,11 @@ IsRecorded-new places place t h =
       at_its_serial = ap (slice_get (places.list ++ place ∷ [])) at ∙ slice_get-last places.list place;
     }
 
--- what the answer to a start adds to the places
+-- what the answer to a start or a restart adds to the places
 abbrev pub with_answer : Answer → Places → Places
 with_answer (Started handle deadline) places = with_place handle.place places
 with_answer (Stopped serial) places = places
+with_answer (Restarted handle deadline old) places = with_place handle.place places
 with_answer (Refused reason) places = places
 
 AreRecorded-put : (places : Places) (s : FacilityState) (client number place : ℕ) (t : Timer) → t.serial ≡ s.next_serial → AreRecorded places s
@@ -121,6 +131,26 @@ recorded_stop : (places : Places) (s : FacilityState) (client number place : ℕ
 recorded_stop places s client number place handle (Some reason) a = a
 recorded_stop places s client number place handle None a = recorded_without places s client number (named s client (Stop handle)) a
 
+recorded_restart : (places : Places) (s : FacilityState) (client number place : ℕ) (t : Timer) (found : Option Timer) (v : Option Reason) → t.serial ≡ s.next_serial → AreRecorded places s
+    → AreRecorded (with_answer (answer_to_restart found v place t) places) (with_number client number (after_restart found v place t s))
+recorded_restart places s client number place t None v n a = record { all_serials = a.all_serials; each = a.each }
+recorded_restart places s client number place t (Some old) (Some reason) n a = record { all_serials = a.all_serials; each = a.each }
+recorded_restart places s client number place t (Some old) None n a =
+    let left : AreRecorded places (after_stop (Some old) s) = record { all_serials = a.all_serials; each = All-filter (IsRecorded places) (IsRecorded places) _ s.pending (λ e _ r. r) a.each } in
+    AreRecorded-put places (after_stop (Some old) s) client number place t n left
+
+recorded_renewal : (places : Places) (s : FacilityState) (client number place : ℕ) (handle : Handle) (interval action : ℕ) (answer : Answer) (refusal : Option NotTaken) → AreRecorded places s
+    → (step_of_request s client number (Restart handle interval action) place refusal).outs ≡ Outs.Answered client number answer ∷ []
+    → AreRecorded (with_answer answer places) (step_of_request s client number (Restart handle interval action) place refusal).state
+recorded_renewal places s client number place handle interval action answer (Some reason) a h = absurd (cc)
+recorded_renewal places s client number place handle interval action answer None a h =
+    let t : Timer = new_timer s client number interval action in
+    let found : Option Timer = named s client (Restart handle interval action) in
+    let v : Option Reason = interval_refusal s interval in
+    let is : answer_to_restart found v place t ≡ answer = answer_is client number client number _ answer h in
+    subst (λ x. AreRecorded (with_answer x places) (with_number client number (after_restart found v place t s))) is
+    (recorded_restart places s client number place t found v refl a)
+
 -- nothing waits after a request that is taken
 waiting-taken : (s : FacilityState) (client number : ℕ) (request : _) (answer : Answer) (new : Standing) → IsTaken s client number request answer new → new.waiting ≡ []
 waiting-taken s client number request answer new h = ap (λ (v : Standing). v.waiting) h.left ∙ ap notices_in h.answered
@@ -140,6 +170,14 @@ IsPlayer-stop f new places client number handle answer i h = record {
   waiting = waiting-taken f.state client number (Requests.Stop handle) answer new h;
   recorded = subst (λ (v : Standing). AreRecorded places v.state) (sym h.left)
       (recorded_stop places f.state client number (place_in answer) handle (not_taken f.state client number) i.recorded);
+}
+
+pub IsPlayer-restart : (f new : Standing) (places : Places) (client number : ℕ) (handle : Handle) (interval action : ℕ) (answer : Answer) → IsPlayer f places
+    → IsTaken f.state client number (Requests.Restart handle interval action) answer new → IsPlayer new (with_answer answer places)
+IsPlayer-restart f new places client number handle interval action answer i h = record {
+  waiting = waiting-taken f.state client number (Requests.Restart handle interval action) answer new h;
+  recorded = subst (λ (v : Standing). AreRecorded (with_answer answer places) v.state) (sym h.left)
+      (recorded_renewal places f.state client number (place_in answer) handle interval action answer (not_taken f.state client number) i.recorded h.answered);
 }
 
 -- the handle is the recorded one of this serial, where there is one
@@ -189,6 +227,20 @@ step_by_serial s client number serial place handle None h =
 pub step-recorded : (places : Places) (s : FacilityState) (client number serial place : ℕ) (handle : Handle) → AreRecorded places s → IsHandleOf places serial handle
     → step s (Asked client number (Stop handle)) place ≡ step s (Asked client number (StopSerial serial)) place
 step-recorded places s client number serial place handle a h = step_by_serial s client number serial place handle (not_taken s client number) (named-recorded places s client serial handle a h)
+
+restart_by_serial : (s : FacilityState) (client number serial interval action place : ℕ) (handle : Handle) (refusal : Option NotTaken) → named s client (Stop handle) ≡ named s client (StopSerial serial)
+    → step_of_request s client number (Restart handle interval action) place refusal ≡ step_of_request s client number (RestartSerial serial interval action) place refusal
+restart_by_serial s client number serial interval action place handle (Some reason) h = refl
+restart_by_serial s client number serial interval action place handle None h =
+    let t : Timer = new_timer s client number interval action in
+    let v : Option Reason = interval_refusal s interval in
+    let of_found : Option Timer → Step = λ found. record { outs = Outs.Answered client number (answer_to_restart found v place t) ∷ []; state = with_number client number (after_restart found v place t s) } in
+    ap of_found h
+
+pub restart-recorded : (places : Places) (s : FacilityState) (client number serial interval action place : ℕ) (handle : Handle) → AreRecorded places s → IsHandleOf places serial handle
+    → step s (Asked client number (Restart handle interval action)) place ≡ step s (Asked client number (RestartSerial serial interval action)) place
+restart-recorded places s client number serial interval action place handle a h =
+    restart_by_serial s client number serial interval action place handle (not_taken s client number) (named-recorded places s client serial handle a h)
 
 pub places_are : (first first' : ℕ) (xs xs' : List ℕ) → first ≡ first' → xs ≡ xs' → let a : Places = record { first = first; list = xs } in let b : Places = record { first = first'; list = xs' } in a ≡ b
 places_are first first' xs xs' h k = cc

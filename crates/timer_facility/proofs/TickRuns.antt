@@ -1,7 +1,8 @@
 -- Ticks one after another.
-use Rattle.std.proofs.Common.{zero, suc, ◌≡◌, ◌<◌, ◌≤◌, ◌+◌, ◌-◌, ℕ, Bool, true, false, not, ◌==◌, List, [], ◌∷◌, ◌++◌, length, refl, sym, ◌∙◌, ap, subst, arith, append-nil, append_assoc, add-one, inl, inr, ◌⊎◌}
-use Rattle.std.specs.Prelude.{replicate, map, filter, min, if◌then◌else◌, Option, Some, None}
+use Rattle.std.proofs.Common.{zero, suc, ◌≡◌, ◌<◌, ◌≤◌, ◌+◌, ◌-◌, ℕ, Bool, true, false, not, ◌==◌, List, [], ◌∷◌, ◌++◌, length, refl, sym, ◌∙◌, ap, subst, arith, append-nil, append_assoc, length-append, add-one, inl, inr, ◌⊎◌}
+use Rattle.std.specs.Prelude.{replicate, map, filter, min, if◌then◌else◌, Some, None}
 use Rattle.std.proofs.lemmas.Bool.Decides.{nat_tests}
+use Rattle.std.proofs.lemmas.List.{map-append}
 use Rattle.timer_base.specs.declared.timer.Timer.{Timer}
 use Rattle.timer_base.specs.OrderLaws.{either}
 use Rattle.timer_base.specs.Pending.{Entry, timers_of, is_due_at, entries_left}
@@ -14,14 +15,12 @@ use Rattle.timer_facility.specs.declared.event.Out.TheVariants as Outs
 use Rattle.timer_facility.specs.State.{FacilityState, Tick}
 use Rattle.timer_facility.specs.Verdict.{tick_refusal}
 use Rattle.timer_facility.specs.Step.{Step, step, step_of_tick, after_tick, expired_next}
-use Rattle.timer_facility.specs.Run.{Placed, history, state_after, outs_of, notices_in}
-use Rattle.timer_facility.specs.Standing.{Standing, standing_after}
+use Rattle.timer_facility.specs.Run.{Placed, history, state_after, outs_of, notices, notices_in}
+use Rattle.timer_facility.specs.Standing.{Standing}
 use Rattle.timer_facility.proofs.HandedOut.{outs-notices, length-notices}
+use Rattle.timer_facility.proofs.Owed.{notices_in-append}
 use Rattle.timer_facility.specs.Played.{ticks_left, AddsRun}
-
--- one tick; its place is never read
-abbrev pub a_tick : Placed
-a_tick = record { event = Tick; place = 0 }
+use Rattle.timer_facility.specs.Ticked.{a_tick, ticks, AreTicked}
 
 -- n ticks were accepted, and their outs added
 pub record HasTicked (s : FacilityState) (n : ℕ) (before outs : List Out) (after : FacilityState) : Type 0 where
@@ -167,14 +166,66 @@ length-accepted s h =
     subst (λ (st : Step). length (notices_in st.outs) + length st.state.pending ≡ length s.pending) (sym (step-accepted s h))
     (ap (λ n. n + length (entries_left (s.now + 1) s.pending)) (length-notices (λ t. Expired t) (expired_next s)) ∙ length-parts (is_due_at (s.now + 1)) s.pending)
 
--- the same of what a facility is after the tick
-pub length-ticked : (s : FacilityState) (v : Standing) → v ≡ standing_after (step s Tick 0) → tick_refusal s ≡ None → length v.waiting + length v.state.pending ≡ length s.pending
-length-ticked s v e h = subst (λ (u : Standing). length u.waiting + length u.state.pending ≡ length s.pending) (sym e) (length-accepted s h)
+-- What accepted ticks give together: their outs are all notices, and what they hand out is pending no more.
+pub record AreAccepted (s : FacilityState) (n : ℕ) : Type 0 where
+  pub outs : map (λ notice. Outs.Notice notice) (notices (history s (ticks n))) ≡ outs_of (history s (ticks n))
+  pub counted : length (notices (history s (ticks n))) + length (state_after s (ticks n)).pending ≡ length s.pending
 
-pub outs-ticked : (s : FacilityState) (v : Standing) → v ≡ standing_after (step s Tick 0) → tick_refusal s ≡ None → map (λ notice. Outs.Notice notice) v.waiting ≡ (step s Tick 0).outs
-outs-ticked s v e h = ap (λ (u : Standing). map (λ notice. Outs.Notice notice) u.waiting) e ∙ outs-accepted s h
+pub are_accepted : (s : FacilityState) (n : ℕ) → ((k : ℕ) → k < n → tick_refusal (state_after s (ticks k)) ≡ None) → AreAccepted s n
+are_accepted s zero a = record { outs = refl; counted = omega arith }
+are_accepted s (suc n) a =
+    let i : AreAccepted s n = are_accepted s n (λ k h. a k (omega arith)) in
+    let before : List Out = outs_of (history s (ticks n)) in
+    let c : FacilityState = state_after s (ticks n) in
+    let last : Step = step c Tick 0 in
+    let accepted : tick_refusal c ≡ None = a n (omega arith) in
+    let parts : notices (history s (ticks (suc n))) ≡ notices_in before ++ notices_in last.outs = ap notices_in (outs_of-ticks n s) ∙ notices_in-append before last.outs in
+    let here : length (notices_in before) + length c.pending ≡ length s.pending = i.counted in
+    let one : length (notices_in last.outs) + length last.state.pending ≡ length c.pending = length-accepted c accepted in
+    let all : length (notices (history s (ticks (suc n)))) ≡ length (notices_in before) + length (notices_in last.outs) =
+    ap length parts ∙ length-append (notices_in before) (notices_in last.outs) in
+    let left : length (state_after s (ticks (suc n))).pending ≡ length last.state.pending = ap (λ (d : FacilityState). length d.pending) (state_after-ticks n s) in
+    record {
+      outs = ap (map (λ notice. Outs.Notice notice)) parts
+          ∙ map-append (λ notice. Outs.Notice notice) (notices_in before) (notices_in last.outs)
+          ∙ ap (λ os. os ++ map (λ notice. Outs.Notice notice) (notices_in last.outs)) i.outs
+          ∙ ap (λ os. before ++ os) (outs-accepted c accepted)
+          ∙ sym (outs_of-ticks n s);
+      counted = omega arith;
+    }
 
--- a tick that is not accepted is refused for some fault
-pub is_refused : (refusal : Option TickFault) → (refusal ≡ None → ⊥) → (fault : TickFault) × (refusal ≡ Some fault)
-is_refused None h = absurd (h refl)
-is_refused (Some fault) h = (fault, refl)
+-- so many ticks more, one by one
+HasTicked-on : (s : FacilityState) (n k : ℕ) (before outs : List Out) (c : FacilityState) → HasTicked s n before outs c → ((j : ℕ) → j < k → tick_refusal (state_after c (ticks j)) ≡ None)
+    → HasTicked s (n + k) before (outs ++ outs_of (history c (ticks k))) (state_after c (ticks k))
+HasTicked-on s n zero before outs c h a =
+    let none : n + zero ≡ n = omega arith in
+    subst (λ m. HasTicked s m before (outs ++ []) c) (sym none) (subst (λ os. HasTicked s n before os c) (sym (append-nil outs)) h)
+HasTicked-on s n (suc k) before outs c h a =
+    let here : FacilityState = state_after c (ticks k) in
+    let so_far : List Out = outs_of (history c (ticks k)) in
+    let one_more : n + k + 1 ≡ n + suc k = omega arith in
+    subst (λ m. HasTicked s m before (outs ++ outs_of (history c (ticks (suc k)))) (state_after c (ticks (suc k)))) one_more
+    (HasTicked-more s (n + k) before (outs ++ so_far) (outs ++ outs_of (history c (ticks (suc k)))) here (state_after c (ticks (suc k)))
+    (HasTicked-on s n k before outs c h (λ j g. a j (omega arith))) (a k (omega arith)) (state_after-ticks k c)
+    (ap (λ os. outs ++ os) (outs_of-ticks k c) ∙ sym (append_assoc outs so_far (step here Tick 0).outs)))
+
+-- so many ticks more, at once
+pub HasTicked-many : (s : FacilityState) (n limit passed : ℕ) (before outs outs' : List Out) (c c' : FacilityState) (v : Standing) → HasTicked s n before outs c → AreTicked limit passed c v
+    → outs' ≡ outs ++ map (λ notice. Outs.Notice notice) v.waiting → c' ≡ v.state → HasTicked s (n + passed) before outs' c'
+HasTicked-many s n limit passed before outs outs' c c' v h t o e =
+    let told : outs' ≡ outs ++ outs_of (history c (ticks passed)) =
+    o ∙ ap (λ (u : Standing). outs ++ map (λ notice. Outs.Notice notice) u.waiting) t.ticked ∙ ap (λ os. outs ++ os) (are_accepted c passed t.accepted).outs in
+    let state : c' ≡ state_after c (ticks passed) = e ∙ ap (λ (u : Standing). u.state) t.ticked in
+    subst (λ d. HasTicked s (n + passed) before outs' d) (sym state)
+    (subst (λ os. HasTicked s (n + passed) before os (state_after c (ticks passed))) (sym told) (HasTicked-on s n passed before outs c h t.accepted))
+
+-- what they hand out is pending no more
+pub length-many : (limit passed : ℕ) (c : FacilityState) (v : Standing) → AreTicked limit passed c v → length v.waiting + length v.state.pending ≡ length c.pending
+length-many limit passed c v t = subst (λ (u : Standing). length u.waiting + length u.state.pending ≡ length c.pending) (sym t.ticked) (are_accepted c passed t.accepted).counted
+
+-- a refused tick behind accepted ones
+pub AddsRun-refused : (s : FacilityState) (count n : ℕ) (before outs outs' : List Out) (c c' : FacilityState) (fault : TickFault) → HasTicked s n before outs c → n < count
+    → tick_refusal c ≡ Some fault → c' ≡ c → outs' ≡ outs ++ Outs.TickRefused fault ∷ [] → AddsRun s (Events.Ticks count) before outs' c'
+AddsRun-refused s count n before outs outs' c c' fault h l r e o =
+    let refused : step c Tick 0 ≡ step_of_tick c (Some fault) = ap (step_of_tick c) r in
+    AddsRun-cut s count n before outs outs' c c' fault h l r (e ∙ ap (λ (st : Step). st.state) (sym refused)) (o ∙ ap (λ (st : Step). outs ++ st.outs) (sym refused))

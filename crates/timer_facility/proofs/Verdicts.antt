@@ -1,13 +1,14 @@
 -- Which verdict comes of which tests.
-use Rattle.std.proofs.Common.{◌≡◌, ◌≢◌, ◌<◌, ◌≤◌, ◌-◌, ℕ, Bool, true, false, not, ◌==◌, length, refl, arith}
+use Rattle.std.proofs.Common.{◌≡◌, ◌≢◌, ◌<◌, ◌≤◌, ◌-◌, ℕ, Bool, true, false, not, ◌==◌, length, refl, ◌∙◌, arith}
 use Rattle.std.specs.Prelude.{nat_lt, if◌then◌else◌, Option, Some, None}
 use Rattle.std.proofs.lemmas.Bool.Decides.{nat_tests}
 use Rattle.timer_base.specs.declared.limits.TheConstants.{LAST}
 use Rattle.timer_facility.specs.declared.request.NotTaken.TheVariants as NotTakens
+use Rattle.timer_facility.specs.declared.request.Reason.{Reason}
 use Rattle.timer_facility.specs.declared.request.Reason.TheVariants as Reasons
 use Rattle.timer_facility.specs.declared.request.TickFault.TheVariants as TickFaults
 use Rattle.timer_facility.specs.State.{FacilityState, number_of}
-use Rattle.timer_facility.specs.Verdict.{not_taken, start_refusal, tick_refusal}
+use Rattle.timer_facility.specs.Verdict.{not_taken, start_refusal, interval_refusal, tick_refusal}
 
 lt_true : (a b : ℕ) → a < b → nat_lt a b ≡ true
 lt_true a b h = grind (arith, nat_tests)
@@ -102,23 +103,67 @@ takable s client number h =
 pub open_when : (s : FacilityState) (client number : ℕ) → not_taken s client number ≡ None → s.is_closed ≡ false
 open_when s client number h = (takable s client number h).is_open
 
--- Starts.
+-- Starts, and restarts.
 
-pub start_refusal-zero : (s : FacilityState) (interval : ℕ) → interval ≡ 0 → start_refusal s interval ≡ Some Reasons.ZeroInterval
-unfolding start_refusal
-start_refusal-zero s interval h = rw (same interval 0 h) refl
+pub interval_refusal-zero : (s : FacilityState) (interval : ℕ) → interval ≡ 0 → interval_refusal s interval ≡ Some Reasons.ZeroInterval
+unfolding interval_refusal
+interval_refusal-zero s interval h = rw (same interval 0 h) refl
 
-pub start_refusal-late : (s : FacilityState) (interval : ℕ) → interval ≢ 0 → s.last - s.now < interval → start_refusal s interval ≡ Some Reasons.TooLate
-unfolding start_refusal
-start_refusal-late s interval h k = rw (differ interval 0 h, lt_true (s.last - s.now) interval k) refl
+pub interval_refusal-late : (s : FacilityState) (interval : ℕ) → interval ≢ 0 → s.last - s.now < interval → interval_refusal s interval ≡ Some Reasons.TooLate
+unfolding interval_refusal
+interval_refusal-late s interval h k = rw (differ interval 0 h, lt_true (s.last - s.now) interval k) refl
 
-pub start_refusal-spent : (s : FacilityState) (interval : ℕ) → interval ≢ 0 → interval ≤ s.last - s.now → LAST < s.next_serial → start_refusal s interval ≡ Some Reasons.SerialsSpent
-unfolding start_refusal
-start_refusal-spent s interval h k l = rw (differ interval 0 h, lt_false (s.last - s.now) interval k, lt_true LAST s.next_serial l) refl
+pub interval_refusal-spent : (s : FacilityState) (interval : ℕ) → interval ≢ 0 → interval ≤ s.last - s.now → LAST < s.next_serial → interval_refusal s interval ≡ Some Reasons.SerialsSpent
+unfolding interval_refusal
+interval_refusal-spent s interval h k l = rw (differ interval 0 h, lt_false (s.last - s.now) interval k, lt_true LAST s.next_serial l) refl
 
-pub start_refusal-full : (s : FacilityState) (interval : ℕ) → interval ≢ 0 → interval ≤ s.last - s.now → s.next_serial ≤ LAST → length s.pending ≡ s.capacity → start_refusal s interval ≡ Some Reasons.Full
+pub interval_refusal-none : (s : FacilityState) (interval : ℕ) → interval ≢ 0 → interval ≤ s.last - s.now → s.next_serial ≤ LAST → interval_refusal s interval ≡ None
+unfolding interval_refusal
+interval_refusal-none s interval h k l = rw (differ interval 0 h, lt_false (s.last - s.now) interval k, lt_false LAST s.next_serial l) refl
+
+-- what is true of an interval with which a timer can be started
+pub record IsTimely (s : FacilityState) (interval : ℕ) : Type 0 where
+  pub positive : 0 < interval
+  pub in_time : interval ≤ s.last - s.now
+  pub unspent : s.next_serial ≤ LAST
+
+pub timely : (s : FacilityState) (interval : ℕ) → interval_refusal s interval ≡ None → IsTimely s interval
+unfolding interval_refusal
+timely s interval h =
+    let a = none_then Reasons.ZeroInterval _ (interval == 0) h in
+    let b = none_then Reasons.TooLate _ (nat_lt (s.last - s.now) interval) a.1 in
+    let c = none_then Reasons.SerialsSpent _ (nat_lt LAST s.next_serial) b.1 in
+    record {
+      positive = above_zero interval a.0;
+      in_time = at_most (s.last - s.now) interval b.0;
+      unspent = at_most LAST s.next_serial c.0;
+    }
+
+-- three tests, and what comes where none of them holds
+three_tests : {X : Type 0} (x y z r : X) (rest : Option X) (a b c : Bool) → (if a then Some x else if b then Some y else if c then Some z else None) ≡ Some r
+    → (if a then Some x else if b then Some y else if c then Some z else rest) ≡ Some r
+three_tests x y z r rest true b c h = h
+three_tests x y z r rest false true c h = h
+three_tests x y z r rest false false true h = h
+three_tests x y z r rest false false false h = absurd (cc)
+
+pub start_refusal-interval : (s : FacilityState) (interval : ℕ) (reason : Reason) → interval_refusal s interval ≡ Some reason → start_refusal s interval ≡ Some reason
+unfolding start_refusal interval_refusal
+start_refusal-interval s interval reason h =
+    three_tests Reasons.ZeroInterval Reasons.TooLate Reasons.SerialsSpent reason _ (interval == 0) (nat_lt (s.last - s.now) interval) (nat_lt LAST s.next_serial) h
+
+start_refusal-room : (s : FacilityState) (interval : ℕ) → interval_refusal s interval ≡ None → start_refusal s interval ≡ (if length s.pending == s.capacity then Some Reasons.Full else None)
 unfolding start_refusal
-start_refusal-full s interval h k l m = rw (differ interval 0 h, lt_false (s.last - s.now) interval k, lt_false LAST s.next_serial l, same (length s.pending) s.capacity m) refl
+start_refusal-room s interval h =
+    let t : IsTimely s interval = timely s interval h in
+    let positive : 0 < interval = t.positive in
+    rw (differ interval 0 (λ e. absurd (omega arith)), lt_false (s.last - s.now) interval t.in_time, lt_false LAST s.next_serial t.unspent) refl
+
+pub start_refusal-full : (s : FacilityState) (interval : ℕ) → interval_refusal s interval ≡ None → length s.pending ≡ s.capacity → start_refusal s interval ≡ Some Reasons.Full
+start_refusal-full s interval h m = start_refusal-room s interval h ∙ rw (same (length s.pending) s.capacity m) refl
+
+pub start_refusal-none : (s : FacilityState) (interval : ℕ) → interval_refusal s interval ≡ None → length s.pending ≢ s.capacity → start_refusal s interval ≡ None
+start_refusal-none s interval h m = start_refusal-room s interval h ∙ rw (differ (length s.pending) s.capacity m) refl
 
 -- what is true of a start that is accepted
 pub record IsStartable (s : FacilityState) (interval : ℕ) : Type 0 where
@@ -126,10 +171,6 @@ pub record IsStartable (s : FacilityState) (interval : ℕ) : Type 0 where
   pub in_time : interval ≤ s.last - s.now
   pub unspent : s.next_serial ≤ LAST
   pub room : length s.pending ≢ s.capacity
-
-pub start_refusal-none : (s : FacilityState) (interval : ℕ) → interval ≢ 0 → interval ≤ s.last - s.now → s.next_serial ≤ LAST → length s.pending ≢ s.capacity → start_refusal s interval ≡ None
-unfolding start_refusal
-start_refusal-none s interval h k l m = rw (differ interval 0 h, lt_false (s.last - s.now) interval k, lt_false LAST s.next_serial l, differ (length s.pending) s.capacity m) refl
 
 pub startable : (s : FacilityState) (interval : ℕ) → start_refusal s interval ≡ None → IsStartable s interval
 unfolding start_refusal

@@ -2,9 +2,13 @@ pub mod Config
 pub mod State
 pub mod Verdict
 pub mod Step
+pub mod Refused
 pub mod Run
 pub mod Owed
 pub mod Opened
 pub mod Standing
 pub mod Played
 pub mod Recorded
+pub mod Ticked
+pub mod WakeUps
+pub mod HandedOver

@@ -1,53 +1,67 @@
 -- What is owed for a history, read from its requests and answers alone. No list of pending timers is kept.
-use Rattle.std.specs.Prelude.{◌≡◌, ℕ, zero, suc, ◌+◌, Bool, true, false, ◌&&◌, ◌||◌, ◌==◌, not, nat_lt, if◌then◌else◌, List, [], ◌∷◌, ◌++◌, map, filter}
+use Rattle.std.specs.Prelude.{◌≡◌, ◌<◌, ◌≤◌, ◌⊎◌, ℕ, zero, suc, ◌+◌, Bool, true, false, ◌&&◌, ◌||◌, ◌==◌, not, nat_lt, if◌then◌else◌, List, [], ◌∷◌, ◌++◌, map, filter}
 use Rattle.std.specs.List.{AllByRecursion}
 use Rattle.timer_base.specs.declared.timer.Timer.{Timer}
 use Rattle.timer_base.specs.Order.{in_order, AreDistinct}
 use Rattle.timer_base.specs.Pending.{timers_of}
-use Rattle.timer_facility.specs.declared.request.Answer.TheVariants.{Started, Stopped}
+use Rattle.timer_facility.specs.declared.request.Answer.TheVariants.{Started, Stopped, Restarted}
 use Rattle.timer_facility.specs.declared.request.Notice.{Notice}
 use Rattle.timer_facility.specs.declared.request.Notice.TheVariants.{Expired, Returned}
 use Rattle.timer_facility.specs.declared.event.Out.{Out}
 use Rattle.timer_facility.specs.declared.event.Out.TheVariants as Outs
-use Rattle.timer_facility.specs.State.{FacilityState, SingleEvent, Asked, Tick, Start}
+use Rattle.timer_facility.specs.State.{FacilityState, SingleEvent, Asked, Tick, Start, Restart, RestartSerial}
 use Rattle.timer_facility.specs.Run.{Happened, notices}
 
 -- the timer that a start and its answer tell of, where it was accepted
-abbrev pub timer_told : ℕ → ℕ → ℕ → Out → List Timer
-timer_told client number action (Outs.Answered c n (Started handle deadline)) =
+abbrev pub timer_started : ℕ → ℕ → ℕ → Out → List Timer
+timer_started client number action (Outs.Answered c n (Started handle deadline)) =
     record { serial = handle.serial; client = client; number = number; deadline = deadline; action = action } ∷ []
-timer_told client number action _ = []
+timer_started client number action _ = []
 
 -- the timers that a start and what came of it tell of
-abbrev pub timers_told : ℕ → ℕ → ℕ → List Out → List Timer
-timers_told client number action [] = []
-timers_told client number action (out ∷ outs) = timer_told client number action out ++ timers_told client number action outs
+abbrev pub timers_started : ℕ → ℕ → ℕ → List Out → List Timer
+timers_started client number action [] = []
+timers_started client number action (out ∷ outs) = timer_started client number action out ++ timers_started client number action outs
+
+-- the new timer that a restart and its answer tell of, where it was accepted
+abbrev pub timer_restarted : ℕ → ℕ → ℕ → Out → List Timer
+timer_restarted client number action (Outs.Answered c n (Restarted handle deadline old)) =
+    record { serial = handle.serial; client = client; number = number; deadline = deadline; action = action } ∷ []
+timer_restarted client number action _ = []
+
+-- the new timers that a restart and what came of it tell of
+abbrev pub timers_restarted : ℕ → ℕ → ℕ → List Out → List Timer
+timers_restarted client number action [] = []
+timers_restarted client number action (out ∷ outs) = timer_restarted client number action out ++ timers_restarted client number action outs
 
 -- the timers that an event started
 abbrev pub started_by : SingleEvent → List Out → List Timer
-started_by (Asked client number (Start interval action)) outs = timers_told client number action outs
+started_by (Asked client number (Start interval action)) outs = timers_started client number action outs
+started_by (Asked client number (Restart handle interval action)) outs = timers_restarted client number action outs
+started_by (Asked client number (RestartSerial serial interval action)) outs = timers_restarted client number action outs
 started_by _ outs = []
 
--- the timers of the accepted starts
+-- the timers of the accepted starts and restarts
 abbrev pub accepted_starts : List Happened → List Timer
 accepted_starts [] = []
 accepted_starts (h ∷ hs) = started_by h.event h.outs ++ accepted_starts hs
 
--- the serial that an answer to an accepted stop tells
+-- the serial that an answer to an accepted stop tells, and the old one of an accepted restart
 abbrev pub serial_told : Out → List ℕ
 serial_told (Outs.Answered c n (Stopped serial)) = serial ∷ []
+serial_told (Outs.Answered c n (Restarted handle deadline old)) = old ∷ []
 serial_told _ = []
 
--- the serials that answers to accepted stops tell
+-- the serials that answers to accepted stops and restarts tell
 abbrev pub serials_told : List Out → List ℕ
 serials_told [] = []
 serials_told (out ∷ outs) = serial_told out ++ serials_told outs
 
--- the timers pending in s, and those of the accepted starts since
+-- the timers pending in s, and those of the accepted starts and restarts since
 abbrev pub started : FacilityState → List Happened → List Timer
 started s hs = timers_of s.pending ++ accepted_starts hs
 
--- the serials in the answers to the accepted stops
+-- the serials in the answers to the accepted stops, and the old ones of the accepted restarts
 abbrev pub stopped : List Happened → List ℕ
 stopped [] = []
 stopped (h ∷ hs) = serials_told h.outs ++ stopped hs
@@ -121,6 +135,26 @@ timer_handed (Returned t) = t
 -- the timers that a history hands out, in their order
 abbrev pub handed_out : List Happened → List Timer
 handed_out hs = map timer_handed (notices hs)
+
+-- one of the list
+abbrev pub IsIn : {X : Type 0} → X → List X → Type 0
+IsIn x [] = ⊥
+IsIn x (y ∷ ys) = (x ≡ y) ⊎ IsIn x ys
+
+-- each timer that was started and not stopped is handed out: where its deadline was reached it expired, and where a close
+-- came before that it was returned
+pub record AreAllHandedOut (s : FacilityState) (hs : List Happened) : Type 0 where
+  pub expired : (t : Timer) → IsIn t (started s hs) → is_among t.serial (stopped hs) ≡ false → t.deadline ≤ s.now + accepted_ticks hs → IsIn (Expired t) (notices hs)
+  pub returned : (t : Timer) → IsIn t (started s hs) → is_among t.serial (stopped hs) ≡ false → s.now + accepted_ticks hs < t.deadline → has_closed hs ≡ true → IsIn (Returned t) (notices hs)
+
+-- the deadline is one of the first n ticks after now
+abbrev pub is_due_within : ℕ → ℕ → Timer → Bool
+is_due_within now zero t = false
+is_due_within now (suc n) t = is_due_within now n t || (t.deadline == now + suc n)
+
+-- of the started timers the others: those that were due at no accepted tick and were not stopped, by deadline and then by serial
+abbrev pub others : FacilityState → List Happened → List Timer
+others s hs = timers_in_order (filter (λ t. not (is_due_within s.now (accepted_ticks hs) t) && not (is_among t.serial (stopped hs))) (started s hs))
 
 -- no timer is handed out twice, and none that was stopped
 pub record AreHandedOutOnce (hs : List Happened) : Type 0 where

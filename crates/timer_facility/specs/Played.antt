@@ -3,7 +3,7 @@ use Rattle.std.specs.Prelude.{◌≡◌, ℕ, ◌+◌, ◌-◌, min, if◌then�
 use Rattle.timer_facility.specs.declared.event.Event.{Event}
 use Rattle.timer_facility.specs.declared.event.Event.TheVariants as Events
 use Rattle.timer_facility.specs.declared.event.Out.{Out}
-use Rattle.timer_facility.specs.State.{FacilityState, SingleEvent, Asked, Tick, Close, Start, StopSerial}
+use Rattle.timer_facility.specs.State.{FacilityState, SingleEvent, Asked, Tick, Close, Start, StopSerial, RestartSerial}
 use Rattle.timer_facility.specs.Run.{Placed, history, state_after, run, notices}
 use Rattle.timer_facility.specs.Owed.{owed}
 
@@ -15,6 +15,7 @@ ticks_left s = if s.is_closed then 0 else s.last - s.now
 abbrev pub singles_of : FacilityState → Event → List SingleEvent
 singles_of s (Events.Start client number interval action) = Asked client number (Start interval action) ∷ []
 singles_of s (Events.Stop client number serial) = Asked client number (StopSerial serial) ∷ []
+singles_of s (Events.Restart client number serial interval action) = Asked client number (RestartSerial serial interval action) ∷ []
 singles_of s (Events.Ticks count) = replicate (min count (ticks_left s + 1)) Tick
 singles_of s Events.Close = Close ∷ []
 

@@ -1,4 +1,4 @@
--- What a player knows of the timers that it started: where each one stands, by serial.
+-- What a player knows of the timers that it started or restarted: where each one stands, by serial.
 use Rattle.std.specs.Prelude.{◌≡◌, ◌≤◌, ℕ, ◌+◌, ◌-◌, List, [], Some, length, slice_get}
 use Rattle.std.specs.List.{AllByRecursion}
 use Rattle.timer_base.specs.Pending.{Entry}

@@ -2,14 +2,14 @@
 use Rattle.std.specs.Prelude.{◌≡◌, ℕ, List, [], ◌∷◌, ◌++◌, map}
 use Rattle.timer_base.specs.Pending.{Entry}
 use Rattle.timer_facility.specs.declared.request.Answer.{Answer}
-use Rattle.timer_facility.specs.declared.request.Answer.TheVariants.{Started}
+use Rattle.timer_facility.specs.declared.request.Answer.TheVariants.{Started, Restarted}
 use Rattle.timer_facility.specs.declared.request.Notice.{Notice}
 use Rattle.timer_facility.specs.declared.event.Out.{Out}
 use Rattle.timer_facility.specs.declared.event.Out.TheVariants as Outs
-use Rattle.timer_facility.specs.State.{FacilityState, SingleEvent, Asked, Stop}
+use Rattle.timer_facility.specs.State.{FacilityState, SingleEvent, Asked, Stop, Restart}
 use Rattle.timer_facility.specs.Step.{Step, step}
 
--- an event, and the place that the wheel gives if it is an accepted start
+-- an event, and the place that the wheel gives if it is an accepted start or restart
 pub record Placed : Type 0 where
   pub event : SingleEvent
   pub place : ℕ
@@ -55,6 +55,7 @@ notices hs = notices_in (outs_of hs)
 -- an answer without the place
 abbrev pub bare_answer : Answer → Answer
 bare_answer (Started handle deadline) = Started (record handle { place = 0 }) deadline
+bare_answer (Restarted handle deadline old) = Restarted (record handle { place = 0 }) deadline old
 bare_answer answer = answer
 
 -- an out without the place
@@ -74,9 +75,10 @@ bare_entry entry = record entry { place = 0 }
 abbrev pub bare_state : FacilityState → FacilityState
 bare_state s = record s { pending = map bare_entry s.pending }
 
--- the event names no place: a stop in it goes by the serial alone
+-- the event names no place: a stop or restart in it goes by the serial alone
 abbrev pub NamesBySerial : SingleEvent → Type 0
 NamesBySerial (Asked client number (Stop handle)) = ⊥
+NamesBySerial (Asked client number (Restart handle interval action)) = ⊥
 NamesBySerial _ = Unit {0}
 
 -- two runs gave the same outs and ended in the same state, but for places

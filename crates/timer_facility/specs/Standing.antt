@@ -1,19 +1,20 @@
 -- What a caller sees of a facility: its state, and the notices that wait to be handed out.
-use Rattle.std.specs.Prelude.{◌≡◌, ◌<◌, ◌≤◌, ◌⊎◌, ℕ, ◌+◌, Bool, List, [], ◌∷◌, ◌++◌, map, take, drop, length, Some, None}
+use Rattle.std.specs.Prelude.{◌≡◌, ◌<◌, ◌≤◌, ◌⊎◌, ℕ, ◌+◌, Bool, List, [], ◌∷◌, ◌++◌, map, take, drop, length, slice_index, Some, None}
 use Rattle.timer_base.specs.declared.limits.TheConstants.{LAST}
 use Rattle.timer_base.specs.declared.timer.Timer.{Timer}
+use Rattle.timer_base.specs.Pending.{timers_of}
 use Rattle.timer_base.specs.WheelState.{WheelState}
 use Rattle.timer_facility.specs.declared.limits.TheConstants.{MOST_PENDING}
 use Rattle.timer_facility.specs.declared.request.Request.{Request}
 use Rattle.timer_facility.specs.declared.request.Request.TheVariants as Requests
 use Rattle.timer_facility.specs.declared.request.Answer.{Answer}
-use Rattle.timer_facility.specs.declared.request.Answer.TheVariants.{Started, Stopped, Refused}
+use Rattle.timer_facility.specs.declared.request.Answer.TheVariants.{Started, Stopped, Restarted, Refused}
 use Rattle.timer_facility.specs.declared.request.NotTaken.{NotTaken}
 use Rattle.timer_facility.specs.declared.request.NotTaken.TheVariants as NotTakens
 use Rattle.timer_facility.specs.declared.request.Notice.{Notice}
 use Rattle.timer_facility.specs.declared.request.Notice.TheVariants.{Expired, Returned}
 use Rattle.timer_facility.specs.declared.event.Out.TheVariants as Outs
-use Rattle.timer_facility.specs.State.{FacilityState, Wanted, Start, Stop, SingleEvent, Asked}
+use Rattle.timer_facility.specs.State.{FacilityState, count_of, Wanted, Start, Stop, Restart, SingleEvent, Asked}
 use Rattle.timer_facility.specs.Verdict.{not_taken, refusal}
 use Rattle.timer_facility.specs.Step.{Step, step}
 use Rattle.timer_facility.specs.Run.{notices_in}
@@ -35,6 +36,7 @@ with_nothing_waiting s = record { state = s; waiting = [] }
 abbrev pub wanted_of : Request → Wanted
 wanted_of (Requests.Start interval action) = Start interval action
 wanted_of (Requests.Stop handle) = Stop handle
+wanted_of (Requests.Restart handle interval action) = Restart handle interval action
 
 -- a client's request under a number
 abbrev pub asked : ℕ → ℕ → Request → SingleEvent
@@ -44,6 +46,7 @@ asked client number request = Asked client number (wanted_of request)
 abbrev pub place_in : Answer → ℕ
 place_in (Started handle deadline) = handle.place
 place_in (Stopped serial) = 0
+place_in (Restarted handle deadline old) = handle.place
 place_in (Refused reason) = 0
 
 -- the request is taken: this answer is what comes of it, and this is what it leaves
@@ -55,6 +58,7 @@ pub record IsTaken (s : FacilityState) (client number : ℕ) (request : Request)
 abbrev pub NeedsMemory : FacilityState → ℕ → ℕ → Request → Type 0
 NeedsMemory s client number (Requests.Start interval action) = (not_taken s client number ≡ None) × (refusal s client (Start interval action) ≡ None)
 NeedsMemory s client number (Requests.Stop handle) = ⊥
+NeedsMemory s client number (Requests.Restart handle interval action) = ⊥
 
 -- the request is not taken, for the reason of the verdict; or it needs memory, and a growth was refused
 abbrev pub IsNotTaken : FacilityState → ℕ → ℕ → Request → NotTaken → Type 0
@@ -68,6 +72,8 @@ pub record Parts : Type 0 where
   pub next_serial : ℕ
   -- the next request numbers, of which the first `clients` count
   pub numbers : List ℕ
+  -- how many timers each client has
+  pub counts : List ℕ
   pub is_closed : Bool
   -- what a close handed back, and how many of them were handed out
   pub returned : List Timer
@@ -88,6 +94,16 @@ standing_of p = record {
   waiting = map (λ t. Expired t) p.wheel.due ++ map (λ t. Returned t) (drop p.handed p.returned);
 }
 
+-- the timers of a facility: those that are pending, and those that wait to be handed out
+abbrev pub kept : Parts → List Timer
+kept p = timers_of p.wheel.pending ++ (p.wheel.due ++ drop p.handed p.returned)
+
+-- the counts are those of these timers, which are all of clients below this number
+pub record AreCounted (clients : ℕ) (counts : List ℕ) (ts : List Timer) : Type 0 where
+  pub all_counts : length counts ≡ 64
+  pub each : (client : ℕ) → slice_index counts client ≡ count_of client ts
+  pub no_others : (client : ℕ) → clients ≤ client → slice_index counts client ≡ 0
+
 -- what the parts of a facility keep
 pub record AreParts (p : Parts) : Type 0 where
   pub all_numbers : length p.numbers ≡ 64
@@ -97,3 +113,4 @@ pub record AreParts (p : Parts) : Type 0 where
   pub serial_unused : p.wheel.last_serial < p.next_serial
   pub serial_in_range : p.next_serial ≤ LAST + 1
   pub handed_in_range : p.handed ≤ length p.returned
+  pub counted : AreCounted p.clients p.counts (kept p)

@@ -1,7 +1,8 @@
 -- What a facility means, and the single events that may come to it.
-use Rattle.std.specs.Prelude.{◌<◌, ◌≤◌, ℕ, ◌+◌, Bool, List, length, slice_index}
+use Rattle.std.specs.Prelude.{◌<◌, ◌≤◌, ◌==◌, ℕ, ◌+◌, Bool, if◌then◌else◌, List, [], ◌∷◌, length, slice_index}
 use Rattle.std.specs.List.{AllByRecursion}
 use Rattle.timer_base.specs.declared.limits.TheConstants.{LAST}
+use Rattle.timer_base.specs.declared.timer.Timer.{Timer}
 use Rattle.timer_base.specs.declared.timer.Handle.{Handle}
 use Rattle.timer_base.specs.Order.{IsOrdered, AreDistinct, AreBelow}
 use Rattle.timer_base.specs.Pending.{Entry, timers_of}
@@ -26,11 +27,27 @@ pub record FacilityState : Type 0 where
 abbrev pub number_of : FacilityState → ℕ → ℕ
 number_of s client = slice_index s.numbers client
 
--- what a request asks for: a start with its interval and action, or a stop of the timer with a handle, or with a serial
+-- 1 where the timer is the client's
+abbrev pub one_of : ℕ → Timer → ℕ
+one_of client t = if t.client == client then 1 else 0
+
+-- how many of the timers are a client's
+abbrev pub count_of : ℕ → List Timer → ℕ
+count_of client [] = 0
+count_of client (t ∷ ts) = one_of client t + count_of client ts
+
+-- how many timers of a client are pending
+abbrev pub pending_of : FacilityState → ℕ → ℕ
+pending_of s client = count_of client (timers_of s.pending)
+
+-- what a request asks for: a start with its interval and action, a stop of the timer with a handle, or with a serial, or a
+-- restart of one with the interval and action of the new timer
 pub data Wanted : Type 0 where
   Start : ℕ → ℕ → Wanted
   Stop : Handle → Wanted
   StopSerial : ℕ → Wanted
+  Restart : Handle → ℕ → ℕ → Wanted
+  RestartSerial : ℕ → ℕ → ℕ → Wanted
 
 -- one event: what a client asks under a number, one tick, or the close
 pub data SingleEvent : Type 0 where

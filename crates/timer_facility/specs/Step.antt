@@ -5,14 +5,14 @@ use Rattle.timer_base.specs.Pending.{timers_of, put, is_due_at, without_found, e
 use Rattle.timer_facility.specs.declared.request.Reason.{Reason}
 use Rattle.timer_facility.specs.declared.request.Reason.TheVariants.{NoSuch}
 use Rattle.timer_facility.specs.declared.request.Answer.{Answer}
-use Rattle.timer_facility.specs.declared.request.Answer.TheVariants.{Started, Stopped, Refused}
+use Rattle.timer_facility.specs.declared.request.Answer.TheVariants.{Started, Stopped, Restarted, Refused}
 use Rattle.timer_facility.specs.declared.request.NotTaken.{NotTaken}
 use Rattle.timer_facility.specs.declared.request.Notice.TheVariants.{Expired, Returned}
 use Rattle.timer_facility.specs.declared.request.TickFault.{TickFault}
 use Rattle.timer_facility.specs.declared.event.Out.{Out}
 use Rattle.timer_facility.specs.declared.event.Out.TheVariants as Outs
-use Rattle.timer_facility.specs.State.{FacilityState, Wanted, Start, Stop, StopSerial, SingleEvent, Asked, Tick, Close}
-use Rattle.timer_facility.specs.Verdict.{not_taken, named, start_refusal, tick_refusal, Refusal, RequestNotTaken, RequestRefused, TickRefused}
+use Rattle.timer_facility.specs.State.{FacilityState, Wanted, Start, Stop, StopSerial, Restart, RestartSerial, SingleEvent, Asked, Tick, Close}
+use Rattle.timer_facility.specs.Verdict.{not_taken, named, start_refusal, interval_refusal, tick_refusal, Refusal, RequestNotTaken, RequestRefused, TickRefused}
 
 -- what comes of an event, and the state after it
 pub record Step : Type 0 where
@@ -23,7 +23,7 @@ pub record Step : Type 0 where
 abbrev pub with_number : ℕ → ℕ → FacilityState → FacilityState
 with_number client number s = record s { numbers = slice_set s.numbers client (number + 1) }
 
--- the timer that an accepted start makes
+-- the timer that an accepted start or restart makes
 abbrev pub new_timer : FacilityState → ℕ → ℕ → ℕ → ℕ → Timer
 new_timer s client number interval action = record {
   serial = s.next_serial;
@@ -52,17 +52,37 @@ answer_to_stop (Some t) = Stopped t.serial
 abbrev pub after_stop : Option Timer → FacilityState → FacilityState
 after_stop found s = record s { pending = without_found found s.pending }
 
--- the answer to a request that is taken; an accepted start gets the place
+-- a restart is answered with the timer that was found, and the refusal or the place and the new timer
+abbrev pub answer_to_restart : Option Timer → Option Reason → ℕ → Timer → Answer
+answer_to_restart None reason place t = Refused NoSuch
+answer_to_restart (Some old) (Some reason) place t = Refused reason
+answer_to_restart (Some old) None place t = Restarted (record { place = place; serial = t.serial }) t.deadline old.serial
+
+-- an accepted restart takes the old timer away, and then is a start; a refused one leaves the old timer as it is
+abbrev pub after_restart : Option Timer → Option Reason → ℕ → Timer → FacilityState → FacilityState
+after_restart None reason place t s = s
+after_restart (Some old) (Some reason) place t s = s
+after_restart (Some old) None place t s = after_start None place t (after_stop (Some old) s)
+
+-- the answer to a request that is taken; an accepted start or restart gets the place
 abbrev pub answer_to : FacilityState → ℕ → ℕ → Wanted → ℕ → Answer
 answer_to s client number (Start interval action) place = answer_to_start (start_refusal s interval) place (new_timer s client number interval action)
 answer_to s client number (Stop handle) place = answer_to_stop (named s client (Stop handle))
 answer_to s client number (StopSerial serial) place = answer_to_stop (named s client (StopSerial serial))
+answer_to s client number (Restart handle interval action) place =
+    answer_to_restart (named s client (Restart handle interval action)) (interval_refusal s interval) place (new_timer s client number interval action)
+answer_to s client number (RestartSerial serial interval action) place =
+    answer_to_restart (named s client (RestartSerial serial interval action)) (interval_refusal s interval) place (new_timer s client number interval action)
 
 -- what a request that is taken leaves: its number is used up, whatever the answer is
 abbrev pub after_taken : FacilityState → ℕ → ℕ → Wanted → ℕ → FacilityState
 after_taken s client number (Start interval action) place = with_number client number (after_start (start_refusal s interval) place (new_timer s client number interval action) s)
 after_taken s client number (Stop handle) place = with_number client number (after_stop (named s client (Stop handle)) s)
 after_taken s client number (StopSerial serial) place = with_number client number (after_stop (named s client (StopSerial serial)) s)
+after_taken s client number (Restart handle interval action) place =
+    with_number client number (after_restart (named s client (Restart handle interval action)) (interval_refusal s interval) place (new_timer s client number interval action) s)
+after_taken s client number (RestartSerial serial interval action) place =
+    with_number client number (after_restart (named s client (RestartSerial serial interval action)) (interval_refusal s interval) place (new_timer s client number interval action) s)
 
 -- the timers that expire at the next tick: the front of the list
 abbrev pub expired_next : FacilityState → List Timer
@@ -97,7 +117,7 @@ step_of_close s false = record {
   state = after_close s;
 }
 
--- one event, by the verdict on it; an accepted start gets the place, which is a free choice of the wheel
+-- one event, by the verdict on it; an accepted start or restart gets the place, which is a free choice of the wheel
 abbrev pub step : FacilityState → SingleEvent → ℕ → Step
 step s (Asked client number wanted) place = step_of_request s client number wanted place (not_taken s client number)
 step s Tick place = step_of_tick s (tick_refusal s)

@@ -9,7 +9,7 @@ use Rattle.timer_facility.specs.declared.request.Reason.{Reason}
 use Rattle.timer_facility.specs.declared.request.Reason.TheVariants.{ZeroInterval, TooLate, SerialsSpent, Full, NoSuch}
 use Rattle.timer_facility.specs.declared.request.TickFault.{TickFault}
 use Rattle.timer_facility.specs.declared.request.TickFault.TheVariants as TickFaults
-use Rattle.timer_facility.specs.State.{FacilityState, number_of, Wanted, Start, Stop, StopSerial, SingleEvent, Asked, Tick, Close}
+use Rattle.timer_facility.specs.State.{FacilityState, number_of, Wanted, Start, Stop, StopSerial, Restart, RestartSerial, SingleEvent, Asked, Tick, Close}
 
 -- why a request is not taken, if it is not: the first that holds
 unfoldable pub not_taken : FacilityState → ℕ → ℕ → Option NotTaken
@@ -26,11 +26,13 @@ abbrev pub of_client : ℕ → Option Timer → Option Timer
 of_client client None = None
 of_client client (Some t) = if t.client == client then Some t else None
 
--- the pending timer of this client that a stop names
+-- the pending timer of this client that a stop or a restart names
 abbrev pub named : FacilityState → ℕ → Wanted → Option Timer
 named s client (Start interval action) = None
 named s client (Stop handle) = of_client client (first_timer (has_handle handle) s.pending)
 named s client (StopSerial serial) = of_client client (first_timer (λ e. has_serial serial e.timer) s.pending)
+named s client (Restart handle interval action) = of_client client (first_timer (has_handle handle) s.pending)
+named s client (RestartSerial serial interval action) = of_client client (first_timer (λ e. has_serial serial e.timer) s.pending)
 
 -- why a start with this interval is refused, if it is: the first that holds
 unfoldable pub start_refusal : FacilityState → ℕ → Option Reason
@@ -41,16 +43,31 @@ start_refusal s interval =
     else if length s.pending == s.capacity then Some Full
     else None
 
+-- why no timer can be started now with this interval, wherever there is room for it: the first that holds
+unfoldable pub interval_refusal : FacilityState → ℕ → Option Reason
+interval_refusal s interval =
+    if interval == 0 then Some ZeroInterval
+    else if nat_lt (s.last - s.now) interval then Some TooLate
+    else if nat_lt LAST s.next_serial then Some SerialsSpent
+    else None
+
 -- a stop is refused where it names no timer
 abbrev pub stop_refusal : Option Timer → Option Reason
 stop_refusal None = Some NoSuch
 stop_refusal (Some t) = None
+
+-- a restart is refused where it names no timer, and then where the new one can't be started; it needs no room
+abbrev pub restart_refusal : Option Timer → Option Reason → Option Reason
+restart_refusal None reason = Some NoSuch
+restart_refusal (Some t) reason = reason
 
 -- why a request that is taken is refused, if it is
 abbrev pub refusal : FacilityState → ℕ → Wanted → Option Reason
 refusal s client (Start interval action) = start_refusal s interval
 refusal s client (Stop handle) = stop_refusal (named s client (Stop handle))
 refusal s client (StopSerial serial) = stop_refusal (named s client (StopSerial serial))
+refusal s client (Restart handle interval action) = restart_refusal (named s client (Restart handle interval action)) (interval_refusal s interval)
+refusal s client (RestartSerial serial interval action) = restart_refusal (named s client (RestartSerial serial interval action)) (interval_refusal s interval)
 
 -- why a tick is refused, if it is: the first that holds
 unfoldable pub tick_refusal : FacilityState → Option TickFault
@@ -78,3 +95,9 @@ abbrev pub verdict : FacilityState → SingleEvent → Option Refusal
 verdict s (Asked client number wanted) = verdict_on_request (not_taken s client number) (refusal s client wanted)
 verdict s Tick = verdict_on_tick (tick_refusal s)
 verdict s Close = if s.is_closed then Some CloseRefused else None
+
+-- how a closed facility refuses an event, whatever it is
+abbrev pub closed_refusal : SingleEvent → Refusal
+closed_refusal (Asked client number wanted) = RequestNotTaken Closed
+closed_refusal Tick = TickRefused TickFaults.Closed
+closed_refusal Close = CloseRefused

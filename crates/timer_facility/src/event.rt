@@ -1,7 +1,7 @@
 //! What a player plays, and what comes of it.
 use crate::request::{Answer, NotTaken, Notice, TickFault};
 
-/// One event of a list that is played. A stop names its timer by the serial alone.
+/// One event of a list that is played. A stop or a restart names its timer by the serial alone.
 #[derive(Clone, Copy, Debug, PartialEq, Eq)]
 pub enum Event {
     /// The client's request, under this number, to start a timer.
@@ -16,6 +16,15 @@ pub enum Event {
         client: u64,
         number: u64,
         serial: u64,
+    },
+    /// The client's request, under this number, to stop the timer with this serial and start another in
+    /// its stead.
+    Restart {
+        client: u64,
+        number: u64,
+        serial: u64,
+        interval: u64,
+        action: u64,
     },
     /// So many ticks one after another, up to the first that is refused.
     Ticks {

@@ -3,18 +3,24 @@
 //! A tick or a close leaves timers that wait; the owner takes them by `next_out` until none waits,
 //! and only then asks the next thing. What expired still stands in the wheel, which gives it out by
 //! serial. What a close returns stands in a list of its own, and the wheel is empty then.
-ghost use Rattle.std.specs.Prelude.{◌≡◌, false, ℕ, ◌+◌, ◌<◌, ◌↔◌, [], length, drop, slice_get, slice_index, IsTrue, IfOk, IfErr, OnErr, OnOk, MatchResult, if◌then◌else◌, nat_lt};
-ghost use Rattle.timer_facility.specs.State.{FacilityState, IsSound, Tick, Close, Start, Stop, number_of};
-ghost use Rattle.timer_facility.specs.Verdict.{not_taken, named, start_refusal, tick_refusal};
+ghost use Rattle.std.specs.Prelude.{◌≡◌, false, ℕ, ◌+◌, ◌<◌, ◌↔◌, [], length, drop, slice_get, slice_index, IsTrue, IfSome, IfOk, IfErr, OnErr, OnOk, MatchResult, if◌then◌else◌, nat_lt};
+ghost use Rattle.timer_base.specs.Pending.{timers_of};
+ghost use Rattle.timer_base.specs.WheelState.{after_clear};
+ghost use Rattle.timer_facility.specs.State.{FacilityState, IsSound, Tick, Close, Start, Stop, Restart, number_of, pending_of};
+ghost use Rattle.timer_facility.specs.Verdict.{not_taken, named, start_refusal, interval_refusal, tick_refusal, TickRefused, verdict};
+ghost use Rattle.timer_facility.specs.Refused.{verdict_in, verdict_on_not_taken, verdict_on_close};
 ghost use Rattle.timer_facility.specs.Step.{step, answer_to, after_taken};
+ghost use Rattle.timer_facility.specs.Owed.{timer_handed};
 ghost use Rattle.timer_facility.specs.Opened.{opened};
-ghost use Rattle.timer_facility.specs.Standing.{Standing, Parts, standing_of, AreParts, standing_after, with_nothing_waiting, place_in, IsTaken, IsNotTaken};
+ghost use Rattle.timer_facility.specs.Ticked.{AreTicked};
+ghost use Rattle.timer_facility.specs.WakeUps.{IsQuietUntil};
+ghost use Rattle.timer_facility.specs.Standing.{Standing, Parts, standing_of, AreParts, standing_after, with_nothing_waiting, asked, place_in, IsTaken, IsNotTaken};
 
 use crate::config::Checked;
 use crate::request::{Answer, CloseFault, NotTaken, Notice, Reason, Request, TickFault};
 use std::alloc::Global;
 use std::marker::Model;
-use timer_base::{Handle, LAST, Timer, Wheel};
+use timer_base::{Handle, LAST, OutOfMemory, Timer, Wheel};
 
 /// Clients, their numbered requests and their timers, over a wheel.
 #[derive(Drop)]
@@ -25,6 +31,8 @@ pub struct Facility<W: Wheel + Drop> {
     next_serial: u64,
     // The next request number of each client. Those from `clients` on are never looked at.
     numbers: [u64; 64],
+    // How many timers of each client are pending or wait to be handed out.
+    counts: [usize; 64],
     is_closed: bool,
     // What the close handed back, in its order.
     returned: Vec<Timer>,
@@ -41,6 +49,7 @@ impl<W: Wheel + Drop> Model for Facility<W> {
       capacity = f.capacity;
       next_serial = f.next_serial;
       numbers = f.numbers;
+      counts = f.counts;
       is_closed = f.is_closed;
       returned = f.returned.items;
       handed = f.handed;
@@ -52,6 +61,7 @@ impl<W: Wheel + Drop> Model for Facility<W> {
       capacity = f.capacity;
       next_serial = f.next_serial;
       numbers = f.numbers;
+      counts = f.counts;
       is_closed = f.is_closed;
       returned = f.returned.items;
       handed = f.handed;
@@ -76,6 +86,7 @@ impl<W: Wheel + Drop> Facility<W> {
             capacity: config.capacity,
             next_serial: config.first_serial,
             numbers: [config.first_number; 64],
+            counts: [0; 64],
             is_closed: false,
             returned: Vec::new(alloc),
             handed: 0,
@@ -96,6 +107,19 @@ impl<W: Wheel + Drop> Facility<W> {
         ensures sound { IsSound self.now.state }
     {
         self.wheel.len()
+    }
+
+    /// How many timers of this client are pending. It is 0 where there is no such client.
+    ///
+    /// No timer may wait to be handed out. It takes no memory.
+    pub fn pending_of(&self, client: u64) -> usize
+        requires { self.now.waiting ≡ [] }
+        ensures { result ≡ pending_of self.now.state client }
+    {
+        if client >= self.clients {
+            return 0;
+        }
+        self.counts[client as usize]
     }
 
     /// Whether it was closed.
@@ -136,20 +160,28 @@ impl<W: Wheel + Drop> Facility<W> {
     /// `Reason`.
     ///
     /// A request that is not taken changes nothing. One that is refused with a `Reason` uses up its
-    /// number and nothing else. Only an accepted start takes memory. The place in a `Started` is a
-    /// free choice of the wheel. No timer may wait to be handed out.
+    /// number and nothing else. Only an accepted start takes memory. The place in a `Started`
+    /// or `Restarted` is a free choice of the wheel. No timer may wait to be handed out.
     pub fn take(&mut self, client: u64, number: u64, request: Request) -> Result<Answer, NotTaken>
         requires { self.old.waiting ≡ [] }
         ensures taken { IfOk result (λ answer. IsTaken self.old.state client number request answer self.new) }
         ensures not_taken { IfErr result (IsNotTaken self.old.state client number request) }
+        ensures verdict { MatchResult result (λ answer. verdict self.old.state (asked client number request) ≡ verdict_in answer) (λ reason. verdict self.old.state (asked client number request) ≡ verdict_on_not_taken reason) }
         ensures err { OnErr result (self.new ≡ self.old) }
     {
-        self.admit(client, number)?;
+        if let Err(reason) = self.admit(client, number) {
+            return Err(reason);
+        }
         match request {
             Request::Start { interval, action } => self.take_start(
                 client, number, interval, action,
             ),
             Request::Stop(handle) => Ok(self.take_stop(client, number, handle)),
+            Request::Restart {
+                handle,
+                interval,
+                action,
+            } => Ok(self.take_restart(client, number, handle, interval, action)),
         }
     }
 
@@ -160,6 +192,7 @@ impl<W: Wheel + Drop> Facility<W> {
         requires { self.old.waiting ≡ [] }
         ensures ticked { self.new ≡ standing_after (step self.old.state Tick 0) }
         ensures fault { MatchResult result (λ _. tick_refusal self.old.state ≡ None) (λ fault. tick_refusal self.old.state ≡ Some fault) }
+        ensures verdict { MatchResult result (λ _. verdict self.old.state Tick ≡ None) (λ fault. verdict self.old.state Tick ≡ Some (TickRefused fault)) }
         ensures err { OnErr result (self.new ≡ self.old) }
     {
         if self.is_closed {
@@ -172,6 +205,40 @@ impl<W: Wheel + Drop> Facility<W> {
         Ok(())
     }
 
+    /// Passes ticks, at least one and at most so many, and answers how many. What expires at the last
+    /// of them waits to be handed out.
+    ///
+    /// Nothing expires before the last of them, and fewer are passed only where something waits then or
+    /// the clock is at its end. A refusal changes nothing. It takes no memory. No timer may wait to be
+    /// handed out.
+    pub fn ticks(&mut self, limit: u64) -> Result<u64, TickFault>
+        requires waiting { self.old.waiting ≡ [] }
+        requires some { 0 < limit }
+        ensures ticked { IfOk result (λ passed. AreTicked limit passed self.old.state self.new) }
+        ensures fault { MatchResult result (λ _. tick_refusal self.old.state ≡ None) (λ fault. tick_refusal self.old.state ≡ Some fault) }
+        ensures err { OnErr result (self.new ≡ self.old) }
+    {
+        if self.is_closed {
+            return Err(TickFault::Closed);
+        }
+        let left = self.wheel.last_tick() - self.wheel.now();
+        if left == 0 {
+            return Err(TickFault::ClockEnd);
+        }
+        Ok(self.wheel.advance(limit.min(left)))
+    }
+
+    /// Returns a tick until which nothing is handed out, or None exactly where nothing is pending.
+    ///
+    /// It is after the present tick and at most the first pending deadline, so an owner sleeps until
+    /// then, calls `ticks`, and asks again. Timers that wait to be handed out are not looked at. Does
+    /// not allocate.
+    pub fn quiet_until(&self) -> Option<u64>
+        ensures { IsQuietUntil result self.now.state }
+    {
+        self.wheel.quiet_until()
+    }
+
     /// Closes it, and answers how many timers are handed back. They wait to be handed out.
     ///
     /// A refusal changes nothing: after `OutOfMemory` it is still open. No timer may wait to be
@@ -182,18 +249,18 @@ impl<W: Wheel + Drop> Facility<W> {
         ensures open { OnOk result (self.old.state.is_closed ≡ false) }
         ensures closed { OnOk result (self.new ≡ standing_after (step self.old.state Close 0)) }
         ensures fault { IfErr result (λ fault. fault ≡ CloseFault.Closed ↔ IsTrue self.old.state.is_closed) }
+        ensures verdict { MatchResult result (λ _. verdict self.old.state Close ≡ None) (λ fault. verdict self.old.state Close ≡ verdict_on_close fault) }
         ensures err { OnErr result (self.new ≡ self.old) }
     {
         if self.is_closed {
             return Err(CloseFault::Closed);
         }
-        let Ok(returned) = self.wheel.list() else {
+        let Ok(returned) = take_all(&mut self.wheel) else {
             return Err(CloseFault::OutOfMemory);
         };
         let count = returned.len() as u64;
         self.returned = returned;
         self.handed = 0;
-        self.wheel.clear();
         self.is_closed = true;
         Ok(count)
     }
@@ -202,8 +269,10 @@ impl<W: Wheel + Drop> Facility<W> {
     pub fn next_out(&mut self) -> Option<Notice>
         ensures first { result ≡ slice_get self.old.waiting 0 }
         ensures rest { self.new ≡ record self.old { waiting = drop 1 self.old.waiting } }
+        ensures client { IfSome result (λ notice. (timer_handed notice).client < length self.old.state.numbers) }
     {
         if let Some(timer) = self.wheel.expire() {
+            self.counts[timer.client as usize] -= 1;
             return Some(Notice::Expired(timer));
         }
         if self.handed == self.returned.len() {
@@ -211,6 +280,7 @@ impl<W: Wheel + Drop> Facility<W> {
         }
         let timer = self.returned[self.handed];
         self.handed += 1;
+        self.counts[timer.client as usize] -= 1;
         Some(Notice::Returned(timer))
     }
 
@@ -269,6 +339,7 @@ impl<W: Wheel + Drop> Facility<W> {
             Ok(handle) => {
                 self.next_serial += 1;
                 self.numbers[client as usize] = number + 1;
+                self.counts[client as usize] += 1;
                 Ok(Answer::Started { handle, deadline })
             }
         }
@@ -278,6 +349,19 @@ impl<W: Wheel + Drop> Facility<W> {
     fn start_refusal(&self, interval: u64) -> Option<Reason>
         ensures { result ≡ start_refusal self.now.state interval }
     {
+        if let Some(reason) = self.interval_refusal(interval) {
+            return Some(reason);
+        }
+        if self.wheel.len() as u64 == self.capacity {
+            return Some(Reason::Full);
+        }
+        None
+    }
+
+    /// Why no timer can be started now with this interval, wherever there is room for it.
+    fn interval_refusal(&self, interval: u64) -> Option<Reason>
+        ensures { result ≡ interval_refusal self.now.state interval }
+    {
         if interval == 0 {
             return Some(Reason::ZeroInterval);
         }
@@ -286,9 +370,6 @@ impl<W: Wheel + Drop> Facility<W> {
         }
         if self.next_serial > LAST {
             return Some(Reason::SerialsSpent);
-        }
-        if self.wheel.len() as u64 == self.capacity {
-            return Some(Reason::Full);
         }
         None
     }
@@ -308,10 +389,53 @@ impl<W: Wheel + Drop> Facility<W> {
             Some(timer) => {
                 let _ = self.wheel.stop(handle);
                 self.numbers[client as usize] = number + 1;
+                self.counts[client as usize] -= 1;
                 Answer::Stopped {
                     serial: timer.serial,
                 }
             }
+        }
+    }
+
+    /// A restart that is taken. It takes no memory.
+    fn take_restart(
+        &mut self,
+        client: u64,
+        number: u64,
+        handle: Handle,
+        interval: u64,
+        action: u64,
+    ) -> Answer
+        requires waiting { self.old.waiting ≡ [] }
+        requires taken { not_taken self.old.state client number ≡ None }
+        ensures answer { result ≡ answer_to self.old.state client number (Restart handle interval action) (place_in result) }
+        ensures left { self.new ≡ with_nothing_waiting (after_taken self.old.state client number (Restart handle interval action) (place_in result)) }
+    {
+        let Some(old) = self.find_named(client, handle) else {
+            self.numbers[client as usize] = number + 1;
+            return Answer::Refused(Reason::NoSuch);
+        };
+        if let Some(reason) = self.interval_refusal(interval) {
+            self.numbers[client as usize] = number + 1;
+            return Answer::Refused(reason);
+        }
+        let deadline = self.wheel.now() + interval;
+        let timer = Timer {
+            serial: self.next_serial,
+            client,
+            number,
+            deadline,
+            action,
+        };
+        let Some((handle, _)) = self.wheel.restart(handle, timer) else {
+            unreachable!()
+        };
+        self.next_serial += 1;
+        self.numbers[client as usize] = number + 1;
+        Answer::Restarted {
+            handle,
+            deadline,
+            old: old.serial,
         }
     }
 
@@ -327,4 +451,17 @@ impl<W: Wheel + Drop> Facility<W> {
             None
         }
     }
+}
+
+/// Takes all pending timers out of the wheel, in the order in which they are returned.
+///
+/// Only a failed allocation is an error, and then nothing changes.
+fn take_all<W: Wheel>(wheel: &mut W) -> Result<Vec<Timer>, OutOfMemory>
+    ensures timers { IfOk result (λ timers. timers.items ≡ timers_of (W.state wheel.old).pending) }
+    ensures cleared { OnOk result (W.state wheel.new ≡ after_clear (W.state wheel.old)) }
+    ensures err { OnErr result (wheel.new ≡ wheel.old) }
+{
+    let timers = wheel.list()?;
+    wheel.clear();
+    Ok(timers)
 }

@@ -1,6 +1,6 @@
-//! The handles of the timers that were started, by serial.
+//! The handles of the timers that were started or restarted, by serial.
 //!
-//! Serials are dense: each start takes the next one. So the places stand in one `Vec`, and the place
+//! Serials are dense: each start or restart takes the next one. So the places stand in one `Vec`, and the place
 //! of a serial is found by one subtraction.
 ghost use Rattle.std.specs.Prelude.{◌≡◌, ◌≤◌, ◌<◌, ◌-◌, ◌∷◌, ◌++◌, ℕ, [], OnOk, slice_get, Some};
 ghost use Rattle.std.specs.Prelude.{vec_len, vec_capacity};

@@ -1,12 +1,14 @@
 //! What every run of a facility keeps to, whatever the events are and whichever wheel it stands on.
 //! Each of these functions does nothing, and its contract is the law.
-ghost use Rattle.std.specs.Prelude.{◌≡◌, List, [], ℕ, take, map, true, Some};
+ghost use Rattle.std.specs.Prelude.{◌≡◌, List, [], ℕ, ◌+◌, take, map, true, Some};
 ghost use Rattle.std.specs.List.{AllByRecursion};
-ghost use Rattle.timer_facility.specs.State.{FacilityState, IsSound, SingleEvent};
-ghost use Rattle.timer_facility.specs.Verdict.{Refusal, verdict};
+ghost use Rattle.timer_facility.specs.State.{FacilityState, IsSound, SingleEvent, Asked, Tick, Close, Wanted};
+ghost use Rattle.timer_facility.specs.Verdict.{Refusal, verdict, closed_refusal};
+ghost use Rattle.timer_facility.specs.Refused.{refusals_in, refusals_of};
 ghost use Rattle.timer_facility.specs.Step.{step, refused};
 ghost use Rattle.timer_facility.specs.Run.{Placed, history, run, notices, notices_in, bare_outs, bare_state, NamesBySerial, AreSameButForPlaces};
-ghost use Rattle.timer_facility.specs.Owed.{owed, AreHandedOutOnce};
+ghost use Rattle.timer_facility.specs.HandedOver.{AddsAtMostOne, HandsOver};
+ghost use Rattle.timer_facility.specs.Owed.{owed, left_after, accepted_ticks, others, AreHandedOutOnce, AreAllHandedOut};
 ghost use Rattle.timer_facility.specs.Played.{IsRun};
 ghost use Rattle.timer_facility.specs.declared.event.Event.{Event};
 ghost use Rattle.timer_facility.specs.declared.event.Out.{Out};
@@ -20,6 +22,19 @@ pub fn notices_are_owed()
 /// No timer is handed out twice, and a stopped one never is.
 pub fn each_timer_is_handed_out_once()
     ensures { (s : FacilityState) (placed : List Placed) → IsSound s → AreHandedOutOnce (history s placed) }
+{}
+
+/// Each timer that was started and not stopped is handed out: it expires where its deadline is reached, and is
+/// returned where the facility was closed before that.
+pub fn each_timer_is_handed_out()
+    ensures { (s : FacilityState) (placed : List Placed) → IsSound s → AreAllHandedOut s (history s placed) }
+{}
+
+/// What a close returns are the others: of all timers that were started, those that no tick handed out
+/// and that were not stopped.
+pub fn a_close_returns_the_others()
+    ensures { (s : FacilityState) (placed : List Placed) → IsSound s
+        → left_after s (history s placed) (s.now + accepted_ticks (history s placed)) ≡ others s (history s placed) }
 {}
 
 /// What comes of events, and the state after them, do not depend on the places that a wheel gives,
@@ -42,8 +57,30 @@ pub fn a_refusal_changes_at_most_the_number()
         → step s event place ≡ refused s event refusal }
 {}
 
+/// The outs of an event tell the verdict on it: an accepted event has no refusal among them, and of a
+/// refused one the only refusal is that of the verdict.
+pub fn the_outs_tell_the_verdict()
+    ensures { (s : FacilityState) (event : SingleEvent) (place : ℕ) → refusals_in (step s event place).outs ≡ refusals_of (verdict s event) }
+{}
+
+/// A closed facility refuses each event, and says that it is closed.
+pub fn a_closed_facility_refuses_each_event()
+    ensures { (s : FacilityState) (event : SingleEvent) → s.is_closed ≡ true → verdict s event ≡ Some (closed_refusal event) }
+{}
+
 /// After the close nothing is handed out, and nothing changes.
 pub fn nothing_comes_after_the_close()
     ensures { (s : FacilityState) (placed : List Placed) → s.is_closed ≡ true
         → (notices_in (run s placed).outs ≡ []) × ((run s placed).state ≡ s) }
+{}
+
+/// A request adds at most one pending timer to those of its client, and none to those of another.
+pub fn a_request_adds_at_most_one()
+    ensures { (s : FacilityState) (client number : ℕ) (wanted : Wanted) (place : ℕ) → AddsAtMostOne client s (step s (Asked client number wanted) place).state }
+{}
+
+/// What a tick or a close hands out was pending, and is pending no more.
+pub fn what_is_handed_out_was_pending()
+    ensures tick { (s : FacilityState) → HandsOver s (step s Tick 0) }
+    ensures close { (s : FacilityState) → HandsOver s (step s Close 0) }
 {}

@@ -1,6 +1,6 @@
 //! Plays lists of events.
 //!
-//! Room for all that an event can give is made before the event: one out, one handle for a start, and
+//! Room for all that an event can give is made before the event: one out, one handle for a start or a restart, and
 //! one notice for each timer that is pending. After that nothing can fail, so an event is played
 //! whole or not at all.
 ghost use Rattle.std.specs.Prelude.{◌≡◌, ◌<◌, ◌≤◌, ◌+◌, ◌++◌, ◌∷◌, ◌↔◌, ℕ, List, [], None, length, map, take, IsTrue, IfOk, IfErr, OnErr, OnOk, vec_len, vec_capacity};
@@ -30,7 +30,8 @@ pub struct PlayStop {
 
 /// A facility whose events are played from lists.
 ///
-/// It keeps the place of each timer that it ever started, so that a stop can name one by its serial.
+/// It keeps the place of each timer that it ever started or restarted, so that a stop or a restart can
+/// name one by its serial.
 #[derive(Drop)]
 pub struct Player<W: Wheel + Drop> {
     facility: Facility<W>,
@@ -111,6 +112,13 @@ impl<W: Wheel + Drop> Player<W> {
                 number,
                 serial,
             } => self.play_stop(client, number, serial, outs),
+            Event::Restart {
+                client,
+                number,
+                serial,
+                interval,
+                action,
+            } => self.play_restart(client, number, serial, interval, action, outs),
             Event::Ticks { count } => self.play_ticks(count, outs),
             Event::Close => self.play_close(outs),
         }
@@ -189,6 +197,50 @@ impl<W: Wheel + Drop> Player<W> {
         Ok(())
     }
 
+    /// Plays a restart, which names its timer by the serial, and keeps the place of the new timer.
+    fn play_restart(
+        &mut self,
+        client: u64,
+        number: u64,
+        serial: u64,
+        interval: u64,
+        action: u64,
+        outs: &mut Vec<Out>,
+    ) -> Result<(), OutOfMemory>
+        ensures ok { OnOk result (AddsRun self.old (Event.Restart client number serial interval action) outs.old.items outs.new.items self.new) }
+        ensures state { OnErr result (self.new ≡ self.old) }
+        ensures outs { OnErr result (outs.new.items ≡ outs.old.items) }
+    {
+        outs.reserve(1)?;
+        self.handles.make_room()?;
+        let request = Request::Restart {
+            handle: self.handles.handle_of(serial),
+            interval,
+            action,
+        };
+        match self.facility.take(client, number, request) {
+            Ok(answer) => {
+                if let Answer::Restarted { handle, .. } = answer {
+                    self.handles.push(handle.place);
+                }
+                outs.push_reserved(Out::Answered {
+                    client,
+                    number,
+                    answer,
+                });
+                Ok(())
+            }
+            Err(reason) => {
+                outs.push_reserved(Out::NotTaken {
+                    client,
+                    number,
+                    reason,
+                });
+                Ok(())
+            }
+        }
+    }
+
     /// Plays so many ticks, up to the first that is refused.
     fn play_ticks(&mut self, count: u64, outs: &mut Vec<Out>) -> Result<(), OutOfMemory>
         ensures ok { OnOk result (AddsRun self.old (Event.Ticks count) outs.old.items outs.new.items self.new) }
@@ -244,30 +296,17 @@ fn pass_ticks<W: Wheel + Drop>(facility: &mut Facility<W>, count: u64, outs: &mu
     ensures waiting { facility.new.waiting ≡ [] }
     ensures places { (places : Places) → AreRecorded places facility.old.state → AreRecorded places facility.new.state }
 {
-    for _passed in 0..count {
-        if !pass_tick(facility, outs) {
-            return;
-        }
-    }
-}
-
-/// One tick and its notices, or its refusal. Says whether it was accepted.
-fn pass_tick<W: Wheel + Drop>(facility: &mut Facility<W>, outs: &mut Vec<Out>) -> bool
-    requires waiting { facility.old.waiting ≡ [] }
-    requires room { vec_len outs.old + length facility.old.state.pending < vec_capacity outs.old }
-    ensures accepted { IsTrue result ↔ (tick_refusal facility.old.state ≡ None) }
-    ensures facility { facility.new ≡ with_nothing_waiting (step facility.old.state Tick 0).state }
-    ensures outs { outs.new.items ≡ outs.old.items ++ (step facility.old.state Tick 0).outs }
-    ensures room { IsTrue result → vec_len outs.new + length facility.new.state.pending < vec_capacity outs.new }
-{
-    match facility.tick() {
-        Ok(()) => {
-            hand_out(facility, outs);
-            true
-        }
-        Err(fault) => {
-            outs.push_reserved(Out::TickRefused(fault));
-            false
+    let mut left = count;
+    while left > 0 {
+        match facility.ticks(left) {
+            Ok(passed) => {
+                hand_out(facility, outs);
+                left -= passed;
+            }
+            Err(fault) => {
+                outs.push_reserved(Out::TickRefused(fault));
+                return;
+            }
         }
     }
 }

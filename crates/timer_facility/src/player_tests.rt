@@ -38,6 +38,16 @@ fn stop(client: u64, number: u64, serial: u64) -> Event {
     }
 }
 
+fn restart(client: u64, number: u64, serial: u64, interval: u64, action: u64) -> Event {
+    Event::Restart {
+        client,
+        number,
+        serial,
+        interval,
+        action,
+    }
+}
+
 fn ticks(count: u64) -> Event {
     Event::Ticks { count }
 }
@@ -54,6 +64,24 @@ fn answered(client: u64, number: u64, answer: Answer) -> Out {
 fn started(client: u64, number: u64, serial: u64, deadline: u64) -> Out {
     let handle = Handle { place: 0, serial };
     answered(client, number, Answer::Started { handle, deadline })
+}
+
+/// An accepted restart, without its place.
+fn restarted(client: u64, number: u64, old: u64, serial: u64, deadline: u64) -> Out {
+    let handle = Handle { place: 0, serial };
+    answered(
+        client,
+        number,
+        Answer::Restarted {
+            handle,
+            deadline,
+            old,
+        },
+    )
+}
+
+fn refused(client: u64, number: u64, reason: Reason) -> Out {
+    answered(client, number, Answer::Refused(reason))
 }
 
 fn stopped(client: u64, number: u64, serial: u64) -> Out {
@@ -176,6 +204,65 @@ fn a_stop_names_its_timer_by_the_serial(rt: HostRuntime) -> Result<(), Fail> {
         &[start(0, 1, 5, 0), stop(0, 2, 1), stop(0, 3, 1), ticks(5)],
         &[started(0, 1, 1, 5), stopped(0, 2, 1), no_such(0, 3)],
         (5, 0),
+    )
+}
+
+#[test]
+fn a_restart_names_its_timer_by_the_serial(rt: HostRuntime) -> Result<(), Fail> {
+    check_row(
+        &rt,
+        "a timer that is pushed back twice",
+        player(rt.alloc(), CONFIG)?,
+        &[
+            start(0, 1, 5, 1),
+            start(1, 1, 5, 2),
+            ticks(3),
+            restart(0, 2, 1, 5, 3),
+            restart(0, 3, 1, 5, 4),
+            restart(1, 2, 3, 5, 5),
+            restart(0, 4, 3, 2, 6),
+            ticks(5),
+        ],
+        &[
+            started(0, 1, 1, 5),
+            started(1, 1, 2, 5),
+            restarted(0, 2, 1, 3, 8),
+            no_such(0, 3),
+            no_such(1, 2),
+            restarted(0, 4, 3, 4, 5),
+            expired(timer(1, 1, 2, 5, 2)),
+            expired(timer(0, 4, 4, 5, 6)),
+        ],
+        (8, 0),
+    )
+}
+
+#[test]
+fn a_restart_takes_the_last_serial_and_then_none(rt: HostRuntime) -> Result<(), Fail> {
+    let config = Config {
+        capacity: 1,
+        first_serial: LAST - 1,
+        ..CONFIG
+    };
+    check_row(
+        &rt,
+        "serials spent",
+        player(rt.alloc(), config)?,
+        &[
+            start(0, 1, 9, 1),
+            restart(0, 2, LAST - 1, 2, 2),
+            restart(0, 3, LAST, 2, 3),
+            restart(0, 4, LAST + 1, 0, 3),
+            ticks(2),
+        ],
+        &[
+            started(0, 1, LAST - 1, 9),
+            restarted(0, 2, LAST - 1, LAST, 2),
+            refused(0, 3, Reason::SerialsSpent),
+            no_such(0, 4),
+            expired(timer(0, 2, LAST, 2, 2)),
+        ],
+        (2, 0),
     )
 }
 

@@ -47,6 +47,14 @@ impl<W: Wheel> Wheel for Refusing<W> {
         self.wheel.stop(handle)
     }
 
+    fn restart(&mut self, handle: Handle, timer: Timer) -> Option<(Handle, Timer)> {
+        self.wheel.restart(handle, timer)
+    }
+
+    fn quiet_until(&self) -> Option<u64> {
+        self.wheel.quiet_until()
+    }
+
     fn per_tick(&mut self) {
         self.wheel.per_tick();
     }

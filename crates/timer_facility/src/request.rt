@@ -5,23 +5,45 @@ use timer_base::{Handle, Timer};
 #[derive(Clone, Copy, Debug, PartialEq, Eq)]
 pub enum Request {
     /// Start a timer that expires after `interval` ticks, and hand `action` back with it.
-    Start { interval: u64, action: u64 },
+    Start {
+        interval: u64,
+        action: u64,
+    },
     /// Stop the timer with this handle.
     Stop(Handle),
+    /// Stop the timer with this handle and start another in its stead, in one request.
+    Restart {
+        handle: Handle,
+        interval: u64,
+        action: u64,
+    },
 }
 
 /// What a request that was taken is answered.
 #[derive(Clone, Copy, Debug, PartialEq, Eq)]
 pub enum Answer {
     /// The timer runs, and expires at the tick `deadline`.
-    Started { handle: Handle, deadline: u64 },
+    Started {
+        handle: Handle,
+        deadline: u64,
+    },
     /// The timer with this serial will never be handed out.
-    Stopped { serial: u64 },
+    Stopped {
+        serial: u64,
+    },
+    /// The timer with the serial `old` will never be handed out. A new one runs in its stead, and expires
+    /// at the tick `deadline`.
+    Restarted {
+        handle: Handle,
+        deadline: u64,
+        old: u64,
+    },
     /// The request used up its number, and nothing else changed.
     Refused(Reason),
 }
 
-/// Why a request that was taken is refused. A start is tested against the first four in this order.
+/// Why a request that was taken is refused. A start is tested against the first four in this order; a
+/// restart against the last one and then the first three, and it is never `Full`.
 #[derive(Clone, Copy, Debug, PartialEq, Eq)]
 pub enum Reason {
     /// The interval is 0.

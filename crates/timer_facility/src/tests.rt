@@ -1,5 +1,5 @@
 //! Whole uses of the facility over the plain wheel, and the ranges of its configuration.
-ghost use Rattle.std.specs.Prelude.{◌≡◌, [], IfOk};
+ghost use Rattle.std.specs.Prelude.{◌≡◌, ◌<◌, [], IfOk};
 ghost use Rattle.timer_facility.specs.Standing.{Standing};
 
 use super::*;
@@ -51,6 +51,11 @@ fn close<W: Wheel + Drop>(rt: &impl Abort, facility: &mut Facility<W>) -> Result
     facility.close()
 }
 
+fn pending_of<W: Wheel + Drop>(rt: &impl Abort, facility: &Facility<W>, client: u64) -> usize {
+    settle(rt, facility);
+    facility.pending_of(client)
+}
+
 /// Starts a timer that has to be accepted, and answers its handle.
 fn started<W: Wheel + Drop>(
     rt: &impl Abort,
@@ -75,6 +80,197 @@ fn started<W: Wheel + Drop>(
     }
 }
 
+fn ticks<W: Wheel + Drop>(
+    rt: &impl Abort,
+    facility: &mut Facility<W>,
+    limit: u64,
+) -> Result<u64, TickFault>
+    requires { 0 < limit }
+{
+    settle(rt, facility);
+    facility.ticks(limit)
+}
+
+/// The serial of the next timer that is handed out, where it expired.
+fn expired<W: Wheel + Drop>(facility: &mut Facility<W>) -> Option<u64> {
+    match facility.next_out() {
+        Some(Notice::Expired(timer)) => Some(timer.serial),
+        _ => None,
+    }
+}
+
+#[test]
+fn many_ticks_stop_where_something_waits(rt: HostRuntime) -> Result<(), Fail> {
+    let mut facility = facility(rt.alloc())?;
+    for (number, interval) in [(1, 5), (2, 64), (3, 64), (4, 4161)] {
+        started(&rt, &mut facility, 0, number, interval, 0);
+    }
+    assert_eq!(rt; ticks(&rt, &mut facility, 10), Ok(5));
+    assert_eq!(rt; expired(&mut facility), Some(1));
+    assert_eq!(rt; ticks(&rt, &mut facility, 100), Ok(59));
+    assert_eq!(rt; expired(&mut facility), Some(2));
+    assert_eq!(rt; expired(&mut facility), Some(3));
+    assert_eq!(rt; ticks(&rt, &mut facility, 4096), Ok(4096));
+    assert_eq!(rt; facility.has_out(), false);
+    assert_eq!(rt; ticks(&rt, &mut facility, 1), Ok(1));
+    assert_eq!(rt; expired(&mut facility), Some(4));
+    Ok(())
+}
+
+#[test]
+fn many_ticks_end_at_the_last_one(rt: HostRuntime) -> Result<(), Fail> {
+    let alloc = rt.alloc();
+    let config = Config {
+        first_tick: LAST - 2,
+        ..CONFIG
+    };
+    let checked = config.check()?;
+    let wheel = PlainWheel::new(alloc, LAST - 2)?;
+    let mut facility = Facility::open(alloc, checked, wheel);
+    assert_eq!(rt; ticks(&rt, &mut facility, u64::MAX), Ok(2));
+    assert_eq!(rt; ticks(&rt, &mut facility, 1), Err(TickFault::ClockEnd));
+    assert_eq!(rt; close(&rt, &mut facility), Ok(0));
+    assert_eq!(rt; ticks(&rt, &mut facility, 1), Err(TickFault::Closed));
+    Ok(())
+}
+
+#[test]
+fn a_restart_is_refused_in_its_order(rt: HostRuntime) -> Result<(), Fail> {
+    let mut facility = facility(rt.alloc())?;
+    let handle = started(&rt, &mut facility, 0, 1, 5, 7);
+    let restart = |interval| Request::Restart {
+        handle,
+        interval,
+        action: 8,
+    };
+    let rows = [
+        (1, 1, 0, Reason::NoSuch),
+        (0, 2, 0, Reason::ZeroInterval),
+        (0, 3, u64::MAX, Reason::TooLate),
+        (0, 4, LAST + 1, Reason::TooLate),
+    ];
+    for (client, number, interval, reason) in rows {
+        let refused = take(&rt, &mut facility, client, number, restart(interval));
+        assert_eq!(rt; refused, Ok(Answer::Refused(reason)));
+    }
+    assert_eq!(rt; facility.pending(), 1);
+    let restarted = take(&rt, &mut facility, 0, 5, restart(LAST));
+    assert!(rt;
+        matches!(
+            restarted,
+            Ok(Answer::Restarted {
+                old: 1,
+                deadline: LAST,
+                ..
+            })
+        )
+    );
+    assert_eq!(rt; facility.pending(), 1);
+    assert_eq!(rt; facility.next_serial(), 3);
+    Ok(())
+}
+
+#[test]
+fn numbers_spent(rt: HostRuntime) -> Result<(), Fail> {
+    let alloc = rt.alloc();
+    let config = Config {
+        clients: 1,
+        capacity: 4,
+        first_tick: 0,
+        first_serial: LAST,
+        first_number: LAST - 2,
+    };
+    let checked = config.check()?;
+    let wheel = PlainWheel::new(alloc, 0)?;
+    let mut facility = Facility::open(alloc, checked, wheel);
+    let last = started(&rt, &mut facility, 0, LAST - 2, 1, 1);
+    assert_eq!(rt; last.serial, LAST);
+    let rows = [
+        (LAST - 1, 1, 2, Ok(Answer::Refused(Reason::SerialsSpent))),
+        (LAST, 0, 3, Ok(Answer::Refused(Reason::ZeroInterval))),
+        (
+            LAST,
+            1,
+            4,
+            Err(NotTaken::Repeated {
+                next: 1152921504606846976,
+            }),
+        ),
+        (1152921504606846976, 1, 4, Err(NotTaken::NumbersSpent)),
+        (u64::MAX, 1, 4, Err(NotTaken::NumbersSpent)),
+    ];
+    for (number, interval, action, result) in rows {
+        let start = Request::Start { interval, action };
+        let taken = take(&rt, &mut facility, 0, number, start);
+        assert_eq!(rt; taken, result, "at {number}");
+    }
+    Ok(())
+}
+
+#[test]
+fn a_hostile_handle_restarts_nothing(rt: HostRuntime) -> Result<(), Fail> {
+    let mut facility = facility(rt.alloc())?;
+    let gone = started(&rt, &mut facility, 0, 1, 3, 1);
+    let stopped = take(&rt, &mut facility, 0, 2, Request::Stop(gone));
+    assert_eq!(rt; stopped, Ok(Answer::Stopped { serial: 1 }));
+    let kept = started(&rt, &mut facility, 0, 3, 3, 2);
+    let hostile = [
+        gone,
+        Handle {
+            place: 0,
+            serial: 0,
+        },
+        Handle {
+            place: usize::MAX,
+            serial: u64::MAX,
+        },
+        Handle {
+            place: kept.place,
+            serial: 1,
+        },
+        Handle {
+            place: usize::MAX,
+            serial: kept.serial,
+        },
+    ];
+    let mut number = 3u64;
+    for handle in hostile {
+        number = number.wrapping_add(1);
+        let request = Request::Restart {
+            handle,
+            interval: 5,
+            action: 9,
+        };
+        let refused = take(&rt, &mut facility, 0, number, request);
+        assert_eq!(rt;
+            refused,
+            Ok(Answer::Refused(Reason::NoSuch)),
+            "at {handle:?}"
+        );
+    }
+    assert_eq!(rt; pending_of(&rt, &facility, 0), 1);
+    assert_eq!(rt; facility.next_serial(), 3);
+    assert_eq!(rt; ticks(&rt, &mut facility, 9), Ok(3));
+    assert_eq!(rt; expired(&mut facility), Some(2));
+    Ok(())
+}
+
+#[test]
+fn an_owner_sleeps_until_the_first_deadline(rt: HostRuntime) -> Result<(), Fail> {
+    let mut facility = facility(rt.alloc())?;
+    assert_eq!(rt; facility.quiet_until(), None);
+    started(&rt, &mut facility, 0, 1, 70, 0);
+    started(&rt, &mut facility, 1, 1, 7, 0);
+    // The plain wheel finds the first deadline itself.
+    assert_eq!(rt; facility.quiet_until(), Some(7));
+    assert_eq!(rt; ticks(&rt, &mut facility, 7), Ok(7));
+    assert_eq!(rt; expired(&mut facility), Some(2));
+    assert_eq!(rt; facility.quiet_until(), Some(70));
+    assert_eq!(rt; close(&rt, &mut facility), Ok(1));
+    assert_eq!(rt; facility.quiet_until(), None);
+    Ok(())
+}
+
 #[test]
 fn starts_stops_ticks_and_closes(rt: HostRuntime) -> Result<(), Fail> {
     let mut facility = facility(rt.alloc())?;
@@ -83,6 +279,8 @@ fn starts_stops_ticks_and_closes(rt: HostRuntime) -> Result<(), Fail> {
     let other = started(&rt, &mut facility, 1, 2, 9, 9);
     assert_eq!(rt; (late.serial, early.serial, other.serial), (1, 2, 3));
     assert_eq!(rt; facility.pending(), 3);
+    assert_eq!(rt; pending_of(&rt, &facility, 1), 2);
+    assert_eq!(rt; pending_of(&rt, &facility, 2), 0);
     assert_eq!(rt; facility.next_serial(), 4);
     assert_eq!(rt; facility.next_number(1), Some(3));
     assert_eq!(rt; facility.next_number(2), None);

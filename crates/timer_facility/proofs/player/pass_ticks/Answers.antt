@@ -1,43 +1,60 @@
-use Rattle.std.proofs.Common.{◌≡◌, ◌≤◌, ap, sym, subst, arith}
-use Rattle.std.specs.Prelude.{None}
+use Rattle.std.proofs.Common.{◌≡◌, ◌≤◌, ◌<◌, ◌+◌, ◌-◌, ap, sym, subst, length, vec_len, arith}
+use Rattle.std.specs.Prelude.{vec_capacity, min}
 use Rattle.timer_facility.specs.State.{FacilityState}
-use Rattle.timer_facility.specs.Verdict.{tick_refusal}
 use Rattle.timer_facility.specs.Standing.{Standing}
-use Rattle.timer_facility.proofs.TickRuns.{HasTicked, HasTicked-more, AddsRun-all, AddsRun-cut, is_refused}
-use Rattle.timer_facility.proofs.RecordedLemmas.{AreRecorded-tick}
 use Rattle.timer_facility.specs.Recorded.{AreRecorded}
+use Rattle.timer_facility.specs.Ticked.{AreTicked}
+use Rattle.timer_facility.proofs.TickRuns.{HasTicked, HasTicked-many, AddsRun-all, AddsRun-refused, length-many}
+use Rattle.timer_facility.proofs.RecordedLemmas.{AreRecorded-ticks}
 use Rattle.timer_facility.proofs.player.pass_ticks.Goals as goal
 
-pub loop-passed-preserved : goal.loop-passed-preserved
-loop-passed-preserved g c =
+pub hand_out-requires : goal.hand_out-requires
+hand_out-requires g c =
+    let here : FacilityState = c.loop-left.facility.state in
+    let there : Standing = c.ticks.new.self in
+    let all : length there.waiting + length there.state.pending ≡ length here.pending = length-many c.loop-left.left c.in-Ok.passed here there c.in-Ok.ensures.ticked in
+    let room : vec_len c.loop-left.outs + length here.pending < vec_capacity c.loop-left.outs = c.loop-left.invariant.room in
+    omega arith
+
+pub loop-left-preserved : goal.loop-left-preserved
+loop-left-preserved g c =
     let s : FacilityState = c.args.facility.now.state in
-    let here : FacilityState = c.loop-passed.facility.state in
-    let there : Standing = c.pass_tick.new.facility in
-    let accepted : tick_refusal here ≡ None = c.pass_tick.ensures.accepted.0 c.if-not-pass_tick.false in
-    let state : there.state ≡ _ = ap (λ (v : Standing). v.state) c.pass_tick.ensures.facility in
+    let here : FacilityState = c.loop-left.facility.state in
+    let there : Standing = c.ticks.new.self in
+    let end : Standing = c.hand_out.new.facility in
+    let t : AreTicked c.loop-left.left c.in-Ok.passed here there = c.in-Ok.ensures.ticked in
+    let state : end.state ≡ there.state = ap (λ (v : Standing). v.state) c.hand_out.ensures.facility in
+    let at_most : c.in-Ok.passed ≤ min c.loop-left.left (here.last - here.now) = t.at_most in
+    let few : c.loop-left.left ≤ c.args.count = c.loop-left.invariant.few in
+    let passed : c.args.count - c.loop-left.left + c.in-Ok.passed ≡ c.args.count - (c.loop-left.left - c.in-Ok.passed) = omega arith in
+    let all : length there.waiting + length there.state.pending ≡ length here.pending = length-many c.loop-left.left c.in-Ok.passed here there t in
+    let room : vec_len c.loop-left.outs + length here.pending < vec_capacity c.loop-left.outs = c.loop-left.invariant.room in
+    let left : length end.state.pending ≡ length there.state.pending = ap (λ (d : FacilityState). length d.pending) state in
+    let len : vec_len c.hand_out.new.outs ≡ vec_len c.loop-left.outs + length there.waiting = c.hand_out.ensures.len in
+    let capacity : vec_capacity c.hand_out.new.outs ≡ vec_capacity c.loop-left.outs = c.hand_out.ensures.capacity in
     record {
-      run = HasTicked-more s c.loop-passed._passed c.args.outs.now.items c.loop-passed.outs.items c.pass_tick.new.outs.items here there.state c.loop-passed.invariant.run accepted state c.pass_tick.ensures.outs;
-      waiting = ap (λ (v : Standing). v.waiting) c.pass_tick.ensures.facility;
-      room = c.pass_tick.ensures.room c.if-not-pass_tick.false;
-      places = λ places a. subst (AreRecorded places) (sym state) (AreRecorded-tick places here (c.loop-passed.invariant.places places a));
+      few = omega arith;
+      run = subst (λ n. HasTicked s n c.args.outs.now.items c.hand_out.new.outs.items end.state) passed
+          (HasTicked-many s (c.args.count - c.loop-left.left) c.loop-left.left c.in-Ok.passed c.args.outs.now.items c.loop-left.outs.items c.hand_out.new.outs.items here end.state there
+          c.loop-left.invariant.run t c.hand_out.ensures.outs state);
+      waiting = ap (λ (v : Standing). v.waiting) c.hand_out.ensures.facility;
+      room = omega arith;
+      places = λ places a. subst (AreRecorded places) (sym state) (AreRecorded-ticks places c.loop-left.left c.in-Ok.passed here there t (c.loop-left.invariant.places places a));
     }
 
-pub returns-then-not-pass_tick-clause-run : goal.returns-then-not-pass_tick-clause-run
-returns-then-not-pass_tick-clause-run g c =
+pub returns-in-Err-clause-run : goal.returns-in-Err-clause-run
+returns-in-Err-clause-run g c =
     let s : FacilityState = c.args.facility.now.state in
-    let here : FacilityState = c.loop-passed.facility.state in
-    let there : Standing = c.pass_tick.new.facility in
-    let none : tick_refusal here ≡ None → ⊥ = λ e. let t = c.pass_tick.ensures.accepted.1 e in let f = c.if-not-pass_tick.true in absurd (cc) in
-    let fault = is_refused (tick_refusal here) none in
-    AddsRun-cut s c.args.count c.loop-passed._passed c.args.outs.now.items c.loop-passed.outs.items c.pass_tick.new.outs.items here there.state fault.0
-    c.loop-passed.invariant.run c.loop-passed-test.true fault.1 (ap (λ (v : Standing). v.state) c.pass_tick.ensures.facility) c.pass_tick.ensures.outs
+    let here : FacilityState = c.loop-left.facility.state in
+    let few : c.loop-left.left ≤ c.args.count = c.loop-left.invariant.few in
+    let some = c.loop-left-test.true in
+    AddsRun-refused s c.args.count (c.args.count - c.loop-left.left) c.args.outs.now.items c.loop-left.outs.items c.push_reserved.new.self.items here c.ticks.new.self.state c.in-Err.fault
+    c.loop-left.invariant.run (omega arith) c.in-Err.ensures.fault (ap (λ (v : Standing). v.state) c.in-Err.ensures.err) c.push_reserved.ensures.items
 
 pub returns-clause-run : goal.returns-clause-run
 returns-clause-run g c =
     let s : FacilityState = c.args.facility.now.state in
-    let here : FacilityState = c.loop-passed.facility.state in
-    let at_most : c.loop-passed._passed ≤ c.args.count = c.loop-passed.auto._passed-end in
-    let at_least : c.args.count ≤ c.loop-passed._passed = c.loop-passed-test.false in
-    let all : c.loop-passed._passed ≡ c.args.count = omega arith in
-    AddsRun-all s c.args.count c.args.outs.now.items c.loop-passed.outs.items here
-    (subst (λ n. HasTicked s n c.args.outs.now.items c.loop-passed.outs.items here) all c.loop-passed.invariant.run)
+    let none = c.loop-left-test.false in
+    let all : c.args.count - c.loop-left.left ≡ c.args.count = omega arith in
+    AddsRun-all s c.args.count c.args.outs.now.items c.loop-left.outs.items c.loop-left.facility.state
+    (subst (λ n. HasTicked s n c.args.outs.now.items c.loop-left.outs.items c.loop-left.facility.state) all c.loop-left.invariant.run)

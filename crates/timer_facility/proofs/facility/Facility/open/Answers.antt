@@ -1,8 +1,8 @@
-use Rattle.std.proofs.Common.{◌∙◌, ap, sym}
+use Rattle.std.proofs.Common.{◌∙◌, ◌<◌, ap, sym, subst}
 use Rattle.timer_facility.specs.Standing.{with_nothing_waiting}
 use Rattle.timer_facility.specs.Opened.{opened}
 use Rattle.timer_facility.specs.declared.config.Config.{Config}
-use Rattle.timer_facility.proofs.Parts.{standing-open}
+use Rattle.timer_facility.proofs.Parts.{standing-open, parts-open}
 use Rattle.timer_facility.proofs.facility.Facility.open.Goals as goal
 
 pub returns : goal.returns
@@ -12,3 +12,9 @@ returns g c =
     (c.requires.now ∙ ap (λ (k : Config). k.first_tick) (sym c.config-config.ensures.config))
     c.config-config.ensures.in_range.few_clients c.new.ensures.items
     ∙ ap (λ (k : Config). with_nothing_waiting (opened k w.last_tick)) c.config-config.ensures.config
+
+pub invariant_of-result : goal.invariant_of-result
+invariant_of-result g c =
+    let k = c.config-config.result in
+    parts-open (g.W.Wheel.state c.args.wheel) k c.new.result.items c.config-config.ensures.in_range c.requires.pending c.requires.due
+    (subst (λ (d : Config). (g.W.Wheel.state c.args.wheel).last_serial < d.first_serial) (sym c.config-config.ensures.config) c.requires.serial) c.new.ensures.items

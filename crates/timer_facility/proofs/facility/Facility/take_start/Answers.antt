@@ -1,6 +1,6 @@
 use Rattle.std.proofs.Common.{sym, ◌+◌, ◌∙◌, ap, refl, arith}
 use Rattle.timer_facility.specs.Step.{answer_to_start, new_timer}
-use Rattle.timer_facility.proofs.Parts.{nothing_due, next_when, tells, standing-refused, standing-start, parts-used, parts-start, answer_started}
+use Rattle.timer_facility.proofs.Parts.{next_when, tells, standing-refused, standing-start, parts-used, parts-start, answer_started, few_counted}
 use Rattle.timer_facility.proofs.Verdicts.{startable}
 use Rattle.timer_facility.proofs.facility.Facility.take_start.Goals as goal
 
@@ -38,9 +38,6 @@ overflow_add-deadline g c =
     let end = w.last_in_range in
     let told = c.now.ensures in
     omega arith
-
-pub start-requires-clause-nothing_due : goal.start-requires-clause-nothing_due
-start-requires-clause-nothing_due g c = nothing_due c.self.invariant c.self.view_is c.requires.waiting
 
 pub start-requires-clause-later : goal.start-requires-clause-later
 start-requires-clause-later g c =
@@ -94,7 +91,8 @@ invariant_of-self-in-Ok g c =
     let serial = t.serial_is in
     let length = t.length_is in
     let capacity = t.capacity_is in
-    parts-used (parts-start c.self.invariant (omega arith) (λ e. room (length ∙ e ∙ sym capacity)) c.in-Ok.handle.place _ refl (g.W.Wheel.state c.start.new.self) c.in-Ok.ensures.started) c.args.client c.args.number
+    let n = next_when c.self.invariant c.self.view_is c.args.client c.args.number c.requires.taken in
+    parts-used (parts-start c.self.invariant (omega arith) (λ e. room (length ∙ e ∙ sym capacity)) c.in-Ok.handle.place _ refl n.is_client (g.W.Wheel.state c.start.new.self) c.in-Ok.ensures.started) c.args.client c.args.number
 
 pub returns-in-Ok-clause-answer : goal.returns-in-Ok-clause-answer
 returns-in-Ok-clause-answer g c =
@@ -108,3 +106,27 @@ returns-in-Ok-clause-left g c =
     let n = next_when c.self.invariant c.self.view_is c.args.client c.args.number c.requires.taken in
     standing-start c.self.invariant c.self.view_is c.args.client c.args.number c.args.interval c.args.action c.in-Ok.handle.place n.is_client c.requires.waiting (sym c.in_default.ensures)
     c.now.result c.now.ensures (g.W.Wheel.state c.start.new.self) c.in-Ok.ensures.started
+
+pub offset_bounds-self-inside-client-in-Ok-2 : goal.offset_bounds-self-inside-client-in-Ok-2
+offset_bounds-self-inside-client-in-Ok-2 g c =
+    let n = next_when c.self.invariant c.self.view_is c.args.client c.args.number c.requires.taken in
+    let a = n.is_client in
+    let b = n.few_clients in
+    omega arith
+
+pub bounds-self-inside-client-in-Ok-2 : goal.bounds-self-inside-client-in-Ok-2
+bounds-self-inside-client-in-Ok-2 g c =
+    let n = next_when c.self.invariant c.self.view_is c.args.client c.args.number c.requires.taken in
+    let a = n.is_client in
+    let b = n.few_clients in
+    omega arith
+
+pub bounds-self-inside-client-in-Ok-3 : goal.bounds-self-inside-client-in-Ok-3
+bounds-self-inside-client-in-Ok-3 g c =
+    let n = next_when c.self.invariant c.self.view_is c.args.client c.args.number c.requires.taken in
+    let a = n.is_client in
+    let b = n.few_clients in
+    omega arith
+
+pub overflow_add-self-in-Ok-3 : goal.overflow_add-self-in-Ok-3
+overflow_add-self-in-Ok-3 g c = let few = few_counted c.self.invariant c.self.view_is c.requires.waiting c.args.client in omega arith

@@ -1,6 +1,6 @@
 use Rattle.std.proofs.Common.{◌∙◌, sym, ap, refl, None, Some, arith}
 use Rattle.timer_base.specs.Pending.{without_found}
-use Rattle.timer_facility.proofs.Parts.{nothing_due, next_when, standing-stop, found_there, parts-used, parts-stop}
+use Rattle.timer_facility.proofs.Parts.{next_when, standing-stop, found_there, parts-used, parts-stopped, stopped_counted}
 use Rattle.timer_facility.proofs.facility.Facility.take_stop.Goals as goal
 
 pub overflow_add-self : goal.overflow_add-self
@@ -19,9 +19,6 @@ bounds-self-inside-client g c =
     let a = n.is_client in
     let b = n.few_clients in
     omega arith
-
-pub stop-requires : goal.stop-requires
-stop-requires g c = nothing_due c.self.invariant c.self.view_is c.requires.waiting
 
 pub overflow_add-self-in-Some : goal.overflow_add-self-in-Some
 overflow_add-self-in-Some g c = let n = (next_when c.self.invariant c.self.view_is c.args.client c.args.number c.requires.taken).in_range in omega arith
@@ -42,7 +39,10 @@ bounds-self-inside-client-in-Some g c =
 
 pub invariant_of-self-in-Some : goal.invariant_of-self-in-Some
 invariant_of-self-in-Some g c =
-    parts-used (parts-stop c.self.invariant _ (g.W.Wheel.state c.stop.new.self) c.stop.ensures.stopped) c.args.client c.args.number
+    let there = found_there c.self.invariant c.self.view_is c.args.client c.args.handle c.in-Some.timer (sym c.in-Some.ensures) in
+    let w = g.W.Wheel.state c.self.inside.wheel in
+    let stopped = c.stop.ensures.stopped ∙ ap (λ o. record w { pending = without_found o w.pending }) there in
+    parts-used (parts-stopped c.self.invariant c.self.view_is (g.met.W.Wheel.well_formed c.self.inside.wheel) c.args.client c.args.handle c.in-Some.timer (sym c.in-Some.ensures) (g.W.Wheel.state c.stop.new.self) stopped) c.args.client c.args.number
 
 pub returns-in-None-clause-left : goal.returns-in-None-clause-left
 returns-in-None-clause-left g c =
@@ -56,3 +56,30 @@ returns-in-Some-clause-left g c =
     let there = found_there c.self.invariant c.self.view_is c.args.client c.args.handle c.in-Some.timer (sym c.in-Some.ensures) in
     standing-stop c.self.invariant c.self.view_is c.args.client c.args.number c.args.handle (Some c.in-Some.timer) n.is_client c.requires.waiting (sym c.in-Some.ensures) (g.W.Wheel.state c.stop.new.self)
     (c.stop.ensures.stopped ∙ ap (λ o. record w { pending = without_found o w.pending }) there)
+
+pub offset_bounds-self-inside-client-in-Some-2 : goal.offset_bounds-self-inside-client-in-Some-2
+offset_bounds-self-inside-client-in-Some-2 g c =
+    let n = next_when c.self.invariant c.self.view_is c.args.client c.args.number c.requires.taken in
+    let a = n.is_client in
+    let b = n.few_clients in
+    omega arith
+
+pub bounds-self-inside-client-in-Some-2 : goal.bounds-self-inside-client-in-Some-2
+bounds-self-inside-client-in-Some-2 g c =
+    let n = next_when c.self.invariant c.self.view_is c.args.client c.args.number c.requires.taken in
+    let a = n.is_client in
+    let b = n.few_clients in
+    omega arith
+
+pub bounds-self-inside-client-in-Some-3 : goal.bounds-self-inside-client-in-Some-3
+bounds-self-inside-client-in-Some-3 g c =
+    let n = next_when c.self.invariant c.self.view_is c.args.client c.args.number c.requires.taken in
+    let a = n.is_client in
+    let b = n.few_clients in
+    omega arith
+
+pub overflow_sub-self : goal.overflow_sub-self
+overflow_sub-self g c =
+    let counted = stopped_counted c.self.invariant c.self.view_is (g.met.W.Wheel.well_formed c.self.inside.wheel) c.args.client c.args.handle c.in-Some.timer (sym c.in-Some.ensures) in
+    let some = counted.some in
+    omega arith

@@ -1,5 +1,6 @@
 use Rattle.std.proofs.Common.{◌∙◌, ap, sym, arith}
 use Rattle.timer_facility.specs.Standing.{Standing}
+use Rattle.timer_facility.specs.Verdict.{verdict_on_tick}
 use Rattle.timer_facility.proofs.Parts.{nothing_due, is_open, tells, refused_tick, standing-tick, parts-tick}
 use Rattle.timer_facility.proofs.Verdicts.{tick_refusal-closed, tick_refusal-clock_end, tick_refusal-none}
 use Rattle.timer_facility.proofs.facility.Facility.tick.Goals as goal
@@ -34,7 +35,7 @@ pub per_tick-requires-clause-nothing_due : goal.per_tick-requires-clause-nothing
 per_tick-requires-clause-nothing_due g c = nothing_due c.self.invariant c.self.view_is c.requires
 
 pub invariant_of-self : goal.invariant_of-self
-invariant_of-self g c = parts-tick c.self.invariant (g.W.Wheel.state c.per_tick.new.self) c.per_tick.ensures
+invariant_of-self g c = parts-tick c.self.invariant (nothing_due c.self.invariant c.self.view_is c.requires) (g.W.Wheel.state c.per_tick.new.self) c.per_tick.ensures
 
 pub returns-clause-ticked : goal.returns-clause-ticked
 returns-clause-ticked g c =
@@ -53,3 +54,12 @@ returns-clause-fault g c =
     let told_now = c.now.ensures in
     let test = c.if-now-last_tick.false in
     tick_refusal-none c.args.self.now.state (is_open c.self.invariant c.self.view_is c.if-self.false) (λ e. test (told_now ∙ sym now ∙ e ∙ last ∙ sym told_last))
+
+pub returns-then-self-clause-verdict : goal.returns-then-self-clause-verdict
+returns-then-self-clause-verdict g c = ap verdict_on_tick (returns-then-self-clause-fault g c)
+
+pub returns-then-now-last_tick-clause-verdict : goal.returns-then-now-last_tick-clause-verdict
+returns-then-now-last_tick-clause-verdict g c = ap verdict_on_tick (returns-then-now-last_tick-clause-fault g c)
+
+pub returns-clause-verdict : goal.returns-clause-verdict
+returns-clause-verdict g c = ap verdict_on_tick (returns-clause-fault g c)

@@ -1,0 +1,9 @@
+use Rattle.std.proofs.Common.{sym}
+use Rattle.timer_facility.specs.Verdict.{refusal}
+use Rattle.timer_facility.specs.Standing.{wanted_of}
+use Rattle.timer_facility.proofs.Told.{verdict-not_taken}
+use Rattle.timer_facility.proofs.facility.Facility.take.Goals as goal
+
+pub returns-in-Err-clause-verdict : goal.returns-in-Err-clause-verdict
+returns-in-Err-clause-verdict g c =
+    verdict-not_taken c.args.self.now.state c.args.client c.args.number (refusal c.args.self.now.state c.args.client (wanted_of c.args.request)) c.in-Err.reason c.in-Err.ensures

@@ -1,0 +1,52 @@
+use Rattle.std.proofs.Common.{◌≡◌, ◌-◌, ◌∙◌, ap, sym, arith}
+use Rattle.std.specs.Prelude.{min}
+use Rattle.timer_facility.specs.Standing.{Standing}
+use Rattle.timer_facility.proofs.Parts.{nothing_due, is_open, tells}
+use Rattle.timer_facility.proofs.ManyTicks.{parts-advanced, standing-advanced}
+use Rattle.timer_facility.proofs.Verdicts.{tick_refusal-closed, tick_refusal-clock_end, tick_refusal-none}
+use Rattle.timer_facility.proofs.facility.Facility.ticks.Goals as goal
+
+pub returns-then-self-clause-fault : goal.returns-then-self-clause-fault
+returns-then-self-clause-fault g c = tick_refusal-closed c.args.self.now.state (sym (ap (λ (v : Standing). v.state.is_closed) c.self.view_is) ∙ c.if-self.true)
+
+pub returns-then-left-eq0-clause-fault : goal.returns-then-left-eq0-clause-fault
+returns-then-left-eq0-clause-fault g c =
+    let t = tells c.self.invariant c.self.view_is in
+    let last = t.last_is in
+    let now = t.now_is in
+    let told_last = c.last_tick.ensures in
+    let told_now = c.now.ensures in
+    let in_range = (g.met.W.Wheel.well_formed c.self.inside.wheel).now_in_range in
+    let test = c.if-left-eq0.true in
+    tick_refusal-clock_end c.args.self.now.state (is_open c.self.invariant c.self.view_is c.if-self.false) (omega arith)
+
+pub advance-requires-clause-nothing_due : goal.advance-requires-clause-nothing_due
+advance-requires-clause-nothing_due g c = nothing_due c.self.invariant c.self.view_is c.requires.waiting
+
+pub invariant_of-self : goal.invariant_of-self
+invariant_of-self g c =
+    let w = g.W.Wheel.state c.self.inside.wheel in
+    let told_last = c.last_tick.ensures in
+    let told_now = c.now.ensures in
+    let least = c.min.ensures in
+    let most : c.min.result ≡ min c.args.limit (w.last_tick - w.now) = omega arith in
+    parts-advanced c.self.invariant c.self.view_is c.requires.waiting c.if-self.false c.args.limit c.min.result c.advance.result most (g.W.Wheel.state c.advance.new.self) c.advance.ensures
+
+pub returns-clause-ticked : goal.returns-clause-ticked
+returns-clause-ticked g c =
+    let w = g.W.Wheel.state c.self.inside.wheel in
+    let told_last = c.last_tick.ensures in
+    let told_now = c.now.ensures in
+    let least = c.min.ensures in
+    let most : c.min.result ≡ min c.args.limit (w.last_tick - w.now) = omega arith in
+    standing-advanced c.self.invariant c.self.view_is c.requires.waiting c.if-self.false c.args.limit c.min.result c.advance.result most (g.W.Wheel.state c.advance.new.self) c.advance.ensures
+
+pub returns-clause-fault : goal.returns-clause-fault
+returns-clause-fault g c =
+    let t = tells c.self.invariant c.self.view_is in
+    let last = t.last_is in
+    let now = t.now_is in
+    let told_last = c.last_tick.ensures in
+    let told_now = c.now.ensures in
+    let test = c.if-left-eq0.false in
+    tick_refusal-none c.args.self.now.state (is_open c.self.invariant c.self.view_is c.if-self.false) (λ e. test (let f = e in omega arith))

@@ -1,0 +1,5 @@
+use Rattle.timer_facility.proofs.Told.{verdict-closed}
+use Rattle.timer_facility.proofs.laws.a_closed_facility_refuses_each_event.Goals as goal
+
+pub returns : goal.returns
+returns c = verdict-closed

@@ -1,0 +1,5 @@
+use Rattle.timer_facility.proofs.Told.{outs-verdict}
+use Rattle.timer_facility.proofs.laws.the_outs_tell_the_verdict.Goals as goal
+
+pub returns : goal.returns
+returns c = outs-verdict

@@ -1,0 +1,21 @@
+-- What an event adds to the pending timers, and what it hands out of them.
+use Rattle.std.specs.Prelude.{◌≡◌, ◌≤◌, ◌==◌, ℕ, ◌+◌, if◌then◌else◌, List, length, map}
+use Rattle.timer_base.specs.declared.timer.Timer.{Timer}
+use Rattle.timer_facility.specs.State.{FacilityState, count_of, pending_of}
+use Rattle.timer_facility.specs.Step.{Step}
+use Rattle.timer_facility.specs.Run.{notices_in}
+use Rattle.timer_facility.specs.Owed.{timer_handed}
+
+-- the timers that an event hands out, in their order
+abbrev pub timers_handed : Step → List Timer
+timers_handed st = map timer_handed (notices_in st.outs)
+
+-- at most one timer of this client is pending more, and none of another
+pub record AddsAtMostOne (client : ℕ) (s t : FacilityState) : Type 0 where
+  pub of_client : (c : ℕ) → pending_of t c ≤ pending_of s c + (if client == c then 1 else 0)
+  pub all : length t.pending ≤ length s.pending + 1
+
+-- what is handed out was pending, and is pending no more
+pub record HandsOver (s : FacilityState) (st : Step) : Type 0 where
+  pub of_client : (c : ℕ) → pending_of st.state c + count_of c (timers_handed st) ≡ pending_of s c
+  pub all : length st.state.pending + length (timers_handed st) ≡ length s.pending

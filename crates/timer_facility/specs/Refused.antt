@@ -1,0 +1,46 @@
+-- Where a verdict is told: by the outs of an event, and by what each call of a facility answers.
+use Rattle.std.specs.Prelude.{List, [], ◌∷◌, ◌++◌, Option, Some, None}
+use Rattle.timer_facility.specs.declared.request.Answer.{Answer}
+use Rattle.timer_facility.specs.declared.request.Answer.TheVariants.{Started, Stopped, Restarted, Refused}
+use Rattle.timer_facility.specs.declared.request.NotTaken.{NotTaken}
+use Rattle.timer_facility.specs.declared.request.NotTaken.TheVariants as NotTakens
+use Rattle.timer_facility.specs.declared.request.CloseFault.{CloseFault}
+use Rattle.timer_facility.specs.declared.request.CloseFault.TheVariants as CloseFaults
+use Rattle.timer_facility.specs.declared.event.Out.{Out}
+use Rattle.timer_facility.specs.declared.event.Out.TheVariants as Outs
+use Rattle.timer_facility.specs.Verdict.{Refusal, RequestNotTaken, RequestRefused, TickRefused, CloseRefused}
+
+-- the refusal that an out tells, if it is one
+abbrev pub refusal_in : Out → List Refusal
+refusal_in (Outs.Answered client number (Refused reason)) = RequestRefused reason ∷ []
+refusal_in (Outs.NotTaken client number reason) = RequestNotTaken reason ∷ []
+refusal_in (Outs.TickRefused fault) = TickRefused fault ∷ []
+refusal_in Outs.CloseRefused = CloseRefused ∷ []
+refusal_in _ = []
+
+-- the refusals among the outs
+abbrev pub refusals_in : List Out → List Refusal
+refusals_in [] = []
+refusals_in (out ∷ outs) = refusal_in out ++ refusals_in outs
+
+-- the refusal of a verdict, and none where the event is accepted
+abbrev pub refusals_of : Option Refusal → List Refusal
+refusals_of None = []
+refusals_of (Some refusal) = refusal ∷ []
+
+-- the verdict that the answer to a request tells
+abbrev pub verdict_in : Answer → Option Refusal
+verdict_in (Refused reason) = Some (RequestRefused reason)
+verdict_in (Started handle deadline) = None
+verdict_in (Stopped serial) = None
+verdict_in (Restarted handle deadline old) = None
+
+-- the verdict on a request that was not taken: one that met a refused growth would be accepted
+abbrev pub verdict_on_not_taken : NotTaken → Option Refusal
+verdict_on_not_taken NotTakens.OutOfMemory = None
+verdict_on_not_taken reason = Some (RequestNotTaken reason)
+
+-- the verdict on a close that failed: one that met a refused growth would be accepted
+abbrev pub verdict_on_close : CloseFault → Option Refusal
+verdict_on_close CloseFaults.Closed = Some CloseRefused
+verdict_on_close CloseFaults.OutOfMemory = None
