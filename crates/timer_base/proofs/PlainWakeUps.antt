@@ -1,14 +1,14 @@
 -- The first pending deadline of a `PlainWheel`.
-use Rattle.std.proofs.Common.{◌≡◌, ◌<◌, ◌≤◌, ℕ, Bool, true, false, List, [], ◌∷◌, length, refl, sym, ◌∙◌, ap, inl, inr, arith}
-use Rattle.std.specs.Prelude.{map, filter, min, if◌then◌else◌, Option, Some, None}
+use Rattle.std.proofs.Common.{◌≡◌, ◌<◌, ◌≤◌, ℕ, true, false, List, [], ◌∷◌, refl, sym, ◌∙◌, ap, inl, inr, arith}
+use Rattle.std.specs.Prelude.{map, filter, min, Option, Some, None}
 use Rattle.std.specs.List.{AllByRecursion}
 use Rattle.std.proofs.lemmas.Bool.Decides.{nat_tests}
 use Rattle.timer_base.specs.declared.timer.Timer.{Timer}
 use Rattle.timer_base.specs.Order.{in_order, insert_in_order, is_before, itself, IsFirst, IsOrdered}
 use Rattle.timer_base.specs.OrderLaws.{either}
-use Rattle.timer_base.specs.Pending.{Entry, timer_of, timers_of}
+use Rattle.timer_base.specs.Pending.{Entry, timers_of}
 use Rattle.timer_base.specs.PlainState.{is_after, at_first_place, earliest, first_after, plain_state}
-use Rattle.timer_base.specs.WakeUps.{IsWakeUp, IsQuietUntil, next_deadline}
+use Rattle.timer_base.specs.WakeUps.{IsQuietUntil, next_deadline}
 use Rattle.timer_base.specs.WheelState.{WheelState, IsPending, IsWellFormed}
 
 -- the deadline of the first timer

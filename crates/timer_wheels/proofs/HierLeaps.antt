@@ -103,11 +103,11 @@ module _ (t : Table) (b : Buckets) (words : List ℕ) (h : IsHier t b words) whe
       let c : l < b.slots = first_in l f.0 f.1 in
       wakes b.slots b.last_tick b.tick b.last_serial b.links stop l c (filled_some (list_at l b.links) (sym (h.told.0 l c) ∙ f.1)) (first_later l stop e f)
       (λ s k. All-weaken (λ row. stop ≤ timer_stop (radices t) b.tick (timer_in row).deadline) (λ row. stop ≤ (timer_in row).deadline) (list_at s b.links)
-        (λ row q.
-        let p : stop ≤ timer_stop (radices t) b.tick (timer_in row).deadline = q in
-        let x : timer_stop (radices t) b.tick (timer_in row).deadline ≤ (timer_in row).deadline = stop_in_time (radices t) b.tick (timer_in row).deadline (of_table t).is_table in
-        omega arith)
-        (first_ahead l stop e f s k))
+      (λ row q.
+      let p : stop ≤ timer_stop (radices t) b.tick (timer_in row).deadline = q in
+      let x : timer_stop (radices t) b.tick (timer_in row).deadline ≤ (timer_in row).deadline = stop_in_time (radices t) b.tick (timer_in row).deadline (of_table t).is_table in
+      omega arith)
+      (first_ahead l stop e f s k))
 
   pub none_wakes : ((s : ℕ) → s < 640 → bit_of words s ≡ 0) → (state_of b).pending ≡ []
   none_wakes f = sleeps b.slots b.last_tick b.tick b.last_serial b.links (λ s k. none_where s k (f s (let r : b.slots ≤ 640 = slots_fit in omega arith)))

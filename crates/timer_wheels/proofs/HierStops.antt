@@ -76,10 +76,10 @@ module _ (t : Table) (b : Buckets) (words : List ℕ) (h : IsHier t b words) (ap
       let len : length b.links ≡ b.slots + 1 = b.has_lists in
       let r : s.l < length b.links = s.in_range in
       let n : s.l ≢ b.slots = λ (e : s.l ≡ b.slots). (
-        let P : List (ℕ × Node) → Type 0 = ArePast b.tick in
-        let at : list_at b.slots b.links ≡ s.front ++ (key, node) ∷ s.rest = ap (λ (v : ℕ). list_at v b.links) (sym e) ∙ s.at in
-        let d : node.timer.deadline ≤ b.tick = (all-rest (λ row. (timer_in row).deadline ≤ b.tick) s.front ((key, node) ∷ s.rest) (subst P at b.past)).0 in
-        omega arith) in
+      let P : List (ℕ × Node) → Type 0 = ArePast b.tick in
+      let at : list_at b.slots b.links ≡ s.front ++ (key, node) ∷ s.rest = ap (λ (v : ℕ). list_at v b.links) (sym e) ∙ s.at in
+      let d : node.timer.deadline ≤ b.tick = (all-rest (λ row. (timer_in row).deadline ≤ b.tick) s.front ((key, node) ∷ s.rest) (subst P at b.past)).0 in
+      omega arith) in
       omega arith
 
   was_at : (key : ℕ) (node : Node) → b.tick < node.timer.deadline → StandsIn key node b.links → WasIn t b words key node.timer

@@ -1,5 +1,5 @@
 -- Digits by division, and the slot of a wheel by its list's number, for every table.
-use Rattle.std.proofs.Common.{◌≡◌, ◌<◌, ◌≤◌, ◌+◌, ◌*◌, ◌/◌, ◌%◌, ℕ, zero, suc, List, [], ◌∷◌, length, refl, sym, ◌∙◌, ap, arith}
+use Rattle.std.proofs.Common.{◌≡◌, ◌<◌, ◌+◌, ◌/◌, ◌%◌, ℕ, zero, suc, List, [], ◌∷◌, length, refl, sym, ◌∙◌, ap, arith}
 use Rattle.std.proofs.Math.Nat.{div-div-eq-div-mul}
 use Rattle.timer_wheels.specs.Digits.{IsTable, HasDigits, digit, radix, weight, level, bucket, slot, slots_below}
 use Rattle.timer_wheels.specs.DigitLaws.{level_in_table}

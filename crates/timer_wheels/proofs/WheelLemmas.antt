@@ -276,9 +276,9 @@ due_without : (now key : ℕ) (node : Node) (rows : List (ℕ × Node)) → AreP
 due_without now key node [] a h b = refl
 due_without now key node (x ∷ xs) a h b =
     let k : x.0 ≢ key = λ (k : x.0 ≡ key). (
-      let q : x.1.timer.deadline ≡ node.timer.deadline = ap (λ (y : Node). y.timer.deadline) (same_node x.1 node (b.0 k)) in
-      let d : x.1.timer.deadline ≤ now = a.0 in
-      omega arith) in
+    let q : x.1.timer.deadline ≡ node.timer.deadline = ap (λ (y : Node). y.timer.deadline) (same_node x.1 node (b.0 k)) in
+    let d : x.1.timer.deadline ≤ now = a.0 in
+    omega arith) in
     rw (ne_eqb x.0 key k) (ap (λ (r : List (ℕ × Node)). x ∷ r) (due_without now key node xs a.1 h b.1))
 
 -- A look.

@@ -12,7 +12,6 @@ record KeepsBuckets (now n : ℕ) (old new : List (List (ℕ × Node))) : Type 0
   has_lists : length new ≡ n + 1
   rows : rows_below n new ≡ rows_below n old
   in_order : AreInOrder (n + 1) new
-
   past : ArePast now (list_at n new)
 
 popped : (now n : ℕ) (found : Option (ℕ × Node)) (old new : List (List (ℕ × Node))) → length old ≡ n + 1 → AreInOrder (n + 1) old → ArePast now (list_at n old) → PopsFront n old found new → KeepsBuckets now n old new
