@@ -9,7 +9,7 @@ mod costs;
 mod replay;
 mod sums;
 
-use replay::replay;
+use replay::{Pushing, replay};
 use std::alloc::Global;
 use timer_wheels::{HashedWheel, HierWheel};
 
@@ -24,10 +24,18 @@ pub extern "C" fn timers_bench_hier(
     owners: usize,
     sums: &mut [u64],
 ) {
-    let Ok(wheel) = HierWheel::new(alloc, 0) else {
-        return tell(sums, None);
-    };
-    tell(sums, replay(alloc, wheel, operations, owners).ok());
+    replay_hier(alloc, Pushing::Restart, operations, owners, sums);
+}
+
+/// The same, with a stop and a start for each timer that is pushed back.
+#[unsafe(no_mangle)]
+pub extern "C" fn timers_bench_hier_stop_start(
+    alloc: Global,
+    operations: &[u64],
+    owners: usize,
+    sums: &mut [u64],
+) {
+    replay_hier(alloc, Pushing::StopAndStart, operations, owners, sums);
 }
 
 /// Replays a trace over the hashed wheel. The last of the sums is not 0 where it gave up.
@@ -39,13 +47,26 @@ pub extern "C" fn timers_bench_hashed(
     sums: &mut [u64],
 ) {
     let Ok(wheel) = HashedWheel::new(alloc, SLOTS, 0) else {
-        return tell(sums, None);
+        return report(sums, None);
     };
-    tell(sums, replay(alloc, wheel, operations, owners).ok());
+    report(sums, replay(alloc, wheel, Pushing::Restart, operations, owners).ok());
+}
+
+fn replay_hier(
+    alloc: Global,
+    pushing: Pushing,
+    operations: &[u64],
+    owners: usize,
+    sums: &mut [u64],
+) {
+    let Ok(wheel) = HierWheel::new(alloc, 0) else {
+        return report(sums, None);
+    };
+    report(sums, replay(alloc, wheel, pushing, operations, owners).ok());
 }
 
 /// Hands the words to the driver, or the fault.
-fn tell(sums: &mut [u64], words: Option<[u64; 8]>) {
+fn report(sums: &mut [u64], words: Option<[u64; 8]>) {
     if sums.len() < 8 {
         return;
     }

@@ -1,5 +1,6 @@
 //! Goes through a trace.
-ghost use Rattle.std.specs.Prelude.{◌≡◌, []};
+ghost use Rattle.std.specs.Prelude.{◌≡◌, ◌<◌, ◌≤◌, [], IfOk};
+ghost use Rattle.timer_base.specs.declared.limits.TheConstants.{LAST};
 
 use crate::sums::Sums;
 use std::alloc::{AllocError, Global};
@@ -8,13 +9,22 @@ use timer_base::{Handle, LAST, OutOfMemory, Timer, Wheel};
 /// An operation's kind is in its two lowest bits.
 const KIND: u64 = 3;
 
-/// The owner of an operation has this many bits above the kind.
-const OWNERS: u64 = 2097151;
+/// The owner of an operation has 22 bits above the kind, and an interval the 40 bits above those.
+const OWNERS: u64 = 4194303;
+
+/// How a timer is pushed back to a later deadline.
+#[derive(Clone, Copy, Debug, PartialEq, Eq)]
+pub enum Pushing {
+    /// By one restart.
+    Restart,
+    /// By a stop and a start.
+    StopAndStart,
+}
 
 /// Why a replay stopped.
 #[derive(Clone, Copy, Debug, PartialEq, Eq)]
 pub enum Fault {
-    /// A growth was refused.
+    /// Out of memory.
     OutOfMemory,
     /// The trace asks for what no wheel owes, such as a deadline past the end of the clock.
     Trace,
@@ -32,10 +42,11 @@ impl From<OutOfMemory> for Fault {
     }
 }
 
-/// Replays the operations over a wheel, and answers the eight words of the sums.
+/// Replays the operations over a wheel, and returns the eight words of the sums.
 pub fn replay<W: Wheel + Drop>(
     alloc: Global,
     mut wheel: W,
+    pushing: Pushing,
     operations: &[u64],
     owners: usize,
 ) -> Result<[u64; 8], Fault>
@@ -48,47 +59,58 @@ pub fn replay<W: Wheel + Drop>(
     let mut handles = Vec::from_elem(alloc, none, owners)?;
     let mut sums = Sums::default();
     for operation in operations {
-        replay_one(&mut wheel, &mut handles, &mut sums, *operation)?;
+        replay_one(&mut wheel, &mut handles, &mut sums, pushing, *operation)?;
     }
     Ok(sums.words(wheel.now(), wheel.len()))
 }
 
-/// Replays one operation: a start, a stop or so many ticks.
+/// Replays one operation: a start, a stop, a timer pushed back, so many ticks, or a way of so many ticks.
 #[inline]
 fn replay_one<W: Wheel>(
     wheel: &mut W,
     handles: &mut [Handle],
     sums: &mut Sums,
+    pushing: Pushing,
     operation: u64,
 ) -> Result<(), Fault>
     requires { (W.state wheel.old).due ≡ [] }
     ensures { (W.state wheel.new).due ≡ [] }
 {
-    let owner = (operation >> 2 & OWNERS) as usize;
-    match operation & KIND {
-        0 => start_one(wheel, handles, owner, operation >> 23),
-        1 => {
-            if let Some(handle) = handles.get(owner) {
-                if let Some(timer) = wheel.stop(*handle) {
-                    sums.add_stopped(timer);
-                }
-            }
-            Ok(())
-        }
-        _ => pass_ticks(wheel, sums, operation >> 2),
+    let kind = operation & KIND;
+    if kind == 2 {
+        return pass_ticks(wheel, sums, operation >> 2);
     }
+    if kind == 3 {
+        return go_on(wheel, sums, operation >> 2);
+    }
+    let interval = operation >> 24;
+    let Some(handle) = handles.get_mut((operation >> 2 & OWNERS) as usize) else {
+        return Err(Fault::Trace);
+    };
+    let owner = operation >> 2 & OWNERS;
+    if kind == 0 {
+        *handle = start_one(wheel, owner, interval)?;
+    } else if interval == 0 {
+        stop_one(wheel, sums, *handle);
+    } else {
+        *handle = match pushing {
+            Pushing::Restart => restart_one(wheel, sums, *handle, owner, interval)?,
+            Pushing::StopAndStart => {
+                stop_one(wheel, sums, *handle);
+                start_one(wheel, owner, interval)?
+            }
+        };
+    }
+    Ok(())
 }
 
-/// Starts a timer for an owner under the next serial.
-#[inline]
-fn start_one<W: Wheel>(
-    wheel: &mut W,
-    handles: &mut [Handle],
-    owner: usize,
-    interval: u64,
-) -> Result<(), Fault>
-    requires { (W.state wheel.old).due ≡ [] }
-    ensures { (W.state wheel.new).due ≡ [] }
+/// The next timer of an owner, under the next serial.
+#[inline(always)]
+fn next_timer<W: Wheel>(wheel: &W, owner: u64, interval: u64) -> Result<Timer, Fault>
+    ensures later { IfOk result (λ timer. (W.state wheel.now).now < timer.deadline) }
+    ensures deadline { IfOk result (λ timer. timer.deadline ≤ (W.state wheel.now).last_tick) }
+    ensures fresh { IfOk result (λ timer. (W.state wheel.now).last_serial < timer.serial) }
+    ensures serial { IfOk result (λ timer. timer.serial ≤ LAST) }
 {
     let now = wheel.now();
     let deadline = now.wrapping_add(interval);
@@ -97,23 +119,77 @@ fn start_one<W: Wheel>(
         return Err(Fault::Trace);
     }
     let serial = last_serial + 1;
-    let timer = Timer {
+    Ok(Timer {
         serial,
         client: 0,
         number: serial,
         deadline,
-        action: owner as u64,
-    };
-    let handle = wheel.start(timer)?;
-    if let Some(kept) = handles.get_mut(owner) {
-        *kept = handle;
+        action: owner,
+    })
+}
+
+/// Starts a timer for an owner.
+#[inline(always)]
+fn start_one<W: Wheel>(wheel: &mut W, owner: u64, interval: u64) -> Result<Handle, Fault>
+    requires { (W.state wheel.old).due ≡ [] }
+    ensures { (W.state wheel.new).due ≡ [] }
+{
+    let timer = next_timer(wheel, owner, interval)?;
+    Ok(wheel.start(timer)?)
+}
+
+/// Stops a timer, if there is one with this handle.
+#[inline(always)]
+fn stop_one<W: Wheel>(wheel: &mut W, sums: &mut Sums, handle: Handle)
+    requires { (W.state wheel.old).due ≡ [] }
+    ensures { (W.state wheel.new).due ≡ [] }
+{
+    if let Some(timer) = wheel.stop(handle) {
+        sums.add_stopped(timer);
+    }
+}
+
+/// Restarts an owner's timer, or starts it where there is none with this handle.
+#[inline(always)]
+fn restart_one<W: Wheel>(
+    wheel: &mut W,
+    sums: &mut Sums,
+    handle: Handle,
+    owner: u64,
+    interval: u64,
+) -> Result<Handle, Fault>
+    requires { (W.state wheel.old).due ≡ [] }
+    ensures { (W.state wheel.new).due ≡ [] }
+{
+    let timer = next_timer(wheel, owner, interval)?;
+    match wheel.restart(handle, timer) {
+        Some((handle, old)) => {
+            sums.add_stopped(old);
+            Ok(handle)
+        }
+        None => Ok(wheel.start(timer)?),
+    }
+}
+
+/// Passes so many ticks one by one, and hands out what is due at each.
+#[inline]
+fn pass_ticks<W: Wheel>(wheel: &mut W, sums: &mut Sums, count: u64) -> Result<(), Fault>
+    requires { (W.state wheel.old).due ≡ [] }
+    ensures { (W.state wheel.new).due ≡ [] }
+{
+    for _ in 0..count {
+        if wheel.now() >= wheel.last_tick() {
+            return Err(Fault::Trace);
+        }
+        wheel.per_tick();
+        drain(wheel, sums);
     }
     Ok(())
 }
 
-/// Passes so many ticks, and hands out what is due at each.
+/// Passes so many ticks by jumps, and hands out what is due at each.
 #[inline]
-fn pass_ticks<W: Wheel>(wheel: &mut W, sums: &mut Sums, count: u64) -> Result<(), Fault>
+fn go_on<W: Wheel>(wheel: &mut W, sums: &mut Sums, count: u64) -> Result<(), Fault>
     requires { (W.state wheel.old).due ≡ [] }
     ensures { (W.state wheel.new).due ≡ [] }
 {

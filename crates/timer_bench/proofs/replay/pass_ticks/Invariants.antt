@@ -1,8 +1,5 @@
 use Rattle.std.proofs.Common.{◌≡◌, []}
 use Rattle.timer_bench.proofs.replay.pass_ticks.Given as goal
 
-abbrev pub invariant-loop-left : goal.invariant-loop-left
-invariant-loop-left g l = (g.W.Wheel.state l.wheel).due ≡ []
-
-abbrev pub decreases-loop-left : goal.decreases-loop-left
-decreases-loop-left g l = l.left
+abbrev pub invariant-loop : goal.invariant-loop
+invariant-loop g l = (g.W.Wheel.state l.wheel).due ≡ []
