@@ -1,0 +1,9 @@
+pub mod DeskLemmas
+pub mod DriveLemmas
+pub mod HeldLemmas
+pub mod Joining
+pub mod NoticeLemmas
+pub mod NoWant
+pub mod OneClient
+pub mod ProgressLemmas
+pub mod WindLemmas

@@ -1,0 +1,76 @@
+-- Lines that are finished from the last one on.
+use Rattle.std.proofs.Common.{◌≡◌, ◌≢◌, ◌<◌, ◌≤◌, ◌+◌, ◌++◌, ℕ, Bool, true, false, ◌⊎◌, ◌==◌, List, [], ◌∷◌, length, get_or, take, refl, sym, ◌∙◌, ap, subst, inl, inr, arith}
+use Rattle.std.specs.Prelude.{slice_set, Some}
+use Rattle.std.proofs.lemmas.Bool.Decides.{nat_tests}
+use Rattle.std.proofs.lemmas.List.{get_or-set_same, get_or-set_other, get_or-take}
+use Rattle.timer_desk.specs.declared.ring.RingInlet.{RingInlet}
+use Rattle.timer_desk.specs.declared.ring.ClientReader.{ClientReader}
+use Rattle.timer_desk.specs.declared.ring.RequestsEnded.{RequestsEnded}
+use Rattle.timer_desk.specs.Ring.{line_of_inlet, given_of, requests_ring_of, words_ring_of_reader}
+use Rattle.timer_desk.specs.Winding.{AreEndsOf, AreReadersOf, IsReadOut}
+
+either : (b : Bool) → (b ≡ true) ⊎ (b ≡ false)
+either b = elim b as (λ v. (v ≡ true) ⊎ (v ≡ false)) [ true ↦ inl refl | false ↦ inr refl ]
+
+is_equal : (m n : ℕ) → (m == n) ≡ true → n ≡ m
+is_equal m n h = grind (arith, nat_tests)
+
+is_other : (m n : ℕ) → (m == n) ≡ false → n ≢ m
+is_other m n h = grind (arith, nat_tests)
+
+some_same : (x y : RingInlet) → Some x ≡ Some y → x ≡ y
+some_same x y h = cc
+
+-- the last of the first lines is the one with that number
+pub last_is : (xs all : List RingInlet) (m : ℕ) (i x : RingInlet) → xs ≡ take (m + 1) all → Some x ≡ Some (get_or xs m i) → x ≡ get_or all m i
+last_is xs all m i x e h =
+    some_same x (get_or xs m i) h ∙ ap (λ ys. get_or ys m i) e ∙ get_or-take (m + 1) all m i (let k : m ≤ m = omega arith in omega arith)
+
+pub below_stays : (rs start : List ClientReader) (m : ℕ) (x : ClientReader) → ((k : ℕ) (r : ClientReader) → k < m + 1 → get_or rs k r ≡ get_or start k r)
+    → (k : ℕ) (r : ClientReader) → k < m → get_or (slice_set rs m x) k r ≡ get_or start k r
+below_stays rs start m x was k r h = get_or-set_other rs m k x r (λ (e : k ≡ m). absurd (omega arith)) ∙ was k r (omega arith)
+
+-- what a reader is ready to read is told by what was given
+pub IsReadOut-same : (i j : RingInlet) (before after : ClientReader) → given_of i ≡ given_of j → IsReadOut i before after → IsReadOut j before after
+IsReadOut-same i j before after e h = record { line = h.line; read = h.read; settled = h.settled; all = h.all ∙ e }
+
+pub one_more_read : (all : List RingInlet) (start rs : List ClientReader) (m : ℕ) (x : ClientReader) → m < length rs
+    → ((i : RingInlet) (r : ClientReader) → IsReadOut (get_or all m i) (get_or start m r) x)
+    → ((k : ℕ) (i : RingInlet) (r : ClientReader) → m + 1 ≤ k → k < length all → IsReadOut (get_or all k i) (get_or start k r) (get_or rs k r))
+    → (k : ℕ) (i : RingInlet) (r : ClientReader) → m ≤ k → k < length all → IsReadOut (get_or all k i) (get_or start k r) (get_or (slice_set rs m x) k r)
+one_more_read all start rs m x low here was k i r l h = elim (either (m == k)) [
+  | inl e ↦
+      let is : k ≡ m = is_equal m k e in
+      let there : get_or (slice_set rs m x) k r ≡ x = ap (λ n. get_or (slice_set rs m x) n r) is ∙ get_or-set_same rs m x r low in
+      subst (λ q. IsReadOut (get_or all k i) (get_or start k r) q) (sym there) (subst (λ n. IsReadOut (get_or all n i) (get_or start n r) x) (sym is) (here i r))
+  | inr e ↦
+      let not : k ≢ m = is_other m k e in
+      let there : get_or (slice_set rs m x) k r ≡ get_or rs k r = get_or-set_other rs m k x r not in
+      subst (λ q. IsReadOut (get_or all k i) (get_or start k r) q) (sym there) (was k i r (later m k l not) h)
+]
+  where
+    later : (m k : ℕ) → m ≤ k → k ≢ m → m + 1 ≤ k
+    later m k a b = grind (arith)
+
+-- A desk of one client.
+
+get_first : {X : Type 0} (x d : X) (c : ℕ) → c < 1 → get_or (x ∷ []) c d ≡ x
+get_first x d c l = let z : c ≡ 0 = omega arith in ap (λ n. get_or (x ∷ []) n d) z
+
+pub one_end : (inlets : List RingInlet) (ends : List RequestsEnded) (e : RequestsEnded) → length inlets ≡ 1 → ends ≡ e ∷ []
+    → ((i : RingInlet) → requests_ring_of e ≡ (line_of_inlet (get_or inlets 0 i)).0) → AreEndsOf inlets ends
+one_end inlets ends e n is line = record {
+  as_many = ap (λ xs. length xs) is ∙ sym n;
+  of_lines = λ c i d l.
+      let z : c ≡ 0 = omega arith in
+      ap (λ xs. requests_ring_of (get_or xs c d)) is ∙ ap requests_ring_of (get_first e d c (omega arith)) ∙ line i ∙ ap (λ k. (line_of_inlet (get_or inlets k i)).0) (sym z);
+}
+
+pub one_reader : (inlets : List RingInlet) (readers : List ClientReader) (r : ClientReader) → length inlets ≡ 1 → readers ≡ r ∷ []
+    → ((i : RingInlet) → words_ring_of_reader r ≡ (line_of_inlet (get_or inlets 0 i)).1) → AreReadersOf inlets readers
+one_reader inlets readers r n is line = record {
+  as_many = ap (λ xs. length xs) is ∙ sym n;
+  of_lines = λ c i d l.
+      let z : c ≡ 0 = omega arith in
+      ap (λ xs. words_ring_of_reader (get_or xs c d)) is ∙ ap words_ring_of_reader (get_first r d c (omega arith)) ∙ line i ∙ ap (λ k. (line_of_inlet (get_or inlets k i)).1) (sym z);
+}

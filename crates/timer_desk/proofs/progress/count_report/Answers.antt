@@ -1,0 +1,17 @@
+use Rattle.std.proofs.Common.{arith}
+use Rattle.timer_desk.proofs.ProgressLemmas.{counted_one_more}
+use Rattle.timer_desk.proofs.progress.count_report.Goals as goal
+use Rattle.timer_desk.proofs.progress.count_report.Goals.{then-count_member, else-count_member}
+
+pub loop-member-preserved : goal.loop-member-preserved
+loop-member-preserved c =
+    let was = c.loop-member.invariant in
+    let e = c.count_member.ensures in record {
+      counted = λ k p l. counted_one_more k c.args.report.now c.loop-member.member-index _ _ _ _ c.loop-member-test.true (was.counted k p l) (e.counted k p (omega (arith, was.len)));
+      len = omega (arith, was.len, e.len);
+      fewer = λ h. elim c.if-count_member.branch [
+        | then-count_member w ↦ let f = e.fewer w.if-count_member.true in let m = was.no_more in omega arith
+        | else-count_member w ↦ let f = was.fewer (cc) in let m = e.no_more in omega arith
+      ];
+      no_more = omega (arith, was.no_more, e.no_more);
+    }

@@ -1,0 +1,105 @@
+use Rattle.std.proofs.Common.{◌≡◌, ◌<◌, ◌≤◌, ◌+◌, ◌-◌, ◌∙◌, Some, length, get_or, take, vec_len, subst, refl, sym, ap, arith, inl, inr}
+use Rattle.std.specs.Prelude.{List}
+use Rattle.std.proofs.lemmas.List.{get_or_default}
+use Rattle.std.proofs.lemmas.Grind.{common_steps}
+use Rattle.timer_desk.specs.declared.ring.RingInlet.{RingInlet}
+use Rattle.timer_desk.specs.declared.ring.RequestsEnded.{RequestsEnded}
+use Rattle.timer_desk.specs.declared.ring.ClientReader.{ClientReader}
+use Rattle.timer_desk.specs.Ring.{line_of_inlet, words_ring_of_reader, got_of, given_of, all_submitted}
+use Rattle.timer_desk.specs.Winding.{IsWaiting, IsReadOut}
+use Rattle.timer_desk.specs.Desk.{backlog_at}
+use Rattle.timer_desk.specs.Backlog.{Backlog}
+use Rattle.timer_desk.proofs.WindLemmas.{last_is, below_stays, one_more_read, IsReadOut-same}
+use Rattle.timer_desk.proofs.winding.wind_up.Goals as goal
+
+pub loop-inlet-preserved : goal.loop-inlet-preserved
+loop-inlet-preserved g c =
+    let was = c.loop-inlet.invariant in
+    let popped = c.in-Some.ensures in
+    let m = c.len-c.result in
+    let all = c.end-facility.result.1.items in
+    let x = c.finish_line.new.reader in
+    let told = c.len-c.ensures in
+    let count : vec_len c.loop-inlet.inlets ≡ m + 1 = grind (arith, common_steps) in
+    let items : c.loop-inlet.inlets.items ≡ take (m + 1) all = was.first ∙ ap (λ n. take n all) count in
+    let readers = c.loop-inlet.readers.items in
+    let ends : length all ≡ length c.loop-c.desk.inlets = ap (λ is. length is) c.end-facility.ensures.inlets in
+    let low : m < length readers = omega (arith, count, was.fewer, was.as_many, ends, c.loop-inlet.readers.ok, c.args.readers.ok, c.requires.readers.as_many, c.loop-c.invariant.keeps.same_clients) in
+    let one : vec_len c.loop-inlet.inlets - 1 ≡ m = omega (arith, count) in
+    let last : (i : RingInlet) → c.in-Some.inlet ≡ get_or all m i = λ i.
+    last_is c.loop-inlet.inlets.items all m i c.in-Some.inlet items (popped.value i (omega (arith, count)) ∙ ap (λ n. Some (get_or c.loop-inlet.inlets.items n i)) one) in
+    let start = c.args.readers.items in
+    let old = c.index_mut-in-Some.result.now in
+    let within : m < length start = omega (arith, low, was.as_many, c.loop-inlet.readers.ok, c.args.readers.ok) in
+    let reader : (r : ClientReader) → old ≡ get_or start m r = λ r.
+    c.index_mut-in-Some.ensures.value ∙ was.below m old (omega (arith, count)) ∙ get_or_default start m old r within in
+    let here : (i : RingInlet) (r : ClientReader) → IsReadOut (get_or all m i) (get_or start m r) x = λ i r.
+    subst (λ q. IsReadOut (get_or all m i) q x) (reader r) (subst (λ q. IsReadOut q old x) (last i) (c.if-not-finish_line.ensures refl)) in record {
+      first = grind (arith, common_steps);
+      fewer = grind (arith, common_steps);
+      as_many = grind (arith, common_steps);
+      below = λ k r h. below_stays readers c.args.readers.items m x (λ k' r' h'. was.below k' r' (omega (arith, count))) k r (omega (arith, told));
+      read = λ k i r l h. one_more_read all start readers m x low here (λ k' i' r' l' h'. was.read k' i' r' (omega (arith, count)) h') k i r (omega (arith, told)) h;
+    }
+
+pub returns-clause-words : goal.returns-clause-words
+returns-clause-words g c k i r low =
+    let was = c.loop-inlet.invariant in
+    let popped = c.in_default.ensures in
+    let none : vec_len c.loop-inlet.inlets ≡ 0 = grind (arith, common_steps) in
+    let all = c.end-facility.result.1.items in
+    let ends : length all ≡ length c.loop-c.desk.inlets = ap (λ is. length is) c.end-facility.ensures.inlets in
+    let there : get_or all k i ≡ get_or c.loop-c.desk.inlets k i = ap (λ is. get_or is k i) c.end-facility.ensures.inlets in
+    let keeps = c.loop-c.invariant.keeps in
+    IsReadOut-same (get_or all k i) (get_or c.args.desk.inlets k i) (get_or c.args.readers.items k r) (get_or c.loop-inlet.readers.items k r)
+    (ap given_of there ∙ keeps.same_given k i low) (was.read k i r (omega (arith, none)) (omega (arith, ends, keeps.same_clients, low)))
+
+pub returns-then-not-is_done-clause-err : goal.returns-then-not-is_done-clause-err
+returns-then-not-is_done-clause-err g c =
+    let n = c.loop-c.c in
+    let was = c.loop-c.invariant in
+    let low : n < length c.args.desk.inlets = omega (arith, was.keeps.same_clients, was.as_many, c.requires.ended.as_many, c.loop-c.ended.ok, c.args.ended.ok, c.len-c-end.ensures, c.loop-c-test.true, c.loop-c.auto.c-end) in
+    let here : n ≤ n = omega arith in
+    let in_ended : n < vec_len c.loop-c.ended = omega (arith, low, was.as_many, c.requires.ended.as_many, c.args.ended.ok) in
+    let waits = c.if-not-is_done.ensures.waiting refl in record {
+      client = low;
+      waiting = inl (λ i e.
+          let same_end : c.index_mut.result.now ≡ get_or c.args.ended.items n e = c.index_mut.ensures.value ∙ was.later n c.index_mut.result.now here in_ended ∙ get_or_default c.args.ended.items n c.index_mut.result.now e (omega (arith, in_ended, was.as_many, c.args.ended.ok)) in
+          subst (λ (bs : List Backlog). IsWaiting (get_or bs n _) (got_of (get_or c.args.desk.inlets n i)) (all_submitted (get_or c.args.ended.items n e))) was.keeps.same_backlogs
+          (subst (λ got. IsWaiting (backlog_at c.loop-c.desk n) got (all_submitted (get_or c.args.ended.items n e))) (was.keeps.same_got n i low)
+          (subst (λ x. IsWaiting (backlog_at c.loop-c.desk n) (got_of (get_or c.loop-c.desk.inlets n i)) (all_submitted x)) same_end (waits i))));
+    }
+
+pub finish_line-requires : goal.finish_line-requires
+finish_line-requires g c =
+    let was = c.loop-inlet.invariant in
+    let popped = c.in-Some.ensures in
+    let m = c.len-c.result in
+    let all = c.end-facility.result.1.items in
+    let told = c.len-c.ensures in
+    let count : vec_len c.loop-inlet.inlets ≡ m + 1 = grind (arith, common_steps) in
+    let items : c.loop-inlet.inlets.items ≡ take (m + 1) all = was.first ∙ ap (λ n. take n all) count in
+    let ends : length all ≡ length c.loop-c.desk.inlets = ap (λ is. length is) c.end-facility.ensures.inlets in
+    let one : vec_len c.loop-inlet.inlets - 1 ≡ m = omega (arith, count) in
+    let r = c.index_mut-in-Some.result.now in
+    let i = c.in-Some.inlet in
+    let last : i ≡ get_or all m i = last_is c.loop-inlet.inlets.items all m i i items (popped.value i (omega (arith, count)) ∙ ap (λ n. Some (get_or c.loop-inlet.inlets.items n i)) one) in
+    let low : m < length c.args.desk.inlets = omega (arith, count, was.fewer, ends, c.loop-c.invariant.keeps.same_clients) in
+    let reader : get_or c.args.readers.items m r ≡ r = sym (c.index_mut-in-Some.ensures.value ∙ was.below m r (omega (arith, count))) in
+    let old = c.requires.readers.of_lines m i r low in
+    let line : line_of_inlet (get_or c.loop-c.desk.inlets m i) ≡ line_of_inlet (get_or c.args.desk.inlets m i) = c.loop-c.invariant.keeps.same_lines m i low in
+    let there : get_or all m i ≡ get_or c.loop-c.desk.inlets m i = ap (λ is. get_or is m i) c.end-facility.ensures.inlets in
+    ap words_ring_of_reader (sym reader) ∙ old ∙ ap (λ l. l.1) (sym line) ∙ ap (λ x. (line_of_inlet x).1) (sym there) ∙ ap (λ x. (line_of_inlet x).1) (sym last)
+
+pub returns-then-not-finish_line-clause-err : goal.returns-then-not-finish_line-clause-err
+returns-then-not-finish_line-clause-err g c =
+    let was = c.loop-inlet.invariant in
+    let m = c.len-c.result in
+    let count : vec_len c.loop-inlet.inlets ≡ m + 1 = let popped = c.in-Some.ensures in let told = c.len-c.ensures in grind (arith, common_steps) in
+    let all = c.end-facility.result.1.items in
+    let ends : length all ≡ length c.loop-c.desk.inlets = ap (λ is. length is) c.end-facility.ensures.inlets in
+    let done = c.loop-c.invariant in
+    let n : c.loop-c.c ≡ length c.args.desk.inlets = omega (arith, c.loop-c.auto.c-end, c.len-c-end.ensures, c.loop-c-test.false, c.requires.ended.as_many, c.args.ended.ok) in record {
+      client = omega (arith, count, was.fewer, ends, done.keeps.same_clients);
+      waiting = inr ((λ k l. done.idle k (omega (arith, n, l))), (λ k i e l. done.got k i e (omega (arith, n, l))));
+    }

@@ -1,0 +1,26 @@
+-- What the results of an `Inlet`'s calls add to its lists.
+use Rattle.std.specs.Prelude.{◌≡◌, List, [], ◌∷◌, Bool, true}
+use Rattle.timer_desk.specs.declared.word.Numbered.{Numbered}
+use Rattle.timer_desk.specs.declared.word.Word.{Word}
+use Rattle.timer_desk.specs.declared.inlet.Taken.{Taken}
+use Rattle.timer_desk.specs.declared.inlet.Taken.TheVariants.{Empty, Got, NoMemory as TakeNoMemory}
+use Rattle.timer_desk.specs.declared.inlet.Put.{Put}
+use Rattle.timer_desk.specs.declared.inlet.Put.TheVariants.{Done, Full, NoMemory as PutNoMemory}
+
+-- the request that was taken, if any
+abbrev pub taken_of : Taken → List Numbered
+taken_of Empty = []
+taken_of (Got n) = n ∷ []
+taken_of TakeNoMemory = []
+
+-- the word, if it was put
+abbrev pub put_of : Put → Word → List Word
+put_of Done w = w ∷ []
+put_of (Full v) w = []
+put_of (PutNoMemory v) w = []
+
+-- a result that is not `Done` carries the word; want of memory comes only where the line may meet it
+abbrev pub HandsBack : Bool → Put → Word → Type 0
+HandsBack may_refuse Done w = Unit {0}
+HandsBack may_refuse (Full v) w = v ≡ w
+HandsBack may_refuse (PutNoMemory v) w = (v ≡ w) × (may_refuse ≡ true)

@@ -1,0 +1,15 @@
+pub mod Asked
+pub mod Backlog
+pub mod Desk
+pub mod Extends
+pub mod Inlet
+pub mod Memory
+pub mod Report
+pub mod Right
+pub mod Opening
+pub mod Ring
+pub mod Settling
+pub mod Locked
+pub mod Queues
+pub mod Winding
+pub mod Driving

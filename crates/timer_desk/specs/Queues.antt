@@ -1,0 +1,14 @@
+-- What clauses see of the queues behind a lock.
+use Rattle.std.specs.Prelude.{ℕ, List}
+use Rattle.timer_desk.specs.declared.word.Numbered.{Numbered}
+use Rattle.timer_desk.specs.declared.word.Word.{Word}
+use Rattle.timer_desk.specs.declared.queues.Queues.{Queues}
+
+abbrev pub requests_in : Queues → List Numbered
+requests_in q = q.requests.items
+
+abbrev pub words_in : Queues → List Word
+words_in q = q.words.items
+
+abbrev pub capacity_of : Queues → ℕ
+capacity_of q = q.capacity

@@ -1,0 +1,211 @@
+-- How a report of `turn` is read, and what it tells of one client and of the facility.
+use Rattle.std.specs.Prelude.{◌≡◌, ℕ, ◌+◌, ◌-◌, ◌≤◌, ◌==◌, Bool, true, false, List, [], ◌∷◌, ◌++◌, length, take, Option, Some, None, Ok, Err, Result, if◌then◌else◌}
+use Rattle.std.specs.List.{flat_map}
+use Rattle.timer_facility.specs.declared.request.CloseFault.{CloseFault}
+use Rattle.timer_facility.specs.declared.request.CloseFault.TheVariants as CloseFaults
+use Rattle.timer_facility.specs.declared.request.TickFault.{TickFault}
+use Rattle.timer_facility.specs.declared.event.Out.{Out}
+use Rattle.timer_facility.specs.declared.event.Out.TheVariants as Outs
+use Rattle.timer_facility.specs.State.{FacilityState, SingleEvent, Tick, Close}
+use Rattle.timer_facility.specs.Standing.{asked as event_asked, place_in}
+use Rattle.timer_facility.specs.Run.{Placed, run}
+use Rattle.timer_desk.specs.declared.word.Numbered.{Numbered}
+use Rattle.timer_desk.specs.declared.word.Word.{Word}
+use Rattle.timer_desk.specs.declared.word.Word.TheVariants as Words
+use Rattle.timer_desk.specs.declared.report.Served.{Served}
+use Rattle.timer_desk.specs.declared.report.Served.TheVariants.{Idle, NoRoom, NoMemory, Did}
+use Rattle.timer_desk.specs.declared.report.Done.{Done}
+use Rattle.timer_desk.specs.declared.report.Done.TheVariants as Dones
+use Rattle.timer_desk.specs.Backlog.{Backlog, client_of}
+use Rattle.timer_desk.specs.Extends.{Extends}
+
+-- One member of a report.
+
+abbrev pub request_in : Served → List Numbered
+request_in Idle = []
+request_in NoRoom = []
+request_in NoMemory = []
+request_in (Did numbered word) = numbered ∷ []
+
+abbrev pub word_in : Served → List Word
+word_in Idle = []
+word_in NoRoom = []
+word_in NoMemory = []
+word_in (Did numbered word) = word ∷ []
+
+abbrev pub asked_in : ℕ → Done → List Numbered
+asked_in c (Dones.Served client served) = if client == c then request_in served else []
+asked_in c (Dones.Ticked result) = []
+asked_in c (Dones.Closed result) = []
+asked_in c (Dones.Noticed notice) = []
+asked_in c (Dones.Flushed client count) = []
+
+abbrev pub words_in : ℕ → Done → List Word
+words_in c (Dones.Served client served) = if client == c then word_in served else []
+words_in c (Dones.Ticked result) = []
+words_in c (Dones.Closed result) = []
+words_in c (Dones.Noticed notice) = if client_of notice == c then Words.Notice notice ∷ [] else []
+words_in c (Dones.Flushed client count) = []
+
+abbrev pub flushed_in : ℕ → Done → ℕ
+flushed_in c (Dones.Served client served) = 0
+flushed_in c (Dones.Ticked result) = 0
+flushed_in c (Dones.Closed result) = 0
+flushed_in c (Dones.Noticed notice) = 0
+flushed_in c (Dones.Flushed client count) = if client == c then count else 0
+
+-- Whether a request of the client may be held after a serve of it, where `before` says so of the time before. What is held is tried
+-- first, so a serve leaves nothing held but where memory ran out; without room nothing is tried.
+abbrev pub held_after_serve : Bool → Served → Bool
+held_after_serve before Idle = false
+held_after_serve before NoRoom = before
+held_after_serve before NoMemory = true
+held_after_serve before (Did numbered word) = false
+
+-- the same after a member of a report, for client c
+abbrev pub held_after : ℕ → Bool → Done → Bool
+held_after c before (Dones.Served client served) = if client == c then held_after_serve before served else before
+held_after c before (Dones.Ticked result) = before
+held_after c before (Dones.Closed result) = before
+held_after c before (Dones.Noticed notice) = before
+held_after c before (Dones.Flushed client count) = before
+
+-- the place that a word tells, where it is of an accepted start
+abbrev pub place_told : Word → ℕ
+place_told (Words.Answered number answer) = place_in answer
+place_told (Words.NotTaken number reason) = 0
+place_told (Words.Notice notice) = 0
+
+-- the out that a word to a client is
+abbrev pub out_of : ℕ → Word → Out
+out_of client (Words.Answered number answer) = Outs.Answered client number answer
+out_of client (Words.NotTaken number reason) = Outs.NotTaken client number reason
+out_of client (Words.Notice notice) = Outs.Notice notice
+
+abbrev pub placed : SingleEvent → ℕ → Placed
+placed event place = record { event = event; place = place }
+
+-- a request that was tried and met no want of memory
+abbrev pub request_event : ℕ → Numbered → Word → Placed
+request_event client numbered word = placed (event_asked client numbered.number numbered.request) (place_told word)
+
+abbrev pub served_events : ℕ → Served → List Placed
+served_events client Idle = []
+served_events client NoRoom = []
+served_events client NoMemory = []
+served_events client (Did numbered word) = request_event client numbered word ∷ []
+
+-- a close that met want of memory is no event
+abbrev pub close_events : Result ℕ CloseFault → List Placed
+close_events (Ok count) = placed Close 0 ∷ []
+close_events (Err CloseFaults.Closed) = placed Close 0 ∷ []
+close_events (Err CloseFaults.OutOfMemory) = []
+
+abbrev pub events_in : Done → List Placed
+events_in (Dones.Served client served) = served_events client served
+events_in (Dones.Ticked result) = placed Tick 0 ∷ []
+events_in (Dones.Closed result) = close_events result
+events_in (Dones.Noticed notice) = []
+events_in (Dones.Flushed client count) = []
+
+abbrev pub served_outs : ℕ → Served → List Out
+served_outs client Idle = []
+served_outs client NoRoom = []
+served_outs client NoMemory = []
+served_outs client (Did numbered word) = out_of client word ∷ []
+
+abbrev pub tick_outs : {X : Type 0} → Result X TickFault → List Out
+tick_outs (Ok done) = []
+tick_outs (Err fault) = Outs.TickRefused fault ∷ []
+
+abbrev pub close_outs : Result ℕ CloseFault → List Out
+close_outs (Ok count) = Outs.Closed count ∷ []
+close_outs (Err CloseFaults.Closed) = Outs.CloseRefused ∷ []
+close_outs (Err CloseFaults.OutOfMemory) = []
+
+abbrev pub outs_in : Done → List Out
+outs_in (Dones.Served client served) = served_outs client served
+outs_in (Dones.Ticked result) = tick_outs result
+outs_in (Dones.Closed result) = close_outs result
+outs_in (Dones.Noticed notice) = Outs.Notice notice ∷ []
+outs_in (Dones.Flushed client count) = []
+
+-- The readings of a report.
+
+-- the requests of client c that were done
+abbrev pub asked : ℕ → List Done → List Numbered
+asked c report = flat_map (asked_in c) report
+
+-- the words for client c
+abbrev pub words : ℕ → List Done → List Word
+words c report = flat_map (words_in c) report
+
+-- how many words of client c went into its line
+abbrev pub flushed : ℕ → List Done → ℕ
+flushed c [] = 0
+flushed c (done ∷ report) = flushed_in c done + flushed c report
+
+-- whether a request of client c may be held after a report: what is held comes of a serve of c that ran out of memory, with no serve
+-- of c behind it that found the line empty or was done
+abbrev pub may_hold : ℕ → Bool → List Done → Bool
+may_hold c before [] = before
+may_hold c before (done ∷ report) = may_hold c (held_after c before done) report
+
+-- what came to the facility, each accepted start with the place in its answer
+abbrev pub events : List Done → List Placed
+events report = flat_map events_in report
+
+-- what came of it
+abbrev pub outs : List Done → List Out
+outs report = flat_map outs_in report
+
+-- What a report tells of one client.
+
+-- a request that is held, as a list
+abbrev pub held_list : Option Numbered → List Numbered
+held_list (Some numbered) = numbered ∷ []
+held_list None = []
+
+-- whether a request is held
+abbrev pub is_held : Option Numbered → Bool
+is_held (Some numbered) = true
+is_held None = false
+
+-- one client's side of the desk, as lists
+pub record Side : Type 0 where
+  pub got : List Numbered
+  pub standing : List Numbered
+  pub given : List Word
+  pub backlog : Backlog
+
+-- the side of a client whose line is i, as its lists tell, and for whom b waits
+abbrev pub side_of : {I : Type 0} → (I → List Numbered) → (I → List Numbered) → (I → List Word) → I → Backlog → Side
+side_of got standing given i b = record { got = got i; standing = standing i; given = given i; backlog = b }
+
+-- what was got but for a request that is held
+abbrev pub got_but_held : Side → List Numbered
+got_but_held a = take (length a.got - length (held_list a.backlog.held)) a.got
+
+-- a request that is held is the last that was got
+abbrev pub HeldIsLast : Side → Type 0
+HeldIsLast a = got_but_held a ++ held_list a.backlog.held ≡ a.got
+
+-- how many requests are held or known to stand
+abbrev pub left_of : Side → ℕ
+left_of a = length (held_list a.backlog.held) + length a.standing
+
+-- what a report tells of client c, whose side was a and is b
+pub record Tells (c : ℕ) (report : List Done) (a b : Side) : Type 0 where
+  -- a request held before is the first one asked since, or is still held
+  pub held_first : Extends (held_list a.backlog.held) (asked c report ++ held_list b.backlog.held)
+  pub none_held : may_hold c (is_held a.backlog.held) report ≡ false → b.backlog.held ≡ None
+  pub asked_are : got_but_held a ++ asked c report ++ held_list b.backlog.held ≡ b.got
+  pub words_are : b.given ++ b.backlog.outbox ≡ a.given ++ a.backlog.outbox ++ words c report
+  pub flushed_are : length b.given ≡ length a.given + flushed c report
+  pub fewer_left : left_of a ≤ length (asked c report) + left_of b
+  pub same_room : b.backlog.room ≡ a.backlog.room
+
+-- what a report tells of the facility, whose state was s and is t
+pub record Runs (report : List Done) (s t : FacilityState) : Type 0 where
+  pub outs_are : outs report ≡ (run s (events report)).outs
+  pub state_is : t ≡ (run s (events report)).state

@@ -1,0 +1,57 @@
+-- When the members of a report are right.
+use Rattle.std.specs.Prelude.{◌≡◌, ℕ, ◌+◌, ◌-◌, ◌<◌, ◌≤◌, ◌⊎◌, Bool, true, false, List, [], ◌∷◌, ◌++◌, length, Err}
+use Rattle.timer_facility.specs.declared.request.CloseFault.TheVariants.{OutOfMemory}
+use Rattle.timer_facility.specs.State.{FacilityState, pending_of}
+use Rattle.timer_facility.specs.Run.{run}
+use Rattle.timer_facility.specs.Standing.{NeedsMemory}
+use Rattle.timer_desk.specs.declared.word.Numbered.{Numbered}
+use Rattle.timer_desk.specs.declared.report.Served.{Served}
+use Rattle.timer_desk.specs.declared.report.Served.TheVariants.{Idle, NoRoom, NoMemory, Did}
+use Rattle.timer_desk.specs.declared.report.Done.{Done}
+use Rattle.timer_desk.specs.declared.report.Done.TheVariants as Dones
+use Rattle.timer_desk.specs.Asked.{IsNoWant}
+use Rattle.timer_desk.specs.Report.{Side, left_of, held_list, asked, words, flushed, events}
+
+-- the fact holds of each member of a report, of those before it (behind `past`) and of those behind it
+abbrev pub AtEach : (List Done → Done → List Done → Type 0) → List Done → List Done → Type 0
+AtEach fact past [] = Unit {0}
+AtEach fact past (done ∷ later) = fact past done later × AtEach fact (past ++ done ∷ []) later
+
+-- what a serve may answer (no word tells of want of memory), by the room, the length of the outbox, how many requests are known to be left, and how many timers are pending
+abbrev pub IsRightServe : ℕ → ℕ → ℕ → ℕ → Served → Type 0
+IsRightServe room len left pending NoRoom = room < len + pending + 2
+IsRightServe room len left pending Idle = (len + pending + 2 ≤ room) × (left ≡ 0)
+IsRightServe room len left pending NoMemory = len + pending + 2 ≤ room
+IsRightServe room len left pending (Did numbered word) = (len + pending + 2 ≤ room) × IsNoWant word
+
+abbrev pub IsRightMember : ℕ → ℕ → ℕ → ℕ → ℕ → Done → Type 0
+IsRightMember c room len left pending (Dones.Served client served) = client ≡ c → IsRightServe room len left pending served
+IsRightMember c room len left pending (Dones.Ticked result) = Unit {0}
+IsRightMember c room len left pending (Dones.Closed result) = Unit {0}
+IsRightMember c room len left pending (Dones.Noticed notice) = Unit {0}
+IsRightMember c room len left pending (Dones.Flushed client count) = Unit {0}
+
+-- the line may run out of memory, or the first of these requests needs memory of the facility
+abbrev pub IsNeeded : Bool → ℕ → FacilityState → List Numbered → Type 0
+IsNeeded may_refuse c s [] = may_refuse ≡ true
+IsNeeded may_refuse c s (numbered ∷ later) = (may_refuse ≡ true) ⊎ NeedsMemory s c numbered.number numbered.request
+
+-- the length of a client's outbox, whose side was a, after a report: it has the words that it had and those since, less those that went
+abbrev pub outbox_after : ℕ → Side → List Done → ℕ
+outbox_after c a past = length a.backlog.outbox + length (words c past) - flushed c past
+
+-- how many timers of the client are pending after a report, from the state s on
+abbrev pub pending_after : ℕ → FacilityState → List Done → ℕ
+pending_after c s past = pending_of (run s (events past)).state c
+
+-- What is right of a member for client c, whose side was a before the report and is b after it: a serve answers by the room, and runs
+-- out of memory only where the request that is then held, the next one done or the one held at the end, needs memory; and then the outbox
+-- has room for a notice of each pending timer.
+pub record IsRight (may_refuse : Bool) (c : ℕ) (s : FacilityState) (a b : Side) (past : List Done) (done : Done) (later : List Done) : Type 0 where
+  pub served : IsRightMember c a.backlog.room (outbox_after c a past) (left_of a - length (asked c past)) (pending_after c s past) done
+  pub needed : done ≡ Dones.Served c NoMemory → IsNeeded may_refuse c (run s (events past)).state (asked c later ++ held_list b.backlog.held)
+  pub room : outbox_after c a (past ++ done ∷ []) + pending_after c s (past ++ done ∷ []) ≤ a.backlog.room
+
+-- a close runs out of memory only at an open facility
+abbrev pub IsRightClose : FacilityState → List Done → Done → List Done → Type 0
+IsRightClose s past done later = done ≡ Dones.Closed (Err OutOfMemory) → (run s (events past)).state.is_closed ≡ false

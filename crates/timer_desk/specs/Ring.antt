@@ -1,0 +1,137 @@
+-- What clauses see of the ends of a line over rings.
+use Rattle.std.specs.Prelude.{◌≡◌, ◌<◌, ◌≤◌, [], ℕ, Bool, true, List, ◌++◌, if◌then◌else◌}
+use Rattle.std.proofs.Common.{◌∙◌, refl}
+use denote.RawPtr.{Ptr}
+use Rattle.rtrb.specs.Shared.{Names}
+use Rattle.rtrb.specs.declared.end.End.{End}
+use Rattle.rtrb.specs.Ring.{sent, received, known_free, known_items, all_sent}
+use Rattle.std.specs.declared.alloc.Global.{Global}
+use Rattle.timer_desk.specs.declared.word.Numbered.{Numbered}
+use Rattle.timer_facility.specs.declared.request.Request.{Request}
+use Rattle.timer_desk.specs.declared.word.Word.{Word}
+use Rattle.timer_base.specs.declared.limits.TheConstants.{LAST}
+use Rattle.timer_desk.specs.declared.ring.ClientEnd.{ClientEnd}
+use Rattle.timer_desk.specs.declared.ring.RingInlet.{RingInlet}
+use Rattle.timer_desk.specs.declared.ring.RequestsEnded.{RequestsEnded}
+use Rattle.timer_desk.specs.declared.ring.WordsEnded.{WordsEnded}
+use Rattle.timer_desk.specs.declared.ring.ClientReader.{ClientReader}
+use Rattle.timer_desk.specs.declared.ring.Unsent.{Unsent}
+use Rattle.timer_desk.specs.declared.ring.Unsent.TheVariants.{Spent, Full}
+use Rattle.timer_desk.specs.Extends.{Extends, Extends-refl, Extends-trans}
+
+-- what makes a ring the one that it is
+abbrev pub Ring : Type 0
+Ring = Ptr × Ptr × Names × Global
+
+abbrev pub ring_of : {T P : Type 0} → End T Global P → Ring
+ring_of e = (e.words, e.slots, e.names, e.heap)
+
+-- the ring of requests, and the ring of words
+abbrev pub Line : Type 0
+Line = Ring × Ring
+
+abbrev pub line_of_end : ClientEnd → Line
+line_of_end e = (ring_of e.requests.end, ring_of e.words.end)
+
+abbrev pub line_of_inlet : RingInlet → Line
+line_of_inlet i = (ring_of i.requests.end, ring_of i.words.end)
+
+abbrev pub requests_ring_of : RequestsEnded → Ring
+requests_ring_of e = ring_of e.finished.end
+
+abbrev pub words_ring_of : WordsEnded → Ring
+words_ring_of e = ring_of e.finished.end
+
+abbrev pub words_ring_of_reader : ClientReader → Ring
+words_ring_of_reader r = ring_of r.words.end
+
+-- all requests that the client has submitted
+abbrev pub submitted : ClientEnd → List Numbered
+submitted e = sent e.requests
+
+-- all words that the client has received
+abbrev pub received_by_end : ClientEnd → List Word
+received_by_end e = received e.words
+
+-- how many slots for requests the client knows to be free
+abbrev pub free_of : ClientEnd → ℕ
+free_of e = known_free e.requests
+
+-- the words that the client has seen in the line
+abbrev pub seen_by_end : ClientEnd → List Word
+seen_by_end e = known_items e.words
+
+abbrev pub next_of : ClientEnd → ℕ
+next_of e = e.next
+
+-- the request under its number
+abbrev pub numbered : ℕ → Request → Numbered
+numbered n r = record { number = n; request = r }
+
+-- the request comes back: `Spent` where no number is left for it
+abbrev pub IsUnsent : Unsent → Request → ℕ → Type 0
+IsUnsent (Spent r) request next = (r ≡ request) × (LAST < next)
+IsUnsent (Full r) request next = (r ≡ request) × (next ≤ LAST)
+
+-- all requests that were ever submitted
+abbrev pub all_submitted : RequestsEnded → List Numbered
+all_submitted e = all_sent e.finished
+
+abbrev pub got_of : RingInlet → List Numbered
+got_of i = received i.requests
+
+-- the requests that stand in the line, known once it is settled
+abbrev pub standing_of : RingInlet → List Numbered
+standing_of i = if i.settled then known_items i.requests else []
+
+abbrev pub given_of : RingInlet → List Word
+given_of i = sent i.words
+
+-- whether `settle` was called
+abbrev pub is_settled : RingInlet → Bool
+is_settled i = i.settled
+
+-- the requests that the owner has seen in the line
+abbrev pub seen_by_inlet : RingInlet → List Numbered
+seen_by_inlet i = known_items i.requests
+
+-- how many slots for words the owner knows to be free
+abbrev pub free_of_inlet : RingInlet → ℕ
+free_of_inlet i = known_free i.words
+
+-- The line is the same one, and more may have been got and given. Once it is settled it stays so, and what was got and what stands is
+-- all that was submitted, as it was.
+pub record SameRingLine (a b : RingInlet) : Type 0 where
+  pub line : line_of_inlet a ≡ line_of_inlet b
+  pub got_grows : Extends (got_of a) (got_of b)
+  pub given_grows : Extends (given_of a) (given_of b)
+  pub settled : is_settled a ≡ true → (is_settled b ≡ true) × (got_of b ++ standing_of b ≡ got_of a ++ standing_of a)
+
+pub SameRingLine-refl : (a : RingInlet) → SameRingLine a a
+SameRingLine-refl a = record { line = refl; got_grows = Extends-refl (got_of a); given_grows = Extends-refl (given_of a); settled = λ h. (h, refl) }
+
+pub SameRingLine-trans : (a b c : RingInlet) → SameRingLine a b → SameRingLine b c → SameRingLine a c
+SameRingLine-trans a b c p q = record {
+  line = p.line ∙ q.line;
+  got_grows = Extends-trans (got_of a) (got_of b) (got_of c) p.got_grows q.got_grows;
+  given_grows = Extends-trans (given_of a) (given_of b) (given_of c) p.given_grows q.given_grows;
+  settled = λ h. (let k = p.settled h in ((q.settled (k.0)).0, (q.settled (k.0)).1 ∙ k.1));
+}
+
+-- all words that were ever given
+abbrev pub all_given : WordsEnded → List Word
+all_given e = all_sent e.finished
+
+abbrev pub read_by : ClientReader → List Word
+read_by r = received r.words
+
+abbrev pub is_settled_reader : ClientReader → Bool
+is_settled_reader r = r.settled
+
+-- the words that the reader has seen in the line
+abbrev pub seen_by_reader : ClientReader → List Word
+seen_by_reader r = known_items r.words
+
+-- the words that stand in the line, known once it is settled
+abbrev pub unread_by : ClientReader → List Word
+unread_by r = if r.settled then known_items r.words else []

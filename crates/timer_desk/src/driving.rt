@@ -1,0 +1,149 @@
+//! Turns of a desk until each client has come to a goal.
+ghost use Rattle.std.specs.Prelude.{◌≡◌, ◌≤◌, ◌<◌, ℕ, All, IfOk, OnErr, length, vec_len};
+ghost use Rattle.timer_base.specs.declared.limits.TheConstants.{LAST};
+ghost use Rattle.timer_desk.specs.Desk.{clients_of};
+ghost use Rattle.timer_desk.specs.Driving.{IsFit, all_left, Turns, Drives, IsTurned};
+
+use crate::desk::Desk;
+use crate::inlet::Inlet;
+use crate::progress::{Progress, all_done, count_report, no_progress};
+use crate::report::{Done, Served, Step};
+use std::alloc::{AllocError, Global};
+use std::thread;
+use timer_base::Wheel;
+use timer_facility::notices_are_owed;
+
+/// Why a drive ended.
+#[derive(Clone, Copy, Debug, PartialEq, Eq)]
+pub enum DriveEnd {
+    /// Each client reached the goal.
+    Done,
+    /// As many turns in a row as the limit allows passed nothing on.
+    Limit,
+    /// Allocation failed.
+    OutOfMemory,
+}
+
+/// A desk after its turns.
+#[derive(Drop)]
+pub struct Driven<W: Wheel + Drop, I: Inlet + Drop> {
+    pub desk: Desk<W, I>,
+    pub outcome: DriveEnd,
+}
+
+/// What one turn came to.
+#[derive(Clone, Copy)]
+enum Turned {
+    Passed,
+    Idle,
+    Refused,
+}
+
+/// Takes turns: a serve of each client that had fewer than `goal` requests served, a flush of each
+/// client, and a tick. It ends when each client had `goal` requests served and twice as many words
+/// flushed, when `limit` turns in a row passed nothing on, or when allocation failed. A turn that
+/// passed nothing on leaves the processor to another thread.
+pub fn drive<W: Wheel + Drop, I: Inlet + Drop>(
+    alloc: Global,
+    desk: Desk<W, I>,
+    goal: u64,
+    limit: u64,
+) -> Driven<W, I>
+    requires goal { goal ≤ LAST }
+    requires limit { limit ≤ LAST }
+    ensures { Drives I.got I.standing I.given I.same_line I.take_may_refuse goal desk result.desk result.outcome }
+{
+    let mut desk = desk;
+    notices_are_owed();
+    desk.keeps();
+    let Ok(mut progress) = no_progress(alloc, desk.clients()) else {
+        return Driven {
+            desk,
+            outcome: DriveEnd::OutOfMemory,
+        };
+    };
+    let mut idle = 0u64;
+    while idle < limit {
+        if all_done(&progress, goal) {
+            return Driven {
+                desk,
+                outcome: DriveEnd::Done,
+            };
+        }
+        match one_turn(alloc, &mut desk, &mut progress, goal) {
+            Turned::Passed => idle = 0,
+            Turned::Idle => {
+                idle += 1;
+                thread::yield_now();
+            }
+            Turned::Refused => {
+                return Driven {
+                    desk,
+                    outcome: DriveEnd::OutOfMemory,
+                };
+            }
+        }
+    }
+    Driven {
+        desk,
+        outcome: DriveEnd::Limit,
+    }
+}
+
+/// One turn, which is counted.
+fn one_turn<W: Wheel + Drop, I: Inlet + Drop>(
+    alloc: Global,
+    desk: &mut Desk<W, I>,
+    progress: &mut Vec<Progress>,
+    goal: u64,
+) -> Turned
+    requires goal { goal ≤ LAST }
+    requires clients { vec_len progress.old ≡ clients_of desk.old }
+    ensures turns { Turns I.got I.standing I.given I.same_line I.take_may_refuse desk.old desk.new progress.old.items progress.new.items }
+    ensures left { IsTurned (all_left goal progress.old.items) (all_left goal progress.new.items) result }
+    ensures clients { vec_len progress.new ≡ clients_of desk.new }
+{
+    desk.keeps();
+    let Ok(steps) = steps_of_turn(alloc, progress, goal) else {
+        return Turned::Refused;
+    };
+    let Ok(report) = desk.turn(&steps) else {
+        return Turned::Refused;
+    };
+    let passed = count_report(progress, &report, goal);
+    if has_refusal(&report) {
+        return Turned::Refused;
+    }
+    if passed { Turned::Passed } else { Turned::Idle }
+}
+
+/// The steps of one turn.
+fn steps_of_turn(alloc: Global, progress: &[Progress], goal: u64) -> Result<Vec<Step>, AllocError>
+    ensures { IfOk result (λ steps. All (IsFit (length progress.now)) steps.items) }
+{
+    let mut steps = Vec::new(alloc);
+    for (client, come) in progress.iter().enumerate() {
+        if come.served < goal {
+            steps.push(Step::Serve(client))?;
+        }
+    }
+    for client in 0..progress.len() {
+        steps.push(Step::Flush(client))?;
+    }
+    steps.push(Step::Tick)?;
+    Ok(steps)
+}
+
+/// Whether a serve of this report ran out of memory.
+fn has_refusal(report: &[Done]) -> bool {
+    for member in report {
+        if let Done::Served {
+            served: Served::NoMemory,
+            ..
+        } = member
+        {
+            return true;
+        }
+    }
+    false
+}

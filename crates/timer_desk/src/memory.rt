@@ -1,0 +1,93 @@
+//! A line held in memory, for one thread.
+ghost use Rattle.std.specs.Prelude.{◌≡◌, [], ◌++◌, ◌≤◌, take, drop, vec_len};
+
+use crate::inlet::{Inlet, Put, Taken};
+use crate::word::{Numbered, Word};
+use std::alloc::Global;
+
+/// Requests that are known from the beginning, and the words put.
+#[derive(Drop)]
+pub struct MemoryInlet {
+    requests: Vec<Numbered>,
+    // How many of `requests` were taken.
+    next: usize,
+    given: Vec<Word>,
+    // How many words may be given.
+    room: usize,
+    ghost in_range: { next ≤ vec_len requests },
+}
+
+impl MemoryInlet {
+    ghost use Rattle.timer_desk.specs.Memory.{got_of, standing_of, given_of, room_of};
+
+    /// A line in which all these requests stand, with room for so many words. Does not allocate.
+    pub fn new(alloc: Global, requests: Vec<Numbered>, room: usize) -> MemoryInlet
+        ensures got { got_of result ≡ [] }
+        ensures standing { standing_of result ≡ requests.items }
+        ensures given { given_of result ≡ [] }
+        ensures room { room_of result ≡ room }
+    {
+        MemoryInlet {
+            requests,
+            next: 0,
+            given: Vec::new(alloc),
+            room,
+        }
+    }
+
+    /// The words put. Does not allocate.
+    pub fn given(&self) -> &[Word]
+        ensures { result.now ≡ given_of self.now }
+    {
+        self.given.as_slice()
+    }
+}
+
+impl Inlet for MemoryInlet {
+    ghost use Rattle.std.specs.Prelude.{◌≡◌, [], ◌++◌, ◌≤◌, length, true, false, ◌↔◌};
+    ghost use Rattle.timer_desk.specs.Memory.{got_of, standing_of, given_of, room_of, SameMemoryLine, SameMemoryLine-refl, SameMemoryLine-trans};
+    ghost use Rattle.timer_desk.specs.Inlet.{taken_of, put_of, HandsBack};
+
+    ghost got = { got_of };
+
+    ghost standing = { standing_of };
+
+    ghost given = { given_of };
+
+    ghost same_line = { SameMemoryLine };
+
+    ghost take_may_refuse = { false };
+
+    ghost put_may_refuse = { true };
+
+    ghost reflexive = { SameMemoryLine-refl };
+
+    ghost transitive = { SameMemoryLine-trans };
+
+    fn take(&mut self) -> Taken {
+        if self.next < self.requests.len() {
+            let numbered = self.requests[self.next];
+            self.next += 1;
+            return Taken::Got(numbered);
+        }
+        Taken::Empty
+    }
+
+    /// Puts a word. The line is full from its room of words on.
+    fn put(&mut self, word: Word) -> Put
+        ensures line { SameMemoryLine self.old self.new }
+        ensures given { given_of self.new ≡ given_of self.old ++ put_of result word }
+        ensures back { HandsBack true result word }
+        ensures full { result ≡ Put.Full word ↔ (room_of self.old ≤ length (given_of self.old)) }
+        ensures got { got_of self.new ≡ got_of self.old }
+        ensures standing { standing_of self.new ≡ standing_of self.old }
+    {
+        if self.given.len() >= self.room {
+            return Put::Full(word);
+        }
+        match self.given.push(word) {
+            Ok(()) => Put::Done,
+            Err(_) => Put::NoMemory(word),
+        }
+    }
+}

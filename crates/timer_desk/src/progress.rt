@@ -1,0 +1,136 @@
+//! How far each client has come in a drive.
+ghost use Rattle.std.specs.Prelude.{◌≡◌, ◌≤◌, ◌<◌, ◌+◌, ◌*◌, ℕ, length, get_or, IsTrue, IfOk, replicate, vec_len, ◌↔◌};
+ghost use Rattle.timer_base.specs.declared.limits.TheConstants.{LAST};
+ghost use Rattle.timer_desk.specs.Driving.{IsDone, HasCounted, all_left};
+ghost use Rattle.timer_desk.specs.Report.{asked_in, flushed_in, asked, flushed};
+
+use crate::report::{Done, Served};
+use std::alloc::{AllocError, Global};
+
+/// How many requests of a client were served, and how many of its words were flushed, as far as they
+/// are counted.
+#[derive(Clone, Copy, Debug, PartialEq, Eq)]
+pub struct Progress {
+    pub served: u64,
+    pub flushed: u64,
+}
+
+impl Progress {
+    ghost use Rattle.timer_desk.specs.Driving.{left_for};
+
+    /// Whether so many requests were served, and their words flushed.
+    pub fn is_done(&self, goal: u64) -> bool
+        requires { goal ≤ LAST }
+        ensures { IsTrue result ↔ IsDone goal self.now }
+    {
+        self.served >= goal && self.flushed >= 2 * goal
+    }
+
+    /// Counts one request more, up to the goal, and says whether it was counted.
+    fn count_request(&mut self, goal: u64) -> bool
+        requires { goal ≤ LAST }
+        ensures served { self.new.served ≤ self.old.served + 1 }
+        ensures flushed { self.new.flushed ≡ self.old.flushed }
+        ensures fewer { IsTrue result → left_for goal self.new < left_for goal self.old }
+        ensures no_more { left_for goal self.new ≤ left_for goal self.old }
+    {
+        if self.served >= goal {
+            return false;
+        }
+        self.served += 1;
+        true
+    }
+
+    /// Counts so many words more, up to twice the goal, and says whether one was counted.
+    fn count_words(&mut self, count: usize, goal: u64) -> bool
+        requires { goal ≤ LAST }
+        ensures served { self.new.served ≡ self.old.served }
+        ensures flushed { self.new.flushed ≤ self.old.flushed + count }
+        ensures fewer { IsTrue result → left_for goal self.new < left_for goal self.old }
+        ensures no_more { left_for goal self.new ≤ left_for goal self.old }
+    {
+        if count == 0 || self.flushed >= 2 * goal {
+            return false;
+        }
+        let left = 2 * goal - self.flushed;
+        let more = count as u64;
+        if more < left {
+            self.flushed += more;
+        } else {
+            self.flushed = 2 * goal;
+        }
+        true
+    }
+}
+
+/// No progress yet, for each of so many clients.
+pub fn no_progress(alloc: Global, clients: usize) -> Result<Vec<Progress>, AllocError>
+    ensures { IfOk result (λ all. all.items ≡ replicate clients (record { served = 0; flushed = 0 })) }
+{
+    let mut all = Vec::with_capacity(alloc, clients)?;
+    for _ in 0..clients {
+        all.push_reserved(Progress {
+            served: 0,
+            flushed: 0,
+        });
+    }
+    Ok(all)
+}
+
+/// Whether each client is done.
+pub fn all_done(all: &[Progress], goal: u64) -> bool
+    requires { goal ≤ LAST }
+    ensures { IsTrue result → (c : ℕ) (p : Progress) → c < length all.now → IsDone goal (get_or all.now c p) }
+{
+    for progress in all {
+        if !progress.is_done(goal) {
+            return false;
+        }
+    }
+    true
+}
+
+/// Counts one member of a report, and says whether it passed something on.
+fn count_member(all: &mut Vec<Progress>, member: Done, goal: u64) -> bool
+    requires { goal ≤ LAST }
+    ensures counted { (c : ℕ) (p : Progress) → c < vec_len all.old → HasCounted (length (asked_in c member)) (flushed_in c member) (get_or all.old.items c p) (get_or all.new.items c p) }
+    ensures len { vec_len all.new ≡ vec_len all.old }
+    ensures fewer { IsTrue result → all_left goal all.new.items < all_left goal all.old.items }
+    ensures no_more { all_left goal all.new.items ≤ all_left goal all.old.items }
+{
+    match member {
+        Done::Served {
+            client,
+            served: Served::Did { .. },
+        } => {
+            if client >= all.len() {
+                return false;
+            }
+            all[client].count_request(goal)
+        }
+        Done::Flushed { client, count } => {
+            if client >= all.len() {
+                return false;
+            }
+            all[client].count_words(count, goal)
+        }
+        _ => false,
+    }
+}
+
+/// Counts a report, and says whether it passed something on.
+pub fn count_report(all: &mut Vec<Progress>, report: &[Done], goal: u64) -> bool
+    requires { goal ≤ LAST }
+    ensures counted { (c : ℕ) (p : Progress) → c < vec_len all.old → HasCounted (length (asked c report.now)) (flushed c report.now) (get_or all.old.items c p) (get_or all.new.items c p) }
+    ensures len { vec_len all.new ≡ vec_len all.old }
+    ensures fewer { IsTrue result → all_left goal all.new.items < all_left goal all.old.items }
+    ensures no_more { all_left goal all.new.items ≤ all_left goal all.old.items }
+{
+    let mut passed = false;
+    for member in report {
+        if count_member(all, *member, goal) {
+            passed = true;
+        }
+    }
+    passed
+}

@@ -1,0 +1,70 @@
+//! What stands behind the lock of a locked line.
+ghost use Rattle.std.specs.Prelude.{◌≡◌, ◌≤◌, length};
+
+use crate::word::{Numbered, Word};
+use circular_buffer::HeapCircularBuffer;
+use std::alloc::{AllocError, Global};
+
+/// The two queues of a line. Neither holds more than the line's capacity.
+#[derive(Drop)]
+pub struct Queues {
+    requests: HeapCircularBuffer<Numbered>,
+    words: HeapCircularBuffer<Word>,
+    capacity: usize,
+    ghost requests_fit: { (requests.capacity ≡ capacity) × (length requests.items ≤ capacity) },
+    ghost words_fit: { (words.capacity ≡ capacity) × (length words.items ≤ capacity) },
+}
+
+impl Queues {
+    ghost use Rattle.std.specs.Prelude.{◌≡◌, ◌≤◌, ◌<◌, [], ◌∷◌, ◌++◌, length, drop, slice_get, IfOk, IfErr, OnOk, OnErr, IsOk, ◌↔◌};
+    ghost use Rattle.timer_desk.specs.Queues.{requests_in, words_in, capacity_of};
+
+    /// Two empty queues.
+    pub fn new(alloc: Global, capacity: usize) -> Result<Queues, AllocError>
+        ensures { IfOk result (λ q. (requests_in q ≡ []) × (words_in q ≡ []) × (capacity_of q ≡ capacity)) }
+    {
+        Ok(Queues {
+            requests: HeapCircularBuffer::with_capacity(alloc, capacity)?,
+            words: HeapCircularBuffer::with_capacity(alloc, capacity)?,
+            capacity,
+        })
+    }
+
+    /// Puts a request last, or hands it back where its queue is full.
+    pub fn push_request(&mut self, numbered: Numbered) -> Result<(), Numbered>
+        ensures ok { OnOk result (requests_in self.new ≡ requests_in self.old ++ numbered ∷ []) }
+        ensures err { IfErr result (λ n. (n ≡ numbered) × (requests_in self.new ≡ requests_in self.old)) }
+        ensures when { IsOk result ↔ (length (requests_in self.old) < capacity_of self.old) }
+        ensures others { (words_in self.new ≡ words_in self.old) × (capacity_of self.new ≡ capacity_of self.old) }
+    {
+        self.requests.try_push_back(numbered)
+    }
+
+    /// Takes the first request.
+    pub fn pop_request(&mut self) -> Option<Numbered>
+        ensures value { result ≡ slice_get (requests_in self.old) 0 }
+        ensures requests { requests_in self.new ≡ drop 1 (requests_in self.old) }
+        ensures others { (words_in self.new ≡ words_in self.old) × (capacity_of self.new ≡ capacity_of self.old) }
+    {
+        self.requests.pop_front()
+    }
+
+    /// Puts a word last, or hands it back where its queue is full.
+    pub fn push_word(&mut self, word: Word) -> Result<(), Word>
+        ensures ok { OnOk result (words_in self.new ≡ words_in self.old ++ word ∷ []) }
+        ensures err { IfErr result (λ w. (w ≡ word) × (words_in self.new ≡ words_in self.old)) }
+        ensures when { IsOk result ↔ (length (words_in self.old) < capacity_of self.old) }
+        ensures others { (requests_in self.new ≡ requests_in self.old) × (capacity_of self.new ≡ capacity_of self.old) }
+    {
+        self.words.try_push_back(word)
+    }
+
+    /// Takes the first word.
+    pub fn pop_word(&mut self) -> Option<Word>
+        ensures value { result ≡ slice_get (words_in self.old) 0 }
+        ensures words { words_in self.new ≡ drop 1 (words_in self.old) }
+        ensures others { (requests_in self.new ≡ requests_in self.old) × (capacity_of self.new ≡ capacity_of self.old) }
+    {
+        self.words.pop_front()
+    }
+}

@@ -1,0 +1,71 @@
+//! A wheel for tests, whose first start runs out of memory.
+use timer_base::{Handle, OutOfMemory, Timer, Wheel};
+
+/// A wheel that refuses its next start, where it says so, and only that one.
+#[derive(Drop)]
+pub struct Refusing<W> {
+    pub wheel: W,
+    pub refuses: bool,
+}
+
+impl<W: Wheel> Wheel for Refusing<W> {
+    ghost state = { λ w. W.state w.wheel };
+
+    fn last_tick(&self) -> u64 {
+        self.wheel.last_tick()
+    }
+
+    fn now(&self) -> u64 {
+        self.wheel.now()
+    }
+
+    fn len(&self) -> usize {
+        self.wheel.len()
+    }
+
+    fn has_due(&self) -> bool {
+        self.wheel.has_due()
+    }
+
+    fn last_serial(&self) -> u64 {
+        self.wheel.last_serial()
+    }
+
+    fn start(&mut self, timer: Timer) -> Result<Handle, OutOfMemory> {
+        if self.refuses {
+            self.refuses = false;
+            return Err(OutOfMemory);
+        }
+        self.wheel.start(timer)
+    }
+
+    fn look(&self, handle: Handle) -> Option<Timer> {
+        self.wheel.look(handle)
+    }
+
+    fn stop(&mut self, handle: Handle) -> Option<Timer> {
+        self.wheel.stop(handle)
+    }
+
+    fn restart(&mut self, handle: Handle, timer: Timer) -> Option<(Handle, Timer)> {
+        self.wheel.restart(handle, timer)
+    }
+
+    fn per_tick(&mut self) {
+        self.wheel.per_tick();
+    }
+
+    fn expire(&mut self) -> Option<Timer> {
+        self.wheel.expire()
+    }
+
+    fn list(&self) -> Result<Vec<Timer>, OutOfMemory> {
+        self.wheel.list()
+    }
+
+    fn clear(&mut self) {
+        self.wheel.clear();
+    }
+
+    ghost well_formed = { λ w. W.well_formed w.wheel };
+}

@@ -1,0 +1,274 @@
+//! A line over two rings, whose ends never wait.
+//!
+//!     client's thread                                   owner's thread
+//!     ClientEnd     submit  --> ring of requests -->   take     RingInlet
+//!                   receive <-- ring of words    <--   put
+//!
+//! Each ring has one producer and one consumer, so each call here is one push or one pop: it needs no
+//! lock and no memory, and it returns. Neither end knows what the other has done since. Once one has
+//! finished, the other settles, and from then on knows all that stands in the ring.
+use crate::inlet::{Inlet, Put, Taken};
+use crate::word::{Numbered, Word};
+use rtrb::{Consumer, Finished, Producer, PushError};
+use timer_base::LAST;
+use timer_facility::Request;
+
+/// Why a request was not sent. It comes back.
+#[derive(Clone, Copy, Debug, PartialEq, Eq)]
+pub enum Unsent {
+    /// The client used each of its numbers.
+    Spent(Request),
+    /// The ring has no room for it.
+    Full(Request),
+}
+
+/// The client's end of a line. No call of it waits or allocates.
+#[derive(Drop)]
+pub struct ClientEnd {
+    pub(crate) requests: Producer<Numbered>,
+    pub(crate) words: Consumer<Word>,
+    pub(crate) next: u64,
+}
+
+/// The owner's end of a line. No call of it waits or allocates.
+#[derive(Drop)]
+pub struct RingInlet {
+    pub(crate) requests: Consumer<Numbered>,
+    pub(crate) words: Producer<Word>,
+    pub(crate) settled: bool,
+}
+
+/// What is left of the requests' end of a client that has finished.
+#[derive(Drop)]
+pub struct RequestsEnded {
+    finished: Finished<Numbered>,
+}
+
+/// What is left of the words' end of an owner that has finished.
+#[derive(Drop)]
+pub struct WordsEnded {
+    finished: Finished<Word>,
+}
+
+/// The reader of a client that has finished.
+#[derive(Drop)]
+pub struct ClientReader {
+    words: Consumer<Word>,
+    settled: bool,
+}
+
+impl ClientEnd {
+    ghost use Rattle.std.specs.Prelude.{◌≡◌, ◌+◌, ◌<◌, ◌≤◌, [], ◌∷◌, ◌++◌, false, Err, IsOk, OnOk, IfOk, OnErr, IfErr, IfSome, IsNone};
+    ghost use Rattle.timer_desk.specs.Ring.{line_of_end, submitted, received_by_end, free_of, seen_by_end, next_of, numbered, IsUnsent, requests_ring_of, words_ring_of_reader, all_submitted, read_by, is_settled_reader};
+
+    /// The next request's number.
+    pub fn next_number(&self) -> u64
+        ensures { result ≡ next_of self.now }
+    {
+        self.next
+    }
+
+    /// Sends a request, and returns its number, one more than the last.
+    ///
+    /// `Spent` where the next number would be above `LAST`, else `Full` where the ring has no room.
+    /// Either hands the request back and changes nothing.
+    pub fn submit(&mut self, request: Request) -> Result<u64, Unsent>
+        ensures line { line_of_end self.new ≡ line_of_end self.old }
+        ensures ok { IfOk result (λ n. (n ≡ next_of self.old) × (n ≤ LAST) × (next_of self.new ≡ n + 1) × (submitted self.new ≡ submitted self.old ++ numbered n request ∷ [])) }
+        ensures err { IfErr result (λ e. IsUnsent e request (next_of self.old) × (next_of self.new ≡ next_of self.old) × (submitted self.new ≡ submitted self.old)) }
+        ensures received { (received_by_end self.new ≡ received_by_end self.old) × (seen_by_end self.new ≡ seen_by_end self.old) }
+
+        // `Full` comes only where the ring is seen to be full, and a slot that is known to be free takes a request.
+        ensures full { result ≡ Err (Unsent.Full request) → free_of self.new ≡ 0 }
+        ensures succeeds { (next_of self.old ≤ LAST) × (0 < free_of self.old) → IsOk result }
+        ensures free { OnOk result (free_of self.old ≤ free_of self.new + 1) }
+    {
+        if self.next > LAST {
+            return Err(Unsent::Spent(request));
+        }
+        let number = self.next;
+        match self.requests.push(Numbered { number, request }) {
+            Ok(()) => {
+                self.next += 1;
+                Ok(number)
+            }
+            Err(PushError::Full(back)) => Err(Unsent::Full(back.request)),
+        }
+    }
+
+    /// Receives the next word.
+    pub fn receive(&mut self) -> Option<Word>
+        ensures line { line_of_end self.new ≡ line_of_end self.old }
+        ensures some { IfSome result (λ w. received_by_end self.new ≡ received_by_end self.old ++ w ∷ []) }
+        ensures none { IsNone result → (received_by_end self.new ≡ received_by_end self.old) × (seen_by_end self.old ≡ []) }
+        ensures sent { (submitted self.new ≡ submitted self.old) × (next_of self.new ≡ next_of self.old) × (free_of self.new ≡ free_of self.old) }
+    {
+        match self.words.pop() {
+            Ok(word) => Some(word),
+            Err(_) => None,
+        }
+    }
+
+    /// Ends the requests of this end. None only where the owner's end was dropped.
+    pub fn finish(self) -> (Option<RequestsEnded>, ClientReader)
+        ensures ended { IfSome result.0 (λ e. (requests_ring_of e ≡ (line_of_end self).0) × (all_submitted e ≡ submitted self)) }
+        ensures reader { (words_ring_of_reader result.1 ≡ (line_of_end self).1) × (read_by result.1 ≡ received_by_end self) × (is_settled_reader result.1 ≡ false) }
+    {
+        let ClientEnd {
+            requests,
+            words,
+            next: _,
+        } = self;
+        let ended = match requests.finish() {
+            Some(finished) => Some(RequestsEnded { finished }),
+            None => None,
+        };
+        let reader = ClientReader {
+            words,
+            settled: false,
+        };
+        (ended, reader)
+    }
+}
+
+impl Inlet for RingInlet {
+    ghost use Rattle.std.specs.Prelude.{◌≡◌, ◌+◌, ◌<◌, ◌≤◌, [], ◌++◌, true, false};
+    ghost use Rattle.timer_desk.specs.Inlet.{taken_of, put_of, HandsBack};
+    ghost use Rattle.timer_desk.specs.Ring.{got_of, standing_of, given_of, is_settled, seen_by_inlet, free_of_inlet, SameRingLine, SameRingLine-refl, SameRingLine-trans};
+
+    ghost got = { got_of };
+
+    ghost standing = { standing_of };
+
+    ghost given = { given_of };
+
+    ghost same_line = { SameRingLine };
+
+    ghost take_may_refuse = { false };
+
+    ghost put_may_refuse = { false };
+
+    ghost reflexive = { SameRingLine-refl };
+
+    ghost transitive = { SameRingLine-trans };
+
+    /// Takes the next request.
+    fn take(&mut self) -> Taken
+        ensures line { SameRingLine self.old self.new }
+        ensures got { got_of self.new ≡ got_of self.old ++ taken_of result }
+        ensures standing { ¬ (standing_of self.old ≡ []) → standing_of self.old ≡ taken_of result ++ standing_of self.new }
+        ensures nothing_stands { standing_of self.old ≡ [] → standing_of self.new ≡ [] }
+        ensures empty { result ≡ Taken.Empty → standing_of self.old ≡ [] }
+        ensures memory { result ≡ Taken.NoMemory → false ≡ true }
+        ensures given { (given_of self.new ≡ given_of self.old) × (free_of_inlet self.new ≡ free_of_inlet self.old) }
+
+        // None is known to stand where it is empty; and only `settle` settles it.
+        ensures none_seen { result ≡ Taken.Empty → seen_by_inlet self.old ≡ [] }
+        ensures settled { is_settled self.new ≡ is_settled self.old }
+    {
+        if self.settled {
+            if self.requests.cached_slots() == 0 {
+                return Taken::Empty;
+            }
+            return Taken::Got(self.requests.pop_known());
+        }
+        match self.requests.pop() {
+            Ok(numbered) => Taken::Got(numbered),
+            Err(_) => Taken::Empty,
+        }
+    }
+
+    /// Puts a word, or hands it back.
+    fn put(&mut self, word: Word) -> Put
+        ensures line { SameRingLine self.old self.new }
+        ensures given { given_of self.new ≡ given_of self.old ++ put_of result word }
+        ensures back { HandsBack false result word }
+        ensures got { got_of self.new ≡ got_of self.old }
+        ensures standing { standing_of self.new ≡ standing_of self.old }
+
+        // It is full only where the ring is seen to be full, and a slot that is known to be free takes a word.
+        ensures full { result ≡ Put.Full word → free_of_inlet self.new ≡ 0 }
+        ensures succeeds { 0 < free_of_inlet self.old → result ≡ Put.Done }
+        ensures free { result ≡ Put.Done → free_of_inlet self.old ≤ free_of_inlet self.new + 1 }
+        ensures settled { is_settled self.new ≡ is_settled self.old }
+    {
+        match self.words.push(word) {
+            Ok(()) => Put::Done,
+            Err(PushError::Full(back)) => Put::Full(back),
+        }
+    }
+}
+
+impl RingInlet {
+    ghost use Rattle.std.specs.Prelude.{◌≡◌, ◌++◌, true, length, IfSome};
+    ghost use Rattle.timer_desk.specs.Ring.{line_of_inlet, got_of, standing_of, given_of, is_settled, free_of_inlet, requests_ring_of, words_ring_of, all_submitted, all_given};
+
+    /// Settles the line once its client has finished, and returns how many requests stand.
+    pub fn settle(&mut self, ended: &mut RequestsEnded) -> usize
+        requires { requests_ring_of ended.old ≡ (line_of_inlet self.old).0 }
+        ensures line { line_of_inlet self.new ≡ line_of_inlet self.old }
+        ensures settled { is_settled self.new ≡ true }
+        ensures all { got_of self.new ++ standing_of self.new ≡ all_submitted ended.old }
+        ensures count { result ≡ length (standing_of self.new) }
+        ensures got { got_of self.new ≡ got_of self.old }
+        ensures given { (given_of self.new ≡ given_of self.old) × (free_of_inlet self.new ≡ free_of_inlet self.old) }
+        ensures ended { (requests_ring_of ended.new ≡ requests_ring_of ended.old) × (all_submitted ended.new ≡ all_submitted ended.old) }
+    {
+        self.settled = true;
+        self.requests.slots_after(&mut ended.finished)
+    }
+
+    /// Ends the words of this end. None only where the client's end was dropped.
+    pub fn finish(self) -> Option<WordsEnded>
+        ensures { IfSome result (λ e. (words_ring_of e ≡ (line_of_inlet self).1) × (all_given e ≡ given_of self)) }
+    {
+        let RingInlet {
+            requests: _,
+            words,
+            settled: _,
+        } = self;
+        match words.finish() {
+            Some(finished) => Some(WordsEnded { finished }),
+            None => None,
+        }
+    }
+}
+
+impl ClientReader {
+    ghost use Rattle.std.specs.Prelude.{◌≡◌, [], ◌∷◌, ◌++◌, true, length, IfSome, IsNone};
+    ghost use Rattle.timer_desk.specs.Ring.{words_ring_of_reader, words_ring_of, read_by, unread_by, seen_by_reader, is_settled_reader, all_given};
+
+    /// Receives the next word.
+    pub fn receive(&mut self) -> Option<Word>
+        ensures line { words_ring_of_reader self.new ≡ words_ring_of_reader self.old }
+        ensures some { IfSome result (λ w. read_by self.new ≡ read_by self.old ++ w ∷ []) }
+        ensures none { IsNone result → (read_by self.new ≡ read_by self.old) × (unread_by self.old ≡ []) × (seen_by_reader self.old ≡ []) }
+        ensures settled { is_settled_reader self.new ≡ is_settled_reader self.old }
+        ensures all { is_settled_reader self.old ≡ true → read_by self.new ++ unread_by self.new ≡ read_by self.old ++ unread_by self.old }
+    {
+        if self.settled {
+            if self.words.cached_slots() == 0 {
+                return None;
+            }
+            return Some(self.words.pop_known());
+        }
+        match self.words.pop() {
+            Ok(word) => Some(word),
+            Err(_) => None,
+        }
+    }
+
+    /// Settles the line once its owner has finished, and returns how many words stand.
+    pub fn settle(&mut self, ended: &mut WordsEnded) -> usize
+        requires { words_ring_of ended.old ≡ words_ring_of_reader self.old }
+        ensures line { words_ring_of_reader self.new ≡ words_ring_of_reader self.old }
+        ensures settled { is_settled_reader self.new ≡ true }
+        ensures all { read_by self.new ++ unread_by self.new ≡ all_given ended.old }
+        ensures count { result ≡ length (unread_by self.new) }
+        ensures read { read_by self.new ≡ read_by self.old }
+        ensures ended { (words_ring_of ended.new ≡ words_ring_of ended.old) × (all_given ended.new ≡ all_given ended.old) }
+    {
+        self.settled = true;
+        self.words.slots_after(&mut ended.finished)
+    }
+}

@@ -1,0 +1,26 @@
+//! A desk over ring lines settles a line once its client has finished.
+ghost use Rattle.std.specs.Prelude.{◌≡◌, ◌<◌, ◌++◌, ◌≢◌, ℕ, length, get_or};
+ghost use Rattle.timer_desk.specs.Desk.{clients_of};
+ghost use Rattle.timer_desk.specs.Ring.{line_of_inlet, got_of, standing_of, given_of, is_settled, requests_ring_of, all_submitted};
+
+use crate::desk::Desk;
+use crate::ring::{RequestsEnded, RingInlet};
+use timer_base::Wheel;
+
+impl<W: Wheel + Drop> Desk<W, RingInlet> {
+    ghost use Rattle.timer_desk.specs.Settling.{HasSettled};
+
+    /// Settles the line of client c, and returns how many of its requests stand. Does not allocate.
+    pub fn settle(&mut self, c: usize, ended: &mut RequestsEnded) -> usize
+        requires client { c < clients_of self.old }
+        requires line { (i : RingInlet) → requests_ring_of ended.old ≡ (line_of_inlet (get_or self.old.inlets c i)).0 }
+        ensures others { (k : ℕ) (i : RingInlet) → k ≢ c → get_or self.new.inlets k i ≡ get_or self.old.inlets k i }
+        ensures clients { clients_of self.new ≡ clients_of self.old }
+        ensures facility { self.new.facility ≡ self.old.facility }
+        ensures backlogs { self.new.backlogs ≡ self.old.backlogs }
+        ensures settled { (i : RingInlet) → HasSettled (get_or self.old.inlets c i) (get_or self.new.inlets c i) (all_submitted ended.old) result }
+        ensures ended { (requests_ring_of ended.new ≡ requests_ring_of ended.old) × (all_submitted ended.new ≡ all_submitted ended.old) }
+    {
+        self.inlets[c].settle(ended)
+    }
+}

@@ -1,0 +1,20 @@
+//! What goes over a line.
+use timer_facility::{Answer, NotTaken, Notice, Request};
+
+/// A request with its number.
+#[derive(Clone, Copy, Debug, PartialEq, Eq)]
+pub struct Numbered {
+    pub number: u64,
+    pub request: Request,
+}
+
+/// A word to a client.
+#[derive(Clone, Copy, Debug, PartialEq, Eq)]
+pub enum Word {
+    /// The request with this number was taken.
+    Answered { number: u64, answer: Answer },
+    /// The request with this number was not taken. The reason is never `OutOfMemory`.
+    NotTaken { number: u64, reason: NotTaken },
+    /// A timer of the client is handed out.
+    Notice(Notice),
+}
