@@ -51,6 +51,10 @@ impl<W: Wheel> Wheel for Refusing<W> {
         self.wheel.restart(handle, timer)
     }
 
+    fn quiet_until(&self) -> Option<u64> {
+        self.wheel.quiet_until()
+    }
+
     fn per_tick(&mut self) {
         self.wheel.per_tick();
     }

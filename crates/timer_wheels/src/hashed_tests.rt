@@ -83,6 +83,9 @@ fn the_number_of_slots_is_refused_before_the_first_tick(rt: HostRuntime) -> Resu
         );
     }
     let wheel = HashedWheel::new(rt.alloc(), 65536, LAST)?;
-    assert_eq!(rt; (wheel.slots(), wheel.now(), wheel.last_tick()), (65536, LAST, LAST));
+    assert_eq!(rt;
+        (wheel.slots(), wheel.now(), wheel.last_tick()),
+        (65536, LAST, LAST)
+    );
     Ok(())
 }

@@ -19,13 +19,7 @@ enum Step {
 }
 
 /// A name, the table, the first tick, the steps, and then starts, moves and visits.
-type Picture = (
-    &'static str,
-    Table,
-    u64,
-    &'static [Step],
-    (u64, u64, u64),
-);
+type Picture = (&'static str, Table, u64, &'static [Step], (u64, u64, u64));
 
 const PICTURES: [Picture; 11] = [
     (
@@ -236,7 +230,11 @@ fn see(rt: &impl Abort, picture: Picture, wheel: &mut HierWheel) -> Result<(), O
             Step::Due(serials) => expire(rt, wheel, serials),
         }
     }
-    assert_eq!(rt; (wheel.starts(), wheel.moves(), wheel.visits()), counts, "{name}");
+    assert_eq!(rt;
+        (wheel.starts(), wheel.moves(), wheel.visits()),
+        counts,
+        "{name}"
+    );
     Ok(())
 }
 
@@ -256,8 +254,12 @@ fn many_ticks_stop_at_the_first_due_timer(rt: HostRuntime) -> Result<(), Fail> {
     for deadline in [5, 64, 64, 4161] {
         start(&rt, &mut wheel, deadline)?;
     }
-    let calls: [(u64, u64, &[u64]); 4] =
-        [(10, 5, &[1]), (100, 59, &[2, 3]), (4096, 4096, &[]), (1, 1, &[4])];
+    let calls: [(u64, u64, &[u64]); 4] = [
+        (10, 5, &[1]),
+        (100, 59, &[2, 3]),
+        (4096, 4096, &[]),
+        (1, 1, &[4]),
+    ];
     for (most, passed, due) in calls {
         assert_eq!(rt; advance(&rt, &mut wheel, most), passed);
         expire(&rt, &mut wheel, due);
@@ -275,7 +277,13 @@ fn the_clock_face_needs_few_visits(rt: HostRuntime) -> Result<(), Fail> {
 
     let mut wheel = HierWheel::with_table(rt.alloc(), Table::Clock, 987870)?;
     start(&rt, &mut wheel, 990915)?;
-    for (tick, moves) in [(989999, 0), (990000, 1), (990899, 1), (990900, 2), (990915, 2)] {
+    for (tick, moves) in [
+        (989999, 0),
+        (990000, 1),
+        (990899, 1),
+        (990900, 2),
+        (990915, 2),
+    ] {
         assert!(rt; wheel.now() < tick);
         let ticks = tick - wheel.now();
         assert_eq!(rt; advance(&rt, &mut wheel, ticks), ticks);
@@ -295,6 +303,9 @@ fn a_first_tick_past_the_last_one_is_refused(rt: HostRuntime) -> Result<(), Fail
         let wheel = HierWheel::with_table(rt.alloc(), table, last)?;
         assert_eq!(rt; (wheel.now(), wheel.last_tick()), (last, last));
     }
-    assert_eq!(rt; HierWheel::new(rt.alloc(), LAST + 1).err(), Some(MakeFault::FirstTick));
+    assert_eq!(rt;
+        HierWheel::new(rt.alloc(), LAST + 1).err(),
+        Some(MakeFault::FirstTick)
+    );
     Ok(())
 }

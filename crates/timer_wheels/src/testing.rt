@@ -203,7 +203,11 @@ pub fn play<W: Wheel>(
 
 /// The handle of a timer that was started.
 fn handle_of(rt: &impl Abort, handles: &[Handle], serial: u64) -> Handle {
-    let Some(handle) = handles.iter().copied().find(|handle| handle.serial == serial) else {
+    let Some(handle) = handles
+        .iter()
+        .copied()
+        .find(|handle| handle.serial == serial)
+    else {
         panic!(rt; "serial {serial} was not started");
     };
     handle
@@ -216,7 +220,11 @@ fn finds_nothing<W: Wheel>(rt: &impl Abort, wheel: &mut W, handle: Handle) {
     assert_eq!(rt; stop(rt, wheel, handle), None, "stopped {handle:?}");
     assert!(rt; wheel.now() < LAST);
     let deadline = wheel.now() + 1;
-    assert_eq!(rt; restart(rt, wheel, handle, deadline), None, "restarted {handle:?}");
+    assert_eq!(rt;
+        restart(rt, wheel, handle, deadline),
+        None,
+        "restarted {handle:?}"
+    );
     assert_eq!(rt; (wheel.len(), wheel.last_serial()), before);
 }
 

@@ -104,26 +104,17 @@ const ROWS: [Row; 16] = [
     (
         "clock_too_late",
         8639990,
-        &[
-            Call::Start(8639999),
-            Call::Until(8639999, &[(8639999, 1)]),
-        ],
+        &[Call::Start(8639999), Call::Until(8639999, &[(8639999, 1)])],
     ),
     (
         "clock_day",
         86399,
-        &[
-            Call::Start(86400),
-            Call::Until(86400, &[(86400, 1)]),
-        ],
+        &[Call::Start(86400), Call::Until(86400, &[(86400, 1)])],
     ),
     (
         "clock_face",
         987870,
-        &[
-            Call::Start(990915),
-            Call::Until(990915, &[(990915, 1)]),
-        ],
+        &[Call::Start(990915), Call::Until(990915, &[(990915, 1)])],
     ),
     (
         "spread",
@@ -178,18 +169,31 @@ const ROWS: [Row; 16] = [
 ];
 
 /// Makes a row's calls on each wheel whose clock goes so far.
-fn play_on_every_wheel(
-    rt: &impl Abort,
-    alloc: Global,
-    row: Row,
-    pace: Pace,
-) -> Result<(), Fail> {
+fn play_on_every_wheel(rt: &impl Abort, alloc: Global, row: Row, pace: Pace) -> Result<(), Fail> {
     let (name, first_tick, calls) = row;
-    play(rt, alloc, &mut PlainWheel::new(alloc, first_tick)?, calls, pace)?;
+    play(
+        rt,
+        alloc,
+        &mut PlainWheel::new(alloc, first_tick)?,
+        calls,
+        pace,
+    )?;
     for slots in SIZES {
-        play(rt, alloc, &mut HashedWheel::new(alloc, slots, first_tick)?, calls, pace)?;
+        play(
+            rt,
+            alloc,
+            &mut HashedWheel::new(alloc, slots, first_tick)?,
+            calls,
+            pace,
+        )?;
     }
-    play(rt, alloc, &mut HierWheel::new(alloc, first_tick)?, calls, pace)?;
+    play(
+        rt,
+        alloc,
+        &mut HierWheel::new(alloc, first_tick)?,
+        calls,
+        pace,
+    )?;
     if first_tick <= 8639999 {
         let mut wheel = HierWheel::with_table(alloc, Table::Clock, first_tick)?;
         play(rt, alloc, &mut wheel, calls, pace)?;
@@ -213,7 +217,10 @@ fn a_restarted_timer_stands_behind_the_others(rt: HostRuntime) -> Result<(), Fai
         let mut wheel = HashedWheel::new(rt.alloc(), slots, 0)?;
         play(&rt, rt.alloc(), &mut wheel, &calls, Pace::SingleTicks)?;
         assert!(rt; slots > 0);
-        assert!(rt; has_serials(&rt, wheel.links(), 5 % slots, &[2, 3]), "{slots} slots");
+        assert!(rt;
+            has_serials(&rt, wheel.links(), 5 % slots, &[2, 3]),
+            "{slots} slots"
+        );
     }
     for table in [Table::Wide, Table::Clock] {
         let mut wheel = HierWheel::with_table(rt.alloc(), table, 0)?;
