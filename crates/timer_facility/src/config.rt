@@ -57,7 +57,7 @@ impl Model for Checked {
 }
 
 impl Config {
-    /// The configuration, where each number is in its range. It takes no memory.
+    /// The configuration, where each number is in its range. Does not allocate.
     pub fn check(self) -> Result<Checked, ConfigFault>
         ensures { MatchResult result (λ checked. (checked ≡ self) × (config_fault self ≡ None)) (λ fault. config_fault self ≡ Some fault) }
     {

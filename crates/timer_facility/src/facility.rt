@@ -71,7 +71,7 @@ impl<W: Wheel + Drop> Model for Facility<W> {
 impl<W: Wheel + Drop> Facility<W> {
     /// A facility with these numbers, over a wheel that is empty and stands at the first tick.
     ///
-    /// It takes no memory; what a close hands back will come from `alloc`.
+    /// Does not allocate; what a close hands back will come from `alloc`.
     pub fn open(alloc: Global, checked: Checked, wheel: W) -> Facility<W>
         requires pending { (W.state wheel).pending ≡ [] }
         requires due { (W.state wheel).due ≡ [] }
@@ -111,7 +111,7 @@ impl<W: Wheel + Drop> Facility<W> {
 
     /// How many timers of this client are pending. It is 0 where there is no such client.
     ///
-    /// No timer may wait to be handed out. It takes no memory.
+    /// No timer may wait to be handed out. Does not allocate.
     pub fn pending_of(&self, client: u64) -> usize
         requires { self.now.waiting ≡ [] }
         ensures { result ≡ pending_of self.now.state client }
@@ -187,7 +187,7 @@ impl<W: Wheel + Drop> Facility<W> {
 
     /// Goes to the next tick. What expires waits to be handed out.
     ///
-    /// A refusal changes nothing. It takes no memory. No timer may wait to be handed out.
+    /// A refusal changes nothing. Does not allocate. No timer may wait to be handed out.
     pub fn tick(&mut self) -> Result<(), TickFault>
         requires { self.old.waiting ≡ [] }
         ensures ticked { self.new ≡ standing_after (step self.old.state Tick 0) }
@@ -205,11 +205,11 @@ impl<W: Wheel + Drop> Facility<W> {
         Ok(())
     }
 
-    /// Passes ticks, at least one and at most so many, and answers how many. What expires at the last
+    /// Passes ticks, at least one and at most so many, and returns how many. What expires at the last
     /// of them waits to be handed out.
     ///
     /// Nothing expires before the last of them, and fewer are passed only where something waits then or
-    /// the clock is at its end. A refusal changes nothing. It takes no memory. No timer may wait to be
+    /// the clock is at its end. A refusal changes nothing. Does not allocate. No timer may wait to be
     /// handed out.
     pub fn ticks(&mut self, limit: u64) -> Result<u64, TickFault>
         requires waiting { self.old.waiting ≡ [] }
@@ -239,7 +239,7 @@ impl<W: Wheel + Drop> Facility<W> {
         self.wheel.quiet_until()
     }
 
-    /// Closes it, and answers how many timers are handed back. They wait to be handed out.
+    /// Closes it, and returns how many timers are handed back. They wait to be handed out.
     ///
     /// A refusal changes nothing: after `OutOfMemory` it is still open. No timer may wait to be
     /// handed out.
@@ -265,7 +265,7 @@ impl<W: Wheel + Drop> Facility<W> {
         Ok(count)
     }
 
-    /// The next timer that waits to be handed out, or None where none waits. It takes no memory.
+    /// The next timer that waits to be handed out, or None where none waits. Does not allocate.
     pub fn next_out(&mut self) -> Option<Notice>
         ensures first { result ≡ slice_get self.old.waiting 0 }
         ensures rest { self.new ≡ record self.old { waiting = drop 1 self.old.waiting } }
@@ -397,7 +397,7 @@ impl<W: Wheel + Drop> Facility<W> {
         }
     }
 
-    /// A restart that is taken. It takes no memory.
+    /// A restart that is taken. Does not allocate.
     fn take_restart(
         &mut self,
         client: u64,

@@ -16,7 +16,7 @@ pub struct Handles {
 }
 
 impl Handles {
-    /// No timer was started yet. The first one has this serial. It takes no memory.
+    /// No timer was started yet. The first one has this serial. Does not allocate.
     pub fn new(alloc: Global, first: u64) -> Handles
         ensures first { result.first ≡ first }
         ensures places { result.places.items ≡ [] }
@@ -27,7 +27,7 @@ impl Handles {
         }
     }
 
-    /// Makes room for one more. Only a refused growth is an error, and then nothing changes.
+    /// Makes room for one more. The only error is out of memory, and then nothing changes.
     pub fn make_room(&mut self) -> Result<(), OutOfMemory>
         ensures first { self.new.first ≡ self.old.first }
         ensures places { self.new.places.items ≡ self.old.places.items }

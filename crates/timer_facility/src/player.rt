@@ -19,7 +19,7 @@ use std::alloc::Global;
 use std::marker::Model;
 use timer_base::{OutOfMemory, Wheel};
 
-/// What was played before a growth was refused. The next event changed nothing.
+/// What was played before memory ran out. The next event changed nothing.
 #[derive(Debug, Drop)]
 pub struct PlayStop {
     /// How many events were played.
@@ -51,7 +51,7 @@ impl<W: Wheel + Drop> Model for Player<W> {
 }
 
 impl<W: Wheel + Drop> Player<W> {
-    /// A player of this facility, in which no timer is pending and nothing waits. It takes no memory.
+    /// A player of this facility, in which no timer is pending and nothing waits. Does not allocate.
     pub fn open(alloc: Global, facility: Facility<W>) -> Player<W>
         requires pending { facility.state.pending ≡ [] }
         requires waiting { facility.waiting ≡ [] }
@@ -65,7 +65,7 @@ impl<W: Wheel + Drop> Player<W> {
         }
     }
 
-    /// The facility. Nothing waits in it. It takes no memory.
+    /// The facility. Nothing waits in it. Does not allocate.
     pub fn facility(&self) -> &Facility<W>
         ensures state { result.now.state ≡ self.now }
         ensures waiting { result.now.waiting ≡ [] }
@@ -75,7 +75,7 @@ impl<W: Wheel + Drop> Player<W> {
 
     /// Plays the events one after another, and gives what comes of them in order.
     ///
-    /// Only want of memory stops it, before an event that then changed nothing: `play` may be called
+    /// Only running out of memory stops it, before an event that then changed nothing: `play` may be called
     /// again with that event and the rest.
     pub fn play(&mut self, events: &[Event]) -> Result<Vec<Out>, PlayStop>
         ensures played { IfOk result (λ outs. IsPlayed self.old events.now outs.items self.new) }

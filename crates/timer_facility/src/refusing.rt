@@ -1,4 +1,4 @@
-//! A wheel for tests, whose first start meets a refused growth.
+//! A wheel for tests, whose first start runs out of memory.
 use timer_base::{Handle, OutOfMemory, Timer, Wheel};
 
 /// A wheel that refuses its next start, where it says so, and only that one.

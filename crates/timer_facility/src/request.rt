@@ -71,7 +71,7 @@ pub enum NotTaken {
     NumbersSpent,
     /// An earlier number is missing; `next` is the client's next one.
     Ahead { next: u64 },
-    /// A growth was refused. The same request may be tried again.
+    /// Memory ran out. The same request may be tried again.
     OutOfMemory,
 }
 
@@ -98,6 +98,6 @@ pub enum TickFault {
 pub enum CloseFault {
     /// The facility was closed.
     Closed,
-    /// A growth was refused. The close may be tried again.
+    /// Memory ran out. The close may be tried again.
     OutOfMemory,
 }

@@ -56,7 +56,7 @@ fn pending_of<W: Wheel + Drop>(rt: &impl Abort, facility: &Facility<W>, client: 
     facility.pending_of(client)
 }
 
-/// Starts a timer that has to be accepted, and answers its handle.
+/// Starts a timer that has to be accepted, and returns its handle.
 fn started<W: Wheel + Drop>(
     rt: &impl Abort,
     facility: &mut Facility<W>,
