@@ -2,6 +2,7 @@
 //! Each of these functions does nothing, and its contract is the law.
 ghost use Rattle.std.specs.Prelude.{◌≡◌, List, [], ℕ, ◌+◌, take, map, true, Some};
 ghost use Rattle.std.specs.List.{AllByRecursion};
+ghost use Rattle.timer_facility.specs.declared.limits.TheConstants.{MOST_CLIENTS, MOST_PENDING};
 ghost use Rattle.timer_facility.specs.State.{FacilityState, IsSound, SingleEvent, Asked, Tick, Close, Wanted};
 ghost use Rattle.timer_facility.specs.Verdict.{Refusal, verdict, closed_refusal};
 ghost use Rattle.timer_facility.specs.Refused.{refusals_in, refusals_of};
@@ -83,4 +84,10 @@ pub fn a_request_adds_at_most_one()
 pub fn what_is_handed_out_was_pending()
     ensures tick { (s : FacilityState) → HandsOver s (step s Tick 0) }
     ensures close { (s : FacilityState) → HandsOver s (step s Close 0) }
+{}
+
+/// The limits in numbers: at most 64 clients, and at most 1,048,576 timers pending.
+pub fn the_limits_of_a_facility()
+    ensures clients { MOST_CLIENTS ≡ 64 }
+    ensures pending { MOST_PENDING ≡ 1048576 }
 {}

@@ -25,7 +25,7 @@ pub use laws::{
     a_refusal_changes_at_most_the_number, a_request_adds_at_most_one,
     bare_outs_do_not_depend_on_places, each_timer_is_handed_out, each_timer_is_handed_out_once,
     nothing_comes_after_the_close, notices_are_owed, players_give_the_same,
-    the_outs_tell_the_verdict, what_is_handed_out_was_pending,
+    the_limits_of_a_facility, the_outs_tell_the_verdict, what_is_handed_out_was_pending,
 };
 pub use limits::{MOST_CLIENTS, MOST_PENDING};
 pub use player::{PlayStop, Player};

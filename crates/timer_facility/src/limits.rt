@@ -3,9 +3,5 @@
 /// The most clients that a facility may have.
 pub const MOST_CLIENTS: u64 = 64;
 
-const _: () = prove!(MOST_CLIENTS == 64);
-
 /// The most timers that a facility may be asked to hold pending.
 pub const MOST_PENDING: u64 = 1048576;
-
-const _: () = prove!(MOST_PENDING == 1048576);
