@@ -1,11 +1,17 @@
-# make          builds the program and leaves it as ./timers
-# make run      builds it and plays a script of examples/
-# make test     the whole gate; its last line is 'N passed, 0 failed'
-# make bench    measures the wheels against others (bench/README.md)
-# make clean    removes what was built
+# make             builds the program and leaves it as ./timers
+# make run         builds it and plays a script of examples/
+# make test        the whole gate; its last line is 'N passed, 0 failed'
+# make lib         builds libtimers.a and libtimers.so into build/lib
+# make install     installs program, libraries, header, pkg-config file and man pages under PREFIX
+# make uninstall   removes what it installed
+# make bench       measures the wheels against others (bench/README.md)
+# make soak        64 clients of 10,000 timers each in threads, 100 times; prints how far it is
+# make clean       removes what was built
 
 KIT = $(dir $(shell rt doc))
 PROGRAM = crates/timer_program/out/timer_program
+SOAK = crates/timer_soak/out/timer_soak
+PREFIX = /usr/local
 
 # rt proves what changed, builds the program, and runs it: on the empty script it prints one line.
 all:
@@ -18,12 +24,25 @@ run: all
 test:
 	tools/gate
 
+lib:
+	tools/lib build/lib
+
+install: all lib
+	tools/install/install $(PREFIX) build/lib
+
+uninstall:
+	tools/install/uninstall $(PREFIX)
+
 bench:
 	cd crates/timer_bench && rt lib
 	$(MAKE) -C bench run PRODUCT=$(CURDIR)/crates/timer_bench/out/libtimer_bench.a PRODUCT_HEAP=$(KIT)c/liblibc_c.a OPTIONS="$(OPTIONS)"
 
+soak:
+	cd crates/timer_soak && rt run
+	$(SOAK) long
+
 clean:
-	rm -rf crates/*/out timers
+	rm -rf crates/*/out build timers
 	$(MAKE) -C bench clean
 
-.PHONY: all run test bench clean
+.PHONY: all run test lib install uninstall bench soak clean
