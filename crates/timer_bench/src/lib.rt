@@ -49,7 +49,10 @@ pub extern "C" fn timers_bench_hashed(
     let Ok(wheel) = HashedWheel::new(alloc, SLOTS, 0) else {
         return report(sums, None);
     };
-    report(sums, replay(alloc, wheel, Pushing::Restart, operations, owners).ok());
+    report(
+        sums,
+        replay(alloc, wheel, Pushing::Restart, operations, owners).ok(),
+    );
 }
 
 fn replay_hier(

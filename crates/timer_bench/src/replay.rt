@@ -65,6 +65,8 @@ pub fn replay<W: Wheel + Drop>(
 }
 
 /// Replays one operation: a start, a stop, a timer pushed back, so many ticks, or a way of so many ticks.
+///
+/// Each call of the wheel stands here once, so that all of them can be inlined.
 #[inline]
 fn replay_one<W: Wheel>(
     wheel: &mut W,
@@ -83,24 +85,29 @@ fn replay_one<W: Wheel>(
     if kind == 3 {
         return go_on(wheel, sums, operation >> 2);
     }
+    let owner = operation >> 2 & OWNERS;
     let interval = operation >> 24;
-    let Some(handle) = handles.get_mut((operation >> 2 & OWNERS) as usize) else {
+    let Some(handle) = handles.get_mut(owner as usize) else {
         return Err(Fault::Trace);
     };
-    let owner = operation >> 2 & OWNERS;
-    if kind == 0 {
-        *handle = start_one(wheel, owner, interval)?;
-    } else if interval == 0 {
-        stop_one(wheel, sums, *handle);
-    } else {
-        *handle = match pushing {
-            Pushing::Restart => restart_one(wheel, sums, *handle, owner, interval)?,
-            Pushing::StopAndStart => {
-                stop_one(wheel, sums, *handle);
-                start_one(wheel, owner, interval)?
-            }
-        };
+    let restarts = kind == 1 && interval != 0 && pushing == Pushing::Restart;
+    if kind == 1 && !restarts {
+        if let Some(timer) = wheel.stop(*handle) {
+            sums.add_stopped(timer);
+        }
+        if interval == 0 {
+            return Ok(());
+        }
     }
+    let timer = next_timer(wheel, owner, interval)?;
+    if restarts {
+        if let Some((new, old)) = wheel.restart(*handle, timer) {
+            sums.add_stopped(old);
+            *handle = new;
+            return Ok(());
+        }
+    }
+    *handle = wheel.start(timer)?;
     Ok(())
 }
 
@@ -126,49 +133,6 @@ fn next_timer<W: Wheel>(wheel: &W, owner: u64, interval: u64) -> Result<Timer, F
         deadline,
         action: owner,
     })
-}
-
-/// Starts a timer for an owner.
-#[inline(always)]
-fn start_one<W: Wheel>(wheel: &mut W, owner: u64, interval: u64) -> Result<Handle, Fault>
-    requires { (W.state wheel.old).due ≡ [] }
-    ensures { (W.state wheel.new).due ≡ [] }
-{
-    let timer = next_timer(wheel, owner, interval)?;
-    Ok(wheel.start(timer)?)
-}
-
-/// Stops a timer, if there is one with this handle.
-#[inline(always)]
-fn stop_one<W: Wheel>(wheel: &mut W, sums: &mut Sums, handle: Handle)
-    requires { (W.state wheel.old).due ≡ [] }
-    ensures { (W.state wheel.new).due ≡ [] }
-{
-    if let Some(timer) = wheel.stop(handle) {
-        sums.add_stopped(timer);
-    }
-}
-
-/// Restarts an owner's timer, or starts it where there is none with this handle.
-#[inline(always)]
-fn restart_one<W: Wheel>(
-    wheel: &mut W,
-    sums: &mut Sums,
-    handle: Handle,
-    owner: u64,
-    interval: u64,
-) -> Result<Handle, Fault>
-    requires { (W.state wheel.old).due ≡ [] }
-    ensures { (W.state wheel.new).due ≡ [] }
-{
-    let timer = next_timer(wheel, owner, interval)?;
-    match wheel.restart(handle, timer) {
-        Some((handle, old)) => {
-            sums.add_stopped(old);
-            Ok(handle)
-        }
-        None => Ok(wheel.start(timer)?),
-    }
 }
 
 /// Passes so many ticks one by one, and hands out what is due at each.
