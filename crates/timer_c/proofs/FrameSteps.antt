@@ -1,0 +1,31 @@
+-- What C holds is the same but for what its timers mean.
+use Rattle.std.proofs.Common.{◌≡◌, List, [], ◌∷◌, refl, ap, ◌∙◌}
+use Rattle.std.specs.Prelude.{Option, Some, None}
+use Rattle.timer_base.specs.declared.timer.Timer.{Timer}
+use Rattle.timer_base.specs.WheelState.{WheelState, first_due, after_expiry}
+use Rattle.timer_c.specs.declared.held.Held.{Held}
+use Rattle.timer_c.specs.declared.slot.Slot.{Slot}
+use Rattle.timer_c.specs.Lent.{with_state}
+use Rattle.timer_c.specs.Frames.{with_timers}
+
+abbrev pub holding : Held → Slot → Held
+holding t slot = record t { slot = slot }
+
+-- where the slot was only looked at
+pub looked : (t : Held) (slot : Slot) → slot ≡ t.slot → holding t slot ≡ with_timers t slot.state
+looked t slot e = ap (λ (s : Slot). holding t (with_state s slot.state)) e
+
+-- where the timers are what they were
+pub kept : (t : Held) (slot : Slot) (state : WheelState) → slot ≡ t.slot → state ≡ slot.state → holding t (with_state slot state) ≡ t
+kept t slot state e f = ap (λ (w : WheelState). holding t (with_state slot w)) f ∙ ap (holding t) e
+
+none_of : (t : Timer) (due : List Timer) → (Some t ≡ None) → ⊥
+none_of t due e = cc
+
+nothing_left : (w : WheelState) (due : List Timer) → first_due (record w { due = due }) ≡ None → (let a : WheelState = after_expiry (record w { due = due }) in let b : WheelState = record w { due = due } in a ≡ b)
+nothing_left w [] e = refl
+nothing_left w (t ∷ due) e = absurd (none_of t due e)
+
+-- where there is none to be taken, nothing changes
+pub none_taken : (w : WheelState) → first_due w ≡ None → after_expiry w ≡ w
+none_taken w e = nothing_left w w.due e

@@ -1,0 +1,4 @@
+pub mod ParkedParts
+pub mod SlotParts
+pub mod Batches
+pub mod FrameSteps

@@ -1,0 +1,12 @@
+-- What a slot is once its timers were lent.
+use denote.RattleType.{RattleType}
+use Rattle.timer_base.specs.WheelState.{WheelState}
+use Rattle.timer_c.specs.declared.slot.Slot.{Slot}
+use Rattle.timer_c.specs.contracts.slot.Slot.{the_row}
+pub use Rattle.timer_c.specs.Slots.{the_timers}
+
+abbrev pub the_slot : RattleType
+the_slot = the_row
+
+abbrev pub with_state : Slot → WheelState → Slot
+with_state slot state = record slot { state = state }

@@ -1,0 +1,4 @@
+pub mod Slots
+pub mod Lent
+pub mod Outcomes
+pub mod Frames

@@ -1,0 +1,106 @@
+-- What each call returns, and what the wheel means after it. A status is the first reason that holds.
+use Rattle.std.specs.Prelude.{ℕ, ◌≡◌, ◌+◌, ◌<◌, ◌≤◌, ◌⊎◌, [], length, drop, Option, Some, None}
+use Rattle.timer_base.specs.declared.limits.TheConstants.{LAST}
+use Rattle.timer_base.specs.declared.timer.Timer.{Timer}
+use Rattle.timer_base.specs.declared.timer.Handle as base
+use Rattle.timer_base.specs.WakeUps.{IsWakeUp}
+use Rattle.timer_base.specs.WheelState.{WheelState, empty_wheel, timer_at, after_start, after_stop, after_tick}
+use Rattle.timer_wheels.specs.declared.table.TheConstants.{LAST_OF_CLOCK}
+use Rattle.timer_total.specs.Refusals.{next_timer, IsStartable, IsAt}
+use Rattle.timer_total.specs.Ticks.{Passes, numbered}
+use Rattle.timer_c.specs.declared.shapes.Handle.{Handle}
+use Rattle.timer_c.specs.declared.shapes.Expired.{Expired}
+use Rattle.timer_c.specs.declared.status.TheConstants.{NO_TABLE, NO_MEMORY, DUE, NOT_PENDING, ZERO_INTERVAL, TOO_LATE, SERIALS_SPENT, CLOCK_END, WIDE, CLOCK, NEVER}
+
+-- an empty wheel with this table, at its first tick, after so many serials
+abbrev pub IsEmptyAt : ℕ → ℕ → ℕ → WheelState → Type 0
+IsEmptyAt table first_tick serial new =
+    ((table ≡ WIDE) × (first_tick ≤ LAST) × (new ≡ numbered serial (empty_wheel LAST first_tick)))
+    ⊎ ((table ≡ CLOCK) × (first_tick ≤ LAST_OF_CLOCK) × (new ≡ numbered serial (empty_wheel LAST_OF_CLOCK first_tick)))
+
+-- the table and the first tick can be had
+abbrev pub IsOpenable : ℕ → ℕ → Type 0
+IsOpenable table first_tick = ((table ≡ WIDE) × (first_tick ≤ LAST)) ⊎ ((table ≡ CLOCK) × (first_tick ≤ LAST_OF_CLOCK))
+
+-- why there is no wheel
+abbrev pub WhyNoWheel : ℕ → ℕ → ℕ → Type 0
+WhyNoWheel table first_tick status =
+    ((status ≡ NO_TABLE) × (CLOCK < table))
+    ⊎ ((status ≡ TOO_LATE) × (((table ≡ WIDE) × (LAST < first_tick)) ⊎ ((table ≡ CLOCK) × (LAST_OF_CLOCK < first_tick))))
+    ⊎ ((status ≡ NO_MEMORY) × IsOpenable table first_tick)
+
+-- a start was done: the wheel goes on by its one equation, at a place that is a free choice
+abbrev pub IsStarted : ℕ → ℕ → WheelState → WheelState → Handle → Type 0
+IsStarted interval action old new handle =
+    IsStartable interval old × (handle.serial ≡ old.last_serial + 1) × (new ≡ after_start handle.place (next_timer interval action old) old)
+
+abbrev pub WhyNotStarted : ℕ → WheelState → ℕ → Type 0
+WhyNotStarted interval old status =
+    ((status ≡ ZERO_INTERVAL) × (interval ≡ 0))
+    ⊎ ((status ≡ TOO_LATE) × (0 < interval) × (old.last_tick < old.now + interval))
+    ⊎ ((status ≡ SERIALS_SPENT) × (0 < interval) × (old.now + interval ≤ old.last_tick) × (LAST ≤ old.last_serial))
+    ⊎ ((status ≡ NO_MEMORY) × IsStartable interval old)
+
+-- the handle, as the wheel has it
+abbrev pub named : Handle → base.Handle
+named handle = record { place = handle.place; serial = handle.serial }
+
+-- a restart was done: the old timer leaves, and the new one is started by the next serial
+abbrev pub IsRestarted : Handle → ℕ → ℕ → WheelState → WheelState → Handle → Type 0
+IsRestarted handle interval action old new restarted =
+    IsAt (named handle) old × IsStartable interval old × (restarted.serial ≡ old.last_serial + 1)
+    × (new ≡ after_start restarted.place (next_timer interval action old) (after_stop (named handle) old))
+
+abbrev pub WhyNotRestarted : Handle → ℕ → WheelState → ℕ → Type 0
+WhyNotRestarted handle interval old status =
+    ((status ≡ NOT_PENDING) × (timer_at (named handle) old ≡ None))
+    ⊎ ((status ≡ ZERO_INTERVAL) × IsAt (named handle) old × (interval ≡ 0))
+    ⊎ ((status ≡ TOO_LATE) × IsAt (named handle) old × (0 < interval) × (old.last_tick < old.now + interval))
+    ⊎ ((status ≡ SERIALS_SPENT) × IsAt (named handle) old × (0 < interval) × (old.now + interval ≤ old.last_tick) × (LAST ≤ old.last_serial))
+
+-- the word that a start handed over
+abbrev pub action_of : Option Timer → Option ℕ
+action_of None = None
+action_of (Some t) = Some t.action
+
+-- a stop was done
+abbrev pub IsStopped : Handle → WheelState → WheelState → ℕ → Type 0
+IsStopped handle old new action =
+    (new ≡ after_stop (named handle) old) × (action_of (timer_at (named handle) old) ≡ Some action)
+
+abbrev pub WhyNotStopped : Handle → WheelState → ℕ → Type 0
+WhyNotStopped handle old status =
+    (status ≡ NOT_PENDING) × (timer_at (named handle) old ≡ None)
+
+-- a tick was done
+abbrev pub IsTicked : WheelState → WheelState → Type 0
+IsTicked old new = (old.due ≡ []) × (new ≡ after_tick old)
+
+-- so many ticks were done
+abbrev pub IsAdvanced : ℕ → ℕ → WheelState → WheelState → Type 0
+IsAdvanced most passed old new = (old.due ≡ []) × Passes most passed old new
+
+-- why the clock does not go on
+abbrev pub WhyNotTicked : WheelState → ℕ → Type 0
+WhyNotTicked old status =
+    ((status ≡ DUE) × (0 < length old.due))
+    ⊎ ((status ≡ CLOCK_END) × (old.due ≡ []) × (old.now ≡ old.last_tick))
+
+-- what C is told of a timer
+abbrev pub tell : Timer → Expired
+tell t = record { deadline = t.deadline; serial = t.serial; action = t.action }
+
+abbrev pub told : Option Timer → Option Expired
+told None = None
+told (Some t) = Some (tell t)
+
+-- so many of the due timers were taken
+abbrev pub after_expiries : ℕ → WheelState → WheelState
+after_expiries count w = record w { due = drop count w.due }
+
+-- the tick at which to call again: now where an expired timer waits, else one before which nothing expires
+abbrev pub IsNextCall : ℕ → WheelState → Type 0
+IsNextCall tick w =
+    ((tick ≡ w.now) × (0 < length w.due))
+    ⊎ ((tick ≡ NEVER) × (w.due ≡ []) × (w.pending ≡ []))
+    ⊎ ((w.due ≡ []) × IsWakeUp tick w)

@@ -1,0 +1,172 @@
+//! The calls on timers that are there, over any wheel, with C's statuses and structs.
+ghost use Rattle.std.specs.Prelude.{◌≡◌, ◌<◌, ◌++◌, ◌↔◌, true, false, Some, None, [], map, take, drop, length, min};
+ghost use Rattle.timer_base.specs.WheelState.{first_due, after_tick, after_expiry};
+ghost use Rattle.timer_c.specs.Outcomes.{IsStarted, WhyNotStarted, IsRestarted, WhyNotRestarted, IsStopped, WhyNotStopped, IsTicked, IsAdvanced, WhyNotTicked, IsNextCall, told, tell, after_expiries};
+ghost use Rattle.timer_c.specs.declared.status.TheConstants.{OK};
+
+use crate::shapes::{Expired, Handle};
+use crate::status::{
+    CLOCK_END, DUE, NEVER, NO_MEMORY, NOT_PENDING, OK, SERIALS_SPENT, TOO_LATE, ZERO_INTERVAL,
+};
+use timer_base::{Timer, Wheel};
+use timer_total::{RestartFault, StartFault, TickFault, Timers};
+
+pub(crate) fn start<W: Wheel + Drop>(
+    timers: &mut Timers<W>,
+    interval: u64,
+    action: u64,
+    handle: &mut Handle,
+) -> u32
+    ensures started { result ≡ OK → IsStarted interval action timers.old timers.new handle.new }
+    ensures refused { 0 < result → WhyNotStarted interval timers.old result }
+    ensures kept { 0 < result → (timers.new ≡ timers.old) × (handle.new ≡ handle.old) }
+{
+    match timers.start(interval, action) {
+        Ok(made) => {
+            *handle = given(made);
+            OK
+        }
+        Err(StartFault::ZeroInterval) => ZERO_INTERVAL,
+        Err(StartFault::TooLate) => TOO_LATE,
+        Err(StartFault::SerialsSpent) => SERIALS_SPENT,
+        Err(StartFault::OutOfMemory) => NO_MEMORY,
+    }
+}
+
+pub(crate) fn restart<W: Wheel + Drop>(
+    timers: &mut Timers<W>,
+    handle: Handle,
+    interval: u64,
+    action: u64,
+    restarted: &mut Handle,
+) -> u32
+    ensures restarted { result ≡ OK → IsRestarted handle interval action timers.old timers.new restarted.new }
+    ensures refused { 0 < result → WhyNotRestarted handle interval timers.old result }
+    ensures kept { 0 < result → (timers.new ≡ timers.old) × (restarted.new ≡ restarted.old) }
+{
+    match timers.restart(named(handle), interval, action) {
+        Ok(made) => {
+            *restarted = given(made);
+            OK
+        }
+        Err(RestartFault::NotPending) => NOT_PENDING,
+        Err(RestartFault::ZeroInterval) => ZERO_INTERVAL,
+        Err(RestartFault::TooLate) => TOO_LATE,
+        Err(RestartFault::SerialsSpent) => SERIALS_SPENT,
+    }
+}
+
+pub(crate) fn stop<W: Wheel + Drop>(timers: &mut Timers<W>, handle: Handle, action: &mut u64) -> u32
+    ensures stopped { result ≡ OK → IsStopped handle timers.old timers.new action.new }
+    ensures refused { 0 < result → WhyNotStopped handle timers.old result }
+    ensures kept { 0 < result → (timers.new ≡ timers.old) × (action.new ≡ action.old) }
+{
+    match timers.stop(named(handle)) {
+        Some(timer) => {
+            *action = timer.action;
+            OK
+        }
+        None => NOT_PENDING,
+    }
+}
+
+pub(crate) fn tick<W: Wheel + Drop>(timers: &mut Timers<W>) -> u32
+    ensures ticked { result ≡ OK → IsTicked timers.old timers.new }
+    ensures refused { 0 < result → WhyNotTicked timers.old result }
+    ensures kept { 0 < result → timers.new ≡ timers.old }
+{
+    match timers.tick() {
+        Ok(()) => OK,
+        Err(TickFault::Due) => DUE,
+        Err(TickFault::ClockEnd) => CLOCK_END,
+    }
+}
+
+pub(crate) fn advance<W: Wheel + Drop>(timers: &mut Timers<W>, most: u64, passed: &mut u64) -> u32
+    ensures advanced { result ≡ OK → IsAdvanced most passed.new timers.old timers.new }
+    ensures refused { 0 < result → WhyNotTicked timers.old result }
+    ensures kept { 0 < result → (timers.new ≡ timers.old) × (passed.new ≡ passed.old) }
+{
+    match timers.advance(most) {
+        Ok(ticks) => {
+            *passed = ticks;
+            OK
+        }
+        Err(TickFault::Due) => DUE,
+        Err(TickFault::ClockEnd) => CLOCK_END,
+    }
+}
+
+pub(crate) fn expire<W: Wheel + Drop>(timers: &mut Timers<W>, out: &mut Expired) -> bool
+    ensures first { result ≡ true → told (first_due timers.old) ≡ Some out.new }
+    ensures none { result ≡ false → (first_due timers.old ≡ None) × (out.new ≡ out.old) }
+    ensures rest { timers.new ≡ after_expiry timers.old }
+{
+    match timers.expire() {
+        Some(timer) => {
+            *out = expired(timer);
+            true
+        }
+        None => false,
+    }
+}
+
+/// As many expired timers as there are, or as fit into `out`.
+pub(crate) fn expire_batch<W: Wheel + Drop>(timers: &mut Timers<W>, out: &mut [Expired]) -> usize
+    ensures count { result ≡ min (length out.old) (length timers.old.due) }
+    ensures told { out.new ≡ map tell (take result timers.old.due) ++ drop result out.old }
+    ensures rest { timers.new ≡ after_expiries result timers.old }
+{
+    let room = out.len();
+    for count in 0..room {
+        match timers.expire() {
+            Some(timer) => out[count] = expired(timer),
+            None => return count,
+        }
+    }
+    room
+}
+
+/// The tick until which its owner may sleep.
+pub(crate) fn wakeup<W: Wheel + Drop>(timers: &Timers<W>) -> u64
+    ensures { IsNextCall result timers.now }
+{
+    if timers.has_due() {
+        return timers.now();
+    }
+    match timers.quiet_until() {
+        Some(tick) => tick,
+        None => NEVER,
+    }
+}
+
+/// A handle, as C has it.
+fn given(handle: timer_base::Handle) -> Handle
+    ensures { result ≡ record { place = handle.place; serial = handle.serial } }
+{
+    Handle {
+        place: handle.place,
+        serial: handle.serial,
+    }
+}
+
+/// A handle, as the wheel has it.
+fn named(handle: Handle) -> timer_base::Handle
+    ensures { result ≡ record { place = handle.place; serial = handle.serial } }
+{
+    timer_base::Handle {
+        place: handle.place,
+        serial: handle.serial,
+    }
+}
+
+/// What C is told of a timer that expired.
+fn expired(timer: Timer) -> Expired
+    ensures { result ≡ tell timer }
+{
+    Expired {
+        deadline: timer.deadline,
+        serial: timer.serial,
+        action: timer.action,
+    }
+}

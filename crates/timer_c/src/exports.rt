@@ -1,0 +1,218 @@
+//! What C calls. Each looks whether timers are held, and passes the call on.
+//!
+//! Its contract has the same parts each time: what the call did where it returns `OK`, the first
+//! reason that holds where it returns another status, that nothing changed then, and that nothing but
+//! the timers' meaning ever changes in what C holds.
+ghost use Rattle.std.specs.Prelude.{◌≡◌, ◌<◌, ◌≤◌, ◌⊎◌, ◌↔◌, ◌++◌, true, false, Some, None, [], map, take, drop, length, min, IsTrue};
+ghost use Rattle.timer_base.specs.WheelState.{first_due, after_expiry};
+ghost use Rattle.timer_c.specs.Frames.{IsOpen, IsShut, with_timers};
+ghost use Rattle.timer_c.specs.Outcomes.{IsEmptyAt, IsOpenable, WhyNoWheel, IsStarted, WhyNotStarted, IsRestarted, WhyNotRestarted, IsStopped, WhyNotStopped, IsTicked, IsAdvanced, WhyNotTicked, IsNextCall, told, tell, after_expiries};
+ghost use Rattle.timer_c.specs.declared.status.TheConstants.{OK, NOT_OPEN, OPEN, NEVER};
+
+use crate::calls;
+use crate::held::Held;
+use crate::opening::wheel_of;
+use crate::parked::Parked;
+use crate::shapes::{Expired, Handle};
+use crate::status::{NEVER, NO_MEMORY, NOT_OPEN, OK, OPEN};
+use std::alloc::Global;
+use timer_total::Timers;
+
+/// Makes timers with this table, none of them pending, at the first tick. `t` holds them from then on,
+/// until `timers_free`. Serials go on where those of the timers before ended.
+#[unsafe(no_mangle)]
+pub extern "C" fn timers_new(alloc: Global, t: &mut Held, table: u32, first_tick: u64) -> u32
+    ensures made { result ≡ OK → IsShut t.old × IsOpen t.new × IsEmptyAt table first_tick t.old.last_serial t.new.slot.state }
+    ensures refused { 0 < result → ((result ≡ OPEN) × IsOpen t.old) ⊎ (IsShut t.old × WhyNoWheel table first_tick result) }
+    ensures kept { 0 < result → t.new ≡ t.old }
+    ensures serial { t.new.last_serial ≡ t.old.last_serial }
+{
+    if t.slot.holds() {
+        return OPEN;
+    }
+    let wheel = match wheel_of(alloc, table, first_tick) {
+        Ok(wheel) => wheel,
+        Err(status) => return status,
+    };
+    match Box::new(alloc, Timers::over(wheel, t.last_serial)) {
+        Ok(timers) => {
+            t.slot.put(Parked::park(timers));
+            OK
+        }
+        Err(_) => NO_MEMORY,
+    }
+}
+
+/// Frees the timers, where there are any, and keeps their last serial.
+#[unsafe(no_mangle)]
+pub extern "C" fn timers_free(alloc: Global, t: &mut Held)
+    ensures shut { IsShut t.new }
+    ensures serial { IsOpen t.old → t.new.last_serial ≡ t.old.slot.state.last_serial }
+    ensures kept { IsShut t.old → t.new ≡ t.old }
+{
+    if t.slot.holds() {
+        t.last_serial = t.slot.timers().last_serial();
+        drop(t.slot.take(alloc).unpark());
+    }
+}
+
+/// Starts a timer that expires after `interval` ticks, and writes its handle.
+#[unsafe(no_mangle)]
+pub extern "C" fn timers_start(t: &mut Held, interval: u64, action: u64, handle: &mut Handle) -> u32
+    ensures started { result ≡ OK → IsOpen t.old × IsStarted interval action t.old.slot.state t.new.slot.state handle.new }
+    ensures refused { 0 < result → ((result ≡ NOT_OPEN) × IsShut t.old) ⊎ (IsOpen t.old × WhyNotStarted interval t.old.slot.state result) }
+    ensures kept { 0 < result → (t.new ≡ t.old) × (handle.new ≡ handle.old) }
+    ensures only { t.new ≡ with_timers t.old t.new.slot.state }
+{
+    if !t.slot.holds() {
+        return NOT_OPEN;
+    }
+    calls::start(t.slot.timers(), interval, action, handle)
+}
+
+/// Stops the pending timer with just this handle and starts another in its stead, and writes its handle.
+#[unsafe(no_mangle)]
+pub extern "C" fn timers_restart(
+    t: &mut Held,
+    handle: Handle,
+    interval: u64,
+    action: u64,
+    restarted: &mut Handle,
+) -> u32
+    ensures restarted { result ≡ OK → IsOpen t.old × IsRestarted handle interval action t.old.slot.state t.new.slot.state restarted.new }
+    ensures refused { 0 < result → ((result ≡ NOT_OPEN) × IsShut t.old) ⊎ (IsOpen t.old × WhyNotRestarted handle interval t.old.slot.state result) }
+    ensures kept { 0 < result → (t.new ≡ t.old) × (restarted.new ≡ restarted.old) }
+    ensures only { t.new ≡ with_timers t.old t.new.slot.state }
+{
+    if !t.slot.holds() {
+        return NOT_OPEN;
+    }
+    calls::restart(t.slot.timers(), handle, interval, action, restarted)
+}
+
+/// Stops the pending timer with just this handle, and writes its action.
+#[unsafe(no_mangle)]
+pub extern "C" fn timers_stop(t: &mut Held, handle: Handle, action: &mut u64) -> u32
+    ensures stopped { result ≡ OK → IsOpen t.old × IsStopped handle t.old.slot.state t.new.slot.state action.new }
+    ensures refused { 0 < result → ((result ≡ NOT_OPEN) × IsShut t.old) ⊎ (IsOpen t.old × WhyNotStopped handle t.old.slot.state result) }
+    ensures kept { 0 < result → (t.new ≡ t.old) × (action.new ≡ action.old) }
+    ensures only { t.new ≡ with_timers t.old t.new.slot.state }
+{
+    if !t.slot.holds() {
+        return NOT_OPEN;
+    }
+    calls::stop(t.slot.timers(), handle, action)
+}
+
+/// Goes to the next tick. What expires waits for `timers_expire`.
+#[unsafe(no_mangle)]
+pub extern "C" fn timers_tick(t: &mut Held) -> u32
+    ensures ticked { result ≡ OK → IsOpen t.old × IsTicked t.old.slot.state t.new.slot.state }
+    ensures refused { 0 < result → ((result ≡ NOT_OPEN) × IsShut t.old) ⊎ (IsOpen t.old × WhyNotTicked t.old.slot.state result) }
+    ensures kept { 0 < result → t.new ≡ t.old }
+    ensures only { t.new ≡ with_timers t.old t.new.slot.state }
+{
+    if !t.slot.holds() {
+        return NOT_OPEN;
+    }
+    calls::tick(t.slot.timers())
+}
+
+/// Passes at most `most` ticks, stops at the first at which a timer expires, and writes how many were
+/// passed: none only where `most` is 0.
+#[unsafe(no_mangle)]
+pub extern "C" fn timers_advance(t: &mut Held, most: u64, passed: &mut u64) -> u32
+    ensures advanced { result ≡ OK → IsOpen t.old × IsAdvanced most passed.new t.old.slot.state t.new.slot.state }
+    ensures refused { 0 < result → ((result ≡ NOT_OPEN) × IsShut t.old) ⊎ (IsOpen t.old × WhyNotTicked t.old.slot.state result) }
+    ensures kept { 0 < result → (t.new ≡ t.old) × (passed.new ≡ passed.old) }
+    ensures only { t.new ≡ with_timers t.old t.new.slot.state }
+{
+    if !t.slot.holds() {
+        return NOT_OPEN;
+    }
+    calls::advance(t.slot.timers(), most, passed)
+}
+
+/// Takes the first of the timers that expired. Returns whether there was one.
+#[unsafe(no_mangle)]
+pub extern "C" fn timers_expire(t: &mut Held, out: &mut Expired) -> bool
+    ensures first { result ≡ true → IsOpen t.old × (told (first_due t.old.slot.state) ≡ Some out.new) }
+    ensures none { result ≡ false → (t.new ≡ t.old) × (out.new ≡ out.old) }
+    ensures drained { result ≡ false → IsOpen t.old → first_due t.old.slot.state ≡ None }
+    ensures rest { IsOpen t.old → t.new.slot.state ≡ after_expiry t.old.slot.state }
+    ensures only { t.new ≡ with_timers t.old t.new.slot.state }
+{
+    if !t.slot.holds() {
+        return false;
+    }
+    calls::expire(t.slot.timers(), out)
+}
+
+/// Takes the first of the timers that expired, as many as fit into `out`. Returns how many.
+#[unsafe(no_mangle)]
+pub extern "C" fn timers_expire_batch(t: &mut Held, out: &mut [Expired]) -> usize
+    ensures count { IsOpen t.old → result ≡ min (length out.old) (length t.old.slot.state.due) }
+    ensures told { IsOpen t.old → out.new ≡ map tell (take result t.old.slot.state.due) ++ drop result out.old }
+    ensures rest { IsOpen t.old → t.new.slot.state ≡ after_expiries result t.old.slot.state }
+    ensures not_open { IsShut t.old → (result ≡ 0) × (t.new ≡ t.old) × (out.new ≡ out.old) }
+    ensures only { t.new ≡ with_timers t.old t.new.slot.state }
+{
+    if !t.slot.holds() {
+        return 0;
+    }
+    calls::expire_batch(t.slot.timers(), out)
+}
+
+/// Whether a timer expired and was not yet taken.
+#[unsafe(no_mangle)]
+pub extern "C" fn timers_has_due(t: &mut Held) -> bool
+    ensures due { IsOpen t.old → (IsTrue result ↔ (0 < length t.old.slot.state.due)) }
+    ensures not_open { IsShut t.old → result ≡ false }
+    ensures same { t.new ≡ t.old }
+{
+    if !t.slot.holds() {
+        return false;
+    }
+    t.slot.timers().has_due()
+}
+
+/// The present tick, or 0 where no timers are held.
+#[unsafe(no_mangle)]
+pub extern "C" fn timers_now(t: &mut Held) -> u64
+    ensures now { IsOpen t.old → result ≡ t.old.slot.state.now }
+    ensures not_open { IsShut t.old → result ≡ 0 }
+    ensures same { t.new ≡ t.old }
+{
+    if !t.slot.holds() {
+        return 0;
+    }
+    t.slot.timers().now()
+}
+
+/// How many timers are pending, or 0 where no timers are held. What expired and was not yet taken is
+/// not counted.
+#[unsafe(no_mangle)]
+pub extern "C" fn timers_len(t: &mut Held) -> usize
+    ensures pending { IsOpen t.old → result ≡ length t.old.slot.state.pending }
+    ensures not_open { IsShut t.old → result ≡ 0 }
+    ensures same { t.new ≡ t.old }
+{
+    if !t.slot.holds() {
+        return 0;
+    }
+    t.slot.timers().len()
+}
+
+/// The tick until which C may sleep: the present one where an expired timer waits, `NEVER` where
+/// nothing is pending or no timers are held, and otherwise one before which nothing expires.
+#[unsafe(no_mangle)]
+pub extern "C" fn timers_wakeup(t: &mut Held) -> u64
+    ensures tick { IsOpen t.old → IsNextCall result t.old.slot.state }
+    ensures not_open { IsShut t.old → result ≡ NEVER }
+    ensures same { t.new ≡ t.old }
+{
+    if !t.slot.holds() {
+        return NEVER;
+    }
+    calls::wakeup(t.slot.timers())
+}

@@ -1,0 +1,43 @@
+//! A box as its address, without its type's promise to free it.
+//!
+//! A `Box` can't stand in a struct that C holds, and a raw pointer owns nothing. `Parked` is between
+//! the two: it owns what the box owned, and says so to the prover alone.
+ghost use Rattle.std.specs.Prelude.{◌≡◌};
+
+use std::alloc::Allocator;
+use std::marker::Model;
+
+/// Owns a value on the heap, and the right to free its block.
+pub(crate) struct Parked<T, A: Allocator> {
+    pub(crate) alloc: A,
+    pub(crate) at: *mut T,
+    pub(crate) ghost value: { T },
+}
+
+impl<T, A: Allocator> Model for Parked<T, A> {
+    ghost use Rattle.std.specs.Box.Ownership.{box_owns};
+
+    ghost also_owns = { λ p. box_owns (A.dealloc_token p.alloc) T.row p.at p.value };
+}
+
+impl<T: Drop, A: Allocator> Parked<T, A> {
+    /// The box, parked. Nothing is freed or allocated.
+    pub(crate) fn park(whole: Box<T, A>) -> Parked<T, A>
+        ensures { result.value ≡ whole.value }
+    {
+        // The address and the allocator: what the box owned is at that address, and no one's.
+        let parts = Box::into_raw_with_allocator(whole);
+        Parked {
+            alloc: parts.1,
+            at: parts.0,
+        }
+    }
+
+    /// The box again.
+    pub(crate) fn unpark(self) -> Box<T, A>
+        ensures { result.value ≡ self.value }
+    {
+        let Parked { alloc, at } = self;
+        unsafe { Box::from_raw(alloc, at) }
+    }
+}

@@ -1,0 +1,79 @@
+//! The two words by which C's struct owns the timers on the heap.
+//!
+//! All that handles a raw pointer stands here and in `parked`. A slot whose mark is `HELD` owns the
+//! timers at its address and the right to free their block; a slot with any other mark owns nothing,
+//! so that a struct whose bytes are all 0 is an empty slot. Its ghost field is what the timers mean.
+ghost use Rattle.std.specs.Prelude.{◌≡◌, true, false};
+ghost use Rattle.std.specs.Borrow.{Lends, sem};
+ghost use Rattle.timer_base.specs.WheelState.{WheelState};
+ghost use Rattle.timer_c.specs.Slots.{is_open};
+
+use crate::parked::Parked;
+use std::alloc::Global;
+use std::marker::Model;
+use timer_total::Timers;
+use timer_wheels::HierWheel;
+
+/// The mark of a slot that holds timers.
+pub const HELD: u64 = 1;
+
+/// Where timers may stand on the heap.
+#[repr(C)]
+pub struct Slot {
+    at: *mut u8,
+    pub mark: u64,
+    pub ghost state: { WheelState },
+}
+
+impl Model for Slot {
+    ghost use Rattle.timer_c.specs.Slots.{owned_at};
+
+    ghost also_owns = { λ s. owned_at s.mark s.at s.state };
+}
+
+impl Slot {
+    /// Whether it holds timers.
+    pub(crate) fn holds(&mut self) -> bool
+        ensures value { result ≡ is_open self.old.mark }
+        ensures same { self.new ≡ self.old }
+    {
+        self.mark == HELD
+    }
+
+    ghost use Rattle.timer_c.specs.Lent.{with_state, the_timers, the_slot};
+
+    /// Keeps the timers. What the slot owned before would be lost, so it must be empty.
+    pub(crate) fn put(&mut self, timers: Parked<Timers<HierWheel>, Global>)
+        requires { is_open self.old.mark ≡ false }
+        ensures open { self.new.mark ≡ HELD }
+        ensures state { self.new.state ≡ timers.value }
+    {
+        let Parked { alloc: _, at } = timers;
+        self.at = at as *mut u8;
+        self.mark = HELD;
+    }
+
+    /// Gives the timers back, and is empty.
+    pub(crate) fn take(&mut self, alloc: Global) -> Parked<Timers<HierWheel>, Global>
+        requires { is_open self.old.mark ≡ true }
+        ensures shut { self.new.mark ≡ 0 }
+        ensures state { result.value ≡ self.old.state }
+    {
+        self.mark = 0;
+        Parked {
+            alloc,
+            at: self.at as *mut Timers<HierWheel>,
+        }
+    }
+
+    /// The timers, lent. What they mean at the end of the loan is the slot's state.
+    pub(crate) fn timers(&mut self) -> &mut Timers<HierWheel>
+        requires { is_open self.old.mark ≡ true }
+        ensures* writes_back { sem 𝓛 (Lends the_slot the_timers self.entry result (with_state self.entry.now)) }
+        ensures value { result.now ≡ self.old.state }
+    {
+        unsafe { &mut *(self.at as *mut Timers<HierWheel>) }
+    }
+}
+
+unsafe impl Send for Slot {}

@@ -1,0 +1,43 @@
+//! The numbers that cross to C. `include/timers.h` has the same, and tools/c_tests compares them.
+
+/// The call was done.
+pub const OK: u32 = 0;
+
+/// The struct holds no timers.
+pub const NOT_OPEN: u32 = 1;
+
+/// It holds timers already.
+pub const OPEN: u32 = 2;
+
+/// No table has this number.
+pub const NO_TABLE: u32 = 3;
+
+/// Memory ran out.
+pub const NO_MEMORY: u32 = 4;
+
+/// A timer that expired was not yet taken.
+pub const DUE: u32 = 5;
+
+/// No pending timer has this handle.
+pub const NOT_PENDING: u32 = 6;
+
+/// The interval is 0.
+pub const ZERO_INTERVAL: u32 = 7;
+
+/// The deadline, or the first tick, is after the last tick.
+pub const TOO_LATE: u32 = 8;
+
+/// Every serial was used.
+pub const SERIALS_SPENT: u32 = 9;
+
+/// The clock is at its last tick.
+pub const CLOCK_END: u32 = 10;
+
+/// Ten wheels of 64 slots: a clock of 2^60 ticks.
+pub const WIDE: u32 = 0;
+
+/// 60 seconds, 60 minutes, 24 hours, 100 days: a clock of 8,640,000 ticks.
+pub const CLOCK: u32 = 1;
+
+/// In place of a tick: nothing is pending.
+pub const NEVER: u64 = u64::MAX;

@@ -1,0 +1,45 @@
+-- Why a call is refused, and the timer that a start adds where it is not.
+use Rattle.std.specs.Prelude.{ℕ, ◌≡◌, ◌+◌, ◌<◌, ◌≤◌, ◌⊎◌, [], length, None, IsSome}
+use Rattle.timer_base.specs.declared.limits.TheConstants.{LAST}
+use Rattle.timer_base.specs.declared.timer.Timer.{Timer}
+use Rattle.timer_base.specs.declared.timer.Handle.{Handle}
+use Rattle.timer_base.specs.WheelState.{WheelState, timer_at}
+use Rattle.timer_total.specs.declared.fault.StartFault.{StartFault}
+use Rattle.timer_total.specs.declared.fault.StartFault.TheVariants as start
+use Rattle.timer_total.specs.declared.fault.RestartFault.{RestartFault}
+use Rattle.timer_total.specs.declared.fault.RestartFault.TheVariants as restart
+use Rattle.timer_total.specs.declared.fault.TickFault.{TickFault}
+use Rattle.timer_total.specs.declared.fault.TickFault.TheVariants as tick
+
+-- the timer that a start adds: the next serial, and the action under the client 0 and the number 0
+abbrev pub next_timer : ℕ → ℕ → WheelState → Timer
+next_timer interval action w = record { serial = w.last_serial + 1; client = 0; number = 0; deadline = w.now + interval; action = action }
+
+-- a timer with this interval may be started where memory is available
+abbrev pub IsStartable : ℕ → WheelState → Type 0
+IsStartable interval w = (0 < interval) × (w.now + interval ≤ w.last_tick) × (w.last_serial < LAST)
+
+-- why a start is refused before memory is asked for: the first that holds
+abbrev pub WhyNotStarted : ℕ → WheelState → StartFault → Type 0
+WhyNotStarted interval w fault =
+    ((fault ≡ start.ZeroInterval) × (interval ≡ 0))
+    ⊎ ((fault ≡ start.TooLate) × (0 < interval) × (w.last_tick < w.now + interval))
+    ⊎ ((fault ≡ start.SerialsSpent) × (0 < interval) × (w.now + interval ≤ w.last_tick) × (LAST ≤ w.last_serial))
+
+-- a pending timer has this handle
+abbrev pub IsAt : Handle → WheelState → Type 0
+IsAt handle w = IsSome (timer_at handle w)
+
+-- why a restart is refused: the first that holds, the name before the interval
+abbrev pub WhyNotRestarted : Handle → ℕ → WheelState → RestartFault → Type 0
+WhyNotRestarted handle interval w fault =
+    ((fault ≡ restart.NotPending) × (timer_at handle w ≡ None))
+    ⊎ ((fault ≡ restart.ZeroInterval) × IsAt handle w × (interval ≡ 0))
+    ⊎ ((fault ≡ restart.TooLate) × IsAt handle w × (0 < interval) × (w.last_tick < w.now + interval))
+    ⊎ ((fault ≡ restart.SerialsSpent) × IsAt handle w × (0 < interval) × (w.now + interval ≤ w.last_tick) × (LAST ≤ w.last_serial))
+
+-- why the clock doesn't go on
+abbrev pub WhyNotTicked : WheelState → TickFault → Type 0
+WhyNotTicked w fault =
+    ((fault ≡ tick.Due) × (0 < length w.due))
+    ⊎ ((fault ≡ tick.ClockEnd) × (w.due ≡ []) × (w.now ≡ w.last_tick))

@@ -1,0 +1,68 @@
+-- Several ticks at once, where the last serial is counted beside the wheel.
+use Rattle.std.proofs.Common.{ℕ, zero, suc, ◌≡◌, ◌+◌, ◌-◌, ◌<◌, ◌≤◌, ◌⊎◌, inl, inr, [], length, refl, ap, ◌∙◌, sym, subst, arith}
+use Rattle.std.specs.Prelude.{min}
+use Rattle.std.proofs.lemmas.Bool.{cases_lt}
+use Rattle.timer_base.specs.TickLaws.{after_ticks-now, after_ticks-last, after_ticks-serial}
+use Rattle.timer_base.specs.WheelState.{WheelState, after_tick, after_ticks, Advances}
+
+-- the same wheel, with another last serial
+abbrev pub numbered : ℕ → WheelState → WheelState
+numbered serial w = record w { last_serial = serial }
+
+-- of at most so many ticks so many were passed, and nothing was due before the last of them
+pub record Passes (most passed : ℕ) (old new : WheelState) : Type 0 where
+  pub at_most : passed ≤ most
+  pub some : 0 < most → 0 < passed
+  pub ticked : new ≡ after_ticks passed old
+  pub quiet : (n : ℕ) → n < passed → (after_ticks n old).due ≡ []
+  -- it stops early only where something is due, or the clock is at its end
+  pub early : passed < most → (0 < length new.due) ⊎ (new.now ≡ new.last_tick)
+
+-- ticks use no serial
+pub after_ticks-numbered : (n serial : ℕ) (w : WheelState) → numbered serial (after_ticks n w) ≡ after_ticks n (numbered serial w)
+after_ticks-numbered zero serial w = refl
+after_ticks-numbered (suc n) serial w = ap after_tick (after_ticks-numbered n serial w)
+
+-- no tick is passed where none is asked for
+pub passes_none : (most : ℕ) (w : WheelState) → most ≡ 0 → Passes most 0 w w
+passes_none most w e = record {
+  at_most = omega arith;
+  some = λ h. absurd (omega arith);
+  ticked = refl;
+  quiet = λ n h. absurd (omega arith);
+  early = λ h. absurd (omega arith);
+}
+
+-- the clock is at its end where all that was left of it was passed
+at_the_end : (passed : ℕ) (old new : WheelState) → new ≡ after_ticks passed old → passed ≡ old.last_tick - old.now → old.now ≤ old.last_tick → new.now ≡ new.last_tick
+at_the_end passed old new t p b =
+    let now : new.now ≡ old.now + passed = ap (λ (w : WheelState). w.now) t ∙ after_ticks-now passed old in
+    let last : new.last_tick ≡ old.last_tick = ap (λ (w : WheelState). w.last_tick) t ∙ after_ticks-last passed old in
+    omega arith
+
+-- a wheel's advance, asked for no more than is left of the clock, with the serial counted beside it
+pub advanced : (most asked passed serial : ℕ) (old new v : WheelState) → numbered serial old ≡ v → asked ≡ min most (old.last_tick - old.now) → 0 < asked
+    → old.now ≤ old.last_tick → Advances asked passed old new → Passes most passed v (numbered serial new)
+advanced most asked passed serial old new v e least more b a =
+    let low : passed ≤ asked = a.at_most in
+    let here : Passes most passed (numbered serial old) (numbered serial new) = record {
+      at_most = omega arith;
+      some = λ h. a.some;
+      ticked = ap (numbered serial) a.ticked ∙ after_ticks-numbered passed serial old;
+      quiet = λ n h. sym (ap (λ (w : WheelState). w.due) (after_ticks-numbered n serial old)) ∙ a.quiet n h;
+      early = λ h. elim (cases_lt passed asked) [
+        | inl k ↦ inl (a.early k)
+        | inr k ↦ inr (at_the_end passed old new a.ticked (omega arith) b)
+      ];
+    } in
+    subst (λ (w : WheelState). Passes most passed w (numbered serial new)) e here
+
+-- the serials of a wheel that was advanced are still counted
+pub still_counted : (asked passed serial : ℕ) (old new : WheelState) → Advances asked passed old new → old.last_serial ≤ serial → new.last_serial ≤ serial
+still_counted asked passed serial old new a h =
+    let e : new.last_serial ≡ old.last_serial = ap (λ (w : WheelState). w.last_serial) a.ticked ∙ after_ticks-serial passed old in
+    omega arith
+
+-- nothing is due
+pub none_due : (serial : ℕ) (w v : WheelState) → numbered serial w ≡ v → w.due ≡ [] → v.due ≡ []
+none_due serial w v e d = sym (ap (λ (u : WheelState). u.due) e) ∙ d

@@ -1,0 +1,37 @@
+//! Why a call is refused. A refusal changes nothing. Each enum is in the order in which it is tested.
+use thiserror::Error;
+
+/// Why no timer was started.
+#[derive(Clone, Copy, Debug, PartialEq, Eq, Error)]
+pub enum StartFault {
+    #[error("the interval is 0")]
+    ZeroInterval,
+    #[error("the deadline is after the last tick")]
+    TooLate,
+    #[error("every serial was used")]
+    SerialsSpent,
+    #[error("out of memory")]
+    OutOfMemory,
+}
+
+/// Why no timer was restarted. The old one is as it was.
+#[derive(Clone, Copy, Debug, PartialEq, Eq, Error)]
+pub enum RestartFault {
+    #[error("no pending timer has this handle")]
+    NotPending,
+    #[error("the interval is 0")]
+    ZeroInterval,
+    #[error("the deadline is after the last tick")]
+    TooLate,
+    #[error("every serial was used")]
+    SerialsSpent,
+}
+
+/// Why the clock did not go on.
+#[derive(Clone, Copy, Debug, PartialEq, Eq, Error)]
+pub enum TickFault {
+    #[error("a timer that expired was not yet taken")]
+    Due,
+    #[error("the clock is at its last tick")]
+    ClockEnd,
+}

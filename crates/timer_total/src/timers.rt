@@ -1,0 +1,227 @@
+//! A wheel whose calls ask nothing of the caller.
+ghost use Rattle.std.specs.Prelude.{◌≡◌, ◌+◌, ◌<◌, ◌≤◌, ◌↔◌, ◌⊎◌, ℕ, [], length, IsTrue, IfOk, IfErr, OnErr, None, Some};
+ghost use Rattle.timer_base.specs.declared.limits.TheConstants.{LAST};
+ghost use Rattle.timer_base.specs.WakeUps.{IsQuietUntil};
+ghost use Rattle.timer_base.specs.WheelState.{WheelState, timer_at, first_due, after_start, after_stop, after_tick, after_expiry};
+ghost use Rattle.timer_total.specs.Refusals.{next_timer, IsStartable, IsAt, WhyNotStarted, WhyNotRestarted, WhyNotTicked};
+ghost use Rattle.timer_total.specs.Ticks.{Passes, numbered};
+
+use crate::fault::{RestartFault, StartFault, TickFault};
+use std::marker::Model;
+use timer_base::{Handle, LAST, Timer, Wheel};
+
+/// A wheel and the last serial that was used. A contract sees it as what the wheel means, with that serial.
+#[derive(Drop)]
+pub struct Timers<W: Wheel + Drop> {
+    wheel: W,
+    // At least the wheel's own, which begins at 0.
+    last_serial: u64,
+}
+
+impl<W: Wheel + Drop> Model for Timers<W> {
+    ghost use Rattle.timer_base.specs.WheelState.{WheelState};
+    ghost use Rattle.timer_total.specs.Ticks.{numbered};
+    ghost use Rattle.std.specs.Prelude.{◌≤◌};
+
+    ghost Value = { WheelState };
+
+    ghost view = { λ t. numbered t.last_serial (W.state t.wheel) };
+
+    ghost invariant = { λ t. (W.state t.wheel).last_serial ≤ t.last_serial };
+}
+
+impl<W: Wheel + Drop> Timers<W> {
+    /// The timers of a wheel, whose next start gets the serial after `last_serial`.
+    pub fn over(wheel: W, last_serial: u64) -> Timers<W>
+        requires { (W.state wheel).last_serial ≤ last_serial }
+        ensures { result ≡ numbered last_serial (W.state wheel) }
+    {
+        Timers { wheel, last_serial }
+    }
+
+    /// The present tick.
+    pub fn now(&self) -> u64
+        ensures { result ≡ self.now.now }
+    {
+        self.wheel.now()
+    }
+
+    /// How many timers are pending. Those that expired and were not yet taken are not counted.
+    pub fn len(&self) -> usize
+        ensures { result ≡ length self.now.pending }
+    {
+        self.wheel.len()
+    }
+
+    /// Whether a timer expired and was not yet taken.
+    pub fn has_due(&self) -> bool
+        ensures { IsTrue result ↔ (0 < length self.now.due) }
+    {
+        self.wheel.has_due()
+    }
+
+    /// The serial of the last start or restart.
+    pub fn last_serial(&self) -> u64
+        ensures { result ≡ self.now.last_serial }
+    {
+        self.last_serial
+    }
+
+    /// A tick until which nothing expires, or None exactly where nothing is pending. It is after the
+    /// present tick, and at most the first deadline.
+    pub fn quiet_until(&self) -> Option<u64>
+        ensures { IsQuietUntil result self.now }
+    {
+        self.wheel.quiet_until()
+    }
+
+    /// Starts a timer that expires after `interval` ticks, under the next serial.
+    pub fn start(&mut self, interval: u64, action: u64) -> Result<Handle, StartFault>
+        ensures started { IfOk result (λ handle. self.new ≡ after_start handle.place (next_timer interval action self.old) self.old) }
+        ensures named { IfOk result (λ handle. handle.serial ≡ self.old.last_serial + 1) }
+        ensures in_order { IfOk result (λ _. IsStartable interval self.old) }
+        ensures fault { IfErr result (λ fault. WhyNotStarted interval self.old fault ⊎ ((fault ≡ StartFault.OutOfMemory) × IsStartable interval self.old)) }
+        ensures err { OnErr result (self.new ≡ self.old) }
+    {
+        self.admit(interval)?;
+        let timer = self.next(interval, action);
+        match self.wheel.start(timer) {
+            Ok(handle) => {
+                self.last_serial = timer.serial;
+                Ok(handle)
+            }
+            Err(_) => Err(StartFault::OutOfMemory),
+        }
+    }
+
+    /// Whether a start with this interval is accepted where memory is available.
+    fn admit(&self, interval: u64) -> Result<(), StartFault>
+        ensures in_order { IfOk result (λ _. IsStartable interval self.now) }
+        ensures fault { IfErr result (WhyNotStarted interval self.now) }
+    {
+        if interval == 0 {
+            return Err(StartFault::ZeroInterval);
+        }
+        if interval > self.wheel.last_tick() - self.wheel.now() {
+            return Err(StartFault::TooLate);
+        }
+        if self.last_serial >= LAST {
+            return Err(StartFault::SerialsSpent);
+        }
+        Ok(())
+    }
+
+    /// The timer that a start adds.
+    fn next(&self, interval: u64, action: u64) -> Timer
+        requires { IsStartable interval self.now }
+        ensures { result ≡ next_timer interval action self.now }
+    {
+        Timer {
+            serial: self.last_serial + 1,
+            client: 0,
+            number: 0,
+            deadline: self.wheel.now() + interval,
+            action,
+        }
+    }
+
+    /// Takes the pending timer with just this handle away, and returns it. Where there is none, nothing
+    /// changes. Does not allocate.
+    pub fn stop(&mut self, handle: Handle) -> Option<Timer>
+        ensures timer { result ≡ timer_at handle self.old }
+        ensures stopped { self.new ≡ after_stop handle self.old }
+    {
+        self.wheel.stop(handle)
+    }
+
+    /// Takes the pending timer with just this handle away and starts another in its stead, under the
+    /// next serial. Does not allocate.
+    pub fn restart(
+        &mut self,
+        handle: Handle,
+        interval: u64,
+        action: u64,
+    ) -> Result<Handle, RestartFault>
+        ensures restarted { IfOk result (λ made. self.new ≡ after_start made.place (next_timer interval action self.old) (after_stop handle self.old)) }
+        ensures named { IfOk result (λ made. made.serial ≡ self.old.last_serial + 1) }
+        ensures in_order { IfOk result (λ _. IsAt handle self.old × IsStartable interval self.old) }
+        ensures fault { IfErr result (WhyNotRestarted handle interval self.old) }
+        ensures err { OnErr result (self.new ≡ self.old) }
+    {
+        self.admit_again(handle, interval)?;
+        let timer = self.next(interval, action);
+        match self.wheel.restart(handle, timer) {
+            Some((made, _)) => {
+                self.last_serial = timer.serial;
+                Ok(made)
+            }
+            None => Err(RestartFault::NotPending),
+        }
+    }
+
+    /// Whether a restart of the timer with this handle is accepted.
+    fn admit_again(&self, handle: Handle, interval: u64) -> Result<(), RestartFault>
+        ensures in_order { IfOk result (λ _. IsAt handle self.now × IsStartable interval self.now) }
+        ensures fault { IfErr result (WhyNotRestarted handle interval self.now) }
+    {
+        if self.wheel.look(handle).is_none() {
+            return Err(RestartFault::NotPending);
+        }
+        if interval == 0 {
+            return Err(RestartFault::ZeroInterval);
+        }
+        if interval > self.wheel.last_tick() - self.wheel.now() {
+            return Err(RestartFault::TooLate);
+        }
+        if self.last_serial >= LAST {
+            return Err(RestartFault::SerialsSpent);
+        }
+        Ok(())
+    }
+
+    /// Goes to the next tick: the pending timers with that deadline expire, and wait to be taken.
+    pub fn tick(&mut self) -> Result<(), TickFault>
+        ensures ticked { IfOk result (λ _. (self.old.due ≡ []) × (self.new ≡ after_tick self.old)) }
+        ensures fault { IfErr result (WhyNotTicked self.old) }
+        ensures err { OnErr result (self.new ≡ self.old) }
+    {
+        if self.wheel.has_due() {
+            return Err(TickFault::Due);
+        }
+        if self.wheel.now() == self.wheel.last_tick() {
+            return Err(TickFault::ClockEnd);
+        }
+        self.wheel.per_tick();
+        Ok(())
+    }
+
+    /// Passes at most `most` ticks, stops at the first at which a timer expires, and returns how many
+    /// were passed: none only where `most` is 0.
+    ///
+    /// Stretches at which nothing expires are skipped and not walked, as far as the wheel can.
+    pub fn advance(&mut self, most: u64) -> Result<u64, TickFault>
+        ensures passed { IfOk result (λ passed. (self.old.due ≡ []) × Passes most passed self.old self.new) }
+        ensures fault { IfErr result (WhyNotTicked self.old) }
+        ensures err { OnErr result (self.new ≡ self.old) }
+    {
+        if self.wheel.has_due() {
+            return Err(TickFault::Due);
+        }
+        let left = self.wheel.last_tick() - self.wheel.now();
+        if left == 0 {
+            return Err(TickFault::ClockEnd);
+        }
+        if most == 0 {
+            return Ok(0);
+        }
+        Ok(self.wheel.advance(most.min(left)))
+    }
+
+    /// Takes the first of the timers that expired, in the order of their starts.
+    pub fn expire(&mut self) -> Option<Timer>
+        ensures first { result ≡ first_due self.old }
+        ensures rest { self.new ≡ after_expiry self.old }
+    {
+        self.wheel.expire()
+    }
+}

@@ -1,0 +1,26 @@
+/* The shortest whole use: three timers, of which one is stopped. */
+#include <inttypes.h>
+#include <stdio.h>
+
+#include <timers.h>
+
+int main(void)
+{
+	struct timers t = TIMERS_INIT;
+	struct timer_handle tea, egg, call;
+	struct timer_expired e;
+	uint64_t passed, action;
+	if (timers_new(&t, TIMERS_WIDE, 0) != TIMERS_OK)
+		return 1;
+	timers_start(&t, 300, 'T', &tea);
+	timers_start(&t, 240, 'E', &egg);
+	timers_start(&t, 900, 'C', &call);
+	timers_stop(&t, call, &action);
+	while (timers_len(&t) > 0) {
+		timers_advance(&t, timers_wakeup(&t) - timers_now(&t), &passed);
+		while (timers_expire(&t, &e))
+			printf("%" PRIu64 ": %c\n", e.deadline, (char)e.action);
+	}
+	timers_free(&t);
+	return 0;
+}

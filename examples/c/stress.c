@@ -1,0 +1,339 @@
+/* Random calls against a sorted list. The first difference ends it with status 1.
+ *     stress [CALLS] [SEED]
+ * With -DREFUSE -Wl,--wrap=malloc,--wrap=realloc every third allocation of the library is refused. */
+#include <inttypes.h>
+#include <stdio.h>
+#include <stdlib.h>
+#include <string.h>
+
+#include <timers.h>
+
+static uint64_t refused, refused_before;
+#ifdef REFUSE
+static bool refuses;
+static uint64_t asked;
+void *__real_malloc(size_t size);
+void *__real_realloc(void *block, size_t size);
+static bool refuse(void)
+{
+	bool no = refuses && ++asked % 3 == 0;
+	refused += no;
+	return no;
+}
+void *__wrap_malloc(size_t size) { return refuse() ? NULL : __real_malloc(size); }
+void *__wrap_realloc(void *block, size_t size) { return refuse() ? NULL : __real_realloc(block, size); }
+#define WITH_REFUSALS(call) (refuses = true, refused_before = refused, result = (call), refuses = false, result)
+#else
+#define WITH_REFUSALS(call) (refused_before = refused, result = (call), result)
+#endif
+static enum timers_status result;
+
+static uint64_t state;
+static uint64_t next_random(void)
+{
+	state ^= state << 13;
+	state ^= state >> 7;
+	state ^= state << 17;
+	return state;
+}
+static uint64_t below(uint64_t limit) { return next_random() % limit; }
+
+/* The model: all timers by deadline, then serial. list[0 .. due) expired and were not yet taken. */
+struct entry { uint64_t deadline, serial, action; size_t place; };
+static struct entry *list;
+static size_t count, room, due;
+static uint64_t now, last_tick, last_serial;
+
+static void insert(struct entry e)
+{
+	if (count == room) {
+		room = room ? 2 * room : 64;
+		list = realloc(list, room * sizeof *list);
+		if (!list)
+			exit(2);
+	}
+	size_t i = count;
+	while (i > 0 && (list[i - 1].deadline > e.deadline || (list[i - 1].deadline == e.deadline && list[i - 1].serial > e.serial)))
+		i--;
+	memmove(list + i + 1, list + i, (count - i) * sizeof *list);
+	list[i] = e;
+	count++;
+}
+
+static void take_out(size_t i)
+{
+	memmove(list + i, list + i + 1, (count - i - 1) * sizeof *list);
+	count--;
+}
+
+static void count_due(void)
+{
+	for (due = 0; due < count && list[due].deadline == now;)
+		due++;
+}
+
+static uint64_t calls_done;
+#define WANT(what, got, wanted) do { \
+	uint64_t got_ = (uint64_t)(got), wanted_ = (uint64_t)(wanted); \
+	if (got_ != wanted_) { \
+		printf("call %" PRIu64 ": %s: got %" PRIu64 ", wanted %" PRIu64 "\n", calls_done, what, got_, wanted_); \
+		exit(1); \
+	} } while (0)
+
+/* How far deadlines lie ahead: so few or many timers are pending. */
+static uint64_t spread = 64;
+
+static uint64_t random_interval(void)
+{
+	switch (below(16)) {
+	case 0: return 0;
+	case 1: return last_tick - now;                    /* the last that is accepted */
+	case 2: return last_tick - now + 1 + below(3);     /* too late */
+	case 3: return UINT64_MAX - below(3);
+	case 4: return 1 + below(UINT64_C(1) << (1 + below(50)));
+	case 5: case 6: case 7: return 1 + below(64 * spread);
+	default: return 1 + below(spread);
+	}
+}
+
+/* A handle, mostly of a pending timer; its index in the list, or `count` where it names none. */
+static size_t random_handle(struct timer_handle *handle)
+{
+	if (count > due && below(4)) {
+		size_t at = due + below(count - due);
+		*handle = (struct timer_handle){ list[at].place, list[at].serial };
+		if (below(8))
+			return at;
+		if (below(2))                             /* an older serial at a place in use */
+			handle->serial -= 1;
+		else                                      /* a place that is another's, or none */
+			handle->place += 1 + (size_t)below(100000);
+	} else {
+		*handle = (struct timer_handle){ (size_t)next_random(), below(last_serial + 2) };
+	}
+	for (size_t i = due; i < count; i++)
+		if (list[i].place == handle->place && list[i].serial == handle->serial)
+			return i;
+	return count;
+}
+
+static uint64_t statuses[11], starts, restarts, stops, expiries, ticks, refused_while_due, most_pending;
+
+static void seen(enum timers_status status)
+{
+	statuses[status]++;
+	refused_while_due += status == TIMERS_DUE;
+}
+
+static enum timers_status wanted_for(uint64_t interval)
+{
+	return interval == 0 ? TIMERS_ZERO_INTERVAL : interval > last_tick - now ? TIMERS_TOO_LATE : TIMERS_OK;
+}
+
+static void do_start(struct timers *t)
+{
+	uint64_t interval = random_interval(), action = next_random();
+	struct timer_handle handle = { 11, 12 };
+	enum timers_status wanted = wanted_for(interval), status = WITH_REFUSALS(timers_start(t, interval, action, &handle));
+	if (wanted == TIMERS_OK && refused > refused_before)
+		wanted = TIMERS_NO_MEMORY;
+	WANT("start", status, wanted);
+	seen(status);
+	if (status == TIMERS_OK) {
+		WANT("serial", handle.serial, ++last_serial);
+		insert((struct entry){ now + interval, handle.serial, action, handle.place });
+		most_pending = count > most_pending ? count : most_pending;
+		starts++;
+	} else {
+		WANT("handle kept", handle.place == 11 && handle.serial == 12, 1);
+	}
+}
+
+static void do_restart(struct timers *t)
+{
+	uint64_t interval = random_interval(), action = next_random();
+	struct timer_handle handle, restarted = { 11, 12 };
+	size_t at = random_handle(&handle);
+	enum timers_status wanted = at == count ? TIMERS_NOT_PENDING : wanted_for(interval);
+	enum timers_status status = WITH_REFUSALS(timers_restart(t, handle, interval, action, &restarted));
+	WANT("restart", status, wanted);
+	seen(status);
+	if (status == TIMERS_OK) {
+		WANT("serial of the restarted", restarted.serial, ++last_serial);
+		take_out(at);
+		insert((struct entry){ now + interval, restarted.serial, action, restarted.place });
+		WANT("the old handle", timers_stop(t, handle, &action), TIMERS_NOT_PENDING);
+		restarts++;
+	} else {
+		WANT("new handle kept", restarted.place == 11 && restarted.serial == 12, 1);
+	}
+}
+
+static void do_stop(struct timers *t)
+{
+	uint64_t action = 13;
+	struct timer_handle handle;
+	size_t at = random_handle(&handle);
+	enum timers_status status = timers_stop(t, handle, &action);
+	WANT("stop", status, at == count ? TIMERS_NOT_PENDING : TIMERS_OK);
+	seen(status);
+	if (status == TIMERS_OK) {
+		WANT("action of the stopped", action, list[at].action);
+		take_out(at);
+		stops++;
+	} else {
+		WANT("action kept", action, 13);
+	}
+}
+
+static void do_tick(struct timers *t)
+{
+	enum timers_status status = timers_tick(t);
+	WANT("tick", status, due ? TIMERS_DUE : now == last_tick ? TIMERS_CLOCK_END : TIMERS_OK);
+	seen(status);
+	if (status == TIMERS_OK) {
+		now++;
+		ticks++;
+		count_due();
+	}
+}
+
+static void do_advance(struct timers *t)
+{
+	uint64_t most = below(8) ? below(200) : next_random() >> below(64), passed = 14, wanted = most;
+	enum timers_status status = timers_advance(t, most, &passed);
+	WANT("advance", status, due ? TIMERS_DUE : now == last_tick ? TIMERS_CLOCK_END : TIMERS_OK);
+	seen(status);
+	if (status != TIMERS_OK) {
+		WANT("passed kept", passed, 14);
+		return;
+	}
+	if (wanted > last_tick - now)
+		wanted = last_tick - now;
+	if (count > 0 && list[0].deadline - now < wanted)
+		wanted = list[0].deadline - now;
+	WANT("ticks passed", passed, wanted);
+	now += wanted;
+	ticks += wanted;
+	if (wanted > 0)
+		count_due();
+}
+
+static void want_first(const struct timer_expired *e)
+{
+	WANT("deadline", e->deadline, list[0].deadline);
+	WANT("serial of the expired", e->serial, list[0].serial);
+	WANT("action of the expired", e->action, list[0].action);
+	take_out(0);
+	due--;
+	expiries++;
+}
+
+static void do_expire(struct timers *t)
+{
+	struct timer_expired e = { 21, 22, 23 };
+	bool some = timers_expire(t, &e);
+	WANT("expire", some, due > 0);
+	if (some)
+		want_first(&e);
+	else
+		WANT("out kept", e.deadline == 21 && e.serial == 22 && e.action == 23, 1);
+}
+
+static void do_expire_batch(struct timers *t)
+{
+	struct timer_expired batch[5];
+	size_t length = (size_t)below(5), wanted = due < length ? due : length;
+	memset(batch, 33, sizeof batch);
+	WANT("batch", timers_expire_batch(t, batch, length), wanted);
+	for (size_t i = 0; i < wanted; i++)
+		want_first(&batch[i]);
+	for (size_t i = wanted * sizeof *batch; i < sizeof batch; i++)
+		WANT("rest of the batch kept", ((unsigned char *)batch)[i], 33);
+}
+
+static void look(struct timers *t)
+{
+	uint64_t wakeup = timers_wakeup(t);
+	WANT("now", timers_now(t), now);
+	WANT("len", timers_len(t), count - due);
+	WANT("has due", timers_has_due(t), due > 0);
+	if (due > 0)
+		WANT("wake-up where some are due", wakeup, now);
+	else if (count == 0)
+		WANT("wake-up where nothing is pending", wakeup, TIMERS_NEVER);
+	else
+		WANT("wake-up in time", wakeup > now && wakeup <= list[0].deadline, 1);
+}
+
+static void want_closed(struct timers *t)
+{
+	struct timer_handle handle = { 7, 7 };
+	struct timer_expired e = { 7, 7, 7 };
+	uint64_t word = 7;
+	WANT("start, not open", timers_start(t, 1, 1, &handle), TIMERS_NOT_OPEN);
+	WANT("restart, not open", timers_restart(t, handle, 1, 1, &handle), TIMERS_NOT_OPEN);
+	WANT("stop, not open", timers_stop(t, handle, &word), TIMERS_NOT_OPEN);
+	WANT("tick, not open", timers_tick(t), TIMERS_NOT_OPEN);
+	WANT("advance, not open", timers_advance(t, 5, &word), TIMERS_NOT_OPEN);
+	WANT("expire, not open", timers_expire(t, &e), false);
+	WANT("batch, not open", timers_expire_batch(t, &e, 1), 0);
+	WANT("due, not open", timers_has_due(t), false);
+	WANT("now, not open", timers_now(t), 0);
+	WANT("len, not open", timers_len(t), 0);
+	WANT("wake-up, not open", timers_wakeup(t), TIMERS_NEVER);
+	WANT("kept, not open", handle.place == 7 && handle.serial == 7 && e.serial == 7 && word == 7, 1);
+	timers_free(t);
+}
+
+static void open_anew(struct timers *t)
+{
+	uint32_t table = below(2) ? TIMERS_WIDE : TIMERS_CLOCK;
+	want_closed(t);
+	last_tick = table == TIMERS_WIDE ? TIMERS_LAST : TIMERS_CLOCK_LAST;
+	WANT("no table", timers_new(t, 2 + (uint32_t)below(1000), 0), TIMERS_NO_TABLE);
+	WANT("too late", timers_new(t, table, last_tick + 1), TIMERS_TOO_LATE);
+	now = below(4) ? below(100000) : last_tick - below(100000);
+	count = due = 0;
+	while (WITH_REFUSALS(timers_new(t, table, now)) == TIMERS_NO_MEMORY)
+		want_closed(t);
+	WANT("new", result, TIMERS_OK);
+	WANT("new, open", timers_new(t, TIMERS_WIDE, 0), TIMERS_OPEN);
+}
+
+int main(int argc, char **argv)
+{
+	uint64_t calls = argc > 1 ? strtoull(argv[1], NULL, 10) : 1000000;
+	uint64_t seed = argc > 2 ? strtoull(argv[2], NULL, 10) : 1;
+	struct timers t = TIMERS_INIT;
+	state = seed * UINT64_C(0x9E3779B97F4A7C15) + 1;
+	open_anew(&t);
+	for (calls_done = 0; calls_done < calls; calls_done++) {
+		switch (below(20)) {
+		case 0: case 1: case 2: case 3: case 4: case 5: do_start(&t); break;
+		case 6: case 7: do_restart(&t); break;
+		case 8: case 9: do_stop(&t); break;
+		case 10: case 11: case 12: do_tick(&t); break;
+		case 13: do_advance(&t); break;
+		case 14: case 15: do_expire_batch(&t); break;
+		default: do_expire(&t);
+		}
+		look(&t);
+		if (calls_done % 20000 == 0)
+			spread = UINT64_C(1) << (3 + below(14));
+		/* Now and then begin anew, with timers pending and due. Serials go on. */
+		if (below(20000) == 0) {
+			timers_free(&t);
+			open_anew(&t);
+		}
+	}
+	timers_free(&t);
+	free(list);
+	printf("%" PRIu64 " calls agree: %" PRIu64 " starts, %" PRIu64 " restarts, %" PRIu64 " stops, %" PRIu64 " ticks, %" PRIu64 " expiries, %" PRIu64
+	       " refused while due, most pending %" PRIu64 ", %" PRIu64 " allocations refused; statuses",
+	       calls, starts, restarts, stops, ticks, expiries, refused_while_due, most_pending, refused);
+	for (size_t i = 0; i < sizeof statuses / sizeof *statuses; i++)
+		printf(" %" PRIu64, statuses[i]);
+	printf("\n");
+	return 0;
+}

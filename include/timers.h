@@ -1,0 +1,210 @@
+/* timers.h - timers for an event loop, over hierarchical timing wheels
+ *
+ * NAME
+ *     timers_new, timers_free - make and free timers
+ *     timers_start, timers_restart, timers_stop - START_TIMER, RESTART, STOP_TIMER
+ *     timers_tick, timers_advance - pass ticks
+ *     timers_expire, timers_expire_batch - take the timers that expired
+ *     timers_now, timers_len, timers_has_due, timers_wakeup - look
+ *
+ * SYNOPSIS
+ *     #include <timers.h>
+ *     cc prog.c $(pkg-config --cflags --libs timers)
+ *
+ * DESCRIPTION
+ *     A `struct timers` owns timers and a clock of ticks. What a tick is, is the caller's choice: a
+ *     millisecond, a frame, a retransmission unit. A timer is started with an interval in ticks and a word,
+ *     its action. The clock goes on by timers_tick and timers_advance alone. A timer whose deadline is
+ *     the present tick has expired: it is pending no more, and waits until timers_expire takes it.
+ *     Timers expire in the order of their deadlines, and those of one deadline in the order of their starts.
+ *     While some that expired wait, others may be started, restarted and stopped, as by the work that
+ *     the first one expired for; only the clock stands still until all of them are taken (TIMERS_DUE).
+ *
+ *     Start, restart, stop and expire cost constant time; a tick costs what expires at it and what goes
+ *     to a lower wheel, and timers_advance skips stretches at which nothing happens. Only timers_new and
+ *     timers_start allocate.
+ *
+ *     The library is proved: each function meets the contract stated in crates/timer_c/src/exports.rt, for
+ *     every call that keeps the rules below. Nothing checks that a caller keeps them.
+ *
+ * RULES
+ *     1. A `struct timers` begins as TIMERS_INIT, or with all its bytes 0: static storage, calloc and
+ *        memset will do. Only these functions write it. It is not copied, since it owns memory; it may
+ *        be moved by a memcpy after which the old one is not used. To every function, timers_new as well,
+ *        uninitialised memory may not be given: whether it owns timers could not be told.
+ *     2. A pointer argument is not NULL and points to an object of its type that this call alone uses;
+ *        no two arguments of one call overlap.
+ *     3. Where an argument is only written (handle, restarted, action, passed, out), the object may be
+ *        uninitialised: it has integers alone, so that any bits are a value, and no function reads it.
+ *        It is written exactly where the function says so, and otherwise left as it was.
+ *     4. Calls on one `struct timers` come one at a time. It may go from thread to thread, by a lock
+ *        or by a thread's start or join. Calls on two of them are independent.
+ *     5. malloc, realloc and free are one allocator, and align as C asks. Link with no other definition of
+ *        rattle_alloc, rattle_dealloc and rattle_realloc than the library's.
+ *     6. No call comes from a signal handler, or from the forked child of a process with threads.
+ *
+ *     Nothing else is asked. A call before timers_new, after timers_free, or in the wrong order
+ *     returns a status and changes nothing.
+ *
+ * HANDLES
+ *     A handle names a timer of the `struct timers` that gave it, and of no other. It is dead once its
+ *     timer was stopped, restarted or has expired, and never names another timer: the next serial is
+ *     kept over timers_free and timers_new. (A struct that is set to TIMERS_INIT anew has forgotten it.)
+ *
+ * STATUS
+ *     Each call that can be refused returns one, the first in the order that the function's comment
+ *     gives. At any but TIMERS_OK nothing has changed, in the timers or in what the arguments point to.
+ */
+#ifndef TIMERS_H
+#define TIMERS_H
+
+#include <stdbool.h>
+#include <stddef.h>
+#include <stdint.h>
+
+#ifdef __cplusplus
+extern "C" {
+#endif
+
+enum timers_status {
+	TIMERS_OK = 0,
+	TIMERS_NOT_OPEN = 1,       /* it holds no timers: timers_new was not called, or timers_free was since */
+	TIMERS_OPEN = 2,           /* it holds timers already */
+	TIMERS_NO_TABLE = 3,       /* the table is none of enum timers_table */
+	TIMERS_NO_MEMORY = 4,      /* malloc or realloc returned NULL, or 2147483648 timers are there */
+	TIMERS_DUE = 5,            /* a timer that expired was not yet taken: call timers_expire */
+	TIMERS_NOT_PENDING = 6,    /* no pending timer has this handle */
+	TIMERS_ZERO_INTERVAL = 7,  /* the interval is 0 */
+	TIMERS_TOO_LATE = 8,       /* the deadline, or the first tick, is after the last tick */
+	TIMERS_SERIALS_SPENT = 9,  /* this struct has started 2^60 - 1 timers */
+	TIMERS_CLOCK_END = 10      /* the clock is at its last tick */
+};
+
+/* The slots of the wheels. */
+enum timers_table {
+	TIMERS_WIDE = 0,           /* ten wheels of 64 slots: the last tick is TIMERS_LAST */
+	TIMERS_CLOCK = 1           /* 60 seconds, 60 minutes, 24 hours, 100 days: the last is TIMERS_CLOCK_LAST */
+};
+
+#define TIMERS_LAST UINT64_C(1152921504606846975)   /* 2^60 - 1 */
+#define TIMERS_CLOCK_LAST UINT64_C(8639999)         /* day 99, 23:59:59 */
+#define TIMERS_NEVER UINT64_MAX                     /* of timers_wakeup: nothing is pending */
+
+/* Private: see rule 1. */
+struct timers {
+	void *at;
+	uint64_t mark;
+	uint64_t last_serial;
+};
+#define TIMERS_INIT { NULL, 0, 0 }
+
+/* How a timer is named. Both fields are free to be read, stored and compared. */
+struct timer_handle {
+	size_t place;
+	uint64_t serial;
+};
+
+struct timer_expired {
+	uint64_t deadline;   /* the tick at which it expired */
+	uint64_t serial;     /* that of its handle */
+	uint64_t action;     /* the word that its start or restart handed over */
+};
+
+/* Makes timers with this table (enum timers_table), none of them pending, at the first tick. `t` holds them
+ * until timers_free. It begins as TIMERS_INIT or as 0 bytes (rule 1).
+ * TIMERS_OPEN, TIMERS_NO_TABLE, TIMERS_TOO_LATE, TIMERS_NO_MEMORY. */
+enum timers_status timers_new(struct timers *t, uint32_t table, uint64_t first_tick);
+
+/* Frees the timers, if it holds any: what is pending or has expired is forgotten. timers_new may
+ * follow. Does nothing where it holds none, so twice is as good as once. */
+void timers_free(struct timers *t);
+
+/* Starts a timer that expires after `interval` ticks, 1 or more, and hands `action` back with it.
+ * Writes `*handle` at TIMERS_OK.
+ * TIMERS_NOT_OPEN, TIMERS_ZERO_INTERVAL, TIMERS_TOO_LATE, TIMERS_SERIALS_SPENT, TIMERS_NO_MEMORY. */
+enum timers_status timers_start(struct timers *t, uint64_t interval, uint64_t action, struct timer_handle *handle);
+
+/* Stops the pending timer with this handle and starts another in its stead, as timers_start. A refusal
+ * leaves the old one pending. Writes `*restarted`, the new handle, at TIMERS_OK: `handle` is dead then. Does
+ * not allocate.
+ * TIMERS_NOT_OPEN, TIMERS_NOT_PENDING, TIMERS_ZERO_INTERVAL, TIMERS_TOO_LATE, TIMERS_SERIALS_SPENT. */
+enum timers_status timers_restart(struct timers *t, struct timer_handle handle, uint64_t interval, uint64_t action,
+                                  struct timer_handle *restarted);
+
+/* Stops the pending timer with this handle. Writes `*action`, its action, at TIMERS_OK.
+ * TIMERS_NOT_OPEN, TIMERS_NOT_PENDING. */
+enum timers_status timers_stop(struct timers *t, struct timer_handle handle, uint64_t *action);
+
+/* Goes to the next tick. The timers with that deadline expire, and wait for timers_expire.
+ * TIMERS_NOT_OPEN, TIMERS_DUE, TIMERS_CLOCK_END. */
+enum timers_status timers_tick(struct timers *t);
+
+/* Passes at most `most` ticks, and stops at the first at which a timer expires. Writes `*passed`, how many
+ * were passed, at TIMERS_OK: 0 only where `most` is 0, and fewer than `most` only where a timer has
+ * expired or the clock is at its last tick.
+ * TIMERS_NOT_OPEN, TIMERS_DUE, TIMERS_CLOCK_END. */
+enum timers_status timers_advance(struct timers *t, uint64_t most, uint64_t *passed);
+
+/* Takes the first of the timers that expired, in the order of their starts. Returns whether there was one, and
+ * writes `*out` exactly then. Never where it holds none. */
+bool timers_expire(struct timers *t, struct timer_expired *out);
+
+/* Takes the first of the timers that expired, as many as there are and as fit into out[0] to out[room - 1].
+ * Returns how many, and writes so many of `out`. `out` is not NULL, also where `room` is 0. 0 where it holds none. */
+size_t timers_expire_batch(struct timers *t, struct timer_expired *out, size_t room);
+
+/* Whether a timer expired and was not yet taken. false where it holds none. */
+bool timers_has_due(struct timers *t);
+
+/* The present tick. 0 where it holds none. */
+uint64_t timers_now(struct timers *t);
+
+/* How many timers are pending. What expired is not counted, taken or not. 0 where it holds none. */
+size_t timers_len(struct timers *t);
+
+/* The tick until which the caller may sleep: the present one where an expired timer waits to be taken,
+ * TIMERS_NEVER where nothing is pending (or it holds none), and otherwise a tick after the present one, at
+ * most the first deadline, before which nothing expires. Ask again once the clock is there: it may be
+ * before the first deadline, as the wheels don't search for that. */
+uint64_t timers_wakeup(struct timers *t);
+
+/* What a status says, for messages. */
+static inline const char *timers_message(enum timers_status status)
+{
+	switch (status) {
+	case TIMERS_OK: return "done";
+	case TIMERS_NOT_OPEN: return "no timers are held";
+	case TIMERS_OPEN: return "timers are held already";
+	case TIMERS_NO_TABLE: return "no such table";
+	case TIMERS_NO_MEMORY: return "out of memory";
+	case TIMERS_DUE: return "an expired timer was not yet taken";
+	case TIMERS_NOT_PENDING: return "no pending timer has this handle";
+	case TIMERS_ZERO_INTERVAL: return "the interval is 0";
+	case TIMERS_TOO_LATE: return "after the last tick";
+	case TIMERS_SERIALS_SPENT: return "every serial was used";
+	case TIMERS_CLOCK_END: return "the clock is at its last tick";
+	}
+	return "no status";
+}
+
+/* The layout that the library was built for. */
+#ifdef __cplusplus
+#define TIMERS_ASSERT(fact, says) static_assert(fact, says)
+#else
+#define TIMERS_ASSERT(fact, says) _Static_assert(fact, says)
+#endif
+TIMERS_ASSERT(sizeof(void *) == 8 && sizeof(size_t) == 8, "a 64-bit platform");
+TIMERS_ASSERT(sizeof(enum timers_status) == 4, "a status is 32 bits: no -fshort-enums");
+TIMERS_ASSERT(sizeof(bool) == 1, "a bool is one byte");
+TIMERS_ASSERT(sizeof(struct timers) == 24 && offsetof(struct timers, at) == 0 && offsetof(struct timers, mark) == 8
+              && offsetof(struct timers, last_serial) == 16, "struct timers");
+TIMERS_ASSERT(sizeof(struct timer_handle) == 16 && offsetof(struct timer_handle, place) == 0
+              && offsetof(struct timer_handle, serial) == 8, "struct timer_handle");
+TIMERS_ASSERT(sizeof(struct timer_expired) == 24 && offsetof(struct timer_expired, deadline) == 0
+              && offsetof(struct timer_expired, serial) == 8 && offsetof(struct timer_expired, action) == 16, "struct timer_expired");
+#undef TIMERS_ASSERT
+
+#ifdef __cplusplus
+}
+#endif
+#endif
