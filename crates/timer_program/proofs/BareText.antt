@@ -2,7 +2,7 @@
 use Rattle.std.proofs.Common.{◌≡◌, List, [], ◌∷◌, length, refl, sym, ap, ◌∙◌}
 use Rattle.std.proofs.lemmas.List.{length-map}
 use Rattle.std.specs.List.{flat_map}
-use Rattle.timer_facility.specs.declared.request.Answer.TheVariants.{Started, Stopped, Refused}
+use Rattle.timer_facility.specs.declared.request.Answer.TheVariants.{Started, Stopped, Restarted, Refused}
 use Rattle.timer_facility.specs.declared.event.Out.{Out}
 use Rattle.timer_facility.specs.declared.event.Out.TheVariants as Outs
 use Rattle.timer_facility.specs.State.{FacilityState}
@@ -12,6 +12,7 @@ use Rattle.timer_program.specs.Text.{out_line, text}
 out_line-bare : (out : Out) → out_line (bare out) ≡ out_line out
 out_line-bare (Outs.Answered client number (Started handle deadline)) = refl
 out_line-bare (Outs.Answered client number (Stopped serial)) = refl
+out_line-bare (Outs.Answered client number (Restarted handle deadline old)) = refl
 out_line-bare (Outs.Answered client number (Refused reason)) = refl
 out_line-bare (Outs.NotTaken client number reason) = refl
 out_line-bare (Outs.Notice notice) = refl

@@ -12,9 +12,9 @@ use Rattle.std.proofs.NetLemmas.Options.{cond_some, cond_none, and_then_some, sa
 use Rattle.timer_base.specs.declared.limits.TheConstants.{LAST}
 use Rattle.timer_program.specs.declared.reading.TheConstants.{MOST_TICKS}
 use Rattle.timer_facility.specs.declared.event.Event.{Event}
-use Rattle.timer_facility.specs.declared.event.Event.TheVariants.{Start, Stop, Ticks, Close}
+use Rattle.timer_facility.specs.declared.event.Event.TheVariants.{Start, Stop, Restart, Ticks, Close}
 use Rattle.timer_program.specs.Script.{IsInRange, line}
-use Rattle.timer_program.specs.Lines.{or_try, strip, digits_at, number_at, start_at, stop_at, tick_at, line_at}
+use Rattle.timer_program.specs.Lines.{or_try, strip, digits_at, number_at, start_at, stop_at, restart_at, tick_at, line_at}
 use Rattle.timer_program.proofs.Digits.{digits_some, digits_sound}
 
 -- ---- a word
@@ -91,6 +91,11 @@ stop_again : (c n s : ℕ) (rest : List ℕ) → IsInRange (Stop c n s) → stop
 unfolding stop_at
 stop_again c n s rest fits = rw (spaced c _ fits.0, space _, spaced n _ fits.1, space _, ended s _ fits.2, feed rest) refl
 
+restart_again : (c n s i a : ℕ) (rest : List ℕ) → IsInRange (Restart c n s i a)
+    → restart_at (decimal c ++ (32 ∷ (decimal n ++ (32 ∷ (decimal s ++ (32 ∷ (decimal i ++ (32 ∷ (decimal a ++ (10 ∷ rest)))))))))) ≡ Some (Restart c n s i a, rest)
+unfolding restart_at
+restart_again c n s i a rest fits = rw (spaced c _ fits.0, space _, spaced n _ fits.1, space _, spaced s _ fits.2, space _, spaced i _ fits.3, space _, ended a _ fits.4, feed rest) refl
+
 tick_again : (k : ℕ) (rest : List ℕ) → IsInRange (Ticks k) → tick_at (decimal k ++ (10 ∷ rest)) ≡ Some (Ticks k, rest)
 unfolding tick_at
 tick_again k rest fits = rw (ended k _ (omega arith), and_from _ _ (le-leb 1 k fits.0) (le-leb k MOST_TICKS fits.1), feed rest) refl
@@ -99,6 +104,7 @@ pub line_again : (event : Event) (rest : List ℕ) → IsInRange event → line_
 unfolding line_at line strip
 line_again (Start c n i a) rest fits = simp append_assoc (start_again c n i a rest fits)
 line_again (Stop c n s) rest fits = simp append_assoc (stop_again c n s rest fits)
+line_again (Restart c n s i a) rest fits = simp append_assoc (restart_again c n s i a rest fits)
 line_again (Ticks k) rest fits = simp append_assoc (tick_again k rest fits)
 line_again Close rest fits = refl
 
@@ -141,6 +147,30 @@ stop_sound bytes rest event e =
     subst (λ (x : Event). IsInRange x × (codes "stop " ++ bytes ≡ line x ++ rest)) event_is
     (subst (λ (r : List ℕ). IsInRange (Stop c.0 n.0 i.0) × (codes "stop " ++ bytes ≡ line (Stop c.0 n.0 i.0) ++ r)) rest_is ((is_c.0, is_n.0, is_i.0), split))
 
+restart_sound : (bytes rest : List ℕ) (event : Event) → restart_at bytes ≡ Some (event, rest) → IsInRange event × (codes "restart " ++ bytes ≡ line event ++ rest)
+unfolding restart_at line
+restart_sound bytes rest event e =
+    and_then_some _ (number_at bytes) _ e λ c read_c e₁.
+    and_then_some _ (strip (codes " ") c.1) _ e₁ λ c' space_c e₂.
+    and_then_some _ (number_at c') _ e₂ λ n read_n e₃.
+    and_then_some _ (strip (codes " ") n.1) _ e₃ λ n' space_n e₄.
+    and_then_some _ (number_at n') _ e₄ λ s read_s e₅.
+    and_then_some _ (strip (codes " ") s.1) _ e₅ λ s' space_s e₆.
+    and_then_some _ (number_at s') _ e₆ λ i read_i e₇.
+    and_then_some _ (strip (codes " ") i.1) _ e₇ λ i' space_i e₈.
+    and_then_some _ (number_at i') _ e₈ λ a read_a e₉.
+    and_then_some _ (strip (codes "\n") a.1) _ e₉ λ a' feed_a e₁₀.
+    let (event_is, rest_is) = same_parts (Restart c.0 n.0 s.0 i.0 a.0) event a' rest e₁₀ in
+    let is_c = number_sound bytes c.1 c.0 read_c in
+    let is_n = number_sound c' n.1 n.0 read_n in
+    let is_s = number_sound n' s.1 s.0 read_s in
+    let is_i = number_sound s' i.1 i.0 read_i in
+    let is_a = number_sound i' a.1 a.0 read_a in
+    let split : codes "restart " ++ bytes ≡ line (Restart c.0 n.0 s.0 i.0 a.0) ++ a' =
+    rw (is_c.1, strip_sound _ c.1 c' space_c, is_n.1, strip_sound _ n.1 n' space_n, is_s.1, strip_sound _ s.1 s' space_s, is_i.1, strip_sound _ i.1 i' space_i, is_a.1, strip_sound _ a.1 a' feed_a) (simp append_assoc) in
+    subst (λ (x : Event). IsInRange x × (codes "restart " ++ bytes ≡ line x ++ rest)) event_is
+    (subst (λ (r : List ℕ). IsInRange (Restart c.0 n.0 s.0 i.0 a.0) × (codes "restart " ++ bytes ≡ line (Restart c.0 n.0 s.0 i.0 a.0) ++ r)) rest_is ((is_c.0, is_n.0, is_s.0, is_i.0, is_a.0), split))
+
 cond_both : {A : Type 0} (b : Bool) (o : Option A) (y : A) → cond b o None ≡ Some y → (b ≡ true) × (o ≡ Some y)
 cond_both true o y e = (refl, e)
 cond_both false o y e = absurd (none-some y e)
@@ -172,8 +202,9 @@ unfolding line_at
 line_sound bytes rest event e =
     by_word (strip (codes "start ") bytes) start_at _ _ e (λ s found e₁. let (fits, is) = start_sound s rest event e₁ in (fits, strip_sound _ bytes s found ∙ is)) λ e'.
     by_word (strip (codes "stop ") bytes) stop_at _ _ e' (λ s found e₁. let (fits, is) = stop_sound s rest event e₁ in (fits, strip_sound _ bytes s found ∙ is)) λ e''.
-    by_word (strip (codes "tick ") bytes) tick_at _ _ e'' (λ s found e₁. let (fits, is) = tick_sound s rest event e₁ in (fits, strip_sound _ bytes s found ∙ is)) λ e'''.
-    and_then_some _ (strip (codes "close\n") bytes) _ e''' λ s found e₁.
+    by_word (strip (codes "restart ") bytes) restart_at _ _ e'' (λ s found e₁. let (fits, is) = restart_sound s rest event e₁ in (fits, strip_sound _ bytes s found ∙ is)) λ e'''.
+    by_word (strip (codes "tick ") bytes) tick_at _ _ e''' (λ s found e₁. let (fits, is) = tick_sound s rest event e₁ in (fits, strip_sound _ bytes s found ∙ is)) λ e''''.
+    and_then_some _ (strip (codes "close\n") bytes) _ e'''' λ s found e₁.
     let (event_is, rest_is) = same_parts Close event s rest e₁ in
     subst (λ (x : Event). IsInRange x × (bytes ≡ line x ++ rest)) event_is
     (subst (λ (r : List ℕ). IsInRange Close × (bytes ≡ line Close ++ r)) rest_is (tt, close_line bytes s (strip_sound _ bytes s found)))

@@ -5,7 +5,7 @@ use Rattle.std.proofs.lemmas.Option.{none-some}
 use Rattle.std.proofs.NetLemmas.Options.{same_parts}
 use Rattle.std.proofs.lemmas.List.{length-append, append-nil}
 use Rattle.timer_facility.specs.declared.event.Event.{Event}
-use Rattle.timer_facility.specs.declared.event.Event.TheVariants.{Start, Stop, Ticks, Close}
+use Rattle.timer_facility.specs.declared.event.Event.TheVariants.{Start, Stop, Restart, Ticks, Close}
 use Rattle.timer_program.specs.Script.{IsInRange, line, spelling, IsScript, BeginsNoLine, IsBadLine}
 use Rattle.timer_program.specs.Lines.{line_at}
 use Rattle.timer_program.proofs.Lines.{line_again}
@@ -21,6 +21,7 @@ pub line_long : (event : Event) → 1 ≤ length (line event)
 unfolding line
 line_long (Start c n i a) = omega arith
 line_long (Stop c n s) = omega arith
+line_long (Restart c n s i a) = omega arith
 line_long (Ticks k) = omega arith
 line_long Close = omega arith
 

@@ -5,3 +5,6 @@ pub mod Reading
 pub mod Writing
 pub mod Faults
 pub mod Running
+pub mod Asked
+pub mod Schemes
+pub mod Ending

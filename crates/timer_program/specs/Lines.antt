@@ -6,7 +6,7 @@ use Rattle.std.specs.Borrow.{Bor}
 use Rattle.timer_base.specs.declared.limits.TheConstants.{LAST}
 use Rattle.timer_program.specs.declared.reading.TheConstants.{MOST_TICKS}
 use Rattle.timer_facility.specs.declared.event.Event.{Event}
-use Rattle.timer_facility.specs.declared.event.Event.TheVariants.{Start, Stop, Ticks, Close}
+use Rattle.timer_facility.specs.declared.event.Event.TheVariants.{Start, Stop, Restart, Ticks, Close}
 
 -- a value and the bytes after it
 abbrev pub Read : Type 0 → Type 0
@@ -62,6 +62,21 @@ stop_at bytes =
     strip (codes "\n") serial.1 >>= λ rest.
     Some (Stop client.0 number.0 serial.0, rest)
 
+-- the fields behind the word `restart`
+unfoldable pub restart_at : List ℕ → Read Event
+restart_at bytes =
+    number_at bytes >>= λ client.
+    strip (codes " ") client.1 >>= λ a.
+    number_at a >>= λ number.
+    strip (codes " ") number.1 >>= λ b.
+    number_at b >>= λ serial.
+    strip (codes " ") serial.1 >>= λ c.
+    number_at c >>= λ interval.
+    strip (codes " ") interval.1 >>= λ d.
+    number_at d >>= λ action.
+    strip (codes "\n") action.1 >>= λ rest.
+    Some (Restart client.0 number.0 serial.0 interval.0 action.0, rest)
+
 -- the field behind the word `tick`
 unfoldable pub tick_at : List ℕ → Read Event
 tick_at bytes =
@@ -73,5 +88,6 @@ unfoldable pub line_at : List ℕ → Read Event
 line_at bytes =
     or_try (strip (codes "start ") bytes) start_at
     (or_try (strip (codes "stop ") bytes) stop_at
+    (or_try (strip (codes "restart ") bytes) restart_at
     (or_try (strip (codes "tick ") bytes) tick_at
-    (strip (codes "close\n") bytes >>= λ rest. Some (Close, rest))))
+    (strip (codes "close\n") bytes >>= λ rest. Some (Close, rest)))))

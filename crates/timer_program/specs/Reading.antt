@@ -1,6 +1,6 @@
 -- What reading a script to its end does to the reader, which may tell which bytes it has left.
-use Rattle.std.specs.Prelude.{◌≡◌, ℕ, Bool, true, false, List, length, ◌++◌, Option}
-use Rattle.std.specs.Io.KnownBytes.{Consumes, IsAtEnd}
+use Rattle.std.specs.Prelude.{◌≡◌, ℕ, ◌+◌, ◌≤◌, Bool, true, false, List, length, ◌++◌, Option}
+use Rattle.std.specs.Io.KnownBytes.{Keeps, Consumes, IsAtEnd}
 use Rattle.timer_program.specs.declared.input.TheConstants.{MOST_BYTES}
 use Rattle.timer_program.specs.declared.fault.RunFault.{RunFault}
 use Rattle.timer_program.specs.declared.fault.RunFault.TheVariants as faults
@@ -9,16 +9,20 @@ use Rattle.timer_program.specs.declared.fault.RunFault.TheVariants as faults
 abbrev pub ReadsWhole : Option (List ℕ) → Option (List ℕ) → List ℕ → Type 0
 ReadsWhole old new bytes = Consumes old new bytes × IsAtEnd new
 
--- the reader had more bytes than a script may have: so many were read
-abbrev pub ReadsTooMany : Option (List ℕ) → Option (List ℕ) → Type 0
-ReadsTooMany old new = (bytes : List ℕ) × Consumes old new bytes × (length bytes ≡ MOST_BYTES)
+-- at most this many bytes were read
+abbrev pub ReadsUpTo : ℕ → Option (List ℕ) → Option (List ℕ) → Type 0
+ReadsUpTo most old new = (bytes : List ℕ) × Consumes old new bytes × (length bytes ≤ most)
 
--- why reading stopped before the end
+-- one byte more was read than a script may have
+abbrev pub ReadsTooMany : Option (List ℕ) → Option (List ℕ) → Type 0
+ReadsTooMany old new = (bytes : List ℕ) × Consumes old new bytes × (length bytes ≡ MOST_BYTES + 1)
+
+-- why reading stopped before the end, and how far it went
 abbrev pub StopsReading : RunFault → Option (List ℕ) → Option (List ℕ) → Bool → Type 0
-StopsReading faults.Read old new failed = failed ≡ true
+StopsReading faults.Read old new failed = ReadsUpTo MOST_BYTES old new × (failed ≡ true)
 StopsReading faults.TooLong old new failed = ReadsTooMany old new × (failed ≡ false)
 StopsReading (faults.Bad line) old new failed = ⊥
-StopsReading faults.OutOfMemory old new failed = failed ≡ false
+StopsReading faults.OutOfMemory old new failed = ReadsUpTo (MOST_BYTES + 1) old new × (failed ≡ false)
 StopsReading (faults.Write written) old new failed = ⊥
 
 -- one read put n bytes behind the old ones; none came only at the end
@@ -30,10 +34,10 @@ pub record HasRead (old new : Option (List ℕ)) (failed : Bool) (bytes bytes' :
   pub at_end : n ≡ 0 → IsAtEnd new
   pub good : failed ≡ false
 
--- why one read put nothing behind the old bytes
-abbrev pub FailsToRead : RunFault → Bool → Type 0
-FailsToRead faults.Read failed = failed ≡ true
-FailsToRead faults.TooLong failed = ⊥
-FailsToRead (faults.Bad line) failed = ⊥
-FailsToRead faults.OutOfMemory failed = failed ≡ false
-FailsToRead (faults.Write written) failed = ⊥
+-- why one read put nothing behind the old bytes; where the reader failed, no byte was read, and else at most `room` were
+abbrev pub FailsToRead : RunFault → ℕ → Option (List ℕ) → Option (List ℕ) → Bool → Type 0
+FailsToRead faults.Read room old new failed = Keeps old new × (failed ≡ true)
+FailsToRead faults.TooLong room old new failed = ⊥
+FailsToRead (faults.Bad line) room old new failed = ⊥
+FailsToRead faults.OutOfMemory room old new failed = ReadsUpTo room old new × (failed ≡ false)
+FailsToRead (faults.Write written) room old new failed = ⊥

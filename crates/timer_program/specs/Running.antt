@@ -1,16 +1,17 @@
 -- What a run reads and writes, from the bytes of a script to those of the text that answers it.
-use Rattle.std.specs.Prelude.{◌≡◌, ℕ, ◌<◌, true, List, length, take, Option, Result, Ok, Err}
+use Rattle.std.specs.Prelude.{◌≡◌, ℕ, ◌+◌, ◌<◌, ◌≤◌, true, false, List, length, take, Option, Result, Ok, Err}
 use Rattle.std.specs.Io.KnownBytes.{Appends}
 use Rattle.timer_facility.specs.declared.event.Event.{Event}
 use Rattle.timer_facility.specs.declared.event.Out.{Out}
 use Rattle.timer_facility.specs.State.{FacilityState}
 use Rattle.timer_facility.specs.Played.{IsPlayed}
+use Rattle.timer_program.specs.declared.input.TheConstants.{MOST_BYTES}
 use Rattle.timer_program.specs.declared.fault.RunFault.{RunFault}
 use Rattle.timer_program.specs.declared.fault.RunFault.TheVariants as faults
 use Rattle.timer_program.specs.declared.watched.Watched.{Watched}
 use Rattle.timer_program.specs.Script.{IsScript, IsBadLine}
 use Rattle.timer_program.specs.Text.{text}
-use Rattle.timer_program.specs.Reading.{ReadsWhole, ReadsTooMany}
+use Rattle.timer_program.specs.Reading.{ReadsWhole, ReadsUpTo, ReadsTooMany}
 
 -- the answer to these events from a state: the lines of what came of them, and the end line
 pub record IsAnswer (before : FacilityState) (events : List Event) (answer : List ℕ) : Type 0 where
@@ -19,21 +20,23 @@ pub record IsAnswer (before : FacilityState) (events : List Event) (answer : Lis
   pub played : IsPlayed before events outs after
   pub lines : answer ≡ text outs after.now (length after.pending)
 
--- the reader was read to its end, its bytes are the script of some events, and this is the answer to them
+-- the reader was read to its end, its bytes are the script of some events, no longer than a script may be, and this is the answer to them
 pub record IsAnswered (before : FacilityState) (old new : Option (List ℕ)) (answer : List ℕ) : Type 0 where
   pub bytes : List ℕ
   pub events : List Event
   pub whole : ReadsWhole old new bytes
+  pub short : length bytes ≤ MOST_BYTES
   pub script : IsScript events bytes
   pub answered : IsAnswer before events answer
 
--- the reader was read to its end, and this is the first bad line of its bytes
+-- the reader was read to its end, its bytes are no more than a script may have, and this is their first bad line
 pub record IsBad (old new : Option (List ℕ)) (line : ℕ) : Type 0 where
   pub bytes : List ℕ
   pub whole : ReadsWhole old new bytes
+  pub short : length bytes ≤ MOST_BYTES
   pub bad : IsBadLine bytes line
 
--- why a script has no answer
+-- why bytes of a script's length have no answer
 abbrev pub GivesNoAnswer : RunFault → List ℕ → Type 0
 GivesNoAnswer faults.Read bytes = ⊥
 GivesNoAnswer faults.TooLong bytes = ⊥
@@ -41,24 +44,33 @@ GivesNoAnswer (faults.Bad line) bytes = IsBadLine bytes line
 GivesNoAnswer faults.OutOfMemory bytes = Unit {0}
 GivesNoAnswer (faults.Write written) bytes = ⊥
 
+-- why bytes in memory have no answer
+abbrev pub HasNoAnswer : RunFault → List ℕ → Type 0
+HasNoAnswer faults.Read bytes = ⊥
+HasNoAnswer faults.TooLong bytes = MOST_BYTES < length bytes
+HasNoAnswer (faults.Bad line) bytes = IsBadLine bytes line × (length bytes ≤ MOST_BYTES)
+HasNoAnswer faults.OutOfMemory bytes = length bytes ≤ MOST_BYTES
+HasNoAnswer (faults.Write written) bytes = ⊥
+
 -- what a run did to its reader and its writer, by how it ended
 abbrev pub HasRun : {R S : Type 0} (before : FacilityState) (remaining : R → Option (List ℕ)) (contents : S → Option (List ℕ)) (reader reader' : Watched R) (writer writer' : Watched S) → Result Unit RunFault → Type 0
 -- the answer was written, and nothing else
 HasRun before remaining contents reader reader' writer writer' (Ok u) =
-    (answer : List ℕ) × IsAnswered before (remaining reader.inner) (remaining reader'.inner) answer
-    × Appends (contents writer.inner) (contents writer'.inner) answer
--- the reader failed in this call, and nothing was written
+    (answer : List ℕ) × IsAnswered before (remaining reader.inner) (remaining reader'.inner) answer × (reader'.failed ≡ false)
+    × Appends (contents writer.inner) (contents writer'.inner) answer × (writer'.failed ≡ false)
+-- the reader failed in this call, after no more bytes than a script may have, and nothing was written
 HasRun before remaining contents reader reader' writer writer' (Err faults.Read) =
-    (reader'.failed ≡ true) × (writer' ≡ writer)
--- more bytes were read than a script may have, and nothing was written
+    ReadsUpTo MOST_BYTES (remaining reader.inner) (remaining reader'.inner) × (reader'.failed ≡ true) × (writer' ≡ writer)
+-- one byte more was read than a script may have, and nothing was written
 HasRun before remaining contents reader reader' writer writer' (Err faults.TooLong) =
-    ReadsTooMany (remaining reader.inner) (remaining reader'.inner) × (writer' ≡ writer)
+    ReadsTooMany (remaining reader.inner) (remaining reader'.inner) × (reader'.failed ≡ false) × (writer' ≡ writer)
 -- the input is no script, this is its first bad line, and nothing was written
 HasRun before remaining contents reader reader' writer writer' (Err (faults.Bad line)) =
-    IsBad (remaining reader.inner) (remaining reader'.inner) line × (writer' ≡ writer)
--- nothing was written
-HasRun before remaining contents reader reader' writer writer' (Err faults.OutOfMemory) = writer' ≡ writer
+    IsBad (remaining reader.inner) (remaining reader'.inner) line × (reader'.failed ≡ false) × (writer' ≡ writer)
+-- nothing was written, and at most one byte more was read than a script may have
+HasRun before remaining contents reader reader' writer writer' (Err faults.OutOfMemory) =
+    ReadsUpTo (MOST_BYTES + 1) (remaining reader.inner) (remaining reader'.inner) × (reader'.failed ≡ false) × (writer' ≡ writer)
 -- the writer failed in this call, and a front of the answer was written, of this length, and nothing else
 HasRun before remaining contents reader reader' writer writer' (Err (faults.Write written)) =
-    (answer : List ℕ) × IsAnswered before (remaining reader.inner) (remaining reader'.inner) answer
+    (answer : List ℕ) × IsAnswered before (remaining reader.inner) (remaining reader'.inner) answer × (reader'.failed ≡ false)
     × (written < length answer) × Appends (contents writer.inner) (contents writer'.inner) (take written answer) × (writer'.failed ≡ true)

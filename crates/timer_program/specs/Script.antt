@@ -4,7 +4,7 @@ use Rattle.std.specs.List.{flat_map, AllByRecursion}
 use Rattle.timer_base.specs.declared.limits.TheConstants.{LAST}
 use Rattle.timer_program.specs.declared.reading.TheConstants.{MOST_TICKS}
 use Rattle.timer_facility.specs.declared.event.Event.{Event}
-use Rattle.timer_facility.specs.declared.event.Event.TheVariants.{Start, Stop, Ticks, Close}
+use Rattle.timer_facility.specs.declared.event.Event.TheVariants.{Start, Stop, Restart, Ticks, Close}
 use Rattle.timer_program.specs.declared.fault.ScriptFault.{ScriptFault}
 use Rattle.timer_program.specs.declared.fault.ScriptFault.TheVariants.{Bad, OutOfMemory}
 
@@ -12,6 +12,7 @@ use Rattle.timer_program.specs.declared.fault.ScriptFault.TheVariants.{Bad, OutO
 abbrev pub IsInRange : Event → Type 0
 IsInRange (Start client number interval action) = (client ≤ LAST) × (number ≤ LAST) × (interval ≤ LAST) × (action ≤ LAST)
 IsInRange (Stop client number serial) = (client ≤ LAST) × (number ≤ LAST) × (serial ≤ LAST)
+IsInRange (Restart client number serial interval action) = (client ≤ LAST) × (number ≤ LAST) × (serial ≤ LAST) × (interval ≤ LAST) × (action ≤ LAST)
 IsInRange (Ticks count) = (1 ≤ count) × (count ≤ MOST_TICKS)
 IsInRange Close = Unit {0}
 
@@ -19,6 +20,8 @@ IsInRange Close = Unit {0}
 unfoldable pub line : Event → List ℕ
 line (Start client number interval action) = codes "start " ++ decimal client ++ codes " " ++ decimal number ++ codes " " ++ decimal interval ++ codes " " ++ decimal action ++ codes "\n"
 line (Stop client number serial) = codes "stop " ++ decimal client ++ codes " " ++ decimal number ++ codes " " ++ decimal serial ++ codes "\n"
+line (Restart client number serial interval action) =
+    codes "restart " ++ decimal client ++ codes " " ++ decimal number ++ codes " " ++ decimal serial ++ codes " " ++ decimal interval ++ codes " " ++ decimal action ++ codes "\n"
 line (Ticks count) = codes "tick " ++ decimal count ++ codes "\n"
 line Close = codes "close\n"
 

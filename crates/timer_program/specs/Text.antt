@@ -7,7 +7,7 @@ use Rattle.timer_facility.specs.declared.request.NotTaken.{NotTaken}
 use Rattle.timer_facility.specs.declared.request.NotTaken.TheVariants as refusal
 use Rattle.timer_facility.specs.declared.request.TickFault.{TickFault}
 use Rattle.timer_facility.specs.declared.request.TickFault.TheVariants as fault
-use Rattle.timer_facility.specs.declared.request.Answer.TheVariants.{Started, Stopped, Refused}
+use Rattle.timer_facility.specs.declared.request.Answer.TheVariants.{Started, Stopped, Restarted, Refused}
 use Rattle.timer_facility.specs.declared.request.Notice.TheVariants.{Expired, Returned}
 use Rattle.timer_facility.specs.declared.event.Out.{Out}
 use Rattle.timer_facility.specs.declared.event.Out.TheVariants as out
@@ -42,6 +42,7 @@ numbers all = flat_map (λ n. 32 ∷ decimal n) all
 abbrev pub out_line : Out → List ℕ
 out_line (out.Answered client number (Started handle deadline)) = codes "started" ++ numbers (client ∷ number ∷ handle.serial ∷ deadline ∷ []) ++ codes "\n"
 out_line (out.Answered client number (Stopped serial)) = codes "stopped" ++ numbers (client ∷ number ∷ serial ∷ []) ++ codes "\n"
+out_line (out.Answered client number (Restarted handle deadline old)) = codes "restarted" ++ numbers (client ∷ number ∷ old ∷ handle.serial ∷ deadline ∷ []) ++ codes "\n"
 out_line (out.Answered client number (Refused why)) = codes "refused" ++ numbers (client ∷ number ∷ []) ++ codes " " ++ reason_word why ++ codes "\n"
 out_line (out.NotTaken client number why) = codes "refused" ++ numbers (client ∷ number ∷ []) ++ codes " " ++ refusal_word why ++ codes "\n"
 out_line (out.Notice (Expired t)) = codes "expired" ++ numbers (t.deadline ∷ t.client ∷ t.serial ∷ t.action ∷ []) ++ codes "\n"

@@ -1,78 +1,99 @@
-//! The whole program, over its words, its input and its outputs.
-ghost use Rattle.std.specs.Prelude.{◌≤◌};
+//! The whole program, over its arguments, its input and its outputs.
+ghost use Rattle.std.specs.Prelude.{◌≡◌, ◌≢◌, ◌≤◌, ◌⊎◌, ℕ, List, false, true};
+ghost use Rattle.std.specs.Io.KnownBytes.{Appends};
+ghost use Rattle.clap.specs.Values.{kind_of};
+ghost use Rattle.timer_program.specs.Ending.{HasPlayed, HasEnded};
 
+use crate::asked::Play;
 use crate::fault::RunFault;
-use crate::options::{Play, read_words};
+use crate::options::{Asked, read_arguments};
+use crate::output::write_text;
+use crate::reporting::report;
 use crate::schemes::play_by_scheme;
+use crate::watched::Watched;
 use clap::Error;
 use clap::error::ErrorKind;
 use std::alloc::Global;
 use std::convert::AsStr;
 use std::io::{Read, Write};
 
-/// Runs the program on the words after its name, and answers its exit status.
+/// Runs the program on the arguments after its name, and returns its exit status.
 ///
-/// 0: the script was played and its text written, or help was asked for and written. 1: a fault,
-/// told in one line on `faults`. 2: the words are refused, for the reason that is told on `faults`;
-/// nothing is read, and nothing is written to `output`. A fault in writing to `faults` is passed
-/// over.
-pub fn command<T: AllocGlobal, S: AsStr, R: Read + Drop, W: Write + Drop, F: Write + Drop>(
+/// 0: the script was played and its text written, or help was asked for and written. 1: an error,
+/// reported in one line on `faults`. 2: the arguments are refused, for the reason that `faults` gets;
+/// nothing is read or written. An error in writing to `faults` is ignored. Neither the reader nor the
+/// writer may have failed before.
+pub fn command<T: AllocGlobal, S: AsStr, R: Read, W: Write, F: Write>(
     rt: &T,
-    words: &[S],
-    input: R,
-    mut output: W,
-    mut faults: F,
+    arguments: &[S],
+    reader: &mut Watched<R>,
+    writer: &mut Watched<W>,
+    faults: &mut F,
 ) -> u8
-    ensures { result ≤ 2 }
+    requires reader_good { reader.old.failed ≡ false }
+    requires writer_good { writer.old.failed ≡ false }
+    ensures { HasEnded R.remaining W.contents reader.old reader.new writer.old writer.new result }
 {
     let alloc = rt.alloc();
-    match read_words(alloc, words) {
-        Ok(Some(asked)) => play(alloc, asked, input, output, faults),
-        Ok(None) => 2,
-        Err(error) => end_unplayed(&error, &mut output, &mut faults),
+    match read_arguments(alloc, arguments) {
+        Ok(Asked::Play(asked)) => play(alloc, asked, reader, writer, faults),
+        Err(error) => end_unplayed(alloc, &error, writer, faults),
     }
 }
 
-/// Plays the script of the input, and answers the status.
-fn play<R: Read + Drop, W: Write + Drop, F: Write + Drop>(
+/// Plays the script of the reader, and returns the exit status.
+fn play<R: Read, W: Write, F: Write>(
     alloc: Global,
     asked: Play,
-    input: R,
-    output: W,
-    mut faults: F,
+    reader: &mut Watched<R>,
+    writer: &mut Watched<W>,
+    faults: &mut F,
 ) -> u8
-    ensures { result ≤ 2 }
+    requires reader_good { reader.old.failed ≡ false }
+    requires writer_good { writer.old.failed ≡ false }
+    ensures { HasPlayed asked R.remaining W.contents reader.old reader.new writer.old writer.new result }
 {
-    let Ok(checked) = asked.config().check() else {
-        return 2;
+    let checked = match asked.check() {
+        Ok(checked) => checked,
+        Err(fault) => {
+            let _ = writeln!(faults, "{fault}");
+            return 2;
+        }
     };
-    match play_by_scheme(alloc, asked, checked, input, output) {
+    match play_by_scheme(alloc, asked, checked, reader, writer) {
         Ok(()) => 0,
-        Err(fault) => tell(fault, &mut faults),
+        Err(fault) => report(fault, faults),
     }
 }
 
-/// Tells a fault in one line, and answers its status. A fault in telling it is passed over.
-fn tell<F: Write>(fault: RunFault, faults: &mut F) -> u8
-    ensures { result ≤ 1 }
-{
-    let _ = writeln!(faults, "{fault}");
-    1
-}
-
-/// Writes the help that was asked for, or tells why the words are not run. Answers the status.
-fn end_unplayed<W: Write, F: Write>(error: &Error, output: &mut W, faults: &mut F) -> u8
-    ensures { result ≤ 2 }
+/// Writes the help or the version that was asked for, or reports why the arguments are refused.
+/// Returns the exit status.
+fn end_unplayed<W: Write, F: Write>(
+    alloc: Global,
+    error: &Error,
+    writer: &mut Watched<W>,
+    faults: &mut F,
+) -> u8
+    requires { writer.old.failed ≡ false }
+    ensures out_of_memory { kind_of error.now ≡ ErrorKind.OutOfMemory → result ≡ 1 }
+    ensures help { ((kind_of error.now ≡ ErrorKind.DisplayHelp) ⊎ (kind_of error.now ≡ ErrorKind.DisplayVersion)) → result ≤ 1 }
+    ensures refused { kind_of error.now ≢ ErrorKind.OutOfMemory → kind_of error.now ≢ ErrorKind.DisplayHelp → kind_of error.now ≢ ErrorKind.DisplayVersion → result ≡ 2 }
+    ensures written { result ≡ 0 → ((text : List ℕ) × Appends (W.contents writer.old.inner) (W.contents writer.new.inner) text) × (writer.new.failed ≡ false) }
+    ensures failed { result ≡ 1 → (writer.new.failed ≡ true) ⊎ (writer.new ≡ writer.old) }
+    ensures unwritten { result ≡ 2 → writer.new ≡ writer.old }
 {
     if error.kind() == ErrorKind::OutOfMemory {
-        return tell(RunFault::OutOfMemory, faults);
+        return report(RunFault::OutOfMemory, faults);
     }
     if error.use_stderr() {
         let _ = write!(faults, "{error}");
         return 2;
     }
-    if write!(output, "{error}").is_err() {
-        return tell(RunFault::Write { written: 0 }, faults);
+    let Ok(text) = format!(in alloc; "{error}") else {
+        return report(RunFault::OutOfMemory, faults);
+    };
+    if let Err(fault) = write_text(writer, text.as_bytes()) {
+        return report(fault, faults);
     }
     0
 }

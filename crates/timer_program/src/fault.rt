@@ -1,4 +1,4 @@
-//! Why a script is not read, and why a run ends early.
+//! Why a script is rejected, and why a run ends early.
 ghost use Rattle.std.specs.Prelude.{◌≡◌};
 ghost use Rattle.timer_program.specs.declared.fault.ScriptFault.TheVariants.{OutOfMemory};
 ghost use Rattle.timer_program.specs.declared.fault.RunFault.TheVariants as faults;
@@ -6,15 +6,14 @@ ghost use Rattle.timer_program.specs.Faults.{run_fault};
 
 use std::alloc::{AllocError, AllocFailed};
 use thiserror::Error;
-use timer_base::MakeFault;
 
-/// Why bytes are not read as a script.
+/// Why bytes are rejected as a script.
 #[derive(Clone, Copy, Debug, PartialEq, Eq, Error)]
 pub enum ScriptFault {
-    /// The first line that is none, counted from 1.
+    /// The first bad line, counted from 1.
     #[error("bad line {line}")]
     Bad { line: u64 },
-    /// A growth was refused.
+    /// An allocation failed.
     #[error("out of memory")]
     OutOfMemory,
 }
@@ -35,7 +34,7 @@ impl<T: Drop> From<AllocFailed<T>> for ScriptFault {
     }
 }
 
-/// Why a run ended early. Its text is the line that a user is shown.
+/// Why a run ended early. Its text is the line that the user is shown.
 #[derive(Clone, Copy, Debug, PartialEq, Eq, Error)]
 pub enum RunFault {
     /// The reader failed. Nothing was written.
@@ -44,13 +43,13 @@ pub enum RunFault {
     /// The input is longer than a script may be. Nothing was written.
     #[error("too long")]
     TooLong,
-    /// The first line that is none, counted from 1. Nothing was written.
+    /// The first bad line, counted from 1. Nothing was written.
     #[error("bad line {line}")]
     Bad { line: u64 },
-    /// A growth was refused. Nothing was written.
+    /// An allocation failed. Nothing was written.
     #[error("out of memory")]
     OutOfMemory,
-    /// The writer failed after it had taken so many bytes of the text.
+    /// The writer failed after it had taken this many bytes of the text.
     #[error("write failed")]
     Write { written: usize },
 }
@@ -70,15 +69,6 @@ impl From<timer_base::OutOfMemory> for RunFault {
     ghost from_gives = { λ _ e. e ≡ faults.OutOfMemory };
 
     fn from(_: timer_base::OutOfMemory) -> RunFault {
-        RunFault::OutOfMemory
-    }
-}
-
-impl From<MakeFault> for RunFault {
-    ghost from_gives = { λ _ e. e ≡ faults.OutOfMemory };
-
-    /// No memory for a wheel. Its other faults cannot come here: its numbers were read in their ranges.
-    fn from(_: MakeFault) -> RunFault {
         RunFault::OutOfMemory
     }
 }

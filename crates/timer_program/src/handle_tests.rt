@@ -6,7 +6,7 @@ use std::process::Abort;
 use std::test::*;
 use timer_base::{Handle, PlainWheel, Timer, Wheel};
 use timer_facility::{Answer, Checked, Config, Facility, NotTaken, Notice, Reason, Request};
-use timer_wheels::{HashedWheel, HierWheel};
+use timer_wheels::{HashedWheel, HierWheel, Table};
 
 /// Goes on only where nothing waits to be handed out.
 fn settle<W: Wheel + Drop>(rt: &impl Abort, facility: &Facility<W>)
@@ -98,6 +98,72 @@ fn try_stale_handles<W: Wheel + Drop>(
     assert_eq!(rt; facility.next_out(), None, "{scheme}");
 }
 
+/// The handle of a timer that was restarted, over one wheel: `old_handle_still_stops`.
+fn try_old_handle<W: Wheel + Drop>(
+    rt: &impl Abort,
+    alloc: Global,
+    checked: Checked,
+    wheel: W,
+    scheme: &str,
+)
+    requires pending { (W.state wheel).pending ≡ [] }
+    requires due { (W.state wheel).due ≡ [] }
+    requires now { (W.state wheel).now ≡ checked.first_tick }
+    requires serial { (W.state wheel).last_serial < checked.first_serial }
+{
+    let mut facility = Facility::open(alloc, checked, wheel);
+    let old = started(rt, &mut facility, 1, 1);
+    for _ in 0..3 {
+        settle(rt, &facility);
+        assert_eq!(rt; facility.tick(), Ok(()), "{scheme}");
+    }
+    let restart = Request::Restart {
+        handle: old,
+        interval: 5,
+        action: 2,
+    };
+    let new = match take(rt, &mut facility, 2, restart) {
+        Ok(
+            Answer::Restarted {
+                handle,
+                deadline: 8,
+                old: 1,
+            },
+        ) => handle,
+        other => panic!(rt; "not restarted: {other:?}"),
+    };
+    assert_eq!(rt; new.serial, 2, "{scheme}");
+    let no_such = Ok(Answer::Refused(Reason::NoSuch));
+    let stop = take(rt, &mut facility, 3, Request::Stop(old));
+    assert_eq!(rt; stop, no_such, "{scheme}");
+    let again = take(rt, &mut facility, 4, restart);
+    assert_eq!(rt; again, no_such, "{scheme}");
+    let stop = take(rt, &mut facility, 5, Request::Stop(new));
+    assert_eq!(rt; stop, Ok(Answer::Stopped { serial: 2 }), "{scheme}");
+}
+
+#[test]
+fn an_old_handle_stops_nothing_with_each_scheme(rt: HostRuntime) -> Result<(), Fail> {
+    let alloc = rt.alloc();
+    let config = Config {
+        clients: 1,
+        capacity: 1024,
+        first_tick: 0,
+        first_serial: 1,
+        first_number: 1,
+    };
+    let checked = config.check()?;
+    try_old_handle(&rt, alloc, checked, PlainWheel::new(alloc, 0)?, "plain");
+    try_old_handle(&rt, alloc, checked, HierWheel::new(alloc, 0)?, "hier");
+    let clock = HierWheel::with_table(alloc, Table::Clock, 0)?;
+    try_old_handle(&rt, alloc, checked, clock, "clock");
+    for slots in [1, 8, 256, 65536] {
+        let wheel = HashedWheel::new(alloc, slots, 0)?;
+        try_old_handle(&rt, alloc, checked, wheel, "hashed");
+    }
+    Ok(())
+}
+
 #[test]
 fn a_stale_handle_stops_nothing_with_each_scheme(rt: HostRuntime) -> Result<(), Fail> {
     let alloc = rt.alloc();
@@ -111,6 +177,8 @@ fn a_stale_handle_stops_nothing_with_each_scheme(rt: HostRuntime) -> Result<(), 
     let checked = config.check()?;
     try_stale_handles(&rt, alloc, checked, PlainWheel::new(alloc, 0)?, "plain");
     try_stale_handles(&rt, alloc, checked, HierWheel::new(alloc, 0)?, "hier");
+    let clock = HierWheel::with_table(alloc, Table::Clock, 0)?;
+    try_stale_handles(&rt, alloc, checked, clock, "clock");
     for slots in [1, 8, 256, 65536] {
         let wheel = HashedWheel::new(alloc, slots, 0)?;
         try_stale_handles(&rt, alloc, checked, wheel, "hashed");

@@ -1,12 +1,22 @@
-//! Laws of scripts and of the text that answers them, each the contract of a function that does nothing.
+//! Lemmas about scripts and the text that answers them, each the contract of a function that does nothing.
 ghost use Rattle.std.specs.Prelude.{◌≡◌, ℕ, List};
+ghost use Rattle.timer_base.specs.declared.limits.TheConstants.{LAST};
 ghost use Rattle.timer_facility.specs.declared.event.Event.{Event};
 ghost use Rattle.timer_facility.specs.State.{FacilityState};
 ghost use Rattle.timer_facility.specs.Run.{bare_state};
+ghost use Rattle.timer_program.specs.declared.input.TheConstants.{MOST_BYTES};
+ghost use Rattle.timer_program.specs.declared.reading.TheConstants.{MOST_TICKS};
 ghost use Rattle.timer_program.specs.Script.{IsScript, IsBadLine};
 ghost use Rattle.timer_program.specs.Running.{IsAnswer};
 
 use timer_facility::players_give_the_same;
+
+/// The limits that the definitions name, as numbers.
+pub fn limits()
+    ensures greatest_number { LAST ≡ 1152921504606846975 }
+    ensures ticks_of_a_line { MOST_TICKS ≡ 1000000 }
+    ensures bytes_of_a_script { MOST_BYTES ≡ 1048576 }
+{}
 
 /// Bytes spell one list of events at most.
 pub fn one_spelling()

@@ -1,15 +1,20 @@
-//! The program `timers`: it reads a script of starts, stops, ticks and closes, plays it on a timer
-//! facility, and writes a line for each thing that comes of it.
+//! The program `timers`: it reads a script of starts, stops, restarts, ticks and closes, plays it on a timer
+//! facility, and writes one line per result.
 //!
 //! `play` has the whole run, from the bytes of the script to those of the text, and its contract is
 //! the promise of the program. Read `script` and `text` first, with `specs/Script.antt` and
-//! `specs/Text.antt`: which bytes are a script, and which text is answered.
+//! `specs/Text.antt`: which bytes are a script, and which text answers it. `arguments` is the program
+//! around it, up to the exit status.
 #![tactic(auto)]
 
+#[cfg(test)]
+mod argument_tests;
 mod arguments;
+mod asked;
 mod fault;
 #[cfg(test)]
 mod handle_tests;
+mod help;
 mod input;
 mod laws;
 mod memory;
@@ -17,34 +22,46 @@ mod options;
 mod output;
 mod play;
 mod reading;
+mod reporting;
+#[cfg(test)]
+mod row_tests;
 mod schemes;
 mod script;
 #[cfg(test)]
-mod tests;
+mod script_tests;
+#[cfg(test)]
+mod stream_tests;
+#[cfg(test)]
+mod testing;
 mod text;
+#[cfg(test)]
+mod text_tests;
+mod unread;
 mod watched;
 
 use arguments::command;
-use std::env;
-use std::io::ErrorKind;
 use std::process::ExitCode;
+use std::{env, io};
+use unread::{after_name, end_without_arguments};
+use watched::Watched;
 
 fn main(rt: HostRuntime) -> ExitCode {
-    let alloc = rt.alloc();
-    let args = match env::args(&rt) {
-        Ok(args) => args,
-        Err(error) if error.kind() == ErrorKind::OutOfMemory => return no_memory(&rt),
-        Err(_) => return ExitCode::from(2),
+    let mut faults = rt.stderr();
+    let status = match all_arguments(&rt) {
+        Ok(arguments) => command(
+            &rt,
+            after_name(&arguments),
+            &mut Watched::new(rt.stdin()),
+            &mut Watched::new(rt.stdout()),
+            &mut faults,
+        ),
+        Err(error) => end_without_arguments(error.kind(), &mut faults),
     };
-    let Ok(words) = args.skip(1).collect::<Vec<String>>(alloc) else {
-        return no_memory(&rt);
-    };
-    let status = command(&rt, words.as_slice(), rt.stdin(), rt.stdout(), rt.stderr());
     ExitCode::from(status)
 }
 
-/// No memory for the words.
-fn no_memory(rt: &impl Eprint) -> ExitCode {
-    let _ = eprintln!(rt; "out of memory");
-    ExitCode::from(1)
+/// The program's name and its arguments.
+fn all_arguments(rt: &HostRuntime) -> io::Result<Vec<String>> {
+    let arguments = env::args(rt)?.collect::<Vec<String>>(rt.alloc())?;
+    Ok(arguments)
 }

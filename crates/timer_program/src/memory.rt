@@ -1,21 +1,22 @@
 //! A run over memory.
-ghost use Rattle.std.specs.Prelude.{◌≡◌, ◌≤◌, ℕ, List, [], length, IfOk, IsErrOf};
+ghost use Rattle.std.specs.Prelude.{◌≡◌, ◌≤◌, List, [], length, IfOk, IfErr, OnOk};
 ghost use Rattle.timer_facility.specs.declared.event.Event.{Event};
 ghost use Rattle.timer_program.specs.declared.input.TheConstants.{MOST_BYTES};
-ghost use Rattle.timer_program.specs.Script.{IsScript, IsBadLine};
-ghost use Rattle.timer_program.specs.Running.{IsAnswer};
+ghost use Rattle.timer_program.specs.Script.{IsScript};
+ghost use Rattle.timer_program.specs.Running.{IsAnswer, HasNoAnswer};
 
 use crate::fault::RunFault;
-use crate::play::run;
-use crate::watched::Watched;
+use crate::input::MOST_BYTES;
+use crate::play::answer_to;
 use std::alloc::Global;
 use timer_base::Wheel;
 use timer_facility::Facility;
 
 /// The text that answers a script.
 ///
-/// `Bad` names the first bad line, and `TooLong` comes only where the script has more bytes than one
-/// may have. Nothing may be pending in the facility or wait in it.
+/// Fails, in this order, with `TooLong` where the script has more than `MOST_BYTES` bytes, and with
+/// `Bad`, which names the first bad line. Never fails with `Read` or `Write`. Nothing may be pending
+/// in the facility or wait in it.
 pub fn answer_of<W: Wheel + Drop>(
     alloc: Global,
     script: &[u8],
@@ -24,11 +25,11 @@ pub fn answer_of<W: Wheel + Drop>(
     requires pending { facility.state.pending ≡ [] }
     requires waiting { facility.waiting ≡ [] }
     ensures ok { IfOk result (λ answer. (events : List Event) × IsScript events script.now × IsAnswer facility.state events answer.items) }
-    ensures bad { (line : ℕ) → IsErrOf result (RunFault.Bad line) → IsBadLine script.now line }
-    ensures too_long { IsErrOf result RunFault.TooLong → MOST_BYTES ≤ length script.now }
+    ensures short { OnOk result (length script.now ≤ MOST_BYTES) }
+    ensures fault { IfErr result (λ fault. HasNoAnswer fault script.now) }
 {
-    let mut reader = Watched::new(script);
-    let mut writer = Watched::new(Vec::new(alloc));
-    run(alloc, &mut reader, &mut writer, facility)?;
-    Ok(writer.into_inner())
+    if script.len() > MOST_BYTES {
+        return Err(RunFault::TooLong);
+    }
+    answer_to(alloc, script, facility)
 }

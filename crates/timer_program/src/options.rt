@@ -1,102 +1,35 @@
-//! The words after the program's name: which script is played how, or a request for help.
+//! The arguments of the program: what to play, or a request for help.
 //!
 //!     timers                        the same as `timers play`
 //!     timers play [OPTIONS]         plays the script on standard input
 //!     timers help, timers --help    what the program is
+//!     timers --version              its name and version
 //!
-//! The words are read by `clap`, which also writes the help and says why words are refused.
+//! `clap` reads the arguments, writes the help, and says why arguments are refused.
+ghost use Rattle.std.specs.Prelude.{◌≡◌, IfSome};
+ghost use Rattle.timer_program.specs.Asked.{name_of};
+
+use crate::asked::{Play, Scheme};
+use crate::help::{ABOUT, NAME, PLAY_ABOUT, SCHEMES, SCRIPTS, VERSION};
+use clap::error::ErrorKind;
 use clap::{Arg, ArgMatches, Command, Error, value_parser};
 use std::alloc::{AllocError, Global};
 use std::convert::AsStr;
-use timer_facility::Config;
 
-/// How timers are kept. Each scheme gives the same text.
+/// What the arguments ask for, where it is not help.
 #[derive(Clone, Copy, Debug, PartialEq, Eq)]
-pub enum Scheme {
-    /// One list, which each tick goes through.
-    Plain,
-    /// Buckets in a ring, one for each remainder of the deadline.
-    Hashed,
-    /// Ten wheels of 64 slots, one for each digit of the deadline.
-    Hier,
-}
-
-/// What `play` is asked for.
-#[derive(Clone, Copy, Debug, PartialEq, Eq)]
-pub struct Play {
-    pub scheme: Scheme,
-    /// The buckets of the hashed wheel.
-    pub slots: u64,
-    pub clients: u64,
-    pub capacity: u64,
-    pub first_tick: u64,
-}
-
-impl Play {
-    /// What the facility is opened with: serials and request numbers begin at 1.
-    pub fn config(&self) -> Config {
-        Config {
-            clients: self.clients,
-            capacity: self.capacity,
-            first_tick: self.first_tick,
-            first_serial: 1,
-            first_number: 1,
-        }
-    }
+pub enum Asked {
+    /// `play`: play the script on standard input.
+    Play(Play),
 }
 
 /// The names of the schemes.
-static SCHEMES: [&str; 3] = ["plain", "hashed", "hier"];
+static SCHEME_NAMES: [&str; 4] = ["plain", "hashed", "hier", "clock"];
 
-/// The words that no words stand for.
+/// What no arguments stand for.
 static PLAY: [&str; 1] = ["play"];
 
-static ABOUT: &str =
-    "Plays a script of timers: clients start and stop them, and ticks let them expire";
-
-static PLAY_ABOUT: &str = "Plays the script on standard input, and writes what comes of it";
-
-/// What stands below the help of the program.
-static SCRIPTS: &str = "\
-A script has one line for each event:
-  start CLIENT NUMBER INTERVAL ACTION  starts a timer that expires after INTERVAL
-                                       ticks; ACTION comes back with it
-  stop CLIENT NUMBER SERIAL            stops the client's timer with this serial
-  tick COUNT                           so many ticks go by, 1 to 1000000
-  close                                hands back what is pending, and ends all
-Each client numbers its requests 1, 2, 3, .. and timers get the serials 1, 2, 3, ..
-
-For example:
-  $ printf 'start 0 1 3 7\\ntick 3\\n' | timers play
-  started 0 1 1 3                      client, number, serial, deadline
-  expired 3 0 1 7                      tick, client, serial, action
-  end 3 0                              tick, pending timers
-
-With no words, `timers` is `timers play`; `timers play --help` has its options.
-Nothing is written before the whole script was played. The exit status is 0 if it
-was, 1 after a fault, which is told in one line on standard error, and 2 if the
-command line is refused. docs/formats.md has every line of scripts and of what is
-written.";
-
-/// What stands below the help of `play`.
-static SCHEMES_ABOUT: &str = "\
-Schemes:
-  plain   one list of timers, which each tick goes through
-  hashed  a ring of buckets: a timer stands in bucket (deadline modulo SLOTS)
-  hier    ten wheels of 64 slots: a timer moves down as its deadline comes near
-
-For example, with two clients, a stop and a close:
-  $ printf 'start 0 1 9 5\\nstart 1 1 9 6\\nstop 0 2 1\\nclose\\n' | timers play
-  started 0 1 1 9                      client, number, serial, deadline
-  started 1 1 2 9
-  stopped 0 2 1                        client, number, serial
-  closed 1                             how many are handed back
-  returned 1 2 9 6                     client, serial, deadline, action
-  end 0 0                              tick, pending timers
-
-`timers help` says what each line of a script means; docs/formats.md has all of it.";
-
-/// An option that takes a number from `least` to `most`.
+/// An option that takes a number in a range.
 fn number<'a>(
     alloc: Global,
     name: &'a str,
@@ -118,16 +51,16 @@ fn play_command<'a>(alloc: Global) -> Result<Command<'a>, AllocError> {
     let scheme = Arg::new(alloc, "scheme")
         .long("scheme")
         .value_name("SCHEME")
-        .value_parser(SCHEMES.as_slice())
+        .value_parser(SCHEME_NAMES.as_slice())
         .default_value("hier")
-        .help("How timers are kept; each scheme gives the same text");
+        .help("How timers are kept; each scheme gives the same text up to its last tick");
     let slots = number(
         alloc,
         "slots",
         "SLOTS",
         (1, 65536),
         "256",
-        "The buckets of the hashed wheel, 1 to 65536; passed over by the other schemes",
+        "The buckets of the hashed wheel, 1 to 65536; ignored by the other schemes",
     );
     let clients = number(
         alloc,
@@ -135,7 +68,7 @@ fn play_command<'a>(alloc: Global) -> Result<Command<'a>, AllocError> {
         "CLIENTS",
         (1, 64),
         "64",
-        "How many clients there are, 1 to 64, numbered from 0",
+        "The number of clients, 1 to 64; they are numbered from 0",
     );
     let capacity = number(
         alloc,
@@ -151,11 +84,11 @@ fn play_command<'a>(alloc: Global) -> Result<Command<'a>, AllocError> {
         "TICK",
         (0, 1152921504606846975),
         "0",
-        "The tick at which the clock begins, 0 to 1152921504606846975",
+        "The tick at which the clock begins, 0 to the last tick of the scheme",
     );
     Command::new(alloc, "play")
         .about(PLAY_ABOUT)
-        .after_help(SCHEMES_ABOUT)
+        .after_help(SCHEMES)
         .arg(scheme)?
         .arg(slots)?
         .arg(clients)?
@@ -163,28 +96,31 @@ fn play_command<'a>(alloc: Global) -> Result<Command<'a>, AllocError> {
         .arg(first_tick)
 }
 
-/// The whole command line.
+/// The whole command line. A subcommand may be left out only where there are no arguments at all.
 fn program<'a>(alloc: Global) -> Result<Command<'a>, AllocError> {
-    Command::new(alloc, "timers")
-        .bin_name("timers")?
+    Command::new(alloc, NAME)
+        .bin_name(NAME)?
+        .version(VERSION)
         .about(ABOUT)
         .after_help(SCRIPTS)
         .no_binary_name(true)
-        .subcommand_required(true)
         .subcommand(play_command(alloc)?)
 }
 
 /// The scheme of this name.
-fn scheme_of(name: &str) -> Option<Scheme> {
+fn scheme_of(name: &str) -> Option<Scheme>
+    ensures { IfSome result (λ scheme. name.now ≡ name_of scheme) }
+{
     match name {
         "plain" => Some(Scheme::Plain),
         "hashed" => Some(Scheme::Hashed),
         "hier" => Some(Scheme::Hier),
+        "clock" => Some(Scheme::Clock),
         _ => None,
     }
 }
 
-/// What the options of `play` ask for. Each has a value, its default if no other.
+/// What the options of `play` ask for, where each has a value.
 fn play_of(options: &ArgMatches) -> Option<Play> {
     Some(Play {
         scheme: scheme_of(options.get_str("scheme")?)?,
@@ -195,23 +131,30 @@ fn play_of(options: &ArgMatches) -> Option<Play> {
     })
 }
 
-/// What some words ask for.
-fn parsed<S: AsStr>(alloc: Global, words: &[S]) -> Result<Option<Play>, Error> {
-    let matches = program(alloc)?.try_get_matches_from(words)?;
+/// What some arguments ask for.
+fn parsed<S: AsStr>(alloc: Global, arguments: &[S]) -> Result<Asked, Error> {
+    let matches = program(alloc)?.try_get_matches_from(arguments)?;
     let asked = match matches.subcommand() {
-        Some(("play", options)) => play_of(options),
+        Some(("play", options)) => play_of(options).map(Asked::Play),
         _ => None,
     };
-    Ok(asked)
+    match asked {
+        Some(asked) => Ok(asked),
+        // An option without a value is refused as any other mistake in the arguments.
+        None => Err(program(alloc)?.error(
+            ErrorKind::MissingSubcommand,
+            "a subcommand with a value for each of its options is required",
+        )?),
+    }
 }
 
-/// What the words ask for. No words ask for `play`.
+/// What the arguments ask for. No arguments ask for `play`.
 ///
-/// An error is a request for help, a refusal, or want of memory.
-pub fn read_words<S: AsStr>(alloc: Global, words: &[S]) -> Result<Option<Play>, Error> {
-    if words.is_empty() {
+/// An error is a request for help or for the version, a refusal, or out of memory.
+pub fn read_arguments<S: AsStr>(alloc: Global, arguments: &[S]) -> Result<Asked, Error> {
+    if arguments.is_empty() {
         parsed(alloc, PLAY.as_slice())
     } else {
-        parsed(alloc, words)
+        parsed(alloc, arguments)
     }
 }

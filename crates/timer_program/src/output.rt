@@ -1,5 +1,5 @@
 //! Writes a text by a loop of its own over `write`, so that it is known how much went out where the
-//! writer fails. No error is tried again.
+//! writer fails. No error is retried.
 ghost use Rattle.std.specs.Prelude.{◌≡◌, ◌<◌, length, take, Ok, IfOk, IfErr, OnOk, true, false};
 ghost use Rattle.std.specs.Io.KnownBytes.{Appends};
 ghost use Rattle.timer_program.specs.Writing.{StopsWriting};
@@ -10,8 +10,8 @@ use std::io::Write;
 
 /// Writes the text and nothing else.
 ///
-/// `Write` is the only fault. It comes where the writer failed, or took no byte, and has how many
-/// bytes of the text were written before.
+/// `Write` is the only error. It comes where the writer failed, or took no byte, and has the number of
+/// bytes of the text that were written before.
 pub fn write_text<S: Write>(writer: &mut Watched<S>, text: &[u8]) -> Result<(), RunFault>
     requires { writer.old.failed ≡ false }
     ensures ok { OnOk result (Appends (S.contents writer.old.inner) (S.contents writer.new.inner) text.now) }

@@ -1,9 +1,9 @@
-//! The whole run: a script is read to its end, played, and answered by a text.
+//! The whole run: a script is read to its end and played, and the text that answers it is written.
 //!
 //!     reader --read--> bytes --parse--> events --play--> outs --text--> bytes --write--> writer
 //!
-//! Nothing is written before the last event was played, so a script with a bad line is not played
-//! in part, and what is written is the whole answer or a front of it.
+//! Nothing is written before the last event was played, so a script with a bad line is rejected as a
+//! whole, and what is written is the whole answer or a prefix of it.
 ghost use Rattle.std.specs.Prelude.{◌≡◌, ◌↔◌, ℕ, List, [], false, IsTrue, IfOk, IfErr, IsErrOf};
 ghost use Rattle.timer_facility.specs.declared.event.Event.{Event};
 ghost use Rattle.timer_program.specs.Script.{IsScript};
@@ -20,8 +20,8 @@ use std::io::{Read, Write};
 use timer_base::Wheel;
 use timer_facility::{Facility, Player};
 
-/// Plays a script on the facility. Answers the text of what came of it.
-fn answer_to<W: Wheel + Drop>(
+/// Plays a script on the facility, and returns the text that answers it.
+pub fn answer_to<W: Wheel + Drop>(
     alloc: Global,
     script: &[u8],
     facility: Facility<W>,
@@ -42,12 +42,13 @@ fn answer_to<W: Wheel + Drop>(
     Ok(answer)
 }
 
-/// Reads a script to its end, plays it on the facility, and writes the text of what came of it.
+/// Reads a script to its end, plays it on the facility, and writes the text that answers it.
 ///
-/// `Read` comes only where the reader failed in this call, and `Write` only where the writer did. No
-/// error is tried again. After `Write` a front of the text was written, of that many bytes; after any
-/// other fault nothing was. Neither the reader nor the writer may have failed before, and nothing
-/// may be pending in the facility or wait in it.
+/// Fails with `Read` only where the reader failed in this call, and with `Write` only where the writer
+/// did. No error is retried. After `Write` a prefix of the text was written, of that many bytes; after
+/// any other fault nothing was. At most one byte more is read than a script may have, and where that
+/// many came the run fails with `TooLong`. Neither the reader nor the writer may have failed before,
+/// and nothing may be pending in the facility or wait in it.
 pub fn run<R: Read, S: Write, W: Wheel + Drop>(
     alloc: Global,
     reader: &mut Watched<R>,

@@ -2,15 +2,17 @@
 //!
 //!     start CLIENT NUMBER INTERVAL ACTION   the client's request NUMBER starts a timer
 //!     stop CLIENT NUMBER SERIAL             the client's request NUMBER stops a timer
-//!     tick COUNT                            so many ticks one after another, 1 to 1,000,000
+//!     restart CLIENT NUMBER SERIAL INTERVAL ACTION
+//!                                           the client's request NUMBER stops a timer and starts another
+//!     tick COUNT                            that many ticks, 1 to 1,000,000
 //!     close                                 the close
 //!
-//! Fields are parted by one space, and a line feed ends the line. A number is at most `LAST` and has
-//! no sign and no leading zero. Each reader answers what it read and the bytes after it, so the
-//! bytes are gone through once and no line is copied.
+//! Fields are separated by one space, and a line feed ends the line. A number is at most `LAST` and
+//! has no sign and no leading zero. Each reader returns what it read and the bytes after it, so the
+//! bytes are read once and no line is copied.
 ghost use Rattle.std.specs.Prelude.{◌≡◌, ◌<◌, ◌≤◌, length, IfSome, option_copied};
 ghost use Rattle.timer_base.specs.declared.limits.TheConstants.{LAST};
-ghost use Rattle.timer_program.specs.Lines.{read_view, strip, digits_at, number_at, start_at, stop_at, tick_at, line_at};
+ghost use Rattle.timer_program.specs.Lines.{read_view, strip, digits_at, number_at, start_at, stop_at, restart_at, tick_at, line_at};
 
 use timer_base::LAST;
 use timer_facility::Event;
@@ -18,7 +20,7 @@ use timer_facility::Event;
 /// The most ticks of one line.
 pub const MOST_TICKS: u64 = 1000000;
 
-/// The value of the digits at the front and how many they are, if there is one and the value is at most LAST.
+/// The value of the digits at the front and their number, if there is one and the value is at most LAST.
 fn read_digits(bytes: &[u8]) -> Option<(u64, usize)>
     ensures value { result ≡ digits_at bytes.now }
     ensures fits { IfSome result (λ n. (n.0 ≤ LAST) × (0 < n.1) × (n.1 ≤ length bytes.now)) }
@@ -95,6 +97,27 @@ fn read_stop(bytes: &[u8]) -> Option<(Event, &[u8])>
     Some((event, rest))
 }
 
+/// What follows `restart `.
+#[tactic(auto, unfolding(crate::specs::Lines::restart_at))]
+fn read_restart(bytes: &[u8]) -> Option<(Event, &[u8])>
+    ensures { read_view (λ e. e) result ≡ restart_at bytes.now }
+{
+    let (client, rest) = read_number(bytes)?;
+    let (number, rest) = read_number(after_word(rest, b" ")?)?;
+    let (serial, rest) = read_number(after_word(rest, b" ")?)?;
+    let (interval, rest) = read_number(after_word(rest, b" ")?)?;
+    let (action, rest) = read_number(after_word(rest, b" ")?)?;
+    let rest = after_word(rest, b"\n")?;
+    let event = Event::Restart {
+        client,
+        number,
+        serial,
+        interval,
+        action,
+    };
+    Some((event, rest))
+}
+
 /// What follows `tick `.
 #[tactic(auto, unfolding(crate::specs::Lines::tick_at))]
 fn read_tick(bytes: &[u8]) -> Option<(Event, &[u8])>
@@ -118,6 +141,9 @@ pub fn read_line(bytes: &[u8]) -> Option<(Event, &[u8])>
     }
     if let Some(rest) = after_word(bytes, b"stop ") {
         return read_stop(rest);
+    }
+    if let Some(rest) = after_word(bytes, b"restart ") {
+        return read_restart(rest);
     }
     if let Some(rest) = after_word(bytes, b"tick ") {
         return read_tick(rest);

@@ -1,60 +1,129 @@
 //! Plays a script over the wheel of a scheme.
-ghost use Rattle.std.specs.Prelude.{◌≡◌, ◌<◌, []};
+ghost use Rattle.std.specs.Prelude.{◌≡◌, ◌<◌, ◌≤◌, [], false, IfOk};
+ghost use Rattle.timer_base.specs.declared.limits.TheConstants.{LAST};
+ghost use Rattle.timer_base.specs.WheelState.{empty_wheel};
+ghost use Rattle.timer_base.specs.declared.plain.PlainWheel.{PlainWheel};
+ghost use Rattle.timer_wheels.specs.declared.hashed.HashedWheel.{HashedWheel};
+ghost use Rattle.timer_wheels.specs.declared.hier.HierWheel.{HierWheel};
+ghost use Rattle.timer_wheels.specs.HashedWheel.{slots_of};
+ghost use Rattle.timer_wheels.specs.HierWheel.{table_of};
+ghost use Rattle.timer_wheels.specs.Tables.{last_of_table};
+ghost use Rattle.timer_facility.specs.Opened.{opened};
+ghost use Rattle.timer_program.specs.Asked.{scheme_last, config_of, IsPlayable};
+ghost use Rattle.timer_program.specs.Schemes.{IsWheelOf};
+ghost use Rattle.timer_program.specs.Running.{HasRun};
 
+use crate::asked::{Play, Scheme};
 use crate::fault::RunFault;
-use crate::options::{Play, Scheme};
 use crate::play::run;
 use crate::watched::Watched;
 use std::alloc::Global;
 use std::io::{Read, Write};
-use timer_base::{PlainWheel, Wheel};
+use timer_base::{MakeFault, OutOfMemory, PlainWheel, Wheel};
 use timer_facility::{Checked, Facility};
-use timer_wheels::{HashedWheel, HierWheel};
+use timer_wheels::{HashedWheel, HierWheel, Table};
 
-/// Plays the script of the input over a new wheel of the scheme, at the first tick.
-///
-/// The configuration is that of `asked`. A wheel that finds no memory is `OutOfMemory`.
-pub fn play_by_scheme<R: Read + Drop, S: Write + Drop>(
-    alloc: Global,
-    asked: Play,
-    checked: Checked,
-    input: R,
-    output: S,
-) -> Result<(), RunFault>
-    requires { 0 < checked.first_serial }
+/// An empty wheel of one of the schemes.
+enum SchemeWheel {
+    Plain(PlainWheel),
+    Hashed(HashedWheel),
+    Hier(HierWheel),
+}
+
+/// The hashed wheel that is asked for. Fails only by memory, since its numbers are in their ranges.
+fn hashed_wheel(alloc: Global, asked: Play) -> Result<HashedWheel, OutOfMemory>
+    requires { IsPlayable asked }
+    ensures state { IfOk result (λ wheel. ⟦<HashedWheel as Wheel>⟧.state wheel ≡ empty_wheel LAST asked.first_tick) }
+    ensures slots { IfOk result (λ wheel. slots_of wheel ≡ asked.slots) }
 {
-    let first_tick = checked.config().first_tick;
-    match asked.scheme {
-        Scheme::Plain => {
-            let wheel = PlainWheel::new(alloc, first_tick)?;
-            play_on(alloc, wheel, checked, input, output)
-        }
-        Scheme::Hashed => {
-            let wheel = HashedWheel::new(alloc, asked.slots as usize, first_tick)?;
-            play_on(alloc, wheel, checked, input, output)
-        }
-        Scheme::Hier => {
-            let wheel = HierWheel::new(alloc, first_tick)?;
-            play_on(alloc, wheel, checked, input, output)
-        }
+    match HashedWheel::new(alloc, asked.slots as usize, asked.first_tick) {
+        Ok(wheel) => Ok(wheel),
+        Err(MakeFault::OutOfMemory) => Err(OutOfMemory),
+        Err(MakeFault::Slots | MakeFault::FirstTick) => unreachable!(),
     }
 }
 
-/// Plays the script of the input over a new wheel, which stands at the first tick.
-fn play_on<R: Read + Drop, S: Write + Drop, W: Wheel + Drop>(
+/// The hierarchical wheel of a table. Fails only by memory.
+fn hier_wheel(alloc: Global, table: Table, first_tick: u64) -> Result<HierWheel, OutOfMemory>
+    requires { first_tick ≤ last_of_table table }
+    ensures state { IfOk result (λ wheel. ⟦<HierWheel as Wheel>⟧.state wheel ≡ empty_wheel (last_of_table table) first_tick) }
+    ensures table { IfOk result (λ wheel. table_of wheel ≡ table) }
+{
+    match HierWheel::with_table(alloc, table, first_tick) {
+        Ok(wheel) => Ok(wheel),
+        Err(MakeFault::OutOfMemory) => Err(OutOfMemory),
+        Err(MakeFault::Slots | MakeFault::FirstTick) => unreachable!(),
+    }
+}
+
+/// The plain wheel at a first tick.
+fn plain_wheel(alloc: Global, first_tick: u64) -> PlainWheel
+    requires { first_tick ≤ LAST }
+    ensures { ⟦<PlainWheel as Wheel>⟧.state result ≡ empty_wheel LAST first_tick }
+{
+    match PlainWheel::new(alloc, first_tick) {
+        Ok(wheel) => wheel,
+        Err(_) => unreachable!(),
+    }
+}
+
+/// The wheel of the scheme that is asked for, at the first tick. Fails only by memory.
+fn wheel_of(alloc: Global, asked: Play) -> Result<SchemeWheel, OutOfMemory>
+    requires { IsPlayable asked }
+    ensures scheme { IfOk result (λ wheel. IsWheelOf asked wheel) }
+    ensures plain { (wheel : PlainWheel) → result ≡ Ok (SchemeWheel.Plain wheel) → ⟦<PlainWheel as Wheel>⟧.state wheel ≡ empty_wheel (scheme_last asked.scheme) asked.first_tick }
+    ensures hashed { (wheel : HashedWheel) → result ≡ Ok (SchemeWheel.Hashed wheel) → ⟦<HashedWheel as Wheel>⟧.state wheel ≡ empty_wheel (scheme_last asked.scheme) asked.first_tick }
+    ensures hier { (wheel : HierWheel) → result ≡ Ok (SchemeWheel.Hier wheel) → ⟦<HierWheel as Wheel>⟧.state wheel ≡ empty_wheel (scheme_last asked.scheme) asked.first_tick }
+{
+    let first_tick = asked.first_tick;
+    let wheel = match asked.scheme {
+        Scheme::Plain => SchemeWheel::Plain(plain_wheel(alloc, first_tick)),
+        Scheme::Hashed => SchemeWheel::Hashed(hashed_wheel(alloc, asked)?),
+        Scheme::Hier => SchemeWheel::Hier(hier_wheel(alloc, Table::Wide, first_tick)?),
+        Scheme::Clock => SchemeWheel::Hier(hier_wheel(alloc, Table::Clock, first_tick)?),
+    };
+    Ok(wheel)
+}
+
+/// Plays the script of the reader over a new wheel of the scheme that is asked for, as `run` does.
+///
+/// Nothing is read before the wheel is made.
+pub fn play_by_scheme<R: Read, S: Write>(
+    alloc: Global,
+    asked: Play,
+    checked: Checked,
+    reader: &mut Watched<R>,
+    writer: &mut Watched<S>,
+) -> Result<(), RunFault>
+    requires playable { IsPlayable asked }
+    requires config { checked ≡ config_of asked }
+    requires reader_good { reader.old.failed ≡ false }
+    requires writer_good { writer.old.failed ≡ false }
+    ensures { HasRun (opened (config_of asked) (scheme_last asked.scheme)) R.remaining S.contents reader.old reader.new writer.old writer.new result }
+{
+    match wheel_of(alloc, asked)? {
+        SchemeWheel::Plain(wheel) => play_on(alloc, wheel, checked, reader, writer),
+        SchemeWheel::Hashed(wheel) => play_on(alloc, wheel, checked, reader, writer),
+        SchemeWheel::Hier(wheel) => play_on(alloc, wheel, checked, reader, writer),
+    }
+}
+
+/// Plays the script of the reader over a new wheel, which stands at the first tick.
+fn play_on<R: Read, S: Write, W: Wheel + Drop>(
     alloc: Global,
     wheel: W,
     checked: Checked,
-    input: R,
-    output: S,
+    reader: &mut Watched<R>,
+    writer: &mut Watched<S>,
 ) -> Result<(), RunFault>
+    requires reader_good { reader.old.failed ≡ false }
+    requires writer_good { writer.old.failed ≡ false }
     requires pending { (W.state wheel).pending ≡ [] }
     requires due { (W.state wheel).due ≡ [] }
     requires now { (W.state wheel).now ≡ checked.first_tick }
     requires serial { (W.state wheel).last_serial < checked.first_serial }
+    ensures { HasRun (opened checked (W.state wheel).last_tick) R.remaining S.contents reader.old reader.new writer.old writer.new result }
 {
-    let mut reader = Watched::new(input);
-    let mut writer = Watched::new(output);
     let facility = Facility::open(alloc, checked, wheel);
-    run(alloc, &mut reader, &mut writer, facility)
+    run(alloc, reader, writer, facility)
 }

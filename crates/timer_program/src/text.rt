@@ -1,14 +1,16 @@
-//! The text that a run answers: a line for each out, and the end line.
+//! The text that answers a script: a line for each out, and the end line.
 //!
 //!     started CLIENT NUMBER SERIAL DEADLINE     the client's request NUMBER started a timer
 //!     stopped CLIENT NUMBER SERIAL              the client's request NUMBER stopped a timer
+//!     restarted CLIENT NUMBER OLD SERIAL DEADLINE
+//!                                               the request stopped the timer OLD and started another
 //!     refused CLIENT NUMBER REASON              the request was refused, or not taken
-//!     expired TICK CLIENT SERIAL ACTION         a timer was handed out at its deadline
-//!     closed COUNT                              the close hands back so many timers
-//!     returned CLIENT SERIAL DEADLINE ACTION    a timer was handed back at the close
+//!     expired TICK CLIENT SERIAL ACTION         a timer expired at its deadline
+//!     closed COUNT                              the close returns this many timers
+//!     returned CLIENT SERIAL DEADLINE ACTION    a timer was returned by the close
 //!     tick refused REASON                       a tick was refused
 //!     close refused closed                      the facility had been closed before
-//!     end NOW PENDING                           the tick and the pending timers at the end
+//!     end NOW PENDING                           the tick and the number of pending timers at the end
 //!
 //! The text is built in one `Vec`, with no formatting machinery for each line.
 ghost use Rattle.std.specs.Prelude.{◌≡◌, ◌++◌, IfOk, OnOk, codes, decimal};
@@ -56,7 +58,7 @@ fn fault_of(fault: TickFault) -> &'static [u8]
     }
 }
 
-/// Writes numbers, each behind a space.
+/// Writes numbers, each after a space.
 fn push_numbers(out: &mut Vec<u8>, all: &[u64]) -> Result<(), OutOfMemory>
     ensures { OnOk result (out.new.items ≡ out.old.items ++ numbers all.now) }
 {
@@ -113,6 +115,19 @@ fn push_out(text: &mut Vec<u8>, out: Out) -> Result<(), OutOfMemory>
         Out::Answered {
             client,
             number,
+            answer: Answer::Restarted {
+                handle,
+                deadline,
+                old,
+            },
+        } => push_line(
+            text,
+            b"restarted",
+            &[client, number, old, handle.serial, deadline],
+        ),
+        Out::Answered {
+            client,
+            number,
             answer: Answer::Refused(reason),
         } => push_refused(text, b"refused", &[client, number], reason_of(reason)),
         Out::NotTaken {
@@ -138,7 +153,7 @@ fn push_out(text: &mut Vec<u8>, out: Out) -> Result<(), OutOfMemory>
 
 /// The lines of the outs, and the end line with this tick and this number of pending timers.
 ///
-/// Only a refused growth is an error.
+/// Fails only where memory ran out.
 pub fn text_of(alloc: Global, outs: &[Out], now: u64, pending: u64) -> Result<Vec<u8>, OutOfMemory>
     ensures { IfOk result (λ bytes. bytes.items ≡ text outs.now now pending) }
 {

@@ -1,7 +1,9 @@
 //! A reader or a writer that remembers whether it failed.
 //!
-//! An error that was answered once may be gone at the next call. Here it stays known, so a contract
-//! can say that a fault comes only where the reader or the writer itself failed.
+//! An error that was returned once may be gone at the next call. Here it stays known, so a contract
+//! can say that an error comes only where the reader or the writer itself failed. Each call makes one
+//! call of the reader or the writer, and nothing is retried: no clause can count those calls, so tests
+//! with readers and writers that fail once show it.
 ghost use Rattle.std.specs.Prelude.{◌≡◌, ◌||◌, ◌&&◌, ◌==◌, ◌<◌, not, false, length, is_ok, is_err};
 ghost use Rattle.std.specs.Io.{ReadsAtMost, WritesAtMost};
 ghost use Rattle.std.specs.Io.KnownBytes.{Keeps, ReadConsumes, WriteAppends};
@@ -18,7 +20,7 @@ pub struct Watched<T> {
 }
 
 impl<T> Watched<T> {
-    /// It has not failed yet. It takes no memory.
+    /// A value that has not failed yet. Does not allocate.
     pub fn new(inner: T) -> Watched<T>
         ensures inner { result.inner ≡ inner }
         ensures good { result.failed ≡ false }
@@ -29,14 +31,14 @@ impl<T> Watched<T> {
         }
     }
 
-    /// What was watched.
+    /// The value that was watched.
     pub fn into_inner(self) -> T
         ensures { result ≡ self.inner }
     {
         self.inner
     }
 
-    /// Whether an error was answered, or no byte was taken of a piece that wasn't empty.
+    /// Whether an error was returned, or no byte was taken of a piece that wasn't empty.
     pub fn failed(&self) -> bool
         ensures { result ≡ self.now.failed }
     {

@@ -1,7 +1,7 @@
 use Rattle.std.proofs.Common.{rules, sym, subst, arith}
 use Rattle.std.specs.Io.KnownBytes.{Consumes}
 use Rattle.std.proofs.KnownBytes.{Consumes-nil}
-use Rattle.timer_program.proofs.Known.{reads_more}
+use Rattle.timer_program.proofs.Known.{reads_more, stops_reading}
 use Rattle.timer_program.proofs.input.read_script.Goals as goal
 
 pub loop-bytes-init : goal.loop-bytes-init
@@ -27,3 +27,9 @@ loop-bytes-preserved g c =
       within = search rules;
       room = i.room;
     }
+
+pub returns-in_err-n-clause-fault : goal.returns-in_err-n-clause-fault
+returns-in_err-n-clause-fault g c =
+    let i = c.loop-bytes.invariant in
+    let stopped = stops_reading _ _ _ _ _ _ _ i.got (omega arith) (search rules) c.in_err-n.ensures.fault in
+    search rules

@@ -1,0 +1,36 @@
+-- How a call of the program ends: its exit status, and what it did to its input and its output.
+use Rattle.std.specs.Prelude.{◌≡◌, ℕ, ◌≤◌, ◌⊎◌, true, false, List, Option, Ok, Err}
+use Rattle.std.specs.Io.KnownBytes.{Appends}
+use Rattle.timer_facility.specs.Opened.{opened}
+use Rattle.timer_program.specs.declared.asked.Play.{Play}
+use Rattle.timer_program.specs.declared.asked.PlayFault.{PlayFault}
+use Rattle.timer_program.specs.declared.fault.RunFault.{RunFault}
+use Rattle.timer_program.specs.declared.watched.Watched.{Watched}
+use Rattle.timer_program.specs.Asked.{config_of, scheme_last, IsPlayable, IsRefused}
+use Rattle.timer_program.specs.Running.{HasRun}
+
+-- a script was played as asked, or was not read since that is refused
+pub record HasPlayed {R S : Type 0} (asked : Play) (remaining : R → Option (List ℕ)) (contents : S → Option (List ℕ)) (reader reader' : Watched R) (writer writer' : Watched S) (status : ℕ) : Type 0 where
+  pub in_range : status ≤ 2
+  -- 0: the whole text was written
+  pub written : status ≡ 0 → IsPlayable asked × HasRun (opened (config_of asked) (scheme_last asked.scheme)) remaining contents reader reader' writer writer' (Ok tt)
+  -- 1: the run failed
+  pub failed : status ≡ 1 → IsPlayable asked × ((fault : RunFault) × HasRun (opened (config_of asked) (scheme_last asked.scheme)) remaining contents reader reader' writer writer' (Err fault))
+  -- 2: what was asked for is refused, and nothing was read or written
+  pub refused : status ≡ 2 → ((fault : PlayFault) × IsRefused fault asked) × (reader' ≡ reader) × (writer' ≡ writer)
+
+-- no script was played, and nothing was read
+pub record HasNotPlayed {R S : Type 0} (contents : S → Option (List ℕ)) (reader reader' : Watched R) (writer writer' : Watched S) (status : ℕ) : Type 0 where
+  pub in_range : status ≤ 2
+  pub unread : reader' ≡ reader
+  -- 0: a whole text was written
+  pub written : status ≡ 0 → ((text : List ℕ) × Appends (contents writer.inner) (contents writer'.inner) text) × (writer'.failed ≡ false)
+  -- 1: the writer failed, or nothing was written
+  pub failed : status ≡ 1 → (writer'.failed ≡ true) ⊎ (writer' ≡ writer)
+  -- 2: nothing was written
+  pub refused : status ≡ 2 → writer' ≡ writer
+
+-- a script was played as the arguments ask, or none was
+abbrev pub HasEnded : {R S : Type 0} (remaining : R → Option (List ℕ)) (contents : S → Option (List ℕ)) (reader reader' : Watched R) (writer writer' : Watched S) → ℕ → Type 0
+HasEnded remaining contents reader reader' writer writer' status =
+    ((asked : Play) × HasPlayed asked remaining contents reader reader' writer writer' status) ⊎ HasNotPlayed contents reader reader' writer writer' status

@@ -1,0 +1,293 @@
+//! Arguments: what they ask for, and what is refused.
+use crate::asked::{Play, PlayFault, Scheme};
+use crate::options::{Asked, read_arguments};
+use crate::testing::{Fault, Sink, Source, call};
+use crate::unread::{after_name, end_without_arguments};
+use std::io::ErrorKind;
+use std::process::Abort;
+use std::test::*;
+use timer_base::MakeFault;
+use timer_facility::ConfigFault;
+
+static NO_ARGUMENTS: [&str; 0] = [];
+
+/// What is played where nothing else is asked for.
+fn usual() -> Play {
+    Play {
+        scheme: Scheme::Hier,
+        slots: 256,
+        clients: 64,
+        capacity: 1024,
+        first_tick: 0,
+    }
+}
+
+#[test]
+fn arguments_are_read_as_what_they_ask_for(rt: HostRuntime) -> Result<(), Fail> {
+    let alloc = rt.alloc();
+    let all = Play {
+        scheme: Scheme::Hashed,
+        slots: 8,
+        clients: 2,
+        capacity: 3,
+        first_tick: 4,
+    };
+    let rows = [
+        (NO_ARGUMENTS.as_slice(), usual()),
+        (["play"].as_slice(), usual()),
+        (
+            [
+                "play",
+                "--scheme",
+                "hashed",
+                "--slots",
+                "8",
+                "--clients",
+                "2",
+                "--capacity",
+                "3",
+                "--first-tick",
+                "4",
+            ]
+            .as_slice(),
+            all,
+        ),
+        (
+            [
+                "play",
+                "--first-tick=4",
+                "--capacity=3",
+                "--clients=2",
+                "--slots=8",
+                "--scheme=hashed",
+            ]
+            .as_slice(),
+            all,
+        ),
+        (
+            ["play", "--scheme", "plain"].as_slice(),
+            Play {
+                scheme: Scheme::Plain,
+                ..usual()
+            },
+        ),
+        (
+            [
+                "play",
+                "--scheme",
+                "clock",
+                "--slots",
+                "65536",
+                "--clients",
+                "1",
+            ]
+            .as_slice(),
+            Play {
+                scheme: Scheme::Clock,
+                slots: 65536,
+                clients: 1,
+                ..usual()
+            },
+        ),
+        (
+            [
+                "play",
+                "--capacity",
+                "1048576",
+                "--first-tick",
+                "1152921504606846975",
+            ]
+            .as_slice(),
+            Play {
+                capacity: 1048576,
+                first_tick: 1152921504606846975,
+                ..usual()
+            },
+        ),
+    ];
+    for (arguments, asked) in rows {
+        match read_arguments(alloc, arguments) {
+            Ok(read) => assert_eq!(rt; read, Asked::Play(asked)),
+            Err(_) => assert!(rt; false),
+        }
+    }
+    Ok(())
+}
+
+#[test]
+fn refused_arguments_read_nothing_and_write_nothing(rt: HostRuntime) -> Result<(), Fail> {
+    let lines = [
+        ["play", "--slots", "0"].as_slice(),
+        ["play", "--slots", "65537"].as_slice(),
+        ["play", "--clients", "0"].as_slice(),
+        ["play", "--clients", "65"].as_slice(),
+        ["play", "--capacity", "0"].as_slice(),
+        ["play", "--capacity", "1048577"].as_slice(),
+        ["play", "--first-tick", "1152921504606846976"].as_slice(),
+        ["play", "--first-tick", "-1"].as_slice(),
+        ["play", "--scheme", "wheel"].as_slice(),
+        ["play", "--scheme"].as_slice(),
+        ["play", "x"].as_slice(),
+        ["pause"].as_slice(),
+        ["--scheme", "plain"].as_slice(),
+        [""].as_slice(),
+    ];
+    for arguments in lines {
+        let ended = call(
+            &rt,
+            arguments,
+            Source::of(b"close\n"),
+            Sink::new(rt.alloc()),
+        );
+        assert_eq!(rt; ended.status, 2);
+        assert_eq!(rt; ended.asks, 0);
+        assert!(rt; ended.output.is_empty());
+        assert!(rt; ended.faults.starts_with(b"error: "));
+    }
+    Ok(())
+}
+
+#[test]
+fn a_clock_begins_at_its_last_tick_at_most(rt: HostRuntime) -> Result<(), Fail> {
+    let last = ["play", "--scheme", "clock", "--first-tick", "8639999"];
+    let ended = call(
+        &rt,
+        last.as_slice(),
+        Source::of(b"tick 1\n"),
+        Sink::new(rt.alloc()),
+    );
+    assert_eq!(rt; ended.status, 0);
+    assert_eq!(rt;
+        ended.output.as_slice(),
+        b"tick refused clock-end\nend 8639999 0\n".as_slice()
+    );
+
+    let late = ["play", "--scheme", "clock", "--first-tick", "8640000"];
+    let ended = call(
+        &rt,
+        late.as_slice(),
+        Source::of(b"tick 1\n"),
+        Sink::new(rt.alloc()),
+    );
+    assert_eq!(rt; ended.status, 2);
+    assert_eq!(rt; ended.asks, 0);
+    assert!(rt; ended.output.is_empty());
+    assert_eq!(rt;
+        ended.faults.as_slice(),
+        b"first tick above 8639999\n".as_slice()
+    );
+    Ok(())
+}
+
+#[test]
+fn help_and_version_are_written_where_they_are_asked_for(rt: HostRuntime) -> Result<(), Fail> {
+    let rows = [
+        (
+            ["--help"].as_slice(),
+            b"Plays a script of timers".as_slice(),
+        ),
+        (["-h"].as_slice(), b"Plays a script of timers".as_slice()),
+        (["help"].as_slice(), b"Plays a script of timers".as_slice()),
+        (
+            ["play", "--help"].as_slice(),
+            b"Plays the script on standard input".as_slice(),
+        ),
+        (
+            ["help", "play"].as_slice(),
+            b"Plays the script on standard input".as_slice(),
+        ),
+        (["--version"].as_slice(), b"timers 0.1.0\n".as_slice()),
+        (["-V"].as_slice(), b"timers 0.1.0\n".as_slice()),
+    ];
+    for (arguments, front) in rows {
+        let ended = call(&rt, arguments, Source::of(b"x"), Sink::new(rt.alloc()));
+        assert_eq!(rt; ended.status, 0);
+        assert_eq!(rt; ended.asks, 0);
+        assert!(rt; ended.output.starts_with(front));
+        assert!(rt; ended.faults.is_empty());
+        for fault in [Fault::TakesNone, Fault::Fails(ErrorKind::Interrupted)] {
+            let full = Sink::new(rt.alloc()).with_fault_after(7, fault);
+            let ended = call(&rt, arguments, Source::of(b"x"), full);
+            assert_eq!(rt; ended.status, 1);
+            assert!(rt; ended.writer_failed);
+            assert_eq!(rt; ended.output.as_slice(), &front[..7]);
+            assert_eq!(rt; ended.faults.as_slice(), b"write failed\n".as_slice());
+        }
+    }
+    Ok(())
+}
+
+#[test]
+fn help_says_that_no_arguments_play(rt: HostRuntime) -> Result<(), Fail> {
+    let ended = call(
+        &rt,
+        ["--help"].as_slice(),
+        Source::of(b""),
+        Sink::new(rt.alloc()),
+    );
+    for line in [
+        b"\nUsage: timers [COMMAND]\n".as_slice(),
+        b"\nWith no arguments, `timers` is `timers play`.\n".as_slice(),
+    ] {
+        assert!(rt; ended.output.windows(line.len()).any(|part| part == line));
+    }
+    Ok(())
+}
+
+#[test]
+fn arguments_that_cannot_be_read_are_reported(rt: HostRuntime) -> Result<(), Fail> {
+    let alloc = rt.alloc();
+    let rows = [
+        (ErrorKind::OutOfMemory, 1, b"out of memory\n".as_slice()),
+        (
+            ErrorKind::InvalidData,
+            2,
+            b"error: an argument is not UTF-8\n".as_slice(),
+        ),
+    ];
+    for (kind, want, line) in rows {
+        let mut faults = Vec::new(alloc);
+        assert_eq!(rt; end_without_arguments(kind, &mut faults), want);
+        assert_eq!(rt; faults.as_slice(), line);
+    }
+    assert_eq!(rt; after_name(&["timers", "play"]), ["play"].as_slice());
+    assert!(rt; after_name(&["timers"]).is_empty());
+    assert!(rt; after_name(NO_ARGUMENTS.as_slice()).is_empty());
+    Ok(())
+}
+
+#[test]
+fn faults_of_making_and_of_asking_have_their_texts(rt: HostRuntime) -> Result<(), Fail> {
+    let alloc = rt.alloc();
+    let makes = [
+        (MakeFault::Slots, "the number of slots is out of range"),
+        (MakeFault::FirstTick, "the first tick is out of range"),
+        (MakeFault::OutOfMemory, "out of memory"),
+    ];
+    for (fault, text) in makes {
+        assert_eq!(rt; format!(in alloc; "{fault}")?.as_str(), text);
+    }
+    let plays = [
+        (
+            PlayFault::Config(ConfigFault::Clients),
+            "the number of clients is out of range",
+        ),
+        (
+            PlayFault::Config(ConfigFault::Capacity),
+            "the capacity is out of range",
+        ),
+        (
+            PlayFault::Config(ConfigFault::FirstTick),
+            "the first tick is out of range",
+        ),
+        (PlayFault::Slots, "the number of slots is out of range"),
+        (
+            PlayFault::FirstTick { last: 8639999 },
+            "first tick above 8639999",
+        ),
+    ];
+    for (fault, text) in plays {
+        assert_eq!(rt; format!(in alloc; "{fault}")?.as_str(), text);
+    }
+    Ok(())
+}

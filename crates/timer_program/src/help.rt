@@ -1,0 +1,64 @@
+//! The name, the version and the texts of the help.
+
+/// The name of the program.
+pub static NAME: &str = "timers";
+
+/// The version of the program: the only place that states it.
+pub static VERSION: &str = "0.1.0";
+
+pub static ABOUT: &str =
+    "Plays a script of timers: clients start, restart and stop them, and ticks let them expire";
+
+pub static PLAY_ABOUT: &str = "Plays the script on standard input and writes one line per result";
+
+/// What stands below the help of the program.
+pub static SCRIPTS: &str = "\
+With no arguments, `timers` is `timers play`.
+
+A script has one line for each event:
+  start CLIENT NUMBER INTERVAL ACTION  starts a timer that expires after INTERVAL
+                                       ticks; ACTION is handed back with it
+  stop CLIENT NUMBER SERIAL            stops the timer with this serial
+  restart CLIENT NUMBER SERIAL INTERVAL ACTION
+                                       stops that timer and starts its successor
+  tick COUNT                           advances the clock by COUNT ticks, 1 to 1000000
+  close                                returns all pending timers and closes
+Each client numbers its requests 1, 2, 3, .. and timers get the serials 1, 2, 3, ..
+
+Fields are separated by exactly one space. Every line ends with LF, the last one
+included; there is no CR, no tab, no comment, no empty line, and no space at either
+end of a line. Words are in lower case. A number is decimal, 0 to 1152921504606846975,
+with no sign and no leading zero. A script has at most 1048576 bytes. The first line
+that breaks a rule is reported as `bad line L`, counted from 1, and nothing is played.
+A well-formed line that is refused, such as a start with interval 0, is played, and
+its refusal is written.
+
+For example:
+  $ printf 'start 0 1 3 7\\ntick 3\\n' | timers
+  started 0 1 1 3                      client, number, serial, deadline
+  expired 3 0 1 7                      tick, client, serial, action
+  end 3 0                              tick, pending timers
+
+Nothing is written before the whole script has been played. The exit status is 0 if
+it was, 1 after an error, which is reported in one line on standard error, and 2 if
+the arguments are refused. docs/formats.md lists every line of scripts and output.";
+
+/// What stands below the help of `play`.
+pub static SCHEMES: &str = "\
+Schemes:
+  plain   one list of timers, which each tick goes through
+  hashed  a ring of buckets: a timer is in bucket (deadline modulo SLOTS)
+  hier    ten wheels of 64 slots: a timer moves down as its deadline comes near
+  clock   the same with wheels of 60 seconds, 60 minutes, 24 hours and 100 days; its
+          last tick is 8639999, that of the others is 1152921504606846975
+
+For example, with two clients, a stop and a close:
+  $ printf 'start 0 1 9 5\\nstart 1 1 9 6\\nstop 0 2 1\\nclose\\n' | timers play
+  started 0 1 1 9                      client, number, serial, deadline
+  started 1 1 2 9
+  stopped 0 2 1                        client, number, serial
+  closed 1                             number of timers returned
+  returned 1 2 9 6                     client, serial, deadline, action
+  end 0 0                              tick, pending timers
+
+`timers help` describes the lines of a script; docs/formats.md has all of it.";

@@ -1,0 +1,243 @@
+//! The worked examples: scripts and the texts that answer them, with each scheme.
+use crate::testing::{Sink, Source, call};
+use std::process::Abort;
+use std::test::*;
+
+/// A script, the options that it is played with, and the text that answers it.
+#[derive(Clone, Copy)]
+struct Row {
+    name: &'static str,
+    options: &'static [&'static str],
+    script: &'static str,
+    text: &'static str,
+}
+
+static NO_OPTIONS: [&str; 0] = [];
+
+static LATE: [&str; 2] = ["--first-tick", "1152921504606846974"];
+
+static ELEVEN_DAYS: [&str; 2] = ["--first-tick", "987870"];
+
+static ONE_TIMER: [&str; 2] = ["--capacity", "1"];
+
+static LAST_DAY: [&str; 2] = ["--first-tick", "8639990"];
+
+static FIRST_DAY: [&str; 2] = ["--first-tick", "86399"];
+
+/// A row that needs no options.
+fn usual_row(name: &'static str, script: &'static str, text: &'static str) -> Row {
+    Row {
+        name,
+        options: NO_OPTIONS.as_slice(),
+        script,
+        text,
+    }
+}
+
+/// The worked examples, which every scheme answers alike: `clock_end` but for the clock of days.
+fn rows() -> [Row; 20] {
+    [
+        usual_row("empty", "", "end 0 0\n"),
+        usual_row(
+            "one_timer",
+            "start 0 1 1 7\ntick 1\n",
+            "started 0 1 1 1\nexpired 1 0 1 7\nend 1 0\n",
+        ),
+        usual_row(
+            "rollover",
+            "start 0 1 4096 1\ntick 4090\nstart 1 1 6 2\ntick 5\nstart 0 2 1 3\ntick 1\n",
+            "started 0 1 1 4096\nstarted 1 1 2 4096\nstarted 0 2 3 4096\nexpired 4096 0 1 1\nexpired 4096 1 2 2\nexpired 4096 0 3 3\nend 4096 0\n",
+        ),
+        usual_row(
+            "migration",
+            "start 0 1 130 1\ntick 128\nstart 1 1 2 2\ntick 2\n",
+            "started 0 1 1 130\nstarted 1 1 2 130\nexpired 130 0 1 1\nexpired 130 1 2 2\nend 130 0\n",
+        ),
+        usual_row(
+            "rounds",
+            "start 0 1 1 11\nstart 0 2 8 12\nstart 0 3 9 13\nstart 0 4 16 14\nstart 0 5 8 15\ntick 16\n",
+            "started 0 1 1 1\nstarted 0 2 2 8\nstarted 0 3 3 9\nstarted 0 4 4 16\nstarted 0 5 5 8\nexpired 1 0 1 11\nexpired 8 0 2 12\nexpired 8 0 5 15\nexpired 9 0 3 13\nexpired 16 0 4 14\nend 16 0\n",
+        ),
+        usual_row(
+            "stop_middle",
+            "start 0 1 10 1\nstart 0 2 10 2\nstart 0 3 10 3\nstop 0 4 2\ntick 10\n",
+            "started 0 1 1 10\nstarted 0 2 2 10\nstarted 0 3 3 10\nstopped 0 4 2\nexpired 10 0 1 1\nexpired 10 0 3 3\nend 10 0\n",
+        ),
+        usual_row(
+            "stop_twice",
+            "start 0 1 5 0\nstop 0 2 1\nstop 0 3 1\ntick 5\n",
+            "started 0 1 1 5\nstopped 0 2 1\nrefused 0 3 no-such\nend 5 0\n",
+        ),
+        usual_row(
+            "numbering",
+            "start 0 1 5 0\nstart 0 1 5 0\nstart 0 3 5 0\nstart 0 2 5 0\ntick 5\n",
+            "started 0 1 1 5\nrefused 0 1 repeated\nrefused 0 3 ahead\nstarted 0 2 2 5\nexpired 5 0 1 0\nexpired 5 0 2 0\nend 5 0\n",
+        ),
+        usual_row(
+            "zero_interval",
+            "start 0 1 0 9\nstart 0 2 1 9\ntick 1\n",
+            "refused 0 1 zero-interval\nstarted 0 2 1 1\nexpired 1 0 1 9\nend 1 0\n",
+        ),
+        Row {
+            name: "clock_end",
+            options: LATE.as_slice(),
+            script: "start 0 1 2 5\nstart 0 2 1 5\ntick 5\n",
+            text: "refused 0 1 too-late\nstarted 0 2 1 1152921504606846975\nexpired 1152921504606846975 0 1 5\ntick refused clock-end\nend 1152921504606846975 0\n",
+        },
+        Row {
+            name: "capacity",
+            options: ONE_TIMER.as_slice(),
+            script: "start 0 1 1 4\nstart 0 2 1 4\ntick 1\nstart 0 3 2 6\n",
+            text: "started 0 1 1 1\nrefused 0 2 full\nexpired 1 0 1 4\nstarted 0 3 2 3\nend 1 1\n",
+        },
+        usual_row(
+            "close",
+            "start 0 1 5 1\nstart 1 1 3 2\nstart 0 2 5 3\nclose\nstart 0 3 1 4\ntick 2\nclose\n",
+            "started 0 1 1 5\nstarted 1 1 2 3\nstarted 0 2 3 5\nclosed 3\nreturned 1 2 3 2\nreturned 0 1 5 1\nreturned 0 3 5 3\nrefused 0 3 closed\ntick refused closed\nclose refused closed\nend 0 0\n",
+        ),
+        Row {
+            name: "clock_face",
+            options: ELEVEN_DAYS.as_slice(),
+            script: "start 0 1 3045 5\ntick 3045\n",
+            text: "started 0 1 1 990915\nexpired 990915 0 1 5\nend 990915 0\n",
+        },
+        usual_row(
+            "other_client",
+            "start 0 1 3 7\nstop 1 1 1\ntick 3\n",
+            "started 0 1 1 3\nrefused 1 1 no-such\nexpired 3 0 1 7\nend 3 0\n",
+        ),
+        usual_row(
+            "no_client",
+            "start 64 1 5 0\n",
+            "refused 64 1 no-client\nend 0 0\n",
+        ),
+        usual_row(
+            "two_moves",
+            "start 0 1 4161 1\ntick 4161\n",
+            "started 0 1 1 4161\nexpired 4161 0 1 1\nend 4161 0\n",
+        ),
+        usual_row(
+            "spread",
+            "start 0 1 3661 1\ntick 3600\nstart 1 1 61 2\ntick 61\n",
+            "started 0 1 1 3661\nstarted 1 1 2 3661\nexpired 3661 0 1 1\nexpired 3661 1 2 2\nend 3661 0\n",
+        ),
+        usual_row(
+            "restart",
+            "start 0 1 5 1\ntick 3\nrestart 0 2 1 5 2\ntick 5\n",
+            "started 0 1 1 5\nrestarted 0 2 1 2 8\nexpired 8 0 2 2\nend 8 0\n",
+        ),
+        usual_row(
+            "restart_order",
+            "start 0 1 5 1\nstart 1 1 5 2\nrestart 0 2 1 5 3\ntick 5\n",
+            "started 0 1 1 5\nstarted 1 1 2 5\nrestarted 0 2 1 3 5\nexpired 5 1 2 2\nexpired 5 0 3 3\nend 5 0\n",
+        ),
+        Row {
+            name: "restart_full",
+            options: ONE_TIMER.as_slice(),
+            script: "start 0 1 5 1\nrestart 0 2 1 2 9\nrestart 0 3 1 2 9\nrestart 0 4 2 0 9\nrestart 1 1 2 2 9\ntick 2\n",
+            text: "started 0 1 1 5\nrestarted 0 2 1 2 2\nrefused 0 3 no-such\nrefused 0 4 zero-interval\nrefused 1 1 no-such\nexpired 2 0 2 9\nend 2 0\n",
+        },
+    ]
+}
+
+/// The worked examples of the clock of days, which ends earlier than the others.
+fn clock_rows() -> [Row; 2] {
+    [
+        Row {
+            name: "clock_too_late",
+            options: LAST_DAY.as_slice(),
+            script: "start 0 1 10 1\nstart 0 2 9 2\ntick 20\n",
+            text: "refused 0 1 too-late\nstarted 0 2 1 8639999\nexpired 8639999 0 1 2\ntick refused clock-end\nend 8639999 0\n",
+        },
+        Row {
+            name: "clock_day",
+            options: FIRST_DAY.as_slice(),
+            script: "start 0 1 1 1\ntick 1\n",
+            text: "started 0 1 1 86400\nexpired 86400 0 1 1\nend 86400 0\n",
+        },
+    ]
+}
+
+/// The schemes with their options. The clock of days, whose clock ends earlier, is the last.
+static SCHEMES: [&[&str]; 7] = [
+    &["--scheme", "plain"],
+    &["--scheme", "hashed"],
+    &["--scheme", "hashed", "--slots", "1"],
+    &["--scheme", "hashed", "--slots", "8"],
+    &["--scheme", "hashed", "--slots", "65536"],
+    &["--scheme", "hier"],
+    &["--scheme", "clock"],
+];
+
+/// Plays the script of a row with a scheme, and compares what is written.
+fn play_row<T: AllocGlobal + Abort>(rt: &T, row: Row, scheme: &[&str]) -> Result<(), Fail> {
+    let alloc = rt.alloc();
+    let mut arguments = vec![in alloc; "play"]?;
+    arguments.extend_from_slice(scheme)?;
+    arguments.extend_from_slice(row.options)?;
+    let ended = call(
+        rt,
+        &arguments,
+        Source::of(row.script.as_bytes()),
+        Sink::new(alloc),
+    );
+    assert_eq!(rt; ended.status, 0, "{}", row.name);
+    assert_eq!(rt;
+        ended.output.as_slice(),
+        row.text.as_bytes(),
+        "{}",
+        row.name
+    );
+    assert!(rt; ended.faults.is_empty(), "{}", row.name);
+    assert!(rt;
+        !ended.reader_failed && !ended.writer_failed,
+        "{}",
+        row.name
+    );
+    Ok(())
+}
+
+#[test]
+fn worked_rows_give_their_text_with_each_scheme(rt: HostRuntime) -> Result<(), Fail> {
+    for row in rows() {
+        for scheme in &SCHEMES {
+            if row.name != "clock_end" || scheme[1] != "clock" {
+                play_row(&rt, row, scheme)?;
+            }
+        }
+    }
+    for row in clock_rows() {
+        play_row(&rt, row, &["--scheme", "clock"])?;
+    }
+    Ok(())
+}
+
+#[test]
+fn no_arguments_play_with_64_clients_and_1024_timers(rt: HostRuntime) -> Result<(), Fail> {
+    let alloc = rt.alloc();
+    let mut script = Vec::new(alloc);
+    for number in 1..=1025u64 {
+        let line = format!(in alloc; "start 63 {number} 1 0\n")?;
+        script.extend_from_slice(line.as_bytes())?;
+    }
+    script.extend_from_slice(b"start 64 1 1 0\n")?;
+    let ended = call(
+        &rt,
+        NO_OPTIONS.as_slice(),
+        Source::of(&script),
+        Sink::new(alloc),
+    );
+    assert_eq!(rt; ended.status, 0);
+    assert!(rt;
+        ended
+            .output
+            .starts_with(b"started 63 1 1 1\nstarted 63 2 2 1\n")
+    );
+    assert!(rt;
+        ended.output.ends_with(
+            b"started 63 1024 1024 1\nrefused 63 1025 full\nrefused 64 1 no-client\nend 0 1024\n"
+        )
+    );
+    assert!(rt; ended.faults.is_empty());
+    Ok(())
+}

@@ -1,0 +1,168 @@
+//! Readers and writers that fail once, and what a call of the program leaves.
+ghost use Rattle.std.specs.Prelude.{◌≤◌};
+
+use crate::arguments::command;
+use crate::watched::Watched;
+use std::alloc::Global;
+use std::io;
+use std::io::{ErrorKind, Read, Write};
+
+/// The schemes, each as a whole command line.
+pub static SCHEMES: [&[&str]; 4] = [
+    &["play", "--scheme", "plain"],
+    &["play", "--scheme", "hashed"],
+    &["play", "--scheme", "hier"],
+    &["play", "--scheme", "clock"],
+];
+
+/// What a reader or a writer does once, after the bytes that it passes on. Then it would go on.
+#[derive(Clone, Copy)]
+pub enum Fault {
+    Nothing,
+    /// Takes no byte. A reader does nothing of the kind.
+    TakesNone,
+    Fails(ErrorKind),
+}
+
+/// Gives its bytes in pieces of `size`, and has its fault after `room` of them.
+#[derive(Drop)]
+pub struct Source<'a> {
+    rest: &'a [u8],
+    size: usize,
+    room: usize,
+    fault: Fault,
+    asks: u64,
+}
+
+impl<'a> Source<'a> {
+    /// A reader of all these bytes in small pieces.
+    pub fn of(rest: &'a [u8]) -> Source<'a> {
+        Source {
+            rest,
+            size: 3,
+            room: usize::MAX,
+            fault: Fault::Nothing,
+            asks: 0,
+        }
+    }
+
+    pub fn in_pieces(self, size: usize) -> Source<'a> {
+        Source { size, ..self }
+    }
+
+    pub fn failing_after(self, room: usize, kind: ErrorKind) -> Source<'a> {
+        Source {
+            room,
+            fault: Fault::Fails(kind),
+            ..self
+        }
+    }
+}
+
+impl Read for Source<'_> {
+    fn read(&mut self, buf: &mut [u8]) -> io::Result<usize> {
+        self.asks = self.asks.saturating_add(1);
+        if self.room == 0 {
+            self.room = usize::MAX;
+            if let Fault::Fails(kind) = self.fault {
+                return Err(io::Error::from(kind));
+            }
+        }
+        let n = self.size.min(self.room).min(self.rest.len()).min(buf.len());
+        let (front, rest) = self.rest.split_at(n);
+        buf[..n].copy_from_slice(front);
+        self.rest = rest;
+        self.room -= n;
+        Ok(n)
+    }
+}
+
+/// Takes bytes in pieces of `size`, and has its fault after `room` of them. Counts its flushes.
+#[derive(Drop)]
+pub struct Sink {
+    pub bytes: Vec<u8>,
+    size: usize,
+    room: usize,
+    fault: Fault,
+    pub flushes: u64,
+}
+
+impl Sink {
+    /// A writer with room for all.
+    pub fn new(alloc: Global) -> Sink {
+        Sink {
+            bytes: Vec::new(alloc),
+            size: 5,
+            room: usize::MAX,
+            fault: Fault::Nothing,
+            flushes: 0,
+        }
+    }
+
+    pub fn in_pieces(self, size: usize) -> Sink {
+        Sink { size, ..self }
+    }
+
+    pub fn with_fault_after(self, room: usize, fault: Fault) -> Sink {
+        Sink {
+            room,
+            fault,
+            ..self
+        }
+    }
+}
+
+impl Write for Sink {
+    fn write(&mut self, buf: &[u8]) -> io::Result<usize> {
+        if self.room == 0 {
+            self.room = usize::MAX;
+            match self.fault {
+                Fault::Nothing => {}
+                Fault::TakesNone => return Ok(0),
+                Fault::Fails(kind) => return Err(io::Error::from(kind)),
+            }
+        }
+        let n = self.size.min(self.room).min(buf.len());
+        self.bytes.extend_from_slice(&buf[..n])?;
+        self.room -= n;
+        Ok(n)
+    }
+
+    fn flush(&mut self) -> io::Result<()> {
+        self.flushes = self.flushes.saturating_add(1);
+        match self.fault {
+            Fault::Fails(kind) => Err(io::Error::from(kind)),
+            _ => Ok(()),
+        }
+    }
+}
+
+/// What a call of the program left.
+#[derive(Drop)]
+pub struct Ended {
+    pub status: u8,
+    pub output: Vec<u8>,
+    pub faults: Vec<u8>,
+    /// How often the reader was asked.
+    pub asks: u64,
+    pub reader_failed: bool,
+    pub writer_failed: bool,
+}
+
+/// Calls the program.
+pub fn call<T: AllocGlobal>(rt: &T, arguments: &[&str], source: Source, sink: Sink) -> Ended {
+    let mut reader = Watched::new(source);
+    let mut writer = Watched::new(sink);
+    let mut faults = Vec::new(rt.alloc());
+    let status = command(rt, arguments, &mut reader, &mut writer, &mut faults);
+    let reader_failed = reader.failed();
+    let writer_failed = writer.failed();
+    Ended {
+        status,
+        output: writer.into_inner().bytes,
+        faults,
+        asks: reader.into_inner().asks,
+        reader_failed,
+        writer_failed,
+    }
+}
