@@ -20,7 +20,8 @@ use timer_links::Links;
 /// Goes to the next tick, and empties the bucket of its lowest digit that isn't zero.
 ///
 /// Returns how many timers went to a lower wheel. Does not allocate.
-#[inline]
+// Always inlined: with a call, a tick at which nothing is due takes two to three times as long.
+#[inline(always)]
 pub fn next_tick(table: Table, buckets: &mut Buckets, occupied: &mut Occupied) -> u64
     requires hier { IsHier table buckets.old occupied.old }
     requires nothing_due { (state_of buckets.old).due ≡ [] }
