@@ -71,7 +71,7 @@ enum timers_status {
 	TIMERS_NOT_OPEN = 1,       /* it holds no timers: timers_new was not called, or timers_free was since */
 	TIMERS_OPEN = 2,           /* it holds timers already */
 	TIMERS_NO_TABLE = 3,       /* the table is none of enum timers_table */
-	TIMERS_NO_MEMORY = 4,      /* malloc or realloc returned NULL, or some 4294967000 timers are there */
+	TIMERS_NO_MEMORY = 4,      /* malloc or realloc returned NULL, or about 4.29 billion timers are there */
 	TIMERS_DUE = 5,            /* a timer that expired was not yet taken: call timers_expire */
 	TIMERS_NOT_PENDING = 6,    /* no pending timer has this handle */
 	TIMERS_ZERO_INTERVAL = 7,  /* the interval is 0 */

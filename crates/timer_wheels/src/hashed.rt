@@ -35,7 +35,7 @@ pub const MOST_SLOTS: usize = 65536;
 
 /// A table of buckets with a count of rounds (Scheme 6): a clock of 2^60 ticks.
 ///
-/// At some 4,294,967,000 timers, more than which its links cannot name, `start` returns out of memory though
+/// At about 4.29 billion timers, more than which its links cannot name, `start` returns out of memory though
 /// no allocation failed.
 #[derive(Drop)]
 pub struct HashedWheel {

@@ -92,7 +92,7 @@ impl Counts {
 /// Wheels with the slots of a table, whose timers go to lower wheels as the clock comes near their deadline.
 ///
 /// A timer moves at most nine times in `Table::Wide` and three times in `Table::Clock`, and keeps its
-/// place in the order of starting. At some 4,294,967,000 timers, more than which its links cannot name,
+/// place in the order of starting. At about 4.29 billion timers, more than which its links cannot name,
 /// `start` returns out of memory though no allocation failed.
 #[derive(Drop)]
 pub struct HierWheel {
