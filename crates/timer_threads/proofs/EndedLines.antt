@@ -1,0 +1,171 @@
+-- The lines of the ends and of the readers of what clients left.
+use Rattle.std.proofs.Common.{◌≡◌, ◌<◌, ◌++◌, ℕ, min, List, [], ◌∷◌, length, get_or, refl, sym, ◌∙◌, ap, subst, arith, append-nil, false}
+use Rattle.std.specs.Prelude.{Option, Some, None, IfSome, IsNone}
+use Rattle.timer_desk.specs.declared.ring.RingInlet.{RingInlet}
+use Rattle.timer_desk.specs.declared.ring.RequestsEnded.{RequestsEnded}
+use Rattle.timer_desk.specs.declared.ring.ClientReader.{ClientReader}
+use Rattle.timer_desk.specs.Ring.{line_of_inlet, got_of, given_of, all_submitted, read_by, unread_by, requests_ring_of, words_ring_of_reader}
+use Rattle.timer_desk.specs.Desk.{DeskState, AllIdle}
+use Rattle.timer_desk.specs.Winding.{AreEndsOf, AreReadersOf, AllGot, AllReadOut}
+use Rattle.timer_desk.specs.declared.driving.DriveEnd.{DriveEnd}
+use Rattle.timer_desk.specs.declared.driving.DriveEnd.TheVariants as DriveEnds
+use Rattle.timer_threads.specs.declared.fault.ThreadsFault.{ThreadsFault}
+use Rattle.timer_threads.specs.declared.fault.ThreadsFault.TheVariants as Faults
+use Rattle.timer_threads.specs.declared.worked.Worked.{Worked}
+use Rattle.timer_threads.specs.Parted.{has_failed, NoneFailed, IsFirstFailed, lower_of, AreParted}
+use Rattle.timer_threads.specs.Threads.{AreOfLines, AllRead, NoneUnread, IsWoundUp, IsFirstClient, IsFirstFault, fault_of}
+use Rattle.timer_threads.proofs.PartedLemmas.{parted_lengths, parted_at, ended_at, reader_at}
+
+pub ends_of : (inlets : List RingInlet) (ws : List Worked) (es : List RequestsEnded) (rs : List ClientReader) → AreParted ws es rs → AreOfLines inlets ws → AreEndsOf inlets es
+ends_of inlets ws es rs p a =
+    let n = parted_lengths ws es rs p in
+    let m : length ws ≡ length inlets = a.as_many in record {
+      as_many = n.0 ∙ m;
+      of_lines = λ k i e l. by_reader rs p k i e l;
+    }
+  where
+    some_reader : (ys : List ClientReader) → (j : ℕ) → j < length ys → ClientReader
+    some_reader [] j l = absurd (omega arith)
+    some_reader (y ∷ ys) j l = y
+
+    some_worked : (xs : List Worked) → (j : ℕ) → j < length xs → Worked
+    some_worked [] j l = absurd (omega arith)
+    some_worked (x ∷ xs) j l = x
+
+    by_reader : (ys : List ClientReader) → AreParted ws es ys → (k : ℕ) (i : RingInlet) (e : RequestsEnded) → k < length inlets → requests_ring_of (get_or es k e) ≡ (line_of_inlet (get_or inlets k i)).0
+    by_reader ys q k i e l =
+        let m : length ws ≡ length inlets = a.as_many in
+        let n = parted_lengths ws es ys q in
+        let w : Worked = some_worked ws k (omega arith) in
+        let r : ClientReader = some_reader ys k (let z = n.1 in omega arith) in
+        let at = parted_at ws es ys q k w e r (omega arith) in
+        subst (λ (o : Option RequestsEnded). IfSome o (λ x. requests_ring_of x ≡ (line_of_inlet (get_or inlets k i)).0)) at.0 (a.each k i w l).ended
+
+pub readers_of : (inlets : List RingInlet) (ws : List Worked) (es : List RequestsEnded) (rs : List ClientReader) → AreParted ws es rs → AreOfLines inlets ws → AreReadersOf inlets rs
+readers_of inlets ws es rs p a =
+    let n = parted_lengths ws es rs p in
+    let m : length ws ≡ length inlets = a.as_many in record {
+      as_many = n.1 ∙ m;
+      of_lines = λ k i r l. by_end k i r l;
+    }
+  where
+    some_end : (ys : List RequestsEnded) → (j : ℕ) → j < length ys → RequestsEnded
+    some_end [] j l = absurd (omega arith)
+    some_end (y ∷ ys) j l = y
+
+    some_worked : (xs : List Worked) → (j : ℕ) → j < length xs → Worked
+    some_worked [] j l = absurd (omega arith)
+    some_worked (x ∷ xs) j l = x
+
+    by_end : (k : ℕ) (i : RingInlet) (r : ClientReader) → k < length inlets → words_ring_of_reader (get_or rs k r) ≡ (line_of_inlet (get_or inlets k i)).1
+    by_end k i r l =
+        let m : length ws ≡ length inlets = a.as_many in
+        let n = parted_lengths ws es rs p in
+        let w : Worked = some_worked ws k (omega arith) in
+        let e : RequestsEnded = some_end es k (let z = n.0 in omega arith) in
+        let at = parted_at ws es rs p k w e r (omega arith) in
+        ap words_ring_of_reader (sym at.1) ∙ (a.each k i w l).reader
+
+pub wound_up : (desk : DeskState RingInlet) (ws : List Worked) (es : List RequestsEnded) (rs : List ClientReader) → AreParted ws es rs → AreOfLines desk.inlets ws
+    → AllIdle desk → AllGot desk.inlets es → AllRead desk.inlets rs → IsWoundUp desk ws
+wound_up desk ws es rs p a idle got read =
+    let m : length ws ≡ length desk.inlets = a.as_many in record {
+      idle = idle;
+      read = λ c i w l. read_all c i w l rs p read;
+      got = λ c i w e l is. ap all_submitted (sym (ended_at ws es rs p c w e e l is)) ∙ got c i e (omega (arith, l, m));
+    }
+  where
+    some_reader : (ys : List ClientReader) → (j : ℕ) → j < length ys → ClientReader
+    some_reader [] j l = absurd (omega arith)
+    some_reader (y ∷ ys) j l = y
+
+    read_all : (c : ℕ) (i : RingInlet) (w : Worked) → c < length ws → (ys : List ClientReader) → AreParted ws es ys → AllRead desk.inlets ys
+        → read_by (get_or ws c w).reader ≡ given_of (get_or desk.inlets c i)
+    read_all c i w l ys q h =
+        let m : length ws ≡ length desk.inlets = a.as_many in
+        let n = parted_lengths ws es ys q in
+        let r : ClientReader = some_reader ys c (let z = n.1 in omega (arith, z, l)) in
+        ap read_by (reader_at ws es ys q c w r l) ∙ h c i r (omega (arith, l, m))
+
+-- readers that were settled, and for which no word is left, had read all that was given
+pub read_out : (inlets : List RingInlet) (before after : List ClientReader) → AllReadOut inlets before after → length after ≡ length inlets → NoneUnread after → AllRead inlets before
+read_out inlets before after told long none c i r l =
+    let x = told c i r l in
+    let left : unread_by (get_or after c r) ≡ [] = none c r (omega (arith, l, long)) in
+    sym x.read ∙ sym (append-nil (read_by (get_or after c r))) ∙ ap (λ us. read_by (get_or after c r) ++ us) (sym left) ∙ x.all
+
+pub IfSome-map : {X : Type 0} (P Q : X → Type 0) (o : Option X) → ((x : X) → P x → Q x) → IfSome o P → IfSome o Q
+IfSome-map P Q None f h = h
+IfSome-map P Q (Some x) f h = f x h
+
+-- The lower of two clients.
+
+pub lower_none : (a b : Option ℕ) → lower_of a b ≡ None → (a ≡ None) × (b ≡ None)
+lower_none None b h = (refl, h)
+lower_none (Some a) None h = absurd (cc)
+lower_none (Some a) (Some b) h = absurd (cc)
+
+abbrev some_or : ℕ → Option ℕ → ℕ
+some_or a None = a
+some_or a (Some x) = x
+
+some_is : (a b : ℕ) → Some a ≡ Some b → a ≡ b
+some_is a b h = ap (λ o. some_or a o) h
+
+pub first_client : (all : List Worked) (failed held : Option ℕ) (c : ℕ) → lower_of failed held ≡ Some c
+    → IfSome failed (λ k. IsFirstFailed all k) → (IsNone failed → NoneFailed all) → IfSome held (λ k. k < length all) → IsFirstClient all c
+first_client all None None c is some none low = absurd (cc)
+first_client all None (Some b) c is some none low =
+    let at : b ≡ c = some_is b c is in record {
+      client = omega (arith, low, at);
+      others = λ k w l. none refl k w (omega (arith, low, at, l));
+    }
+first_client all (Some a) None c is some none low =
+    let at : a ≡ c = some_is a c is in record {
+      client = let h = some.client in omega (arith, h, at);
+      others = λ k w l. some.others k w (omega (arith, at, l));
+    }
+first_client all (Some a) (Some b) c is some none low =
+    let at : min a b ≡ c = some_is (min a b) c is in record {
+      client = let h = some.client in omega (arith, h, low, at);
+      others = λ k w l. some.others k w (omega (arith, at, l));
+    }
+
+abbrev fault_or : ThreadsFault → Option ThreadsFault → ThreadsFault
+fault_or fault None = fault
+fault_or fault (Some other) = other
+
+pub first_fault_is : (desk : DeskState RingInlet) (outcome : DriveEnd) (all : List Worked) (failed held : Option ℕ) (fault : ThreadsFault)
+    → Some fault ≡ fault_of outcome (lower_of failed held) → ¬ (outcome ≡ DriveEnds.OutOfMemory)
+    → IfSome failed (λ k. IsFirstFailed all k) → (IsNone failed → NoneFailed all) → IfSome held (λ k. k < length all)
+    → (failed ≡ None → held ≡ None → IsWoundUp desk all) → IsFirstFault desk outcome all fault
+first_fault_is desk outcome all failed held fault is memory some none low wound = go outcome (lower_of failed held) refl is memory
+  where
+    go : (end : DriveEnd) (o : Option ℕ) → lower_of failed held ≡ o → Some fault ≡ fault_of end o → ¬ (end ≡ DriveEnds.OutOfMemory) → IsFirstFault desk end all fault
+    go DriveEnds.Done (Some c) e h m = subst (λ f. IsFirstFault desk DriveEnds.Done all f) (sym (ap (λ o. fault_or fault o) h)) (m, first_client all failed held c e some none low)
+    go DriveEnds.Limit (Some c) e h m = subst (λ f. IsFirstFault desk DriveEnds.Limit all f) (sym (ap (λ o. fault_or fault o) h)) (m, first_client all failed held c e some none low)
+    go DriveEnds.OutOfMemory (Some c) e h m = absurd (m refl)
+    go DriveEnds.Done None e h m = absurd (cc)
+    go DriveEnds.Limit None e h m =
+        let both = lower_none failed held e in
+        subst (λ f. IsFirstFault desk DriveEnds.Limit all f) (sym (ap (λ o. fault_or fault o) h)) (refl, none (subst (λ o. IsNone o) (sym both.0) refl), wound both.0 both.1)
+    go DriveEnds.OutOfMemory None e h m = absurd (m refl)
+
+-- where there is no fault, no client failed or is held back, and the drive is done
+pub no_fault : (outcome : DriveEnd) (failed held : Option ℕ) → None ≡ fault_of outcome (lower_of failed held) → (failed ≡ None) × (held ≡ None) × (outcome ≡ DriveEnds.Done)
+no_fault outcome failed held is = go outcome (lower_of failed held) refl is
+  where
+    go : (end : DriveEnd) (o : Option ℕ) → lower_of failed held ≡ o → None ≡ fault_of end o → (failed ≡ None) × (held ≡ None) × (end ≡ DriveEnds.Done)
+    go DriveEnds.Done (Some c) e h = absurd (cc)
+    go DriveEnds.Limit (Some c) e h = absurd (cc)
+    go DriveEnds.OutOfMemory (Some c) e h = absurd (cc)
+    go DriveEnds.Done None e h = let both = lower_none failed held e in (both.0, both.1, refl)
+    go DriveEnds.Limit None e h = absurd (cc)
+    go DriveEnds.OutOfMemory None e h = absurd (cc)
+
+-- the desk was wound up, where no client failed and none is held back
+pub wound_by : {X : Type 0} (es : X → List RequestsEnded) (rs : X → List ClientReader) (desk : DeskState RingInlet) (all : List Worked) (parts : Option X)
+    → AreOfLines desk.inlets all → (IsNone parts → ¬ (NoneFailed all)) → IfSome parts (λ p. AreParted all (es p) (rs p))
+    → IfSome parts (λ p. AllIdle desk × AllGot desk.inlets (es p) × AllRead desk.inlets (rs p)) → NoneFailed all → IsWoundUp desk all
+wound_by es rs desk all None lines missing parted told good = absurd (missing refl good)
+wound_by es rs desk all (Some p) lines missing parted told good = wound_up desk all (es p) (rs p) parted lines told.0 told.1 told.2

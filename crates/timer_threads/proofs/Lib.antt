@@ -1,0 +1,4 @@
+pub mod ClientLemmas
+pub mod PartedLemmas
+pub mod EndedLines
+pub mod ThreadLemmas

@@ -1,0 +1,86 @@
+-- The ends and the readers of what clients left.
+use Rattle.std.proofs.Common.{◌≡◌, ◌<◌, ◌++◌, ◌||◌, ℕ, zero, suc, Bool, true, false, List, [], ◌∷◌, length, get_or, refl, sym, ◌∙◌, ap, subst, arith, append-nil, append_assoc}
+use Rattle.std.specs.Prelude.{Option, Some, None, is_none}
+use Rattle.timer_desk.specs.declared.ring.RequestsEnded.{RequestsEnded}
+use Rattle.timer_desk.specs.declared.ring.ClientReader.{ClientReader}
+use Rattle.timer_threads.specs.declared.worked.Worked.{Worked}
+use Rattle.timer_threads.specs.Parted.{has_failed, NoneFailed, AreParted}
+
+pub AreParted-more : (ws : List Worked) (es : List RequestsEnded) (rs : List ClientReader) (w : Worked) (e : RequestsEnded) (r : ClientReader)
+    → AreParted ws es rs → w.ended ≡ Some e → w.reader ≡ r → AreParted (ws ++ w ∷ []) (es ++ e ∷ []) (rs ++ r ∷ [])
+AreParted-more [] [] [] w e r h a b = (a, b, tt)
+AreParted-more [] [] (y ∷ ys) w e r h a b = absurd h
+AreParted-more [] (x ∷ xs) rs w e r h a b = absurd h
+AreParted-more (v ∷ ws) [] rs w e r h a b = absurd h
+AreParted-more (v ∷ ws) (x ∷ xs) [] w e r h a b = absurd h
+AreParted-more (v ∷ ws) (x ∷ xs) (y ∷ ys) w e r h a b = (h.0, h.1, AreParted-more ws xs ys w e r h.2 a b)
+
+pub parted_lengths : (ws : List Worked) (es : List RequestsEnded) (rs : List ClientReader) → AreParted ws es rs → (length es ≡ length ws) × (length rs ≡ length ws)
+parted_lengths [] [] [] h = (refl, refl)
+parted_lengths [] [] (y ∷ ys) h = absurd h
+parted_lengths [] (x ∷ xs) rs h = absurd h
+parted_lengths (v ∷ ws) [] rs h = absurd h
+parted_lengths (v ∷ ws) (x ∷ xs) [] h = absurd h
+parted_lengths (v ∷ ws) (x ∷ xs) (y ∷ ys) h = let n = parted_lengths ws xs ys h.2 in (ap suc n.0, ap suc n.1)
+
+pub parted_at : (ws : List Worked) (es : List RequestsEnded) (rs : List ClientReader) → AreParted ws es rs → (k : ℕ) (w : Worked) (e : RequestsEnded) (r : ClientReader) → k < length ws
+    → ((get_or ws k w).ended ≡ Some (get_or es k e)) × ((get_or ws k w).reader ≡ get_or rs k r)
+parted_at [] es rs h k w e r l = absurd (omega arith)
+parted_at (v ∷ ws) [] rs h k w e r l = absurd h
+parted_at (v ∷ ws) (x ∷ xs) [] h k w e r l = absurd h
+parted_at (v ∷ ws) (x ∷ xs) (y ∷ ys) h zero w e r l = (h.0, h.1)
+parted_at (v ∷ ws) (x ∷ xs) (y ∷ ys) h (suc k) w e r l = parted_at ws xs ys h.2 k w e r (omega arith)
+
+pub parted_none : (es : List RequestsEnded) (rs : List ClientReader) → es ≡ [] → rs ≡ [] → AreParted [] es rs
+parted_none [] [] a b = tt
+parted_none [] (y ∷ ys) a b = absurd (cc)
+parted_none (x ∷ xs) rs a b = absurd (cc)
+
+pub nothing_left : (ws more all : List Worked) → length more ≡ 0 → ws ++ more ≡ all → ws ≡ all
+nothing_left ws [] all n h = sym (append-nil ws) ∙ h
+nothing_left ws (m ∷ more) all n h = absurd (omega arith)
+
+pub one_less : (ws rest new all : List Worked) (w : Worked) → ws ++ rest ≡ all → rest ≡ w ∷ new → (ws ++ w ∷ []) ++ new ≡ all
+one_less ws rest new all w h e = append_assoc ws (w ∷ []) new ∙ ap (λ xs. ws ++ xs) (sym e) ∙ h
+
+abbrev from_some : Option RequestsEnded → RequestsEnded → RequestsEnded
+from_some None e = e
+from_some (Some x) e = x
+
+pub ended_at : (ws : List Worked) (es : List RequestsEnded) (rs : List ClientReader) → AreParted ws es rs → (k : ℕ) (w : Worked) (e d : RequestsEnded) → k < length ws
+    → (get_or ws k w).ended ≡ Some e → get_or es k d ≡ e
+ended_at [] es rs h k w e d l is = absurd (omega arith)
+ended_at (v ∷ ws) [] rs h k w e d l is = absurd h
+ended_at (v ∷ ws) (x ∷ xs) [] h k w e d l is = absurd h
+ended_at (v ∷ ws) (x ∷ xs) (y ∷ ys) h zero w e d l is = ap (λ o. from_some o d) (sym h.0 ∙ is)
+ended_at (v ∷ ws) (x ∷ xs) (y ∷ ys) h (suc k) w e d l is = ended_at ws xs ys h.2 k w e d (omega arith) is
+
+pub reader_at : (ws : List Worked) (es : List RequestsEnded) (rs : List ClientReader) → AreParted ws es rs → (k : ℕ) (w : Worked) (r : ClientReader) → k < length ws
+    → (get_or ws k w).reader ≡ get_or rs k r
+reader_at [] es rs h k w r l = absurd (omega arith)
+reader_at (v ∷ ws) [] rs h k w r l = absurd h
+reader_at (v ∷ ws) (x ∷ xs) [] h k w r l = absurd h
+reader_at (v ∷ ws) (x ∷ xs) (y ∷ ys) h zero w r l = h.1
+reader_at (v ∷ ws) (x ∷ xs) (y ∷ ys) h (suc k) w r l = reader_at ws xs ys h.2 k w r (omega arith)
+
+-- a client whose requests could not be ended has failed
+
+or_true : (a : Bool) → a || true ≡ true
+or_true true = refl
+or_true false = refl
+
+pub missing_is_failed : (ws more all : List Worked) (w : Worked) → ws ++ w ∷ more ≡ all → w.ended ≡ None → ¬ (NoneFailed all)
+missing_is_failed ws more all w is none good =
+    let at : get_or all (length ws) w ≡ w = ap (λ xs. get_or xs (length ws) w) (sym is) ∙ at_end ws in
+    let failed : has_failed w ≡ true = ap (λ o. w.failed || is_none o) none ∙ or_true w.failed in
+    let low : length ws < length all = subst (λ xs. length ws < length xs) is (shorter ws) in
+    let was : has_failed w ≡ false = ap has_failed (sym at) ∙ good (length ws) w low in
+    absurd (let clash : true ≡ false = sym failed ∙ was in cc)
+  where
+    at_end : (xs : List Worked) → get_or (xs ++ w ∷ more) (length xs) w ≡ w
+    at_end [] = refl
+    at_end (x ∷ xs) = at_end xs
+
+    shorter : (xs : List Worked) → length xs < length (xs ++ w ∷ more)
+    shorter [] = omega arith
+    shorter (x ∷ xs) = let h = shorter xs in omega (arith, h)

@@ -1,0 +1,105 @@
+-- Threads that are started one after another, and the lines of their clients.
+use Rattle.std.proofs.Common.{◌≡◌, ◌<◌, ◌+◌, ◌++◌, ℕ, List, [], ◌∷◌, length, get_or, take, refl, sym, ◌∙◌, ap, subst, arith, append_assoc, append-nil, length-append, ◌⊎◌, inl, inr, suc, Bool, true, false, ◌||◌}
+use Rattle.std.specs.Prelude.{is_none}
+use Rattle.std.proofs.lemmas.List.{get_or_push, get_or_append_left, take_more, length-take-le}
+use Rattle.std.specs.declared.thread.PromisedHandle.{PromisedHandle}
+use Rattle.timer_desk.specs.declared.ring.RingInlet.{RingInlet}
+use Rattle.timer_desk.specs.Ring.{line_of_end, line_of_inlet}
+use Rattle.timer_threads.specs.declared.promise.Finishes.{Finishes}
+use Rattle.timer_threads.specs.declared.worked.Worked.{Worked}
+use Rattle.timer_threads.specs.Working.{IsOfLine, IsWhole}
+use Rattle.timer_threads.specs.Parted.{has_failed, NoneFailed}
+use Rattle.timer_threads.specs.Threads.{AreTied, AreOfLines, AllWhole, clients_text, client_line, whole_lines}
+
+pub Child : Type 0
+Child = PromisedHandle Worked Finishes
+
+before_or_last : (k n : ℕ) → k < n + 1 → (k < n) ⊎ (k ≡ n)
+before_or_last k n h = grind (arith)
+
+pub AreTied-more : (count : ℕ) (inlets : List RingInlet) (children : List (PromisedHandle Worked Finishes)) (i : RingInlet) (h : PromisedHandle Worked Finishes) → AreTied count inlets children
+    → line_of_inlet i ≡ line_of_end h.promise.end.value → h.promise.count ≡ count → AreTied count (inlets ++ i ∷ []) (children ++ h ∷ [])
+AreTied-more count inlets children i h was line is_count = record {
+  as_many = let a = was.as_many in omega (arith, length-append children (h ∷ []), length-append inlets (i ∷ []), a);
+  lines = λ k j g l. elim (before_or_last k (length inlets) (let a = length-append inlets (i ∷ []) in omega arith)) [
+    | inl low ↦
+        ap line_of_inlet (get_or_append_left inlets (i ∷ []) j k low)
+        ∙ was.lines k j g low
+        ∙ ap (λ (x : PromisedHandle Worked Finishes). line_of_end x.promise.end.value) (sym (get_or_append_left children (h ∷ []) g k (let a = was.as_many in omega (arith, a, low))))
+    | inr is ↦
+        ap line_of_inlet (get_or_push inlets i j k (sym is))
+        ∙ line
+        ∙ ap (λ (x : PromisedHandle Worked Finishes). line_of_end x.promise.end.value) (sym (get_or_push children h g k (was.as_many ∙ sym is)))
+  ];
+  counts = λ k g l. elim (before_or_last k (length inlets) (let a = length-append inlets (i ∷ []) in omega arith)) [
+    | inl low ↦
+        ap (λ (x : PromisedHandle Worked Finishes). x.promise.count) (get_or_append_left children (h ∷ []) g k (let a = was.as_many in omega (arith, a, low)))
+        ∙ was.counts k g low
+    | inr is ↦ ap (λ (x : PromisedHandle Worked Finishes). x.promise.count) (get_or_push children h g k (was.as_many ∙ sym is)) ∙ is_count
+  ];
+}
+
+pub clients_text-last : (n : ℕ) (ws : List Worked) (w : Worked) → clients_text n (ws ++ w ∷ []) ≡ clients_text n ws ++ client_line (n + length ws) w.sent w.started w.expired
+clients_text-last n [] w = let z : n + 0 ≡ n = omega arith in append-nil (client_line n w.sent w.started w.expired) ∙ ap (λ k. client_line k w.sent w.started w.expired) (sym z)
+clients_text-last n (x ∷ ws) w =
+    let z : n + 1 + length ws ≡ n + length (x ∷ ws) = omega arith in
+    ap (λ t. client_line n x.sent x.started x.expired ++ t) (clients_text-last (n + 1) ws w)
+    ∙ sym (append_assoc (client_line n x.sent x.started x.expired) (clients_text (n + 1) ws) (client_line (n + 1 + length ws) w.sent w.started w.expired))
+    ∙ ap (λ k. (client_line n x.sent x.started x.expired ++ clients_text (n + 1) ws) ++ client_line k w.sent w.started w.expired) z
+
+pub clients_text-next : (ws : List Worked) (n : ℕ) (w : Worked) → n < length ws → w ≡ get_or ws n w → clients_text 0 (take (n + 1) ws) ≡ clients_text 0 (take n ws) ++ client_line n w.sent w.started w.expired
+clients_text-next ws n w low is =
+    let more : take (n + 1) ws ≡ take n ws ++ w ∷ [] = take_more ws n w low ∙ ap (λ x. take n ws ++ x ∷ []) (sym is) in
+    let long : length (take n ws) ≡ n = length-take-le n ws (omega (arith, low)) in
+    let len : 0 + length (take n ws) ≡ n = omega (arith, long) in
+    ap (λ xs. clients_text 0 xs) more
+    ∙ clients_text-last 0 (take n ws) w
+    ∙ ap (λ k. clients_text 0 (take n ws) ++ client_line k w.sent w.started w.expired) len
+
+-- what was joined under the promise of the thread with this number
+pub record IsKept (children : List (PromisedHandle Worked Finishes)) (k : ℕ) (w : Worked) : Type 0 where
+  pub handle : PromisedHandle Worked Finishes
+  pub at : handle ≡ get_or children k handle
+  pub line : IsOfLine (line_of_end handle.promise.end.value) w
+  pub whole : IsWhole handle.promise.count w
+
+pub lines_kept : (count : ℕ) (first now : List RingInlet) (children : List (PromisedHandle Worked Finishes)) (all : List Worked) → AreTied count first children
+    → length now ≡ length first → length all ≡ length children
+    → ((k : ℕ) (i : RingInlet) → k < length first → line_of_inlet (get_or first k i) ≡ line_of_inlet (get_or now k i))
+    → ((k : ℕ) (w : Worked) → k < length children → IsKept children k (get_or all k w))
+    → AreOfLines now all
+lines_kept count first now children all tied as_many joined same kept = record {
+  as_many = joined ∙ tied.as_many ∙ sym as_many;
+  each = λ k i w l.
+      let low : k < length first = omega (arith, as_many, l) in
+      let is = kept k w (let a = tied.as_many in omega (arith, a, low)) in
+      let line : line_of_end is.handle.promise.end.value ≡ line_of_inlet (get_or now k i) =
+      ap (λ (x : PromisedHandle Worked Finishes). line_of_end x.promise.end.value) is.at ∙ sym (tied.lines k i is.handle low) ∙ same k i low in
+      subst (λ l. IsOfLine l (get_or all k w)) line is.line;
+}
+
+pub whole_kept : (count : ℕ) (first : List RingInlet) (children : List (PromisedHandle Worked Finishes)) (all : List Worked) → AreTied count first children
+    → length all ≡ length children
+    → ((k : ℕ) (w : Worked) → k < length children → IsKept children k (get_or all k w))
+    → AllWhole count all
+whole_kept count first children all tied joined kept k w l =
+    let is = kept k w (omega (arith, joined, l)) in
+    let n : is.handle.promise.count ≡ count =
+    ap (λ (x : PromisedHandle Worked Finishes). x.promise.count) is.at ∙ tied.counts k is.handle (let a = tied.as_many in omega (arith, a, joined, l)) in
+    subst (λ m. IsWhole m (get_or all k w)) n is.whole
+
+not_failed : (a b : Bool) → a || b ≡ false → a ≡ false
+not_failed true b h = h
+not_failed false b h = refl
+
+-- where none failed, the text is that of whole clients
+pub clients_text-whole : (n timers : ℕ) (ws : List Worked) → AllWhole timers ws → NoneFailed ws → clients_text n ws ≡ whole_lines n (length ws) timers
+clients_text-whole n timers [] a f = refl
+clients_text-whole n timers (w ∷ ws) a f =
+    let low : 0 < length (w ∷ ws) = omega arith in
+    let good = not_failed w.failed (is_none w.ended) (f 0 w low) in
+    let is = a 0 w low in
+    ap (λ t. client_line n w.sent w.started w.expired ++ t) (clients_text-whole (n + 1) timers ws (λ k v l. a (suc k) v (omega arith)) (λ k v l. f (suc k) v (omega arith)))
+    ∙ ap (λ k. client_line n k w.started w.expired ++ whole_lines (n + 1) (length ws) timers) (is.sent good)
+    ∙ ap (λ k. client_line n timers k w.expired ++ whole_lines (n + 1) (length ws) timers) (is.started good)
+    ∙ ap (λ k. client_line n timers timers k ++ whole_lines (n + 1) (length ws) timers) (is.expired good)

@@ -1,0 +1,4 @@
+pub mod Working
+pub mod Client
+pub mod Parted
+pub mod Threads

@@ -1,0 +1,112 @@
+-- What a client sends, what it may receive, and what its work comes to.
+use Rattle.std.specs.Prelude.{◌≡◌, ◌+◌, ◌-◌, ◌%◌, ◌<◌, ◌≤◌, ◌⊎◌, ℕ, Bool, true, false, List, [], ◌∷◌, ◌++◌, length, map, Option, Some, None, IfSome}
+use Rattle.std.specs.List.{flat_map, range_with_len}
+use Rattle.timer_base.specs.declared.timer.Timer.{Timer}
+use Rattle.timer_base.specs.Order.{is_before}
+use Rattle.timer_facility.specs.declared.request.Request.TheVariants.{Start}
+use Rattle.timer_facility.specs.declared.request.Answer.{Answer}
+use Rattle.timer_facility.specs.declared.request.Answer.TheVariants as Answers
+use Rattle.timer_facility.specs.declared.request.Notice.{Notice}
+use Rattle.timer_facility.specs.declared.request.Notice.TheVariants as Notices
+use Rattle.timer_desk.specs.declared.word.Numbered.{Numbered}
+use Rattle.timer_desk.specs.declared.word.Word.{Word}
+use Rattle.timer_desk.specs.declared.word.Word.TheVariants as Words
+use Rattle.timer_desk.specs.declared.ring.ClientEnd.{ClientEnd}
+use Rattle.timer_desk.specs.Ring.{Line, next_of, numbered, submitted, received_by_end, all_submitted, requests_ring_of, words_ring_of_reader, read_by}
+use Rattle.timer_threads.specs.declared.worked.Worked.{Worked}
+
+-- What is sent.
+
+-- request j, counted from 1, of a client whose first number this is
+abbrev pub request_of : ℕ → ℕ → Numbered
+request_of first j = numbered (first + (j - 1)) (Start (1 + j % 97) j)
+
+-- the first so many requests of a client
+abbrev pub requests_from : ℕ → ℕ → List Numbered
+requests_from first sent = map (request_of first) (range_with_len 1 sent)
+
+-- What is received.
+
+abbrev pub started_in_answer : ℕ → Answer → List ℕ
+started_in_answer number (Answers.Started handle deadline) = number ∷ []
+started_in_answer number _ = []
+
+abbrev pub expired_in_notice : Notice → List Timer
+expired_in_notice (Notices.Expired timer) = timer ∷ []
+expired_in_notice (Notices.Returned timer) = []
+
+-- the number of the request that the word says to have started a timer
+abbrev pub started_in : Word → List ℕ
+started_in (Words.Answered number answer) = started_in_answer number answer
+started_in (Words.NotTaken number reason) = []
+started_in (Words.Notice notice) = []
+
+-- the timer that the word says to have expired
+abbrev pub expired_in : Word → List Timer
+expired_in (Words.Answered number answer) = []
+expired_in (Words.NotTaken number reason) = []
+expired_in (Words.Notice notice) = expired_in_notice notice
+
+-- the numbers of the requests that started a timer, as these words say
+abbrev pub started_by : List Word → List ℕ
+started_by words = flat_map started_in words
+
+-- the timers that expired, as these words say
+abbrev pub expired_by : List Word → List Timer
+expired_by words = flat_map expired_in words
+
+-- the timer is handed out after this one, where there is one
+abbrev pub follows : Option Timer → Timer → Bool
+follows None t = true
+follows (Some earlier) t = is_before earlier t
+
+-- each timer is handed out after the one before it, and the first after this one, where there is one
+abbrev pub AreAscending : Option Timer → List Timer → Type 0
+AreAscending earlier [] = Unit {0}
+AreAscending earlier (t ∷ ts) = (follows earlier t ≡ true) × AreAscending (Some t) ts
+
+-- the words pass the checks of a client with so many requests, from this number on
+pub record ArePassed (first count : ℕ) (words : List Word) : Type 0 where
+  -- each is a `Started` answer or an `Expired` notice
+  pub each : length words ≡ length (started_by words) + length (expired_by words)
+  pub numbers : started_by words ≡ range_with_len first (length (started_by words))
+  pub order : AreAscending None (expired_by words)
+  pub few_started : length (started_by words) ≤ count
+  pub few_expired : length (expired_by words) ≤ count
+
+-- the last of the words is the first that does not pass
+pub record IsStopped (first count : ℕ) (words : List Word) : Type 0 where
+  pub passed : List Word
+  pub last : Word
+  pub are : words ≡ passed ++ last ∷ []
+  pub pass : ArePassed first count passed
+  pub fails : ¬ (ArePassed first count words)
+
+-- What the work comes to.
+
+-- the ended end and the reader are of this line
+pub record IsOfLine (line : Line) (w : Worked) : Type 0 where
+  pub ended : IfSome w.ended (λ e. requests_ring_of e ≡ line.0)
+  pub reader : words_ring_of_reader w.reader ≡ line.1
+
+-- something was not sent or not received
+abbrev pub IsShort : ℕ → Worked → Type 0
+IsShort count w = (w.sent < count) ⊎ ((w.started < count) ⊎ (w.expired < count))
+
+-- what was sent and received of so many requests, from the end on that the work began with, and whether it failed
+pub record HasWorked (count : ℕ) (start : ClientEnd) (w : Worked) : Type 0 where
+  pub sent : IfSome w.ended (λ e. all_submitted e ≡ submitted start ++ requests_from (next_of start) w.sent)
+  pub most : w.sent ≤ count
+  pub words : List Word
+  pub received : read_by w.reader ≡ received_by_end start ++ words
+  pub started : length (started_by words) ≡ w.started
+  pub expired : length (expired_by words) ≡ w.expired
+  pub passed : w.failed ≡ false → ArePassed (next_of start) count words
+  pub complete : w.failed ≡ false → (w.sent ≡ count) × (w.started ≡ count) × (w.expired ≡ count)
+  pub failed : w.failed ≡ true → IsStopped (next_of start) count words ⊎ (ArePassed (next_of start) count words × IsShort count w)
+
+-- where nothing failed, so many requests were sent, and as many timers started and expired
+pub record IsWhole (count : ℕ) (w : Worked) : Type 0 where
+  pub sent : w.failed ≡ false → w.sent ≡ count
+  pub started : w.failed ≡ false → w.started ≡ count
+  pub expired : w.failed ≡ false → w.expired ≡ count

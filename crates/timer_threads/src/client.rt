@@ -1,0 +1,205 @@
+//! One client at work: it sends its requests, and reads and checks its words.
+//!
+//! Request j, from 1 on, is a start with interval `1 + (j mod 97)` and action j. Answers have to come
+//! by number and be `Started`; timers have to expire by deadline, then serial.
+ghost use Rattle.std.specs.Prelude.{◌≡◌, ◌+◌, ◌<◌, ◌≤◌, ◌==◌, not, false, true, length};
+ghost use Rattle.std.specs.List.{last_or};
+ghost use Rattle.timer_base.specs.declared.limits.TheConstants.{LAST};
+ghost use Rattle.timer_desk.specs.Ring.{line_of_end};
+ghost use Rattle.timer_desk.specs.declared.ring.ClientEnd.{ClientEnd};
+ghost use Rattle.timer_threads.specs.Working.{started_in, expired_in, follows, IsOfLine, HasWorked};
+
+use crate::gate::Gate;
+use crate::worked::Worked;
+use timer_base::Timer;
+use timer_desk::{ClientEnd, Word};
+use timer_facility::{Answer, Notice, Request};
+
+/// A client at work.
+#[derive(Drop)]
+pub struct Client {
+    end: ClientEnd,
+    count: u64,
+    // The number of its first request.
+    first: u64,
+    sent: u64,
+    started: u64,
+    expired: u64,
+    // The timer that expired last.
+    last: Option<Timer>,
+    // Whether a check failed.
+    failed: bool,
+}
+
+impl Client {
+    ghost use Rattle.timer_threads.specs.Client.{is_complete, passes, IsSound, IsAtWork, left_of, IsLess};
+
+    /// A client that has sent and received nothing yet, of `count` requests.
+    pub fn new(end: ClientEnd, count: u64) -> Client
+        requires { count ≤ LAST }
+        ensures count { result.count ≡ count }
+        ensures sound { IsSound result }
+        ensures at_work { IsAtWork end result }
+    {
+        let first = end.next_number();
+        Client {
+            end,
+            count,
+            first,
+            sent: 0,
+            started: 0,
+            expired: 0,
+            last: None,
+            failed: false,
+        }
+    }
+
+    /// Whether a check failed, or all was sent and received.
+    pub fn is_over(&self) -> bool
+        ensures { result ≡ false → self.now.failed ≡ false }
+    {
+        self.failed || self.is_complete()
+    }
+
+    /// Whether all was sent and received.
+    fn is_complete(&self) -> bool
+        ensures { result ≡ is_complete self.now }
+    {
+        self.sent == self.count && self.started == self.count && self.expired == self.count
+    }
+
+    /// Sends a request where the gate lets it go, reads a word, and returns whether one of the two was
+    /// done.
+    pub fn work_once<G: Gate>(&mut self, gate: &mut G) -> bool
+        requires sound { IsSound self.old }
+        requires good { self.old.failed ≡ false }
+        ensures sound { IsSound self.new }
+        ensures at_work { (start : ClientEnd) → IsAtWork start self.old → IsAtWork start self.new }
+        ensures count { self.new.count ≡ self.old.count }
+        ensures left { IsLess result (left_of self.old) (left_of self.new) }
+    {
+        let sent = self.send_next(gate);
+        let received = self.read_next();
+        sent || received
+    }
+
+    /// Sends the next request, and returns whether it went.
+    fn send_next<G: Gate>(&mut self, gate: &mut G) -> bool
+        requires sound { IsSound self.old }
+        requires good { self.old.failed ≡ false }
+        ensures sound { IsSound self.new }
+        ensures good { self.new.failed ≡ false }
+        ensures at_work { (start : ClientEnd) → IsAtWork start self.old → IsAtWork start self.new }
+        ensures count { self.new.count ≡ self.old.count }
+        ensures left { IsLess result (left_of self.old) (left_of self.new) }
+    {
+        if self.sent >= self.count {
+            return false;
+        }
+        if !gate.may_send(self.end.next_number(), self.expired) {
+            return false;
+        }
+        let action = self.sent + 1;
+        let request = Request::Start {
+            interval: 1 + action % 97,
+            action,
+        };
+        match self.end.submit(request) {
+            Ok(_) => {
+                self.sent = action;
+                true
+            }
+            Err(_) => false,
+        }
+    }
+
+    /// Reads the next word, and returns whether one came.
+    fn read_next(&mut self) -> bool
+        requires sound { IsSound self.old }
+        requires good { self.old.failed ≡ false }
+        ensures sound { IsSound self.new }
+        ensures at_work { (start : ClientEnd) → IsAtWork start self.old → IsAtWork start self.new }
+        ensures count { self.new.count ≡ self.old.count }
+        ensures left { IsLess result (left_of self.old) (left_of self.new) }
+    {
+        let Some(word) = self.end.receive() else {
+            return false;
+        };
+        self.check(word);
+        true
+    }
+
+    /// Counts and checks a word that was received.
+    fn check(&mut self, word: Word)
+        requires sound { IsSound self.old }
+        requires good { self.old.failed ≡ false }
+        ensures sound { IsSound self.new }
+        ensures started { self.new.started ≡ self.old.started + length (started_in word) }
+        ensures expired { self.new.expired ≡ self.old.expired + length (expired_in word) }
+        ensures last { self.new.last ≡ last_or self.old.last (expired_in word) }
+        ensures failed { self.new.failed ≡ not (passes self.old word) }
+        ensures fewer { left_of self.new < left_of self.old }
+        ensures others { (self.new.end ≡ self.old.end) × (self.new.count ≡ self.old.count) × (self.new.first ≡ self.old.first) × (self.new.sent ≡ self.old.sent) }
+    {
+        match word {
+            Word::Answered {
+                number,
+                answer: Answer::Started { .. },
+            } => {
+                self.failed = self.started >= self.count || !self.is_next(number);
+                self.started += 1;
+            }
+            Word::Notice(Notice::Expired(timer)) => {
+                self.failed = self.expired >= self.count || !self.is_after_last(&timer);
+                self.expired += 1;
+                self.last = Some(timer);
+            }
+            _ => self.failed = true,
+        }
+    }
+
+    /// Whether this is the number of the request that is to be answered next.
+    fn is_next(&self, number: u64) -> bool
+        ensures { result ≡ (number == self.now.first + self.now.started) }
+    {
+        number >= self.first && number - self.first == self.started
+    }
+
+    /// Whether this timer is handed out after the one that expired last.
+    fn is_after_last(&self, timer: &Timer) -> bool
+        ensures { result ≡ follows self.now.last timer.now }
+    {
+        match &self.last {
+            Some(last) => {
+                last.deadline < timer.deadline
+                    || (last.deadline == timer.deadline && last.serial < timer.serial)
+            }
+            None => true,
+        }
+    }
+
+    /// Ends the work.
+    pub fn finish(self) -> Worked
+        requires { IsSound self }
+        ensures line { (start : ClientEnd) → IsAtWork start self → IsOfLine (line_of_end start) result }
+        ensures worked { (start : ClientEnd) → IsAtWork start self → HasWorked self.count start result }
+    {
+        let failed = self.failed || !self.is_complete();
+        let Client {
+            end,
+            sent,
+            started,
+            expired,
+            ..
+        } = self;
+        let (ended, reader) = end.finish();
+        Worked {
+            ended,
+            reader,
+            sent,
+            started,
+            expired,
+            failed,
+        }
+    }
+}

@@ -1,0 +1,12 @@
+//! Why a run of clients in threads failed.
+
+/// Why clients in threads did not come to their end. Of several reasons it is the first of these.
+#[derive(Clone, Copy, Debug, PartialEq, Eq)]
+pub enum ThreadsFault {
+    /// Allocation failed, or a thread could not be started.
+    OutOfMemory,
+    /// A check of this client failed, it came to its limit, or its line could not be settled.
+    Client(usize),
+    /// The desk came to its limit.
+    Desk,
+}

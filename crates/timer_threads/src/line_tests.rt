@@ -1,0 +1,219 @@
+//! Rows of one thread: a ring line to its end, and a client that never receives.
+ghost use Rattle.std.specs.Prelude.{◌≡◌, ◌<◌, ◌≤◌, [], IfOk, get_or, vec_len};
+ghost use Rattle.timer_desk.specs.declared.ring.RingInlet.{RingInlet};
+ghost use Rattle.timer_desk.specs.Ring.{line_of_end, line_of_inlet, words_ring_of_reader};
+ghost use Rattle.timer_desk.specs.Desk.{clients_of, AllIdle};
+
+use std::alloc::Global;
+use std::process::Abort;
+use std::test::*;
+use timer_base::Timer;
+use timer_desk::{
+    ClientEnd, ClientReader, Desk, Done, Inlet, Numbered, RingInlet, Served, Step, Unsent, Word,
+    ring_line,
+};
+use timer_facility::{Answer, Config, Facility, Notice, Request};
+use timer_wheels::HierWheel;
+
+/// A desk over these lines, one for each client, over a hierarchy of wheels.
+fn desk(
+    rt: &impl Abort,
+    alloc: Global,
+    inlets: Vec<RingInlet>,
+    room: usize,
+) -> Result<Desk<HierWheel, RingInlet>, Fail>
+    requires { (1 ≤ vec_len inlets) × (vec_len inlets ≤ 64) }
+    ensures clients { IfOk result (λ desk. clients_of desk ≡ vec_len inlets) }
+    ensures inlets { IfOk result (λ desk. desk.inlets ≡ inlets.items) }
+{
+    let config = Config {
+        clients: inlets.len() as u64,
+        capacity: 1024,
+        first_tick: 0,
+        first_serial: 1,
+        first_number: 1,
+    };
+    let wheel = HierWheel::new(alloc, 0)?;
+    let facility = Facility::open(alloc, config.check()?, wheel);
+    match Desk::open(alloc, facility, inlets, room) {
+        Ok(desk) => Ok(desk),
+        Err(_) => panic!(rt; "not opened"),
+    }
+}
+
+fn start(interval: u64, action: u64) -> Request {
+    Request::Start { interval, action }
+}
+
+/// The serial and the deadline that a word tells: of an answer, 1; of an expired timer, 2.
+fn told(word: Option<Word>) -> (u64, u64, u64) {
+    match word {
+        Some(
+            Word::Answered {
+                answer: Answer::Started { handle, deadline },
+                ..
+            },
+        ) => (1, handle.serial, deadline),
+        Some(Word::Notice(Notice::Expired(timer))) => (2, timer.serial, timer.deadline),
+        _ => (0, 0, 0),
+    }
+}
+
+/// Takes one turn of two clients, and answers what came of the first serve.
+fn turn_of_two(desk: &mut Desk<HierWheel, RingInlet>) -> Served
+    requires { clients_of desk.old ≡ 2 }
+    ensures clients { clients_of desk.new ≡ 2 }
+    ensures line { (i : RingInlet) → line_of_inlet (get_or desk.new.inlets 0 i) ≡ line_of_inlet (get_or desk.old.inlets 0 i) }
+{
+    let served = desk.serve(0);
+    let _ = desk.serve(1);
+    let _ = desk.flush(0);
+    let _ = desk.flush(1);
+    let _ = desk.tick();
+    served
+}
+
+/// Client 0 sends five starts and never receives; client 1 sends five and reads its words.
+fn silent(rt: &impl Abort, desk: Desk<HierWheel, RingInlet>, zero: ClientEnd, one: ClientEnd)
+    requires clients { clients_of desk ≡ 2 }
+    requires line { (i : RingInlet) → line_of_end zero ≡ line_of_inlet (get_or desk.inlets 0 i) }
+{
+    let mut desk = desk;
+    let mut zero = zero;
+    let mut one = one;
+    let mut served = 0u64;
+    let mut refused = 0u64;
+    let mut started = 0u64;
+    let mut expired = 0u64;
+    for _ in 0..100u64 {
+        if zero.next_number() <= 5 {
+            let _ = zero.submit(start(1, zero.next_number()));
+        }
+        if one.next_number() <= 5 {
+            let _ = one.submit(start(1, one.next_number()));
+        }
+        match turn_of_two(&mut desk) {
+            Served::Did { .. } => served = served.saturating_add(1),
+            Served::NoRoom => refused = refused.saturating_add(1),
+            _ => {}
+        }
+        match told(one.receive()).0 {
+            1 => started = started.saturating_add(1),
+            2 => expired = expired.saturating_add(1),
+            _ => {}
+        }
+    }
+    assert_eq!(rt; (served, refused), (3, 97));
+    assert_eq!(rt; desk.outbox_len(0), 4);
+    assert_eq!(rt; zero.next_number(), 6);
+    assert_eq!(rt; (started, expired), (5, 5));
+    let (ended, _reader) = zero.finish();
+    let Some(mut ended) = ended else {
+        panic!(rt; "not finished");
+    };
+    assert_eq!(rt; desk.settle(0, &mut ended), 2);
+}
+
+#[test]
+fn a_client_that_does_not_receive_holds_up_no_other(rt: HostRuntime) -> Result<(), Fail> {
+    let alloc = rt.alloc();
+    let (zero, inlet) = ring_line(alloc, 2, 1)?;
+    let (one, other) = ring_line(alloc, 8, 1)?;
+    let desk = desk(&rt, alloc, vec![in alloc; inlet, other]?, 4)?;
+    silent(&rt, desk, zero, one);
+    Ok(())
+}
+
+/// Goes on only where nothing waits for the one client.
+fn idle(rt: &impl Abort, desk: &Desk<HierWheel, RingInlet>)
+    requires { clients_of desk.now ≡ 1 }
+    ensures { AllIdle desk.now }
+{
+    assert!(rt; desk.outbox_len(0) == 0);
+    assert!(rt; desk.held(0).is_none());
+}
+
+/// Ends a desk of one client, settles its reader, and reads what is left.
+fn wound(rt: &impl Abort, desk: Desk<HierWheel, RingInlet>, reader: ClientReader)
+    requires clients { clients_of desk ≡ 1 }
+    requires line { (i : RingInlet) → words_ring_of_reader reader ≡ (line_of_inlet (get_or desk.inlets 0 i)).1 }
+{
+    let mut reader = reader;
+    idle(rt, &desk);
+    let (_facility, inlets) = desk.end();
+    let mut inlets = inlets;
+    let Some(inlet) = inlets.pop() else {
+        panic!(rt; "no line");
+    };
+    let Some(mut ended) = inlet.finish() else {
+        panic!(rt; "not finished");
+    };
+    assert_eq!(rt; reader.settle(&mut ended), 2);
+    assert_eq!(rt; told(reader.receive()), (2, 2, 1));
+    assert_eq!(rt; told(reader.receive()), (2, 1, 2));
+    assert_eq!(rt; reader.receive(), None);
+}
+
+/// What a serve came to: a serial and a deadline.
+fn did(served: Served) -> (u64, u64, u64) {
+    match served {
+        Served::Did { word, .. } => told(Some(word)),
+        Served::Idle => (3, 0, 0),
+        _ => (0, 0, 0),
+    }
+}
+
+/// Serves the two requests that stand, and flushes their answers.
+fn serve_all(rt: &impl Abort, desk: &mut Desk<HierWheel, RingInlet>)
+    requires { clients_of desk.old ≡ 1 }
+    ensures clients { clients_of desk.new ≡ 1 }
+    ensures line { (i : RingInlet) → line_of_inlet (get_or desk.new.inlets 0 i) ≡ line_of_inlet (get_or desk.old.inlets 0 i) }
+{
+    assert_eq!(rt; did(desk.serve(0)), (1, 1, 2));
+    assert_eq!(rt; did(desk.serve(0)), (1, 2, 1));
+    assert_eq!(rt; did(desk.serve(0)), (3, 0, 0));
+    assert_eq!(rt; desk.flush(0), 2);
+}
+
+/// Passes two ticks, whose notices find no room in the line.
+fn pass_two_ticks(rt: &impl Abort, desk: &mut Desk<HierWheel, RingInlet>)
+    requires { clients_of desk.old ≡ 1 }
+    ensures clients { clients_of desk.new ≡ 1 }
+    ensures line { (i : RingInlet) → line_of_inlet (get_or desk.new.inlets 0 i) ≡ line_of_inlet (get_or desk.old.inlets 0 i) }
+{
+    assert_eq!(rt; desk.tick(), Ok(()));
+    assert_eq!(rt; desk.tick(), Ok(()));
+    assert_eq!(rt; desk.flush(0), 0);
+}
+
+/// The line from the client's finish on.
+fn ended(rt: &impl Abort, desk: Desk<HierWheel, RingInlet>, end: ClientEnd)
+    requires clients { clients_of desk ≡ 1 }
+    requires line { (i : RingInlet) → line_of_end end ≡ line_of_inlet (get_or desk.inlets 0 i) }
+{
+    let mut desk = desk;
+    let (ended, mut reader) = end.finish();
+    let Some(mut ended) = ended else {
+        panic!(rt; "not finished");
+    };
+    assert_eq!(rt; desk.settle(0, &mut ended), 2);
+    serve_all(rt, &mut desk);
+    pass_two_ticks(rt, &mut desk);
+    assert_eq!(rt; told(reader.receive()), (1, 1, 2));
+    assert_eq!(rt; told(reader.receive()), (1, 2, 1));
+    assert_eq!(rt; desk.flush(0), 2);
+    wound(rt, desk, reader);
+}
+
+#[test]
+fn a_ring_line_is_read_to_its_end(rt: HostRuntime) -> Result<(), Fail> {
+    let alloc = rt.alloc();
+    let (mut end, inlet) = ring_line(alloc, 2, 1)?;
+    assert_eq!(rt; end.submit(start(2, 7)), Ok(1));
+    assert_eq!(rt; end.submit(start(1, 8)), Ok(2));
+    assert_eq!(rt; end.submit(start(5, 9)), Err(Unsent::Full(start(5, 9))));
+    assert_eq!(rt; end.next_number(), 3);
+    let desk = desk(&rt, alloc, vec![in alloc; inlet]?, 8)?;
+    ended(&rt, desk, end);
+    Ok(())
+}

@@ -1,0 +1,20 @@
+//! What a client's thread promises of what it gives back.
+use crate::worked::Worked;
+use std::snapshot::Snapshot;
+use std::thread::Promise;
+use timer_desk::ClientEnd;
+
+/// What is given back is of the line of this end; and where nothing failed, so many requests were
+/// sent, and as many timers started and expired.
+#[derive(Drop)]
+pub struct Finishes {
+    pub end: Snapshot<ClientEnd>,
+    pub count: u64,
+}
+
+impl Promise<Worked> for Finishes {
+    ghost use Rattle.timer_desk.specs.Ring.{line_of_end};
+    ghost use Rattle.timer_threads.specs.Working.{IsOfLine, IsWhole};
+
+    ghost kept_by = { λ p w. IsOfLine (line_of_end p.end.value) w × IsWhole p.count w };
+}

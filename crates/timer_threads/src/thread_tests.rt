@@ -1,0 +1,365 @@
+//! Clients in threads: the worked rows, gates that hold clients back, and clients that end badly.
+ghost use Rattle.std.specs.Prelude.{◌≡◌, ◌<◌, ◌≤◌, [], IfOk, get_or, vec_len};
+ghost use Rattle.timer_base.specs.declared.limits.TheConstants.{LAST};
+ghost use Rattle.timer_desk.specs.Desk.{clients_of};
+
+use crate::fault::ThreadsFault;
+use crate::gate::{Gate, InTurn, Open};
+use crate::threads::threads_run;
+use crate::working::client_work;
+use std::alloc::{AllocError, Global};
+use std::process::Abort;
+use std::sync::atomic::{AtomicU64, Ordering};
+use std::sync::{Arc, Wait};
+use std::test::*;
+use std::thread;
+use std::thread::Threads;
+use timer_base::{Handle, Timer};
+use timer_desk::{
+    ClientEnd, Desk, DriveEnd, Inlet, LockedEnd, Step, Word, drive, locked_line, ring_line,
+};
+use timer_facility::{Answer, Config, Facility, Notice, Request};
+use timer_wheels::HierWheel;
+
+/// After so many turns in a row that passed nothing on a side gives up.
+const LIMIT: u64 = 10_000_000;
+
+static TWO_OF_100: &str =
+    "client 0 sent 100 started 100 expired 100\nclient 1 sent 100 started 100 expired 100\nend\n";
+
+/// Lets each request go, or none.
+#[derive(Clone, Copy, Drop)]
+struct Door {
+    is_open: bool,
+}
+
+impl Gate for Door {
+    fn may_send(&mut self, _number: u64, _expired: u64) -> bool {
+        self.is_open
+    }
+}
+
+/// Lets requests go once the other gate was asked too: at its first ask it looks for the other, and
+/// where it never sees it, nothing goes. So clients that run one after another fail.
+#[derive(Drop)]
+struct Meet {
+    mine: Arc<AtomicU64, Global>,
+    other: Arc<AtomicU64, Global>,
+    asked: bool,
+    met: bool,
+}
+
+impl Gate for Meet {
+    fn may_send(&mut self, _number: u64, _expired: u64) -> bool {
+        if !self.asked {
+            self.asked = true;
+            self.mine.store(1, Ordering::SeqCst);
+            self.met = sees(&self.other);
+        }
+        self.met
+    }
+}
+
+/// Whether the flag is seen, of at most 100,000,000 looks.
+fn sees(flag: &AtomicU64) -> bool {
+    for _ in 0..100_000_000u64 {
+        if flag.load(Ordering::SeqCst) == 1 {
+            return true;
+        }
+    }
+    false
+}
+
+/// Two gates that wait for each other.
+fn meeting(alloc: Global) -> Result<Vec<Meet>, AllocError>
+    ensures { IfOk result (λ gates. vec_len gates ≡ 2) }
+{
+    let one = Arc::new(alloc, AtomicU64::new(0))?;
+    let two = Arc::new(alloc, AtomicU64::new(0))?;
+    let first = Meet {
+        mine: Arc::try_clone(&one)?,
+        other: Arc::try_clone(&two)?,
+        asked: false,
+        met: false,
+    };
+    let second = Meet {
+        mine: two,
+        other: one,
+        asked: false,
+        met: false,
+    };
+    let gates = vec![in alloc; first, second]?;
+    Ok(gates)
+}
+
+#[test]
+fn clients_in_turn_are_served_beside_each_other(rt: HostRuntime) -> Result<(), Fail> {
+    let alloc = rt.alloc();
+    let gates = vec![in alloc; InTurn, InTurn]?;
+    match threads_run(&rt, alloc, gates, 100, LIMIT) {
+        Ok(text) => assert_eq!(rt; text.as_slice(), TWO_OF_100.as_bytes()),
+        Err(fault) => panic!(rt; "{fault:?}"),
+    }
+    Ok(())
+}
+
+#[test]
+fn clients_that_wait_for_each_other_meet(rt: HostRuntime) -> Result<(), Fail> {
+    let alloc = rt.alloc();
+    let gates = meeting(alloc)?;
+    match threads_run(&rt, alloc, gates, 100, LIMIT) {
+        Ok(text) => assert_eq!(rt; text.as_slice(), TWO_OF_100.as_bytes()),
+        Err(fault) => panic!(rt; "{fault:?}"),
+    }
+    Ok(())
+}
+
+#[test]
+fn clients_that_may_not_send_come_to_their_limit(rt: HostRuntime) -> Result<(), Fail> {
+    let alloc = rt.alloc();
+    let shut = Door { is_open: false };
+    let gates = vec![in alloc; shut, shut]?;
+    match threads_run(&rt, alloc, gates, 100, 1000) {
+        Ok(_) => panic!(rt; "came to an end"),
+        Err(fault) => assert_eq!(rt; fault, ThreadsFault::Client(0)),
+    }
+    Ok(())
+}
+
+#[test]
+fn the_lowest_client_that_failed_is_named(rt: HostRuntime) -> Result<(), Fail> {
+    let alloc = rt.alloc();
+    let open = Door { is_open: true };
+    let shut = Door { is_open: false };
+    let gates = vec![in alloc; open, shut, shut]?;
+    // Client 0 must not come to this limit while the desk's thread is held up.
+    match threads_run(&rt, alloc, gates, 10, 100_000) {
+        Ok(_) => panic!(rt; "came to an end"),
+        Err(fault) => assert_eq!(rt; fault, ThreadsFault::Client(1)),
+    }
+    Ok(())
+}
+
+#[test]
+fn as_many_clients_as_there_may_be_run_to_their_end(rt: HostRuntime) -> Result<(), Fail> {
+    let alloc = rt.alloc();
+    let mut gates = Vec::with_capacity(alloc, 64)?;
+    for _ in 0..64u64 {
+        gates.push(Open)?;
+    }
+    assert_eq!(rt; gates.len(), 64);
+    match threads_run(&rt, alloc, gates, 20, LIMIT) {
+        Ok(text) => {
+            let end = b"client 63 sent 20 started 20 expired 20\nend\n";
+            assert!(rt; text.ends_with(end));
+        }
+        Err(fault) => panic!(rt; "{fault:?}"),
+    }
+    Ok(())
+}
+
+/// A desk over these lines, one for each client, over a hierarchy of wheels.
+fn desk<I: Inlet + Drop>(
+    rt: &impl Abort,
+    alloc: Global,
+    inlets: Vec<I>,
+    room: usize,
+) -> Result<Desk<HierWheel, I>, Fail>
+    requires { (1 ≤ vec_len inlets) × (vec_len inlets ≤ 64) }
+    ensures clients { IfOk result (λ desk. clients_of desk ≡ vec_len inlets) }
+    ensures inlets { IfOk result (λ desk. desk.inlets ≡ inlets.items) }
+{
+    let config = Config {
+        clients: inlets.len() as u64,
+        capacity: 1024,
+        first_tick: 0,
+        first_serial: 1,
+        first_number: 1,
+    };
+    let wheel = HierWheel::new(alloc, 0)?;
+    let facility = Facility::open(alloc, config.check()?, wheel);
+    match Desk::open(alloc, facility, inlets, room) {
+        Ok(desk) => Ok(desk),
+        Err(_) => panic!(rt; "not opened"),
+    }
+}
+
+#[test]
+fn a_drive_over_an_empty_line_comes_to_its_limit(rt: HostRuntime) -> Result<(), Fail> {
+    let alloc = rt.alloc();
+    let (_end, inlet) = ring_line(alloc, 8, 1)?;
+    let desk = desk(&rt, alloc, vec![in alloc; inlet]?, 8)?;
+    let driven = drive(alloc, desk, 1, 1000);
+    assert_eq!(rt; driven.outcome, DriveEnd::Limit);
+    assert_eq!(rt; driven.desk.facility().now(), 1000);
+    Ok(())
+}
+
+/// A client's end of a line of either kind.
+trait Line {
+    fn submit(&mut self, request: Request) -> bool;
+
+    fn receive(&mut self) -> Option<Word>;
+}
+
+impl Line for ClientEnd {
+    fn submit(&mut self, request: Request) -> bool {
+        ClientEnd::submit(self, request).is_ok()
+    }
+
+    fn receive(&mut self) -> Option<Word> {
+        ClientEnd::receive(self)
+    }
+}
+
+/// A client's end of a locked line, with the handle that its calls wait by.
+#[derive(Drop)]
+struct Locked<R> {
+    rt: R,
+    end: LockedEnd,
+}
+
+impl<R: Wait> Line for Locked<R> {
+    fn submit(&mut self, request: Request) -> bool {
+        self.end.submit(&self.rt, request).is_ok()
+    }
+
+    fn receive(&mut self) -> Option<Word> {
+        self.end.receive(&self.rt)
+    }
+}
+
+/// Sends a start with number 1, and one with number 2 once the timer of the first has expired. Returns
+/// the four words that it received.
+fn paced<L: Line + Drop>(alloc: Global, line: L) -> Option<Vec<Word>> {
+    let mut line = line;
+    let mut words = Vec::new(alloc);
+    let mut sent = 0u64;
+    let mut expired = 0u64;
+    for _ in 0..LIMIT {
+        if words.len() == 4 {
+            return Some(words);
+        }
+        if sent == expired && sent < 2 {
+            let request = Request::Start {
+                interval: 1,
+                action: sent + 1,
+            };
+            if line.submit(request) {
+                sent += 1;
+            }
+        }
+        if let Some(word) = line.receive() {
+            if matches!(word, Word::Notice(_)) && expired < 2 {
+                expired += 1;
+            }
+            if words.push(word).is_err() {
+                return None;
+            }
+        }
+        thread::yield_now();
+    }
+    None
+}
+
+/// What a word tells: a number or a serial, and a deadline.
+fn told(word: Word) -> (u64, u64, u64) {
+    match word {
+        Word::Answered {
+            number,
+            answer: Answer::Started { handle, deadline },
+        } if handle.serial == number => (1, number, deadline),
+        Word::Notice(Notice::Expired(timer)) if timer.action == timer.serial => {
+            (2, timer.serial, timer.deadline)
+        }
+        _ => (0, 0, 0),
+    }
+}
+
+/// A client in a thread that starts a timer after the other: the row `threads`, over one line.
+fn run_paced<I: Inlet + Drop, L: Line + Send + Drop + 'static>(
+    rt: &(impl Threads + Abort),
+    alloc: Global,
+    desk: Desk<HierWheel, I>,
+    line: L,
+) -> Result<(), Fail> {
+    let mut desk = desk;
+    let child = thread::spawn(rt, move || paced(alloc, line))?;
+    let mut flushed = 0usize;
+    for _ in 0..LIMIT {
+        assert_eq!(rt; desk.clients(), 1);
+        if flushed >= 4 {
+            break;
+        }
+        desk.turn(&[Step::Serve(0), Step::Tick])?;
+        assert_eq!(rt; desk.clients(), 1);
+        flushed = flushed.saturating_add(desk.flush(0));
+        thread::yield_now();
+    }
+    let Some(words) = child.join(rt) else {
+        panic!(rt; "the client gave up");
+    };
+    assert_eq!(rt; words.len(), 4);
+    let first = told(words[0]);
+    let second = told(words[2]);
+    assert_eq!(rt; (first.0, first.1), (1, 1));
+    assert_eq!(rt; told(words[1]), (2, 1, first.2));
+    assert_eq!(rt; (second.0, second.1), (1, 2));
+    assert_eq!(rt; told(words[3]), (2, 2, second.2));
+    assert!(rt; first.2 < second.2);
+    Ok(())
+}
+
+#[test]
+fn a_client_in_a_thread_starts_a_timer_after_the_other(rt: HostRuntime) -> Result<(), Fail> {
+    let alloc = rt.alloc();
+    let (end, inlet) = ring_line(alloc, 4, 1)?;
+    let desk = desk(&rt, alloc, vec![in alloc; inlet]?, 8)?;
+    run_paced(&rt, alloc, desk, end)
+}
+
+#[test]
+fn a_client_behind_a_lock_starts_a_timer_after_the_other(rt: HostRuntime) -> Result<(), Fail> {
+    let alloc = rt.alloc();
+    let (end, inlet) = locked_line(rt, alloc, 4, 1)?;
+    let desk = desk(&rt, alloc, vec![in alloc; inlet]?, 8)?;
+    run_paced(&rt, alloc, desk, Locked { rt, end })
+}
+
+#[test]
+fn a_client_that_drops_its_end_holds_up_no_other(rt: HostRuntime) -> Result<(), Fail> {
+    let alloc = rt.alloc();
+    let (zero, inlet) = ring_line(alloc, 4, 1)?;
+    let (one, other) = ring_line(alloc, 4, 1)?;
+    let mut desk = desk(&rt, alloc, vec![in alloc; inlet, other]?, 8)?;
+    let mut zero = zero;
+    for action in 1..=3u64 {
+        let request = Request::Start {
+            interval: 5,
+            action,
+        };
+        assert_eq!(rt; zero.submit(request), Ok(action));
+    }
+    drop(zero);
+    let child = thread::spawn(&rt, move || client_work(one, 50, LIMIT, Open))?;
+    let mut flushed = (0usize, 0usize);
+    for _ in 0..LIMIT {
+        assert_eq!(rt; desk.clients(), 2);
+        if flushed.1 >= 100 {
+            break;
+        }
+        desk.turn(&[Step::Serve(0), Step::Serve(1)])?;
+        assert_eq!(rt; desk.clients(), 2);
+        flushed.0 = flushed.0.saturating_add(desk.flush(0));
+        assert_eq!(rt; desk.clients(), 2);
+        flushed.1 = flushed.1.saturating_add(desk.flush(1));
+        let _ = desk.tick();
+        thread::yield_now();
+    }
+    let worked = child.join(&rt);
+    assert!(rt; !worked.failed);
+    assert_eq!(rt; (worked.sent, worked.started, worked.expired), (50, 50, 50));
+    assert_eq!(rt; desk.clients(), 2);
+    assert_eq!(rt; flushed.0.saturating_add(desk.outbox_len(0)), 6);
+    Ok(())
+}

@@ -1,0 +1,208 @@
+//! Clients in threads of their own, and the desk in the thread of the caller.
+//!
+//!     a thread for each client     its end of a ring line     client_work
+//!     the caller's thread          the desk                   drive
+//!
+//! Once all threads are joined, each line is settled and the desk ends. What a thread gives back is
+//! of its own line: that is the promise that it is started with, and the condition of settling.
+ghost use Rattle.std.specs.Prelude.{◌≡◌, ◌<◌, ◌≤◌, [], length, true, IfOk, IfErr, vec_len};
+ghost use Rattle.timer_base.specs.declared.limits.TheConstants.{LAST};
+ghost use Rattle.timer_desk.specs.Ring.{line_of_end};
+ghost use Rattle.timer_threads.specs.Threads.{AreTied, IsAmong, whole_text};
+
+use crate::ending::end_all;
+use crate::fault::ThreadsFault;
+use crate::gate::Gate;
+use crate::promise::Finishes;
+use crate::worked::Worked;
+use crate::working::client_work;
+use std::alloc::Global;
+use std::snapshot::Snapshot;
+use std::thread;
+use std::thread::{PromisedHandle, Threads};
+use timer_base::OutOfMemory;
+use timer_desk::{ClientEnd, Desk, Driven, RingInlet, drive, ring_line};
+use timer_facility::{Config, Facility};
+use timer_wheels::HierWheel;
+
+/// How many items a line has room for, each way.
+const LINE: usize = 64;
+
+/// How many words an outbox has room for.
+const ROOM: usize = 1024;
+
+/// How many timers may be pending.
+const CAPACITY: u64 = 65536;
+
+/// The threads that were started, and the owner's ends of their lines.
+struct Clients {
+    inlets: Vec<RingInlet>,
+    children: Vec<PromisedHandle<Worked, Finishes>>,
+    // Whether a thread was started for each client.
+    all: bool,
+}
+
+/// A facility of so many clients, in which no timer is pending.
+fn new_facility(alloc: Global, clients: u64) -> Result<Facility<HierWheel>, OutOfMemory>
+    ensures clients { IfOk result (λ facility. length facility.state.numbers ≡ clients) }
+    ensures pending { IfOk result (λ facility. facility.state.pending ≡ []) }
+    ensures waiting { IfOk result (λ facility. facility.waiting ≡ []) }
+{
+    let config = Config {
+        clients,
+        capacity: CAPACITY,
+        first_tick: 0,
+        first_serial: 1,
+        first_number: 1,
+    };
+    let Ok(checked) = config.check() else {
+        return Err(OutOfMemory);
+    };
+    let Ok(wheel) = HierWheel::new(alloc, 0) else {
+        return Err(OutOfMemory);
+    };
+    Ok(Facility::open(alloc, checked, wheel))
+}
+
+/// Starts a client's thread.
+fn start<G: Gate + Drop + Send + 'static>(
+    rt: &impl Threads,
+    end: ClientEnd,
+    count: u64,
+    limit: u64,
+    gate: G,
+) -> Result<PromisedHandle<Worked, Finishes>, OutOfMemory>
+    requires count { count ≤ LAST }
+    requires limit { limit ≤ LAST }
+    ensures line { IfOk result (λ h. line_of_end h.promise.end.value ≡ line_of_end end) }
+    ensures count { IfOk result (λ h. h.promise.count ≡ count) }
+{
+    let promise = Finishes {
+        end: Snapshot::of(&end),
+        count,
+    };
+    match thread::spawn_with(rt, promise, move || client_work(end, count, limit, gate)) {
+        Ok(child) => Ok(child),
+        Err(_) => Err(OutOfMemory),
+    }
+}
+
+/// Makes a line and starts a thread for each gate, up to the first that can't be had.
+fn start_all<G: Gate + Drop + Send + 'static>(
+    rt: &impl Threads,
+    alloc: Global,
+    gates: Vec<G>,
+    count: u64,
+    limit: u64,
+) -> Result<Clients, OutOfMemory>
+    requires count { count ≤ LAST }
+    requires limit { limit ≤ LAST }
+    ensures tied { IfOk result (λ c. AreTied count c.inlets.items c.children.items) }
+    ensures all { IfOk result (λ c. c.all ≡ true → vec_len c.inlets ≡ vec_len gates) }
+{
+    let Ok(mut inlets) = Vec::with_capacity(alloc, gates.len()) else {
+        return Err(OutOfMemory);
+    };
+    let Ok(mut children) = Vec::with_capacity(alloc, gates.len()) else {
+        return Err(OutOfMemory);
+    };
+    for gate in gates {
+        let Ok((end, inlet)) = ring_line(alloc, LINE, 1) else {
+            return Ok(Clients {
+                inlets,
+                children,
+                all: false,
+            });
+        };
+        let Ok(child) = start(rt, end, count, limit, gate) else {
+            return Ok(Clients {
+                inlets,
+                children,
+                all: false,
+            });
+        };
+        inlets.push_reserved(inlet);
+        children.push_reserved(child);
+    }
+    Ok(Clients {
+        inlets,
+        children,
+        all: true,
+    })
+}
+
+/// Waits for the end of threads whose results are of no use.
+fn join_all(rt: &impl Threads, children: Vec<PromisedHandle<Worked, Finishes>>) {
+    for child in children {
+        child.join(rt);
+    }
+}
+
+/// Runs a client for each gate in a thread of its own, with so many timers, beside a desk that is
+/// driven here, and returns the text of the clients' counts. Each side gives up after `limit` turns in
+/// a row in which it passed nothing on.
+///
+/// Waits for the clients' threads, on every path: none is left running.
+pub fn threads_run<G: Gate + Drop + Send + 'static>(
+    rt: &impl Threads,
+    alloc: Global,
+    gates: Vec<G>,
+    timers: u64,
+    limit: u64,
+) -> Result<Vec<u8>, ThreadsFault>
+    requires gates { (1 ≤ vec_len gates) × (vec_len gates ≤ 64) }
+    requires timers { (1 ≤ timers) × (timers ≤ 10000) }
+    requires limit { (1 ≤ limit) × (limit ≤ LAST) }
+    ensures text { IfOk result (λ text. text.items ≡ whole_text (vec_len gates) timers) }
+    ensures client { IfErr result (λ fault. IsAmong (vec_len gates) fault) }
+{
+    let Ok(facility) = new_facility(alloc, gates.len() as u64) else {
+        return Err(ThreadsFault::OutOfMemory);
+    };
+    let Ok(clients) = start_all(rt, alloc, gates, timers, limit) else {
+        return Err(ThreadsFault::OutOfMemory);
+    };
+    let Clients {
+        inlets,
+        children,
+        all,
+    } = clients;
+    if !all {
+        join_all(rt, children);
+        return Err(ThreadsFault::OutOfMemory);
+    }
+    drive_beside(rt, alloc, facility, inlets, children, timers, limit)
+}
+
+/// Drives a desk over these lines beside the threads of their clients, joins them, and winds it up.
+fn drive_beside(
+    rt: &impl Threads,
+    alloc: Global,
+    facility: Facility<HierWheel>,
+    inlets: Vec<RingInlet>,
+    children: Vec<PromisedHandle<Worked, Finishes>>,
+    timers: u64,
+    limit: u64,
+) -> Result<Vec<u8>, ThreadsFault>
+    requires clients { vec_len inlets ≡ length facility.state.numbers }
+    requires pending { facility.state.pending ≡ [] }
+    requires waiting { facility.waiting ≡ [] }
+    requires tied { AreTied timers inlets.items children.items }
+    requires timers { timers ≤ LAST }
+    requires limit { limit ≤ LAST }
+    ensures text { IfOk result (λ text. text.items ≡ whole_text (vec_len inlets) timers) }
+    ensures client { IfErr result (λ fault. IsAmong (vec_len inlets) fault) }
+{
+    let Ok(desk) = Desk::open(alloc, facility, inlets, ROOM) else {
+        join_all(rt, children);
+        return Err(ThreadsFault::OutOfMemory);
+    };
+    let Driven { desk, outcome } = drive(alloc, desk, timers, limit);
+    match thread::join_promised(rt, children) {
+        Ok(all) => end_all(alloc, desk, outcome, all, timers),
+        Err(failed) => {
+            join_all(rt, failed.value);
+            Err(ThreadsFault::OutOfMemory)
+        }
+    }
+}

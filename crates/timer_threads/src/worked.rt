@@ -1,0 +1,19 @@
+//! What a client's work leaves.
+use timer_desk::{ClientReader, RequestsEnded};
+
+/// What is left of a client that has finished.
+#[derive(Drop)]
+pub struct Worked {
+    /// What is left of its requests. None only where the owner's end was dropped.
+    pub ended: Option<RequestsEnded>,
+    /// The reader of its words.
+    pub reader: ClientReader,
+    /// How many requests it sent.
+    pub sent: u64,
+    /// How many of them started a timer, as the words that it received tell.
+    pub started: u64,
+    /// How many timers expired, as they tell.
+    pub expired: u64,
+    /// Whether a check failed, or the work ended before all was sent and received.
+    pub failed: bool,
+}
