@@ -8,6 +8,8 @@ use Rattle.timer_program.specs.declared.fault.RunFault.{RunFault}
 use Rattle.timer_program.specs.declared.watched.Watched.{Watched}
 use Rattle.timer_program.specs.Asked.{config_of, scheme_last, IsPlayable, IsRefused}
 use Rattle.timer_program.specs.Running.{HasRun}
+use Rattle.timer_program.specs.declared.requested.Clients.{Clients}
+use Rattle.timer_program.specs.Clients.{HasRunClients}
 
 -- a script was played as asked, or was not read since that is refused
 pub record HasPlayed {R S : Type 0} (asked : Play) (remaining : R → Option (List ℕ)) (contents : S → Option (List ℕ)) (reader reader' : Watched R) (writer writer' : Watched S) (status : ℕ) : Type 0 where
@@ -30,7 +32,8 @@ pub record HasNotPlayed {R S : Type 0} (contents : S → Option (List ℕ)) (rea
   -- 2: nothing was written
   pub refused : status ≡ 2 → writer' ≡ writer
 
--- a script was played as the arguments ask, or none was
+-- a script was played as the arguments ask, or clients ran as they ask and nothing was read, or neither
 abbrev pub HasEnded : {R S : Type 0} (remaining : R → Option (List ℕ)) (contents : S → Option (List ℕ)) (reader reader' : Watched R) (writer writer' : Watched S) → ℕ → Type 0
 HasEnded remaining contents reader reader' writer writer' status =
-    ((asked : Play) × HasPlayed asked remaining contents reader reader' writer writer' status) ⊎ HasNotPlayed contents reader reader' writer writer' status
+    ((asked : Play) × HasPlayed asked remaining contents reader reader' writer writer' status)
+    ⊎ (((asked : Clients) × (reader' ≡ reader) × HasRunClients asked contents writer writer' status) ⊎ HasNotPlayed contents reader reader' writer writer' status)

@@ -7,4 +7,5 @@ pub mod Faults
 pub mod Running
 pub mod Asked
 pub mod Schemes
+pub mod Clients
 pub mod Ending

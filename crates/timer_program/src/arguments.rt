@@ -5,6 +5,7 @@ ghost use Rattle.clap.specs.Values.{kind_of};
 ghost use Rattle.timer_program.specs.Ending.{HasPlayed, HasEnded};
 
 use crate::asked::Play;
+use crate::clients::run_clients;
 use crate::fault::RunFault;
 use crate::options::{Asked, read_arguments};
 use crate::output::write_text;
@@ -16,14 +17,15 @@ use clap::error::ErrorKind;
 use std::alloc::Global;
 use std::convert::AsStr;
 use std::io::{Read, Write};
+use std::thread::Threads;
 
 /// Runs the program on the arguments after its name, and returns its exit status.
 ///
-/// 0: the script was played and its text written, or help was asked for and written. 1: an error,
-/// reported in one line on `faults`. 2: the arguments are refused, for the reason that `faults` gets;
-/// nothing is read or written. An error in writing to `faults` is ignored. Neither the reader nor the
-/// writer may have failed before.
-pub fn command<T: AllocGlobal, S: AsStr, R: Read, W: Write, F: Write>(
+/// 0: the script was played, or the clients ran to their end, and the text written, or help was asked
+/// for and written. 1: an error, reported in one line on `faults`. 2: the arguments are refused, for the
+/// reason that `faults` gets; nothing is read or written. An error in writing to `faults` is ignored.
+/// Neither the reader nor the writer may have failed before. Waits where clients run in threads.
+pub fn command<T: AllocGlobal + Threads, S: AsStr, R: Read, W: Write, F: Write>(
     rt: &T,
     arguments: &[S],
     reader: &mut Watched<R>,
@@ -37,6 +39,7 @@ pub fn command<T: AllocGlobal, S: AsStr, R: Read, W: Write, F: Write>(
     let alloc = rt.alloc();
     match read_arguments(alloc, arguments) {
         Ok(Asked::Play(asked)) => play(alloc, asked, reader, writer, faults),
+        Ok(Asked::Threads(asked)) => run_clients(rt, alloc, asked, writer, faults),
         Err(error) => end_unplayed(alloc, &error, writer, faults),
     }
 }

@@ -5,10 +5,7 @@ ghost use Rattle.timer_program.specs.Asked.{scheme_last, config_of, IsPlayable, 
 use thiserror::Error;
 use timer_base::LAST;
 use timer_facility::{Checked, Config, ConfigFault};
-use timer_wheels::LAST_OF_CLOCK;
-
-/// The most buckets of a hashed wheel.
-const MOST_SLOTS: u64 = 65536;
+use timer_wheels::{LAST_OF_CLOCK, MOST_SLOTS};
 
 /// How timers are kept. Each scheme gives the same text up to the last tick of its clock.
 #[derive(Clone, Copy, Debug, PartialEq, Eq)]
@@ -83,7 +80,7 @@ impl Play {
             Ok(checked) => checked,
             Err(fault) => return Err(PlayFault::Config(fault)),
         };
-        if self.slots == 0 || self.slots > MOST_SLOTS {
+        if self.slots == 0 || self.slots > MOST_SLOTS as u64 {
             return Err(PlayFault::Slots);
         }
         let last = self.scheme.last_tick();

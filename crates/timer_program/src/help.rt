@@ -62,3 +62,19 @@ For example, with two clients, a stop and a close:
   end 0 0                              tick, pending timers
 
 `timers help` describes the lines of a script; docs/formats.md has all of it.";
+
+pub static THREADS_ABOUT: &str =
+    "Runs clients in threads of their own, beside one facility, and writes a line for each";
+
+/// What stands below the help of `threads`.
+pub static THREADS: &str = "\
+Each client starts its timers over a line of its own and reads its answers and notices;
+one thread owns the facility and serves all of them. For example, with two clients:
+  $ timers threads --clients 2 --timers 100
+  client 0 sent 100 started 100 expired 100
+  client 1 sent 100 started 100 expired 100
+  end
+
+The exit status is 0 if each client came to its end, and 1 after an error, which is
+reported in one line on standard error: `client C failed`, `desk failed`,
+`out of memory` or `write failed`. Nothing is read from standard input.";

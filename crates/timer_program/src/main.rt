@@ -11,6 +11,9 @@
 mod argument_tests;
 mod arguments;
 mod asked;
+mod clients;
+#[cfg(test)]
+mod clients_tests;
 mod fault;
 #[cfg(test)]
 mod handle_tests;
@@ -23,6 +26,7 @@ mod output;
 mod play;
 mod reading;
 mod reporting;
+mod requested;
 #[cfg(test)]
 mod row_tests;
 mod schemes;

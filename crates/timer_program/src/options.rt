@@ -2,6 +2,7 @@
 //!
 //!     timers                        the same as `timers play`
 //!     timers play [OPTIONS]         plays the script on standard input
+//!     timers threads [OPTIONS]      runs clients in threads of their own
 //!     timers help, timers --help    what the program is
 //!     timers --version              its name and version
 //!
@@ -10,7 +11,8 @@ ghost use Rattle.std.specs.Prelude.{◌≡◌, IfSome};
 ghost use Rattle.timer_program.specs.Asked.{name_of};
 
 use crate::asked::{Play, Scheme};
-use crate::help::{ABOUT, NAME, PLAY_ABOUT, SCHEMES, SCRIPTS, VERSION};
+use crate::help::{ABOUT, NAME, PLAY_ABOUT, SCHEMES, SCRIPTS, THREADS, THREADS_ABOUT, VERSION};
+use crate::requested::Clients;
 use clap::error::ErrorKind;
 use clap::{Arg, ArgMatches, Command, Error, value_parser};
 use std::alloc::{AllocError, Global};
@@ -21,6 +23,8 @@ use std::convert::AsStr;
 pub enum Asked {
     /// `play`: play the script on standard input.
     Play(Play),
+    /// `threads`: run clients in threads of their own.
+    Threads(Clients),
 }
 
 /// The names of the schemes.
@@ -96,6 +100,31 @@ fn play_command<'a>(alloc: Global) -> Result<Command<'a>, AllocError> {
         .arg(first_tick)
 }
 
+/// The subcommand `threads` with its options.
+fn threads_command<'a>(alloc: Global) -> Result<Command<'a>, AllocError> {
+    let clients = number(
+        alloc,
+        "clients",
+        "CLIENTS",
+        (1, 64),
+        "4",
+        "The number of clients, 1 to 64, each in a thread of its own",
+    );
+    let timers = number(
+        alloc,
+        "timers",
+        "TIMERS",
+        (1, 10000),
+        "1000",
+        "The number of timers that each client starts, 1 to 10000",
+    );
+    Command::new(alloc, "threads")
+        .about(THREADS_ABOUT)
+        .after_help(THREADS)
+        .arg(clients)?
+        .arg(timers)
+}
+
 /// The whole command line. A subcommand may be left out only where there are no arguments at all.
 fn program<'a>(alloc: Global) -> Result<Command<'a>, AllocError> {
     Command::new(alloc, NAME)
@@ -104,7 +133,8 @@ fn program<'a>(alloc: Global) -> Result<Command<'a>, AllocError> {
         .about(ABOUT)
         .after_help(SCRIPTS)
         .no_binary_name(true)
-        .subcommand(play_command(alloc)?)
+        .subcommand(play_command(alloc)?)?
+        .subcommand(threads_command(alloc)?)
 }
 
 /// The scheme of this name.
@@ -131,11 +161,20 @@ fn play_of(options: &ArgMatches) -> Option<Play> {
     })
 }
 
+/// What the options of `threads` ask for, where each has a value.
+fn clients_of(options: &ArgMatches) -> Option<Clients> {
+    Some(Clients {
+        clients: options.get_one::<u64>("clients")?,
+        timers: options.get_one::<u64>("timers")?,
+    })
+}
+
 /// What some arguments ask for.
 fn parsed<S: AsStr>(alloc: Global, arguments: &[S]) -> Result<Asked, Error> {
     let matches = program(alloc)?.try_get_matches_from(arguments)?;
     let asked = match matches.subcommand() {
         Some(("play", options)) => play_of(options).map(Asked::Play),
+        Some(("threads", options)) => clients_of(options).map(Asked::Threads),
         _ => None,
     };
     match asked {

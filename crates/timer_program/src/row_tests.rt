@@ -2,6 +2,7 @@
 use crate::testing::{Sink, Source, call};
 use std::process::Abort;
 use std::test::*;
+use std::thread::Threads;
 
 /// A script, the options that it is played with, and the text that answers it.
 #[derive(Clone, Copy)]
@@ -170,7 +171,11 @@ static SCHEMES: [&[&str]; 7] = [
 ];
 
 /// Plays the script of a row with a scheme, and compares what is written.
-fn play_row<T: AllocGlobal + Abort>(rt: &T, row: Row, scheme: &[&str]) -> Result<(), Fail> {
+fn play_row<T: AllocGlobal + Abort + Threads>(
+    rt: &T,
+    row: Row,
+    scheme: &[&str],
+) -> Result<(), Fail> {
     let alloc = rt.alloc();
     let mut arguments = vec![in alloc; "play"]?;
     arguments.extend_from_slice(scheme)?;

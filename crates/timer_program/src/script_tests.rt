@@ -100,12 +100,11 @@ fn cut_scripts_end_at_a_line_or_name_the_cut_one(rt: HostRuntime) -> Result<(), 
     Ok(())
 }
 
-/// A text over and over, up to a length.
-fn repeated(alloc: Global, line: &[u8], len: usize) -> Result<Vec<u8>, Fail> {
+/// A line so many times.
+fn repeated(alloc: Global, line: &[u8], times: u64) -> Result<Vec<u8>, Fail> {
     let mut all = Vec::new(alloc);
-    while all.len() < len {
-        let more = line.len().min(len - all.len());
-        all.extend_from_slice(&line[..more])?;
+    for _ in 0..times {
+        all.extend_from_slice(line)?;
     }
     Ok(all)
 }
@@ -113,11 +112,11 @@ fn repeated(alloc: Global, line: &[u8], len: usize) -> Result<Vec<u8>, Fail> {
 #[test]
 fn longest_script_is_played(rt: HostRuntime) -> Result<(), Fail> {
     let alloc = rt.alloc();
-    let mut script = repeated(alloc, b"tick 1\n", 28)?;
-    script.extend_from_slice(&repeated(alloc, b"close\n", 6 * 174758)?)?;
+    let mut script = repeated(alloc, b"tick 1\n", 4)?;
+    script.extend_from_slice(&repeated(alloc, b"close\n", 174758)?)?;
     assert_eq!(rt; script.len(), 1048576);
-    let mut text = repeated(alloc, b"closed 0\n", 9)?;
-    text.extend_from_slice(&repeated(alloc, b"close refused closed\n", 21 * 174757)?)?;
+    let mut text = repeated(alloc, b"closed 0\n", 1)?;
+    text.extend_from_slice(&repeated(alloc, b"close refused closed\n", 174757)?)?;
     text.extend_from_slice(b"end 4 0\n")?;
     assert_eq!(rt; text.len(), 3669914);
     let source = Source::of(&script).in_pieces(100000);
@@ -131,8 +130,17 @@ fn longest_script_is_played(rt: HostRuntime) -> Result<(), Fail> {
 #[test]
 fn one_byte_more_is_too_long_whatever_stands_in_it(rt: HostRuntime) -> Result<(), Fail> {
     let alloc = rt.alloc();
-    for line in [b"close\n".as_slice(), b"x", b"\n", b"\0\xff", b"tick 0\n"] {
-        let script = repeated(alloc, line, 1048577)?;
+    let rows = [
+        (b"close\n".as_slice(), 174763),
+        (b"x".as_slice(), 1048577),
+        (b"\n".as_slice(), 1048577),
+        (b"\0\xff".as_slice(), 524289),
+        (b"tick 0\n".as_slice(), 149797),
+    ];
+    for (line, times) in rows {
+        let mut script = repeated(alloc, line, times)?;
+        script.truncate(1048577);
+        assert_eq!(rt; script.len(), 1048577);
         for scheme in &SCHEMES {
             let source = Source::of(&script).in_pieces(100000);
             let ended = call(&rt, scheme, source, Sink::new(alloc));

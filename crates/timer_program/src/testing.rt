@@ -6,6 +6,7 @@ use crate::watched::Watched;
 use std::alloc::Global;
 use std::io;
 use std::io::{ErrorKind, Read, Write};
+use std::thread::Threads;
 
 /// The schemes, each as a whole command line.
 pub static SCHEMES: [&[&str]; 4] = [
@@ -150,7 +151,12 @@ pub struct Ended {
 }
 
 /// Calls the program.
-pub fn call<T: AllocGlobal>(rt: &T, arguments: &[&str], source: Source, sink: Sink) -> Ended {
+pub fn call<T: AllocGlobal + Threads>(
+    rt: &T,
+    arguments: &[&str],
+    source: Source,
+    sink: Sink,
+) -> Ended {
     let mut reader = Watched::new(source);
     let mut writer = Watched::new(sink);
     let mut faults = Vec::new(rt.alloc());
