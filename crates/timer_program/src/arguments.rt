@@ -78,6 +78,7 @@ fn end_unplayed<W: Write, F: Write>(
     faults: &mut F,
 ) -> u8
     requires { writer.old.failed ≡ false }
+    ensures in_range { result ≤ 2 }
     ensures out_of_memory { kind_of error.now ≡ ErrorKind.OutOfMemory → result ≡ 1 }
     ensures help { ((kind_of error.now ≡ ErrorKind.DisplayHelp) ⊎ (kind_of error.now ≡ ErrorKind.DisplayVersion)) → result ≤ 1 }
     ensures refused { kind_of error.now ≢ ErrorKind.OutOfMemory → kind_of error.now ≢ ErrorKind.DisplayHelp → kind_of error.now ≢ ErrorKind.DisplayVersion → result ≡ 2 }
