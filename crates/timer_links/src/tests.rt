@@ -224,15 +224,15 @@ fn a_step_gives_the_rounds_and_the_key_after(rt: HostRuntime) {
     let a = push(&mut links, 1, node(1)).expect(&rt, "memory is ample");
     let b = push(&mut links, 1, node(2)).expect(&rt, "memory is ample");
     let c = push(&mut links, 1, node(3)).expect(&rt, "memory is ample");
-    for key in [a, b, c] {
-        assert!(rt; set_rounds(&mut links, key, key as u64 + 5));
-    }
-    assert_eq!(rt; step(&links, a), Some((a as u64 + 5, Some(b))));
-    assert_eq!(rt; step(&links, b), Some((b as u64 + 5, Some(c))));
-    assert_eq!(rt; step(&links, c), Some((c as u64 + 5, None)));
+    assert!(rt; set_rounds(&mut links, a, 11));
+    assert!(rt; set_rounds(&mut links, b, 12));
+    assert!(rt; set_rounds(&mut links, c, 13));
+    assert_eq!(rt; step(&links, a), Some((11, Some(b))));
+    assert_eq!(rt; step(&links, b), Some((12, Some(c))));
+    assert_eq!(rt; step(&links, c), Some((13, None)));
     assert!(rt; links.unlink(b).is_some());
     assert_eq!(rt; step(&links, b), None);
-    assert_eq!(rt; step(&links, a), Some((a as u64 + 5, Some(c))));
+    assert_eq!(rt; step(&links, a), Some((11, Some(c))));
 }
 
 #[test]
