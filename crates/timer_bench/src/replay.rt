@@ -90,9 +90,15 @@ fn replay_one<W: Wheel>(
     let Some(handle) = handles.get_mut(owner as usize) else {
         return Err(Fault::Trace);
     };
-    let restarts = kind == 1 && interval != 0 && pushing == Pushing::Restart;
-    if kind == 1 && !restarts {
-        if let Some(timer) = wheel.stop(*handle) {
+    if kind == 1 {
+        if interval != 0 && pushing == Pushing::Restart {
+            let timer = next_timer(wheel, owner, interval)?;
+            if let Some((new, old)) = wheel.restart(*handle, timer) {
+                sums.add_stopped(old);
+                *handle = new;
+                return Ok(());
+            }
+        } else if let Some(timer) = wheel.stop(*handle) {
             sums.add_stopped(timer);
         }
         if interval == 0 {
@@ -100,13 +106,6 @@ fn replay_one<W: Wheel>(
         }
     }
     let timer = next_timer(wheel, owner, interval)?;
-    if restarts {
-        if let Some((new, old)) = wheel.restart(*handle, timer) {
-            sums.add_stopped(old);
-            *handle = new;
-            return Ok(());
-        }
-    }
     *handle = wheel.start(timer)?;
     Ok(())
 }

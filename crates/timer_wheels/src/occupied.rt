@@ -48,12 +48,16 @@ impl Occupied {
     }
 
     /// Sets a bucket's bit.
+    // Where it is set already the word is left alone: a store would hold back the next start's load of it.
     #[inline]
     pub fn insert(&mut self, list: usize)
         requires { list < 640 }
         ensures here { bit_of self.new list ≡ 1 }
         ensures others { (s : ℕ) → s ≢ list → bit_of self.new s ≡ bit_of self.old s }
     {
+        if self.has(list) {
+            return;
+        }
         let word = list / 64;
         self.words[word] = self.words[word] | 1 << (list % 64);
     }
