@@ -226,6 +226,16 @@ impl Links {
         }
     }
 
+    /// The list in which the node under a key that is in use stands alone, or None where another stands beside it.
+    /// Does not allocate.
+    #[inline]
+    pub fn alone_in(&self, key: usize) -> Option<usize>
+        requires { IsSome (node_at key self.now) }
+        ensures { TellsEmptied key self.now result }
+    {
+        only_neighbour(self.sides[self.lists + key])
+    }
+
     /// Removes the first node of a list, with its key, or returns None where the list is empty.
     /// Does not allocate.
     pub fn pop_front(&mut self, list: usize) -> Option<(usize, Node)>

@@ -1,44 +1,30 @@
 -- What a stop, a start and many ticks keep true of the bits and counts of a hierarchy of wheels.
-use Rattle.std.proofs.Common.{◌≡◌, ◌≢◌, ◌⊎◌, ◌<◌, ◌≤◌, ◌+◌, ◌-◌, ◌*◌, ℕ, List, [], ◌∷◌, ◌++◌, length, refl, sym, ◌∙◌, ap, subst, inl, inr, arith, get_or-set_same, get_or-set_other}
+use Rattle.std.proofs.Common.{◌≡◌, ◌≢◌, ◌<◌, ◌≤◌, ◌+◌, ◌-◌, ◌*◌, ℕ, List, [], ◌∷◌, ◌++◌, length, refl, sym, ◌∙◌, ap, subst, inl, inr, arith, get_or-set_same, get_or-set_other}
 use Rattle.std.specs.Prelude.{Bool, true, false, Option, Some, None, MatchOption, map, slice_set}
-use Rattle.std.specs.List.{AllByRecursion}
 use Rattle.std.proofs.lemmas.Bool.{cases_eq}
 use Rattle.timer_base.specs.declared.timer.Timer.{Timer}
 use Rattle.timer_base.specs.declared.timer.Handle.{Handle}
 use Rattle.timer_base.specs.TickLaws.{after_ticks-serial}
-use Rattle.timer_base.specs.WheelState.{WheelState, IsPending, timer_at, Advances}
+use Rattle.timer_base.specs.WheelState.{WheelState, timer_at, Advances}
 use Rattle.timer_links.specs.declared.node.Node.{Node}
 use Rattle.timer_links.specs.Lists.{list_at, without_key, only, AreApart, TellsEmptied}
 use Rattle.timer_wheels.specs.declared.buckets.Buckets.{Buckets}
 use Rattle.timer_wheels.specs.Buckets.{state_of}
-use Rattle.timer_wheels.specs.Digits.{slots, bucket, last_of}
+use Rattle.timer_wheels.specs.Digits.{slots}
 use Rattle.timer_wheels.specs.declared.table.Table.{Table}
 use Rattle.timer_wheels.specs.Tables.{radices}
-use Rattle.timer_wheels.proofs.OccupiedLemmas.{tells_all}
 use Rattle.timer_wheels.proofs.TableLaws.{of_table}
 use Rattle.timer_wheels.specs.TakenOut.{Clears}
 use Rattle.timer_wheels.proofs.Stands.{StandsIn, stands_in}
 use Rattle.timer_wheels.specs.Hier.{IsHier}
 use Rattle.timer_wheels.specs.Leaps.{Leaps}
-use Rattle.timer_wheels.specs.Occupied.{bit_of, filled, Tells, TellsBut}
-use Rattle.timer_wheels.specs.Placement.{IsPlaced, IsPaid, hops_of, levels_of, has_any, most_moves}
+use Rattle.timer_wheels.specs.Occupied.{bit_of, filled, Tells}
+use Rattle.timer_wheels.specs.Placement.{IsPaid, hops_of, levels_of, has_any, most_moves}
 use Rattle.timer_wheels.specs.WheelLists.{timer_in, ArePast}
-use Rattle.timer_wheels.proofs.RowLemmas.{all-list_at, all-rest}
+use Rattle.timer_wheels.proofs.RowLemmas.{all-rest}
 use Rattle.timer_wheels.proofs.WheelLemmas.{IsParted, parted, look-has}
 
-filled_there : (front : List (ℕ × Node)) (row : ℕ × Node) (rest : List (ℕ × Node)) → filled (front ++ row ∷ rest) ≡ 1
-filled_there [] row rest = refl
-filled_there (x ∷ xs) row rest = refl
-
 -- A stop.
-
--- where a timer was that is stopped: the bits tell of all other buckets
-pub record WasIn (t : Table) (b : Buckets) (words : List ℕ) (key : ℕ) (timer : Timer) : Type 0 where
-  pub later : b.tick < timer.deadline
-  pub in_range : timer.deadline ≤ last_of (radices t)
-  pub in_slots : bucket (radices t) b.tick timer.deadline < b.slots
-  pub told : TellsBut b.slots (bucket (radices t) b.tick timer.deadline) words (map (without_key key) b.links)
-  pub was : bit_of words (bucket (radices t) b.tick timer.deadline) ≡ 1
 
 -- a bucket loses one row, and its bit is cleared where no other is left in it
 kept_filled : (n : ℕ) (words words2 : List ℕ) (l : ℕ) (rows : List (ℕ × Node)) (lists new : List (List (ℕ × Node))) → l < n → l < length lists → filled (list_at l lists) ≡ 1 → filled rows ≡ 1 → new ≡ slice_set lists l rows → words2 ≡ words → Tells n words lists → Tells n words2 new
@@ -82,33 +68,6 @@ module _ (t : Table) (b : Buckets) (words : List ℕ) (h : IsHier t b words) (ap
       omega arith) in
       omega arith
 
-  was_at : (key : ℕ) (node : Node) → b.tick < node.timer.deadline → StandsIn key node b.links → WasIn t b words key node.timer
-  was_at key node later s =
-      let r : s.l < length b.links = s.in_range in
-      let k : s.l < b.slots = was_in_slots key node later s in
-      let Q : List (ℕ × Node) → Type 0 = AllByRecursion (λ row. IsPending b.last_tick b.tick b.last_serial (timer_in row)) in
-      let p = all-rest (λ row. IsPending b.last_tick b.tick b.last_serial (timer_in row)) s.front ((key, node) ∷ s.rest) (subst Q s.at (all-list_at (λ row. IsPending b.last_tick b.tick b.last_serial (timer_in row)) b.slots b.links b.pending s.l k)) in
-      let R : List (ℕ × Node) → Type 0 = AllByRecursion (IsPlaced (radices t) b.tick s.l) in
-      let q = all-rest (IsPlaced (radices t) b.tick s.l) s.front ((key, node) ∷ s.rest) (subst R s.at (h.placed s.l k)) in
-      let at : bucket (radices t) b.tick node.timer.deadline ≡ s.l = q.0.0 in
-      let gone : map (without_key key) b.links ≡ slice_set b.links s.l (s.front ++ s.rest) = (apart s.l s.front (key, node) s.rest r s.at).1 in
-      let c : b.last_tick ≡ last_of (radices t) = h.clock in
-      let d : node.timer.deadline ≤ b.last_tick = p.0.in_range in
-      let P : ℕ → Type 0 = λ v. TellsBut b.slots v words (map (without_key key) b.links) in
-      record {
-        later = p.0.later;
-        in_range = omega arith;
-        in_slots = omega arith;
-        told = subst P (sym at) ((λ u m ne. h.told.0 u m ∙ sym (ap (λ (y : List (List (ℕ × Node))). filled (list_at u y)) gone ∙ ap filled (get_or-set_other b.links s.l u (s.front ++ s.rest) [] ne))), h.told.1);
-        was = ap (bit_of words) at ∙ (h.told.0 s.l k ∙ (ap filled s.at ∙ filled_there s.front (key, node) s.rest));
-      }
-
-  pub was_in : (handle : Handle) (timer : Timer) → timer_at handle (state_of b) ≡ Some timer → WasIn t b words handle.place timer
-  was_in handle timer e =
-      let f = look-has b.tick b.slots handle b.links b.has_lists parts apart timer b.distinct e in
-      let P : Timer → Type 0 = WasIn t b words handle.place in
-      subst P f.timer (was_at handle.place f.node f.later (stands_in handle.place f.node b.links f.at))
-
   -- the bits after a stop
   told_at : (key : ℕ) (node : Node) (emptied : Option ℕ) (words2 : List ℕ) → b.tick < node.timer.deadline → StandsIn key node b.links → TellsEmptied key b.links emptied → Clears emptied words words2 → Tells b.slots words2 (map (without_key key) b.links)
   told_at key node emptied words2 later s e c =
@@ -130,16 +89,6 @@ module _ (t : Table) (b : Buckets) (words : List ℕ) (h : IsHier t b words) (ap
   pub stopped_links : (found : Option Timer) (timer : Timer) (key : ℕ) (new : List (List (ℕ × Node))) → found ≡ Some timer → MatchOption found (new ≡ b.links) (λ t. new ≡ map (without_key key) b.links) → new ≡ map (without_key key) b.links
   stopped_links None timer key new e m = absurd (cc)
   stopped_links (Some u) timer key new e m = m
-
-zero_or_one : (rows : List (ℕ × Node)) → (filled rows ≡ 0) ⊎ (filled rows ≡ 1)
-zero_or_one [] = inl refl
-zero_or_one (x ∷ xs) = inr refl
-
--- the bit of a list, by a look at it
-pub looked_at : (n : ℕ) (words words2 : List ℕ) (l : ℕ) (lists : List (List (ℕ × Node))) → l < n → (filled (list_at l lists) ≡ 0 → bit_of words2 l ≡ 0) → (filled (list_at l lists) ≡ 1 → bit_of words2 l ≡ 1)
-    → ((s : ℕ) → s ≢ l → bit_of words2 s ≡ bit_of words s) → TellsBut n l words lists → Tells n words2 lists
-looked_at n words words2 l lists b e k o t = tells_all n words2 l lists (elim (zero_or_one (list_at l lists)) [ inl q ↦ e q ∙ sym q | inr q ↦ k q ∙ sym q ])
-    ((λ s h m. o s m ∙ t.0 s h m), (λ s a c. o s (λ (q : s ≡ l). omega arith) ∙ t.1 s a c))
 
 -- Many ticks.
 

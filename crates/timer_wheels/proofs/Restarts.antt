@@ -1,7 +1,6 @@
 -- What a restart makes of the buckets: a stop, and a start under the same key.
-use Rattle.std.proofs.Common.{◌≡◌, ◌≢◌, ◌<◌, ◌≤◌, ◌+◌, ℕ, List, [], ◌∷◌, ◌++◌, length, refl, sym, ◌∙◌, ap, inl, inr, arith, length-set, get_or-set_same, get_or-set_other}
+use Rattle.std.proofs.Common.{◌≡◌, ◌<◌, ◌≤◌, ◌+◌, ℕ, List, [], ◌∷◌, ◌++◌, length, refl, ◌∙◌, ap, arith, length-set}
 use Rattle.std.specs.Prelude.{Some, IsSome, map}
-use Rattle.std.proofs.lemmas.Bool.{cases_eq}
 use Rattle.std.proofs.lemmas.List.{length-map}
 use Rattle.timer_base.specs.declared.timer.Timer.{Timer}
 use Rattle.timer_base.specs.declared.timer.Handle.{Handle}
@@ -11,9 +10,7 @@ use Rattle.timer_links.specs.declared.node.Node.{Node}
 use Rattle.timer_links.specs.Lists.{list_at, node_at, with_row, without_key, AreApart}
 use Rattle.timer_wheels.specs.declared.buckets.Buckets.{Buckets}
 use Rattle.timer_wheels.specs.Buckets.{state_of}
-use Rattle.timer_wheels.specs.Occupied.{bit_of, filled, TellsBut}
 use Rattle.timer_wheels.specs.WheelLists.{timer_in, timers_in, rows_below, wheel_state, ArePending, ArePast, AreInOrder, EachRow}
-use Rattle.timer_wheels.proofs.OccupiedLemmas.{filled_behind}
 use Rattle.timer_wheels.proofs.RowLemmas.{all-list_at}
 use Rattle.timer_wheels.proofs.Stands.{is_used}
 use Rattle.timer_wheels.proofs.WheelLemmas.{IsParted, parted, look-has, past-with_row, past-without_key, stop-found, stopped-pending, stopped-distinct, stopped-in_order, started, started-pending, started-distinct, in_order-with_row, AreBelow-pending, each-with_row, each-without_key}
@@ -73,17 +70,3 @@ module _ (b : Buckets) (handle : Handle) (bucket rounds : ℕ) (timer : Timer) (
 -- each row keeps the wheel's own rule
 pub each_restarted : (fact : ℕ → ℕ × Node → Type 0) (n key bucket : ℕ) (node : Node) (lists : List (List (ℕ × Node))) → bucket < length lists → fact bucket (key, node) → EachRow fact n lists → EachRow fact n (with_row bucket (key, node) (map (without_key key) lists))
 each_restarted fact n key bucket node lists h f a = each-with_row fact n bucket (key, node) (map (without_key key) lists) (let e : length (map (without_key key) lists) ≡ length lists = length-map lists (without_key key) in omega arith) f (each-without_key fact n key lists a)
-
--- the bits, but for that of the old bucket
-pub told_restarted : (n : ℕ) (words words2 : List ℕ) (from to : ℕ) (row : ℕ × Node) (lists : List (List (ℕ × Node))) → to < n → to < length lists → bit_of words2 to ≡ 1 → ((s : ℕ) → s ≢ to → bit_of words2 s ≡ bit_of words s)
-    → TellsBut n from words lists → TellsBut n from words2 (with_row to row lists)
-told_restarted n words words2 from to row lists f b z o t = (
-  (λ (s : ℕ) (h : s < n) (d : s ≢ from). elim (cases_eq s to) [
-    | inl q ↦ ap (bit_of words2) q ∙ (z ∙ sym (ap (λ (v : ℕ). filled (list_at v (with_row to row lists))) q ∙ (ap filled (get_or-set_same lists to (list_at to lists ++ row ∷ []) [] b) ∙ filled_behind (list_at to lists) row)))
-    | inr m ↦ o s m ∙ (t.0 s h d ∙ sym (ap filled (get_or-set_other lists to s (list_at to lists ++ row ∷ []) [] m)))
-  ]),
-  (λ s a c. o s (λ (q : s ≡ to). omega arith) ∙ t.1 s a c),
-)
-
-pub still_set : (words words2 : List ℕ) (from to : ℕ) → bit_of words from ≡ 1 → bit_of words2 to ≡ 1 → ((s : ℕ) → s ≢ to → bit_of words2 s ≡ bit_of words s) → bit_of words2 from ≡ 1
-still_set words words2 from to w z o = elim (cases_eq from to) [ inl q ↦ ap (bit_of words2) q ∙ z | inr m ↦ o from m ∙ w ]

@@ -8,11 +8,9 @@
 //! a lower wheel comes before a higher one, and in a wheel the slots come in turn.
 ghost use Rattle.std.specs.Prelude.{◌≡◌, ◌≢◌, ◌<◌, ℕ, List, length, true, false, MatchOption};
 ghost use Rattle.timer_wheels.specs.TakenOut.{Clears};
-ghost use Rattle.timer_wheels.specs.Occupied.{bit_of, IsFirstSet, IsLowestSet, filled};
-ghost use Rattle.timer_links.specs.Lists.{list_at};
+ghost use Rattle.timer_wheels.specs.Occupied.{bit_of, IsFirstSet, IsLowestSet};
 
 use std::marker::Model;
-use timer_links::Links;
 
 /// A bit for each of 640 buckets.
 #[derive(Drop)]
@@ -95,21 +93,6 @@ fn lowest_bit(word: u64) -> usize
     ensures { IsLowestSet word result }
 {
     word.trailing_zeros() as usize
-}
-
-/// Clears the bit of a bucket where no timer is left in it.
-#[inline]
-pub fn look_again(links: &Links, occupied: &mut Occupied, list: usize)
-    requires list { list < 640 }
-    requires lists { list < length links.now }
-    requires was { bit_of occupied.old list ≡ 1 }
-    ensures empty { filled (list_at list links.now) ≡ 0 → bit_of occupied.new list ≡ 0 }
-    ensures kept { filled (list_at list links.now) ≡ 1 → bit_of occupied.new list ≡ 1 }
-    ensures others { (s : ℕ) → s ≢ list → bit_of occupied.new s ≡ bit_of occupied.old s }
-{
-    if links.front(list).is_none() {
-        occupied.remove(list);
-    }
 }
 
 /// Clears the bit of a bucket that was emptied, if one was.

@@ -7,7 +7,7 @@ ghost use Rattle.timer_wheels.specs.Hier.{IsHier};
 
 use crate::buckets::Buckets;
 use crate::digits::bucket_of;
-use crate::occupied::{Occupied, clear_emptied, look_again};
+use crate::occupied::{Occupied, clear_emptied};
 use crate::table::Table;
 use timer_base::{Handle, Timer};
 
@@ -32,8 +32,8 @@ pub fn stop_timer(
     Some(timer)
 }
 
-/// Takes away the pending timer with just this handle, and starts another at its place. The bits are
-/// those of what stands in the buckets then. Does not allocate.
+/// Takes away the pending timer with just this handle, and starts another at its place. Clears the bit of
+/// the bucket that it left empty, if it left one, and sets that of its new bucket. Does not allocate.
 pub fn restart_timer(
     table: Table,
     buckets: &mut Buckets,
@@ -54,9 +54,10 @@ pub fn restart_timer(
 {
     buckets.links.keys_are_apart();
     let list = bucket_of(table, buckets.tick, timer.deadline);
-    let (restarted, old) = buckets.restart(handle, list, timer, 0)?;
-    let from = bucket_of(table, buckets.tick, old.deadline);
+    buckets.look(handle)?;
+    let emptied = buckets.links.alone_in(handle.place);
+    let restarted = buckets.restart(handle, list, timer, 0)?;
+    clear_emptied(occupied, emptied);
     occupied.insert(list);
-    look_again(&buckets.links, occupied, from);
-    Some((restarted, old))
+    Some(restarted)
 }
