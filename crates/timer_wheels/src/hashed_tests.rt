@@ -30,23 +30,31 @@ fn rows_of(
     Ok(rows)
 }
 
-/// A tick, the serials that are due then, and what stands in bucket 0 and in bucket 1 from then on.
+/// A tick, the serials that are due then, what stands in bucket 0 and in bucket 1 from then on, and the tick of
+/// the next of these two buckets that has a timer.
 type Turn = (
     u64,
     &'static [u64],
     &'static [(u64, u64)],
     &'static [(u64, u64)],
+    Option<u64>,
 );
 
 const TURNS: [Turn; 8] = [
-    (0, &[], &[(2, 0), (4, 1), (5, 0)], &[(1, 0), (3, 1)]),
-    (1, &[1], &[(2, 0), (4, 1), (5, 0)], &[(3, 0)]),
-    (2, &[], &[(2, 0), (4, 1), (5, 0)], &[(3, 0)]),
-    (7, &[], &[(2, 0), (4, 1), (5, 0)], &[(3, 0)]),
-    (8, &[2, 5], &[(4, 0)], &[(3, 0)]),
-    (9, &[3], &[(4, 0)], &[]),
-    (15, &[], &[(4, 0)], &[]),
-    (16, &[4], &[], &[]),
+    (
+        0,
+        &[],
+        &[(2, 0), (4, 1), (5, 0)],
+        &[(1, 0), (3, 1)],
+        Some(1),
+    ),
+    (1, &[1], &[(2, 0), (4, 1), (5, 0)], &[(3, 0)], Some(8)),
+    (2, &[], &[(2, 0), (4, 1), (5, 0)], &[(3, 0)], Some(8)),
+    (7, &[], &[(2, 0), (4, 1), (5, 0)], &[(3, 0)], Some(8)),
+    (8, &[2, 5], &[(4, 0)], &[(3, 0)], Some(9)),
+    (9, &[3], &[(4, 0)], &[], Some(16)),
+    (15, &[], &[(4, 0)], &[], Some(16)),
+    (16, &[4], &[], &[], None),
 ];
 
 #[test]
@@ -55,13 +63,14 @@ fn a_timer_stays_in_its_bucket_until_its_last_round(rt: HostRuntime) -> Result<(
     for deadline in [1, 8, 9, 16, 8] {
         start(&rt, &mut wheel, deadline)?;
     }
-    for (tick, due, first, second) in TURNS {
+    for (tick, due, first, second, next) in TURNS {
         tick_until(&rt, &mut wheel, tick);
         expire(&rt, &mut wheel, due);
         let found = rows_of(&rt, rt.alloc(), wheel.links(), 0)?;
         assert_eq!(rt; found.as_slice(), first, "bucket 0 after tick {tick}");
         let found = rows_of(&rt, rt.alloc(), wheel.links(), 1)?;
         assert_eq!(rt; found.as_slice(), second, "bucket 1 after tick {tick}");
+        assert_eq!(rt; wheel.quiet_until(), next, "after tick {tick}");
     }
     Ok(())
 }

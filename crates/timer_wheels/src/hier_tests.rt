@@ -16,6 +16,8 @@ enum Step {
     In(usize, usize, &'static [u64]),
     /// The timers with these serials are due, and are taken.
     Due(&'static [u64]),
+    /// The next bucket with a timer is emptied at this tick.
+    Next(Option<u64>),
 }
 
 /// A name, the table, the first tick, the steps, and then starts, moves and visits.
@@ -100,14 +102,19 @@ const PICTURES: [Picture; 11] = [
         Table::Wide,
         0,
         &[
+            Step::Next(None),
             Step::Start(4161),
             Step::In(2, 1, &[1]),
+            Step::Next(Some(4096)),
             Step::Until(4096),
             Step::In(1, 1, &[1]),
+            Step::Next(Some(4160)),
             Step::Until(4160),
             Step::In(0, 1, &[1]),
+            Step::Next(Some(4161)),
             Step::Until(4161),
             Step::Due(&[1]),
+            Step::Next(None),
         ],
         (1, 2, 4161),
     ),
@@ -228,6 +235,7 @@ fn see(rt: &impl Abort, picture: Picture, wheel: &mut HierWheel) -> Result<(), O
                 assert_eq!(rt; wheel.len(), serials.len());
             }
             Step::Due(serials) => expire(rt, wheel, serials),
+            Step::Next(tick) => assert_eq!(rt; wheel.quiet_until(), tick, "{name}"),
         }
     }
     assert_eq!(rt;
