@@ -204,17 +204,22 @@ const PICTURES: [Picture; 11] = [
     ),
 ];
 
+/// The first list of each wheel of `Table::Clock`.
+const CLOCK_LISTS: [usize; 4] = [0, 60, 120, 144];
+
 /// The list of a slot of a wheel: the slots of the lower wheels come before it.
 fn list_of(rt: &impl Abort, table: Table, level: usize, slot: usize) -> usize {
-    assert!(rt; level < 10 && slot < 100);
-    let before = match (table, level) {
-        (Table::Wide, _) => 64 * level,
-        (Table::Clock, 0) => 0,
-        (Table::Clock, 1) => 60,
-        (Table::Clock, 2) => 120,
-        (Table::Clock, _) => 144,
-    };
-    before + slot
+    assert!(rt; slot < 100);
+    match table {
+        Table::Wide => {
+            assert!(rt; level < 10);
+            64 * level + slot
+        }
+        Table::Clock => {
+            assert!(rt; level < 4);
+            CLOCK_LISTS[level] + slot
+        }
+    }
 }
 
 fn see(rt: &impl Abort, picture: Picture, wheel: &mut HierWheel) -> Result<(), OutOfMemory> {
