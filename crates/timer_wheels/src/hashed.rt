@@ -24,8 +24,7 @@ ghost use Rattle.timer_wheels.specs.Hashed.{IsHashed, AreInBuckets, AreInBuckets
 ghost use Rattle.timer_wheels.specs.Making.{fault_of};
 
 use crate::buckets::Buckets;
-use crate::slot::slot_after;
-use crate::sweep::{first_visit, turn};
+use crate::sweep::{first_visit, next_tick, slot_after};
 use std::alloc::Global;
 use timer_base::{Handle, LAST, MakeFault, OutOfMemory, Timer, Wheel};
 use timer_links::Links;
@@ -180,7 +179,7 @@ impl Wheel for HashedWheel {
     {
         let buckets = &mut self.buckets;
         let slot = slot_after(self.slot, 1, buckets.slots);
-        turn(buckets, slot);
+        next_tick(buckets, slot);
         self.slot = slot;
     }
 

@@ -287,7 +287,11 @@ fn the_clock_face_needs_few_visits(rt: HostRuntime) -> Result<(), Fail> {
     start(&rt, &mut wheel, 990915)?;
     assert_eq!(rt; advance(&rt, &mut wheel, 3045), 3045);
     assert_eq!(rt; (wheel.moves(), wheel.visits()), (1, 49));
+    Ok(())
+}
 
+#[test]
+fn the_clock_face_moves_at_the_hour_and_at_the_minute(rt: HostRuntime) -> Result<(), Fail> {
     let mut wheel = HierWheel::with_table(rt.alloc(), Table::Clock, 987870)?;
     start(&rt, &mut wheel, 990915)?;
     for (tick, moves) in [

@@ -157,22 +157,11 @@ pub fn play<W: Wheel>(
             Call::Start(deadline) => handles.push(start(rt, wheel, deadline)?)?,
             Call::Stop(serial) => {
                 let handle = handle_of(rt, handles.as_slice(), serial);
-                let found = stop(rt, wheel, handle);
-                assert_eq!(rt; found.map(|timer| timer.serial), Some(serial));
-                finds_nothing(rt, wheel, handle);
+                stops(rt, wheel, handle);
             }
             Call::Restart(serial, deadline) => {
                 let handle = handle_of(rt, handles.as_slice(), serial);
-                let Some((restarted, old)) = restart(rt, wheel, handle, deadline) else {
-                    panic!(rt; "serial {serial} is not pending");
-                };
-                assert_eq!(rt; old.serial, serial);
-                assert_eq!(rt;
-                    look(rt, wheel, restarted),
-                    Some(timer(restarted.serial, deadline))
-                );
-                finds_nothing(rt, wheel, handle);
-                handles.push(restarted)?;
+                handles.push(restarts(rt, wheel, handle, deadline))?;
             }
             Call::NoSuch(at, further, serial) => {
                 let Handle { place, .. } = handle_of(rt, handles.as_slice(), at);
@@ -211,6 +200,27 @@ fn handle_of(rt: &impl Abort, handles: &[Handle], serial: u64) -> Handle {
         panic!(rt; "serial {serial} was not started");
     };
     handle
+}
+
+/// Stops a pending timer, and sees that it is gone.
+fn stops<W: Wheel>(rt: &impl Abort, wheel: &mut W, handle: Handle) {
+    let found = stop(rt, wheel, handle);
+    assert_eq!(rt; found.map(|timer| timer.serial), Some(handle.serial));
+    finds_nothing(rt, wheel, handle);
+}
+
+/// Restarts a pending timer, and sees that the next one stands in its place.
+fn restarts<W: Wheel>(rt: &impl Abort, wheel: &mut W, handle: Handle, deadline: u64) -> Handle {
+    let Some((restarted, old)) = restart(rt, wheel, handle, deadline) else {
+        panic!(rt; "{handle:?} is not pending");
+    };
+    assert_eq!(rt; old.serial, handle.serial);
+    assert_eq!(rt;
+        look(rt, wheel, restarted),
+        Some(timer(restarted.serial, deadline))
+    );
+    finds_nothing(rt, wheel, handle);
+    restarted
 }
 
 /// Sees that no timer is found by the handle, and that asking changes nothing.

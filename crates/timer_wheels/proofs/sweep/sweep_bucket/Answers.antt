@@ -2,7 +2,7 @@ use Rattle.std.proofs.Common.{◌≡◌, ◌≤◌, arith}
 use Rattle.timer_links.specs.Lists.{row_count}
 use Rattle.timer_wheels.specs.Swept.{due_later}
 use Rattle.timer_wheels.proofs.SweepLemmas.{begun, next_row, in_use, in_range, standing, passed, ended_count}
-use Rattle.timer_wheels.proofs.sweep.go_through.Goals as goal
+use Rattle.timer_wheels.proofs.sweep.sweep_bucket.Goals as goal
 
 pub loop-step-init : goal.loop-step-init
 loop-step-init c = begun c.args.bucket c.args.due c.args.links.now c.front-at.result c.front-at.ensures
@@ -13,8 +13,8 @@ step-here-requires c =
     let w = next_row c.args.bucket c.args.due s.step c.args.links.now s.links s.at c.in-Some.key s.invariant c.in-Some.is in
     in_use c.args.bucket c.args.due s.step c.args.links.now s.links c.requires.other c.requires.bucket c.requires.due c.in-Some.key w c.keys_are_apart.ensures
 
-pub pass-requires-clause-used : goal.pass-requires-clause-used
-pass-requires-clause-used c =
+pub sweep_node-requires-clause-used : goal.sweep_node-requires-clause-used
+sweep_node-requires-clause-used c =
     let s = c.loop-step in
     let w = next_row c.args.bucket c.args.due s.step c.args.links.now s.links s.at c.in-Some.key s.invariant c.in-Some.is in
     in_use c.args.bucket c.args.due s.step c.args.links.now s.links c.requires.other c.requires.bucket c.requires.due c.in-Some.key w c.keys_are_apart.ensures
@@ -23,7 +23,7 @@ pub loop-step-preserved : goal.loop-step-preserved
 loop-step-preserved c =
     let s = c.loop-step in
     let w = next_row c.args.bucket c.args.due s.step c.args.links.now s.links s.at c.in-Some.key s.invariant c.in-Some.is in
-    passed c.args.bucket c.args.due s.step c.args.links.now s.links c.requires.other c.requires.bucket c.requires.due c.in-Some.key w c.pass.new.links c.step-here.result.next c.keys_are_apart.ensures c.pass.ensures.due c.pass.ensures.later
+    passed c.args.bucket c.args.due s.step c.args.links.now s.links c.requires.other c.requires.bucket c.requires.due c.in-Some.key w c.sweep_node.new.links c.step-here.result.next c.keys_are_apart.ensures c.sweep_node.ensures.due c.sweep_node.ensures.later
     (c.step-here.ensures.next c.args.bucket (due_later w.past) w.node w.rest (in_range c.args.bucket c.args.due s.step c.args.links.now s.links c.requires.other c.requires.bucket c.requires.due c.in-Some.key w) (standing c.args.bucket c.args.due s.step c.args.links.now s.links c.requires.other c.requires.bucket c.requires.due c.in-Some.key w))
 
 pub returns-after-loop-step : goal.returns-after-loop-step

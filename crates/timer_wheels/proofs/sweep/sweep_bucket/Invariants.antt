@@ -1,5 +1,5 @@
 use Rattle.timer_wheels.proofs.SweepLemmas.{IsSweeping}
-use Rattle.timer_wheels.proofs.sweep.go_through.Given as goal
+use Rattle.timer_wheels.proofs.sweep.sweep_bucket.Given as goal
 
 abbrev pub invariant-loop-step : goal.invariant-loop-step
 invariant-loop-step l = IsSweeping l.bucket l.due l.step l.initial.links l.links l.at
