@@ -2,6 +2,9 @@
 //! examples hold after each call, and that a push goes on after one that ran out of memory.
 
 use crate::{Links, Node, Step, Taken};
+use std::alloc::Global;
+use std::fmt::Debug;
+use std::process::Abort;
 use timer_base::Timer;
 
 fn node(serial: u64) -> Node {
@@ -101,6 +104,14 @@ fn take(links: &mut Links, key: usize) -> Option<(u64, Option<usize>)> {
     }
 }
 
+/// The list in which a node stands alone.
+fn alone_in(links: &Links, key: usize) -> Option<Option<usize>> {
+    match links.get(key) {
+        Some(_) => Some(links.alone_in(key)),
+        None => None,
+    }
+}
+
 fn is_empty(links: &Links, list: usize) -> Option<bool> {
     if list >= links.lists() {
         return None;
@@ -141,131 +152,146 @@ fn append(links: &mut Links, from: usize, to: usize) {
     }
 }
 
+/// Compares in a function of its own, so that a test is a list of calls without branches.
+fn same<T: PartialEq + Debug + Drop>(rt: &impl Abort, found: T, expected: T) {
+    assert_eq!(rt; found, expected);
+}
+
+/// Pushes the node with this serial, and returns its key.
+fn put(rt: &impl Abort, links: &mut Links, list: usize, serial: u64) -> usize {
+    push(links, list, node(serial)).expect(rt, "memory is ample")
+}
+
+fn lists_of(rt: &impl Abort, alloc: Global, lists: usize) -> Links {
+    assert!(rt; lists < 10);
+    Links::new(alloc, lists).expect(rt, "memory is ample")
+}
+
 #[test]
 fn a_node_keeps_its_key_wherever_it_goes(rt: HostRuntime) {
-    let mut links = Links::new(rt.alloc(), 3).expect(&rt, "memory is ample");
-    assert_eq!(rt; links.lists(), 3);
-    let a = push(&mut links, 0, node(1)).expect(&rt, "memory is ample");
-    let b = push(&mut links, 0, node(2)).expect(&rt, "memory is ample");
-    let c = push(&mut links, 0, node(3)).expect(&rt, "memory is ample");
-    assert!(rt; a != b && b != c && a != c);
-    assert_eq!(rt; serials(&links, 0), 123);
+    let mut links = lists_of(&rt, rt.alloc(), 3);
+    same(&rt, links.lists(), 3);
+    let a = put(&rt, &mut links, 0, 1);
+    let b = put(&rt, &mut links, 0, 2);
+    let c = put(&rt, &mut links, 0, 3);
+    same(&rt, (a == b, b == c, a == c), (false, false, false));
+    same(&rt, serials(&links, 0), 123);
 
-    assert_eq!(rt; links.unlink(b), Some(node(2)));
-    assert_eq!(rt; links.unlink(b), None);
-    assert_eq!(rt; links.get(b), None);
-    assert_eq!(rt; serials(&links, 0), 13);
-    assert_eq!(rt; next(&links, a), Some(Some(c)));
-    assert_eq!(rt; next(&links, c), Some(None));
+    same(&rt, links.unlink(b), Some(node(2)));
+    same(&rt, links.unlink(b), None);
+    same(&rt, links.get(b), None);
+    same(&rt, serials(&links, 0), 13);
+    same(&rt, next(&links, a), Some(Some(c)));
+    same(&rt, next(&links, c), Some(None));
 
-    assert!(rt; move_back(&mut links, a, 2));
-    assert!(rt; move_back(&mut links, c, 0));
-    assert_eq!(rt; serials(&links, 0), 3);
-    assert_eq!(rt; serials(&links, 2), 1);
+    same(&rt, move_back(&mut links, a, 2), true);
+    same(&rt, move_back(&mut links, c, 0), true);
+    same(&rt, serials(&links, 0), 3);
+    same(&rt, serials(&links, 2), 1);
 
-    let d = push(&mut links, 0, node(4)).expect(&rt, "memory is ample");
-    assert!(rt; d != a && d != c);
-    assert_eq!(rt; serials(&links, 0), 34);
+    let d = put(&rt, &mut links, 0, 4);
+    same(&rt, (d == a, d == c), (false, false));
+    same(&rt, serials(&links, 0), 34);
 
-    assert!(rt; move_back(&mut links, a, 0));
-    assert_eq!(rt; pop(&mut links, 0), Some((c, node(3))));
-    assert_eq!(rt; serials(&links, 0), 41);
-    assert_eq!(rt; front(&links, 2), Some(None));
-    assert_eq!(rt; links.len(), 2);
+    same(&rt, move_back(&mut links, a, 0), true);
+    same(&rt, pop(&mut links, 0), Some((c, node(3))));
+    same(&rt, serials(&links, 0), 41);
+    same(&rt, front(&links, 2), Some(None));
+    same(&rt, links.len(), 2);
 }
 
 #[test]
 fn a_node_is_replaced_where_it_stands(rt: HostRuntime) {
-    let mut links = Links::new(rt.alloc(), 2).expect(&rt, "memory is ample");
-    let a = push(&mut links, 1, node(1)).expect(&rt, "memory is ample");
-    let b = push(&mut links, 1, node(2)).expect(&rt, "memory is ample");
-    let c = push(&mut links, 1, node(3)).expect(&rt, "memory is ample");
-    assert!(rt; set_node(&mut links, b, node(7)));
-    assert_eq!(rt; links.get(b), Some(node(7)));
-    assert_eq!(rt; serials(&links, 1), 173);
-    assert!(rt; set_node(&mut links, a, node(8)));
-    assert!(rt; set_node(&mut links, c, node(9)));
-    assert_eq!(rt; serials(&links, 1), 879);
-    assert_eq!(rt; serials(&links, 0), 0);
-    assert_eq!(rt; links.len(), 3);
+    let mut links = lists_of(&rt, rt.alloc(), 2);
+    let a = put(&rt, &mut links, 1, 1);
+    let b = put(&rt, &mut links, 1, 2);
+    let c = put(&rt, &mut links, 1, 3);
+    same(&rt, set_node(&mut links, b, node(7)), true);
+    same(&rt, links.get(b), Some(node(7)));
+    same(&rt, serials(&links, 1), 173);
+    same(&rt, set_node(&mut links, a, node(8)), true);
+    same(&rt, set_node(&mut links, c, node(9)), true);
+    same(&rt, serials(&links, 1), 879);
+    same(&rt, serials(&links, 0), 0);
+    same(&rt, links.len(), 3);
 
-    assert_eq!(rt; links.unlink(c), Some(node(9)));
-    assert!(rt; !set_node(&mut links, c, node(4)));
-    assert_eq!(rt; serials(&links, 1), 87);
+    same(&rt, links.unlink(c), Some(node(9)));
+    same(&rt, set_node(&mut links, c, node(4)), false);
+    same(&rt, serials(&links, 1), 87);
 }
 
 #[test]
-fn a_taken_node_tells_the_list_that_it_leaves_empty(rt: HostRuntime) {
-    let mut links = Links::new(rt.alloc(), 3).expect(&rt, "memory is ample");
-    let mut keys = [0; 4];
-    for serial in 1..5 {
-        let list = if serial == 4 { 0 } else { 2 };
-        let key = push(&mut links, list, node(serial)).expect(&rt, "memory is ample");
-        keys[serial as usize - 1] = key;
-    }
-    let [a, b, c, d] = keys;
+fn a_node_tells_the_list_that_it_leaves_empty(rt: HostRuntime) {
+    let mut links = lists_of(&rt, rt.alloc(), 3);
+    let a = put(&rt, &mut links, 2, 1);
+    let b = put(&rt, &mut links, 2, 2);
+    let c = put(&rt, &mut links, 2, 3);
+    let d = put(&rt, &mut links, 0, 4);
+    same(&rt, alone_in(&links, b), Some(None));
+    same(&rt, alone_in(&links, d), Some(Some(0)));
     // From the middle, from the back, and as the last one of its list.
-    assert_eq!(rt; take(&mut links, b), Some((2, None)));
-    assert_eq!(rt; serials(&links, 2), 13);
-    assert_eq!(rt; take(&mut links, c), Some((3, None)));
-    assert_eq!(rt; serials(&links, 2), 1);
-    assert_eq!(rt; take(&mut links, a), Some((1, Some(2))));
-    assert_eq!(rt; serials(&links, 2), 0);
-    assert_eq!(rt; take(&mut links, a), None);
-    assert_eq!(rt; serials(&links, 0), 4);
-    assert_eq!(rt; take(&mut links, d), Some((4, Some(0))));
-    assert_eq!(rt; is_empty(&links, 0), Some(true));
-    assert_eq!(rt; links.len(), 0);
+    same(&rt, take(&mut links, b), Some((2, None)));
+    same(&rt, serials(&links, 2), 13);
+    same(&rt, take(&mut links, c), Some((3, None)));
+    same(&rt, serials(&links, 2), 1);
+    same(&rt, alone_in(&links, a), Some(Some(2)));
+    same(&rt, take(&mut links, a), Some((1, Some(2))));
+    same(&rt, serials(&links, 2), 0);
+    same(&rt, take(&mut links, a), None);
+    same(&rt, serials(&links, 0), 4);
+    same(&rt, take(&mut links, d), Some((4, Some(0))));
+    same(&rt, is_empty(&links, 0), Some(true));
+    same(&rt, links.len(), 0);
 }
 
 #[test]
 fn a_step_gives_the_rounds_and_the_key_after(rt: HostRuntime) {
-    let mut links = Links::new(rt.alloc(), 2).expect(&rt, "memory is ample");
-    let a = push(&mut links, 1, node(1)).expect(&rt, "memory is ample");
-    let b = push(&mut links, 1, node(2)).expect(&rt, "memory is ample");
-    let c = push(&mut links, 1, node(3)).expect(&rt, "memory is ample");
-    assert!(rt; set_rounds(&mut links, a, 11));
-    assert!(rt; set_rounds(&mut links, b, 12));
-    assert!(rt; set_rounds(&mut links, c, 13));
-    assert_eq!(rt; step(&links, a), Some((11, Some(b))));
-    assert_eq!(rt; step(&links, b), Some((12, Some(c))));
-    assert_eq!(rt; step(&links, c), Some((13, None)));
-    assert!(rt; links.unlink(b).is_some());
-    assert_eq!(rt; step(&links, b), None);
-    assert_eq!(rt; step(&links, a), Some((11, Some(c))));
+    let mut links = lists_of(&rt, rt.alloc(), 2);
+    let a = put(&rt, &mut links, 1, 1);
+    let b = put(&rt, &mut links, 1, 2);
+    let c = put(&rt, &mut links, 1, 3);
+    same(&rt, set_rounds(&mut links, a, 11), true);
+    same(&rt, set_rounds(&mut links, b, 12), true);
+    same(&rt, set_rounds(&mut links, c, 13), true);
+    same(&rt, step(&links, a), Some((11, Some(b))));
+    same(&rt, step(&links, b), Some((12, Some(c))));
+    same(&rt, step(&links, c), Some((13, None)));
+    same(&rt, take(&mut links, b), Some((2, None)));
+    same(&rt, step(&links, b), None);
+    same(&rt, step(&links, a), Some((11, Some(c))));
 }
 
 #[test]
 fn lists_move_as_a_whole_and_node_by_node(rt: HostRuntime) {
-    let mut links = Links::new(rt.alloc(), 2).expect(&rt, "memory is ample");
-    assert_eq!(rt; links.get(0), None);
-    assert_eq!(rt; pop(&mut links, 1), None);
-    let first = push(&mut links, 0, node(1)).expect(&rt, "memory is ample");
+    let mut links = lists_of(&rt, rt.alloc(), 2);
+    same(&rt, links.get(0), None);
+    same(&rt, pop(&mut links, 1), None);
+    let first = put(&rt, &mut links, 0, 1);
     for serial in 2..6 {
-        assert!(rt; push(&mut links, 0, node(serial)).is_some());
+        put(&rt, &mut links, 0, serial);
     }
 
     move_front(&mut links, 0, 1);
     move_front(&mut links, 0, 1);
-    assert_eq!(rt; serials(&links, 0), 345);
-    assert_eq!(rt; serials(&links, 1), 12);
+    same(&rt, serials(&links, 0), 345);
+    same(&rt, serials(&links, 1), 12);
     append(&mut links, 0, 1);
-    assert_eq!(rt; serials(&links, 0), 0);
-    assert_eq!(rt; serials(&links, 1), 12345);
+    same(&rt, serials(&links, 0), 0);
+    same(&rt, serials(&links, 1), 12345);
     append(&mut links, 0, 1);
     move_front(&mut links, 0, 1);
-    assert_eq!(rt; serials(&links, 1), 12345);
+    same(&rt, serials(&links, 1), 12345);
     move_front(&mut links, 1, 1);
-    assert_eq!(rt; serials(&links, 1), 23451);
+    same(&rt, serials(&links, 1), 23451);
 
-    assert!(rt; set_rounds(&mut links, first, 7));
+    same(&rt, set_rounds(&mut links, first, 7), true);
     links.keys_are_apart();
     let mut changed = node(1);
     changed.rounds = 7;
-    assert_eq!(rt; links.get(first), Some(changed));
-    assert_eq!(rt; links.len(), 5);
-    assert_eq!(rt; is_empty(&links, 0), Some(true));
-    assert_eq!(rt; is_empty(&links, 1), Some(false));
+    same(&rt, links.get(first), Some(changed));
+    same(&rt, links.len(), 5);
+    same(&rt, is_empty(&links, 0), Some(true));
+    same(&rt, is_empty(&links, 1), Some(false));
 }
 
 /// The links of new nodes are made 64 at a time, and those made before keep their order. With an
@@ -277,15 +303,15 @@ fn the_lists_grow_past_a_push_that_runs_out_of_memory(rt: HostRuntime) {
     };
     for serial in 0..200 {
         if let Err(back) = try_push(&mut links, 1, node(serial)) {
-            assert_eq!(rt; back, node(serial));
-            assert_eq!(rt; links.len(), serial as usize);
-            assert!(rt; push(&mut links, 1, back).is_some());
+            same(&rt, back, node(serial));
+            same(&rt, links.len(), serial as usize);
+            same(&rt, push(&mut links, 1, back).is_some(), true);
         }
     }
     append(&mut links, 1, 2);
     for serial in 0..200 {
         let popped = pop(&mut links, 2).map(|row| row.1);
-        assert_eq!(rt; popped, Some(node(serial)));
+        same(&rt, popped, Some(node(serial)));
     }
-    assert_eq!(rt; links.len(), 0);
+    same(&rt, links.len(), 0);
 }
