@@ -4,6 +4,7 @@ ghost use Rattle.timer_facility.specs.Standing.{Standing};
 
 use super::*;
 use std::alloc::Global;
+use std::fmt::Debug;
 use std::process::Abort;
 use std::test::Fail;
 use timer_base::{Handle, LAST, PlainWheel, Timer, Wheel};
@@ -15,6 +16,11 @@ const CONFIG: Config = Config {
     first_serial: 1,
     first_number: 1,
 };
+
+/// Compares in a function of its own, so that a test is a list of calls without branches.
+fn same<T: PartialEq + Debug + Drop>(rt: &impl Abort, found: T, expected: T) {
+    assert_eq!(rt; found, expected);
+}
 
 /// A facility of two clients over a plain wheel.
 fn facility(alloc: Global) -> Result<Facility<PlainWheel>, Fail> {
@@ -73,7 +79,7 @@ fn started<W: Wheel + Drop>(
         Request::Start { interval, action },
     ) {
         Ok(Answer::Started { handle, deadline }) => {
-            assert_eq!(rt; Some(deadline), facility.now().checked_add(interval));
+            same(rt, Some(deadline), facility.now().checked_add(interval));
             handle
         }
         other => panic!(rt; "not started: {other:?}"),
@@ -105,15 +111,15 @@ fn many_ticks_stop_where_something_waits(rt: HostRuntime) -> Result<(), Fail> {
     for (number, interval) in [(1, 5), (2, 64), (3, 64), (4, 4161)] {
         started(&rt, &mut facility, 0, number, interval, 0);
     }
-    assert_eq!(rt; ticks(&rt, &mut facility, 10), Ok(5));
-    assert_eq!(rt; expired(&mut facility), Some(1));
-    assert_eq!(rt; ticks(&rt, &mut facility, 100), Ok(59));
-    assert_eq!(rt; expired(&mut facility), Some(2));
-    assert_eq!(rt; expired(&mut facility), Some(3));
-    assert_eq!(rt; ticks(&rt, &mut facility, 4096), Ok(4096));
-    assert_eq!(rt; facility.has_out(), false);
-    assert_eq!(rt; ticks(&rt, &mut facility, 1), Ok(1));
-    assert_eq!(rt; expired(&mut facility), Some(4));
+    same(&rt, ticks(&rt, &mut facility, 10), Ok(5));
+    same(&rt, expired(&mut facility), Some(1));
+    same(&rt, ticks(&rt, &mut facility, 100), Ok(59));
+    same(&rt, expired(&mut facility), Some(2));
+    same(&rt, expired(&mut facility), Some(3));
+    same(&rt, ticks(&rt, &mut facility, 4096), Ok(4096));
+    same(&rt, facility.has_out(), false);
+    same(&rt, ticks(&rt, &mut facility, 1), Ok(1));
+    same(&rt, expired(&mut facility), Some(4));
     Ok(())
 }
 
@@ -127,10 +133,10 @@ fn many_ticks_end_at_the_last_one(rt: HostRuntime) -> Result<(), Fail> {
     let checked = config.check()?;
     let wheel = PlainWheel::new(alloc, LAST - 2)?;
     let mut facility = Facility::open(alloc, checked, wheel);
-    assert_eq!(rt; ticks(&rt, &mut facility, u64::MAX), Ok(2));
-    assert_eq!(rt; ticks(&rt, &mut facility, 1), Err(TickFault::ClockEnd));
-    assert_eq!(rt; close(&rt, &mut facility), Ok(0));
-    assert_eq!(rt; ticks(&rt, &mut facility, 1), Err(TickFault::Closed));
+    same(&rt, ticks(&rt, &mut facility, u64::MAX), Ok(2));
+    same(&rt, ticks(&rt, &mut facility, 1), Err(TickFault::ClockEnd));
+    same(&rt, close(&rt, &mut facility), Ok(0));
+    same(&rt, ticks(&rt, &mut facility, 1), Err(TickFault::Closed));
     Ok(())
 }
 
@@ -151,9 +157,9 @@ fn a_restart_is_refused_in_its_order(rt: HostRuntime) -> Result<(), Fail> {
     ];
     for (client, number, interval, reason) in rows {
         let refused = take(&rt, &mut facility, client, number, restart(interval));
-        assert_eq!(rt; refused, Ok(Answer::Refused(reason)));
+        same(&rt, refused, Ok(Answer::Refused(reason)));
     }
-    assert_eq!(rt; facility.pending(), 1);
+    same(&rt, facility.pending(), 1);
     let restarted = take(&rt, &mut facility, 0, 5, restart(LAST));
     assert!(rt;
         matches!(
@@ -165,8 +171,8 @@ fn a_restart_is_refused_in_its_order(rt: HostRuntime) -> Result<(), Fail> {
             })
         )
     );
-    assert_eq!(rt; facility.pending(), 1);
-    assert_eq!(rt; facility.next_serial(), 3);
+    same(&rt, facility.pending(), 1);
+    same(&rt, facility.next_serial(), 3);
     Ok(())
 }
 
@@ -184,7 +190,7 @@ fn numbers_spent(rt: HostRuntime) -> Result<(), Fail> {
     let wheel = PlainWheel::new(alloc, 0)?;
     let mut facility = Facility::open(alloc, checked, wheel);
     let last = started(&rt, &mut facility, 0, LAST - 2, 1, 1);
-    assert_eq!(rt; last.serial, LAST);
+    same(&rt, last.serial, LAST);
     let rows = [
         (LAST - 1, 1, 2, Ok(Answer::Refused(Reason::SerialsSpent))),
         (LAST, 0, 3, Ok(Answer::Refused(Reason::ZeroInterval))),
@@ -212,7 +218,7 @@ fn a_hostile_handle_restarts_nothing(rt: HostRuntime) -> Result<(), Fail> {
     let mut facility = facility(rt.alloc())?;
     let gone = started(&rt, &mut facility, 0, 1, 3, 1);
     let stopped = take(&rt, &mut facility, 0, 2, Request::Stop(gone));
-    assert_eq!(rt; stopped, Ok(Answer::Stopped { serial: 1 }));
+    same(&rt, stopped, Ok(Answer::Stopped { serial: 1 }));
     let kept = started(&rt, &mut facility, 0, 3, 3, 2);
     let hostile = [
         gone,
@@ -248,26 +254,26 @@ fn a_hostile_handle_restarts_nothing(rt: HostRuntime) -> Result<(), Fail> {
             "at {handle:?}"
         );
     }
-    assert_eq!(rt; pending_of(&rt, &facility, 0), 1);
-    assert_eq!(rt; facility.next_serial(), 3);
-    assert_eq!(rt; ticks(&rt, &mut facility, 9), Ok(3));
-    assert_eq!(rt; expired(&mut facility), Some(2));
+    same(&rt, pending_of(&rt, &facility, 0), 1);
+    same(&rt, facility.next_serial(), 3);
+    same(&rt, ticks(&rt, &mut facility, 9), Ok(3));
+    same(&rt, expired(&mut facility), Some(2));
     Ok(())
 }
 
 #[test]
 fn an_owner_sleeps_until_the_first_deadline(rt: HostRuntime) -> Result<(), Fail> {
     let mut facility = facility(rt.alloc())?;
-    assert_eq!(rt; facility.quiet_until(), None);
+    same(&rt, facility.quiet_until(), None);
     started(&rt, &mut facility, 0, 1, 70, 0);
     started(&rt, &mut facility, 1, 1, 7, 0);
     // The plain wheel finds the first deadline itself.
-    assert_eq!(rt; facility.quiet_until(), Some(7));
-    assert_eq!(rt; ticks(&rt, &mut facility, 7), Ok(7));
-    assert_eq!(rt; expired(&mut facility), Some(2));
-    assert_eq!(rt; facility.quiet_until(), Some(70));
-    assert_eq!(rt; close(&rt, &mut facility), Ok(1));
-    assert_eq!(rt; facility.quiet_until(), None);
+    same(&rt, facility.quiet_until(), Some(7));
+    same(&rt, ticks(&rt, &mut facility, 7), Ok(7));
+    same(&rt, expired(&mut facility), Some(2));
+    same(&rt, facility.quiet_until(), Some(70));
+    same(&rt, close(&rt, &mut facility), Ok(1));
+    same(&rt, facility.quiet_until(), None);
     Ok(())
 }
 
@@ -277,18 +283,18 @@ fn starts_stops_ticks_and_closes(rt: HostRuntime) -> Result<(), Fail> {
     let late = started(&rt, &mut facility, 0, 1, 5, 7);
     let early = started(&rt, &mut facility, 1, 1, 1, 8);
     let other = started(&rt, &mut facility, 1, 2, 9, 9);
-    assert_eq!(rt; (late.serial, early.serial, other.serial), (1, 2, 3));
-    assert_eq!(rt; facility.pending(), 3);
-    assert_eq!(rt; pending_of(&rt, &facility, 1), 2);
-    assert_eq!(rt; pending_of(&rt, &facility, 2), 0);
-    assert_eq!(rt; facility.next_serial(), 4);
-    assert_eq!(rt; facility.next_number(1), Some(3));
-    assert_eq!(rt; facility.next_number(2), None);
+    same(&rt, (late.serial, early.serial, other.serial), (1, 2, 3));
+    same(&rt, facility.pending(), 3);
+    same(&rt, pending_of(&rt, &facility, 1), 2);
+    same(&rt, pending_of(&rt, &facility, 2), 0);
+    same(&rt, facility.next_serial(), 4);
+    same(&rt, facility.next_number(1), Some(3));
+    same(&rt, facility.next_number(2), None);
 
     let stopped = take(&rt, &mut facility, 1, 3, Request::Stop(other));
-    assert_eq!(rt; stopped, Ok(Answer::Stopped { serial: 3 }));
+    same(&rt, stopped, Ok(Answer::Stopped { serial: 3 }));
 
-    assert_eq!(rt; tick(&rt, &mut facility), Ok(()));
+    same(&rt, tick(&rt, &mut facility), Ok(()));
     assert!(rt; facility.has_out());
     let expired = Timer {
         serial: 2,
@@ -297,12 +303,12 @@ fn starts_stops_ticks_and_closes(rt: HostRuntime) -> Result<(), Fail> {
         deadline: 1,
         action: 8,
     };
-    assert_eq!(rt; facility.next_out(), Some(Notice::Expired(expired)));
-    assert_eq!(rt; facility.next_out(), None);
-    assert_eq!(rt; facility.now(), 1);
+    same(&rt, facility.next_out(), Some(Notice::Expired(expired)));
+    same(&rt, facility.next_out(), None);
+    same(&rt, facility.now(), 1);
 
     assert!(rt; !facility.is_closed());
-    assert_eq!(rt; close(&rt, &mut facility), Ok(1));
+    same(&rt, close(&rt, &mut facility), Ok(1));
     let returned = Timer {
         serial: 1,
         client: 0,
@@ -310,8 +316,8 @@ fn starts_stops_ticks_and_closes(rt: HostRuntime) -> Result<(), Fail> {
         deadline: 5,
         action: 7,
     };
-    assert_eq!(rt; facility.next_out(), Some(Notice::Returned(returned)));
-    assert_eq!(rt; facility.next_out(), None);
+    same(&rt, facility.next_out(), Some(Notice::Returned(returned)));
+    same(&rt, facility.next_out(), None);
     assert!(rt; facility.is_closed());
     Ok(())
 }
@@ -320,11 +326,11 @@ fn starts_stops_ticks_and_closes(rt: HostRuntime) -> Result<(), Fail> {
 fn a_used_place_does_not_let_an_old_handle_stop(rt: HostRuntime) -> Result<(), Fail> {
     let mut facility = facility(rt.alloc())?;
     let old = started(&rt, &mut facility, 0, 1, 5, 1);
-    assert_eq!(rt; old.serial, 1);
+    same(&rt, old.serial, 1);
     let stopped = take(&rt, &mut facility, 0, 2, Request::Stop(old));
-    assert_eq!(rt; stopped, Ok(Answer::Stopped { serial: 1 }));
+    same(&rt, stopped, Ok(Answer::Stopped { serial: 1 }));
     let new = started(&rt, &mut facility, 0, 3, 5, 2);
-    assert_eq!(rt; new.serial, 2);
+    same(&rt, new.serial, 2);
 
     let stale = Handle {
         place: new.place,
@@ -344,7 +350,7 @@ fn a_used_place_does_not_let_an_old_handle_stop(rt: HostRuntime) -> Result<(), F
     }
 
     for _ in 0..5 {
-        assert_eq!(rt; tick(&rt, &mut facility), Ok(()));
+        same(&rt, tick(&rt, &mut facility), Ok(()));
     }
     let expired = Timer {
         serial: 2,
@@ -353,8 +359,8 @@ fn a_used_place_does_not_let_an_old_handle_stop(rt: HostRuntime) -> Result<(), F
         deadline: 5,
         action: 2,
     };
-    assert_eq!(rt; facility.next_out(), Some(Notice::Expired(expired)));
-    assert_eq!(rt; facility.next_out(), None);
+    same(&rt, facility.next_out(), Some(Notice::Expired(expired)));
+    same(&rt, facility.next_out(), None);
     Ok(())
 }
 
@@ -446,7 +452,7 @@ fn each_number_of_a_configuration_has_its_range(rt: HostRuntime) -> Result<(), F
         first_number: LAST,
     };
     for config in [CONFIG, widest] {
-        assert_eq!(rt; config.check()?.config(), config);
+        same(&rt, config.check()?.config(), config);
     }
     Ok(())
 }
