@@ -5,12 +5,14 @@
 # make install     installs program, libraries, header, pkg-config file and man pages under PREFIX
 # make uninstall   removes what it installed
 # make bench       measures the wheels against others (bench/README.md)
+# make bench-lines measures the owner's desk, ring lines and clients in threads against others
 # make soak        64 clients of 10,000 timers each in threads, 100 times; prints how far it is
 # make clean       removes what was built
 
 KIT = $(dir $(shell rt doc))
 PROGRAM = crates/timer_program/out/timer_program
 SOAK = crates/timer_soak/out/timer_soak
+DESK_BENCH = crates/timer_desk_bench/out/timer_desk_bench
 PREFIX = /usr/local
 
 # rt proves what changed, builds the program, and runs it: on the empty script it prints one line.
@@ -36,6 +38,12 @@ uninstall:
 bench:
 	cd crates/timer_bench && rt lib
 	$(MAKE) -C bench run PRODUCT=$(CURDIR)/crates/timer_bench/out/libtimer_bench.a PRODUCT_HEAP=$(KIT)c/liblibc_c.a OPTIONS="$(OPTIONS)"
+	$(MAKE) bench-lines
+
+bench-lines:
+	cd crates/timer_desk_bench && rt run
+	cd crates/timer_program && rt run < /dev/null
+	$(MAKE) -C bench lines WORK=$(CURDIR)/$(DESK_BENCH) TIMERS=$(CURDIR)/$(PROGRAM) LINE_OPTIONS="$(LINE_OPTIONS)"
 
 soak:
 	cd crates/timer_soak && rt run
@@ -45,4 +53,4 @@ clean:
 	rm -rf crates/*/out build timers
 	$(MAKE) -C bench clean
 
-.PHONY: all run test lib install uninstall bench soak clean
+.PHONY: all run test lib install uninstall bench bench-lines soak clean

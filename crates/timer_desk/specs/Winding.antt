@@ -46,8 +46,11 @@ pub record KeepsLines (old new : DeskState RingInlet) : Type 0 where
 abbrev pub IsWaiting : Backlog → List Numbered → List Numbered → Type 0
 IsWaiting backlog got submitted = (¬ IsIdle backlog) ⊎ (length got < length submitted)
 
--- something of this client waits; or else nothing waits of any, so that it is its line that could not be finished
+-- something of this client waits; or else nothing waits of any, so that it is its line that could not be finished; of no client before it
+-- does anything wait
 pub record IsBlamed (desk : DeskState RingInlet) (ended : List RequestsEnded) (c : ℕ) : Type 0 where
   pub client : c < clients_of desk
+  pub idle_before : (k : ℕ) → k < c → IsIdle (backlog_at desk k)
+  pub got_before : (k : ℕ) (i : RingInlet) (e : RequestsEnded) → k < c → all_submitted (get_or ended k e) ≡ got_of (get_or desk.inlets k i)
   pub waiting : ((i : RingInlet) (e : RequestsEnded) → IsWaiting (backlog_at desk c) (got_of (get_or desk.inlets c i)) (all_submitted (get_or ended c e)))
       ⊎ (AllIdle desk × AllGot desk.inlets ended)

@@ -39,10 +39,4 @@ pub use word::{Numbered, Word};
 #[cfg(test)]
 mod locked_tests;
 #[cfg(test)]
-mod refusing;
-#[cfg(test)]
-mod ring_tests;
-#[cfg(test)]
-mod rows;
-#[cfg(test)]
 mod tests;

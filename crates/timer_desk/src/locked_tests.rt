@@ -1,5 +1,5 @@
 //! Worked examples of lines under a lock.
-use super::rows::*;
+use super::tests::{start, started};
 use super::*;
 use std::test::Fail;
 use timer_base::LAST;

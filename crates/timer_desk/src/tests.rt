@@ -1,121 +1,26 @@
-//! Worked examples of desks over lines in memory.
-ghost use Rattle.std.specs.Prelude.{◌≡◌, IfOk};
-ghost use Rattle.timer_desk.specs.Desk.{clients_of};
-
-use super::refusing::Refusing;
-use super::rows::*;
+//! Lines by themselves, and the room of a desk. Desks at work are tested in `timer_threads`, over all wheels.
 use super::*;
 use std::alloc::Global;
 use std::process::Abort;
 use std::test::Fail;
-use timer_base::{PlainWheel, Wheel};
-use timer_facility::{Config, Facility};
+use timer_base::{Handle, LAST, PlainWheel};
+use timer_facility::{Answer, Config, Facility, Request};
 
-/// A desk of one client, in whose line these two requests stand.
-fn desk_of_one(
-    rt: &impl Abort,
-    alloc: Global,
-    requests: Vec<Numbered>,
-    room: usize,
-    refuses: bool,
-) -> Result<Desk<Refusing<PlainWheel>, MemoryInlet>, Fail>
-    ensures { IfOk result (λ desk. clients_of desk ≡ 1) }
-{
-    let inlets = vec![in alloc; MemoryInlet::new(alloc, requests, 10)]?;
-    desk(rt, alloc, inlets, room, refuses)
+/// The request to start a timer, under its number.
+pub fn start(number: u64, interval: u64, action: u64) -> Numbered {
+    Numbered {
+        number,
+        request: Request::Start { interval, action },
+    }
 }
 
-/// A desk of two clients, with the requests of the rows on a close.
-fn desk_of_two(
-    rt: &impl Abort,
-    alloc: Global,
-) -> Result<Desk<Refusing<PlainWheel>, MemoryInlet>, Fail>
-    ensures { IfOk result (λ desk. clients_of desk ≡ 2) }
-{
-    let zero = vec![in alloc; start(1, 5, 1), start(2, 1, 3)]?;
-    let one = vec![in alloc; start(1, 3, 2)]?;
-    let inlets = vec![in alloc;
-        MemoryInlet::new(alloc, zero, 10),
-        MemoryInlet::new(alloc, one, 10),
-    ]?;
-    desk(rt, alloc, inlets, 4, false)
-}
-
-/// Goes on only where the one client was given just these words.
-fn was_given<W: Wheel + Drop>(rt: &impl Abort, desk: Desk<W, MemoryInlet>, words: &[Word]) -> usize
-    requires { clients_of desk ≡ 1 }
-{
-    idle(rt, &desk, 1);
-    let (facility, inlets) = desk.end();
-    assert_eq!(rt; inlets.len(), 1);
-    assert_eq!(rt; inlets[0].given(), words);
-    facility.pending()
-}
-
-/// Goes on only where each of two clients was given just these words.
-fn were_given<W: Wheel + Drop>(
-    rt: &impl Abort,
-    desk: Desk<W, MemoryInlet>,
-    zero: &[Word],
-    one: &[Word],
-) -> usize
-    requires { clients_of desk ≡ 2 }
-{
-    idle(rt, &desk, 2);
-    let (facility, inlets) = desk.end();
-    assert_eq!(rt; inlets.len(), 2);
-    assert_eq!(rt; inlets[0].given(), zero);
-    assert_eq!(rt; inlets[1].given(), one);
-    facility.pending()
-}
-
-#[test]
-fn no_room(rt: HostRuntime) -> Result<(), Fail> {
-    let alloc = rt.alloc();
-    let requests = vec![in alloc; start(1, 1, 7), start(2, 1, 8)]?;
-    let mut desk = desk_of_one(&rt, alloc, requests, 2, false)?;
-    no_room_by_calls(&rt, &mut desk);
-    assert_eq!(rt; was_given(&rt, desk, &no_room_words()), 1);
-
-    let requests = vec![in alloc; start(1, 1, 7), start(2, 1, 8)]?;
-    let mut desk = desk_of_one(&rt, alloc, requests, 2, false)?;
-    no_room_by_turn(&rt, &mut desk)?;
-    assert_eq!(rt; was_given(&rt, desk, &no_room_words()), 1);
-    Ok(())
-}
-
-#[test]
-fn close_at_desk(rt: HostRuntime) -> Result<(), Fail> {
-    let alloc = rt.alloc();
-    let mut desk = desk_of_two(&rt, alloc)?;
-    close_by_calls(&rt, &mut desk);
-    assert_eq!(rt;
-        were_given(&rt, desk, &close_words_of_zero(), &close_words_of_one()),
-        0
-    );
-
-    let mut desk = desk_of_two(&rt, alloc)?;
-    close_by_turn(&rt, &mut desk)?;
-    assert_eq!(rt;
-        were_given(&rt, desk, &close_words_of_zero(), &close_words_of_one()),
-        0
-    );
-    Ok(())
-}
-
-#[test]
-fn held_request(rt: HostRuntime) -> Result<(), Fail> {
-    let alloc = rt.alloc();
-    let requests = vec![in alloc; start(1, 1, 7)]?;
-    let mut desk = desk_of_one(&rt, alloc, requests, 4, true)?;
-    held_by_calls(&rt, &mut desk);
-    assert_eq!(rt; was_given(&rt, desk, &[started(1, 1, 1)]), 1);
-
-    let requests = vec![in alloc; start(1, 1, 7)]?;
-    let mut desk = desk_of_one(&rt, alloc, requests, 4, true)?;
-    held_by_turn(&rt, &mut desk)?;
-    assert_eq!(rt; was_given(&rt, desk, &[started(1, 1, 1)]), 1);
-    Ok(())
+/// The word for an accepted start, with place 0.
+pub fn started(number: u64, serial: u64, deadline: u64) -> Word {
+    let handle = Handle { place: 0, serial };
+    Word::Answered {
+        number,
+        answer: Answer::Started { handle, deadline },
+    }
 }
 
 #[test]
@@ -127,6 +32,17 @@ fn a_line_in_memory_is_full_from_its_room_on(rt: HostRuntime) -> Result<(), Fail
     assert_eq!(rt; inlet.put(started(1, 1, 1)), Put::Done);
     assert_eq!(rt; inlet.put(started(2, 2, 2)), Put::Full(started(2, 2, 2)));
     assert_eq!(rt; inlet.given(), [started(1, 1, 1)].as_slice());
+    Ok(())
+}
+
+#[test]
+fn after_the_last_number_none_is_left(rt: HostRuntime) -> Result<(), Fail> {
+    let alloc = rt.alloc();
+    let (mut end, _inlet) = ring_line(alloc, 2, LAST)?;
+    let request = start(LAST, 1, 7).request;
+    assert_eq!(rt; end.submit(request), Ok(LAST));
+    assert_eq!(rt; end.submit(request), Err(Unsent::Spent(request)));
+    assert_eq!(rt; end.next_number(), LAST + 1);
     Ok(())
 }
 

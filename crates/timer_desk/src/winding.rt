@@ -12,8 +12,8 @@ use timer_facility::Facility;
 
 /// Settles each line, ends the desk, and settles the readers.
 ///
-/// An error drops all. It names a client of which a request is held or stands or a word waits; or,
-/// where that is so of no client, one whose line could not be finished.
+/// An error drops all. It names the first client of which a request is held or stands or a word waits;
+/// or, where that is so of no client, one whose line could not be finished.
 pub fn wind_up<W: Wheel + Drop>(
     desk: Desk<W, RingInlet>,
     ended: Vec<RequestsEnded>,

@@ -1,19 +1,20 @@
 -- The lines of the ends and of the readers of what clients left.
-use Rattle.std.proofs.Common.{◌≡◌, ◌<◌, ◌++◌, ℕ, min, List, [], ◌∷◌, length, get_or, refl, sym, ◌∙◌, ap, subst, arith, append-nil, false}
+use Rattle.std.proofs.Common.{◌≡◌, ◌<◌, ◌≤◌, ◌⊎◌, inl, inr, true, ◌++◌, ℕ, min, List, [], ◌∷◌, length, get_or, refl, sym, ◌∙◌, ap, subst, arith, append-nil, false}
+use Rattle.std.proofs.lemmas.Bool.{cases_lt}
 use Rattle.std.specs.Prelude.{Option, Some, None, IfSome, IsNone}
 use Rattle.timer_desk.specs.declared.ring.RingInlet.{RingInlet}
 use Rattle.timer_desk.specs.declared.ring.RequestsEnded.{RequestsEnded}
 use Rattle.timer_desk.specs.declared.ring.ClientReader.{ClientReader}
 use Rattle.timer_desk.specs.Ring.{line_of_inlet, got_of, given_of, all_submitted, read_by, unread_by, requests_ring_of, words_ring_of_reader}
-use Rattle.timer_desk.specs.Desk.{DeskState, AllIdle}
-use Rattle.timer_desk.specs.Winding.{AreEndsOf, AreReadersOf, AllGot, AllReadOut}
+use Rattle.timer_desk.specs.Desk.{DeskState, AllIdle, backlog_at}
+use Rattle.timer_desk.specs.Winding.{AreEndsOf, AreReadersOf, AllGot, AllReadOut, IsWaiting}
 use Rattle.timer_desk.specs.declared.driving.DriveEnd.{DriveEnd}
 use Rattle.timer_desk.specs.declared.driving.DriveEnd.TheVariants as DriveEnds
 use Rattle.timer_threads.specs.declared.fault.ThreadsFault.{ThreadsFault}
 use Rattle.timer_threads.specs.declared.fault.ThreadsFault.TheVariants as Faults
 use Rattle.timer_threads.specs.declared.worked.Worked.{Worked}
 use Rattle.timer_threads.specs.Parted.{has_failed, NoneFailed, IsFirstFailed, lower_of, AreParted}
-use Rattle.timer_threads.specs.Threads.{AreOfLines, AllRead, NoneUnread, IsWoundUp, IsFirstClient, IsFirstFault, fault_of}
+use Rattle.timer_threads.specs.Threads.{AreOfLines, AllRead, NoneUnread, IsWoundUp, IsHeldOf, IsHeldBack, IsFirstClient, IsFirstFault, fault_of}
 use Rattle.timer_threads.proofs.PartedLemmas.{parted_lengths, parted_at, ended_at, reader_at}
 
 pub ends_of : (inlets : List RingInlet) (ws : List Worked) (es : List RequestsEnded) (rs : List ClientReader) → AreParted ws es rs → AreOfLines inlets ws → AreEndsOf inlets es
@@ -112,24 +113,45 @@ some_or a (Some x) = x
 some_is : (a b : ℕ) → Some a ≡ Some b → a ≡ b
 some_is a b h = ap (λ o. some_or a o) h
 
-pub first_client : (all : List Worked) (failed held : Option ℕ) (c : ℕ) → lower_of failed held ≡ Some c
-    → IfSome failed (λ k. IsFirstFailed all k) → (IsNone failed → NoneFailed all) → IfSome held (λ k. k < length all) → IsFirstClient all c
-first_client all None None c is some none low = absurd (cc)
-first_client all None (Some b) c is some none low =
+-- who is held back by the ends that the clients left, is held back by what they left
+pub held_back_by : {X : Type 0} (es : X → List RequestsEnded) (rs : X → List ClientReader) (desk : DeskState RingInlet) (all : List Worked) (parts : Option X) (held : Option ℕ)
+    → AreOfLines desk.inlets all → IfSome parts (λ p. AreParted all (es p) (rs p)) → (IsNone parts → IsNone held)
+    → IfSome held (λ c. (c < length desk.inlets) × IfSome parts (λ p. IsHeldOf desk (es p) c)) → IfSome held (λ c. (c < length all) × IsHeldBack desk all c)
+held_back_by es rs desk all parts None lines parted missing told = tt
+held_back_by es rs desk all None (Some c) lines parted missing told = let none = missing refl in absurd (cc)
+held_back_by es rs desk all (Some p) (Some c) lines parted missing told =
+    let low : c < length all = let m = lines.as_many in let l = told.0 in omega (arith, l, m) in
+    (low, reason low (told.1))
+  where
+    reason : c < length all → IsHeldOf desk (es p) c → IsHeldBack desk all c
+    reason low (inl waits) = inl (λ i w e is. subst (λ x. IsWaiting (backlog_at desk c) (got_of (get_or desk.inlets c i)) (all_submitted x)) (ended_at all (es p) (rs p) parted c w e e low is) (waits i e))
+    reason low (inr idle) = inr idle
+
+pub first_client : (desk : DeskState RingInlet) (all : List Worked) (failed held : Option ℕ) (c : ℕ) → lower_of failed held ≡ Some c
+    → IfSome failed (λ k. IsFirstFailed all k) → (IsNone failed → NoneFailed all) → IfSome held (λ k. (k < length all) × IsHeldBack desk all k) → IsFirstClient desk all c
+first_client desk all None None c is some none back = absurd (cc)
+first_client desk all None (Some b) c is some none back =
     let at : b ≡ c = some_is b c is in record {
-      client = omega (arith, low, at);
-      others = λ k w l. none refl k w (omega (arith, low, at, l));
+      client = let low = back.0 in omega (arith, low, at);
+      reason = inr (subst (λ k. IsHeldBack desk all k) at (back.1));
+      others = λ k w l. none refl k w (let low = back.0 in omega (arith, low, at, l));
     }
-first_client all (Some a) None c is some none low =
+first_client desk all (Some a) None c is some none back =
     let at : a ≡ c = some_is a c is in record {
       client = let h = some.client in omega (arith, h, at);
+      reason = inl (λ w. subst (λ k. has_failed (get_or all k w) ≡ true) at (some.failed w));
       others = λ k w l. some.others k w (omega (arith, at, l));
     }
-first_client all (Some a) (Some b) c is some none low =
+first_client desk all (Some a) (Some b) c is some none back =
     let at : min a b ≡ c = some_is (min a b) c is in record {
-      client = let h = some.client in omega (arith, h, low, at);
+      client = let h = some.client in let low = back.0 in omega (arith, h, low, at);
+      reason = why (cases_lt b a);
       others = λ k w l. some.others k w (omega (arith, at, l));
     }
+  where
+    why : ((b < a) ⊎ (a ≤ b)) → ((w : Worked) → has_failed (get_or all c w) ≡ true) ⊎ IsHeldBack desk all c
+    why (inr l) = let at : a ≡ c = let m = some_is (min a b) c is in omega (arith, m, l) in inl (λ w. subst (λ k. has_failed (get_or all k w) ≡ true) at (some.failed w))
+    why (inl l) = let at : b ≡ c = let m = some_is (min a b) c is in omega (arith, m, l) in inr (subst (λ k. IsHeldBack desk all k) at (back.1))
 
 abbrev fault_or : ThreadsFault → Option ThreadsFault → ThreadsFault
 fault_or fault None = fault
@@ -137,13 +159,13 @@ fault_or fault (Some other) = other
 
 pub first_fault_is : (desk : DeskState RingInlet) (outcome : DriveEnd) (all : List Worked) (failed held : Option ℕ) (fault : ThreadsFault)
     → Some fault ≡ fault_of outcome (lower_of failed held) → ¬ (outcome ≡ DriveEnds.OutOfMemory)
-    → IfSome failed (λ k. IsFirstFailed all k) → (IsNone failed → NoneFailed all) → IfSome held (λ k. k < length all)
+    → IfSome failed (λ k. IsFirstFailed all k) → (IsNone failed → NoneFailed all) → IfSome held (λ k. (k < length all) × IsHeldBack desk all k)
     → (failed ≡ None → held ≡ None → IsWoundUp desk all) → IsFirstFault desk outcome all fault
 first_fault_is desk outcome all failed held fault is memory some none low wound = go outcome (lower_of failed held) refl is memory
   where
     go : (end : DriveEnd) (o : Option ℕ) → lower_of failed held ≡ o → Some fault ≡ fault_of end o → ¬ (end ≡ DriveEnds.OutOfMemory) → IsFirstFault desk end all fault
-    go DriveEnds.Done (Some c) e h m = subst (λ f. IsFirstFault desk DriveEnds.Done all f) (sym (ap (λ o. fault_or fault o) h)) (m, first_client all failed held c e some none low)
-    go DriveEnds.Limit (Some c) e h m = subst (λ f. IsFirstFault desk DriveEnds.Limit all f) (sym (ap (λ o. fault_or fault o) h)) (m, first_client all failed held c e some none low)
+    go DriveEnds.Done (Some c) e h m = subst (λ f. IsFirstFault desk DriveEnds.Done all f) (sym (ap (λ o. fault_or fault o) h)) (m, first_client desk all failed held c e some none low)
+    go DriveEnds.Limit (Some c) e h m = subst (λ f. IsFirstFault desk DriveEnds.Limit all f) (sym (ap (λ o. fault_or fault o) h)) (m, first_client desk all failed held c e some none low)
     go DriveEnds.OutOfMemory (Some c) e h m = absurd (m refl)
     go DriveEnds.Done None e h m = absurd (cc)
     go DriveEnds.Limit None e h m =

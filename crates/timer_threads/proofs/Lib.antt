@@ -1,4 +1,5 @@
 pub mod ClientLemmas
 pub mod PartedLemmas
 pub mod EndedLines
+pub mod OneLine
 pub mod ThreadLemmas

@@ -1,12 +1,13 @@
 -- Clients in threads of their own, and the text of what came of them.
-use Rattle.std.specs.Prelude.{◌≡◌, ◌<◌, ◌+◌, ◌++◌, ℕ, zero, suc, false, List, [], ◌∷◌, length, get_or, Option, Some, None, codes, decimal}
+use Rattle.std.specs.Prelude.{◌≡◌, ◌<◌, ◌+◌, ◌++◌, ◌⊎◌, ℕ, zero, suc, true, false, List, [], ◌∷◌, length, get_or, Option, Some, None, codes, decimal}
 use Rattle.std.specs.declared.thread.PromisedHandle.{PromisedHandle}
 use Rattle.timer_desk.specs.declared.ring.RingInlet.{RingInlet}
 use Rattle.timer_desk.specs.declared.ring.RequestsEnded.{RequestsEnded}
 use Rattle.timer_desk.specs.declared.ring.ClientReader.{ClientReader}
 use Rattle.timer_desk.specs.declared.driving.DriveEnd.{DriveEnd}
 use Rattle.timer_desk.specs.declared.driving.DriveEnd.TheVariants as DriveEnds
-use Rattle.timer_desk.specs.Desk.{DeskState, AllIdle}
+use Rattle.timer_desk.specs.Desk.{DeskState, AllIdle, backlog_at}
+use Rattle.timer_desk.specs.Winding.{IsWaiting}
 use Rattle.timer_desk.specs.Ring.{line_of_end, line_of_inlet, got_of, given_of, all_submitted, read_by, unread_by}
 use Rattle.timer_threads.specs.declared.promise.Finishes.{Finishes}
 use Rattle.timer_threads.specs.declared.fault.ThreadsFault.{ThreadsFault}
@@ -60,15 +61,28 @@ pub record HasEnded (desk : DeskState RingInlet) (outcome : DriveEnd) (all : Lis
   pub good : NoneFailed all
   pub wound : IsWoundUp desk all
 
--- no client before this one failed
-pub record IsFirstClient (all : List Worked) (c : ℕ) : Type 0 where
+-- something of this client waits; or nothing waits of any, so that it is its line that could not be finished, or its words that were not
+-- all read
+abbrev pub IsHeldOf : DeskState RingInlet → List RequestsEnded → ℕ → Type 0
+IsHeldOf desk ended c =
+    ((i : RingInlet) (e : RequestsEnded) → IsWaiting (backlog_at desk c) (got_of (get_or desk.inlets c i)) (all_submitted (get_or ended c e))) ⊎ AllIdle desk
+
+-- the same, of what the clients left
+abbrev pub IsHeldBack : DeskState RingInlet → List Worked → ℕ → Type 0
+IsHeldBack desk all c =
+    ((i : RingInlet) (w : Worked) (e : RequestsEnded) → (get_or all c w).ended ≡ Some e → IsWaiting (backlog_at desk c) (got_of (get_or desk.inlets c i)) (all_submitted e))
+    ⊎ AllIdle desk
+
+-- this client failed or is held back, and none before it failed
+pub record IsFirstClient (desk : DeskState RingInlet) (all : List Worked) (c : ℕ) : Type 0 where
   pub client : c < length all
+  pub reason : ((w : Worked) → has_failed (get_or all c w) ≡ true) ⊎ IsHeldBack desk all c
   pub others : (k : ℕ) (w : Worked) → k < c → has_failed (get_or all k w) ≡ false
 
 -- the first fault of what came of the desk and of the clients: memory, then clients, then the desk
 abbrev pub IsFirstFault : DeskState RingInlet → DriveEnd → List Worked → ThreadsFault → Type 0
 IsFirstFault desk outcome all Faults.OutOfMemory = Unit {0}
-IsFirstFault desk outcome all (Faults.Client c) = ¬ (outcome ≡ DriveEnds.OutOfMemory) × IsFirstClient all c
+IsFirstFault desk outcome all (Faults.Client c) = ¬ (outcome ≡ DriveEnds.OutOfMemory) × IsFirstClient desk all c
 IsFirstFault desk outcome all Faults.Desk = (outcome ≡ DriveEnds.Limit) × NoneFailed all × IsWoundUp desk all
 
 -- the fault of a drive that ended so, after which this client failed or was held back, if any

@@ -3,7 +3,7 @@ ghost use Rattle.std.specs.Prelude.{◌≡◌, ◌<◌, [], length, IfOk, IfErr,
 ghost use Rattle.timer_desk.specs.Desk.{AllIdle};
 ghost use Rattle.timer_desk.specs.Ring.{unread_by};
 ghost use Rattle.timer_desk.specs.Winding.{AreEndsOf, AreReadersOf, AllGot};
-ghost use Rattle.timer_threads.specs.Threads.{AreOfLines, AllWhole, AllRead, NoneUnread, HasEnded, IsFirstFault, fault_of, whole_text};
+ghost use Rattle.timer_threads.specs.Threads.{AreOfLines, AllWhole, AllRead, NoneUnread, HasEnded, IsHeldOf, IsFirstFault, fault_of, whole_text};
 ghost use Rattle.timer_threads.specs.Parted.{lower_of};
 
 use crate::fault::ThreadsFault;
@@ -14,7 +14,11 @@ use std::alloc::Global;
 use timer_desk::{ClientReader, Desk, DriveEnd, RequestsEnded, RingInlet, wind_up};
 use timer_wheels::HierWheel;
 
-/// Winds the desk up once its clients have finished, and returns the text or the first fault.
+/// Winds the desk up once its clients have finished, and returns the text or the first fault: the end of
+/// `threads_run`.
+///
+/// Out of memory comes before a client, the first client that failed or is held back before any other,
+/// and the desk's limit last.
 pub fn end_all(
     alloc: Global,
     desk: Desk<HierWheel, RingInlet>,
@@ -71,7 +75,8 @@ fn held_back(
 ) -> Option<usize>
     requires ends { IfSome parts (λ p. AreEndsOf desk.inlets p.0.items) }
     requires readers { IfSome parts (λ p. AreReadersOf desk.inlets p.1.items) }
-    ensures some { IfSome result (λ c. c < length desk.inlets) }
+    ensures some { IfSome result (λ c. (c < length desk.inlets) × IfSome parts (λ p. IsHeldOf desk p.0.items c)) }
+    ensures no_parts { IsNone parts → IsNone result }
     ensures none { IsNone result → IfSome parts (λ p. AllIdle desk × AllGot desk.inlets p.0.items × AllRead desk.inlets p.1.items) }
 {
     match parts {

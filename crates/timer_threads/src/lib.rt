@@ -16,12 +16,21 @@ mod line_tests;
 mod parting;
 mod promise;
 #[cfg(test)]
+mod refusing;
+#[cfg(test)]
+mod row_tests;
+#[cfg(test)]
+mod testing;
+#[cfg(test)]
 mod thread_tests;
 mod threads;
 mod threads_text;
+#[cfg(test)]
+mod wind_tests;
 mod worked;
 mod working;
 
+pub use ending::end_all;
 pub use fault::ThreadsFault;
 pub use gate::{Gate, InTurn, Open};
 pub use threads::threads_run;

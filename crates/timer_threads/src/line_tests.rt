@@ -1,49 +1,15 @@
 //! Rows of one thread: a ring line to its end, and a client that never receives.
-ghost use Rattle.std.specs.Prelude.{◌≡◌, ◌<◌, ◌≤◌, [], IfOk, get_or, vec_len};
+ghost use Rattle.std.specs.Prelude.{◌≡◌, get_or};
 ghost use Rattle.timer_desk.specs.declared.ring.RingInlet.{RingInlet};
 ghost use Rattle.timer_desk.specs.Ring.{line_of_end, line_of_inlet, words_ring_of_reader};
-ghost use Rattle.timer_desk.specs.Desk.{clients_of, AllIdle};
+ghost use Rattle.timer_desk.specs.Desk.{clients_of};
 
-use std::alloc::Global;
+use crate::testing::*;
 use std::process::Abort;
 use std::test::*;
-use timer_base::Timer;
-use timer_desk::{
-    ClientEnd, ClientReader, Desk, Done, Inlet, Numbered, RingInlet, Served, Step, Unsent, Word,
-    ring_line,
-};
-use timer_facility::{Answer, Config, Facility, Notice, Request};
+use timer_desk::{ClientEnd, ClientReader, Desk, RingInlet, Served, Unsent, Word, ring_line};
+use timer_facility::{Answer, Notice};
 use timer_wheels::HierWheel;
-
-/// A desk over these lines, one for each client, over a hierarchy of wheels.
-fn desk(
-    rt: &impl Abort,
-    alloc: Global,
-    inlets: Vec<RingInlet>,
-    room: usize,
-) -> Result<Desk<HierWheel, RingInlet>, Fail>
-    requires { (1 ≤ vec_len inlets) × (vec_len inlets ≤ 64) }
-    ensures clients { IfOk result (λ desk. clients_of desk ≡ vec_len inlets) }
-    ensures inlets { IfOk result (λ desk. desk.inlets ≡ inlets.items) }
-{
-    let config = Config {
-        clients: inlets.len() as u64,
-        capacity: 1024,
-        first_tick: 0,
-        first_serial: 1,
-        first_number: 1,
-    };
-    let wheel = HierWheel::new(alloc, 0)?;
-    let facility = Facility::open(alloc, config.check()?, wheel);
-    match Desk::open(alloc, facility, inlets, room) {
-        Ok(desk) => Ok(desk),
-        Err(_) => panic!(rt; "not opened"),
-    }
-}
-
-fn start(interval: u64, action: u64) -> Request {
-    Request::Start { interval, action }
-}
 
 /// The serial and the deadline that a word tells: of an answer, 1; of an expired timer, 2.
 fn told(word: Option<Word>) -> (u64, u64, u64) {
@@ -94,7 +60,10 @@ fn silent(rt: &impl Abort, desk: Desk<HierWheel, RingInlet>, zero: ClientEnd, on
         }
         match turn_of_two(&mut desk) {
             Served::Did { .. } => served = served.saturating_add(1),
-            Served::NoRoom => refused = refused.saturating_add(1),
+            Served::NoRoom => {
+                assert_eq!(rt; served, 3);
+                refused = refused.saturating_add(1);
+            }
             _ => {}
         }
         match told(one.receive()).0 {
@@ -119,18 +88,15 @@ fn a_client_that_does_not_receive_holds_up_no_other(rt: HostRuntime) -> Result<(
     let alloc = rt.alloc();
     let (zero, inlet) = ring_line(alloc, 2, 1)?;
     let (one, other) = ring_line(alloc, 8, 1)?;
-    let desk = desk(&rt, alloc, vec![in alloc; inlet, other]?, 4)?;
+    let desk = desk(
+        &rt,
+        alloc,
+        HierWheel::new(alloc, 0)?,
+        vec![in alloc; inlet, other]?,
+        4,
+    )?;
     silent(&rt, desk, zero, one);
     Ok(())
-}
-
-/// Goes on only where nothing waits for the one client.
-fn idle(rt: &impl Abort, desk: &Desk<HierWheel, RingInlet>)
-    requires { clients_of desk.now ≡ 1 }
-    ensures { AllIdle desk.now }
-{
-    assert!(rt; desk.outbox_len(0) == 0);
-    assert!(rt; desk.held(0).is_none());
 }
 
 /// Ends a desk of one client, settles its reader, and reads what is left.
@@ -213,7 +179,13 @@ fn a_ring_line_is_read_to_its_end(rt: HostRuntime) -> Result<(), Fail> {
     assert_eq!(rt; end.submit(start(1, 8)), Ok(2));
     assert_eq!(rt; end.submit(start(5, 9)), Err(Unsent::Full(start(5, 9))));
     assert_eq!(rt; end.next_number(), 3);
-    let desk = desk(&rt, alloc, vec![in alloc; inlet]?, 8)?;
+    let desk = desk(
+        &rt,
+        alloc,
+        HierWheel::new(alloc, 0)?,
+        vec![in alloc; inlet]?,
+        8,
+    )?;
     ended(&rt, desk, end);
     Ok(())
 }

@@ -1,10 +1,9 @@
 //! Clients in threads: the worked rows, gates that hold clients back, and clients that end badly.
-ghost use Rattle.std.specs.Prelude.{◌≡◌, ◌<◌, ◌≤◌, [], IfOk, get_or, vec_len};
-ghost use Rattle.timer_base.specs.declared.limits.TheConstants.{LAST};
-ghost use Rattle.timer_desk.specs.Desk.{clients_of};
+ghost use Rattle.std.specs.Prelude.{◌≡◌, IfOk, vec_len};
 
 use crate::fault::ThreadsFault;
 use crate::gate::{Gate, InTurn, Open};
+use crate::testing::desk;
 use crate::threads::threads_run;
 use crate::working::client_work;
 use std::alloc::{AllocError, Global};
@@ -14,11 +13,8 @@ use std::sync::{Arc, Wait};
 use std::test::*;
 use std::thread;
 use std::thread::Threads;
-use timer_base::{Handle, Timer};
-use timer_desk::{
-    ClientEnd, Desk, DriveEnd, Inlet, LockedEnd, Step, Word, drive, locked_line, ring_line,
-};
-use timer_facility::{Answer, Config, Facility, Notice, Request};
+use timer_desk::{ClientEnd, Desk, Inlet, LockedEnd, Step, Word, locked_line, ring_line};
+use timer_facility::{Answer, Notice, Request};
 use timer_wheels::HierWheel;
 
 /// After so many turns in a row that passed nothing on a side gives up.
@@ -158,43 +154,6 @@ fn as_many_clients_as_there_may_be_run_to_their_end(rt: HostRuntime) -> Result<(
     Ok(())
 }
 
-/// A desk over these lines, one for each client, over a hierarchy of wheels.
-fn desk<I: Inlet + Drop>(
-    rt: &impl Abort,
-    alloc: Global,
-    inlets: Vec<I>,
-    room: usize,
-) -> Result<Desk<HierWheel, I>, Fail>
-    requires { (1 ≤ vec_len inlets) × (vec_len inlets ≤ 64) }
-    ensures clients { IfOk result (λ desk. clients_of desk ≡ vec_len inlets) }
-    ensures inlets { IfOk result (λ desk. desk.inlets ≡ inlets.items) }
-{
-    let config = Config {
-        clients: inlets.len() as u64,
-        capacity: 1024,
-        first_tick: 0,
-        first_serial: 1,
-        first_number: 1,
-    };
-    let wheel = HierWheel::new(alloc, 0)?;
-    let facility = Facility::open(alloc, config.check()?, wheel);
-    match Desk::open(alloc, facility, inlets, room) {
-        Ok(desk) => Ok(desk),
-        Err(_) => panic!(rt; "not opened"),
-    }
-}
-
-#[test]
-fn a_drive_over_an_empty_line_comes_to_its_limit(rt: HostRuntime) -> Result<(), Fail> {
-    let alloc = rt.alloc();
-    let (_end, inlet) = ring_line(alloc, 8, 1)?;
-    let desk = desk(&rt, alloc, vec![in alloc; inlet]?, 8)?;
-    let driven = drive(alloc, desk, 1, 1000);
-    assert_eq!(rt; driven.outcome, DriveEnd::Limit);
-    assert_eq!(rt; driven.desk.facility().now(), 1000);
-    Ok(())
-}
-
 /// A client's end of a line of either kind.
 trait Line {
     fn submit(&mut self, request: Request) -> bool;
@@ -314,7 +273,13 @@ fn run_paced<I: Inlet + Drop, L: Line + Send + Drop + 'static>(
 fn a_client_in_a_thread_starts_a_timer_after_the_other(rt: HostRuntime) -> Result<(), Fail> {
     let alloc = rt.alloc();
     let (end, inlet) = ring_line(alloc, 4, 1)?;
-    let desk = desk(&rt, alloc, vec![in alloc; inlet]?, 8)?;
+    let desk = desk(
+        &rt,
+        alloc,
+        HierWheel::new(alloc, 0)?,
+        vec![in alloc; inlet]?,
+        8,
+    )?;
     run_paced(&rt, alloc, desk, end)
 }
 
@@ -322,7 +287,13 @@ fn a_client_in_a_thread_starts_a_timer_after_the_other(rt: HostRuntime) -> Resul
 fn a_client_behind_a_lock_starts_a_timer_after_the_other(rt: HostRuntime) -> Result<(), Fail> {
     let alloc = rt.alloc();
     let (end, inlet) = locked_line(rt, alloc, 4, 1)?;
-    let desk = desk(&rt, alloc, vec![in alloc; inlet]?, 8)?;
+    let desk = desk(
+        &rt,
+        alloc,
+        HierWheel::new(alloc, 0)?,
+        vec![in alloc; inlet]?,
+        8,
+    )?;
     run_paced(&rt, alloc, desk, Locked { rt, end })
 }
 
@@ -331,7 +302,13 @@ fn a_client_that_drops_its_end_holds_up_no_other(rt: HostRuntime) -> Result<(), 
     let alloc = rt.alloc();
     let (zero, inlet) = ring_line(alloc, 4, 1)?;
     let (one, other) = ring_line(alloc, 4, 1)?;
-    let mut desk = desk(&rt, alloc, vec![in alloc; inlet, other]?, 8)?;
+    let mut desk = desk(
+        &rt,
+        alloc,
+        HierWheel::new(alloc, 0)?,
+        vec![in alloc; inlet, other]?,
+        8,
+    )?;
     let mut zero = zero;
     for action in 1..=3u64 {
         let request = Request::Start {

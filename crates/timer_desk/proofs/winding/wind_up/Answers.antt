@@ -63,6 +63,8 @@ returns-then-not-is_done-clause-err g c =
     let in_ended : n < vec_len c.loop-c.ended = omega (arith, low, was.as_many, c.requires.ended.as_many, c.args.ended.ok) in
     let waits = c.if-not-is_done.ensures.waiting refl in record {
       client = low;
+      idle_before = was.idle;
+      got_before = was.got;
       waiting = inl (λ i e.
           let same_end : c.index_mut.result.now ≡ get_or c.args.ended.items n e = c.index_mut.ensures.value ∙ was.later n c.index_mut.result.now here in_ended ∙ get_or_default c.args.ended.items n c.index_mut.result.now e (omega (arith, in_ended, was.as_many, c.args.ended.ok)) in
           subst (λ (bs : List Backlog). IsWaiting (get_or bs n _) (got_of (get_or c.args.desk.inlets n i)) (all_submitted (get_or c.args.ended.items n e))) was.keeps.same_backlogs
@@ -101,5 +103,7 @@ returns-then-not-finish_line-clause-err g c =
     let done = c.loop-c.invariant in
     let n : c.loop-c.c ≡ length c.args.desk.inlets = omega (arith, c.loop-c.auto.c-end, c.len-c-end.ensures, c.loop-c-test.false, c.requires.ended.as_many, c.args.ended.ok) in record {
       client = omega (arith, count, was.fewer, ends, done.keeps.same_clients);
+      idle_before = λ k l. done.idle k (omega (arith, count, was.fewer, ends, done.keeps.same_clients, n, l));
+      got_before = λ k i e l. done.got k i e (omega (arith, count, was.fewer, ends, done.keeps.same_clients, n, l));
       waiting = inr ((λ k l. done.idle k (omega (arith, n, l))), (λ k i e l. done.got k i e (omega (arith, n, l))));
     }

@@ -4,7 +4,7 @@ use Rattle.timer_desk.specs.Winding.{AreEndsOf, AreReadersOf}
 use Rattle.timer_threads.specs.Parted.{NoneFailed, IsFirstFailed, AreParted}
 use Rattle.timer_threads.specs.Threads.{clients_text, whole_lines}
 use Rattle.timer_threads.proofs.ThreadLemmas.{clients_text-whole}
-use Rattle.timer_threads.proofs.EndedLines.{ends_of, readers_of, IfSome-map, first_fault_is, no_fault, wound_by}
+use Rattle.timer_threads.proofs.EndedLines.{ends_of, readers_of, IfSome-map, held_back_by, first_fault_is, no_fault, wound_by}
 use Rattle.timer_threads.proofs.ending.end_all.Goals as goal
 
 pub same-desk : goal.same-desk
@@ -30,7 +30,7 @@ returns-in-Some c =
           c.in_default.not-OutOfMemory
           (subst (λ ws. IfSome c.first_failed-failed.result (λ k. IsFirstFailed ws k)) at c.first_failed-failed.ensures.some)
           none
-          (IfSome-map _ _ c.held_back-held.result (λ k l. omega (arith, l, c.requires.lines.as_many)) held.some)
+          (held_back_by (λ p. p.0.items) (λ p. p.1.items) c.args.desk all c.in-Ok-parted.parts c.held_back-held.result c.requires.lines c.in-Ok-parted.ensures.some held.no_parts held.some)
           (λ f h. wound_by (λ p. p.0.items) (λ p. p.1.items) c.args.desk all c.in-Ok-parted.parts c.requires.lines c.in-Ok-parted.ensures.none c.in-Ok-parted.ensures.some
           (held.none (subst (λ o. IsNone o) (sym h) refl)) (none (subst (λ o. IsNone o) (sym f) refl)));
     }

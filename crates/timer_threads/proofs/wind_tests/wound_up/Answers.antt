@@ -1,6 +1,6 @@
 use Rattle.std.proofs.Common.{◌≡◌, ◌<◌, ◌∙◌, length, ap, arith}
-use Rattle.timer_desk.proofs.WindLemmas.{one_end, one_reader}
-use Rattle.timer_desk.proofs.ring_tests.driven.Goals as goal
+use Rattle.timer_threads.proofs.OneLine.{one_end, one_reader}
+use Rattle.timer_threads.proofs.wind_tests.wound_up.Goals as goal
 
 pub wind_up-requires-clause-ended : goal.wind_up-requires-clause-ended
 wind_up-requires-clause-ended c =

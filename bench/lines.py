@@ -1,0 +1,147 @@
+#!/usr/bin/env python3
+"""Measures the owner's desk, ring lines and `timers threads`, each against its peer, as processes.
+
+    lines.py --work PROGRAM --timers PROGRAM [--only desk,lines,threads] [--repeats N]
+
+PROGRAM of --work is that of crates/timer_desk_bench, that of --timers the product. The peers are build/lines_ref and
+build/threads_ref. Programs take turns: each repeat gives one ratio, and a row has their median, and in parentheses the
+least and the greatest; `of best` is the ratio of the two least times.
+
+Nothing is measured where a program gives another output than its peer. Status 1: a wrong output; 2: wrong arguments, or
+a program is not built.
+"""
+import argparse, os, resource, statistics, subprocess, sys, time
+
+HERE = os.path.dirname(os.path.abspath(__file__))
+LINES_REF = os.path.join(HERE, "build", "lines_ref")
+THREADS_REF = os.path.join(HERE, "build", "threads_ref")
+ROUND = 65536  # requests in a round at a desk
+ROUNDS = 20
+TRIPS = 1_000_000
+ONE_WAY = 20_000_000
+CLIENTS, TIMERS = 4, 10_000
+CORES = sorted(os.sched_getaffinity(0))
+
+
+def fail(text, status=1):
+    print(text, file=sys.stderr)
+    sys.exit(status)
+
+
+def pin_threads(process, cores):
+    """Gives each thread of the process a core of its own."""
+    folder = f"/proc/{process.pid}/task"
+    for _ in range(1000):
+        try:
+            threads = sorted(int(name) for name in os.listdir(folder))
+            if len(threads) >= len(cores):
+                for thread, core in zip(threads, cores):
+                    os.sched_setaffinity(thread, {core})
+                return
+        except (FileNotFoundError, ProcessLookupError):
+            return
+        time.sleep(0.0001)
+
+
+def run(command, cores, apart=False):
+    """Processor time, time by the clock, and output of a process on these cores."""
+    before, start = resource.getrusage(resource.RUSAGE_CHILDREN), time.perf_counter()
+    process = subprocess.Popen(command, stdin=subprocess.DEVNULL, stdout=subprocess.PIPE, stderr=subprocess.PIPE,
+                               preexec_fn=lambda: os.sched_setaffinity(0, set(cores)))
+    if apart:
+        pin_threads(process, cores)
+    try:
+        out, faults = process.communicate(timeout=300)
+    except subprocess.TimeoutExpired:
+        process.kill()
+        fail(f"{' '.join(command)}: no end after 300 s")
+    wall, after = time.perf_counter() - start, resource.getrusage(resource.RUSAGE_CHILDREN)
+    if process.returncode:
+        fail(f"{' '.join(command)}: status {process.returncode}, {faults.decode(errors='replace')!r}")
+    return after.ru_utime + after.ru_stime - before.ru_utime - before.ru_stime, wall, out
+
+
+def spread(mine, peer):
+    ratios = [m / p for m, p in zip(mine, peer)]
+    return f"{statistics.median(ratios):.2f} ({min(ratios):.2f}-{max(ratios):.2f}), of best {min(mine) / min(peer):.2f}"
+
+
+def desk(work, repeats):
+    """Requests and words at a desk, against the same facility without one: processor time, less that of no round."""
+    for clients in (1, 8, 64):
+        took, outs = {"desk": [], "calls": [], "facility": []}, set()
+        for _ in range(repeats):
+            for mode, times in took.items():
+                base = run([work, mode, str(clients), "0"], CORES[:1])[0]
+                cpu, _, out = run([work, mode, str(clients), str(ROUNDS)], CORES[:1])
+                times.append(max(cpu - base, 1e-9))
+                outs.add(out.split(b" ", 1)[1])
+        if len(outs) != 1:
+            fail(f"desk of {clients}: outputs differ: {outs}")
+        served, words = ROUNDS * (ROUND // clients * clients), 2 * ROUNDS * (ROUND // clients * clients)
+        for mode, name in (("desk", "turns"), ("calls", "single calls")):
+            best = min(took[mode])
+            print(f"desk, {clients:2} clients, {name}: {served / best / 1e6:.1f} M requests and {words / best / 1e6:.1f} M words a second, "
+                  f"{best / words * 1e9:.0f} ns an event, ratio to the facility alone {spread(took[mode], took['facility'])}")
+
+
+def lines(work, repeats):
+    """One ring line between two threads, each on a core of its own: time by the clock."""
+    if len(CORES) < 2:
+        print("lines: this takes two cores")
+        return
+    for mode, count, what in (("trips", TRIPS, "round trips"), ("one_way", ONE_WAY, "requests one way")):
+        mine, peer = [], []
+        for _ in range(repeats):
+            _, wall, out = run([work, mode, str(count)], CORES[:2], apart=True)
+            _, ref_wall, ref_out = run([LINES_REF, mode, str(count)], CORES[:2], apart=True)
+            if out != ref_out:
+                fail(f"{mode}: {out!r}, and the reference {ref_out!r}")
+            mine.append(wall)
+            peer.append(ref_wall)
+        print(f"line, {what}: {count / min(mine) / 1e6:.2f} M a second, {min(mine) / count * 1e9:.0f} ns each, "
+              f"the C++ ring {min(peer) / count * 1e9:.0f} ns, ratio {spread(mine, peer)}")
+
+
+def threads(timers, repeats):
+    """`timers threads` as a process, on one core, two and four: time by the clock."""
+    for cores in (1, 2, 4):
+        if len(CORES) < cores:
+            continue
+        mine, peer, cpu = [], [], []
+        for _ in range(repeats):
+            used, wall, out = run([timers, "threads", "--clients", str(CLIENTS), "--timers", str(TIMERS)], CORES[:cores])
+            _, ref_wall, ref_out = run([THREADS_REF, str(CLIENTS), str(TIMERS)], CORES[:cores])
+            if out != ref_out:
+                fail(f"threads: {out!r}, and the reference {ref_out!r}")
+            mine.append(wall)
+            peer.append(ref_wall)
+            cpu.append(used)
+        print(f"threads, {CLIENTS} clients of {TIMERS} timers on {cores} core{'s' if cores > 1 else ''}: {min(mine) * 1e3:.1f} ms "
+              f"({min(cpu) * 1e3:.1f} ms of processor time), the C++ program {min(peer) * 1e3:.1f} ms, ratio {spread(mine, peer)}")
+
+
+def main():
+    parser = argparse.ArgumentParser()
+    parser.add_argument("--work")
+    parser.add_argument("--timers")
+    parser.add_argument("--only", default="desk,lines,threads")
+    parser.add_argument("--repeats", type=int, default=5)
+    options = parser.parse_args()
+    parts = options.only.split(",")
+    if not set(parts) <= {"desk", "lines", "threads"} or options.repeats < 1:
+        parser.error("--only takes desk, lines and threads, --repeats a number from 1 on")
+    needed = {"desk": [options.work], "lines": [options.work, LINES_REF], "threads": [options.timers, THREADS_REF]}
+    for part in parts:
+        for program in needed[part]:
+            if not program or not os.path.exists(program):
+                fail(f"{part}: {program or 'a program'} is not there", 2)
+    if "desk" in parts:
+        desk(options.work, options.repeats)
+    if "lines" in parts:
+        lines(options.work, options.repeats)
+    if "threads" in parts:
+        threads(options.timers, options.repeats)
+
+
+main()

@@ -1,0 +1,79 @@
+//! Work of the owner's desk and of ring lines, to be timed as a process by bench/lines.py. Not part of
+//! the program.
+//!
+//!     desk CLIENTS ROUNDS       65,536 requests a round, over lines in memory, by turns of a desk
+//!     calls CLIENTS ROUNDS      the same by single calls of the desk
+//!     facility CLIENTS ROUNDS   the same requests at a facility without a desk
+//!     trips COUNT               so many requests over a ring line, each answered before the next
+//!     one_way COUNT             so many requests over a ring line, one after the other
+//!
+//! It prints how many requests were served and how many words came of them. Without arguments it does a
+//! little of each.
+#![tactic(auto)]
+
+mod counts;
+mod desk_rounds;
+mod facility_rounds;
+mod lines;
+mod requests;
+
+use counts::Counts;
+use std::alloc::Global;
+use std::env;
+use std::process::ExitCode;
+use std::thread::Threads;
+
+/// Does the work of this name.
+fn work(rt: &impl Threads, alloc: Global, name: &str, first: u64, second: u64) -> Option<Counts> {
+    match name {
+        "desk" => desk_rounds::by_turns(alloc, first, second),
+        "calls" => desk_rounds::by_calls(alloc, first, second),
+        "facility" => facility_rounds::without_a_desk(alloc, first, second),
+        "trips" => lines::round_trips(rt, alloc, first),
+        "one_way" => lines::one_way(rt, alloc, first),
+        _ => None,
+    }
+}
+
+/// Does the work and prints its counts, and returns whether it came to its end.
+fn report(
+    rt: &(impl AllocGlobal + Threads + Print + Eprint),
+    name: &str,
+    first: u64,
+    second: u64,
+) -> bool {
+    match work(rt, rt.alloc(), name, first, second) {
+        Some(counts) => {
+            let _ = println!(rt; "{name} served {} words {}", counts.served, counts.words);
+            true
+        }
+        None => {
+            let _ = eprintln!(rt; "{name} failed");
+            false
+        }
+    }
+}
+
+/// A little of each.
+fn report_all(rt: &(impl AllocGlobal + Threads + Print + Eprint)) -> bool {
+    let desk = report(rt, "desk", 8, 1);
+    let calls = report(rt, "calls", 8, 1);
+    let facility = report(rt, "facility", 8, 1);
+    let trips = report(rt, "trips", 100, 0);
+    let one_way = report(rt, "one_way", 100, 0);
+    desk && calls && facility && trips && one_way
+}
+
+fn main(rt: HostRuntime) -> ExitCode {
+    let Ok(args) = env::args(&rt) else {
+        return ExitCode::from(2);
+    };
+    let mut args = args.skip(1);
+    let Some(name) = args.next() else {
+        return ExitCode::from(if report_all(&rt) { 0 } else { 1 });
+    };
+    let first = args.next().and_then(|word| word.parse::<u64>().ok());
+    let second = args.next().and_then(|word| word.parse::<u64>().ok());
+    let is_done = report(&rt, &name, first.unwrap_or(0), second.unwrap_or(0));
+    ExitCode::from(if is_done { 0 } else { 1 })
+}

@@ -1,0 +1,155 @@
+//! What tests of desks have in common: desks, requests, and words without places.
+ghost use Rattle.std.specs.Prelude.{◌≡◌, ◌<◌, [], IfOk, vec_len};
+ghost use Rattle.timer_desk.specs.Desk.{AllIdle};
+
+use std::alloc::Global;
+use std::process::Abort;
+use std::test::Fail;
+use timer_base::{Handle, Timer, Wheel};
+use timer_desk::{Desk, Done, Inlet, Numbered, Served, Word};
+use timer_facility::{Answer, Config, Facility, Notice, Request};
+
+/// A desk over these lines, one for each client, and a wheel that is empty and stands at tick 0.
+pub fn desk<W: Wheel + Drop, I: Inlet + Drop>(
+    rt: &impl Abort,
+    alloc: Global,
+    wheel: W,
+    inlets: Vec<I>,
+    room: usize,
+) -> Result<Desk<W, I>, Fail>
+    requires pending { (W.state wheel).pending ≡ [] }
+    requires due { (W.state wheel).due ≡ [] }
+    ensures inlets { IfOk result (λ desk. desk.inlets ≡ inlets.items) }
+{
+    let config = Config {
+        clients: inlets.len() as u64,
+        capacity: 1024,
+        first_tick: 0,
+        first_serial: 1,
+        first_number: 1,
+    };
+    let checked = config.check()?;
+    assert_eq!(rt; wheel.now(), 0);
+    assert_eq!(rt; wheel.last_serial(), 0);
+    let facility = Facility::open(alloc, checked, wheel);
+    match Desk::open(alloc, facility, inlets, room) {
+        Ok(desk) => Ok(desk),
+        Err(_) => panic!(rt; "not opened"),
+    }
+}
+
+/// Goes on only where nothing waits at the desk.
+pub fn idle<W: Wheel + Drop, I: Inlet + Drop>(rt: &impl Abort, desk: &Desk<W, I>)
+    ensures { AllIdle desk.now }
+{
+    for c in 0..desk.clients() {
+        assert!(rt; desk.outbox_len(c) == 0);
+        assert!(rt; desk.held(c).is_none());
+    }
+}
+
+/// A request to start a timer.
+pub fn start(interval: u64, action: u64) -> Request {
+    Request::Start { interval, action }
+}
+
+/// The same under its number.
+pub fn numbered(number: u64, interval: u64, action: u64) -> Numbered {
+    Numbered {
+        number,
+        request: start(interval, action),
+    }
+}
+
+/// A timer, as a notice names it.
+pub fn timer(serial: u64, client: u64, number: u64, deadline: u64, action: u64) -> Timer {
+    Timer {
+        serial,
+        client,
+        number,
+        deadline,
+        action,
+    }
+}
+
+/// The word for a timer that expired.
+pub fn expired(timer: Timer) -> Word {
+    Word::Notice(Notice::Expired(timer))
+}
+
+/// The word for an accepted start, with place 0.
+pub fn started(number: u64, serial: u64, deadline: u64) -> Word {
+    let handle = Handle { place: 0, serial };
+    Word::Answered {
+        number,
+        answer: Answer::Started { handle, deadline },
+    }
+}
+
+/// The answer without its place, which is the wheel's choice.
+fn bare_answer(answer: Answer) -> Answer {
+    match answer {
+        Answer::Started { handle, deadline } => Answer::Started {
+            handle: bare_handle(handle),
+            deadline,
+        },
+        Answer::Restarted {
+            handle,
+            deadline,
+            old,
+        } => Answer::Restarted {
+            handle: bare_handle(handle),
+            deadline,
+            old,
+        },
+        _ => answer,
+    }
+}
+
+fn bare_handle(handle: Handle) -> Handle {
+    Handle {
+        place: 0,
+        serial: handle.serial,
+    }
+}
+
+/// The word without the place in its handle.
+pub fn bare(word: Word) -> Word {
+    match word {
+        Word::Answered { number, answer } => Word::Answered {
+            number,
+            answer: bare_answer(answer),
+        },
+        _ => word,
+    }
+}
+
+/// The same of what a serve did.
+pub fn bare_served(served: Served) -> Served {
+    match served {
+        Served::Did { numbered, word } => Served::Did {
+            numbered,
+            word: bare(word),
+        },
+        _ => served,
+    }
+}
+
+/// The same of a member of a report.
+pub fn bare_done(done: Done) -> Done {
+    match done {
+        Done::Served { client, served } => Done::Served {
+            client,
+            served: bare_served(served),
+        },
+        _ => done,
+    }
+}
+
+/// Goes on only where these are just those words, but for places.
+pub fn are_words(rt: &impl Abort, words: &[Word], wanted: &[Word]) {
+    assert_eq!(rt; words.len(), wanted.len());
+    for (word, other) in words.iter().zip(wanted.iter()) {
+        assert_eq!(rt; bare(*word), *other);
+    }
+}

@@ -1,0 +1,132 @@
+//! How a drive ends, and a desk that is wound up or not.
+ghost use Rattle.std.specs.Prelude.{◌≡◌, ◌≤◌, get_or};
+ghost use Rattle.timer_base.specs.declared.limits.TheConstants.{LAST};
+ghost use Rattle.timer_desk.specs.Ring.{line_of_end, line_of_inlet};
+ghost use Rattle.timer_desk.specs.declared.ring.RingInlet.{RingInlet};
+ghost use Rattle.timer_desk.specs.Desk.{clients_of};
+
+use crate::refusing::Refusing;
+use crate::testing::*;
+use std::alloc::Global;
+use std::process::Abort;
+use std::test::*;
+use timer_desk::{ClientEnd, ClientReader, Desk, DriveEnd, RingInlet, drive, ring_line, wind_up};
+use timer_wheels::HierWheel;
+
+#[test]
+fn a_drive_over_an_empty_line_comes_to_its_limit(rt: HostRuntime) -> Result<(), Fail> {
+    let alloc = rt.alloc();
+    let (_end, inlet) = ring_line(alloc, 8, 1)?;
+    let inlets = vec![in alloc; inlet]?;
+    let desk = desk(&rt, alloc, HierWheel::new(alloc, 0)?, inlets, 8)?;
+    let driven = drive(alloc, desk, 1, 1000);
+    assert_eq!(rt; driven.outcome, DriveEnd::Limit);
+    assert_eq!(rt; driven.desk.facility().now(), 1000);
+    Ok(())
+}
+
+#[test]
+fn a_drive_that_ran_out_of_memory_can_be_driven_on(rt: HostRuntime) -> Result<(), Fail> {
+    let alloc = rt.alloc();
+    let (mut end, inlet) = ring_line(alloc, 8, 1)?;
+    assert_eq!(rt; end.submit(start(1, 7)), Ok(1));
+    let wheel = Refusing {
+        wheel: HierWheel::new(alloc, 0)?,
+        refuses: true,
+    };
+    let desk = desk(&rt, alloc, wheel, vec![in alloc; inlet]?, 8)?;
+    let driven = drive(alloc, desk, 1, 1000);
+    assert_eq!(rt; driven.outcome, DriveEnd::OutOfMemory);
+    // The request is held, and the rest of its turn was done: a flush of no word, and a tick.
+    let desk = driven.desk;
+    assert_eq!(rt; desk.clients(), 1);
+    assert_eq!(rt; desk.held(0), Some(numbered(1, 1, 7)));
+    assert_eq!(rt; desk.outbox_len(0), 0);
+    assert_eq!(rt; (desk.facility().now(), desk.facility().pending()), (1, 0));
+    assert_eq!(rt; end.receive(), None);
+
+    let driven = drive(alloc, desk, 1, 1000);
+    assert_eq!(rt; driven.outcome, DriveEnd::Done);
+    assert_eq!(rt; end.receive().map(bare), Some(started(1, 1, 2)));
+    assert_eq!(rt; end.receive(), Some(expired(timer(1, 0, 1, 2, 7))));
+    assert_eq!(rt; end.receive(), None);
+    Ok(())
+}
+
+/// Drives a desk over one ring line to a goal, finishes its client's end, and winds it up. Returns how
+/// many words are left for the client, or the client for whose sake it is not wound up.
+fn wound_up(
+    alloc: Global,
+    end: ClientEnd,
+    desk: Desk<Refusing<HierWheel>, RingInlet>,
+    goal: u64,
+) -> Option<Result<usize, usize>>
+    requires one { clients_of desk ≡ 1 }
+    requires line { (i : RingInlet) → line_of_end end ≡ line_of_inlet (get_or desk.inlets 0 i) }
+    requires goal { goal ≤ LAST }
+{
+    let driven = drive(alloc, desk, goal, 100);
+    let (ended, reader) = end.finish();
+    let ended = ended?;
+    let Ok(ends) = vec![in alloc; ended] else {
+        return None;
+    };
+    let Ok(readers) = vec![in alloc; reader] else {
+        return None;
+    };
+    match wind_up(driven.desk, ends, readers) {
+        Ok((_, readers)) => Some(Ok(words_left(readers))),
+        Err(c) => Some(Err(c)),
+    }
+}
+
+/// How many words are left for the first of these readers, at most ten.
+fn words_left(readers: Vec<ClientReader>) -> usize {
+    let mut readers = readers;
+    let mut words = 0usize;
+    if let Some(reader) = readers.first_mut() {
+        for _ in 0..10usize {
+            if reader.receive().is_some() {
+                words = words.saturating_add(1);
+            }
+        }
+    }
+    words
+}
+
+/// The same for a client that submitted two requests over a line of this capacity.
+fn wound_up_after(
+    rt: &impl Abort,
+    alloc: Global,
+    capacity: usize,
+    goal: u64,
+    refuses: bool,
+) -> Result<Option<Result<usize, usize>>, Fail>
+    requires capacity { (1 ≤ capacity) × (capacity ≤ 8) }
+    requires goal { goal ≤ LAST }
+{
+    let (mut end, inlet) = ring_line(alloc, capacity, 1)?;
+    assert_eq!(rt; end.submit(start(1, 5)), Ok(1));
+    assert_eq!(rt; end.submit(start(1, 5)), Ok(2));
+    let wheel = Refusing {
+        wheel: HierWheel::new(alloc, 0)?,
+        refuses,
+    };
+    let desk = desk(rt, alloc, wheel, vec![in alloc; inlet]?, 8)?;
+    Ok(wound_up(alloc, end, desk, goal))
+}
+
+#[test]
+fn a_desk_is_wound_up_only_where_nothing_stands_waits_or_is_held(
+    rt: HostRuntime,
+) -> Result<(), Fail> {
+    let alloc = rt.alloc();
+    assert_eq!(rt; wound_up_after(&rt, alloc, 8, 2, false)?, Some(Ok(4)));
+    // Two requests stand in the line.
+    assert_eq!(rt; wound_up_after(&rt, alloc, 8, 0, false)?, Some(Err(0)));
+    // The line takes two of the four words.
+    assert_eq!(rt; wound_up_after(&rt, alloc, 2, 2, false)?, Some(Err(0)));
+    // The first request ran out of memory.
+    assert_eq!(rt; wound_up_after(&rt, alloc, 8, 2, true)?, Some(Err(0)));
+    Ok(())
+}
