@@ -5,6 +5,8 @@
 # make install     installs program, libraries, header, pkg-config file and man pages under PREFIX
 # make uninstall   removes what it installed
 # make bench       measures the wheels against others (bench/README.md)
+# make hostile     the program where memory, its outputs or its input fail it
+# make fuzz        an hour of scripts, against a model of docs/formats.md (MINUTES=N)
 # make soak        64 clients of 10,000 timers each in threads, 100 times; prints how far it is
 # make clean       removes what was built
 
@@ -12,6 +14,7 @@ KIT = $(dir $(shell rt doc))
 PROGRAM = crates/timer_program/out/timer_program
 SOAK = crates/timer_soak/out/timer_soak
 PREFIX = /usr/local
+MINUTES = 60
 
 # rt proves what changed, builds the program, and runs it: on the empty script it prints one line.
 all:
@@ -35,7 +38,15 @@ uninstall:
 
 bench:
 	cd crates/timer_bench && rt lib
-	$(MAKE) -C bench run PRODUCT=$(CURDIR)/crates/timer_bench/out/libtimer_bench.a PRODUCT_HEAP=$(KIT)c/liblibc_c.a OPTIONS="$(OPTIONS)"
+	tools/lib build/lib
+	$(MAKE) -C bench run PRODUCT=$(CURDIR)/crates/timer_bench/out/libtimer_bench.a PRODUCT_HEAP=$(KIT)c/liblibc_c.a \
+	    TIMERS_C=$(CURDIR)/build/lib/libtimers.a OPTIONS="$(OPTIONS)"
+
+hostile: all
+	tools/hostile ./timers
+
+fuzz: all
+	tools/fuzz/run ./timers $(MINUTES)
 
 soak:
 	cd crates/timer_soak && rt run
@@ -45,4 +56,4 @@ clean:
 	rm -rf crates/*/out build timers
 	$(MAKE) -C bench clean
 
-.PHONY: all run test lib install uninstall bench soak clean
+.PHONY: all run test lib install uninstall bench hostile fuzz soak clean
