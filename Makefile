@@ -6,6 +6,8 @@
 # make uninstall   removes what it installed
 # make bench       measures the wheels against others (bench/README.md)
 # make bench-lines measures the owner's desk, ring lines and clients in threads against others
+# make hostile     the program where memory, its outputs or its input fail it
+# make fuzz        an hour of scripts, against a model of docs/formats.md (MINUTES=N)
 # make soak        64 clients of 10,000 timers each in threads, 100 times; prints how far it is
 # make clean       removes what was built
 
@@ -14,6 +16,7 @@ PROGRAM = crates/timer_program/out/timer_program
 SOAK = crates/timer_soak/out/timer_soak
 DESK_BENCH = crates/timer_desk_bench/out/timer_desk_bench
 PREFIX = /usr/local
+MINUTES = 60
 
 # rt proves what changed, builds the program, and runs it: on the empty script it prints one line.
 all:
@@ -37,13 +40,21 @@ uninstall:
 
 bench:
 	cd crates/timer_bench && rt lib
-	$(MAKE) -C bench run PRODUCT=$(CURDIR)/crates/timer_bench/out/libtimer_bench.a PRODUCT_HEAP=$(KIT)c/liblibc_c.a OPTIONS="$(OPTIONS)"
+	tools/lib build/lib
+	$(MAKE) -C bench run PRODUCT=$(CURDIR)/crates/timer_bench/out/libtimer_bench.a PRODUCT_HEAP=$(KIT)c/liblibc_c.a \
+	    TIMERS_C=$(CURDIR)/build/lib/libtimers.a OPTIONS="$(OPTIONS)"
 	$(MAKE) bench-lines
 
 bench-lines:
 	cd crates/timer_desk_bench && rt run
 	cd crates/timer_program && rt run < /dev/null
 	$(MAKE) -C bench lines WORK=$(CURDIR)/$(DESK_BENCH) TIMERS=$(CURDIR)/$(PROGRAM) LINE_OPTIONS="$(LINE_OPTIONS)"
+
+hostile: all
+	tools/hostile ./timers
+
+fuzz: all
+	tools/fuzz/run ./timers $(MINUTES)
 
 soak:
 	cd crates/timer_soak && rt run
@@ -53,4 +64,4 @@ clean:
 	rm -rf crates/*/out build timers
 	$(MAKE) -C bench clean
 
-.PHONY: all run test lib install uninstall bench bench-lines soak clean
+.PHONY: all run test lib install uninstall bench bench-lines hostile fuzz soak clean

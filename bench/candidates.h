@@ -28,3 +28,6 @@ CANDIDATE_ROW(timers_bench_hier, "timers-hier", ANY, true, 0, MANY, ALL)
 CANDIDATE_ROW(timers_bench_hier_stop_start, "timers-hier-stop-start", ANY, true, 0, MANY, PUSHES)
 CANDIDATE_ROW(timers_bench_hashed, "timers-hash-64k", TICK_BY_TICK, true, 65536, MANY, ALL)
 #endif
+#ifdef WITH_TIMERS_C
+CANDIDATE_ROW(run_timers_c, "timers-c", ANY, true, 0, MANY, ALL)
+#endif

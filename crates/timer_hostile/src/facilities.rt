@@ -1,0 +1,171 @@
+//! A facility, where a start or the close is refused for memory.
+ghost use Rattle.std.specs.Prelude.{◌≡◌, [], IfOk, OnOk};
+ghost use Rattle.timer_facility.specs.Opened.{opened};
+ghost use Rattle.timer_facility.specs.Standing.{with_nothing_waiting};
+
+use crate::fault::{Fault, see};
+use std::alloc::Global;
+use timer_base::Wheel;
+use timer_facility::{Answer, CloseFault, Config, Facility, NotTaken, Notice, Reason, Request};
+
+/// The numbers of every scenario's facility.
+pub fn numbers(clients: u64, capacity: u64) -> Config
+    ensures { result ≡ record { clients = clients; capacity = capacity; first_tick = 0; first_serial = 1; first_number = 1 } }
+{
+    Config {
+        clients,
+        capacity,
+        first_tick: 0,
+        first_serial: 1,
+        first_number: 1,
+    }
+}
+
+/// What the readers show.
+#[derive(Clone, Copy, PartialEq, Eq)]
+struct Shown {
+    now: u64,
+    pending: usize,
+    pending_of: [usize; 2],
+    next_serial: u64,
+    next_numbers: [Option<u64>; 2],
+    is_closed: bool,
+}
+
+fn readers_of<W: Wheel + Drop>(facility: &Facility<W>) -> Shown
+    requires { facility.now.waiting ≡ [] }
+{
+    Shown {
+        now: facility.now(),
+        pending: facility.pending(),
+        pending_of: [facility.pending_of(0), facility.pending_of(1)],
+        next_serial: facility.next_serial(),
+        next_numbers: [facility.next_number(0), facility.next_number(1)],
+        is_closed: facility.is_closed(),
+    }
+}
+
+/// Goes on only where nothing waits to be handed out.
+fn settle<W: Wheel + Drop>(facility: &Facility<W>) -> Result<(), Fault>
+    ensures { OnOk result (facility.now.waiting ≡ []) }
+{
+    if facility.has_out() {
+        return Err(Fault::Wrong("a timer that waits"));
+    }
+    Ok(())
+}
+
+/// Takes a request, at the second try where the first is refused for memory.
+pub fn take<W: Wheel + Drop>(
+    facility: &mut Facility<W>,
+    client: u64,
+    number: u64,
+    request: Request,
+) -> Result<Result<Answer, NotTaken>, Fault> {
+    for _ in 0..2 {
+        settle(facility)?;
+        let before = readers_of(facility);
+        let taken = facility.take(client, number, request);
+        if taken != Err(NotTaken::OutOfMemory) {
+            return Ok(taken);
+        }
+        settle(facility)?;
+        see(
+            readers_of(facility) == before,
+            "a facility after a refused start",
+        )?;
+    }
+    Err(Fault::RefusedTwice)
+}
+
+/// Closes, at the second try where the first is refused for memory.
+pub fn close<W: Wheel + Drop>(facility: &mut Facility<W>) -> Result<u64, Fault> {
+    for _ in 0..2 {
+        settle(facility)?;
+        let before = readers_of(facility);
+        match facility.close() {
+            Ok(count) => return Ok(count),
+            Err(CloseFault::Closed) => return Err(Fault::Wrong("an open facility")),
+            Err(CloseFault::OutOfMemory) => {}
+        }
+        settle(facility)?;
+        see(
+            readers_of(facility) == before,
+            "a facility after a refused close",
+        )?;
+    }
+    Err(Fault::RefusedTwice)
+}
+
+pub fn tick<W: Wheel + Drop>(facility: &mut Facility<W>) -> Result<(), Fault> {
+    settle(facility)?;
+    see(facility.tick().is_ok(), "a tick")
+}
+
+/// Starts a timer that is accepted under this serial.
+fn start<W: Wheel + Drop>(
+    facility: &mut Facility<W>,
+    client: u64,
+    number: u64,
+    interval: u64,
+    wanted: u64,
+) -> Result<(), Fault> {
+    let request = Request::Start {
+        interval,
+        action: wanted,
+    };
+    match take(facility, client, number, request)? {
+        Ok(Answer::Started { handle, .. }) => see(handle.serial == wanted, "the serial of a start"),
+        _ => Err(Fault::Wrong("a start")),
+    }
+}
+
+/// Goes on only where the timer with this serial is handed out next: by a close, or expired.
+fn see_handed<W: Wheel + Drop>(
+    facility: &mut Facility<W>,
+    serial: u64,
+    by_close: bool,
+) -> Result<(), Fault> {
+    match facility.next_out() {
+        Some(Notice::Returned(timer)) => see(
+            by_close && timer.serial == serial,
+            "what is returned",
+        ),
+        Some(Notice::Expired(timer)) => see(!by_close && timer.serial == serial, "what expired"),
+        None => Err(Fault::Wrong("a timer that isn't handed out")),
+    }
+}
+
+/// Starts up to the capacity, lets one timer expire, and closes.
+pub fn start_and_close<W: Wheel + Drop>(alloc: Global, wheel: W) -> Result<(), Fault>
+    requires pending { (W.state wheel).pending ≡ [] }
+    requires due { (W.state wheel).due ≡ [] }
+    requires now { (W.state wheel).now ≡ 0 }
+    requires serial { (W.state wheel).last_serial ≡ 0 }
+{
+    let Ok(checked) = numbers(2, 4).check() else {
+        return Err(Fault::Wrong("the numbers of a facility"));
+    };
+    let mut facility = Facility::open(alloc, checked, wheel);
+    start(&mut facility, 0, 1, 5, 1)?;
+    start(&mut facility, 1, 1, 3, 2)?;
+    start(&mut facility, 0, 2, 5, 3)?;
+    start(&mut facility, 1, 2, 1, 4)?;
+    let request = Request::Start {
+        interval: 1,
+        action: 0,
+    };
+    let full = take(&mut facility, 0, 3, request)?;
+    see(full == Ok(Answer::Refused(Reason::Full)), "a full facility")?;
+    tick(&mut facility)?;
+    see_handed(&mut facility, 4, false)?;
+    see(close(&mut facility)? == 3, "how many are returned")?;
+    for serial in [2, 1, 3] {
+        see_handed(&mut facility, serial, true)?;
+    }
+    see(facility.next_out().is_none(), "a timer too many")?;
+    see(
+        facility.is_closed() && facility.pending() == 0,
+        "a closed facility",
+    )
+}

@@ -1,0 +1,61 @@
+//! Uses of the library that go on where memory fails them, and handles that name nothing.
+//!
+//!     timer_hostile           plays each scenario, and prints its name
+//!     timer_hostile NAME      plays the one with this name
+//!
+//! A scenario makes a call that may run out of memory a second time where the first was refused, sees that the
+//! refusal changed nothing, and goes on. So it ends in the same way whichever allocation is refused:
+//! tools/refused_growths plays it with the first one refused, then with the second, until it meets none. The exit
+//! status is 1 where an allocation of the scenario's own was refused, and 2 where a call did something else.
+#![tactic(auto)]
+
+mod desks;
+mod facilities;
+mod fault;
+mod handles;
+mod lines;
+mod linked;
+mod played;
+mod scenario;
+mod wheels;
+
+use fault::Fault;
+use scenario::{SCENARIOS, play};
+use std::env;
+use std::process::ExitCode;
+use std::sync::Wait;
+
+/// Plays the scenarios with this name, or all of them.
+fn play_named(
+    rt: &(impl AllocGlobal + Wait + Print + Eprint),
+    wanted: Option<&str>,
+) -> Result<(), Fault> {
+    for (name, scenario) in SCENARIOS {
+        if wanted.is_none() || wanted == Some(name) {
+            if play(rt, scenario)? {
+                let _ = eprintln!(rt; "held");
+            }
+            let _ = println!(rt; "{name}");
+        }
+    }
+    Ok(())
+}
+
+fn main(rt: HostRuntime) -> ExitCode {
+    let played = match env::args(&rt) {
+        Ok(words) => play_named(&rt, words.skip(1).next().as_deref()),
+        Err(_) => Err(Fault::OutOfMemory),
+    };
+    let status = match played {
+        Ok(()) => 0,
+        Err(Fault::OutOfMemory) => {
+            let _ = eprintln!(rt; "out of memory");
+            1
+        }
+        Err(fault) => {
+            let _ = eprintln!(rt; "{fault:?}");
+            2
+        }
+    };
+    ExitCode::from(status)
+}

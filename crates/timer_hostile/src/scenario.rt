@@ -1,0 +1,141 @@
+//! The scenarios under their names.
+use crate::desks::{By, close_in_memory, close_over_locks, close_over_rings, hold_over_tick};
+use crate::facilities::start_and_close;
+use crate::fault::Fault;
+use crate::handles::use_strange_handles;
+use crate::lines::{use_locked_line, use_memory_line, use_ring_line};
+use crate::linked::push_a_hundred;
+use crate::played::{play_close, play_migration, play_stop_middle};
+use crate::wheels::{hashed, hier, list_a_few, plain, start_a_hundred};
+use std::alloc::Global;
+use std::sync::Wait;
+use timer_wheels::Table;
+
+/// The wheel of a scenario.
+#[derive(Clone, Copy)]
+pub enum Kind {
+    Plain,
+    Hashed(usize),
+    Hier(Table),
+}
+
+/// What is played.
+#[derive(Clone, Copy)]
+pub enum Scenario {
+    /// A hundred pushes to so many lists.
+    Pushes(usize),
+    Starts(Kind),
+    Lists(Kind),
+    Facility(Kind),
+    Migration,
+    StopMiddle,
+    Close,
+    MemoryLine,
+    LockedLine,
+    RingLine,
+    DeskInMemory(By),
+    DeskOverLocks(By),
+    DeskOverRings(By),
+    HeldOverTick(By),
+    Handles(Kind),
+}
+
+const EIGHT: Kind = Kind::Hashed(8);
+
+const WIDE: Kind = Kind::Hier(Table::Wide);
+
+const CLOCK: Kind = Kind::Hier(Table::Clock);
+
+/// Each scenario with its name.
+pub const SCENARIOS: [(&str, Scenario); 35] = [
+    ("pushes-9", Scenario::Pushes(9)),
+    ("pushes-257", Scenario::Pushes(257)),
+    ("pushes-641", Scenario::Pushes(641)),
+    ("pushes-245", Scenario::Pushes(245)),
+    ("starts-plain", Scenario::Starts(Kind::Plain)),
+    ("starts-hashed-8", Scenario::Starts(EIGHT)),
+    ("starts-hashed-256", Scenario::Starts(Kind::Hashed(256))),
+    ("starts-hier", Scenario::Starts(WIDE)),
+    ("starts-clock", Scenario::Starts(CLOCK)),
+    ("lists-plain", Scenario::Lists(Kind::Plain)),
+    ("lists-hashed", Scenario::Lists(EIGHT)),
+    ("lists-hier", Scenario::Lists(WIDE)),
+    ("lists-clock", Scenario::Lists(CLOCK)),
+    ("facility-plain", Scenario::Facility(Kind::Plain)),
+    ("facility-hashed", Scenario::Facility(EIGHT)),
+    ("facility-hier", Scenario::Facility(WIDE)),
+    ("facility-clock", Scenario::Facility(CLOCK)),
+    ("migration", Scenario::Migration),
+    ("stop-middle", Scenario::StopMiddle),
+    ("close", Scenario::Close),
+    ("memory-line", Scenario::MemoryLine),
+    ("locked-line", Scenario::LockedLine),
+    ("ring-line", Scenario::RingLine),
+    ("memory-by-calls", Scenario::DeskInMemory(By::Call)),
+    ("memory-by-turns", Scenario::DeskInMemory(By::Turn)),
+    ("locks-by-calls", Scenario::DeskOverLocks(By::Call)),
+    ("locks-by-turns", Scenario::DeskOverLocks(By::Turn)),
+    ("rings-by-calls", Scenario::DeskOverRings(By::Call)),
+    ("rings-by-turns", Scenario::DeskOverRings(By::Turn)),
+    ("held-over-tick", Scenario::HeldOverTick(By::Call)),
+    ("held-by-turns", Scenario::HeldOverTick(By::Turn)),
+    ("handles-plain", Scenario::Handles(Kind::Plain)),
+    ("handles-hashed", Scenario::Handles(EIGHT)),
+    ("handles-hier", Scenario::Handles(WIDE)),
+    ("handles-clock", Scenario::Handles(CLOCK)),
+];
+
+/// Plays a scenario. Returns whether a request was held at a desk.
+pub fn play<R: AllocGlobal + Wait>(rt: &R, scenario: Scenario) -> Result<bool, Fault> {
+    let alloc = rt.alloc();
+    match scenario {
+        Scenario::Pushes(lists) => push_a_hundred(alloc, lists)?,
+        Scenario::Starts(kind) => starts(alloc, kind)?,
+        Scenario::Lists(kind) => lists(alloc, kind)?,
+        Scenario::Facility(kind) => facility(alloc, kind)?,
+        Scenario::Migration => play_migration(alloc)?,
+        Scenario::StopMiddle => play_stop_middle(alloc)?,
+        Scenario::Close => play_close(alloc)?,
+        Scenario::MemoryLine => use_memory_line(alloc)?,
+        Scenario::LockedLine => use_locked_line(rt, alloc)?,
+        Scenario::RingLine => use_ring_line(alloc)?,
+        Scenario::DeskInMemory(by) => close_in_memory(alloc, by)?,
+        Scenario::DeskOverLocks(by) => close_over_locks(rt, alloc, by)?,
+        Scenario::DeskOverRings(by) => close_over_rings(alloc, by)?,
+        Scenario::HeldOverTick(by) => return hold_over_tick(alloc, by),
+        Scenario::Handles(kind) => handles(alloc, kind)?,
+    }
+    Ok(false)
+}
+
+fn starts(alloc: Global, kind: Kind) -> Result<(), Fault> {
+    match kind {
+        Kind::Plain => start_a_hundred(&mut plain(alloc)?),
+        Kind::Hashed(slots) => start_a_hundred(&mut hashed(alloc, slots)?),
+        Kind::Hier(table) => start_a_hundred(&mut hier(alloc, table)?),
+    }
+}
+
+fn lists(alloc: Global, kind: Kind) -> Result<(), Fault> {
+    match kind {
+        Kind::Plain => list_a_few(&mut plain(alloc)?),
+        Kind::Hashed(slots) => list_a_few(&mut hashed(alloc, slots)?),
+        Kind::Hier(table) => list_a_few(&mut hier(alloc, table)?),
+    }
+}
+
+fn facility(alloc: Global, kind: Kind) -> Result<(), Fault> {
+    match kind {
+        Kind::Plain => start_and_close(alloc, plain(alloc)?),
+        Kind::Hashed(slots) => start_and_close(alloc, hashed(alloc, slots)?),
+        Kind::Hier(table) => start_and_close(alloc, hier(alloc, table)?),
+    }
+}
+
+fn handles(alloc: Global, kind: Kind) -> Result<(), Fault> {
+    match kind {
+        Kind::Plain => use_strange_handles(alloc, plain(alloc)?),
+        Kind::Hashed(slots) => use_strange_handles(alloc, hashed(alloc, slots)?),
+        Kind::Hier(table) => use_strange_handles(alloc, hier(alloc, table)?),
+    }
+}

@@ -1,0 +1,162 @@
+//! Wheels of each scheme, where a start or a list is refused.
+ghost use Rattle.std.specs.Prelude.{◌≡◌, ◌≤◌, [], IfOk, length};
+ghost use Rattle.timer_base.specs.declared.limits.TheConstants.{LAST};
+ghost use Rattle.timer_base.specs.declared.plain.PlainWheel.{PlainWheel};
+ghost use Rattle.timer_base.specs.WheelState.{empty_wheel};
+ghost use Rattle.timer_wheels.specs.declared.hashed.HashedWheel.{HashedWheel};
+ghost use Rattle.timer_wheels.specs.declared.hier.HierWheel.{HierWheel};
+ghost use Rattle.timer_wheels.specs.Tables.{last_of_table};
+
+use crate::fault::{Fault, see};
+use std::alloc::Global;
+use timer_base::{LAST, OutOfMemory, PlainWheel, Timer, Wheel};
+use timer_wheels::{HashedWheel, HierWheel, Table};
+
+/// How many timers a scenario starts: one less than a prime number.
+const STARTS: u64 = 100;
+
+/// The plain wheel, which takes no memory.
+pub fn plain(alloc: Global) -> Result<PlainWheel, Fault>
+    ensures { IfOk result (λ wheel. ⟦<PlainWheel as Wheel>⟧.state wheel ≡ empty_wheel LAST 0) }
+{
+    PlainWheel::new(alloc, 0).map_err(|_| Fault::Wrong("the plain wheel"))
+}
+
+/// A hashed wheel, at the second try where the first is refused.
+pub fn hashed(alloc: Global, slots: usize) -> Result<HashedWheel, Fault>
+    ensures { IfOk result (λ wheel. ⟦<HashedWheel as Wheel>⟧.state wheel ≡ empty_wheel LAST 0) }
+{
+    for _ in 0..2 {
+        if let Ok(wheel) = HashedWheel::new(alloc, slots, 0) {
+            return Ok(wheel);
+        }
+    }
+    Err(Fault::RefusedTwice)
+}
+
+/// A hierarchy of wheels, at the second try where the first is refused.
+pub fn hier(alloc: Global, table: Table) -> Result<HierWheel, Fault>
+    ensures { IfOk result (λ wheel. ⟦<HierWheel as Wheel>⟧.state wheel ≡ empty_wheel (last_of_table table) 0) }
+{
+    for _ in 0..2 {
+        if let Ok(wheel) = HierWheel::with_table(alloc, table, 0) {
+            return Ok(wheel);
+        }
+    }
+    Err(Fault::RefusedTwice)
+}
+
+/// The deadline of the timer with this serial. Of a hundred timers each has another one, from 1 to 100,
+/// and they don't come in order of starting.
+fn deadline_of(serial: u64) -> u64 {
+    serial.wrapping_mul(37) % (STARTS + 1)
+}
+
+/// The pending timers, at the second try where the first is refused.
+fn list<W: Wheel>(wheel: &W) -> Result<Vec<Timer>, Fault> {
+    for _ in 0..2 {
+        if let Ok(timers) = wheel.list() {
+            return Ok(timers);
+        }
+    }
+    Err(Fault::RefusedTwice)
+}
+
+/// Goes on only where the timers with the serials from 1 to `last` are pending, and no others.
+fn see_pending<W: Wheel>(wheel: &W, last: u64) -> Result<(), Fault> {
+    let shown = (
+        wheel.now(),
+        wheel.last_serial(),
+        wheel.len() as u64,
+        wheel.has_due(),
+    );
+    see(shown == (0, last, last, false), "a wheel's readers")?;
+    let timers = list(wheel)?;
+    see(timers.len() as u64 == last, "how many timers are listed")?;
+    let mut before = 0;
+    for timer in &timers {
+        see(before < timer.deadline, "the order of a list")?;
+        see(timer.serial <= last, "a serial in a list")?;
+        see(
+            timer.deadline == deadline_of(timer.serial),
+            "a deadline in a list",
+        )?;
+        before = timer.deadline;
+    }
+    Ok(())
+}
+
+/// Starts the next timer. False where that is refused.
+fn try_start<W: Wheel>(wheel: &mut W) -> Result<bool, Fault> {
+    let last = wheel.last_serial();
+    if last >= LAST {
+        return Err(Fault::Wrong("the serials"));
+    }
+    let deadline = deadline_of(last + 1);
+    if wheel.now() >= deadline || deadline > wheel.last_tick() {
+        return Err(Fault::Wrong("the clock"));
+    }
+    let timer = Timer {
+        serial: last + 1,
+        client: 7,
+        number: 3,
+        deadline,
+        action: last,
+    };
+    match wheel.start(timer) {
+        Ok(handle) => {
+            see(wheel.look(handle) == Some(timer), "a started timer")?;
+            Ok(true)
+        }
+        Err(OutOfMemory) => {
+            see_pending(wheel, last)?;
+            Ok(false)
+        }
+    }
+}
+
+fn start<W: Wheel>(wheel: &mut W) -> Result<(), Fault> {
+    for _ in 0..2 {
+        if try_start(wheel)? {
+            return Ok(());
+        }
+    }
+    Err(Fault::RefusedTwice)
+}
+
+/// Goes to the next tick, at which just one timer expires.
+fn expire_at_next_tick<W: Wheel>(wheel: &mut W) -> Result<(), Fault> {
+    if wheel.has_due() || wheel.now() >= wheel.last_tick() {
+        return Err(Fault::Wrong("a tick"));
+    }
+    wheel.per_tick();
+    let Some(timer) = wheel.expire() else {
+        return Err(Fault::Wrong("a timer that didn't expire"));
+    };
+    see(timer.deadline == wheel.now(), "the tick of a timer")?;
+    see(
+        timer.deadline == deadline_of(timer.serial),
+        "the deadline of a timer",
+    )?;
+    see(wheel.expire().is_none(), "a timer too many")
+}
+
+/// Starts a hundred timers, and lets each of them expire.
+pub fn start_a_hundred<W: Wheel>(wheel: &mut W) -> Result<(), Fault> {
+    for _ in 0..STARTS {
+        start(wheel)?;
+    }
+    for _ in 0..STARTS {
+        expire_at_next_tick(wheel)?;
+    }
+    see(wheel.len() == 0 && wheel.now() == STARTS, "the end")
+}
+
+/// Starts a few timers, and lists them.
+pub fn list_a_few<W: Wheel>(wheel: &mut W) -> Result<(), Fault> {
+    for last in 1..=5 {
+        start(wheel)?;
+        see_pending(wheel, last)?;
+    }
+    Ok(())
+}

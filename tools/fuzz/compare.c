@@ -1,0 +1,130 @@
+/* compare PROGRAM < SCRIPT   plays a script by the program, under several options, and by the model
+ *
+ * Status 0 where all agree in the text, the fault and the status. Otherwise it says where they differ, and
+ * aborts, so that a fuzzer keeps the script. Built by an instrumenting compiler, the model shows the fuzzer
+ * which scripts are new. */
+#define _GNU_SOURCE
+#include "model.h"
+
+#include <fcntl.h>
+#include <spawn.h>
+#include <stdio.h>
+#include <stdlib.h>
+#include <string.h>
+#include <sys/mman.h>
+#include <sys/stat.h>
+#include <sys/wait.h>
+#include <unistd.h>
+
+extern char **environ;
+
+struct run {
+	const char *arguments[12];
+	struct options options;
+};
+
+/* Small limits, both ends of the clock, one bucket and many. */
+static const struct run RUNS[] = {
+	{{"play", "--scheme", "plain"}, {64, 1024, 0, LAST}},
+	{{"play", "--scheme", "hier"}, {64, 1024, 0, LAST}},
+	{{"play", "--scheme", "hashed", "--slots", "1", "--capacity", "3", "--clients", "2"}, {2, 3, 0, LAST}},
+	{{"play", "--scheme", "hier", "--first-tick", "1152921504606846900"}, {64, 1024, LAST - 75, LAST}},
+	{{"play", "--scheme", "hashed", "--slots", "8", "--first-tick", "4090"}, {64, 1024, 4090, LAST}},
+	{{"play", "--scheme", "clock", "--first-tick", "8639000", "--capacity", "5"}, {64, 5, 8639000, LAST_OF_CLOCK}},
+};
+
+static void fail(const char *what)
+{
+	perror(what);
+	exit(3);
+}
+
+static int file_in_memory(const char *name)
+{
+	int fd = memfd_create(name, 0);
+	if (fd < 0)
+		fail("memfd_create");
+	return fd;
+}
+
+/* What the file has, which is `len` bytes. */
+static char *whole(int fd, size_t *len)
+{
+	struct stat of;
+	if (fstat(fd, &of))
+		fail("fstat");
+	*len = (size_t)of.st_size;
+	char *bytes = malloc(*len + 1);
+	if (!bytes || pread(fd, bytes, *len, 0) != (ssize_t)*len)
+		fail("pread");
+	return bytes;
+}
+
+static int run(const char *program, const struct run *how, int in, int out, int err)
+{
+	char *words[14] = {(char *)program};
+	for (int i = 0; how->arguments[i]; i++)
+		words[i + 1] = (char *)how->arguments[i];
+	posix_spawn_file_actions_t actions;
+	posix_spawn_file_actions_init(&actions);
+	posix_spawn_file_actions_adddup2(&actions, in, 0);
+	posix_spawn_file_actions_adddup2(&actions, out, 1);
+	posix_spawn_file_actions_adddup2(&actions, err, 2);
+	pid_t child;
+	int status;
+	if (lseek(in, 0, SEEK_SET) || ftruncate(out, 0) || lseek(out, 0, SEEK_SET) || ftruncate(err, 0) || lseek(err, 0, SEEK_SET))
+		fail("lseek");
+	if (posix_spawn(&child, program, &actions, NULL, words, environ))
+		fail("posix_spawn");
+	posix_spawn_file_actions_destroy(&actions);
+	if (waitpid(child, &status, 0) != child)
+		fail("waitpid");
+	return WIFEXITED(status) ? WEXITSTATUS(status) : 1000 + WTERMSIG(status);
+}
+
+static void differ(const struct run *how, const char *what)
+{
+	fprintf(stderr, "differs in %s:", what);
+	for (int i = 0; how->arguments[i]; i++)
+		fprintf(stderr, " %s", how->arguments[i]);
+	fprintf(stderr, "\n");
+	abort();
+}
+
+static int same(int fd, const struct text *wanted)
+{
+	size_t len;
+	char *bytes = whole(fd, &len);
+	int is = len == wanted->len && (len == 0 || !memcmp(bytes, wanted->at, len));
+	free(bytes);
+	return is;
+}
+
+int main(int count, char **words)
+{
+	if (count != 2) {
+		fprintf(stderr, "compare PROGRAM < SCRIPT\n");
+		return 2;
+	}
+	int in = file_in_memory("in"), out = file_in_memory("out"), err = file_in_memory("err");
+	char piece[65536];
+	for (ssize_t n; (n = read(0, piece, sizeof piece)) != 0;)
+		if (n < 0 || write(in, piece, (size_t)n) != n)
+			fail("read");
+	size_t len;
+	char *script = whole(in, &len);
+	for (size_t i = 0; i < sizeof RUNS / sizeof *RUNS; i++) {
+		struct answer wanted = play(script, len, RUNS[i].options);
+		int status = run(words[1], &RUNS[i], in, out, err);
+		if (status != wanted.status)
+			differ(&RUNS[i], "the status");
+		if (!same(out, &wanted.output))
+			differ(&RUNS[i], "the text");
+		if (!same(err, &wanted.faults))
+			differ(&RUNS[i], "the fault");
+		free(wanted.output.at);
+		free(wanted.faults.at);
+	}
+	free(script);
+	return 0;
+}

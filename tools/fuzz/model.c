@@ -1,0 +1,267 @@
+/* The program once more: one ordered list of pending timers, and nothing of the product's design. */
+#include "model.h"
+
+#include <inttypes.h>
+#include <stdarg.h>
+#include <stdbool.h>
+#include <stdio.h>
+#include <stdlib.h>
+#include <string.h>
+
+enum kind { START, STOP, RESTART, TICKS, CLOSE };
+
+struct event {
+	enum kind kind;
+	uint64_t client, number, serial, interval, action, count;
+};
+
+struct timer {
+	uint64_t serial, client, deadline, action;
+};
+
+struct facility {
+	struct options is;
+	uint64_t now, next_serial, numbers[MOST_CLIENTS];
+	bool closed;
+	struct timer *pending; /* by deadline, then serial */
+	size_t len;
+};
+
+static void add(struct text *text, const char *format, ...)
+{
+	char line[200];
+	va_list arguments;
+	va_start(arguments, format);
+	size_t len = (size_t)vsnprintf(line, sizeof line, format, arguments);
+	va_end(arguments);
+	if (text->len + len > text->room) {
+		text->room = 2 * text->room + 4096;
+		text->at = realloc(text->at, text->room);
+		if (!text->at)
+			exit(3);
+	}
+	memcpy(text->at + text->len, line, len);
+	text->len += len;
+}
+
+/* A number at the front of `*at`: digits, no leading zero, at most LAST. */
+static bool number(const char **at, const char *end, uint64_t *value)
+{
+	const char *first = *at;
+	*value = 0;
+	while (*at < end && **at >= '0' && **at <= '9') {
+		*value = *value * 10 + (uint64_t)(**at - '0');
+		if (*value > LAST)
+			return false;
+		++*at;
+	}
+	return *at > first && (*first != '0' || *at == first + 1);
+}
+
+static bool word(const char **at, const char *end, const char *word)
+{
+	size_t len = strlen(word);
+	if ((size_t)(end - *at) < len || memcmp(*at, word, len))
+		return false;
+	*at += len;
+	return true;
+}
+
+static bool fields(const char **at, const char *end, uint64_t **values, int count)
+{
+	for (int i = 0; i < count; i++)
+		if ((i > 0 && !word(at, end, " ")) || !number(at, end, values[i]))
+			return false;
+	return true;
+}
+
+/* A line without its line feed. */
+static bool line(const char *at, const char *end, struct event *e)
+{
+	bool well = false;
+	if (word(&at, end, "start ")) {
+		e->kind = START;
+		well = fields(&at, end, (uint64_t *[]){&e->client, &e->number, &e->interval, &e->action}, 4);
+	} else if (word(&at, end, "stop ")) {
+		e->kind = STOP;
+		well = fields(&at, end, (uint64_t *[]){&e->client, &e->number, &e->serial}, 3);
+	} else if (word(&at, end, "restart ")) {
+		e->kind = RESTART;
+		well = fields(&at, end, (uint64_t *[]){&e->client, &e->number, &e->serial, &e->interval, &e->action}, 5);
+	} else if (word(&at, end, "tick ")) {
+		e->kind = TICKS;
+		well = number(&at, end, &e->count) && e->count >= 1 && e->count <= 1000000;
+	} else if (word(&at, end, "close")) {
+		e->kind = CLOSE;
+		well = true;
+	}
+	return well && at == end;
+}
+
+static void insert(struct facility *f, struct timer timer)
+{
+	size_t i = f->len++;
+	while (i > 0 && f->pending[i - 1].deadline > timer.deadline) {
+		f->pending[i] = f->pending[i - 1];
+		i--;
+	}
+	f->pending[i] = timer;
+}
+
+/* Cuts the first `count` pending timers. */
+static void cut(struct facility *f, size_t from, size_t count)
+{
+	f->len -= count;
+	memmove(f->pending + from, f->pending + from + count, (f->len - from) * sizeof *f->pending);
+}
+
+/* The place of the client's pending timer with this serial, or `len`. */
+static size_t named(const struct facility *f, uint64_t client, uint64_t serial)
+{
+	size_t i = 0;
+	while (i < f->len && (f->pending[i].serial != serial || f->pending[i].client != client))
+		i++;
+	return i;
+}
+
+static const char *not_taken(const struct facility *f, const struct event *e)
+{
+	if (f->closed)
+		return "closed";
+	if (e->client >= f->is.clients)
+		return "no-client";
+	if (e->number < f->numbers[e->client])
+		return "repeated";
+	if (f->numbers[e->client] > LAST)
+		return "numbers-spent";
+	if (e->number > f->numbers[e->client])
+		return "ahead";
+	return NULL;
+}
+
+static const char *refused(const struct facility *f, const struct event *e)
+{
+	if (e->kind != START && named(f, e->client, e->serial) == f->len)
+		return "no-such";
+	if (e->kind == STOP)
+		return NULL;
+	if (e->interval == 0)
+		return "zero-interval";
+	if (e->interval > f->is.last_tick - f->now)
+		return "too-late";
+	if (f->next_serial > LAST)
+		return "serials-spent";
+	if (e->kind == START && f->len == f->is.capacity)
+		return "full";
+	return NULL;
+}
+
+static void request(struct facility *f, const struct event *e, struct text *out)
+{
+	const char *why = not_taken(f, e);
+	if (!why) {
+		f->numbers[e->client]++;
+		why = refused(f, e);
+	}
+	if (why) {
+		add(out, "refused %" PRIu64 " %" PRIu64 " %s\n", e->client, e->number, why);
+		return;
+	}
+	if (e->kind != START)
+		cut(f, named(f, e->client, e->serial), 1);
+	if (e->kind == STOP) {
+		add(out, "stopped %" PRIu64 " %" PRIu64 " %" PRIu64 "\n", e->client, e->number, e->serial);
+		return;
+	}
+	struct timer timer = {f->next_serial++, e->client, f->now + e->interval, e->action};
+	insert(f, timer);
+	add(out, "%s %" PRIu64 " %" PRIu64 " ", e->kind == START ? "started" : "restarted", e->client, e->number);
+	if (e->kind == RESTART)
+		add(out, "%" PRIu64 " ", e->serial);
+	add(out, "%" PRIu64 " %" PRIu64 "\n", timer.serial, timer.deadline);
+}
+
+static void ticks(struct facility *f, uint64_t count, struct text *out)
+{
+	if (f->closed) {
+		add(out, "tick refused closed\n");
+		return;
+	}
+	uint64_t left = f->is.last_tick - f->now;
+	f->now += count < left ? count : left;
+	size_t due = 0;
+	for (; due < f->len && f->pending[due].deadline <= f->now; due++) {
+		const struct timer *t = &f->pending[due];
+		add(out, "expired %" PRIu64 " %" PRIu64 " %" PRIu64 " %" PRIu64 "\n", t->deadline, t->client, t->serial, t->action);
+	}
+	cut(f, 0, due);
+	if (count > left)
+		add(out, "tick refused clock-end\n");
+}
+
+static void close_all(struct facility *f, struct text *out)
+{
+	if (f->closed) {
+		add(out, "close refused closed\n");
+		return;
+	}
+	f->closed = true;
+	add(out, "closed %zu\n", f->len);
+	for (size_t i = 0; i < f->len; i++) {
+		const struct timer *t = &f->pending[i];
+		add(out, "returned %" PRIu64 " %" PRIu64 " %" PRIu64 " %" PRIu64 "\n", t->client, t->serial, t->deadline, t->action);
+	}
+	f->len = 0;
+}
+
+static void one(struct facility *f, const struct event *e, struct text *out)
+{
+	if (e->kind == TICKS)
+		ticks(f, e->count, out);
+	else if (e->kind == CLOSE)
+		close_all(f, out);
+	else
+		request(f, e, out);
+}
+
+static struct answer fault(struct answer answer, const char *what, uint64_t line)
+{
+	answer.output.len = 0;
+	answer.status = 1;
+	if (line)
+		add(&answer.faults, "%s %" PRIu64 "\n", what, line);
+	else
+		add(&answer.faults, "%s\n", what);
+	return answer;
+}
+
+struct answer play(const char *script, size_t len, struct options options)
+{
+	struct answer answer = {0};
+	struct facility f = {.is = options, .now = options.first_tick, .next_serial = 1};
+	for (int i = 0; i < MOST_CLIENTS; i++)
+		f.numbers[i] = 1;
+	f.pending = malloc((options.capacity + 1) * sizeof *f.pending);
+	if (!f.pending)
+		exit(3);
+	if (len > 1048576) {
+		answer = fault(answer, "too long", 0);
+	} else {
+		uint64_t lines = 0;
+		for (const char *at = script, *end = script + len; at < end;) {
+			const char *feed = memchr(at, '\n', (size_t)(end - at));
+			struct event e = {0};
+			lines++;
+			if (!feed || !line(at, feed, &e)) {
+				answer = fault(answer, "bad line", lines);
+				break;
+			}
+			one(&f, &e, &answer.output);
+			at = feed + 1;
+		}
+		if (answer.status == 0)
+			add(&answer.output, "end %" PRIu64 " %zu\n", f.now, f.len);
+	}
+	free(f.pending);
+	return answer;
+}

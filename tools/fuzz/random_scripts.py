@@ -1,0 +1,106 @@
+#!/usr/bin/env python3
+"""random_scripts.py COMPARE PROGRAM SECONDS [SEED]   random scripts against the model
+
+Most lines are such as a client would send, so that timers start, move, expire and are restarted; one in ten
+is wrong in some way. Each script goes to COMPARE, which plays it with every scheme. A script at which they
+differ is kept in the present folder, and the run ends with status 1. The last line is 'N scripts, M lines'.
+"""
+import random
+import subprocess
+import sys
+import time
+
+LAST = 1152921504606846975
+EDGES = [0, 1, 2, 59, 60, 63, 64, 65, 3599, 3600, 4095, 4096, 4097, 86400, 262144, 8639999, 10**6, 10**6 + 1, LAST - 1, LAST]
+
+
+class Client:
+    """What a client of the script believes: its next number, and the serials that may be its own."""
+
+    def __init__(self, chance):
+        self.chance = chance
+        self.number = 1
+        self.serials = []
+
+
+class Script:
+    def __init__(self, seed):
+        self.chance = random.Random(seed)
+        self.clients = [Client(self.chance) for _ in range(self.chance.choice([1, 2, 2, 5, 64]))]
+        self.serial = 1
+        self.scale = self.chance.choice([4, 64, 300, 5000, 300000])
+        self.lines = []
+
+    def interval(self):
+        if self.chance.random() < 0.1:
+            return self.chance.choice(EDGES)
+        return self.chance.randint(1, self.scale)
+
+    def number(self, client):
+        if self.chance.random() < 0.03:
+            return self.chance.choice([0, client.number - 1, client.number + 1, *EDGES])
+        client.number += 1
+        return client.number - 1
+
+    def old(self, client):
+        if not client.serials or self.chance.random() < 0.1:
+            return self.chance.choice([0, self.serial, max(0, self.serial - 1), *EDGES])
+        return self.chance.choice(client.serials[-20:])
+
+    def request(self):
+        c = self.chance.randrange(len(self.clients))
+        client = self.clients[c]
+        if self.chance.random() < 0.02:
+            c = self.chance.choice([2, 63, 64, LAST])
+        number, kind = self.number(client), self.chance.random()
+        if kind < 0.55:
+            self.lines.append(f"start {c} {number} {self.interval()} {self.chance.randint(0, 9)}")
+        elif kind < 0.75:
+            self.lines.append(f"stop {c} {number} {self.old(client)}")
+            return
+        else:
+            self.lines.append(f"restart {c} {number} {self.old(client)} {self.interval()} {self.chance.randint(0, 9)}")
+        client.serials.append(self.serial)
+        self.serial += 1
+
+    def text(self):
+        length = self.chance.choice([3, 10, 40, 200, 1500])
+        while len(self.lines) < length:
+            kind = self.chance.random()
+            if kind < 0.8:
+                self.request()
+            elif kind < 0.999:
+                self.lines.append(f"tick {min(10**6, max(1, self.interval()))}")
+            else:
+                self.lines.append("close")
+        if self.chance.random() < 0.1:
+            at = self.chance.randrange(len(self.lines))
+            self.lines[at] = self.spoiled(self.lines[at])
+        text = "".join(f"{line}\n" for line in self.lines).encode()
+        return text[: self.chance.randrange(len(text))] if self.chance.random() < 0.05 else text
+
+    def spoiled(self, line):
+        at = self.chance.randrange(len(line) + 1)
+        what = self.chance.choice(["", " ", "\t", "\r", "0", "9", "x", "\n", "-", "99999999999999999999"])
+        return line[:at] + what + line[at + self.chance.choice([0, 1]) :]
+
+
+def main():
+    compare, program, seconds = sys.argv[1], sys.argv[2], float(sys.argv[3])
+    seed = int(sys.argv[4]) if len(sys.argv) > 4 else 1
+    end, scripts, lines = time.monotonic() + seconds, 0, 0
+    while time.monotonic() < end:
+        text = Script(seed + scripts).text()
+        ran = subprocess.run([compare, program], input=text, stderr=subprocess.PIPE)
+        if ran.returncode:
+            kept = f"script-{seed + scripts}"
+            with open(kept, "wb") as file:
+                file.write(text)
+            sys.stderr.write(f"{kept}: {ran.stderr.decode(errors='replace')}")
+            sys.exit(1)
+        scripts += 1
+        lines += text.count(b"\n")
+    print(f"{scripts} scripts, {lines} lines")
+
+
+main()
