@@ -3,3 +3,4 @@ pub mod Lines
 pub mod Scripts
 pub mod Known
 pub mod BareText
+pub mod Playing
