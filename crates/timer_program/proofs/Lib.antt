@@ -4,3 +4,5 @@ pub mod Scripts
 pub mod Known
 pub mod BareText
 pub mod Playing
+pub mod LineFeeds
+pub mod Sessions

@@ -1,6 +1,8 @@
 pub mod Lines
 pub mod Script
 pub mod Text
+pub mod Cutting
+pub mod Session
 pub mod Reading
 pub mod Writing
 pub mod Faults

@@ -34,6 +34,20 @@ impl<T: Drop> From<AllocFailed<T>> for ScriptFault {
     }
 }
 
+/// Why a session took no more bytes.
+#[derive(Clone, Copy, Debug, PartialEq, Eq, Error)]
+pub enum SessionFault {
+    /// The first bad line, counted from 1.
+    #[error("bad line {line}")]
+    Bad { line: u64 },
+    /// An allocation failed. The session goes on.
+    #[error("out of memory")]
+    OutOfMemory,
+    /// The end line was written before.
+    #[error("ended")]
+    Ended,
+}
+
 /// Why a run ended early. Its text is the line that the user is shown.
 #[derive(Clone, Copy, Debug, PartialEq, Eq, Error)]
 pub enum RunFault {

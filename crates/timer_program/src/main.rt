@@ -14,6 +14,7 @@ mod asked;
 mod clients;
 #[cfg(test)]
 mod clients_tests;
+mod cutting;
 mod fault;
 #[cfg(test)]
 mod handle_tests;
@@ -33,6 +34,8 @@ mod schemes;
 mod script;
 #[cfg(test)]
 mod script_tests;
+mod session;
+mod stage;
 #[cfg(test)]
 mod stream_tests;
 #[cfg(test)]
