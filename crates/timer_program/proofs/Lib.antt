@@ -6,3 +6,5 @@ pub mod BareText
 pub mod Playing
 pub mod LineFeeds
 pub mod Sessions
+pub mod Talks
+pub mod Servings

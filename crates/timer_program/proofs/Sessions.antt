@@ -5,16 +5,18 @@ use Rattle.std.specs.List.{AllByRecursion}
 use Rattle.std.proofs.lemmas.Grind.{flat_map-append}
 use Rattle.timer_facility.specs.declared.event.Event.{Event}
 use Rattle.timer_facility.specs.Played.{IsRun, AddsRun}
-use Rattle.timer_facility.proofs.PlayedLemmas.{IsRun-none, IsRun-join}
-use Rattle.timer_program.specs.Script.{IsInRange, line, spelling, BeginsNoLine}
-use Rattle.timer_program.specs.Text.{out_line}
+use Rattle.timer_facility.specs.State.{FacilityState, IsSound}
+use Rattle.timer_facility.proofs.PlayedLemmas.{IsRun-none, IsRun-join, IsPlayed-run}
+use Rattle.timer_program.specs.Script.{IsInRange, IsScript, line, spelling, BeginsNoLine}
+use Rattle.timer_program.specs.Text.{out_line, end_line}
+use Rattle.timer_program.specs.Running.{IsAnswer}
 use Rattle.std.proofs.lemmas.List.{take_rest}
 use Rattle.std.proofs.Math.Seq.{take-add}
 use Rattle.timer_program.specs.declared.fault.SessionFault.{SessionFault}
 use Rattle.timer_program.specs.declared.fault.SessionFault.TheVariants as faults
 use Rattle.timer_program.specs.declared.stage.Stage.{Stage}
 use Rattle.timer_program.specs.declared.stage.Stage.TheVariants.{Going, Failed, Ended}
-use Rattle.timer_program.specs.Session.{SessionState, lines_of, next_line, HasFed, IsKept, IsAnsweredSoFar, HasFailed, IsOver, HasStopped, WhyStopped, WhyNotEnded}
+use Rattle.timer_program.specs.Session.{SessionState, fresh, lines_of, next_line, IsStoppedAt, HasFed, IsKept, IsAnsweredSoFar, HasFailed, IsOver, HasStopped, WhyStopped, WhyNotEnded}
 use Rattle.timer_program.specs.Cutting.{IsPartial, IsBadFront}
 use Rattle.timer_program.proofs.LineFeeds.{no_feed_no_line}
 
@@ -24,7 +26,7 @@ failed_going stage h k = cc
 failed_ended : (stage : Stage) → stage ≡ Failed → stage ≡ Ended → ⊥
 failed_ended stage h k = cc
 
-ended_going : (stage : Stage) → stage ≡ Ended → stage ≡ Going → ⊥
+pub ended_going : (stage : Stage) → stage ≡ Ended → stage ≡ Going → ⊥
 ended_going stage h k = cc
 
 -- ---- one step
@@ -191,3 +193,51 @@ fed_shift a b bytes front x z f = record {
   written = f.written;
   counted = f.counted;
 }
+
+-- the line after those of a session is the first bad one of its bytes
+pub stopped_at : (before : FacilityState) (s : SessionState) (bytes more txt : List ℕ) (n : ℕ) → HasFed (fresh before) bytes [] txt s → s.unwritten ≡ [] → 1 ≤ length (s.held ++ more) → BeginsNoLine (s.held ++ more) → n ≡ next_line s
+    → IsStoppedAt before (bytes ++ more) txt n
+stopped_at before s bytes more txt n fed written some bad counted = record {
+  events = fed.events;
+  rest = s.held ++ more;
+  parts = ap (λ t. t ++ more) fed.parts ∙ append_assoc (spelling fed.events) s.held more;
+  in_range = fed.in_range;
+  some = some;
+  bad = bad;
+  counted = (let h = fed.counted in let k = counted in omega arith);
+  outs = fed.outs;
+  after = s.state;
+  runs = fed.runs;
+  lines = fed.grows ∙ sym (append-nil fed.added) ∙ ap (λ u. fed.added ++ lines_of u) (sym written) ∙ sym fed.written;
+}
+
+pub some_more : (held more : List ℕ) → 1 ≤ length held → 1 ≤ length (held ++ more)
+some_more held more some = let h = length-append held more in omega arith
+
+-- what fed bytes and the end line give is the answer to the events of the bytes
+pub session_answers : (s : FacilityState) (bytes txt : List ℕ) (end : SessionState) → IsSound s → HasFed (fresh s) bytes [] txt end → end.unwritten ≡ [] → end.held ≡ []
+    → (events : List Event) × IsScript events bytes × IsAnswer s events (txt ++ end_line end.state.now (length end.state.pending))
+session_answers s bytes txt end sound fed written whole =
+    let lines : lines_of fed.outs ≡ txt = fed.written ∙ ap (λ u. fed.added ++ lines_of u) written ∙ append-nil fed.added ∙ sym fed.grows in (
+      fed.events,
+      record { lines = fed.parts ∙ ap (λ h. spelling fed.events ++ h) whole ∙ append-nil (spelling fed.events); in_range = fed.in_range },
+      record {
+        outs = fed.outs;
+        after = end.state;
+        played = IsPlayed-run s fed.events fed.outs end.state sound fed.runs;
+        lines = ap (λ t. t ++ end_line end.state.now (length end.state.pending)) (sym lines);
+      },
+    )
+
+-- a line that is not whole at the end is the first bad one
+pub session_not_ended : (s : FacilityState) (bytes txt : List ℕ) (end new : SessionState) (n : ℕ) → HasFed (fresh s) bytes [] txt end → end.unwritten ≡ [] → WhyNotEnded (faults.Bad n) end new → IsStoppedAt s bytes txt n
+session_not_ended s bytes txt end new n fed written why =
+    let is : new ≡ record end { unwritten = [] } = why.3 in
+    let some : 1 ≤ length end.held = subst (λ (x : SessionState). 1 ≤ length x.held) is why.0 in
+    let bad : BeginsNoLine end.held = subst (λ (x : SessionState). BeginsNoLine x.held) is why.1 in
+    subst (λ b. IsStoppedAt s b txt n) (append-nil bytes)
+    (stopped_at s end bytes [] txt n fed written (some_more end.held [] some) (subst BeginsNoLine (sym (append-nil end.held)) bad) (why.2 ∙ ap (λ (x : SessionState). next_line x) is))
+
+-- a bad line that came is the first one, however the bytes go on
+pub session_failed : (s : FacilityState) (bytes more txt : List ℕ) (end : SessionState) (n : ℕ) → HasFed (fresh s) bytes [] txt end → HasFailed n end → IsStoppedAt s (bytes ++ more) txt n
+session_failed s bytes more txt end n fed h = stopped_at s end bytes more txt n fed h.written (some_more end.held more h.bad.some) (h.bad.bad more) h.counted

@@ -7,6 +7,8 @@ pub mod Reading
 pub mod Writing
 pub mod Faults
 pub mod Running
+pub mod Peer
+pub mod Serving
 pub mod Asked
 pub mod Schemes
 pub mod Clients

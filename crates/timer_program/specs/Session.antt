@@ -93,3 +93,17 @@ abbrev pub WhyNotEnded : SessionFault → SessionState → SessionState → Type
 WhyNotEnded (faults.Bad n) old new = (1 ≤ length new.held) × BeginsNoLine new.held × (n ≡ next_line new) × (new ≡ record old { unwritten = [] })
 WhyNotEnded faults.OutOfMemory old new = new.stage ≡ Going
 WhyNotEnded faults.Ended old new = (old.stage ≡ Ended) × (new ≡ old)
+
+-- the n-th line (2^64 - 1 stands for any later one) is the first bad one of the bytes, and the text answers the lines before it
+pub record IsStoppedAt (before : FacilityState) (bytes text : List ℕ) (n : ℕ) : Type 0 where
+  pub events : List Event
+  pub rest : List ℕ
+  pub parts : bytes ≡ spelling events ++ rest
+  pub in_range : AllByRecursion IsInRange events
+  pub some : 1 ≤ length rest
+  pub bad : BeginsNoLine rest
+  pub counted : n ≡ min (length events + 1) (2 ^ 64 - 1)
+  pub outs : List Out
+  pub after : FacilityState
+  pub runs : IsRun before events outs after
+  pub lines : text ≡ lines_of outs
