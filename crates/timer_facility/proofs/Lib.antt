@@ -3,6 +3,8 @@ pub mod CloseSteps
 pub mod TickRuns
 pub mod PlayedLemmas
 pub mod RecordedLemmas
+pub mod SweptLemmas
+pub mod FoundLemmas
 pub mod Counts
 pub mod PendingOf
 pub mod Lists

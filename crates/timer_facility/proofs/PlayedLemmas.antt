@@ -65,6 +65,22 @@ IsRun-more s es e outs outs' c c' a b =
       after_is = b.runs.after_is ∙ ap (λ d. state_after d ys) here ∙ sym (state_after-append s xs ys);
     }
 
+-- a run, and a run that goes on from its end
+pub IsRun-join : (s c d : FacilityState) (es fs : List Event) (outs outs' : List Out) → IsRun s es outs c → IsRun c fs outs' d → IsRun s (es ++ fs) (outs ++ outs') d
+IsRun-join s c d es fs outs outs' a b =
+    let xs : List Placed = a.placed in
+    let ys : List Placed = b.placed in
+    let next : FacilityState = state_after s xs in
+    let here : c ≡ next = a.after_is in
+    record {
+      placed = xs ++ ys;
+      singles = ArePlaced-append s es fs xs ys a.singles (subst (λ d. ArePlaced d fs ys) here b.singles);
+      outs_are = ap (λ os. os ++ outs') a.outs_are ∙ ap (λ os. outs_of (history s xs) ++ os) b.outs_are
+          ∙ ap (λ d. outs_of (history s xs) ++ outs_of (history d ys)) here
+          ∙ sym (outs_of-append (history s xs) (history next ys)) ∙ ap outs_of (sym (history-append s xs ys));
+      after_is = b.after_is ∙ ap (λ d. state_after d ys) here ∙ sym (state_after-append s xs ys);
+    }
+
 pub IsRun-none : (s : FacilityState) → IsRun s [] [] s
 IsRun-none s = record { placed = []; singles = refl; outs_are = refl; after_is = refl }
 

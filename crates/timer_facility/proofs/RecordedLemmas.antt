@@ -1,10 +1,7 @@
--- What the record of places tells of the pending entries.
-use Rattle.std.proofs.Common.{zero, suc, ◌≡◌, ◌<◌, ◌≤◌, ◌+◌, ◌-◌, ℕ, Bool, true, false, ◌==◌, ◌&&◌, List, [], ◌∷◌, ◌++◌, length, refl, sym, ◌∙◌, ap, subst, arith, inl, inr, length-append}
-use Rattle.std.specs.Prelude.{nat_lt, if◌then◌else◌, Option, Some, None, slice_get}
+-- What the record of handles tells of the pending entries.
+use Rattle.std.proofs.Common.{◌≡◌, ◌<◌, ◌+◌, ℕ, zero, suc, Bool, true, false, ◌==◌, ◌&&◌, List, [], ◌∷◌, ◌++◌, refl, sym, ◌∙◌, ap, subst, arith, inl, inr}
+use Rattle.std.specs.Prelude.{nat_lt, if◌then◌else◌, Option, Some, None}
 use Rattle.std.specs.List.{AllByRecursion}
-use Rattle.std.proofs.Math.ListN.{get_or-append}
-use Rattle.std.proofs.Math.Seq.{get_or-append_seam}
-use Rattle.std.proofs.lemmas.Option.{slice_get_within, slice_get-get_or, get_or_from_slice_get}
 use Rattle.std.proofs.lemmas.Bool.Decides.{nat_tests}
 use Rattle.timer_base.specs.declared.timer.Timer.{Timer}
 use Rattle.timer_base.specs.declared.timer.Handle.{Handle}
@@ -13,9 +10,9 @@ use Rattle.timer_base.specs.Pending.{Entry, put, has_handle, has_serial, first_t
 use Rattle.timer_facility.specs.declared.request.Reason.{Reason}
 use Rattle.timer_facility.specs.declared.request.NotTaken.{NotTaken}
 use Rattle.timer_facility.specs.declared.request.TickFault.{TickFault}
+use Rattle.timer_facility.specs.declared.request.Request.{Request}
 use Rattle.timer_facility.specs.declared.request.Request.TheVariants as Requests
 use Rattle.timer_facility.specs.declared.request.Answer.{Answer}
-use Rattle.timer_facility.specs.declared.request.Answer.TheVariants.{Started, Stopped, Restarted, Refused}
 use Rattle.timer_facility.specs.declared.event.Out.TheVariants as Outs
 use Rattle.timer_facility.specs.State.{FacilityState, Asked, Tick, Close, Start, Stop, StopSerial, Restart, RestartSerial}
 use Rattle.timer_facility.specs.Verdict.{not_taken, start_refusal, interval_refusal, tick_refusal, of_client, named}
@@ -23,11 +20,11 @@ use Rattle.timer_facility.specs.Step.{Step, step, step_of_request, step_of_tick,
 use Rattle.timer_facility.specs.Run.{notices_in, state_after}
 use Rattle.timer_facility.specs.Ticked.{ticks, AreTicked}
 use Rattle.timer_facility.specs.Standing.{Standing, place_in, IsTaken}
-use Rattle.timer_facility.specs.Recorded.{Places, IsRecorded, AreRecorded, IsPlayer}
+use Rattle.timer_facility.specs.Recorded.{Places, place_at, AreSorted, IsRecorded, with_answer, AreRecorded}
 
 recorded_tick : (places : Places) (s : FacilityState) (refusal : Option TickFault) → AreRecorded places s → AreRecorded places (step_of_tick s refusal).state
 recorded_tick places s (Some fault) a = a
-recorded_tick places s None a = record { all_serials = a.all_serials; each = All-filter (IsRecorded places) (IsRecorded places) _ s.pending (λ e _ r. r) a.each }
+recorded_tick places s None a = record { sorted = a.sorted; used = a.used; each = All-filter (IsRecorded places) (IsRecorded places) _ s.pending (λ e _ r. r) a.each }
 
 -- a tick takes entries away, and adds none
 pub AreRecorded-tick : (places : Places) (s : FacilityState) → AreRecorded places s → AreRecorded places (step s Tick 0).state
@@ -43,7 +40,7 @@ AreRecorded-ticks places limit passed s v t a = subst (λ (u : Standing). AreRec
 
 recorded_close : (places : Places) (s : FacilityState) (closed : Bool) → AreRecorded places s → AreRecorded places (step_of_close s closed).state
 recorded_close places s true a = a
-recorded_close places s false a = record { all_serials = a.all_serials; each = tt }
+recorded_close places s false a = record { sorted = a.sorted; used = a.used; each = tt }
 
 -- a close leaves none
 pub AreRecorded-close : (places : Places) (s : FacilityState) → AreRecorded places s → AreRecorded places (step s Close 0).state
@@ -56,56 +53,48 @@ All-put P e (x ∷ xs) p a = elim (either (nat_lt e.timer.deadline x.timer.deadl
   | inr k ↦ rw k (a.0, All-put P e xs p a.1)
 ]
 
-slice_get-more : (xs : List ℕ) (y i x : ℕ) → slice_get xs i ≡ Some x → slice_get (xs ++ y ∷ []) i ≡ Some x
-slice_get-more xs y i x h =
-    let within : i < length xs = slice_get_within xs i x h in
-    let len : length (xs ++ y ∷ []) ≡ length xs + 1 = length-append xs (y ∷ []) in
-    slice_get-get_or (xs ++ y ∷ []) i 0 (omega arith) ∙ ap (λ n. Some n) (get_or-append xs (y ∷ []) 0 i within ∙ get_or_from_slice_get xs i x 0 h)
+-- a place found among some handles is found among more
+place_at-more : (hs : Places) (h : Handle) (serial place : ℕ) → place_at serial hs ≡ Some place → place_at serial (hs ++ h ∷ []) ≡ Some place
+place_at-more [] h serial place e = absurd cc
+place_at-more (x ∷ xs) h serial place e = elim (either (x.serial == serial)) [
+  | inl k ↦ rw k (sym (ap (λ b. if b then Some x.place else place_at serial xs) k) ∙ e)
+  | inr k ↦ rw k (place_at-more xs h serial place (sym (ap (λ b. if b then Some x.place else place_at serial xs) k) ∙ e))
+]
 
-slice_get-last : (xs : List ℕ) (y : ℕ) → slice_get (xs ++ y ∷ []) (length xs) ≡ Some y
-slice_get-last xs y =
-    let len : length (xs ++ y ∷ []) ≡ length xs + 1 = length-append xs (y ∷ []) in
-    slice_get-get_or (xs ++ y ∷ []) (length xs) 0 (omega arith) ∙ ap (λ n. Some n) (get_or-append_seam xs y [] 0)
+pub is_same : (n : ℕ) → (n == n) ≡ true
+is_same n = grind (arith, nat_tests)
 
--- the places with one more
-abbrev pub with_place : ℕ → Places → Places
-with_place place places = record places { list = places.list ++ place ∷ [] }
+pub is_less : (m n : ℕ) → m < n → (m == n) ≡ false
+is_less m n l = grind (arith, nat_tests)
 
-IsRecorded-more : (places : Places) (place : ℕ) (e : Entry) → IsRecorded places e → IsRecorded (with_place place places) e
-IsRecorded-more places place e r = record {
-  started_here = r.started_here;
-  at_its_serial = slice_get-more places.list place (e.timer.serial - places.first) e.place r.at_its_serial;
-}
+-- the last handle stands for its serial, where the others have lower ones
+place_at-last : (hs : Places) (h : Handle) (serial : ℕ) → h.serial ≡ serial → AllByRecursion (λ k. k.serial < serial) hs → place_at serial (hs ++ h ∷ []) ≡ Some h.place
+place_at-last [] h serial e a = let same : (h.serial == serial) ≡ true = ap (λ n. n == serial) e ∙ is_same serial in rw same refl
+place_at-last (x ∷ xs) h serial e a = rw (is_less x.serial serial a.0) (place_at-last xs h serial e a.1)
 
-IsRecorded-new : (places : Places) (place : ℕ) (t : Timer) → places.first + length places.list ≡ t.serial → IsRecorded (with_place place places) (record { place = place; timer = t })
-IsRecorded-new places place t h =
-    let at : t.serial - places.first ≡ length places.list = omega arith in
-    record {
-      started_here = omega arith;
-      at_its_serial = ap (slice_get (places.list ++ place ∷ [])) at ∙ slice_get-last places.list place;
-    }
+All-last : (P : Handle → Type 0) (hs : Places) (h : Handle) → AllByRecursion P hs → P h → AllByRecursion P (hs ++ h ∷ [])
+All-last P [] h a p = (p, tt)
+All-last P (x ∷ xs) h a p = (a.0, All-last P xs h a.1 p)
 
--- what the answer to a start or a restart adds to the places
-abbrev pub with_answer : Answer → Places → Places
-with_answer (Started handle deadline) places = with_place handle.place places
-with_answer (Stopped serial) places = places
-with_answer (Restarted handle deadline old) places = with_place handle.place places
-with_answer (Refused reason) places = places
+AreSorted-last : (hs : Places) (h : Handle) → AreSorted hs → AllByRecursion (λ k. k.serial < h.serial) hs → AreSorted (hs ++ h ∷ [])
+AreSorted-last [] h a b = (tt, tt)
+AreSorted-last (x ∷ xs) h a b = (All-last (λ k. x.serial < k.serial) xs h a.0 b.0, AreSorted-last xs h a.1 b.1)
 
 AreRecorded-put : (places : Places) (s : FacilityState) (client number place : ℕ) (t : Timer) → t.serial ≡ s.next_serial → AreRecorded places s
-    → AreRecorded (with_place place places) (with_number client number (after_start None place t s))
+    → AreRecorded (places ++ record { place = place; serial = t.serial } ∷ []) (with_number client number (after_start None place t s))
 AreRecorded-put places s client number place t n a =
-    let next : places.first + length places.list ≡ s.next_serial = a.all_serials in
-    let len : length (places.list ++ place ∷ []) ≡ length places.list + 1 = length-append places.list (place ∷ []) in
+    let h : Handle = record { place = place; serial = t.serial } in
+    let below : AllByRecursion (λ k. k.serial < t.serial) places = subst (λ m. AllByRecursion (λ k. k.serial < m) places) (sym n) a.used in
     record {
-      all_serials = omega arith;
-      each = All-put (IsRecorded (with_place place places)) (record { place = place; timer = t }) s.pending (IsRecorded-new places place t (next ∙ sym n))
-          (All-weaken (IsRecorded places) (IsRecorded (with_place place places)) s.pending (IsRecorded-more places place) a.each);
+      sorted = AreSorted-last places h a.sorted below;
+      used = All-last (λ k. k.serial < s.next_serial + 1) places h (All-weaken (λ k. k.serial < s.next_serial) (λ k. k.serial < s.next_serial + 1) places (λ k l. omega arith) a.used) (omega arith);
+      each = All-put (IsRecorded (places ++ h ∷ [])) (record { place = place; timer = t }) s.pending (place_at-last places h t.serial refl below)
+          (All-weaken (IsRecorded places) (IsRecorded (places ++ h ∷ [])) s.pending (λ e r. place_at-more places h e.timer.serial e.place r) a.each);
     }
 
 recorded_answer : (places : Places) (s : FacilityState) (client number place : ℕ) (t : Timer) (refusal : Option Reason) → t.serial ≡ s.next_serial → AreRecorded places s
     → AreRecorded (with_answer (answer_to_start refusal place t) places) (with_number client number (after_start refusal place t s))
-recorded_answer places s client number place t (Some reason) n a = record { all_serials = a.all_serials; each = a.each }
+recorded_answer places s client number place t (Some reason) n a = record { sorted = a.sorted; used = a.used; each = a.each }
 recorded_answer places s client number place t None n a = AreRecorded-put places s client number place t n a
 
 -- the answer that stands in the one out of a request
@@ -123,8 +112,8 @@ recorded_start places s client number interval action place answer None a h =
     (recorded_answer places s client number place t (start_refusal s interval) refl a)
 
 recorded_without : (places : Places) (s : FacilityState) (client number : ℕ) (found : Option Timer) → AreRecorded places s → AreRecorded places (with_number client number (after_stop found s))
-recorded_without places s client number None a = record { all_serials = a.all_serials; each = a.each }
-recorded_without places s client number (Some t) a = record { all_serials = a.all_serials; each = All-filter (IsRecorded places) (IsRecorded places) _ s.pending (λ e _ r. r) a.each }
+recorded_without places s client number None a = record { sorted = a.sorted; used = a.used; each = a.each }
+recorded_without places s client number (Some t) a = record { sorted = a.sorted; used = a.used; each = All-filter (IsRecorded places) (IsRecorded places) _ s.pending (λ e _ r. r) a.each }
 
 recorded_stop : (places : Places) (s : FacilityState) (client number place : ℕ) (handle : Handle) (refusal : Option NotTaken) → AreRecorded places s
     → AreRecorded places (step_of_request s client number (Stop handle) place refusal).state
@@ -133,10 +122,10 @@ recorded_stop places s client number place handle None a = recorded_without plac
 
 recorded_restart : (places : Places) (s : FacilityState) (client number place : ℕ) (t : Timer) (found : Option Timer) (v : Option Reason) → t.serial ≡ s.next_serial → AreRecorded places s
     → AreRecorded (with_answer (answer_to_restart found v place t) places) (with_number client number (after_restart found v place t s))
-recorded_restart places s client number place t None v n a = record { all_serials = a.all_serials; each = a.each }
-recorded_restart places s client number place t (Some old) (Some reason) n a = record { all_serials = a.all_serials; each = a.each }
+recorded_restart places s client number place t None v n a = record { sorted = a.sorted; used = a.used; each = a.each }
+recorded_restart places s client number place t (Some old) (Some reason) n a = record { sorted = a.sorted; used = a.used; each = a.each }
 recorded_restart places s client number place t (Some old) None n a =
-    let left : AreRecorded places (after_stop (Some old) s) = record { all_serials = a.all_serials; each = All-filter (IsRecorded places) (IsRecorded places) _ s.pending (λ e _ r. r) a.each } in
+    let left : AreRecorded places (after_stop (Some old) s) = record { sorted = a.sorted; used = a.used; each = All-filter (IsRecorded places) (IsRecorded places) _ s.pending (λ e _ r. r) a.each } in
     AreRecorded-put places (after_stop (Some old) s) client number place t n left
 
 recorded_renewal : (places : Places) (s : FacilityState) (client number place : ℕ) (handle : Handle) (interval action : ℕ) (answer : Answer) (refusal : Option NotTaken) → AreRecorded places s
@@ -151,48 +140,51 @@ recorded_renewal places s client number place handle interval action answer None
     subst (λ x. AreRecorded (with_answer x places) (with_number client number (after_restart found v place t s))) is
     (recorded_restart places s client number place t found v refl a)
 
--- nothing waits after a request that is taken
-waiting-taken : (s : FacilityState) (client number : ℕ) (request : _) (answer : Answer) (new : Standing) → IsTaken s client number request answer new → new.waiting ≡ []
+-- what a request that is taken leaves: nothing waits, and the handles with that of its answer are still those of the pending timers
+pub record StaysRecorded (new : Standing) (places : Places) : Type 0 where
+  pub waiting : new.waiting ≡ []
+  pub recorded : AreRecorded places new.state
+
+waiting-taken : (s : FacilityState) (client number : ℕ) (request : Request) (answer : Answer) (new : Standing) → IsTaken s client number request answer new → new.waiting ≡ []
 waiting-taken s client number request answer new h = ap (λ (v : Standing). v.waiting) h.left ∙ ap notices_in h.answered
 
--- what a player keeps over a start that is taken, and over a stop
-pub IsPlayer-start : (f new : Standing) (places : Places) (client number interval action : ℕ) (answer : Answer) → IsPlayer f places
-    → IsTaken f.state client number (Requests.Start interval action) answer new → IsPlayer new (with_answer answer places)
-IsPlayer-start f new places client number interval action answer i h = record {
-  waiting = waiting-taken f.state client number (Requests.Start interval action) answer new h;
+pub recorded-start : (s : FacilityState) (new : Standing) (places : Places) (client number interval action : ℕ) (answer : Answer) → AreRecorded places s
+    → IsTaken s client number (Requests.Start interval action) answer new → StaysRecorded new (with_answer answer places)
+recorded-start s new places client number interval action answer a h = record {
+  waiting = waiting-taken s client number (Requests.Start interval action) answer new h;
   recorded = subst (λ (v : Standing). AreRecorded (with_answer answer places) v.state) (sym h.left)
-      (recorded_start places f.state client number interval action (place_in answer) answer (not_taken f.state client number) i.recorded h.answered);
+      (recorded_start places s client number interval action (place_in answer) answer (not_taken s client number) a h.answered);
 }
 
-pub IsPlayer-stop : (f new : Standing) (places : Places) (client number : ℕ) (handle : Handle) (answer : Answer) → IsPlayer f places
-    → IsTaken f.state client number (Requests.Stop handle) answer new → IsPlayer new places
-IsPlayer-stop f new places client number handle answer i h = record {
-  waiting = waiting-taken f.state client number (Requests.Stop handle) answer new h;
+pub recorded-stop : (s : FacilityState) (new : Standing) (places : Places) (client number : ℕ) (handle : Handle) (answer : Answer) → AreRecorded places s
+    → IsTaken s client number (Requests.Stop handle) answer new → StaysRecorded new places
+recorded-stop s new places client number handle answer a h = record {
+  waiting = waiting-taken s client number (Requests.Stop handle) answer new h;
   recorded = subst (λ (v : Standing). AreRecorded places v.state) (sym h.left)
-      (recorded_stop places f.state client number (place_in answer) handle (not_taken f.state client number) i.recorded);
+      (recorded_stop places s client number (place_in answer) handle (not_taken s client number) a);
 }
 
-pub IsPlayer-restart : (f new : Standing) (places : Places) (client number : ℕ) (handle : Handle) (interval action : ℕ) (answer : Answer) → IsPlayer f places
-    → IsTaken f.state client number (Requests.Restart handle interval action) answer new → IsPlayer new (with_answer answer places)
-IsPlayer-restart f new places client number handle interval action answer i h = record {
-  waiting = waiting-taken f.state client number (Requests.Restart handle interval action) answer new h;
+pub recorded-restart : (s : FacilityState) (new : Standing) (places : Places) (client number : ℕ) (handle : Handle) (interval action : ℕ) (answer : Answer) → AreRecorded places s
+    → IsTaken s client number (Requests.Restart handle interval action) answer new → StaysRecorded new (with_answer answer places)
+recorded-restart s new places client number handle interval action answer a h = record {
+  waiting = waiting-taken s client number (Requests.Restart handle interval action) answer new h;
   recorded = subst (λ (v : Standing). AreRecorded (with_answer answer places) v.state) (sym h.left)
-      (recorded_renewal places f.state client number (place_in answer) handle interval action answer (not_taken f.state client number) i.recorded h.answered);
+      (recorded_renewal places s client number (place_in answer) handle interval action answer (not_taken s client number) a h.answered);
 }
 
 -- the handle is the recorded one of this serial, where there is one
 pub record IsHandleOf (places : Places) (serial : ℕ) (handle : Handle) : Type 0 where
   pub same_serial : handle.serial ≡ serial
-  pub same_place : (place : ℕ) → places.first ≤ serial → slice_get places.list (serial - places.first) ≡ Some place → handle.place ≡ place
+  pub same_place : (place : ℕ) → place_at serial places ≡ Some place → handle.place ≡ place
 
-both_true : (p q r t : ℕ) → p ≡ q → r ≡ t → (p == q && r == t) ≡ true
+pub both_true : (p q r t : ℕ) → p ≡ q → r ≡ t → (p == q && r == t) ≡ true
 both_true p q r t h k = grind (arith, nat_tests)
 
 second_false : (b : Bool) → (b && false) ≡ false
 second_false true = refl
 second_false false = refl
 
-is_equal : (m n : ℕ) → (m == n) ≡ true → m ≡ n
+pub is_equal : (m n : ℕ) → (m == n) ≡ true → m ≡ n
 is_equal m n h = grind (arith, nat_tests)
 
 -- of a recorded entry the recorded handle tests the serial alone
@@ -200,9 +192,8 @@ same_test : (places : Places) (serial : ℕ) (handle : Handle) (e : Entry) → I
 same_test places serial handle e h r = elim (either (e.timer.serial == serial)) [
   | inl k ↦
       let is : e.timer.serial ≡ serial = is_equal e.timer.serial serial k in
-      let here : places.first ≤ serial = subst (λ n. places.first ≤ n) is r.started_here in
-      let at : slice_get places.list (serial - places.first) ≡ Some e.place = subst (λ n. slice_get places.list (n - places.first) ≡ Some e.place) is r.at_its_serial in
-      both_true e.place handle.place e.timer.serial handle.serial (sym (h.same_place e.place here at)) (is ∙ sym h.same_serial) ∙ sym k
+      let at : place_at serial places ≡ Some e.place = subst (λ n. place_at n places ≡ Some e.place) is r in
+      both_true e.place handle.place e.timer.serial handle.serial (sym (h.same_place e.place at)) (is ∙ sym h.same_serial) ∙ sym k
   | inr k ↦ ap (λ n. e.place == handle.place && e.timer.serial == n) h.same_serial ∙ ap (λ b. e.place == handle.place && b) k ∙ second_false (e.place == handle.place) ∙ sym k
 ]
 
@@ -241,6 +232,3 @@ pub restart-recorded : (places : Places) (s : FacilityState) (client number seri
     → step s (Asked client number (Restart handle interval action)) place ≡ step s (Asked client number (RestartSerial serial interval action)) place
 restart-recorded places s client number serial interval action place handle a h =
     restart_by_serial s client number serial interval action place handle (not_taken s client number) (named-recorded places s client serial handle a h)
-
-pub places_are : (first first' : ℕ) (xs xs' : List ℕ) → first ≡ first' → xs ≡ xs' → let a : Places = record { first = first; list = xs } in let b : Places = record { first = first'; list = xs' } in a ≡ b
-places_are first first' xs xs' h k = cc

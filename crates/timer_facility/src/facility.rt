@@ -12,6 +12,7 @@ ghost use Rattle.timer_facility.specs.Refused.{verdict_in, verdict_on_not_taken,
 ghost use Rattle.timer_facility.specs.Step.{step, answer_to, after_taken};
 ghost use Rattle.timer_facility.specs.Owed.{timer_handed};
 ghost use Rattle.timer_facility.specs.Opened.{opened};
+ghost use Rattle.timer_facility.specs.Recorded.{is_pending};
 ghost use Rattle.timer_facility.specs.Ticked.{AreTicked};
 ghost use Rattle.timer_facility.specs.WakeUps.{IsQuietUntil};
 ghost use Rattle.timer_facility.specs.Standing.{Standing, Parts, standing_of, AreParts, standing_after, with_nothing_waiting, asked, place_in, IsTaken, IsNotTaken};
@@ -120,6 +121,13 @@ impl<W: Wheel + Drop> Facility<W> {
             return 0;
         }
         self.counts[client as usize]
+    }
+
+    /// Whether a pending timer has just this handle, place and serial. Does not allocate.
+    pub fn is_pending(&self, handle: Handle) -> bool
+        ensures { result ≡ is_pending self.now.state handle }
+    {
+        self.wheel.look(handle).is_some()
     }
 
     /// Whether it was closed.

@@ -1,69 +1,112 @@
-//! The handles of the timers that were started or restarted, by serial.
+//! The handles of the pending timers, by serial.
 //!
-//! Serials are dense: each start or restart takes the next one. So the places stand in one `Vec`, and the place
-//! of a serial is found by one subtraction.
-ghost use Rattle.std.specs.Prelude.{◌≡◌, ◌≤◌, ◌<◌, ◌-◌, ◌∷◌, ◌++◌, ℕ, [], OnOk, slice_get, Some};
+//! Serials rise, so the handles stand in one `Vec` in order of starting, and a binary search finds one.
+//! The handle of a timer that is gone stays for a while. Once there are more than two handles for each
+//! pending timer, and 64 beside them, all that no pending timer has are swept out:
+//!
+//!     pending   at most this many handles stay
+//!           0     64
+//!          10     84
+//!        1000   2064
+//!
+//! A sweep of n handles drops more than n / 2 of them, and each was added by one start or restart. So
+//! sweeps look up at most two handles for each start or restart, whatever the order of events is.
+ghost use Rattle.std.specs.Prelude.{◌≡◌, ◌<◌, ℕ, [], OnOk, Some, filter};
 ghost use Rattle.std.specs.Prelude.{vec_len, vec_capacity};
+ghost use Rattle.timer_facility.specs.Recorded.{place_at, AreSorted, AreRecorded, AreFew, is_pending, with_answer};
 
+use crate::facility::Facility;
+use crate::request::Answer;
 use std::alloc::Global;
-use timer_base::{Handle, OutOfMemory};
+use timer_base::{Handle, OutOfMemory, Wheel};
 
-/// Where each timer was put when it was started.
+/// How many handles may stay beside two for each pending timer.
+pub const SPARE: usize = 64;
+
+/// Where each pending timer was put when it was started.
 #[derive(Drop)]
 pub struct Handles {
-    first: u64,
-    places: Vec<usize>,
+    list: Vec<Handle>,
 }
 
 impl Handles {
-    /// No timer was started yet. The first one has this serial. Does not allocate.
-    pub fn new(alloc: Global, first: u64) -> Handles
-        ensures first { result.first ≡ first }
-        ensures places { result.places.items ≡ [] }
+    /// No timer was started yet. Does not allocate.
+    pub fn new(alloc: Global) -> Handles
+        ensures { result.list.items ≡ [] }
     {
         Handles {
-            first,
-            places: Vec::new(alloc),
+            list: Vec::new(alloc),
         }
+    }
+
+    /// The handles, in order of starting.
+    pub fn as_slice(&self) -> &[Handle]
+        ensures { result.now ≡ self.now.list.items }
+    {
+        &self.list
     }
 
     /// Makes room for one more. The only error is out of memory, and then nothing changes.
     pub fn make_room(&mut self) -> Result<(), OutOfMemory>
-        ensures first { self.new.first ≡ self.old.first }
-        ensures places { self.new.places.items ≡ self.old.places.items }
-        ensures room { OnOk result (vec_len self.new.places < vec_capacity self.new.places) }
+        ensures list { self.new.list.items ≡ self.old.list.items }
+        ensures room { OnOk result (vec_len self.new.list < vec_capacity self.new.list) }
     {
-        self.places.reserve(1)?;
+        self.list.reserve(1)?;
         Ok(())
     }
 
-    /// The timer with the next serial stands at this place. Room for it was made.
-    pub fn push(&mut self, place: usize)
-        requires { vec_len self.old.places < vec_capacity self.old.places }
-        ensures first { self.new.first ≡ self.old.first }
-        ensures places { self.new.places.items ≡ self.old.places.items ++ place ∷ [] }
+    /// Adds the handle that the answer reports, if it reports one. Room for it was made.
+    pub fn record(&mut self, answer: Answer)
+        requires { vec_len self.old.list < vec_capacity self.old.list }
+        ensures { self.new.list.items ≡ with_answer answer self.old.list.items }
     {
-        self.places.push_reserved(place);
-    }
-
-    /// The handle of the timer with this serial, where it was started here.
-    ///
-    /// For any other serial it is a handle that no pending timer has.
-    pub fn handle_of(&self, serial: u64) -> Handle
-        ensures serial { result.serial ≡ serial }
-        ensures place { (place : ℕ) → self.now.first ≤ serial → slice_get self.now.places.items (serial - self.now.first) ≡ Some place → result.place ≡ place }
-    {
-        Handle {
-            place: self.place_of(serial).unwrap_or(0),
-            serial,
+        match answer {
+            Answer::Started { handle, .. } => self.list.push_reserved(handle),
+            Answer::Restarted { handle, .. } => self.list.push_reserved(handle),
+            Answer::Stopped { .. } | Answer::Refused(_) => {}
         }
     }
 
-    /// Where the timer with this serial was put, if it was started here.
-    fn place_of(&self, serial: u64) -> Option<usize>
-        ensures { self.now.first ≤ serial → result ≡ slice_get self.now.places.items (serial - self.now.first) }
+    /// Forgets timers that are gone, where they are many. Does not allocate.
+    pub fn forget<W: Wheel + Drop>(&mut self, facility: &Facility<W>)
+        requires { AreRecorded self.old.list.items facility.now.state }
+        ensures recorded { AreRecorded self.new.list.items facility.now.state }
+        ensures few { AreFew self.new.list.items facility.now.state }
     {
-        let index = serial.checked_sub(self.first)?;
-        self.places.get(index as usize).copied()
+        if self.list.len() > 2 * facility.pending() + SPARE {
+            sweep(&mut self.list, facility);
+        }
     }
+
+    /// The handle of the pending timer with this serial.
+    ///
+    /// For any other serial it is a handle that no pending timer has.
+    pub fn handle_of(&self, serial: u64) -> Handle
+        requires { AreSorted self.now.list.items }
+        ensures serial { result.serial ≡ serial }
+        ensures place { (place : ℕ) → place_at serial self.now.list.items ≡ Some place → result.place ≡ place }
+    {
+        Handle {
+            place: place_of(&self.list, serial).unwrap_or(0),
+            serial,
+        }
+    }
+}
+
+/// The place that stands for the serial.
+fn place_of(list: &[Handle], serial: u64) -> Option<usize>
+    requires { AreSorted list.now }
+    ensures { result ≡ place_at serial list.now }
+{
+    match list.binary_search_by_key(&serial, |handle| handle.serial) {
+        Ok(i) => Some(list[i].place),
+        Err(_) => None,
+    }
+}
+
+/// Drops the handles that no pending timer has.
+fn sweep<W: Wheel + Drop>(list: &mut Vec<Handle>, facility: &Facility<W>)
+    ensures { list.new.items ≡ filter (is_pending facility.now.state) list.old.items }
+{
+    list.retain(|handle| facility.is_pending(*handle));
 }

@@ -3,7 +3,7 @@
 //! Room for all that an event can give is made before the event: one out, one handle for a start or a restart, and
 //! one notice for each timer that is pending. After that nothing can fail, so an event is played
 //! whole or not at all.
-ghost use Rattle.std.specs.Prelude.{◌≡◌, ◌<◌, ◌≤◌, ◌+◌, ◌++◌, ◌∷◌, ◌↔◌, ℕ, List, [], None, length, map, take, IsTrue, IfOk, IfErr, OnErr, OnOk, vec_len, vec_capacity};
+ghost use Rattle.std.specs.Prelude.{◌≡◌, ◌<◌, ◌≤◌, ◌+◌, ◌*◌, ◌++◌, ◌∷◌, ◌↔◌, ℕ, List, [], None, length, map, take, IsTrue, IfOk, IfErr, OnErr, OnOk, vec_len, vec_capacity};
 ghost use Rattle.timer_facility.specs.State.{FacilityState, IsSound, Tick, Close};
 ghost use Rattle.timer_facility.specs.Verdict.{tick_refusal};
 ghost use Rattle.timer_facility.specs.Step.{step};
@@ -14,10 +14,10 @@ ghost use Rattle.timer_facility.specs.Recorded.{Places, AreRecorded};
 use crate::event::{Event, Out};
 use crate::facility::Facility;
 use crate::handles::Handles;
-use crate::request::{Answer, CloseFault, NotTaken, Request};
+use crate::request::{CloseFault, NotTaken, Request};
 use std::alloc::Global;
 use std::marker::Model;
-use timer_base::{OutOfMemory, Wheel};
+use timer_base::{Handle, OutOfMemory, Wheel};
 
 /// What was played before memory ran out. The next event changed nothing.
 #[derive(Debug, Drop)]
@@ -30,8 +30,8 @@ pub struct PlayStop {
 
 /// A facility whose events are played from lists.
 ///
-/// It keeps the place of each timer that it ever started or restarted, so that a stop or a restart can
-/// name one by its serial.
+/// It keeps the handle of each pending timer, so that a stop or a restart can name one by its serial: at
+/// most two handles for each timer that is pending, and 64 more, however long it plays.
 #[derive(Drop)]
 pub struct Player<W: Wheel + Drop> {
     facility: Facility<W>,
@@ -47,7 +47,7 @@ impl<W: Wheel + Drop> Model for Player<W> {
 
     ghost view = { λ p. p.facility.state };
 
-    ghost invariant = { λ p. IsPlayer p.facility (record { first = p.handles.first; list = p.handles.places.items }) };
+    ghost invariant = { λ p. IsPlayer p.facility p.handles.list.items };
 }
 
 impl<W: Wheel + Drop> Player<W> {
@@ -57,10 +57,9 @@ impl<W: Wheel + Drop> Player<W> {
         requires waiting { facility.waiting ≡ [] }
         ensures { result ≡ facility.state }
     {
-        let first = facility.next_serial();
         Player {
             facility,
-            handles: Handles::new(alloc, first),
+            handles: Handles::new(alloc),
             alloc,
         }
     }
@@ -71,6 +70,15 @@ impl<W: Wheel + Drop> Player<W> {
         ensures waiting { result.now.waiting ≡ [] }
     {
         &self.facility
+    }
+
+    /// The handles that it keeps, in order of starting: those of the pending timers, and some of timers
+    /// that are gone. Does not allocate.
+    pub fn handles(&self) -> &[Handle]
+        ensures recorded { AreRecorded result.now self.now }
+        ensures few { length result.now ≤ 2 * length self.now.pending + 64 }
+    {
+        self.handles.as_slice()
     }
 
     /// Plays the events one after another, and gives what comes of them in order.
@@ -94,8 +102,10 @@ impl<W: Wheel + Drop> Player<W> {
         Ok(outs)
     }
 
-    /// Plays one event after those before it.
-    fn play_one(&mut self, event: Event, outs: &mut Vec<Out>) -> Result<(), OutOfMemory>
+    /// Plays one event, and adds what comes of it to the outs.
+    ///
+    /// The only error is out of memory, and then nothing changes: the event may be played again.
+    pub fn play_one(&mut self, event: Event, outs: &mut Vec<Out>) -> Result<(), OutOfMemory>
         ensures ok { OnOk result (AddsRun self.old event outs.old.items outs.new.items self.new) }
         ensures state { OnErr result (self.new ≡ self.old) }
         ensures outs { OnErr result (outs.new.items ≡ outs.old.items) }
@@ -124,7 +134,7 @@ impl<W: Wheel + Drop> Player<W> {
         }
     }
 
-    /// Plays a start, and keeps the place of the timer that it started.
+    /// Plays a start, and keeps the handle of the timer that it started.
     fn play_start(
         &mut self,
         client: u64,
@@ -144,9 +154,8 @@ impl<W: Wheel + Drop> Player<W> {
             .take(client, number, Request::Start { interval, action })
         {
             Ok(answer) => {
-                if let Answer::Started { handle, .. } = answer {
-                    self.handles.push(handle.place);
-                }
+                self.handles.record(answer);
+                self.handles.forget(&self.facility);
                 outs.push_reserved(Out::Answered {
                     client,
                     number,
@@ -183,21 +192,27 @@ impl<W: Wheel + Drop> Player<W> {
         outs.reserve(1)?;
         let handle = self.handles.handle_of(serial);
         match self.facility.take(client, number, Request::Stop(handle)) {
-            Ok(answer) => outs.push_reserved(Out::Answered {
-                client,
-                number,
-                answer,
-            }),
-            Err(reason) => outs.push_reserved(Out::NotTaken {
-                client,
-                number,
-                reason,
-            }),
+            Ok(answer) => {
+                self.handles.forget(&self.facility);
+                outs.push_reserved(Out::Answered {
+                    client,
+                    number,
+                    answer,
+                });
+                Ok(())
+            }
+            Err(reason) => {
+                outs.push_reserved(Out::NotTaken {
+                    client,
+                    number,
+                    reason,
+                });
+                Ok(())
+            }
         }
-        Ok(())
     }
 
-    /// Plays a restart, which names its timer by the serial, and keeps the place of the new timer.
+    /// Plays a restart, which names its timer by the serial, and keeps the handle of the new timer.
     fn play_restart(
         &mut self,
         client: u64,
@@ -220,9 +235,8 @@ impl<W: Wheel + Drop> Player<W> {
         };
         match self.facility.take(client, number, request) {
             Ok(answer) => {
-                if let Answer::Restarted { handle, .. } = answer {
-                    self.handles.push(handle.place);
-                }
+                self.handles.record(answer);
+                self.handles.forget(&self.facility);
                 outs.push_reserved(Out::Answered {
                     client,
                     number,
@@ -249,6 +263,7 @@ impl<W: Wheel + Drop> Player<W> {
     {
         make_room(&self.facility, outs)?;
         pass_ticks(&mut self.facility, count, outs);
+        self.handles.forget(&self.facility);
         Ok(())
     }
 
@@ -263,6 +278,7 @@ impl<W: Wheel + Drop> Player<W> {
             Ok(count) => {
                 outs.push_reserved(Out::Closed { count });
                 hand_out(&mut self.facility, outs);
+                self.handles.forget(&self.facility);
                 Ok(())
             }
             Err(CloseFault::Closed) => {

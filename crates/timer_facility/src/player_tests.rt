@@ -411,3 +411,30 @@ fn an_event_that_met_a_refused_growth_can_be_played_again(rt: HostRuntime) -> Re
         (5, 0),
     )
 }
+
+#[test]
+fn handles_of_timers_that_are_gone_are_forgotten(rt: HostRuntime) -> Result<(), Fail> {
+    let mut player = player(rt.alloc(), CONFIG)?;
+    // Two timers stay pending, the second by restarts, while others come and go behind them.
+    let _ = play(&mut player, &[start(0, 1, 9000, 0), start(2, 1, 9000, 0)])?;
+    for i in 0..100 {
+        let events = [
+            start(1, 2 * i + 1, 5, 0),
+            stop(1, 2 * i + 2, 2 * i + 3),
+            restart(2, i + 2, 2 * i + 2, 9000, 0),
+        ];
+        let _ = play(&mut player, &events)?;
+        assert!(rt; player.handles().len() <= 68, "round {i}");
+    }
+    for i in 0..100 {
+        let _ = play(&mut player, &[start(3, i + 1, 5, 0)])?;
+    }
+    let _ = play(&mut player, &[ticks(5)])?;
+    assert!(rt; player.handles().len() <= 68);
+    let outs = play(&mut player, &[stop(0, 2, 1), stop(2, 102, 202)])?;
+    let stops = [stopped(0, 2, 1), stopped(2, 102, 202)];
+    assert_eq!(rt; outs.as_slice(), stops.as_slice());
+    let _ = play(&mut player, &[Event::Close])?;
+    assert!(rt; player.handles().len() <= 64);
+    Ok(())
+}

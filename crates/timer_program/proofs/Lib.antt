@@ -3,3 +3,8 @@ pub mod Lines
 pub mod Scripts
 pub mod Known
 pub mod BareText
+pub mod Playing
+pub mod LineFeeds
+pub mod Sessions
+pub mod Talks
+pub mod Servings

@@ -1,10 +1,14 @@
 pub mod Lines
 pub mod Script
 pub mod Text
+pub mod Cutting
+pub mod Session
 pub mod Reading
 pub mod Writing
 pub mod Faults
 pub mod Running
+pub mod Peer
+pub mod Serving
 pub mod Asked
 pub mod Schemes
 pub mod Clients

@@ -1,17 +1,24 @@
 -- What a run reads and writes, from the bytes of a script to those of the text that answers it.
-use Rattle.std.specs.Prelude.{◌≡◌, ℕ, ◌+◌, ◌<◌, ◌≤◌, true, false, List, length, take, Option, Result, Ok, Err}
+use Rattle.std.specs.Prelude.{◌≡◌, ℕ, ◌+◌, ◌<◌, ◌≤◌, true, false, List, ◌++◌, length, take, Option, Result, Ok, Err}
+use Rattle.std.specs.List.{flat_map}
 use Rattle.std.specs.Io.KnownBytes.{Appends}
 use Rattle.timer_facility.specs.declared.event.Event.{Event}
 use Rattle.timer_facility.specs.declared.event.Out.{Out}
 use Rattle.timer_facility.specs.State.{FacilityState}
-use Rattle.timer_facility.specs.Played.{IsPlayed}
+use Rattle.timer_facility.specs.Played.{IsRun, IsPlayed}
 use Rattle.timer_program.specs.declared.input.TheConstants.{MOST_BYTES}
 use Rattle.timer_program.specs.declared.fault.RunFault.{RunFault}
 use Rattle.timer_program.specs.declared.fault.RunFault.TheVariants as faults
 use Rattle.timer_program.specs.declared.watched.Watched.{Watched}
 use Rattle.timer_program.specs.Script.{IsScript, IsBadLine}
-use Rattle.timer_program.specs.Text.{text}
+use Rattle.timer_program.specs.Text.{out_line, text}
 use Rattle.timer_program.specs.Reading.{ReadsWhole, ReadsUpTo, ReadsTooMany}
+
+-- the events were played, and the text grew by the lines of what came of them
+pub record AddsLines (before : FacilityState) (events : List Event) (old new : List ℕ) (after : FacilityState) : Type 0 where
+  pub outs : List Out
+  pub runs : IsRun before events outs after
+  pub lines : new ≡ old ++ flat_map out_line outs
 
 -- the answer to these events from a state: the lines of what came of them, and the end line
 pub record IsAnswer (before : FacilityState) (events : List Event) (answer : List ℕ) : Type 0 where

@@ -51,6 +51,10 @@ out_line (out.TickRefused why) = codes "tick refused " ++ fault_word why ++ code
 out_line (out.Closed count) = codes "closed" ++ numbers (count ∷ []) ++ codes "\n"
 out_line out.CloseRefused = codes "close refused closed\n"
 
+-- the end line: the tick, and how many timers are pending
+abbrev pub end_line : ℕ → ℕ → List ℕ
+end_line now pending = codes "end" ++ numbers (now ∷ pending ∷ []) ++ codes "\n"
+
 -- a line for each out, and then the end line
 abbrev pub text : List Out → ℕ → ℕ → List ℕ
-text outs now pending = flat_map out_line outs ++ codes "end" ++ numbers (now ∷ pending ∷ []) ++ codes "\n"
+text outs now pending = flat_map out_line outs ++ end_line now pending

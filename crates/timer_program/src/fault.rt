@@ -34,6 +34,40 @@ impl<T: Drop> From<AllocFailed<T>> for ScriptFault {
     }
 }
 
+/// Why a session took no more bytes.
+#[derive(Clone, Copy, Debug, PartialEq, Eq, Error)]
+pub enum SessionFault {
+    /// The first bad line, counted from 1.
+    #[error("bad line {line}")]
+    Bad { line: u64 },
+    /// An allocation failed. The session goes on.
+    #[error("out of memory")]
+    OutOfMemory,
+    /// The end line was written before.
+    #[error("ended")]
+    Ended,
+}
+
+/// Why serving ended before the end of the input.
+#[derive(Clone, Copy, Debug, PartialEq, Eq, Error)]
+pub enum ServeFault {
+    /// A read failed.
+    #[error("read failed")]
+    Read,
+    /// The first bad line, counted from 1 (2^64 - 1 stands for any later one).
+    #[error("bad line {line}")]
+    Bad { line: u64 },
+    /// An allocation failed.
+    #[error("out of memory")]
+    OutOfMemory,
+    /// A write or a flush failed.
+    #[error("write failed")]
+    Write,
+    /// More bytes came than 64 bits count.
+    #[error("too long")]
+    TooLong,
+}
+
 /// Why a run ended early. Its text is the line that the user is shown.
 #[derive(Clone, Copy, Debug, PartialEq, Eq, Error)]
 pub enum RunFault {

@@ -18,7 +18,7 @@ const READ_LIMIT: usize = MOST_BYTES + 1;
 const PIECE: usize = 65536;
 
 /// A piece of zeros.
-fn blank(alloc: Global, len: usize) -> Result<Vec<u8>, RunFault>
+pub fn blank(alloc: Global, len: usize) -> Result<Vec<u8>, RunFault>
     ensures len { IfOk result (λ piece. vec_len piece ≡ len) }
     ensures memory { OnErr result (IsErrOf result RunFault.OutOfMemory) }
 {

@@ -14,6 +14,7 @@ mod asked;
 mod clients;
 #[cfg(test)]
 mod clients_tests;
+mod cutting;
 mod fault;
 #[cfg(test)]
 mod handle_tests;
@@ -23,6 +24,7 @@ mod laws;
 mod memory;
 mod options;
 mod output;
+mod peer;
 mod play;
 mod reading;
 mod reporting;
@@ -33,8 +35,16 @@ mod schemes;
 mod script;
 #[cfg(test)]
 mod script_tests;
+mod serving;
+#[cfg(test)]
+mod serving_tests;
+mod session;
+#[cfg(test)]
+mod session_tests;
+mod stage;
 #[cfg(test)]
 mod stream_tests;
+mod streams;
 #[cfg(test)]
 mod testing;
 mod text;

@@ -2,23 +2,63 @@
 //!
 //!     reader --read--> bytes --parse--> events --play--> outs --text--> bytes --write--> writer
 //!
+//! Events are played in chunks, and the outs of a chunk are text before the next one is played: an out
+//! is much longer than its line, and so the outs of a whole script never stand in memory together.
 //! Nothing is written before the last event was played, so a script with a bad line is rejected as a
 //! whole, and what is written is the whole answer or a prefix of it.
-ghost use Rattle.std.specs.Prelude.{◌≡◌, ◌↔◌, ℕ, List, [], false, IsTrue, IfOk, IfErr, IsErrOf};
+ghost use Rattle.std.specs.Prelude.{◌≡◌, ◌↔◌, ℕ, List, [], false, IsTrue, IfOk, IfErr, OnOk, IsErrOf};
 ghost use Rattle.timer_facility.specs.declared.event.Event.{Event};
 ghost use Rattle.timer_program.specs.Script.{IsScript};
-ghost use Rattle.timer_program.specs.Running.{IsAnswer, GivesNoAnswer, HasRun};
+ghost use Rattle.timer_program.specs.Running.{AddsLines, IsAnswer, GivesNoAnswer, HasRun};
 
 use crate::fault::RunFault;
 use crate::input::read_script;
 use crate::output::write_text;
 use crate::script::parse_script;
-use crate::text::text_of;
+use crate::text::{push_end, push_outs};
 use crate::watched::Watched;
 use std::alloc::Global;
 use std::io::{Read, Write};
-use timer_base::Wheel;
-use timer_facility::{Facility, Player};
+use timer_base::{OutOfMemory, Wheel};
+use timer_facility::{Event, Facility, Out, Player};
+
+/// How many events are played before their outs become text.
+const CHUNK: usize = 1024;
+
+/// Plays the events, and adds the line of each out to the text. `outs` is used up, for its memory alone.
+fn play_chunk<W: Wheel + Drop>(
+    player: &mut Player<W>,
+    events: &[Event],
+    outs: &mut Vec<Out>,
+    text: &mut Vec<u8>,
+) -> Result<(), OutOfMemory>
+    ensures { OnOk result (AddsLines player.old events.now text.old.items text.new.items player.new) }
+{
+    outs.clear();
+    for event in events {
+        player.play_one(*event, outs)?;
+    }
+    push_outs(text, outs)
+}
+
+/// Plays the events in chunks, and adds the line of each out to the text.
+fn play_lines<W: Wheel + Drop>(
+    alloc: Global,
+    player: &mut Player<W>,
+    events: &[Event],
+    text: &mut Vec<u8>,
+) -> Result<(), OutOfMemory>
+    ensures { OnOk result (AddsLines player.old events.now text.old.items text.new.items player.new) }
+{
+    let mut outs = Vec::new(alloc);
+    let mut rest = events;
+    while !rest.is_empty() {
+        let (chunk, after) = rest.split_at(CHUNK.min(rest.len()));
+        play_chunk(player, chunk, &mut outs, text)?;
+        rest = after;
+    }
+    Ok(())
+}
 
 /// Plays a script on the facility, and returns the text that answers it.
 pub fn answer_to<W: Wheel + Drop>(
@@ -31,14 +71,15 @@ pub fn answer_to<W: Wheel + Drop>(
     ensures ok { IfOk result (λ answer. (events : List Event) × IsScript events script.now × IsAnswer facility.state events answer.items) }
     ensures fault { IfErr result (λ fault. GivesNoAnswer fault script.now) }
 {
+    // What `owed` rests on is known of the state from here on.
+    let _now = facility.now();
     let events = parse_script(alloc, script)?;
     let mut player = Player::open(alloc, facility);
-    let Ok(outs) = player.play(&events) else {
-        return Err(RunFault::OutOfMemory);
-    };
+    let mut answer = Vec::new(alloc);
+    play_lines(alloc, &mut player, &events, &mut answer)?;
     let now = player.facility().now();
     let pending = player.facility().pending() as u64;
-    let answer = text_of(alloc, &outs, now, pending)?;
+    push_end(&mut answer, now, pending)?;
     Ok(answer)
 }
 

@@ -14,7 +14,8 @@
 //!
 //! The text is built in one `Vec`, with no formatting machinery for each line.
 ghost use Rattle.std.specs.Prelude.{◌≡◌, ◌++◌, IfOk, OnOk, codes, decimal};
-ghost use Rattle.timer_program.specs.Text.{numbers, reason_word, refusal_word, fault_word, out_line, text};
+ghost use Rattle.std.specs.List.{flat_map};
+ghost use Rattle.timer_program.specs.Text.{numbers, reason_word, refusal_word, fault_word, out_line, end_line, text};
 
 use itoa::Buffer;
 use std::alloc::Global;
@@ -151,6 +152,23 @@ fn push_out(text: &mut Vec<u8>, out: Out) -> Result<(), OutOfMemory>
     }
 }
 
+/// Writes each out as its line.
+pub fn push_outs(text: &mut Vec<u8>, outs: &[Out]) -> Result<(), OutOfMemory>
+    ensures { OnOk result (text.new.items ≡ text.old.items ++ flat_map out_line outs.now) }
+{
+    for out in outs {
+        push_out(text, *out)?;
+    }
+    Ok(())
+}
+
+/// Writes the end line, with this tick and this number of pending timers.
+pub fn push_end(text: &mut Vec<u8>, now: u64, pending: u64) -> Result<(), OutOfMemory>
+    ensures { OnOk result (text.new.items ≡ text.old.items ++ end_line now pending) }
+{
+    push_line(text, b"end", &[now, pending])
+}
+
 /// The lines of the outs, and the end line with this tick and this number of pending timers.
 ///
 /// Fails only where memory ran out.
@@ -158,9 +176,7 @@ pub fn text_of(alloc: Global, outs: &[Out], now: u64, pending: u64) -> Result<Ve
     ensures { IfOk result (λ bytes. bytes.items ≡ text outs.now now pending) }
 {
     let mut bytes = Vec::new(alloc);
-    for out in outs {
-        push_out(&mut bytes, *out)?;
-    }
-    push_line(&mut bytes, b"end", &[now, pending])?;
+    push_outs(&mut bytes, outs)?;
+    push_end(&mut bytes, now, pending)?;
     Ok(bytes)
 }

@@ -5,44 +5,45 @@ use Rattle.timer_facility.specs.declared.event.Out.TheVariants as Outs
 use Rattle.timer_facility.specs.State.{FacilityState, RestartSerial}
 use Rattle.timer_facility.specs.Standing.{Standing}
 use Rattle.timer_facility.specs.Played.{AddsRun}
-use Rattle.timer_facility.specs.Recorded.{Places, IsPlayer}
-use Rattle.timer_facility.proofs.RecordedLemmas.{IsPlayer-restart, IsHandleOf, with_answer, places_are}
+use Rattle.timer_facility.specs.Recorded.{Places, AreSorted, AreRecorded, with_answer}
+use Rattle.timer_facility.proofs.RecordedLemmas.{StaysRecorded, recorded-restart, IsHandleOf}
 use Rattle.timer_facility.proofs.PlayedLemmas.{AddsRun-restarted, AddsRun-not_taken, reason-restart}
 use Rattle.timer_facility.proofs.player.Player.play_restart.Goals as goal
-use Rattle.timer_facility.proofs.player.Player.play_restart.Goals.{in-Restarted, in_default}
 
-pub invariant_of-self-in-Restarted : goal.invariant_of-self-in-Restarted
-invariant_of-self-in-Restarted g c =
-    let f : Standing = c.self.inside.facility in
-    let before : Places = record { first = c.self.inside.handles.first; list = c.self.inside.handles.places.items } in
-    let after : Places = record { first = c.push.new.self.first; list = c.push.new.self.places.items } in
-    let kept : IsPlayer c.take.new.self (with_answer c.in-Ok.answer before) =
-    IsPlayer-restart f c.take.new.self before c.args.client c.args.number c.handle_of.result c.args.interval c.args.action c.in-Ok.answer c.self.invariant c.in-Ok.ensures.taken in
-    let added : with_answer c.in-Ok.answer before ≡ after = ap (λ answer. with_answer answer before) c.in-Restarted.is ∙ places_are _ _ _ _
-    (sym (c.push.ensures.first ∙ c.make_room.ensures.first)) (sym (c.push.ensures.places ∙ ap (λ xs. xs ++ c.in-Restarted.handle.place ∷ []) c.make_room.ensures.places)) in
-    subst (IsPlayer c.take.new.self) added kept
+pub handle_of-requires : goal.handle_of-requires
+handle_of-requires g c = subst AreSorted (sym c.make_room.ensures.list) c.self.invariant.recorded.sorted
 
-pub returns-after-answer-clause-ok : goal.returns-after-answer-clause-ok
-returns-after-answer-clause-ok g c =
+pub forget-requires : goal.forget-requires
+forget-requires g c =
+    let s : FacilityState = c.self.inside.facility.state in
+    let before : Places = c.self.inside.handles.list.items in
+    let kept : StaysRecorded c.take.new.self (with_answer c.in-Ok.answer before) =
+    recorded-restart s c.take.new.self before c.args.client c.args.number c.handle_of.result c.args.interval c.args.action c.in-Ok.answer c.self.invariant.recorded c.in-Ok.ensures.taken in
+    subst (λ (places : Places). AreRecorded places c.take.new.self.state) (sym (c.record.ensures ∙ ap (with_answer c.in-Ok.answer) c.make_room.ensures.list)) kept.recorded
+
+pub invariant_of-self-in-Ok : goal.invariant_of-self-in-Ok
+invariant_of-self-in-Ok g c =
+    let s : FacilityState = c.self.inside.facility.state in
+    let before : Places = c.self.inside.handles.list.items in
+    let kept : StaysRecorded c.take.new.self (with_answer c.in-Ok.answer before) =
+    recorded-restart s c.take.new.self before c.args.client c.args.number c.handle_of.result c.args.interval c.args.action c.in-Ok.answer c.self.invariant.recorded c.in-Ok.ensures.taken in
+    record { waiting = kept.waiting; recorded = c.forget.ensures.recorded; few = c.forget.ensures.few }
+
+pub returns-in-Ok-clause-ok : goal.returns-in-Ok-clause-ok
+returns-in-Ok-clause-ok g c =
     let s : FacilityState = c.self.inside.facility.state in
     let before = c.args.outs.now.items in
     let event = Events.Restart c.args.client c.args.number c.args.serial c.args.interval c.args.action in
     let handle : Handle = c.handle_of.result in
-    let places : Places = record { first = c.self.inside.handles.first; list = c.self.inside.handles.places.items } in
-    let with_room : Places = record { first = c.make_room.new.self.first; list = c.make_room.new.self.places.items } in
-    let same : with_room ≡ places = places_are _ _ _ _ c.make_room.ensures.first c.make_room.ensures.places in
+    let places : Places = c.self.inside.handles.list.items in
+    let with_room : Places = c.make_room.new.self.list.items in
     let of_room : IsHandleOf with_room c.args.serial handle = record { same_serial = c.handle_of.ensures.serial; same_place = c.handle_of.ensures.place } in
-    let of_places : IsHandleOf places c.args.serial handle = subst (λ (p : Places). IsHandleOf p c.args.serial handle) same of_room in
-    let state : c.match-answer.self ≡ c.take.new.self.state = elim c.match-answer.branch [ in-Restarted w ↦ w.self-is | in_default w ↦ w.self-is ] in
-    let answer : c.match-answer.answer ≡ c.in-Ok.answer = elim c.match-answer.branch [ in-Restarted w ↦ w.answer-is ∙ sym w.in-Restarted.is | in_default w ↦ w.answer-is ] in
+    let of_places : IsHandleOf places c.args.serial handle = subst (λ (p : Places). IsHandleOf p c.args.serial handle) c.make_room.ensures.list of_room in
     let outs : c.push_reserved.new.self.items ≡ before ++ Outs.Answered c.args.client c.args.number c.in-Ok.answer ∷ [] =
-    c.push_reserved.ensures.items ∙ ap (λ x. c.reserve.new.self.items ++ Outs.Answered c.args.client c.args.number x ∷ []) answer
-    ∙ ap (λ os. os ++ Outs.Answered c.args.client c.args.number c.in-Ok.answer ∷ []) c.reserve.ensures.items in
-    let run : AddsRun s event before c.push_reserved.new.self.items c.take.new.self.state =
-    AddsRun-restarted places s c.args.client c.args.number c.args.serial c.args.interval c.args.action handle c.in-Ok.answer before c.push_reserved.new.self.items c.take.new.self
-    c.self.invariant.recorded of_places c.in-Ok.ensures.taken outs in
-    subst (λ d. AddsRun c.args.self.now event before c.push_reserved.new.self.items d) (sym state)
-    (subst (λ a. AddsRun a event before c.push_reserved.new.self.items c.take.new.self.state) c.self.view_is run)
+    c.push_reserved.ensures.items ∙ ap (λ os. os ++ Outs.Answered c.args.client c.args.number c.in-Ok.answer ∷ []) c.reserve.ensures.items in
+    subst (λ a. AddsRun a event before c.push_reserved.new.self.items c.take.new.self.state) c.self.view_is
+    (AddsRun-restarted places s c.args.client c.args.number c.args.serial c.args.interval c.args.action handle c.in-Ok.answer before c.push_reserved.new.self.items c.take.new.self
+    c.self.invariant.recorded of_places c.in-Ok.ensures.taken outs)
 
 pub returns-in-Err-clause-ok : goal.returns-in-Err-clause-ok
 returns-in-Err-clause-ok g c =
