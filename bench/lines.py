@@ -16,11 +16,13 @@ HERE = os.path.dirname(os.path.abspath(__file__))
 LINES_REF = os.path.join(HERE, "build", "lines_ref")
 THREADS_REF = os.path.join(HERE, "build", "threads_ref")
 ROUND = 65536  # requests in a round at a desk
-ROUNDS = 20
+ROUNDS, FIRST_ROUNDS = 20, 5
 TRIPS = 1_000_000
 ONE_WAY = 20_000_000
 CLIENTS, TIMERS = 4, 10_000
 CORES = sorted(os.sched_getaffinity(0))
+# The allocator keeps what is freed, so that a round takes no pages from the system that the one before it gave back.
+KEEPS_MEMORY = {"MALLOC_TRIM_THRESHOLD_": str(2**32), "MALLOC_MMAP_THRESHOLD_": str(2**32), "MALLOC_TOP_PAD_": str(2**26)}
 
 
 def fail(text, status=1):
@@ -47,7 +49,7 @@ def run(command, cores, apart=False):
     """Processor time, time by the clock, and output of a process on these cores."""
     before, start = resource.getrusage(resource.RUSAGE_CHILDREN), time.perf_counter()
     process = subprocess.Popen(command, stdin=subprocess.DEVNULL, stdout=subprocess.PIPE, stderr=subprocess.PIPE,
-                               preexec_fn=lambda: os.sched_setaffinity(0, set(cores)))
+                               env=os.environ | KEEPS_MEMORY, preexec_fn=lambda: os.sched_setaffinity(0, set(cores)))
     if apart:
         pin_threads(process, cores)
     try:
@@ -67,13 +69,13 @@ def spread(mine, peer):
 
 
 def desk(work, repeats):
-    """Requests and words at a desk, against the same facility without one: processor time, less that of no round."""
+    """Requests and words at a desk, against the same facility without one: processor time, less that of the first rounds."""
     for clients in (1, 8, 64):
         took, outs = {"desk": [], "calls": [], "facility": []}, set()
         for _ in range(repeats):
             for mode, times in took.items():
-                base = run([work, mode, str(clients), "0"], CORES[:1])[0]
-                cpu, _, out = run([work, mode, str(clients), str(ROUNDS)], CORES[:1])
+                base = run([work, mode, str(clients), str(FIRST_ROUNDS)], CORES[:1])[0]
+                cpu, _, out = run([work, mode, str(clients), str(FIRST_ROUNDS + ROUNDS)], CORES[:1])
                 times.append(max(cpu - base, 1e-9))
                 outs.add(out.split(b" ", 1)[1])
         if len(outs) != 1:

@@ -34,7 +34,8 @@ struct Client {
     WordItem w;
     if (!line.words.pop(w)) return false;
     if (w.kind == STARTED && started < timers && w.a == started + 1) ++started;
-    else if (w.kind == EXPIRED && expired < timers && (w.d > deadline || (w.d == deadline && w.a > serial))) ++expired, deadline = w.d, serial = w.a;
+    else if (w.kind == EXPIRED && expired < timers && (w.d > deadline || (w.d == deadline && w.a > serial)))
+      ++expired, deadline = w.d, serial = w.a;
     else failed = true;
     return true;
   }
@@ -57,7 +58,8 @@ struct Owner {
   std::vector<Outbox> outboxes;
   std::vector<uint64_t> served, flushed, pending, next;
   uint64_t serial = 0;
-  explicit Owner(std::vector<std::unique_ptr<Client>> &c) : clients(c), outboxes(c.size()), served(c.size()), flushed(c.size()), pending(c.size()), next(c.size(), 1) {}
+  explicit Owner(std::vector<std::unique_ptr<Client>> &c)
+      : clients(c), outboxes(c.size()), served(c.size()), flushed(c.size()), pending(c.size()), next(c.size(), 1) {}
 
   bool serve(size_t c) {
     if (outboxes[c].count + pending[c] + 2 > ROOM) return false;
@@ -112,7 +114,8 @@ int main(int argc, char **argv) {
   for (size_t c = 0; c < count; ++c) {
     Client &client = *clients[c];
     if (client.failed) { fprintf(stderr, "client %zu failed\n", c); return 1; }
-    out += "client " + std::to_string(c) + " sent " + std::to_string(client.sent) + " started " + std::to_string(client.started) + " expired " + std::to_string(client.expired) + "\n";
+    out += "client " + std::to_string(c) + " sent " + std::to_string(client.sent) + " started " + std::to_string(client.started);
+    out += " expired " + std::to_string(client.expired) + "\n";
   }
   if (!done) { fputs("desk failed\n", stderr); return 1; }
   out += "end\n";
