@@ -23,6 +23,8 @@ mod laws;
 mod memory;
 mod options;
 mod output;
+#[cfg(test)]
+mod piece_tests;
 mod play;
 mod reading;
 mod reporting;
