@@ -1,10 +1,16 @@
 //! Lines by themselves, and the room of a desk. Desks at work are tested in `timer_threads`, over all wheels.
 use super::*;
 use std::alloc::Global;
+use std::fmt::Debug;
 use std::process::Abort;
 use std::test::Fail;
 use timer_base::{Handle, LAST, PlainWheel};
 use timer_facility::{Answer, Config, Facility, Request};
+
+/// Compares in a function of its own, so that a test is a list of calls without branches.
+pub fn same<T: PartialEq + Debug + Drop>(rt: &impl Abort, found: T, expected: T) {
+    assert_eq!(rt; found, expected);
+}
 
 /// The request to start a timer, under its number.
 pub fn start(number: u64, interval: u64, action: u64) -> Numbered {
@@ -27,10 +33,10 @@ pub fn started(number: u64, serial: u64, deadline: u64) -> Word {
 fn a_line_in_memory_is_full_from_its_room_on(rt: HostRuntime) -> Result<(), Fail> {
     let alloc = rt.alloc();
     let mut inlet = MemoryInlet::new(alloc, vec![in alloc; start(1, 1, 7)]?, 1);
-    assert_eq!(rt; inlet.take(), Taken::Got(start(1, 1, 7)));
-    assert_eq!(rt; inlet.take(), Taken::Empty);
-    assert_eq!(rt; inlet.put(started(1, 1, 1)), Put::Done);
-    assert_eq!(rt; inlet.put(started(2, 2, 2)), Put::Full(started(2, 2, 2)));
+    same(&rt, inlet.take(), Taken::Got(start(1, 1, 7)));
+    same(&rt, inlet.take(), Taken::Empty);
+    same(&rt, inlet.put(started(1, 1, 1)), Put::Done);
+    same(&rt, inlet.put(started(2, 2, 2)), Put::Full(started(2, 2, 2)));
     assert_eq!(rt; inlet.given(), [started(1, 1, 1)].as_slice());
     Ok(())
 }
@@ -40,9 +46,9 @@ fn after_the_last_number_none_is_left(rt: HostRuntime) -> Result<(), Fail> {
     let alloc = rt.alloc();
     let (mut end, _inlet) = ring_line(alloc, 2, LAST)?;
     let request = start(LAST, 1, 7).request;
-    assert_eq!(rt; end.submit(request), Ok(LAST));
-    assert_eq!(rt; end.submit(request), Err(Unsent::Spent(request)));
-    assert_eq!(rt; end.next_number(), LAST + 1);
+    same(&rt, end.submit(request), Ok(LAST));
+    same(&rt, end.submit(request), Err(Unsent::Spent(request)));
+    same(&rt, end.next_number(), LAST + 1);
     Ok(())
 }
 
@@ -60,7 +66,7 @@ fn is_refused(rt: &impl Abort, alloc: Global, room: usize) -> Result<bool, Fail>
     let inlet = MemoryInlet::new(alloc, vec![in alloc; start(1, 1, 7)]?, 10);
     match Desk::open(alloc, facility, vec![in alloc; inlet]?, room) {
         Err(OpenFault::Room(facility, inlets)) => {
-            assert_eq!(rt; (facility.now(), inlets.len()), (0, 1));
+            same(rt, (facility.now(), inlets.len()), (0, 1));
             Ok(true)
         }
         Err(OpenFault::OutOfMemory(_, _)) => panic!(rt; "out of memory"),

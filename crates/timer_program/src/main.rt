@@ -25,6 +25,8 @@ mod memory;
 mod options;
 mod output;
 mod peer;
+#[cfg(test)]
+mod piece_tests;
 mod play;
 mod reading;
 mod reporting;
