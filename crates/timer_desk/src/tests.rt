@@ -36,7 +36,11 @@ fn a_line_in_memory_is_full_from_its_room_on(rt: HostRuntime) -> Result<(), Fail
     same(&rt, inlet.take(), Taken::Got(start(1, 1, 7)));
     same(&rt, inlet.take(), Taken::Empty);
     same(&rt, inlet.put(started(1, 1, 1)), Put::Done);
-    same(&rt, inlet.put(started(2, 2, 2)), Put::Full(started(2, 2, 2)));
+    same(
+        &rt,
+        inlet.put(started(2, 2, 2)),
+        Put::Full(started(2, 2, 2)),
+    );
     assert_eq!(rt; inlet.given(), [started(1, 1, 1)].as_slice());
     Ok(())
 }
