@@ -1,4 +1,4 @@
--- The verdict never names want of memory.
+-- The verdict is never out of memory.
 use Rattle.std.proofs.Common.{◌≡◌, inl, inr, ℕ, Bool, true, false, not, length}
 use Rattle.std.specs.Prelude.{nat_lt, if◌then◌else◌, Some, None}
 use Rattle.timer_base.specs.declared.limits.TheConstants.{LAST}
@@ -23,7 +23,7 @@ unfolding not_taken
 no_want s client number h =
     first_of s.is_closed (not (nat_lt client (length s.numbers))) (nat_lt number (number_of s client)) (nat_lt LAST (number_of s client)) (nat_lt (number_of s client) number) (number_of s client) h
 
--- where a growth was refused, the request needed memory
+-- where an allocation failed, the request allocates
 pub needs_memory : (s : FacilityState) (client number : ℕ) (request : Request) (reason : NotTaken) → reason ≡ OutOfMemory → IsNotTaken s client number request reason → NeedsMemory s client number request
 needs_memory s client number request reason e n = elim n [
   | inl h ↦ absurd (no_want s client number (cc))

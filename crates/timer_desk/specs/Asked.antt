@@ -13,7 +13,7 @@ use Rattle.timer_desk.specs.Report.{out_of, place_told}
 abbrev pub asked_step : FacilityState → ℕ → Numbered → Word → Step
 asked_step s client numbered word = step s (event_asked client numbered.number numbered.request) (place_told word)
 
--- a word never tells of want of memory
+-- a word never says out of memory
 abbrev pub IsNoWant : Word → Type 0
 IsNoWant (Words.Answered number answer) = Unit {0}
 IsNoWant (Words.NotTaken number reason) = ¬ (reason ≡ NotTakens.OutOfMemory)
@@ -25,7 +25,7 @@ pub record HasAsked (s : FacilityState) (client : ℕ) (numbered : Numbered) (wo
   pub left : new ≡ with_nothing_waiting (asked_step s client numbered word).state
   pub no_want : IsNoWant word
 
--- want of memory was met by the line, or by the request that is held then, a start that would be accepted
+-- the line ran out of memory, or the request that is held then, a start that would be accepted
 abbrev pub IsWant : Bool → ℕ → FacilityState → Option Numbered → Type 0
 IsWant line_may_refuse client s None = line_may_refuse ≡ true
 IsWant line_may_refuse client s (Some numbered) = NeedsMemory s client numbered.number numbered.request

@@ -13,7 +13,7 @@ pub record Backlog : Type 0 where
   pub outbox : List Word
   -- how many words may wait
   pub room : ℕ
-  -- a request that met want of memory
+  -- a request that ran out of memory
   pub held : Option Numbered
 
 -- nothing waits

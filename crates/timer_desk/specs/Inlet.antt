@@ -19,7 +19,7 @@ put_of Done w = w ∷ []
 put_of (Full v) w = []
 put_of (PutNoMemory v) w = []
 
--- a result that is not `Done` carries the word; want of memory comes only where the line may meet it
+-- a result that is not `Done` carries the word; out of memory only where the line may run out of it
 abbrev pub HandsBack : Bool → Put → Word → Type 0
 HandsBack may_refuse Done w = Unit {0}
 HandsBack may_refuse (Full v) w = v ≡ w

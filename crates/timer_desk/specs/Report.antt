@@ -85,7 +85,7 @@ out_of client (Words.Notice notice) = Outs.Notice notice
 abbrev pub placed : SingleEvent → ℕ → Placed
 placed event place = record { event = event; place = place }
 
--- a request that was tried and met no want of memory
+-- a request that was tried and didn't run out of memory
 abbrev pub request_event : ℕ → Numbered → Word → Placed
 request_event client numbered word = placed (event_asked client numbered.number numbered.request) (place_told word)
 
@@ -95,7 +95,7 @@ served_events client NoRoom = []
 served_events client NoMemory = []
 served_events client (Did numbered word) = request_event client numbered word ∷ []
 
--- a close that met want of memory is no event
+-- a close that ran out of memory is no event
 abbrev pub close_events : Result ℕ CloseFault → List Placed
 close_events (Ok count) = placed Close 0 ∷ []
 close_events (Err CloseFaults.Closed) = placed Close 0 ∷ []
@@ -155,7 +155,7 @@ may_hold c before (done ∷ report) = may_hold c (held_after c before done) repo
 abbrev pub events : List Done → List Placed
 events report = flat_map events_in report
 
--- what came of it
+-- its outs
 abbrev pub outs : List Done → List Out
 outs report = flat_map outs_in report
 

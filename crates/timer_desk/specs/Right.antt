@@ -17,7 +17,7 @@ abbrev pub AtEach : (List Done → Done → List Done → Type 0) → List Done 
 AtEach fact past [] = Unit {0}
 AtEach fact past (done ∷ later) = fact past done later × AtEach fact (past ++ done ∷ []) later
 
--- what a serve may answer (no word tells of want of memory), by the room, the length of the outbox, how many requests are known to be left, and how many timers are pending
+-- what a serve may answer (no word says out of memory), by the room, the length of the outbox, how many requests are known to be left, and how many timers are pending
 abbrev pub IsRightServe : ℕ → ℕ → ℕ → ℕ → Served → Type 0
 IsRightServe room len left pending NoRoom = room < len + pending + 2
 IsRightServe room len left pending Idle = (len + pending + 2 ≤ room) × (left ≡ 0)

@@ -117,13 +117,13 @@ AddsRun-not_taken s event client number wanted reason before outs after h r o e 
     AddsRun-one s event (Asked client number wanted) 0 before outs after h
     (o ∙ ap (λ (st : Step). before ++ st.outs) (sym refused)) (e ∙ ap (λ (st : Step). st.state) (sym refused))
 
--- a request that is not taken, and not for want of memory, is not taken for the reason of the verdict
+-- a request that is not taken, and not because memory ran out, is not taken for the reason of the verdict
 pub reason-verdict : (s : FacilityState) (client number : ℕ) (request : Request) (reason : NotTaken) → IsNotTaken s client number request reason → (reason ≡ NotTakens.OutOfMemory → ⊥)
     → not_taken s client number ≡ Some reason
 reason-verdict s client number request reason (inl h) n = h
 reason-verdict s client number request reason (inr h) n = absurd (n h.0)
 
--- a stop takes no memory
+-- a stop doesn't allocate
 pub reason-stop : (s : FacilityState) (client number : ℕ) (handle : Handle) (reason : NotTaken) → IsNotTaken s client number (Requests.Stop handle) reason → not_taken s client number ≡ Some reason
 reason-stop s client number handle reason (inl h) = h
 reason-stop s client number handle reason (inr h) = absurd h.1
@@ -138,7 +138,7 @@ AddsRun-stopped places s client number serial handle answer before outs new a h 
     (o ∙ ap (λ os. before ++ os) (sym t.answered ∙ ap (λ (st : Step). st.outs) same))
     (ap (λ (v : Standing). v.state) t.left ∙ ap (λ (st : Step). st.state) same)
 
--- a restart takes no memory
+-- a restart doesn't allocate
 pub reason-restart : (s : FacilityState) (client number : ℕ) (handle : Handle) (interval action : ℕ) (reason : NotTaken) → IsNotTaken s client number (Requests.Restart handle interval action) reason
     → not_taken s client number ≡ Some reason
 reason-restart s client number handle interval action reason (inl h) = h

@@ -18,7 +18,7 @@ timer_started client number action (Outs.Answered c n (Started handle deadline))
     record { serial = handle.serial; client = client; number = number; deadline = deadline; action = action } ∷ []
 timer_started client number action _ = []
 
--- the timers that a start and what came of it tell of
+-- the timers that a start and its outs tell of
 abbrev pub timers_started : ℕ → ℕ → ℕ → List Out → List Timer
 timers_started client number action [] = []
 timers_started client number action (out ∷ outs) = timer_started client number action out ++ timers_started client number action outs
@@ -29,7 +29,7 @@ timer_restarted client number action (Outs.Answered c n (Restarted handle deadli
     record { serial = handle.serial; client = client; number = number; deadline = deadline; action = action } ∷ []
 timer_restarted client number action _ = []
 
--- the new timers that a restart and what came of it tell of
+-- the new timers that a restart and its outs tell of
 abbrev pub timers_restarted : ℕ → ℕ → ℕ → List Out → List Timer
 timers_restarted client number action [] = []
 timers_restarted client number action (out ∷ outs) = timer_restarted client number action out ++ timers_restarted client number action outs

@@ -35,12 +35,12 @@ verdict_in (Started handle deadline) = None
 verdict_in (Stopped serial) = None
 verdict_in (Restarted handle deadline old) = None
 
--- the verdict on a request that was not taken: one that met a refused growth would be accepted
+-- the verdict on a request that was not taken: one whose allocation failed would be accepted
 abbrev pub verdict_on_not_taken : NotTaken → Option Refusal
 verdict_on_not_taken NotTakens.OutOfMemory = None
 verdict_on_not_taken reason = Some (RequestNotTaken reason)
 
--- the verdict on a close that failed: one that met a refused growth would be accepted
+-- the verdict on a close that failed: one whose allocation failed would be accepted
 abbrev pub verdict_on_close : CloseFault → Option Refusal
 verdict_on_close CloseFaults.Closed = Some CloseRefused
 verdict_on_close CloseFaults.OutOfMemory = None

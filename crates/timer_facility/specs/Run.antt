@@ -14,12 +14,12 @@ pub record Placed : Type 0 where
   pub event : SingleEvent
   pub place : ℕ
 
--- an event, and what came of it
+-- an event, and its outs
 pub record Happened : Type 0 where
   pub event : SingleEvent
   pub outs : List Out
 
--- the events one after another, each with what came of it
+-- the events one after another, each with its outs
 abbrev pub history : FacilityState → List Placed → List Happened
 history s [] = []
 history s (p ∷ ps) = record { event = p.event; outs = (step s p.event p.place).outs } ∷ history (step s p.event p.place).state ps
@@ -29,7 +29,7 @@ abbrev pub state_after : FacilityState → List Placed → FacilityState
 state_after s [] = s
 state_after s (p ∷ ps) = state_after (step s p.event p.place).state ps
 
--- what came of the events, joined
+-- the outs of the events, joined
 abbrev pub outs_of : List Happened → List Out
 outs_of [] = []
 outs_of (h ∷ hs) = h.outs ++ outs_of hs

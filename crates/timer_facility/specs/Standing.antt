@@ -60,7 +60,7 @@ NeedsMemory s client number (Requests.Start interval action) = (not_taken s clie
 NeedsMemory s client number (Requests.Stop handle) = ⊥
 NeedsMemory s client number (Requests.Restart handle interval action) = ⊥
 
--- the request is not taken, for the reason of the verdict; or it needs memory, and a growth was refused
+-- the request is not taken, for the reason of the verdict; or it allocates, and the allocation failed
 abbrev pub IsNotTaken : FacilityState → ℕ → ℕ → Request → NotTaken → Type 0
 IsNotTaken s client number request reason = (not_taken s client number ≡ Some reason) ⊎ ((reason ≡ NotTakens.OutOfMemory) × NeedsMemory s client number request)
 

@@ -1,4 +1,4 @@
--- Clients in threads of their own, and the text of what came of them.
+-- Clients in threads of their own, and the text that tells their counts.
 use Rattle.std.specs.Prelude.{◌≡◌, ◌<◌, ◌+◌, ◌++◌, ◌⊎◌, ℕ, zero, suc, true, false, List, [], ◌∷◌, length, get_or, Option, Some, None, codes, decimal}
 use Rattle.std.specs.declared.thread.PromisedHandle.{PromisedHandle}
 use Rattle.timer_desk.specs.declared.ring.RingInlet.{RingInlet}
@@ -79,7 +79,7 @@ pub record IsFirstClient (desk : DeskState RingInlet) (all : List Worked) (c : �
   pub reason : ((w : Worked) → has_failed (get_or all c w) ≡ true) ⊎ IsHeldBack desk all c
   pub others : (k : ℕ) (w : Worked) → k < c → has_failed (get_or all k w) ≡ false
 
--- the first fault of what came of the desk and of the clients: memory, then clients, then the desk
+-- the first fault of the desk and of the clients: memory, then clients, then the desk
 abbrev pub IsFirstFault : DeskState RingInlet → DriveEnd → List Worked → ThreadsFault → Type 0
 IsFirstFault desk outcome all Faults.OutOfMemory = Unit {0}
 IsFirstFault desk outcome all (Faults.Client c) = ¬ (outcome ≡ DriveEnds.OutOfMemory) × IsFirstClient desk all c

@@ -228,7 +228,7 @@ apart_from lists l key front (x ∷ xs) a b e = (
 pub apart_rows : (n key : ℕ) (lists : List (List (ℕ × Node))) → n ≤ length lists → AreApart lists → AllByRecursion (HasNode key (node_at key lists)) (rows_below n lists)
 apart_rows n key lists b a = all-rows_below (HasNode key (node_at key lists)) n lists (λ s h. apart_from lists s key [] (list_at s lists) a (omega arith) refl)
 
--- Pending and due, parted by the clock.
+-- Pending and due, separated by the clock.
 
 -- the deadline of each pending row is after the tick
 abbrev pub AreLater : ℕ → List (ℕ × Node) → Type 0
