@@ -1,5 +1,5 @@
 -- The lines of the ends and of the readers of what clients left.
-use Rattle.std.proofs.Common.{◌≡◌, ◌<◌, ◌≤◌, ◌⊎◌, inl, inr, true, ◌++◌, ℕ, min, List, [], ◌∷◌, length, get_or, refl, sym, ◌∙◌, ap, subst, arith, append-nil, false}
+use Rattle.std.proofs.Common.{◌≡◌, ◌<◌, ◌≤◌, ◌⊎◌, inl, inr, true, ◌++◌, ℕ, min, List, [], ◌∷◌, length, get_or, refl, sym, ◌∙◌, ap, subst, arith, append-nil}
 use Rattle.std.proofs.lemmas.Bool.{cases_lt}
 use Rattle.std.specs.Prelude.{Option, Some, None, IfSome, IsNone}
 use Rattle.timer_desk.specs.declared.ring.RingInlet.{RingInlet}
@@ -11,7 +11,6 @@ use Rattle.timer_desk.specs.Winding.{AreEndsOf, AreReadersOf, AllGot, AllReadOut
 use Rattle.timer_desk.specs.declared.driving.DriveEnd.{DriveEnd}
 use Rattle.timer_desk.specs.declared.driving.DriveEnd.TheVariants as DriveEnds
 use Rattle.timer_threads.specs.declared.fault.ThreadsFault.{ThreadsFault}
-use Rattle.timer_threads.specs.declared.fault.ThreadsFault.TheVariants as Faults
 use Rattle.timer_threads.specs.declared.worked.Worked.{Worked}
 use Rattle.timer_threads.specs.Parted.{has_failed, NoneFailed, IsFirstFailed, lower_of, AreParted}
 use Rattle.timer_threads.specs.Threads.{AreOfLines, AllRead, NoneUnread, IsWoundUp, IsHeldOf, IsHeldBack, IsFirstClient, IsFirstFault, fault_of}

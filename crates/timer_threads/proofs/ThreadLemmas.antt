@@ -8,7 +8,7 @@ use Rattle.timer_desk.specs.Ring.{line_of_end, line_of_inlet}
 use Rattle.timer_threads.specs.declared.promise.Finishes.{Finishes}
 use Rattle.timer_threads.specs.declared.worked.Worked.{Worked}
 use Rattle.timer_threads.specs.Working.{IsOfLine, IsWhole}
-use Rattle.timer_threads.specs.Parted.{has_failed, NoneFailed}
+use Rattle.timer_threads.specs.Parted.{NoneFailed}
 use Rattle.timer_threads.specs.Threads.{AreTied, AreOfLines, AllWhole, clients_text, client_line, whole_lines}
 
 pub Child : Type 0

@@ -3,6 +3,7 @@ ghost use Rattle.std.specs.Prelude.{◌≡◌, ◌≤◌};
 ghost use Rattle.timer_base.specs.declared.limits.TheConstants.{LAST};
 
 use crate::gate::{Gate, InTurn, Open};
+use crate::testing::line;
 use crate::worked::Worked;
 use crate::working::client_work;
 use std::alloc::Global;
@@ -11,7 +12,7 @@ use std::sync::Arc;
 use std::sync::atomic::{AtomicU64, Ordering};
 use std::test::*;
 use timer_base::{Handle, LAST, Timer};
-use timer_desk::{ClientEnd, Inlet, Put, RingInlet, Taken, Word, ring_line};
+use timer_desk::{Inlet, Put, RingInlet, Taken, Word};
 use timer_facility::{Answer, NotTaken, Notice, Reason, Request};
 
 /// The answer to a start that was accepted.
@@ -66,12 +67,12 @@ fn told<G: Gate + Drop>(
     words: &[Word],
     count: u64,
     gate: G,
-) -> Result<Worked, Fail>
+) -> Worked
     requires { count ≤ LAST }
 {
-    let (end, mut inlet) = ring_line(alloc, 16, 1)?;
+    let (end, mut inlet) = line(rt, alloc, 16, 1);
     say(rt, &mut inlet, words);
-    Ok(client_work(end, count, 1000, gate))
+    client_work(end, count, 1000, gate)
 }
 
 /// Lets the requests up to this number go.
@@ -87,17 +88,16 @@ impl Gate for UpTo {
 }
 
 #[test]
-fn a_client_that_hears_what_it_has_to_is_complete(rt: HostRuntime) -> Result<(), Fail> {
+fn a_client_that_hears_what_it_has_to_is_complete(rt: HostRuntime) {
     let words = [started(1), started(2), expired(5, 1), expired(5, 2)];
-    let worked = told(&rt, rt.alloc(), &words, 2, Open)?;
+    let worked = told(&rt, rt.alloc(), &words, 2, Open);
     assert!(rt; !worked.failed);
     assert_eq!(rt; (worked.sent, worked.started, worked.expired), (2, 2, 2));
-    Ok(())
 }
 
 /// Fails unless a client stops at the last of these words, counts so many, and reads no further.
-fn stops(rt: &impl Abort, alloc: Global, words: &[Word], counts: (u64, u64)) -> Result<(), Fail> {
-    let (end, mut inlet) = ring_line(alloc, 16, 1)?;
+fn stops(rt: &impl Abort, alloc: Global, words: &[Word], counts: (u64, u64)) {
+    let (end, mut inlet) = line(rt, alloc, 16, 1);
     say(rt, &mut inlet, words);
     say(rt, &mut inlet, &[started(9)]);
     let worked = client_work(end, 2, 1000, UpTo { number: 1 });
@@ -105,21 +105,19 @@ fn stops(rt: &impl Abort, alloc: Global, words: &[Word], counts: (u64, u64)) -> 
     assert_eq!(rt; (worked.started, worked.expired), counts);
     let mut reader = worked.reader;
     assert_eq!(rt; reader.receive(), Some(started(9)));
-    Ok(())
 }
 
 #[test]
-fn a_client_stops_at_an_answer_with_a_wrong_number(rt: HostRuntime) -> Result<(), Fail> {
+fn a_client_stops_at_an_answer_with_a_wrong_number(rt: HostRuntime) {
     let alloc = rt.alloc();
-    stops(&rt, alloc, &[started(2)], (1, 0))?;
-    stops(&rt, alloc, &[started(0)], (1, 0))?;
-    stops(&rt, alloc, &[started(1), started(1)], (2, 0))?;
-    stops(&rt, alloc, &[started(1), started(3)], (2, 0))?;
-    Ok(())
+    stops(&rt, alloc, &[started(2)], (1, 0));
+    stops(&rt, alloc, &[started(0)], (1, 0));
+    stops(&rt, alloc, &[started(1), started(1)], (2, 0));
+    stops(&rt, alloc, &[started(1), started(3)], (2, 0));
 }
 
 #[test]
-fn a_client_stops_at_a_request_that_started_nothing(rt: HostRuntime) -> Result<(), Fail> {
+fn a_client_stops_at_a_request_that_started_nothing(rt: HostRuntime) {
     let alloc = rt.alloc();
     let not_taken = Word::NotTaken {
         number: 1,
@@ -130,24 +128,23 @@ fn a_client_stops_at_a_request_that_started_nothing(rt: HostRuntime) -> Result<(
         alloc,
         &[answered(Answer::Refused(Reason::Full))],
         (0, 0),
-    )?;
+    );
     stops(
         &rt,
         alloc,
         &[answered(Answer::Stopped { serial: 1 })],
         (0, 0),
-    )?;
-    stops(&rt, alloc, &[not_taken], (0, 0))?;
-    Ok(())
+    );
+    stops(&rt, alloc, &[not_taken], (0, 0));
 }
 
 #[test]
-fn a_client_stops_at_a_timer_that_is_returned(rt: HostRuntime) -> Result<(), Fail> {
-    stops(&rt, rt.alloc(), &[started(1), returned(5, 1)], (1, 0))
+fn a_client_stops_at_a_timer_that_is_returned(rt: HostRuntime) {
+    stops(&rt, rt.alloc(), &[started(1), returned(5, 1)], (1, 0));
 }
 
 #[test]
-fn a_client_stops_at_timers_out_of_order(rt: HostRuntime) -> Result<(), Fail> {
+fn a_client_stops_at_timers_out_of_order(rt: HostRuntime) {
     let alloc = rt.alloc();
     let both = [started(1), started(2)];
     stops(
@@ -155,24 +152,23 @@ fn a_client_stops_at_timers_out_of_order(rt: HostRuntime) -> Result<(), Fail> {
         alloc,
         &[both[0], both[1], expired(5, 1), expired(4, 2)],
         (2, 2),
-    )?;
+    );
     stops(
         &rt,
         alloc,
         &[both[0], both[1], expired(5, 2), expired(5, 1)],
         (2, 2),
-    )?;
+    );
     stops(
         &rt,
         alloc,
         &[both[0], both[1], expired(5, 1), expired(5, 1)],
         (2, 2),
-    )?;
-    Ok(())
+    );
 }
 
 #[test]
-fn a_client_stops_at_a_word_too_many(rt: HostRuntime) -> Result<(), Fail> {
+fn a_client_stops_at_a_word_too_many(rt: HostRuntime) {
     let alloc = rt.alloc();
     let all = [started(1), started(2), expired(5, 1), expired(5, 2)];
     stops(
@@ -180,14 +176,13 @@ fn a_client_stops_at_a_word_too_many(rt: HostRuntime) -> Result<(), Fail> {
         alloc,
         &[all[0], all[1], all[2], all[3], started(3)],
         (3, 2),
-    )?;
+    );
     stops(
         &rt,
         alloc,
         &[all[0], all[1], all[2], all[3], expired(6, 3)],
         (2, 3),
-    )?;
-    Ok(())
+    );
 }
 
 /// Writes down what it is asked, two digits for each ask, and lets the requests up to 3 go.
@@ -222,16 +217,16 @@ fn a_gate_is_asked_with_the_next_number_and_the_timers_that_expired(
         started(3),
         expired(3, 3),
     ];
-    let worked = told(&rt, alloc, &words, 3, gate)?;
+    let worked = told(&rt, alloc, &words, 3, gate);
     assert!(rt; !worked.failed);
     assert_eq!(rt; asks.load(Ordering::SeqCst), 10_20_31);
     Ok(())
 }
 
 #[test]
-fn a_gate_that_opens_for_three_requests_lets_three_go(rt: HostRuntime) -> Result<(), Fail> {
+fn a_gate_that_opens_for_three_requests_lets_three_go(rt: HostRuntime) {
     let alloc = rt.alloc();
-    let (end, mut inlet) = ring_line(alloc, 16, 1)?;
+    let (end, mut inlet) = line(&rt, alloc, 16, 1);
     let worked = client_work(end, 5, 1000, UpTo { number: 3 });
     assert!(rt; worked.failed);
     assert_eq!(rt; worked.sent, 3);
@@ -248,20 +243,18 @@ fn a_gate_that_opens_for_three_requests_lets_three_go(rt: HostRuntime) -> Result
         }
     }
     assert_eq!(rt; inlet.take(), Taken::Empty);
-    Ok(())
 }
 
 #[test]
-fn a_gate_in_turn_waits_for_each_timer(rt: HostRuntime) -> Result<(), Fail> {
+fn a_gate_in_turn_waits_for_each_timer(rt: HostRuntime) {
     let alloc = rt.alloc();
     assert!(rt; InTurn.may_send(1, 0));
     assert!(rt; !InTurn.may_send(2, 0));
     assert!(rt; InTurn.may_send(2, 1));
     assert!(rt; InTurn.may_send(u64::MAX, u64::MAX));
-    let (end, _inlet) = ring_line(alloc, 16, 1)?;
+    let (end, _inlet) = line(&rt, alloc, 16, 1);
     let worked = client_work(end, 5, 1000, InTurn);
     assert_eq!(rt; (worked.sent, worked.failed), (1, true));
-    Ok(())
 }
 
 /// Counts how often it is asked, and opens at each ask that is a multiple of `every`.
@@ -287,7 +280,7 @@ fn a_client_gives_up_after_as_many_idle_turns_as_its_limit(rt: HostRuntime) -> R
         asks: Arc::try_clone(&asks)?,
         every: 1,
     };
-    let (end, _inlet) = ring_line(alloc, 8, 1)?;
+    let (end, _inlet) = line(&rt, alloc, 8, 1);
     let worked = client_work(end, 100, 1000, gate);
     assert!(rt; worked.failed);
     assert_eq!(rt; (worked.sent, worked.started, worked.expired), (8, 0, 0));
@@ -304,33 +297,31 @@ fn a_client_that_sends_now_and_then_does_not_give_up(rt: HostRuntime) -> Result<
         every: 900,
     };
     let words = [started(1), started(2), expired(5, 1), expired(5, 2)];
-    let worked = told(&rt, alloc, &words, 2, gate)?;
+    let worked = told(&rt, alloc, &words, 2, gate);
     assert!(rt; !worked.failed);
     assert_eq!(rt; asks.load(Ordering::SeqCst), 1800);
     Ok(())
 }
 
 #[test]
-fn a_client_works_at_the_ends_of_its_ranges(rt: HostRuntime) -> Result<(), Fail> {
+fn a_client_works_at_the_ends_of_its_ranges(rt: HostRuntime) {
     let alloc = rt.alloc();
-    let (end, mut inlet) = ring_line(alloc, 8, LAST)?;
+    let (end, mut inlet) = line(&rt, alloc, 8, LAST);
     say(&rt, &mut inlet, &[started(LAST), expired(2, 1)]);
     let worked = client_work(end, 1, LAST, Open);
     assert!(rt; !worked.failed);
-    let (end, _inlet) = ring_line(alloc, 8, LAST)?;
+    let (end, _inlet) = line(&rt, alloc, 8, LAST);
     let worked = client_work(end, LAST, 1000, Open);
     assert_eq!(rt; (worked.sent, worked.failed), (1, true));
-    let (end, _inlet) = ring_line(alloc, 8, 1)?;
+    let (end, _inlet) = line(&rt, alloc, 8, 1);
     let worked = client_work(end, 0, 1000, Open);
     assert!(rt; !worked.failed);
-    Ok(())
 }
 
 #[test]
-fn a_client_whose_owner_is_gone_fails(rt: HostRuntime) -> Result<(), Fail> {
-    let (end, inlet) = ring_line(rt.alloc(), 8, 1)?;
+fn a_client_whose_owner_is_gone_fails(rt: HostRuntime) {
+    let (end, inlet) = line(&rt, rt.alloc(), 8, 1);
     drop(inlet);
     let worked = client_work(end, 3, 1000, Open);
     assert!(rt; worked.failed);
-    Ok(())
 }

@@ -6,10 +6,9 @@ ghost use Rattle.timer_desk.specs.Desk.{clients_of};
 
 use crate::testing::*;
 use std::process::Abort;
-use std::test::*;
-use timer_desk::{ClientEnd, ClientReader, Desk, RingInlet, Served, Unsent, Word, ring_line};
+use timer_desk::{ClientEnd, ClientReader, Desk, RingInlet, Served, Unsent, Word};
 use timer_facility::{Answer, Notice};
-use timer_wheels::HierWheel;
+use timer_wheels::{HierWheel, Table};
 
 /// The serial and the deadline that a word tells: of an answer, 1; of an expired timer, 2.
 fn told(word: Option<Word>) -> (u64, u64, u64) {
@@ -84,19 +83,13 @@ fn silent(rt: &impl Abort, desk: Desk<HierWheel, RingInlet>, zero: ClientEnd, on
 }
 
 #[test]
-fn a_client_that_does_not_receive_holds_up_no_other(rt: HostRuntime) -> Result<(), Fail> {
+fn a_client_that_does_not_receive_holds_up_no_other(rt: HostRuntime) {
     let alloc = rt.alloc();
-    let (zero, inlet) = ring_line(alloc, 2, 1)?;
-    let (one, other) = ring_line(alloc, 8, 1)?;
-    let desk = desk(
-        &rt,
-        alloc,
-        HierWheel::new(alloc, 0)?,
-        vec![in alloc; inlet, other]?,
-        4,
-    )?;
+    let (zero, first) = line(&rt, alloc, 2, 1);
+    let (one, second) = line(&rt, alloc, 8, 1);
+    let wheel = hierarchy(&rt, alloc, Table::Wide);
+    let desk = desk(&rt, alloc, wheel, two(&rt, alloc, first, second), 4);
     silent(&rt, desk, zero, one);
-    Ok(())
 }
 
 /// Ends a desk of one client, settles its reader, and reads what is left.
@@ -172,20 +165,14 @@ fn ended(rt: &impl Abort, desk: Desk<HierWheel, RingInlet>, end: ClientEnd)
 }
 
 #[test]
-fn a_ring_line_is_read_to_its_end(rt: HostRuntime) -> Result<(), Fail> {
+fn a_ring_line_is_read_to_its_end(rt: HostRuntime) {
     let alloc = rt.alloc();
-    let (mut end, inlet) = ring_line(alloc, 2, 1)?;
+    let (mut end, inlet) = line(&rt, alloc, 2, 1);
     assert_eq!(rt; end.submit(start(2, 7)), Ok(1));
     assert_eq!(rt; end.submit(start(1, 8)), Ok(2));
     assert_eq!(rt; end.submit(start(5, 9)), Err(Unsent::Full(start(5, 9))));
     assert_eq!(rt; end.next_number(), 3);
-    let desk = desk(
-        &rt,
-        alloc,
-        HierWheel::new(alloc, 0)?,
-        vec![in alloc; inlet]?,
-        8,
-    )?;
+    let wheel = hierarchy(&rt, alloc, Table::Wide);
+    let desk = desk(&rt, alloc, wheel, one(&rt, alloc, inlet), 8);
     ended(&rt, desk, end);
-    Ok(())
 }

@@ -1,16 +1,17 @@
 //! Rows of a desk's steps, over each wheel and over lines of two kinds: by single calls, and by one
 //! turn.
 ghost use Rattle.std.specs.Prelude.{◌≡◌, [], All};
+ghost use Rattle.timer_base.specs.declared.limits.TheConstants.{LAST};
+ghost use Rattle.timer_base.specs.WheelState.{empty_wheel};
 ghost use Rattle.timer_desk.specs.Desk.{clients_of, InRange};
 
 use crate::refusing::Refusing;
 use crate::testing::*;
 use std::alloc::Global;
 use std::process::Abort;
-use std::test::*;
 use timer_base::{Handle, PlainWheel, Wheel};
 use timer_desk::{
-    ClientEnd, Desk, Done, Inlet, MemoryInlet, Numbered, RingInlet, Served, Step, Word, ring_line,
+    ClientEnd, Desk, Done, Inlet, MemoryInlet, Numbered, RingInlet, Served, Step, Word,
 };
 use timer_facility::{Answer, NotTaken, Notice, Request};
 use timer_wheels::{HashedWheel, HierWheel, Table};
@@ -31,19 +32,15 @@ fn take_steps<W: Wheel + Drop, I: Inlet + Drop>(
     way: Way,
     steps: &[Step],
     report: &[Done],
-) -> Result<(), Fail>
+)
     requires { All (InRange (clients_of desk.old)) steps.now }
 {
     match way {
-        Way::Calls => {
-            by_calls(rt, desk, steps, report);
-            Ok(())
-        }
-        Way::Turn => {
-            let done = desk.turn(steps)?;
-            are_members(rt, &done, report);
-            Ok(())
-        }
+        Way::Calls => by_calls(rt, desk, steps, report),
+        Way::Turn => match desk.turn(steps) {
+            Ok(done) => are_members(rt, &done, report),
+            Err(_) => panic!(rt; "out of memory"),
+        },
     }
 }
 
@@ -117,11 +114,7 @@ fn returned(serial: u64, client: u64, deadline: u64, action: u64) -> Notice {
 }
 
 /// An outbox without room for two words more takes no request.
-fn no_room<W: Wheel + Drop, I: Inlet + Drop>(
-    rt: &impl Abort,
-    desk: &mut Desk<W, I>,
-    way: Way,
-) -> Result<(), Fail> {
+fn no_room<W: Wheel + Drop, I: Inlet + Drop>(rt: &impl Abort, desk: &mut Desk<W, I>, way: Way) {
     let steps = [
         Step::Serve(0),
         Step::Serve(0),
@@ -142,7 +135,7 @@ fn no_room<W: Wheel + Drop, I: Inlet + Drop>(
         flushed(0, 1),
     ];
     assert_eq!(rt; desk.clients(), 1);
-    take_steps(rt, desk, way, &steps, &report)
+    take_steps(rt, desk, way, &steps, &report);
 }
 
 /// The words of that row.
@@ -159,7 +152,7 @@ fn close_at_desk<W: Wheel + Drop, I: Inlet + Drop>(
     rt: &impl Abort,
     desk: &mut Desk<W, I>,
     way: Way,
-) -> Result<(), Fail> {
+) {
     let steps = [
         Step::Serve(0),
         Step::Serve(1),
@@ -183,7 +176,7 @@ fn close_at_desk<W: Wheel + Drop, I: Inlet + Drop>(
         flushed(1, 2),
     ];
     assert_eq!(rt; desk.clients(), 2);
-    take_steps(rt, desk, way, &steps, &report)
+    take_steps(rt, desk, way, &steps, &report);
 }
 
 /// The word for request 2, which comes after the close.
@@ -213,7 +206,7 @@ fn held_request<W: Wheel + Drop, I: Inlet + Drop>(
     rt: &impl Abort,
     desk: &mut Desk<W, I>,
     way: Way,
-) -> Result<(), Fail> {
+) {
     assert_eq!(rt; desk.clients(), 1);
     take_steps(
         rt,
@@ -221,15 +214,14 @@ fn held_request<W: Wheel + Drop, I: Inlet + Drop>(
         way,
         &[Step::Serve(0)],
         &[served(0, Served::NoMemory)],
-    )?;
+    );
     assert_eq!(rt; desk.clients(), 1);
     assert_eq!(rt; desk.held(0), Some(numbered(1, 1, 7)));
     let steps = [Step::Serve(0), Step::Flush(0)];
     let report = [did(0, numbered(1, 1, 7), 1, 1), flushed(0, 1)];
-    take_steps(rt, desk, way, &steps, &report)?;
+    take_steps(rt, desk, way, &steps, &report);
     assert_eq!(rt; desk.clients(), 1);
     assert_eq!(rt; desk.held(0), None);
-    Ok(())
 }
 
 /// Ends a desk over lines in memory, at which nothing may wait. Returns the lines.
@@ -245,109 +237,113 @@ fn end<W: Wheel + Drop>(
 }
 
 /// The row `no_room` over a line in memory.
-fn no_room_over<W: Wheel + Drop>(
-    rt: &impl Abort,
-    alloc: Global,
-    wheel: W,
-    way: Way,
-) -> Result<(), Fail>
+fn no_room_over<W: Wheel + Drop>(rt: &impl Abort, alloc: Global, wheel: W, way: Way)
     requires pending { (W.state wheel).pending ≡ [] }
     requires due { (W.state wheel).due ≡ [] }
 {
-    let requests = vec![in alloc; numbered(1, 1, 7), numbered(2, 1, 8)]?;
-    let inlets = vec![in alloc; MemoryInlet::new(alloc, requests, 10)]?;
-    let mut desk = desk(rt, alloc, wheel, inlets, 2)?;
-    no_room(rt, &mut desk, way)?;
+    let requests = two(rt, alloc, numbered(1, 1, 7), numbered(2, 1, 8));
+    let inlets = one(rt, alloc, MemoryInlet::new(alloc, requests, 10));
+    let mut desk = desk(rt, alloc, wheel, inlets, 2);
+    no_room(rt, &mut desk, way);
     let inlets = end(rt, desk, 1);
     assert_eq!(rt; inlets.len(), 1);
     are_words(rt, inlets[0].given(), &no_room_words());
-    Ok(())
 }
 
 /// The row `close_at_desk` over lines in memory.
-fn close_at_desk_over<W: Wheel + Drop>(
-    rt: &impl Abort,
-    alloc: Global,
-    wheel: W,
-    way: Way,
-) -> Result<(), Fail>
+fn close_at_desk_over<W: Wheel + Drop>(rt: &impl Abort, alloc: Global, wheel: W, way: Way)
     requires pending { (W.state wheel).pending ≡ [] }
     requires due { (W.state wheel).due ≡ [] }
 {
-    let zero = vec![in alloc; numbered(1, 5, 1), numbered(2, 1, 3)]?;
-    let one = vec![in alloc; numbered(1, 3, 2)]?;
-    let inlets = vec![in alloc;
-        MemoryInlet::new(alloc, zero, 10),
-        MemoryInlet::new(alloc, one, 10),
-    ]?;
-    let mut desk = desk(rt, alloc, wheel, inlets, 4)?;
-    close_at_desk(rt, &mut desk, way)?;
+    let zero = two(rt, alloc, numbered(1, 5, 1), numbered(2, 1, 3));
+    let first = MemoryInlet::new(alloc, zero, 10);
+    let second = MemoryInlet::new(alloc, one(rt, alloc, numbered(1, 3, 2)), 10);
+    let inlets = two(rt, alloc, first, second);
+    let mut desk = desk(rt, alloc, wheel, inlets, 4);
+    close_at_desk(rt, &mut desk, way);
     let inlets = end(rt, desk, 0);
     assert_eq!(rt; inlets.len(), 2);
     are_words(rt, inlets[0].given(), &words_of_zero());
     are_words(rt, inlets[1].given(), &words_of_one());
-    Ok(())
 }
 
 /// The row `held_request` over a line in memory.
-fn held_request_over<W: Wheel + Drop>(
-    rt: &impl Abort,
-    alloc: Global,
-    wheel: W,
-    way: Way,
-) -> Result<(), Fail>
+fn held_request_over<W: Wheel + Drop>(rt: &impl Abort, alloc: Global, wheel: W, way: Way)
     requires pending { (W.state wheel).pending ≡ [] }
     requires due { (W.state wheel).due ≡ [] }
 {
-    let requests = vec![in alloc; numbered(1, 1, 7)]?;
-    let inlets = vec![in alloc; MemoryInlet::new(alloc, requests, 10)]?;
+    let requests = one(rt, alloc, numbered(1, 1, 7));
+    let inlets = one(rt, alloc, MemoryInlet::new(alloc, requests, 10));
     let wheel = Refusing {
         wheel,
         refuses: true,
     };
-    let mut desk = desk(rt, alloc, wheel, inlets, 4)?;
-    held_request(rt, &mut desk, way)?;
+    let mut desk = desk(rt, alloc, wheel, inlets, 4);
+    held_request(rt, &mut desk, way);
     let inlets = end(rt, desk, 1);
     assert_eq!(rt; inlets.len(), 1);
     are_words(rt, inlets[0].given(), &[started(1, 1, 1)]);
-    Ok(())
+}
+
+/// A plain wheel at tick 0.
+fn plain(rt: &impl Abort, alloc: Global) -> PlainWheel
+    ensures { ⟦<PlainWheel as Wheel>⟧.state result ≡ empty_wheel LAST 0 }
+{
+    match PlainWheel::new(alloc, 0) {
+        Ok(wheel) => wheel,
+        Err(_) => panic!(rt; "not made"),
+    }
+}
+
+/// A hashed wheel at tick 0.
+fn hashed(rt: &impl Abort, alloc: Global, slots: usize) -> HashedWheel
+    ensures { ⟦<HashedWheel as Wheel>⟧.state result ≡ empty_wheel LAST 0 }
+{
+    match HashedWheel::new(alloc, slots, 0) {
+        Ok(wheel) => wheel,
+        Err(_) => panic!(rt; "not made"),
+    }
 }
 
 #[test]
-fn rows_of_a_desk_over_the_plain_wheel(rt: HostRuntime) -> Result<(), Fail> {
+fn rows_of_a_desk_over_the_plain_wheel(rt: HostRuntime) {
     let alloc = rt.alloc();
     for way in WAYS {
-        no_room_over(&rt, alloc, PlainWheel::new(alloc, 0)?, way)?;
-        close_at_desk_over(&rt, alloc, PlainWheel::new(alloc, 0)?, way)?;
-        held_request_over(&rt, alloc, PlainWheel::new(alloc, 0)?, way)?;
+        no_room_over(&rt, alloc, plain(&rt, alloc), way);
+        close_at_desk_over(&rt, alloc, plain(&rt, alloc), way);
+        held_request_over(&rt, alloc, plain(&rt, alloc), way);
     }
-    Ok(())
+}
+
+/// The rows over a hashed wheel with so many slots.
+fn rows_over_hashed(rt: &impl Abort, alloc: Global, slots: usize) {
+    for way in WAYS {
+        no_room_over(rt, alloc, hashed(rt, alloc, slots), way);
+        close_at_desk_over(rt, alloc, hashed(rt, alloc, slots), way);
+        held_request_over(rt, alloc, hashed(rt, alloc, slots), way);
+    }
 }
 
 #[test]
-fn rows_of_a_desk_over_hashed_wheels(rt: HostRuntime) -> Result<(), Fail> {
-    let alloc = rt.alloc();
-    for slots in [1usize, 8, 65_536] {
-        for way in WAYS {
-            no_room_over(&rt, alloc, HashedWheel::new(alloc, slots, 0)?, way)?;
-            close_at_desk_over(&rt, alloc, HashedWheel::new(alloc, slots, 0)?, way)?;
-            held_request_over(&rt, alloc, HashedWheel::new(alloc, slots, 0)?, way)?;
-        }
+fn rows_of_a_desk_over_hashed_wheels(rt: HostRuntime) {
+    rows_over_hashed(&rt, rt.alloc(), 1);
+    rows_over_hashed(&rt, rt.alloc(), 8);
+    rows_over_hashed(&rt, rt.alloc(), 65_536);
+}
+
+/// The rows over a hierarchy of wheels.
+fn rows_over_hierarchy(rt: &impl Abort, alloc: Global, table: Table) {
+    for way in WAYS {
+        no_room_over(rt, alloc, hierarchy(rt, alloc, table), way);
+        close_at_desk_over(rt, alloc, hierarchy(rt, alloc, table), way);
+        held_request_over(rt, alloc, hierarchy(rt, alloc, table), way);
     }
-    Ok(())
 }
 
 #[test]
-fn rows_of_a_desk_over_hierarchies_of_wheels(rt: HostRuntime) -> Result<(), Fail> {
-    let alloc = rt.alloc();
-    for table in [Table::Wide, Table::Clock] {
-        for way in WAYS {
-            no_room_over(&rt, alloc, HierWheel::with_table(alloc, table, 0)?, way)?;
-            close_at_desk_over(&rt, alloc, HierWheel::with_table(alloc, table, 0)?, way)?;
-            held_request_over(&rt, alloc, HierWheel::with_table(alloc, table, 0)?, way)?;
-        }
-    }
-    Ok(())
+fn rows_of_a_desk_over_hierarchies_of_wheels(rt: HostRuntime) {
+    rows_over_hierarchy(&rt, rt.alloc(), Table::Wide);
+    rows_over_hierarchy(&rt, rt.alloc(), Table::Clock);
 }
 
 /// Goes on only where the client receives just these words, but for places.
@@ -358,54 +354,49 @@ fn receives(rt: &impl Abort, end: &mut ClientEnd, words: &[Word]) {
     assert_eq!(rt; end.receive(), None);
 }
 
-#[test]
-fn no_room_over_a_ring_line(rt: HostRuntime) -> Result<(), Fail> {
-    let alloc = rt.alloc();
-    for way in WAYS {
-        let (mut line, inlet) = ring_line(alloc, 4, 1)?;
-        assert_eq!(rt; line.submit(start(1, 7)), Ok(1));
-        assert_eq!(rt; line.submit(start(1, 8)), Ok(2));
-        let inlets = vec![in alloc; inlet]?;
-        let mut desk = desk(&rt, alloc, HierWheel::new(alloc, 0)?, inlets, 2)?;
-        no_room(&rt, &mut desk, way)?;
-        receives(&rt, &mut line, &no_room_words());
-    }
-    Ok(())
+/// The row `no_room` over a ring line.
+fn no_room_over_ring(rt: &impl Abort, alloc: Global, way: Way) {
+    let (mut end, inlet) = line(rt, alloc, 4, 1);
+    assert_eq!(rt; end.submit(start(1, 7)), Ok(1));
+    assert_eq!(rt; end.submit(start(1, 8)), Ok(2));
+    let wheel = hierarchy(rt, alloc, Table::Wide);
+    let mut desk = desk(rt, alloc, wheel, one(rt, alloc, inlet), 2);
+    no_room(rt, &mut desk, way);
+    receives(rt, &mut end, &no_room_words());
+}
+
+/// The row `close_at_desk` over ring lines.
+fn close_at_desk_over_rings(rt: &impl Abort, alloc: Global, way: Way) {
+    let (mut zero, first) = line(rt, alloc, 4, 1);
+    let (mut one, second) = line(rt, alloc, 4, 1);
+    assert_eq!(rt; zero.submit(start(5, 1)), Ok(1));
+    assert_eq!(rt; zero.submit(start(1, 3)), Ok(2));
+    assert_eq!(rt; one.submit(start(3, 2)), Ok(1));
+    let wheel = hierarchy(rt, alloc, Table::Wide);
+    let mut desk = desk(rt, alloc, wheel, two(rt, alloc, first, second), 4);
+    close_at_desk(rt, &mut desk, way);
+    receives(rt, &mut zero, &words_of_zero());
+    receives(rt, &mut one, &words_of_one());
+}
+
+/// The row `held_request` over a ring line.
+fn held_request_over_ring(rt: &impl Abort, alloc: Global, way: Way) {
+    let (mut end, inlet) = line(rt, alloc, 4, 1);
+    assert_eq!(rt; end.submit(start(1, 7)), Ok(1));
+    let wheel = refusing(rt, alloc, true);
+    let mut desk = desk(rt, alloc, wheel, one(rt, alloc, inlet), 4);
+    held_request(rt, &mut desk, way);
+    receives(rt, &mut end, &[started(1, 1, 1)]);
 }
 
 #[test]
-fn close_at_desk_over_ring_lines(rt: HostRuntime) -> Result<(), Fail> {
+fn rows_of_a_desk_over_ring_lines(rt: HostRuntime) {
     let alloc = rt.alloc();
     for way in WAYS {
-        let (mut zero, inlet) = ring_line(alloc, 4, 1)?;
-        let (mut one, other) = ring_line(alloc, 4, 1)?;
-        assert_eq!(rt; zero.submit(start(5, 1)), Ok(1));
-        assert_eq!(rt; zero.submit(start(1, 3)), Ok(2));
-        assert_eq!(rt; one.submit(start(3, 2)), Ok(1));
-        let inlets = vec![in alloc; inlet, other]?;
-        let mut desk = desk(&rt, alloc, HierWheel::new(alloc, 0)?, inlets, 4)?;
-        close_at_desk(&rt, &mut desk, way)?;
-        receives(&rt, &mut zero, &words_of_zero());
-        receives(&rt, &mut one, &words_of_one());
+        no_room_over_ring(&rt, alloc, way);
+        close_at_desk_over_rings(&rt, alloc, way);
+        held_request_over_ring(&rt, alloc, way);
     }
-    Ok(())
-}
-
-#[test]
-fn held_request_over_a_ring_line(rt: HostRuntime) -> Result<(), Fail> {
-    let alloc = rt.alloc();
-    for way in WAYS {
-        let (mut line, inlet) = ring_line(alloc, 4, 1)?;
-        assert_eq!(rt; line.submit(start(1, 7)), Ok(1));
-        let wheel = Refusing {
-            wheel: HierWheel::new(alloc, 0)?,
-            refuses: true,
-        };
-        let mut desk = desk(&rt, alloc, wheel, vec![in alloc; inlet]?, 4)?;
-        held_request(&rt, &mut desk, way)?;
-        receives(&rt, &mut line, &[started(1, 1, 1)]);
-    }
-    Ok(())
 }
 
 /// The handle of an accepted start.
@@ -422,7 +413,7 @@ fn handle_in(rt: &impl Abort, word: Option<Word>) -> Handle {
 }
 
 /// A timer of each of two clients, for the same tick.
-fn start_two(rt: &impl Abort, desk: &mut Desk<HierWheel, RingInlet>, way: Way) -> Result<(), Fail> {
+fn start_two(rt: &impl Abort, desk: &mut Desk<HierWheel, RingInlet>, way: Way) {
     let steps = [
         Step::Serve(0),
         Step::Serve(1),
@@ -436,7 +427,7 @@ fn start_two(rt: &impl Abort, desk: &mut Desk<HierWheel, RingInlet>, way: Way) -
         flushed(1, 1),
     ];
     assert_eq!(rt; desk.clients(), 2);
-    take_steps(rt, desk, way, &steps, &report)
+    take_steps(rt, desk, way, &steps, &report);
 }
 
 /// The word for request 2, a restart of the first timer.
@@ -459,7 +450,7 @@ fn restart_one(
     desk: &mut Desk<HierWheel, RingInlet>,
     way: Way,
     restart: Numbered,
-) -> Result<(), Fail> {
+) {
     let steps = [
         Step::Serve(0),
         Step::Tick,
@@ -487,31 +478,34 @@ fn restart_one(
         flushed(1, 1),
     ];
     assert_eq!(rt; desk.clients(), 2);
-    take_steps(rt, desk, way, &steps, &report)
+    take_steps(rt, desk, way, &steps, &report);
+}
+
+/// The first timer of two is restarted, and expires behind the other.
+fn restart_over_rings(rt: &impl Abort, alloc: Global, way: Way) {
+    let (mut zero, first) = line(rt, alloc, 4, 1);
+    let (mut one, second) = line(rt, alloc, 4, 1);
+    assert_eq!(rt; zero.submit(start(5, 1)), Ok(1));
+    assert_eq!(rt; one.submit(start(5, 2)), Ok(1));
+    let wheel = hierarchy(rt, alloc, Table::Wide);
+    let mut desk = desk(rt, alloc, wheel, two(rt, alloc, first, second), 8);
+    start_two(rt, &mut desk, way);
+    let request = Request::Restart {
+        handle: handle_in(rt, zero.receive()),
+        interval: 5,
+        action: 3,
+    };
+    assert_eq!(rt; zero.submit(request), Ok(2));
+    restart_one(rt, &mut desk, way, Numbered { number: 2, request });
+    let third = expired(timer(3, 0, 2, 5, 3));
+    receives(rt, &mut zero, &[restarted(), third]);
+    let second = expired(timer(2, 1, 1, 5, 2));
+    receives(rt, &mut one, &[started(1, 2, 5), second]);
 }
 
 #[test]
-fn a_restarted_timer_takes_its_new_turn_over_ring_lines(rt: HostRuntime) -> Result<(), Fail> {
-    let alloc = rt.alloc();
+fn a_restarted_timer_takes_its_new_turn_over_ring_lines(rt: HostRuntime) {
     for way in WAYS {
-        let (mut zero, inlet) = ring_line(alloc, 4, 1)?;
-        let (mut one, other) = ring_line(alloc, 4, 1)?;
-        assert_eq!(rt; zero.submit(start(5, 1)), Ok(1));
-        assert_eq!(rt; one.submit(start(5, 2)), Ok(1));
-        let inlets = vec![in alloc; inlet, other]?;
-        let mut desk = desk(&rt, alloc, HierWheel::new(alloc, 0)?, inlets, 8)?;
-        start_two(&rt, &mut desk, way)?;
-        let request = Request::Restart {
-            handle: handle_in(&rt, zero.receive()),
-            interval: 5,
-            action: 3,
-        };
-        assert_eq!(rt; zero.submit(request), Ok(2));
-        restart_one(&rt, &mut desk, way, Numbered { number: 2, request })?;
-        let third = expired(timer(3, 0, 2, 5, 3));
-        receives(&rt, &mut zero, &[restarted(), third]);
-        let second = expired(timer(2, 1, 1, 5, 2));
-        receives(&rt, &mut one, &[started(1, 2, 5), second]);
+        restart_over_rings(&rt, rt.alloc(), way);
     }
-    Ok(())
 }

@@ -1,13 +1,17 @@
 //! What tests of desks have in common: desks, requests, and words without places.
-ghost use Rattle.std.specs.Prelude.{◌≡◌, ◌<◌, [], IfOk, vec_len};
+ghost use Rattle.std.specs.Prelude.{◌≡◌, ◌≤◌, [], ◌∷◌};
+ghost use Rattle.timer_base.specs.declared.limits.TheConstants.{LAST};
+ghost use Rattle.timer_wheels.specs.HierWheel.{hier_state};
+ghost use Rattle.timer_desk.specs.Ring.{line_of_end, line_of_inlet};
 ghost use Rattle.timer_desk.specs.Desk.{AllIdle};
 
+use crate::refusing::Refusing;
 use std::alloc::Global;
 use std::process::Abort;
-use std::test::Fail;
 use timer_base::{Handle, Timer, Wheel};
-use timer_desk::{Desk, Done, Inlet, Numbered, Served, Word};
+use timer_desk::{ClientEnd, Desk, Done, Inlet, Numbered, RingInlet, Served, Word, ring_line};
 use timer_facility::{Answer, Config, Facility, Notice, Request};
+use timer_wheels::{HierWheel, Table};
 
 /// A desk over these lines, one for each client, and a wheel that is empty and stands at tick 0.
 pub fn desk<W: Wheel + Drop, I: Inlet + Drop>(
@@ -16,10 +20,10 @@ pub fn desk<W: Wheel + Drop, I: Inlet + Drop>(
     wheel: W,
     inlets: Vec<I>,
     room: usize,
-) -> Result<Desk<W, I>, Fail>
+) -> Desk<W, I>
     requires pending { (W.state wheel).pending ≡ [] }
     requires due { (W.state wheel).due ≡ [] }
-    ensures inlets { IfOk result (λ desk. desk.inlets ≡ inlets.items) }
+    ensures inlets { result.inlets ≡ inlets.items }
 {
     let config = Config {
         clients: inlets.len() as u64,
@@ -28,14 +32,70 @@ pub fn desk<W: Wheel + Drop, I: Inlet + Drop>(
         first_serial: 1,
         first_number: 1,
     };
-    let checked = config.check()?;
+    let Ok(checked) = config.check() else {
+        panic!(rt; "no line, or too many");
+    };
     assert_eq!(rt; wheel.now(), 0);
     assert_eq!(rt; wheel.last_serial(), 0);
     let facility = Facility::open(alloc, checked, wheel);
     match Desk::open(alloc, facility, inlets, room) {
-        Ok(desk) => Ok(desk),
+        Ok(desk) => desk,
         Err(_) => panic!(rt; "not opened"),
     }
+}
+
+/// A ring line with room for so many items each way.
+pub fn line(rt: &impl Abort, alloc: Global, capacity: usize, first: u64) -> (ClientEnd, RingInlet)
+    requires capacity { (1 ≤ capacity) × (capacity ≤ 65536) }
+    requires first { (1 ≤ first) × (first ≤ LAST) }
+    ensures { line_of_end result.0 ≡ line_of_inlet result.1 }
+{
+    match ring_line(alloc, capacity, first) {
+        Ok(line) => line,
+        Err(_) => panic!(rt; "out of memory"),
+    }
+}
+
+/// A hierarchy of wheels at tick 0.
+pub fn hierarchy(rt: &impl Abort, alloc: Global, table: Table) -> HierWheel
+    ensures pending { (hier_state result).pending ≡ [] }
+    ensures due { (hier_state result).due ≡ [] }
+{
+    match HierWheel::with_table(alloc, table, 0) {
+        Ok(wheel) => wheel,
+        Err(_) => panic!(rt; "out of memory"),
+    }
+}
+
+/// The same, whose first start runs out of memory where `refuses` says so.
+pub fn refusing(rt: &impl Abort, alloc: Global, refuses: bool) -> Refusing<HierWheel>
+    ensures pending { (hier_state result.wheel).pending ≡ [] }
+    ensures due { (hier_state result.wheel).due ≡ [] }
+{
+    let wheel = hierarchy(rt, alloc, Table::Wide);
+    Refusing { wheel, refuses }
+}
+
+/// A list of one.
+pub fn one<T: Drop>(rt: &impl Abort, alloc: Global, first: T) -> Vec<T>
+    ensures { result.items ≡ first ∷ [] }
+{
+    let mut list = Vec::new(alloc);
+    let Ok(()) = list.push(first) else {
+        panic!(rt; "out of memory");
+    };
+    list
+}
+
+/// A list of two.
+pub fn two<T: Drop>(rt: &impl Abort, alloc: Global, first: T, second: T) -> Vec<T>
+    ensures { result.items ≡ first ∷ second ∷ [] }
+{
+    let mut list = one(rt, alloc, first);
+    let Ok(()) = list.push(second) else {
+        panic!(rt; "out of memory");
+    };
+    list
 }
 
 /// Goes on only where nothing waits at the desk.

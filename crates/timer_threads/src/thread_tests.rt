@@ -3,7 +3,7 @@ ghost use Rattle.std.specs.Prelude.{◌≡◌, IfOk, vec_len};
 
 use crate::fault::ThreadsFault;
 use crate::gate::{Gate, InTurn, Open};
-use crate::testing::desk;
+use crate::testing::*;
 use crate::threads::threads_run;
 use crate::working::client_work;
 use std::alloc::{AllocError, Global};
@@ -13,9 +13,9 @@ use std::sync::{Arc, Wait};
 use std::test::*;
 use std::thread;
 use std::thread::Threads;
-use timer_desk::{ClientEnd, Desk, Inlet, LockedEnd, Step, Word, locked_line, ring_line};
+use timer_desk::{ClientEnd, Desk, Inlet, LockedEnd, RingInlet, Step, Word, locked_line};
 use timer_facility::{Answer, Notice, Request};
-use timer_wheels::HierWheel;
+use timer_wheels::{HierWheel, Table};
 
 /// After so many turns in a row that passed nothing on a side gives up.
 const LIMIT: u64 = 10_000_000;
@@ -272,14 +272,9 @@ fn run_paced<I: Inlet + Drop, L: Line + Send + Drop + 'static>(
 #[test]
 fn a_client_in_a_thread_starts_a_timer_after_the_other(rt: HostRuntime) -> Result<(), Fail> {
     let alloc = rt.alloc();
-    let (end, inlet) = ring_line(alloc, 4, 1)?;
-    let desk = desk(
-        &rt,
-        alloc,
-        HierWheel::new(alloc, 0)?,
-        vec![in alloc; inlet]?,
-        8,
-    )?;
+    let (end, inlet) = line(&rt, alloc, 4, 1);
+    let wheel = hierarchy(&rt, alloc, Table::Wide);
+    let desk = desk(&rt, alloc, wheel, one(&rt, alloc, inlet), 8);
     run_paced(&rt, alloc, desk, end)
 }
 
@@ -287,50 +282,50 @@ fn a_client_in_a_thread_starts_a_timer_after_the_other(rt: HostRuntime) -> Resul
 fn a_client_behind_a_lock_starts_a_timer_after_the_other(rt: HostRuntime) -> Result<(), Fail> {
     let alloc = rt.alloc();
     let (end, inlet) = locked_line(rt, alloc, 4, 1)?;
-    let desk = desk(
-        &rt,
-        alloc,
-        HierWheel::new(alloc, 0)?,
-        vec![in alloc; inlet]?,
-        8,
-    )?;
+    let wheel = hierarchy(&rt, alloc, Table::Wide);
+    let desk = desk(&rt, alloc, wheel, one(&rt, alloc, inlet), 8);
     run_paced(&rt, alloc, desk, Locked { rt, end })
+}
+
+/// Sends three starts for the same tick, and drops the end of the line.
+fn send_three(rt: &impl Abort, end: ClientEnd) {
+    let mut end = end;
+    assert_eq!(rt; end.submit(start(5, 1)), Ok(1));
+    assert_eq!(rt; end.submit(start(5, 2)), Ok(2));
+    assert_eq!(rt; end.submit(start(5, 3)), Ok(3));
+}
+
+/// One turn of two clients. Returns how many words of each were flushed.
+fn turn_of_two(rt: &impl Abort, desk: &mut Desk<HierWheel, RingInlet>) -> (usize, usize) {
+    assert_eq!(rt; desk.clients(), 2);
+    let Ok(_) = desk.turn(&[Step::Serve(0), Step::Serve(1)]) else {
+        panic!(rt; "out of memory");
+    };
+    assert_eq!(rt; desk.clients(), 2);
+    let zero = desk.flush(0);
+    assert_eq!(rt; desk.clients(), 2);
+    let one = desk.flush(1);
+    let _ = desk.tick();
+    (zero, one)
 }
 
 #[test]
 fn a_client_that_drops_its_end_holds_up_no_other(rt: HostRuntime) -> Result<(), Fail> {
     let alloc = rt.alloc();
-    let (zero, inlet) = ring_line(alloc, 4, 1)?;
-    let (one, other) = ring_line(alloc, 4, 1)?;
-    let mut desk = desk(
-        &rt,
-        alloc,
-        HierWheel::new(alloc, 0)?,
-        vec![in alloc; inlet, other]?,
-        8,
-    )?;
-    let mut zero = zero;
-    for action in 1..=3u64 {
-        let request = Request::Start {
-            interval: 5,
-            action,
-        };
-        assert_eq!(rt; zero.submit(request), Ok(action));
-    }
-    drop(zero);
-    let child = thread::spawn(&rt, move || client_work(one, 50, LIMIT, Open))?;
+    let (zero, first) = line(&rt, alloc, 4, 1);
+    let (end, second) = line(&rt, alloc, 4, 1);
+    let wheel = hierarchy(&rt, alloc, Table::Wide);
+    let mut desk = desk(&rt, alloc, wheel, two(&rt, alloc, first, second), 8);
+    send_three(&rt, zero);
+    let child = thread::spawn(&rt, move || client_work(end, 50, LIMIT, Open))?;
     let mut flushed = (0usize, 0usize);
     for _ in 0..LIMIT {
-        assert_eq!(rt; desk.clients(), 2);
         if flushed.1 >= 100 {
             break;
         }
-        desk.turn(&[Step::Serve(0), Step::Serve(1)])?;
-        assert_eq!(rt; desk.clients(), 2);
-        flushed.0 = flushed.0.saturating_add(desk.flush(0));
-        assert_eq!(rt; desk.clients(), 2);
-        flushed.1 = flushed.1.saturating_add(desk.flush(1));
-        let _ = desk.tick();
+        let (zero, one) = turn_of_two(&rt, &mut desk);
+        flushed.0 = flushed.0.saturating_add(zero);
+        flushed.1 = flushed.1.saturating_add(one);
         thread::yield_now();
     }
     let worked = child.join(&rt);

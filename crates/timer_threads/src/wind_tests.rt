@@ -9,48 +9,47 @@ use crate::refusing::Refusing;
 use crate::testing::*;
 use std::alloc::Global;
 use std::process::Abort;
-use std::test::*;
-use timer_desk::{ClientEnd, ClientReader, Desk, DriveEnd, RingInlet, drive, ring_line, wind_up};
-use timer_wheels::HierWheel;
+use timer_desk::{ClientEnd, ClientReader, Desk, DriveEnd, RingInlet, drive, wind_up};
+use timer_wheels::{HierWheel, Table};
 
 #[test]
-fn a_drive_over_an_empty_line_comes_to_its_limit(rt: HostRuntime) -> Result<(), Fail> {
+fn a_drive_over_an_empty_line_comes_to_its_limit(rt: HostRuntime) {
     let alloc = rt.alloc();
-    let (_end, inlet) = ring_line(alloc, 8, 1)?;
-    let inlets = vec![in alloc; inlet]?;
-    let desk = desk(&rt, alloc, HierWheel::new(alloc, 0)?, inlets, 8)?;
+    let (_end, inlet) = line(&rt, alloc, 8, 1);
+    let wheel = hierarchy(&rt, alloc, Table::Wide);
+    let desk = desk(&rt, alloc, wheel, one(&rt, alloc, inlet), 8);
     let driven = drive(alloc, desk, 1, 1000);
     assert_eq!(rt; driven.outcome, DriveEnd::Limit);
     assert_eq!(rt; driven.desk.facility().now(), 1000);
-    Ok(())
 }
 
-#[test]
-fn a_drive_that_ran_out_of_memory_can_be_driven_on(rt: HostRuntime) -> Result<(), Fail> {
-    let alloc = rt.alloc();
-    let (mut end, inlet) = ring_line(alloc, 8, 1)?;
-    assert_eq!(rt; end.submit(start(1, 7)), Ok(1));
-    let wheel = Refusing {
-        wheel: HierWheel::new(alloc, 0)?,
-        refuses: true,
-    };
-    let desk = desk(&rt, alloc, wheel, vec![in alloc; inlet]?, 8)?;
-    let driven = drive(alloc, desk, 1, 1000);
-    assert_eq!(rt; driven.outcome, DriveEnd::OutOfMemory);
-    // The request is held, and the rest of its turn was done: a flush of no word, and a tick.
-    let desk = driven.desk;
+/// Goes on only where the desk holds the request whose start ran out of memory, and the rest of its
+/// turn was done: a flush of no word, and a tick.
+fn holds_the_request(rt: &impl Abort, desk: &Desk<Refusing<HierWheel>, RingInlet>) {
     assert_eq!(rt; desk.clients(), 1);
     assert_eq!(rt; desk.held(0), Some(numbered(1, 1, 7)));
     assert_eq!(rt; desk.outbox_len(0), 0);
-    assert_eq!(rt; (desk.facility().now(), desk.facility().pending()), (1, 0));
+    assert_eq!(rt; desk.facility().now(), 1);
+    assert_eq!(rt; desk.facility().pending(), 0);
+}
+
+#[test]
+fn a_drive_that_ran_out_of_memory_can_be_driven_on(rt: HostRuntime) {
+    let alloc = rt.alloc();
+    let (mut end, inlet) = line(&rt, alloc, 8, 1);
+    assert_eq!(rt; end.submit(start(1, 7)), Ok(1));
+    let wheel = refusing(&rt, alloc, true);
+    let desk = desk(&rt, alloc, wheel, one(&rt, alloc, inlet), 8);
+    let driven = drive(alloc, desk, 1, 1000);
+    assert_eq!(rt; driven.outcome, DriveEnd::OutOfMemory);
+    holds_the_request(&rt, &driven.desk);
     assert_eq!(rt; end.receive(), None);
 
-    let driven = drive(alloc, desk, 1, 1000);
+    let driven = drive(alloc, driven.desk, 1, 1000);
     assert_eq!(rt; driven.outcome, DriveEnd::Done);
     assert_eq!(rt; end.receive().map(bare), Some(started(1, 1, 2)));
     assert_eq!(rt; end.receive(), Some(expired(timer(1, 0, 1, 2, 7))));
     assert_eq!(rt; end.receive(), None);
-    Ok(())
 }
 
 /// Drives a desk over one ring line to a goal, finishes its client's end, and winds it up. Returns how
@@ -101,32 +100,26 @@ fn wound_up_after(
     capacity: usize,
     goal: u64,
     refuses: bool,
-) -> Result<Option<Result<usize, usize>>, Fail>
+) -> Option<Result<usize, usize>>
     requires capacity { (1 ≤ capacity) × (capacity ≤ 8) }
     requires goal { goal ≤ LAST }
 {
-    let (mut end, inlet) = ring_line(alloc, capacity, 1)?;
+    let (mut end, inlet) = line(rt, alloc, capacity, 1);
     assert_eq!(rt; end.submit(start(1, 5)), Ok(1));
     assert_eq!(rt; end.submit(start(1, 5)), Ok(2));
-    let wheel = Refusing {
-        wheel: HierWheel::new(alloc, 0)?,
-        refuses,
-    };
-    let desk = desk(rt, alloc, wheel, vec![in alloc; inlet]?, 8)?;
-    Ok(wound_up(alloc, end, desk, goal))
+    let wheel = refusing(rt, alloc, refuses);
+    let desk = desk(rt, alloc, wheel, one(rt, alloc, inlet), 8);
+    wound_up(alloc, end, desk, goal)
 }
 
 #[test]
-fn a_desk_is_wound_up_only_where_nothing_stands_waits_or_is_held(
-    rt: HostRuntime,
-) -> Result<(), Fail> {
+fn a_desk_is_wound_up_only_where_nothing_stands_waits_or_is_held(rt: HostRuntime) {
     let alloc = rt.alloc();
-    assert_eq!(rt; wound_up_after(&rt, alloc, 8, 2, false)?, Some(Ok(4)));
+    assert_eq!(rt; wound_up_after(&rt, alloc, 8, 2, false), Some(Ok(4)));
     // Two requests stand in the line.
-    assert_eq!(rt; wound_up_after(&rt, alloc, 8, 0, false)?, Some(Err(0)));
+    assert_eq!(rt; wound_up_after(&rt, alloc, 8, 0, false), Some(Err(0)));
     // The line takes two of the four words.
-    assert_eq!(rt; wound_up_after(&rt, alloc, 2, 2, false)?, Some(Err(0)));
+    assert_eq!(rt; wound_up_after(&rt, alloc, 2, 2, false), Some(Err(0)));
     // The first request ran out of memory.
-    assert_eq!(rt; wound_up_after(&rt, alloc, 8, 2, true)?, Some(Err(0)));
-    Ok(())
+    assert_eq!(rt; wound_up_after(&rt, alloc, 8, 2, true), Some(Err(0)));
 }

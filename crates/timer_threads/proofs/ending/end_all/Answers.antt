@@ -1,7 +1,6 @@
-use Rattle.std.proofs.Common.{◌≡◌, ◌<◌, ◌++◌, length, vec_len, sym, ◌∙◌, ap, subst, arith, refl, codes}
+use Rattle.std.proofs.Common.{◌≡◌, ◌++◌, length, vec_len, sym, ◌∙◌, ap, subst, arith, refl, codes}
 use Rattle.std.specs.Prelude.{IsNone, IfSome}
-use Rattle.timer_desk.specs.Winding.{AreEndsOf, AreReadersOf}
-use Rattle.timer_threads.specs.Parted.{NoneFailed, IsFirstFailed, AreParted}
+use Rattle.timer_threads.specs.Parted.{NoneFailed, IsFirstFailed}
 use Rattle.timer_threads.specs.Threads.{clients_text, whole_lines}
 use Rattle.timer_threads.proofs.ThreadLemmas.{clients_text-whole}
 use Rattle.timer_threads.proofs.EndedLines.{ends_of, readers_of, IfSome-map, held_back_by, first_fault_is, no_fault, wound_by}

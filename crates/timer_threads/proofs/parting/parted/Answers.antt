@@ -2,7 +2,7 @@ use Rattle.std.proofs.Common.{◌≡◌, List, length, subst, refl, arith}
 use Rattle.std.proofs.lemmas.Grind.{common_steps}
 use Rattle.timer_threads.specs.declared.worked.Worked.{Worked}
 use Rattle.timer_threads.specs.Parted.{AreParted}
-use Rattle.timer_threads.proofs.PartedLemmas.{AreParted-more, parted_none, nothing_left, one_less, missing_is_failed}
+use Rattle.timer_threads.proofs.PartedLemmas.{AreParted-more, parted_none, nothing_left, one_less}
 use Rattle.timer_threads.proofs.parting.parted.Goals as goal
 
 pub loop-worked-init : goal.loop-worked-init

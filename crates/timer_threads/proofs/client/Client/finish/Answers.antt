@@ -1,4 +1,4 @@
-use Rattle.std.proofs.Common.{◌≡◌, ◌||◌, Bool, not, sym, ◌∙◌, ap, refl}
+use Rattle.std.proofs.Common.{◌≡◌, ◌||◌, not, sym, ◌∙◌, ap, refl}
 use Rattle.timer_desk.specs.Ring.{line_of_end, requests_ring_of, all_submitted, submitted}
 use Rattle.timer_threads.specs.Client.{is_complete}
 use Rattle.timer_threads.proofs.ClientLemmas.{ended_so, HasWorked-finished}

@@ -1,4 +1,4 @@
-use Rattle.std.proofs.Common.{◌≡◌, refl}
+use Rattle.std.proofs.Common.{refl}
 use Rattle.timer_threads.proofs.ClientLemmas.{IsAtWork-sent}
 use Rattle.timer_threads.proofs.client.Client.send_next.Goals as goal
 
