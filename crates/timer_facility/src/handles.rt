@@ -73,7 +73,8 @@ impl Handles {
         ensures recorded { AreRecorded self.new.list.items facility.now.state }
         ensures few { AreFew self.new.list.items facility.now.state }
     {
-        if self.list.len() > 2 * facility.pending() + SPARE {
+        let enough = 2 * facility.pending() + SPARE;
+        if self.list.len() > enough {
             sweep(&mut self.list, facility);
         }
     }

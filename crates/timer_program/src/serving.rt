@@ -87,7 +87,7 @@ fn turn<P: Peer, W: Wheel + Drop>(
 fn finish<P: Peer, W: Wheel + Drop>(
     session: &mut Session<W>,
     peer: &mut P,
-    text: &mut Vec<u8>,
+    line: &mut Vec<u8>,
 ) -> Result<(), ServeFault>
     requires good { AreGood (P.state peer.old) }
     requires answered { IsAnsweredSoFar session.old }
@@ -95,9 +95,9 @@ fn finish<P: Peer, W: Wheel + Drop>(
     ensures sent { OnOk result (HasSent (P.state peer.old) (last_line session.old) (P.state peer.new)) }
     ensures fault { IfErr result (λ fault. StopsEnd fault session.old (P.state peer.old) (P.state peer.new)) }
 {
-    text.clear();
-    match session.end(text) {
-        Ok(()) => send(peer, text),
+    line.clear();
+    match session.end(line) {
+        Ok(()) => send(peer, line),
         Err(fault) => Err(fault_of(fault)),
     }
 }

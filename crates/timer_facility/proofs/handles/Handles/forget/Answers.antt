@@ -4,12 +4,12 @@ use Rattle.timer_facility.specs.Recorded.{Places, AreRecorded, AreFew}
 use Rattle.timer_facility.proofs.SweptLemmas.{AreRecorded-sweep, few-swept}
 use Rattle.timer_facility.proofs.handles.Handles.forget.Goals as goal
 
-pub returns-then-len-pending-clause-recorded : goal.returns-then-len-pending-clause-recorded
-returns-then-len-pending-clause-recorded g c =
+pub returns-then-len-enough-clause-recorded : goal.returns-then-len-enough-clause-recorded
+returns-then-len-enough-clause-recorded g c =
     let s : FacilityState = c.args.facility.now.state in
     subst (λ (places : Places). AreRecorded places s) (sym c.sweep.ensures) (AreRecorded-sweep c.args.self.now.list.items s c.requires)
 
-pub returns-then-len-pending-clause-few : goal.returns-then-len-pending-clause-few
-returns-then-len-pending-clause-few g c =
+pub returns-then-len-enough-clause-few : goal.returns-then-len-enough-clause-few
+returns-then-len-enough-clause-few g c =
     let s : FacilityState = c.args.facility.now.state in
     subst (λ (places : Places). AreFew places s) (sym c.sweep.ensures) (few-swept c.args.self.now.list.items s c.requires.sorted)
