@@ -13,7 +13,7 @@ pub struct Held {
 }
 
 /// It may go to another thread: this is what proves the `Send` of `Slot`.
-pub fn cross(held: Held) -> Held
+fn cross(held: Held) -> Held
     ensures { result ≡ held }
 {
     as_send(held)

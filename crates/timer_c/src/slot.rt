@@ -37,6 +37,7 @@ impl Slot {
         ensures value { result ≡ is_open self.old.mark }
         ensures same { self.new ≡ self.old }
     {
+        // Any other number means empty: C may begin with zero bytes.
         self.mark == HELD
     }
 
@@ -48,8 +49,11 @@ impl Slot {
         ensures open { self.new.mark ≡ HELD }
         ensures state { self.new.state ≡ timers.value }
     {
+        // What the parked box owned goes along with its address. The allocator is the heap, as always.
         let Parked { alloc: _, at } = timers;
+        // C sees an address of bytes. The slot was empty, so the one that it had named nothing.
         self.at = at as *mut u8;
+        // From here on the slot owns what is at that address.
         self.mark = HELD;
     }
 
@@ -59,7 +63,9 @@ impl Slot {
         ensures shut { self.new.mark ≡ 0 }
         ensures state { result.value ≡ self.old.state }
     {
+        // From here on the slot owns nothing, and nobody follows the address that stays behind in it.
         self.mark = 0;
+        // The same address, as one of timers: what the slot owned is the parked box's.
         Parked {
             alloc,
             at: self.at as *mut Timers<HierWheel>,
@@ -72,8 +78,11 @@ impl Slot {
         ensures* writes_back { sem 𝓛 (Lends the_slot the_timers self.entry result (with_state self.entry.now)) }
         ensures value { result.now ≡ self.old.state }
     {
+        // The slot owns timers at this address, since its mark says so. They are lent no longer than the slot
+        // itself is, so nothing can free them meanwhile.
         unsafe { &mut *(self.at as *mut Timers<HierWheel>) }
     }
 }
 
+// The timers may go to another thread, and their block may be freed there (proofs/slot/Slot/TheSendSync).
 unsafe impl Send for Slot {}

@@ -1,18 +1,15 @@
 //! Desks over lines of each kind, where a start, the close or a report is refused for memory.
 //!
 //! Each step is taken by a call of its own, or by a turn of one step, and a step that is refused is taken again.
-ghost use Rattle.std.specs.Prelude.{◌≡◌, [], IfOk, length, vec_len};
-
 use crate::facilities::numbers;
 use crate::fault::{Fault, see};
 use crate::lines::{locked, request, ring};
 use crate::wheels::hier;
 use std::alloc::Global;
 use std::sync::Wait;
-use timer_base::{Handle, Timer, Wheel};
+use timer_base::{Handle, Timer};
 use timer_desk::{
-    ClientEnd, Desk, Done, Inlet, LockedEnd, LockedInlet, MemoryInlet, Numbered, OpenFault,
-    RingInlet, Served, Step, Word,
+    ClientEnd, Desk, Done, Inlet, LockedEnd, MemoryInlet, Numbered, OpenFault, Served, Step, Word,
 };
 use timer_facility::{Answer, CloseFault, Facility, NotTaken, Notice};
 use timer_wheels::{HierWheel, Table};
@@ -51,7 +48,7 @@ fn open<I: Inlet + Drop>(alloc: Global, inlets: Vec<I>) -> Result<Desk<HierWheel
     }
 }
 
-/// What the readers show of a client: pending timers of all, words in its outbox, and those in the other one.
+/// What the readers show: the tick, how many timers are pending, and the words in the first two outboxes.
 fn shown<I: Inlet + Drop>(desk: &Desk<HierWheel, I>) -> (u64, usize, usize, usize) {
     let facility = desk.facility();
     let zero = if desk.clients() > 0 {

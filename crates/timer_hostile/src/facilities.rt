@@ -1,7 +1,5 @@
 //! A facility, where a start or the close is refused for memory.
-ghost use Rattle.std.specs.Prelude.{◌≡◌, [], IfOk, OnOk};
-ghost use Rattle.timer_facility.specs.Opened.{opened};
-ghost use Rattle.timer_facility.specs.Standing.{with_nothing_waiting};
+ghost use Rattle.std.specs.Prelude.{◌≡◌, [], OnOk};
 
 use crate::fault::{Fault, see};
 use std::alloc::Global;

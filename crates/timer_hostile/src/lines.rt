@@ -1,10 +1,7 @@
 //! Lines of each kind, where their makers, `take` or `put` are refused.
-ghost use Rattle.std.specs.Prelude.{◌≡◌, ◌≤◌};
-
 use crate::fault::{Fault, see};
 use std::alloc::Global;
 use std::sync::Wait;
-use timer_base::Handle;
 use timer_desk::{
     ClientEnd, Inlet, LockedEnd, LockedInlet, MemoryInlet, Numbered, Put, RingInlet, Taken, Word,
     locked_line, ring_line,

@@ -1,7 +1,4 @@
 //! Lists of events, where `play` stops for memory and is called again with the rest.
-ghost use Rattle.std.specs.Prelude.{◌≡◌, [], IfOk};
-ghost use Rattle.timer_wheels.specs.declared.hier.HierWheel.{HierWheel};
-
 use crate::facilities::numbers;
 use crate::fault::{Fault, see};
 use crate::wheels::hier;

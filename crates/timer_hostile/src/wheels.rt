@@ -1,5 +1,5 @@
 //! Wheels of each scheme, where a start or a list is refused.
-ghost use Rattle.std.specs.Prelude.{◌≡◌, ◌≤◌, [], IfOk, length};
+ghost use Rattle.std.specs.Prelude.{◌≡◌, IfOk};
 ghost use Rattle.timer_base.specs.declared.limits.TheConstants.{LAST};
 ghost use Rattle.timer_base.specs.declared.plain.PlainWheel.{PlainWheel};
 ghost use Rattle.timer_base.specs.WheelState.{empty_wheel};
