@@ -61,7 +61,7 @@ fn empty_bucket(
     ensures moves { result ≡ length (left_rows tick (list_at list links.old)) }
     ensures told { Tells (slots (radices table)) occupied.new links.new }
 {
-    if !occupied.has(list) {
+    if links.is_empty(list) {
         return 0;
     }
     occupied.remove(list);

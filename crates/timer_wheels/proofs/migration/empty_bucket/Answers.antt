@@ -1,4 +1,4 @@
-use Rattle.std.proofs.Common.{◌<◌, ◌≤◌, ℕ, List, length, sym, ◌∙◌, ap, arith}
+use Rattle.std.proofs.Common.{◌+◌, ◌≡◌, ◌<◌, ◌≤◌, ℕ, List, length, sym, ◌∙◌, ap, arith}
 use Rattle.timer_links.specs.declared.node.Node.{Node}
 use Rattle.timer_links.specs.Lists.{list_at}
 use Rattle.timer_wheels.specs.Digits.{slots, base}
@@ -10,8 +10,11 @@ use Rattle.timer_wheels.proofs.migration.empty_bucket.Goals as goal
 in_word : (l n : ℕ) → l < n → n ≤ 640 → l < 640
 in_word l n a b = omega arith
 
-pub has-requires : goal.has-requires
-has-requires c = in_word c.args.list (slots (radices c.args.table)) c.requires.list (of_table c.args.table).few_slots
+in_lists : (l n k : ℕ) → l < n → k ≡ n + 1 → l < k
+in_lists l n k a b = omega arith
+
+pub is_empty-requires : goal.is_empty-requires
+is_empty-requires c = in_lists c.args.list (slots (radices c.args.table)) (length c.args.links.now) c.requires.list c.requires.lists
 
 pub remove-requires : goal.remove-requires
 remove-requires c = in_word c.args.list (slots (radices c.args.table)) c.requires.list (of_table c.args.table).few_slots
