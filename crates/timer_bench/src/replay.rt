@@ -140,10 +140,12 @@ fn pass_ticks<W: Wheel>(wheel: &mut W, sums: &mut Sums, count: u64) -> Result<()
     requires { (W.state wheel.old).due ≡ [] }
     ensures { (W.state wheel.new).due ≡ [] }
 {
-    for _ in 0..count {
-        if wheel.now() >= wheel.last_tick() {
-            return Err(Fault::Trace);
-        }
+    let now = wheel.now();
+    let last = wheel.last_tick();
+    if now > last || count > last - now {
+        return Err(Fault::Trace);
+    }
+    for passed in 0..count {
         wheel.per_tick();
         drain(wheel, sums);
     }
@@ -176,7 +178,9 @@ fn go_on<W: Wheel>(wheel: &mut W, sums: &mut Sums, count: u64) -> Result<(), Fau
 /// Hands out all that is due.
 #[inline]
 fn drain<W: Wheel>(wheel: &mut W, sums: &mut Sums)
-    ensures { (W.state wheel.new).due ≡ [] }
+    ensures due { (W.state wheel.new).due ≡ [] }
+    ensures now { (W.state wheel.new).now ≡ (W.state wheel.old).now }
+    ensures last_tick { (W.state wheel.new).last_tick ≡ (W.state wheel.old).last_tick }
 {
     let now = wheel.now();
     while let Some(timer) = wheel.expire() {
