@@ -81,9 +81,10 @@ impl<R: Wait> Inlet for LockedInlet<R> {
 
     ghost transitive = { SameLockedLine-trans };
 
+    // An empty or a full line is reported before a want of memory for the record.
     fn take(&mut self) -> Taken {
         if self.got.reserve(1).is_err() {
-            return Taken::NoMemory;
+            return self.queues.lock(&self.rt).refuse_to_take();
         }
         let next = self.queues.lock(&self.rt).pop_request();
         match next {
@@ -97,7 +98,7 @@ impl<R: Wait> Inlet for LockedInlet<R> {
 
     fn put(&mut self, word: Word) -> Put {
         if self.given.reserve(1).is_err() {
-            return Put::NoMemory(word);
+            return self.queues.lock(&self.rt).refuse_to_put(word);
         }
         let pushed = self.queues.lock(&self.rt).push_word(word);
         match pushed {

@@ -1,6 +1,7 @@
 //! What stands behind the lock of a locked line.
 ghost use Rattle.std.specs.Prelude.{◌≡◌, ◌≤◌, length};
 
+use crate::inlet::{Put, Taken};
 use crate::word::{Numbered, Word};
 use circular_buffer::HeapCircularBuffer;
 use std::alloc::{AllocError, Global};
@@ -16,7 +17,7 @@ pub struct Queues {
 }
 
 impl Queues {
-    ghost use Rattle.std.specs.Prelude.{◌≡◌, ◌≤◌, ◌<◌, [], ◌∷◌, ◌++◌, length, drop, slice_get, IfOk, IfErr, OnOk, OnErr, IsOk, ◌↔◌};
+    ghost use Rattle.std.specs.Prelude.{◌≡◌, ◌≢◌, ◌≤◌, ◌<◌, [], ◌∷◌, ◌++◌, length, drop, slice_get, IfOk, IfErr, OnOk, OnErr, IsOk, ◌↔◌};
     ghost use Rattle.timer_desk.specs.Queues.{requests_in, words_in, capacity_of};
 
     /// Two empty queues.
@@ -47,6 +48,30 @@ impl Queues {
         ensures others { (words_in self.new ≡ words_in self.old) × (capacity_of self.new ≡ capacity_of self.old) }
     {
         self.requests.pop_front()
+    }
+
+    /// What a take returns that had no memory for its record.
+    pub fn refuse_to_take(&self) -> Taken
+        ensures empty { requests_in self.now ≡ [] → result ≡ Taken.Empty }
+        ensures standing { requests_in self.now ≢ [] → result ≡ Taken.NoMemory }
+    {
+        if self.requests.is_empty() {
+            Taken::Empty
+        } else {
+            Taken::NoMemory
+        }
+    }
+
+    /// What a put of a word returns that had no memory for its record.
+    pub fn refuse_to_put(&self, word: Word) -> Put
+        ensures full { length (words_in self.now) ≡ capacity_of self.now → result ≡ Put.Full word }
+        ensures room { length (words_in self.now) < capacity_of self.now → result ≡ Put.NoMemory word }
+    {
+        if self.words.len() == self.capacity {
+            Put::Full(word)
+        } else {
+            Put::NoMemory(word)
+        }
     }
 
     /// Puts a word last, or hands it back where its queue is full.
