@@ -1,11 +1,13 @@
 //! Arguments: what they ask for, and what is refused.
 use crate::asked::{Play, PlayFault, Scheme};
 use crate::options::{Asked, read_arguments};
-use crate::testing::{Fault, Sink, Source, call};
+use crate::testing::{Fault, Sink, Source, call, has_left, same, same_in};
 use crate::unread::{after_name, end_without_arguments};
+use std::alloc::Global;
+use std::fmt::Display;
 use std::io::ErrorKind;
 use std::process::Abort;
-use std::test::*;
+use std::thread::Threads;
 use timer_base::MakeFault;
 use timer_facility::ConfigFault;
 
@@ -23,7 +25,7 @@ fn usual() -> Play {
 }
 
 #[test]
-fn arguments_are_read_as_what_they_ask_for(rt: HostRuntime) -> Result<(), Fail> {
+fn arguments_are_read_as_what_they_ask_for(rt: HostRuntime) {
     let alloc = rt.alloc();
     let all = Play {
         scheme: Scheme::Hashed,
@@ -107,15 +109,14 @@ fn arguments_are_read_as_what_they_ask_for(rt: HostRuntime) -> Result<(), Fail> 
     ];
     for (arguments, asked) in rows {
         match read_arguments(alloc, arguments) {
-            Ok(read) => assert_eq!(rt; read, Asked::Play(asked)),
-            Err(_) => assert!(rt; false),
+            Ok(read) => same_in(&rt, arguments, read, Asked::Play(asked)),
+            Err(error) => panic!(rt; "{error}"),
         }
     }
-    Ok(())
 }
 
 #[test]
-fn refused_arguments_read_nothing_and_write_nothing(rt: HostRuntime) -> Result<(), Fail> {
+fn refused_arguments_read_nothing_and_write_nothing(rt: HostRuntime) {
     let lines = [
         ["play", "--slots", "0"].as_slice(),
         ["play", "--slots", "65537"].as_slice(),
@@ -139,16 +140,14 @@ fn refused_arguments_read_nothing_and_write_nothing(rt: HostRuntime) -> Result<(
             Source::of(b"close\n"),
             Sink::new(rt.alloc()),
         );
-        assert_eq!(rt; ended.status, 2);
-        assert_eq!(rt; ended.asks, 0);
-        assert!(rt; ended.output.is_empty());
-        assert!(rt; ended.faults.starts_with(b"error: "));
+        same_in(&rt, arguments, (ended.status, ended.asks), (2, 0));
+        same_in(&rt, arguments, ended.output.is_empty(), true);
+        same_in(&rt, arguments, ended.faults.starts_with(b"error: "), true);
     }
-    Ok(())
 }
 
 #[test]
-fn a_clock_begins_at_its_last_tick_at_most(rt: HostRuntime) -> Result<(), Fail> {
+fn a_clock_begins_at_its_last_tick_at_most(rt: HostRuntime) {
     let last = ["play", "--scheme", "clock", "--first-tick", "8639999"];
     let ended = call(
         &rt,
@@ -156,11 +155,9 @@ fn a_clock_begins_at_its_last_tick_at_most(rt: HostRuntime) -> Result<(), Fail> 
         Source::of(b"tick 1\n"),
         Sink::new(rt.alloc()),
     );
-    assert_eq!(rt; ended.status, 0);
-    assert_eq!(rt;
-        ended.output.as_slice(),
-        b"tick refused clock-end\nend 8639999 0\n".as_slice()
-    );
+    let refused = b"tick refused clock-end\nend 8639999 0\n".as_slice();
+    same(&rt, ended.status, 0);
+    same(&rt, ended.output.as_slice(), refused);
 
     let late = ["play", "--scheme", "clock", "--first-tick", "8640000"];
     let ended = call(
@@ -169,18 +166,12 @@ fn a_clock_begins_at_its_last_tick_at_most(rt: HostRuntime) -> Result<(), Fail> 
         Source::of(b"tick 1\n"),
         Sink::new(rt.alloc()),
     );
-    assert_eq!(rt; ended.status, 2);
-    assert_eq!(rt; ended.asks, 0);
-    assert!(rt; ended.output.is_empty());
-    assert_eq!(rt;
-        ended.faults.as_slice(),
-        b"first tick above 8639999\n".as_slice()
-    );
-    Ok(())
+    same(&rt, ended.asks, 0);
+    has_left(&rt, "late", &ended, 2, b"", b"first tick above 8639999\n");
 }
 
 #[test]
-fn help_and_version_are_written_where_they_are_asked_for(rt: HostRuntime) -> Result<(), Fail> {
+fn help_and_version_are_written_where_they_are_asked_for(rt: HostRuntime) {
     let rows = [
         (
             ["--help"].as_slice(),
@@ -201,24 +192,31 @@ fn help_and_version_are_written_where_they_are_asked_for(rt: HostRuntime) -> Res
     ];
     for (arguments, front) in rows {
         let ended = call(&rt, arguments, Source::of(b"x"), Sink::new(rt.alloc()));
-        assert_eq!(rt; ended.status, 0);
-        assert_eq!(rt; ended.asks, 0);
-        assert!(rt; ended.output.starts_with(front));
-        assert!(rt; ended.faults.is_empty());
+        same_in(&rt, arguments, (ended.status, ended.asks), (0, 0));
+        same_in(&rt, arguments, ended.output.starts_with(front), true);
+        same_in(&rt, arguments, ended.faults.is_empty(), true);
         for fault in [Fault::TakesNone, Fault::Fails(ErrorKind::Interrupted)] {
-            let full = Sink::new(rt.alloc()).with_fault_after(7, fault);
-            let ended = call(&rt, arguments, Source::of(b"x"), full);
-            assert_eq!(rt; ended.status, 1);
-            assert!(rt; ended.writer_failed);
-            assert_eq!(rt; ended.output.as_slice(), &front[..7]);
-            assert_eq!(rt; ended.faults.as_slice(), b"write failed\n".as_slice());
+            write_fails(&rt, arguments, front, fault);
         }
     }
-    Ok(())
+}
+
+/// Asks for a text with this front, of a writer that takes 7 bytes and then has this fault.
+fn write_fails<T: AllocGlobal + Abort + Threads>(
+    rt: &T,
+    arguments: &[&str],
+    front: &[u8],
+    fault: Fault,
+) {
+    let full = Sink::new(rt.alloc()).with_fault_after(7, fault);
+    let ended = call(rt, arguments, Source::of(b"x"), full);
+    let (taken, _) = front.split_at(front.len().min(7));
+    same_in(rt, arguments, ended.writer_failed, true);
+    has_left(rt, arguments, &ended, 1, taken, b"write failed\n");
 }
 
 #[test]
-fn help_says_that_no_arguments_play(rt: HostRuntime) -> Result<(), Fail> {
+fn help_says_that_no_arguments_play(rt: HostRuntime) {
     let ended = call(
         &rt,
         ["--help"].as_slice(),
@@ -229,13 +227,13 @@ fn help_says_that_no_arguments_play(rt: HostRuntime) -> Result<(), Fail> {
         b"\nUsage: timers [COMMAND]\n".as_slice(),
         b"\nWith no arguments, `timers` is `timers play`.\n".as_slice(),
     ] {
-        assert!(rt; ended.output.windows(line.len()).any(|part| part == line));
+        let is_in = ended.output.windows(line.len()).any(|part| part == line);
+        same_in(&rt, line, is_in, true);
     }
-    Ok(())
 }
 
 #[test]
-fn arguments_that_cannot_be_read_are_reported(rt: HostRuntime) -> Result<(), Fail> {
+fn arguments_that_cannot_be_read_are_reported(rt: HostRuntime) {
     let alloc = rt.alloc();
     let rows = [
         (ErrorKind::OutOfMemory, 1, b"out of memory\n".as_slice()),
@@ -247,17 +245,24 @@ fn arguments_that_cannot_be_read_are_reported(rt: HostRuntime) -> Result<(), Fai
     ];
     for (kind, want, line) in rows {
         let mut faults = Vec::new(alloc);
-        assert_eq!(rt; end_without_arguments(kind, &mut faults), want);
-        assert_eq!(rt; faults.as_slice(), line);
+        same(&rt, end_without_arguments(kind, &mut faults), want);
+        same(&rt, faults.as_slice(), line);
     }
-    assert_eq!(rt; after_name(&["timers", "play"]), ["play"].as_slice());
-    assert!(rt; after_name(&["timers"]).is_empty());
-    assert!(rt; after_name(NO_ARGUMENTS.as_slice()).is_empty());
-    Ok(())
+    same(&rt, after_name(&["timers", "play"]), ["play"].as_slice());
+    same(&rt, after_name(&["timers"]).is_empty(), true);
+    same(&rt, after_name(NO_ARGUMENTS.as_slice()).is_empty(), true);
+}
+
+/// Compares what is written of an error.
+fn has_text<F: Display + Drop>(rt: &impl Abort, alloc: Global, fault: F, text: &str) {
+    let Ok(found) = format!(in alloc; "{fault}") else {
+        panic!(rt; "out of memory");
+    };
+    same(rt, found.as_str(), text);
 }
 
 #[test]
-fn faults_of_making_and_of_asking_have_their_texts(rt: HostRuntime) -> Result<(), Fail> {
+fn faults_of_making_and_of_asking_have_their_texts(rt: HostRuntime) {
     let alloc = rt.alloc();
     let makes = [
         (MakeFault::Slots, "the number of slots is out of range"),
@@ -265,7 +270,7 @@ fn faults_of_making_and_of_asking_have_their_texts(rt: HostRuntime) -> Result<()
         (MakeFault::OutOfMemory, "out of memory"),
     ];
     for (fault, text) in makes {
-        assert_eq!(rt; format!(in alloc; "{fault}")?.as_str(), text);
+        has_text(&rt, alloc, fault, text);
     }
     let plays = [
         (
@@ -287,7 +292,6 @@ fn faults_of_making_and_of_asking_have_their_texts(rt: HostRuntime) -> Result<()
         ),
     ];
     for (fault, text) in plays {
-        assert_eq!(rt; format!(in alloc; "{fault}")?.as_str(), text);
+        has_text(&rt, alloc, fault, text);
     }
-    Ok(())
 }

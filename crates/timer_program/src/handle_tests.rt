@@ -1,12 +1,39 @@
 //! A handle whose timer is gone finds nothing, whichever wheel the facility stands on.
-ghost use Rattle.std.specs.Prelude.{◌≡◌, ◌<◌, []};
+ghost use Rattle.std.specs.Prelude.{◌≡◌, []};
+ghost use Rattle.timer_base.specs.declared.limits.TheConstants.{LAST};
+ghost use Rattle.timer_base.specs.WheelState.{empty_wheel};
+ghost use Rattle.timer_wheels.specs.Tables.{last_of_table};
 
+use crate::testing::same_in;
 use std::alloc::Global;
 use std::process::Abort;
-use std::test::*;
 use timer_base::{Handle, PlainWheel, Timer, Wheel};
-use timer_facility::{Answer, Checked, Config, Facility, NotTaken, Notice, Reason, Request};
+use timer_facility::{Answer, Config, Facility, NotTaken, Notice, Reason, Request};
 use timer_wheels::{HashedWheel, HierWheel, Table};
+
+const CONFIG: Config = Config {
+    clients: 1,
+    capacity: 1024,
+    first_tick: 0,
+    first_serial: 1,
+    first_number: 1,
+};
+
+/// The hierarchies of wheels, with the names of their schemes.
+const HIERARCHIES: [(Table, &str); 2] = [(Table::Wide, "hier"), (Table::Clock, "clock")];
+
+/// A facility of one client over this wheel, which is empty and stands at tick 0.
+fn facility<W: Wheel + Drop>(rt: &impl Abort, alloc: Global, wheel: W) -> Facility<W>
+    requires pending { (W.state wheel).pending ≡ [] }
+    requires due { (W.state wheel).due ≡ [] }
+{
+    let Ok(checked) = CONFIG.check() else {
+        panic!(rt; "out of range");
+    };
+    assert!(rt; wheel.now() == 0);
+    assert!(rt; wheel.last_serial() == 0);
+    Facility::open(alloc, checked, wheel)
+}
 
 /// Goes on only where nothing waits to be handed out.
 fn settle<W: Wheel + Drop>(rt: &impl Abort, facility: &Facility<W>)
@@ -25,7 +52,20 @@ fn take<W: Wheel + Drop>(
     facility.take(0, number, request)
 }
 
-/// Starts a timer of five ticks, and answers its handle.
+/// Passes so many ticks, each of which has to be free to begin.
+fn pass<W: Wheel + Drop>(rt: &impl Abort, facility: &mut Facility<W>, ticks: u64) {
+    for tick in 0..ticks {
+        settle(rt, facility);
+        same_in(rt, tick, facility.tick(), Ok(()));
+    }
+}
+
+/// The next timer that is handed out.
+fn next_out<W: Wheel + Drop>(facility: &mut Facility<W>) -> Option<Notice> {
+    facility.next_out()
+}
+
+/// Starts a timer of five ticks at tick 0, and returns its handle.
 fn started<W: Wheel + Drop>(
     rt: &impl Abort,
     facility: &mut Facility<W>,
@@ -38,7 +78,7 @@ fn started<W: Wheel + Drop>(
     };
     match take(rt, facility, number, request) {
         Ok(Answer::Started { handle, deadline }) => {
-            assert_eq!(rt; deadline, 5);
+            same_in(rt, number, deadline, 5);
             handle
         }
         other => panic!(rt; "not started: {other:?}"),
@@ -46,26 +86,15 @@ fn started<W: Wheel + Drop>(
 }
 
 /// A handle of a stopped timer, and one of a wrong place, over one wheel: `stale_handle`.
-fn try_stale_handles<W: Wheel + Drop>(
-    rt: &impl Abort,
-    alloc: Global,
-    checked: Checked,
-    wheel: W,
-    scheme: &str,
-)
-    requires pending { (W.state wheel).pending ≡ [] }
-    requires due { (W.state wheel).due ≡ [] }
-    requires now { (W.state wheel).now ≡ checked.first_tick }
-    requires serial { (W.state wheel).last_serial < checked.first_serial }
-{
-    let mut facility = Facility::open(alloc, checked, wheel);
+fn try_stale_handles<W: Wheel + Drop>(rt: &impl Abort, scheme: &str, facility: Facility<W>) {
+    let mut facility = facility;
     let old = started(rt, &mut facility, 1, 1);
-    assert_eq!(rt; old.serial, 1, "{scheme}");
+    same_in(rt, scheme, old.serial, 1);
     let stopped = take(rt, &mut facility, 2, Request::Stop(old));
-    assert_eq!(rt; stopped, Ok(Answer::Stopped { serial: 1 }), "{scheme}");
+    same_in(rt, scheme, stopped, Ok(Answer::Stopped { serial: 1 }));
 
     let new = started(rt, &mut facility, 3, 2);
-    assert_eq!(rt; new.serial, 2, "{scheme}");
+    same_in(rt, scheme, new.serial, 2);
     let stale = Handle {
         place: new.place,
         serial: 1,
@@ -74,15 +103,13 @@ fn try_stale_handles<W: Wheel + Drop>(
         place: new.place.wrapping_add(1),
         serial: 2,
     };
-    for (number, handle) in [(4, stale), (5, elsewhere)] {
-        let refused = take(rt, &mut facility, number, Request::Stop(handle));
-        assert_eq!(rt; refused, Ok(Answer::Refused(Reason::NoSuch)), "{scheme}");
-    }
+    let no_such = Ok(Answer::Refused(Reason::NoSuch));
+    let refused = take(rt, &mut facility, 4, Request::Stop(stale));
+    same_in(rt, scheme, refused, no_such);
+    let refused = take(rt, &mut facility, 5, Request::Stop(elsewhere));
+    same_in(rt, scheme, refused, no_such);
 
-    for _ in 0..5 {
-        settle(rt, &facility);
-        assert_eq!(rt; facility.tick(), Ok(()), "{scheme}");
-    }
+    pass(rt, &mut facility, 5);
     let expired = Timer {
         serial: 2,
         client: 0,
@@ -90,39 +117,14 @@ fn try_stale_handles<W: Wheel + Drop>(
         deadline: 5,
         action: 2,
     };
-    assert_eq!(rt;
-        facility.next_out(),
-        Some(Notice::Expired(expired)),
-        "{scheme}"
-    );
-    assert_eq!(rt; facility.next_out(), None, "{scheme}");
+    let notice = next_out(&mut facility);
+    same_in(rt, scheme, notice, Some(Notice::Expired(expired)));
+    same_in(rt, scheme, next_out(&mut facility), None);
 }
 
-/// The handle of a timer that was restarted, over one wheel: `old_handle_still_stops`.
-fn try_old_handle<W: Wheel + Drop>(
-    rt: &impl Abort,
-    alloc: Global,
-    checked: Checked,
-    wheel: W,
-    scheme: &str,
-)
-    requires pending { (W.state wheel).pending ≡ [] }
-    requires due { (W.state wheel).due ≡ [] }
-    requires now { (W.state wheel).now ≡ checked.first_tick }
-    requires serial { (W.state wheel).last_serial < checked.first_serial }
-{
-    let mut facility = Facility::open(alloc, checked, wheel);
-    let old = started(rt, &mut facility, 1, 1);
-    for _ in 0..3 {
-        settle(rt, &facility);
-        assert_eq!(rt; facility.tick(), Ok(()), "{scheme}");
-    }
-    let restart = Request::Restart {
-        handle: old,
-        interval: 5,
-        action: 2,
-    };
-    let new = match take(rt, &mut facility, 2, restart) {
+/// The handle of an answer to a restart of the timer with serial 1, for tick 8.
+fn restarted(rt: &impl Abort, answer: Result<Answer, NotTaken>) -> Handle {
+    match answer {
         Ok(
             Answer::Restarted {
                 handle,
@@ -131,57 +133,84 @@ fn try_old_handle<W: Wheel + Drop>(
             },
         ) => handle,
         other => panic!(rt; "not restarted: {other:?}"),
+    }
+}
+
+/// The handle of a timer that was restarted, over one wheel: `old_handle_still_stops`.
+fn try_old_handle<W: Wheel + Drop>(rt: &impl Abort, scheme: &str, facility: Facility<W>) {
+    let mut facility = facility;
+    let old = started(rt, &mut facility, 1, 1);
+    pass(rt, &mut facility, 3);
+    let restart = Request::Restart {
+        handle: old,
+        interval: 5,
+        action: 2,
     };
-    assert_eq!(rt; new.serial, 2, "{scheme}");
+    let new = restarted(rt, take(rt, &mut facility, 2, restart));
+    same_in(rt, scheme, new.serial, 2);
     let no_such = Ok(Answer::Refused(Reason::NoSuch));
     let stop = take(rt, &mut facility, 3, Request::Stop(old));
-    assert_eq!(rt; stop, no_such, "{scheme}");
+    same_in(rt, scheme, stop, no_such);
     let again = take(rt, &mut facility, 4, restart);
-    assert_eq!(rt; again, no_such, "{scheme}");
+    same_in(rt, scheme, again, no_such);
     let stop = take(rt, &mut facility, 5, Request::Stop(new));
-    assert_eq!(rt; stop, Ok(Answer::Stopped { serial: 2 }), "{scheme}");
+    same_in(rt, scheme, stop, Ok(Answer::Stopped { serial: 2 }));
+}
+
+/// A plain wheel at tick 0.
+fn plain(rt: &impl Abort, alloc: Global) -> PlainWheel
+    ensures { ⟦<PlainWheel as Wheel>⟧.state result ≡ empty_wheel LAST 0 }
+{
+    match PlainWheel::new(alloc, 0) {
+        Ok(wheel) => wheel,
+        Err(_) => panic!(rt; "not made"),
+    }
+}
+
+/// A hashed wheel at tick 0.
+fn hashed(rt: &impl Abort, alloc: Global, slots: usize) -> HashedWheel
+    ensures { ⟦<HashedWheel as Wheel>⟧.state result ≡ empty_wheel LAST 0 }
+{
+    match HashedWheel::new(alloc, slots, 0) {
+        Ok(wheel) => wheel,
+        Err(_) => panic!(rt; "not made"),
+    }
+}
+
+/// A hierarchy of wheels at tick 0.
+fn hier(rt: &impl Abort, alloc: Global, table: Table) -> HierWheel
+    ensures { ⟦<HierWheel as Wheel>⟧.state result ≡ empty_wheel (last_of_table table) 0 }
+{
+    match HierWheel::with_table(alloc, table, 0) {
+        Ok(wheel) => wheel,
+        Err(_) => panic!(rt; "not made"),
+    }
 }
 
 #[test]
-fn an_old_handle_stops_nothing_with_each_scheme(rt: HostRuntime) -> Result<(), Fail> {
+fn an_old_handle_stops_nothing_with_each_scheme(rt: HostRuntime) {
     let alloc = rt.alloc();
-    let config = Config {
-        clients: 1,
-        capacity: 1024,
-        first_tick: 0,
-        first_serial: 1,
-        first_number: 1,
-    };
-    let checked = config.check()?;
-    try_old_handle(&rt, alloc, checked, PlainWheel::new(alloc, 0)?, "plain");
-    try_old_handle(&rt, alloc, checked, HierWheel::new(alloc, 0)?, "hier");
-    let clock = HierWheel::with_table(alloc, Table::Clock, 0)?;
-    try_old_handle(&rt, alloc, checked, clock, "clock");
-    for slots in [1, 8, 256, 65536] {
-        let wheel = HashedWheel::new(alloc, slots, 0)?;
-        try_old_handle(&rt, alloc, checked, wheel, "hashed");
+    try_old_handle(&rt, "plain", facility(&rt, alloc, plain(&rt, alloc)));
+    for (table, scheme) in HIERARCHIES {
+        let wheel = hier(&rt, alloc, table);
+        try_old_handle(&rt, scheme, facility(&rt, alloc, wheel));
     }
-    Ok(())
+    for slots in [1, 8, 256, 65536] {
+        let wheel = hashed(&rt, alloc, slots);
+        try_old_handle(&rt, "hashed", facility(&rt, alloc, wheel));
+    }
 }
 
 #[test]
-fn a_stale_handle_stops_nothing_with_each_scheme(rt: HostRuntime) -> Result<(), Fail> {
+fn a_stale_handle_stops_nothing_with_each_scheme(rt: HostRuntime) {
     let alloc = rt.alloc();
-    let config = Config {
-        clients: 1,
-        capacity: 1024,
-        first_tick: 0,
-        first_serial: 1,
-        first_number: 1,
-    };
-    let checked = config.check()?;
-    try_stale_handles(&rt, alloc, checked, PlainWheel::new(alloc, 0)?, "plain");
-    try_stale_handles(&rt, alloc, checked, HierWheel::new(alloc, 0)?, "hier");
-    let clock = HierWheel::with_table(alloc, Table::Clock, 0)?;
-    try_stale_handles(&rt, alloc, checked, clock, "clock");
-    for slots in [1, 8, 256, 65536] {
-        let wheel = HashedWheel::new(alloc, slots, 0)?;
-        try_stale_handles(&rt, alloc, checked, wheel, "hashed");
+    try_stale_handles(&rt, "plain", facility(&rt, alloc, plain(&rt, alloc)));
+    for (table, scheme) in HIERARCHIES {
+        let wheel = hier(&rt, alloc, table);
+        try_stale_handles(&rt, scheme, facility(&rt, alloc, wheel));
     }
-    Ok(())
+    for slots in [1, 8, 256, 65536] {
+        let wheel = hashed(&rt, alloc, slots);
+        try_stale_handles(&rt, "hashed", facility(&rt, alloc, wheel));
+    }
 }

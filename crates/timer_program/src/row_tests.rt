@@ -1,7 +1,7 @@
 //! The worked examples: scripts and the texts that answer them, with each scheme.
-use crate::testing::{Sink, Source, call};
+use crate::testing::{Sink, Source, call, has_left, same, same_in};
+use std::alloc::Global;
 use std::process::Abort;
-use std::test::*;
 use std::thread::Threads;
 
 /// A script, the options that it is played with, and the text that answers it.
@@ -170,79 +170,82 @@ static SCHEMES: [&[&str]; 7] = [
     &["--scheme", "clock"],
 ];
 
+/// The words of a command line: to play, with this scheme and these options.
+fn command_line(
+    rt: &impl Abort,
+    alloc: Global,
+    scheme: &[&'static str],
+    options: &[&'static str],
+) -> Vec<&'static str> {
+    let Ok(mut arguments) = vec![in alloc; "play"] else {
+        panic!(rt; "out of memory");
+    };
+    let Ok(()) = arguments.extend_from_slice(scheme) else {
+        panic!(rt; "out of memory");
+    };
+    let Ok(()) = arguments.extend_from_slice(options) else {
+        panic!(rt; "out of memory");
+    };
+    arguments
+}
+
 /// Plays the script of a row with a scheme, and compares what is written.
-fn play_row<T: AllocGlobal + Abort + Threads>(
-    rt: &T,
-    row: Row,
-    scheme: &[&str],
-) -> Result<(), Fail> {
+fn play_row<T: AllocGlobal + Abort + Threads>(rt: &T, row: Row, scheme: &[&'static str]) {
     let alloc = rt.alloc();
-    let mut arguments = vec![in alloc; "play"]?;
-    arguments.extend_from_slice(scheme)?;
-    arguments.extend_from_slice(row.options)?;
-    let ended = call(
-        rt,
-        &arguments,
-        Source::of(row.script.as_bytes()),
-        Sink::new(alloc),
-    );
-    assert_eq!(rt; ended.status, 0, "{}", row.name);
-    assert_eq!(rt;
-        ended.output.as_slice(),
-        row.text.as_bytes(),
-        "{}",
-        row.name
-    );
-    assert!(rt; ended.faults.is_empty(), "{}", row.name);
-    assert!(rt;
-        !ended.reader_failed && !ended.writer_failed,
-        "{}",
-        row.name
-    );
-    Ok(())
+    let arguments = command_line(rt, alloc, scheme, row.options);
+    let source = Source::of(row.script.as_bytes());
+    let ended = call(rt, &arguments, source, Sink::new(alloc));
+    has_left(rt, row.name, &ended, 0, row.text.as_bytes(), b"");
+    let failed = (ended.reader_failed, ended.writer_failed);
+    same_in(rt, row.name, failed, (false, false));
 }
 
 #[test]
-fn worked_rows_give_their_text_with_each_scheme(rt: HostRuntime) -> Result<(), Fail> {
+fn worked_rows_give_their_text_with_each_scheme(rt: HostRuntime) {
     for row in rows() {
         for scheme in &SCHEMES {
             if row.name != "clock_end" || scheme[1] != "clock" {
-                play_row(&rt, row, scheme)?;
+                play_row(&rt, row, scheme);
             }
         }
     }
     for row in clock_rows() {
-        play_row(&rt, row, &["--scheme", "clock"])?;
+        play_row(&rt, row, &["--scheme", "clock"]);
     }
-    Ok(())
+}
+
+/// Starts of so many timers by client 63, and one by a client that there is not.
+fn starts(rt: &impl Abort, alloc: Global, count: u64) -> Vec<u8> {
+    let mut script = Vec::new(alloc);
+    for number in 1..=count {
+        let Ok(line) = format!(in alloc; "start 63 {number} 1 0\n") else {
+            panic!(rt; "out of memory");
+        };
+        let Ok(()) = script.extend_from_slice(line.as_bytes()) else {
+            panic!(rt; "out of memory");
+        };
+    }
+    let Ok(()) = script.extend_from_slice(b"start 64 1 1 0\n") else {
+        panic!(rt; "out of memory");
+    };
+    script
 }
 
 #[test]
-fn no_arguments_play_with_64_clients_and_1024_timers(rt: HostRuntime) -> Result<(), Fail> {
+fn no_arguments_play_with_64_clients_and_1024_timers(rt: HostRuntime) {
     let alloc = rt.alloc();
-    let mut script = Vec::new(alloc);
-    for number in 1..=1025u64 {
-        let line = format!(in alloc; "start 63 {number} 1 0\n")?;
-        script.extend_from_slice(line.as_bytes())?;
-    }
-    script.extend_from_slice(b"start 64 1 1 0\n")?;
+    let script = starts(&rt, alloc, 1025);
     let ended = call(
         &rt,
         NO_OPTIONS.as_slice(),
         Source::of(&script),
         Sink::new(alloc),
     );
-    assert_eq!(rt; ended.status, 0);
-    assert!(rt;
-        ended
-            .output
-            .starts_with(b"started 63 1 1 1\nstarted 63 2 2 1\n")
-    );
-    assert!(rt;
-        ended.output.ends_with(
-            b"started 63 1024 1024 1\nrefused 63 1025 full\nrefused 64 1 no-client\nend 0 1024\n"
-        )
-    );
-    assert!(rt; ended.faults.is_empty());
-    Ok(())
+    let front = b"started 63 1 1 1\nstarted 63 2 2 1\n";
+    let back =
+        b"started 63 1024 1024 1\nrefused 63 1025 full\nrefused 64 1 no-client\nend 0 1024\n";
+    same(&rt, ended.status, 0);
+    same(&rt, ended.output.starts_with(front), true);
+    same(&rt, ended.output.ends_with(back), true);
+    same(&rt, ended.faults.is_empty(), true);
 }

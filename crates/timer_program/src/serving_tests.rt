@@ -5,13 +5,11 @@ ghost use Rattle.std.specs.Io.{ReadsAtMost, WritesAtMost};
 use crate::fault::ServeFault;
 use crate::peer::Peer;
 use crate::serving::serve;
+use crate::testing::{plain_facility, same_in};
 use std::alloc::Global;
 use std::io;
 use std::io::ErrorKind;
 use std::process::Abort;
-use std::test::*;
-use timer_base::PlainWheel;
-use timer_facility::{Config, Facility};
 
 /// Gives its bytes in pieces of `size`, and records all calls: `<` and what came, `>` and what went, and
 /// `!` for a flush. Call number `fails_at` fails, counted from 0.
@@ -118,16 +116,8 @@ fn check_served(
     fails_at: u64,
     log: &str,
     end: Result<(), ServeFault>,
-) -> Result<(), Fail> {
-    let config = Config {
-        clients: 1,
-        capacity: 10,
-        first_tick: 0,
-        first_serial: 1,
-        first_number: 1,
-    };
-    let wheel = PlainWheel::new(alloc, 0)?;
-    let facility = Facility::open(alloc, config.check()?, wheel);
+) {
+    let facility = plain_facility(rt, alloc, 1, 10);
     let mut peer = Recording {
         rest: script.as_bytes(),
         size,
@@ -138,69 +128,62 @@ fn check_served(
         write_failed: false,
     };
     let ended = serve(alloc, &mut peer, facility);
-    assert_eq!(rt; peer.log.as_slice(), log.as_bytes(), "{script} {fails_at}");
-    assert!(rt; ended == end, "{script} {fails_at}");
-    Ok(())
+    same_in(rt, (script, fails_at), peer.log.as_slice(), log.as_bytes());
+    same_in(rt, (script, fails_at), ended, end);
 }
 
 #[test]
-fn each_line_is_answered_before_more_is_read(rt: HostRuntime) -> Result<(), Fail> {
+fn each_line_is_answered_before_more_is_read(rt: HostRuntime) {
+    let alloc = rt.alloc();
     let none = u64::MAX;
+    let bad = Err(ServeFault::Bad { line: 2 });
     let rows = [
         (
             "tick 9\nclose\n",
             7,
-            none,
             "<tick 9\n!<close\n>closed 0\n!<!>end 9 0\n!",
             Ok(()),
         ),
         (
             "start 0 1 3 7\ntick 3\n",
             14,
-            none,
             "<start 0 1 3 7\n>started 0 1 1 3\n!<tick 3\n>expired 3 0 1 7\n!<!>end 3 0\n!",
             Ok(()),
         ),
-        (
-            "close\ncl",
-            4,
-            none,
-            "<clos!<e\ncl>closed 0\n!<!",
-            Err(ServeFault::Bad { line: 2 }),
-        ),
+        ("close\ncl", 4, "<clos!<e\ncl>closed 0\n!<!", bad),
         (
             "close\nclop\nclose\n",
             11,
-            none,
             "<close\nclop\n>closed 0\n!",
-            Err(ServeFault::Bad { line: 2 }),
-        ),
-        ("close\nclose\n", 6, 0, "", Err(ServeFault::Read)),
-        ("close\nclose\n", 6, 1, "<close\n", Err(ServeFault::Write)),
-        (
-            "close\nclose\n",
-            6,
-            2,
-            "<close\n>closed 0\n",
-            Err(ServeFault::Write),
-        ),
-        (
-            "close\nclose\n",
-            6,
-            3,
-            "<close\n>closed 0\n!",
-            Err(ServeFault::Read),
-        ),
-        (
-            "close\n",
-            6,
-            4,
-            "<close\n>closed 0\n!<",
-            Err(ServeFault::Write),
+            bad,
         ),
     ];
-    for (script, size, fails_at, log, end) in rows {
-        check_served(&rt, rt.alloc(), script, size, fails_at, log, end)?;
+    for (script, size, log, end) in rows {
+        check_served(&rt, alloc, script, size, none, log, end);
     }
-    Ok(())
+}
+
+#[test]
+fn after_a_call_that_fails_none_is_made(rt: HostRuntime) {
+    let alloc = rt.alloc();
+    let rows = [
+        ("close\nclose\n", 0, "", ServeFault::Read),
+        ("close\nclose\n", 1, "<close\n", ServeFault::Write),
+        (
+            "close\nclose\n",
+            2,
+            "<close\n>closed 0\n",
+            ServeFault::Write,
+        ),
+        (
+            "close\nclose\n",
+            3,
+            "<close\n>closed 0\n!",
+            ServeFault::Read,
+        ),
+        ("close\n", 4, "<close\n>closed 0\n!<", ServeFault::Write),
+    ];
+    for (script, fails_at, log, fault) in rows {
+        check_served(&rt, alloc, script, 6, fails_at, log, Err(fault));
+    }
 }

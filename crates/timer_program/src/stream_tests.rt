@@ -1,9 +1,9 @@
 //! Readers and writers that fail once: nothing is tried again, and what went out is a prefix of the text.
-use crate::testing::{Fault, SCHEMES, Sink, Source, call};
+use crate::testing::{Fault, SCHEMES, Sink, Source, call, has_left, same, same_in};
 use crate::watched::Watched;
 use std::io::{ErrorKind, Read, Write};
 use std::process::Abort;
-use std::test::*;
+use std::thread::Threads;
 
 static ONE_TIMER: &str = "start 0 1 1 7\ntick 1\n";
 
@@ -27,126 +27,139 @@ static FAULTS: [Fault; 3] = [
     Fault::Fails(ErrorKind::BrokenPipe),
 ];
 
-#[test]
-fn io_faults_end_the_run_with_each_scheme(rt: HostRuntime) -> Result<(), Fail> {
-    let alloc = rt.alloc();
-    let script = ONE_TIMER.as_bytes();
-    assert_eq!(rt; ONE_TIMER_TEXT.len(), 40);
-    for scheme in &SCHEMES {
-        for fault in FAULTS {
-            let sink = Sink::new(alloc).with_fault_after(20, fault);
-            let ended = call(&rt, scheme, Source::of(script), sink);
-            assert_eq!(rt; ended.status, 1);
-            assert_eq!(rt; ended.faults.as_slice(), b"write failed\n".as_slice());
-            assert_eq!(rt;
-                ended.output.as_slice(),
-                b"started 0 1 1 1\nexpi".as_slice()
-            );
-            assert!(rt; ended.writer_failed && !ended.reader_failed);
-        }
-        for kind in KINDS {
-            let source = Source::of(script).failing_after(3, kind);
-            let ended = call(&rt, scheme, source, Sink::new(alloc));
-            assert_eq!(rt; ended.status, 1);
-            assert_eq!(rt; ended.faults.as_slice(), b"read failed\n".as_slice());
-            assert!(rt; ended.output.is_empty());
-            assert!(rt; ended.reader_failed && !ended.writer_failed);
-        }
-    }
-    Ok(())
+/// Plays the script of one timer with a scheme, to a writer that takes 20 bytes and then has this fault.
+fn write_fails<T: AllocGlobal + Abort + Threads>(rt: &T, scheme: &[&str], fault: Fault) {
+    let sink = Sink::new(rt.alloc()).with_fault_after(20, fault);
+    let ended = call(rt, scheme, Source::of(ONE_TIMER.as_bytes()), sink);
+    has_left(
+        rt,
+        scheme,
+        &ended,
+        1,
+        b"started 0 1 1 1\nexpi",
+        b"write failed\n",
+    );
+    let failed = (ended.reader_failed, ended.writer_failed);
+    same_in(rt, scheme, failed, (false, true));
+}
+
+/// Plays the script of one timer with a scheme, from a reader that gives 3 bytes and then fails.
+fn read_fails<T: AllocGlobal + Abort + Threads>(rt: &T, scheme: &[&str], kind: ErrorKind) {
+    let source = Source::of(ONE_TIMER.as_bytes()).failing_after(3, kind);
+    let ended = call(rt, scheme, source, Sink::new(rt.alloc()));
+    has_left(rt, scheme, &ended, 1, b"", b"read failed\n");
+    let failed = (ended.reader_failed, ended.writer_failed);
+    same_in(rt, scheme, failed, (true, false));
 }
 
 #[test]
-fn a_writer_that_fails_once_at_any_byte_ends_the_run(rt: HostRuntime) -> Result<(), Fail> {
-    let alloc = rt.alloc();
+fn io_faults_end_the_run_with_each_scheme(rt: HostRuntime) {
+    same(&rt, ONE_TIMER_TEXT.len(), 40);
+    for scheme in &SCHEMES {
+        for fault in FAULTS {
+            write_fails(&rt, scheme, fault);
+        }
+        for kind in KINDS {
+            read_fails(&rt, scheme, kind);
+        }
+    }
+}
+
+/// Plays a script to a writer that takes this front of the text, in pieces of this size, and then has this
+/// fault.
+fn write_fails_after<T: AllocGlobal + Abort + Threads>(
+    rt: &T,
+    front: &[u8],
+    size: usize,
+    fault: Fault,
+) {
+    let room = front.len();
+    let sink = Sink::new(rt.alloc())
+        .in_pieces(size)
+        .with_fault_after(room, fault);
+    let ended = call(rt, &["play"], Source::of(MIGRATION.as_bytes()), sink);
+    has_left(rt, (room, size), &ended, 1, front, b"write failed\n");
+    same_in(rt, (room, size), ended.writer_failed, true);
+}
+
+#[test]
+fn a_writer_that_fails_once_at_any_byte_ends_the_run(rt: HostRuntime) {
     let text = MIGRATION_TEXT.as_bytes();
-    assert_eq!(rt; text.len(), 82);
+    same(&rt, text.len(), 82);
     for room in 0..text.len() {
         for size in [1, 7, 100] {
             for fault in FAULTS {
-                let sink = Sink::new(alloc)
-                    .in_pieces(size)
-                    .with_fault_after(room, fault);
-                let ended = call(&rt, &["play"], Source::of(MIGRATION.as_bytes()), sink);
-                assert_eq!(rt; ended.status, 1, "{room}");
-                assert_eq!(rt; ended.output.as_slice(), &text[..room], "{room}");
-                assert_eq!(rt;
-                    ended.faults.as_slice(),
-                    b"write failed\n".as_slice(),
-                    "{room}"
-                );
-                assert!(rt; ended.writer_failed, "{room}");
+                write_fails_after(&rt, &text[..room], size, fault);
             }
         }
     }
-    Ok(())
+}
+
+/// Plays a script from a reader that gives so many bytes, in pieces of this size, and then fails.
+fn read_fails_after<T: AllocGlobal + Abort + Threads>(
+    rt: &T,
+    room: usize,
+    size: usize,
+    kind: ErrorKind,
+) {
+    let source = Source::of(MIGRATION.as_bytes())
+        .in_pieces(size)
+        .failing_after(room, kind);
+    let ended = call(rt, &["play"], source, Sink::new(rt.alloc()));
+    has_left(rt, (room, size), &ended, 1, b"", b"read failed\n");
+    same_in(rt, (room, size), ended.reader_failed, true);
 }
 
 #[test]
-fn a_reader_that_fails_once_at_any_byte_ends_the_run(rt: HostRuntime) -> Result<(), Fail> {
-    let alloc = rt.alloc();
-    let script = MIGRATION.as_bytes();
+fn a_reader_that_fails_once_at_any_byte_ends_the_run(rt: HostRuntime) {
     // After the last byte the reader fails in place of its end.
-    for room in 0..=script.len() {
+    for room in 0..=MIGRATION.len() {
         for size in [1, 7, 100] {
             for kind in KINDS {
-                let source = Source::of(script).in_pieces(size).failing_after(room, kind);
-                let ended = call(&rt, &["play"], source, Sink::new(alloc));
-                assert_eq!(rt; ended.status, 1, "{room}");
-                assert!(rt; ended.output.is_empty(), "{room}");
-                assert_eq!(rt;
-                    ended.faults.as_slice(),
-                    b"read failed\n".as_slice(),
-                    "{room}"
-                );
-                assert!(rt; ended.reader_failed, "{room}");
+                read_fails_after(&rt, room, size, kind);
             }
         }
     }
-    Ok(())
 }
 
 #[test]
-fn single_bytes_change_nothing(rt: HostRuntime) -> Result<(), Fail> {
+fn single_bytes_change_nothing(rt: HostRuntime) {
     let source = Source::of(MIGRATION.as_bytes()).in_pieces(1);
     let ended = call(&rt, &["play"], source, Sink::new(rt.alloc()).in_pieces(1));
-    assert_eq!(rt; ended.status, 0);
-    assert_eq!(rt; ended.output.as_slice(), MIGRATION_TEXT.as_bytes());
-    Ok(())
+    same(&rt, ended.status, 0);
+    same(&rt, ended.output.as_slice(), MIGRATION_TEXT.as_bytes());
 }
 
 #[test]
-fn a_failure_stays_known_after_later_calls_succeed(rt: HostRuntime) -> Result<(), Fail> {
+fn a_failure_stays_known_after_later_calls_succeed(rt: HostRuntime) {
     let alloc = rt.alloc();
     let mut reader = Watched::new(Source::of(b"tick").failing_after(2, ErrorKind::Interrupted));
     let mut piece = [0u8; 8];
-    assert_eq!(rt; reader.read(&mut piece)?, 2);
-    assert!(rt; !reader.failed());
-    assert!(rt; reader.read(&mut piece).is_err());
-    assert_eq!(rt; reader.read(&mut piece)?, 2);
-    assert!(rt; reader.failed());
+    same(&rt, reader.read(&mut piece).ok(), Some(2));
+    same(&rt, reader.failed(), false);
+    same(&rt, reader.read(&mut piece).ok(), None);
+    same(&rt, reader.read(&mut piece).ok(), Some(2));
+    same(&rt, reader.failed(), true);
 
     let mut writer = Watched::new(Sink::new(alloc).with_fault_after(2, Fault::TakesNone));
-    assert_eq!(rt; writer.write(b"tick")?, 2);
-    assert_eq!(rt; writer.write(b"")?, 0);
-    Ok(())
+    same(&rt, writer.write(b"tick").ok(), Some(2));
+    same(&rt, writer.write(b"").ok(), Some(0));
 }
 
 #[test]
-fn a_flush_reaches_the_writer_and_its_error_is_known(rt: HostRuntime) -> Result<(), Fail> {
+fn a_flush_reaches_the_writer_and_its_error_is_known(rt: HostRuntime) {
     let alloc = rt.alloc();
     let mut writer = Watched::new(Sink::new(alloc));
-    assert_eq!(rt; writer.write(b"tick")?, 4);
-    writer.flush()?;
-    writer.flush()?;
-    assert!(rt; !writer.failed());
+    same(&rt, writer.write(b"tick").ok(), Some(4));
+    same(&rt, writer.flush().ok(), Some(()));
+    same(&rt, writer.flush().ok(), Some(()));
+    same(&rt, writer.failed(), false);
     let sink = writer.into_inner();
-    assert_eq!(rt; sink.flushes, 2);
-    assert_eq!(rt; sink.bytes.as_slice(), b"tick".as_slice());
+    same(&rt, sink.flushes, 2);
+    same(&rt, sink.bytes.as_slice(), b"tick".as_slice());
 
     let fault = Fault::Fails(ErrorKind::BrokenPipe);
     let mut writer = Watched::new(Sink::new(alloc).with_fault_after(9, fault));
-    assert!(rt; writer.flush().is_err());
-    assert!(rt; writer.failed());
-    Ok(())
+    same(&rt, writer.flush().ok(), None);
+    same(&rt, writer.failed(), true);
 }

@@ -3,31 +3,21 @@ ghost use Rattle.std.specs.Prelude.{◌≡◌, ◌≤◌};
 ghost use Rattle.timer_base.specs.declared.limits.TheConstants.{LAST};
 
 use crate::gate::{Gate, InTurn, Open};
-use crate::testing::line;
+use crate::testing;
+use crate::testing::{line, numbered, same};
 use crate::worked::Worked;
 use crate::working::client_work;
 use std::alloc::Global;
 use std::process::Abort;
 use std::sync::Arc;
 use std::sync::atomic::{AtomicU64, Ordering};
-use std::test::*;
-use timer_base::{Handle, LAST, Timer};
+use timer_base::{LAST, Timer};
 use timer_desk::{Inlet, Put, RingInlet, Taken, Word};
-use timer_facility::{Answer, NotTaken, Notice, Reason, Request};
+use timer_facility::{Answer, NotTaken, Notice, Reason};
 
 /// The answer to a start that was accepted.
 fn started(number: u64) -> Word {
-    let handle = Handle {
-        place: 0,
-        serial: number,
-    };
-    Word::Answered {
-        number,
-        answer: Answer::Started {
-            handle,
-            deadline: 5,
-        },
-    }
+    testing::started(number, number, 5)
 }
 
 /// An answer to request 1.
@@ -36,17 +26,11 @@ fn answered(answer: Answer) -> Word {
 }
 
 fn timer(deadline: u64, serial: u64) -> Timer {
-    Timer {
-        serial,
-        client: 0,
-        number: serial,
-        deadline,
-        action: serial,
-    }
+    testing::timer(serial, 0, serial, deadline, serial)
 }
 
 fn expired(deadline: u64, serial: u64) -> Word {
-    Word::Notice(Notice::Expired(timer(deadline, serial)))
+    testing::expired(timer(deadline, serial))
 }
 
 fn returned(deadline: u64, serial: u64) -> Word {
@@ -56,7 +40,7 @@ fn returned(deadline: u64, serial: u64) -> Word {
 /// Puts these words into the line.
 fn say(rt: &impl Abort, inlet: &mut RingInlet, words: &[Word]) {
     for word in words {
-        assert_eq!(rt; inlet.put(*word), Put::Done);
+        same(rt, inlet.put(*word), Put::Done);
     }
 }
 
@@ -92,7 +76,11 @@ fn a_client_that_hears_what_it_has_to_is_complete(rt: HostRuntime) {
     let words = [started(1), started(2), expired(5, 1), expired(5, 2)];
     let worked = told(&rt, rt.alloc(), &words, 2, Open);
     assert!(rt; !worked.failed);
-    assert_eq!(rt; (worked.sent, worked.started, worked.expired), (2, 2, 2));
+    same(
+        &rt,
+        (worked.sent, worked.started, worked.expired),
+        (2, 2, 2),
+    );
 }
 
 /// Fails unless a client stops at the last of these words, counts so many, and reads no further.
@@ -102,9 +90,9 @@ fn stops(rt: &impl Abort, alloc: Global, words: &[Word], counts: (u64, u64)) {
     say(rt, &mut inlet, &[started(9)]);
     let worked = client_work(end, 2, 1000, UpTo { number: 1 });
     assert!(rt; worked.failed);
-    assert_eq!(rt; (worked.started, worked.expired), counts);
+    same(rt, (worked.started, worked.expired), counts);
     let mut reader = worked.reader;
-    assert_eq!(rt; reader.receive(), Some(started(9)));
+    same(rt, reader.receive(), Some(started(9)));
 }
 
 #[test]
@@ -185,6 +173,17 @@ fn a_client_stops_at_a_word_too_many(rt: HostRuntime) {
     );
 }
 
+/// A count at 0, twice: for a gate, and for its test.
+fn counter(rt: &impl Abort, alloc: Global) -> (Arc<AtomicU64, Global>, Arc<AtomicU64, Global>) {
+    let Ok(count) = Arc::new(alloc, AtomicU64::new(0)) else {
+        panic!(rt; "out of memory");
+    };
+    let Ok(other) = Arc::try_clone(&count) else {
+        panic!(rt; "out of memory");
+    };
+    (count, other)
+}
+
 /// Writes down what it is asked, two digits for each ask, and lets the requests up to 3 go.
 #[derive(Drop)]
 struct Writes {
@@ -201,14 +200,10 @@ impl Gate for Writes {
 }
 
 #[test]
-fn a_gate_is_asked_with_the_next_number_and_the_timers_that_expired(
-    rt: HostRuntime,
-) -> Result<(), Fail> {
+fn a_gate_is_asked_with_the_next_number_and_the_timers_that_expired(rt: HostRuntime) {
     let alloc = rt.alloc();
-    let asks = Arc::new(alloc, AtomicU64::new(0))?;
-    let gate = Writes {
-        asks: Arc::try_clone(&asks)?,
-    };
+    let (asks, other) = counter(&rt, alloc);
+    let gate = Writes { asks: other };
     let words = [
         started(1),
         expired(1, 1),
@@ -219,8 +214,7 @@ fn a_gate_is_asked_with_the_next_number_and_the_timers_that_expired(
     ];
     let worked = told(&rt, alloc, &words, 3, gate);
     assert!(rt; !worked.failed);
-    assert_eq!(rt; asks.load(Ordering::SeqCst), 10_20_31);
-    Ok(())
+    same(&rt, asks.load(Ordering::SeqCst), 10_20_31);
 }
 
 #[test]
@@ -229,20 +223,12 @@ fn a_gate_that_opens_for_three_requests_lets_three_go(rt: HostRuntime) {
     let (end, mut inlet) = line(&rt, alloc, 16, 1);
     let worked = client_work(end, 5, 1000, UpTo { number: 3 });
     assert!(rt; worked.failed);
-    assert_eq!(rt; worked.sent, 3);
+    same(&rt, worked.sent, 3);
     for number in 1..=3u64 {
-        let request = Request::Start {
-            interval: 1 + number,
-            action: number,
-        };
-        match inlet.take() {
-            Taken::Got(numbered) => {
-                assert_eq!(rt; (numbered.number, numbered.request), (number, request));
-            }
-            _ => panic!(rt; "request {number} is missing"),
-        }
+        let wanted = numbered(number, 1 + number, number);
+        same(&rt, inlet.take(), Taken::Got(wanted));
     }
-    assert_eq!(rt; inlet.take(), Taken::Empty);
+    same(&rt, inlet.take(), Taken::Empty);
 }
 
 #[test]
@@ -254,7 +240,7 @@ fn a_gate_in_turn_waits_for_each_timer(rt: HostRuntime) {
     assert!(rt; InTurn.may_send(u64::MAX, u64::MAX));
     let (end, _inlet) = line(&rt, alloc, 16, 1);
     let worked = client_work(end, 5, 1000, InTurn);
-    assert_eq!(rt; (worked.sent, worked.failed), (1, true));
+    same(&rt, (worked.sent, worked.failed), (1, true));
 }
 
 /// Counts how often it is asked, and opens at each ask that is a multiple of `every`.
@@ -273,34 +259,36 @@ impl Gate for Counts {
 }
 
 #[test]
-fn a_client_gives_up_after_as_many_idle_turns_as_its_limit(rt: HostRuntime) -> Result<(), Fail> {
+fn a_client_gives_up_after_as_many_idle_turns_as_its_limit(rt: HostRuntime) {
     let alloc = rt.alloc();
-    let asks = Arc::new(alloc, AtomicU64::new(0))?;
+    let (asks, other) = counter(&rt, alloc);
     let gate = Counts {
-        asks: Arc::try_clone(&asks)?,
+        asks: other,
         every: 1,
     };
     let (end, _inlet) = line(&rt, alloc, 8, 1);
     let worked = client_work(end, 100, 1000, gate);
     assert!(rt; worked.failed);
-    assert_eq!(rt; (worked.sent, worked.started, worked.expired), (8, 0, 0));
-    assert_eq!(rt; asks.load(Ordering::SeqCst), 8 + 1000);
-    Ok(())
+    same(
+        &rt,
+        (worked.sent, worked.started, worked.expired),
+        (8, 0, 0),
+    );
+    same(&rt, asks.load(Ordering::SeqCst), 8 + 1000);
 }
 
 #[test]
-fn a_client_that_sends_now_and_then_does_not_give_up(rt: HostRuntime) -> Result<(), Fail> {
+fn a_client_that_sends_now_and_then_does_not_give_up(rt: HostRuntime) {
     let alloc = rt.alloc();
-    let asks = Arc::new(alloc, AtomicU64::new(0))?;
+    let (asks, other) = counter(&rt, alloc);
     let gate = Counts {
-        asks: Arc::try_clone(&asks)?,
+        asks: other,
         every: 900,
     };
     let words = [started(1), started(2), expired(5, 1), expired(5, 2)];
     let worked = told(&rt, alloc, &words, 2, gate);
     assert!(rt; !worked.failed);
-    assert_eq!(rt; asks.load(Ordering::SeqCst), 1800);
-    Ok(())
+    same(&rt, asks.load(Ordering::SeqCst), 1800);
 }
 
 #[test]
@@ -312,7 +300,7 @@ fn a_client_works_at_the_ends_of_its_ranges(rt: HostRuntime) {
     assert!(rt; !worked.failed);
     let (end, _inlet) = line(&rt, alloc, 8, LAST);
     let worked = client_work(end, LAST, 1000, Open);
-    assert_eq!(rt; (worked.sent, worked.failed), (1, true));
+    same(&rt, (worked.sent, worked.failed), (1, true));
     let (end, _inlet) = line(&rt, alloc, 8, 1);
     let worked = client_work(end, 0, 1000, Open);
     assert!(rt; !worked.failed);

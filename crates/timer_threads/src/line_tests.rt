@@ -60,7 +60,7 @@ fn silent(rt: &impl Abort, desk: Desk<HierWheel, RingInlet>, zero: ClientEnd, on
         match turn_of_two(&mut desk) {
             Served::Did { .. } => served = served.saturating_add(1),
             Served::NoRoom => {
-                assert_eq!(rt; served, 3);
+                same(rt, served, 3);
                 refused = refused.saturating_add(1);
             }
             _ => {}
@@ -71,15 +71,15 @@ fn silent(rt: &impl Abort, desk: Desk<HierWheel, RingInlet>, zero: ClientEnd, on
             _ => {}
         }
     }
-    assert_eq!(rt; (served, refused), (3, 97));
-    assert_eq!(rt; desk.outbox_len(0), 4);
-    assert_eq!(rt; zero.next_number(), 6);
-    assert_eq!(rt; (started, expired), (5, 5));
+    same(rt, (served, refused), (3, 97));
+    same(rt, desk.outbox_len(0), 4);
+    same(rt, zero.next_number(), 6);
+    same(rt, (started, expired), (5, 5));
     let (ended, _reader) = zero.finish();
     let Some(mut ended) = ended else {
         panic!(rt; "not finished");
     };
-    assert_eq!(rt; desk.settle(0, &mut ended), 2);
+    same(rt, desk.settle(0, &mut ended), 2);
 }
 
 #[test]
@@ -107,10 +107,10 @@ fn wound(rt: &impl Abort, desk: Desk<HierWheel, RingInlet>, reader: ClientReader
     let Some(mut ended) = inlet.finish() else {
         panic!(rt; "not finished");
     };
-    assert_eq!(rt; reader.settle(&mut ended), 2);
-    assert_eq!(rt; told(reader.receive()), (2, 2, 1));
-    assert_eq!(rt; told(reader.receive()), (2, 1, 2));
-    assert_eq!(rt; reader.receive(), None);
+    same(rt, reader.settle(&mut ended), 2);
+    same(rt, told(reader.receive()), (2, 2, 1));
+    same(rt, told(reader.receive()), (2, 1, 2));
+    same(rt, reader.receive(), None);
 }
 
 /// What a serve came to: a serial and a deadline.
@@ -128,10 +128,10 @@ fn serve_all(rt: &impl Abort, desk: &mut Desk<HierWheel, RingInlet>)
     ensures clients { clients_of desk.new ≡ 1 }
     ensures line { (i : RingInlet) → line_of_inlet (get_or desk.new.inlets 0 i) ≡ line_of_inlet (get_or desk.old.inlets 0 i) }
 {
-    assert_eq!(rt; did(desk.serve(0)), (1, 1, 2));
-    assert_eq!(rt; did(desk.serve(0)), (1, 2, 1));
-    assert_eq!(rt; did(desk.serve(0)), (3, 0, 0));
-    assert_eq!(rt; desk.flush(0), 2);
+    same(rt, did(desk.serve(0)), (1, 1, 2));
+    same(rt, did(desk.serve(0)), (1, 2, 1));
+    same(rt, did(desk.serve(0)), (3, 0, 0));
+    same(rt, desk.flush(0), 2);
 }
 
 /// Passes two ticks, whose notices find no room in the line.
@@ -140,9 +140,9 @@ fn pass_two_ticks(rt: &impl Abort, desk: &mut Desk<HierWheel, RingInlet>)
     ensures clients { clients_of desk.new ≡ 1 }
     ensures line { (i : RingInlet) → line_of_inlet (get_or desk.new.inlets 0 i) ≡ line_of_inlet (get_or desk.old.inlets 0 i) }
 {
-    assert_eq!(rt; desk.tick(), Ok(()));
-    assert_eq!(rt; desk.tick(), Ok(()));
-    assert_eq!(rt; desk.flush(0), 0);
+    same(rt, desk.tick(), Ok(()));
+    same(rt, desk.tick(), Ok(()));
+    same(rt, desk.flush(0), 0);
 }
 
 /// The line from the client's finish on.
@@ -155,12 +155,12 @@ fn ended(rt: &impl Abort, desk: Desk<HierWheel, RingInlet>, end: ClientEnd)
     let Some(mut ended) = ended else {
         panic!(rt; "not finished");
     };
-    assert_eq!(rt; desk.settle(0, &mut ended), 2);
+    same(rt, desk.settle(0, &mut ended), 2);
     serve_all(rt, &mut desk);
     pass_two_ticks(rt, &mut desk);
-    assert_eq!(rt; told(reader.receive()), (1, 1, 2));
-    assert_eq!(rt; told(reader.receive()), (1, 2, 1));
-    assert_eq!(rt; desk.flush(0), 2);
+    same(rt, told(reader.receive()), (1, 1, 2));
+    same(rt, told(reader.receive()), (1, 2, 1));
+    same(rt, desk.flush(0), 2);
     wound(rt, desk, reader);
 }
 
@@ -168,10 +168,10 @@ fn ended(rt: &impl Abort, desk: Desk<HierWheel, RingInlet>, end: ClientEnd)
 fn a_ring_line_is_read_to_its_end(rt: HostRuntime) {
     let alloc = rt.alloc();
     let (mut end, inlet) = line(&rt, alloc, 2, 1);
-    assert_eq!(rt; end.submit(start(2, 7)), Ok(1));
-    assert_eq!(rt; end.submit(start(1, 8)), Ok(2));
-    assert_eq!(rt; end.submit(start(5, 9)), Err(Unsent::Full(start(5, 9))));
-    assert_eq!(rt; end.next_number(), 3);
+    same(&rt, end.submit(start(2, 7)), Ok(1));
+    same(&rt, end.submit(start(1, 8)), Ok(2));
+    same(&rt, end.submit(start(5, 9)), Err(Unsent::Full(start(5, 9))));
+    same(&rt, end.next_number(), 3);
     let wheel = hierarchy(&rt, alloc, Table::Wide);
     let desk = desk(&rt, alloc, wheel, one(&rt, alloc, inlet), 8);
     ended(&rt, desk, end);

@@ -46,9 +46,9 @@ fn take_steps<W: Wheel + Drop, I: Inlet + Drop>(
 
 /// Goes on only where these are just those members of a report, but for places.
 fn are_members(rt: &impl Abort, report: &[Done], wanted: &[Done]) {
-    assert_eq!(rt; report.len(), wanted.len());
+    same(rt, report.len(), wanted.len());
     for (done, member) in report.iter().zip(wanted.iter()) {
-        assert_eq!(rt; bare_done(*done), *member);
+        same(rt, bare_done(*done), *member);
     }
 }
 
@@ -67,7 +67,7 @@ fn by_calls<W: Wheel + Drop, I: Inlet + Drop>(
         let Some(step) = left.next() else {
             panic!(rt; "a step is missing");
         };
-        assert_eq!(rt; bare_done(call(rt, desk, *step)), *member);
+        same(rt, bare_done(call(rt, desk, *step)), *member);
     }
     assert!(rt; left.next().is_none());
 }
@@ -134,7 +134,7 @@ fn no_room<W: Wheel + Drop, I: Inlet + Drop>(rt: &impl Abort, desk: &mut Desk<W,
         did(0, numbered(2, 1, 8), 2, 2),
         flushed(0, 1),
     ];
-    assert_eq!(rt; desk.clients(), 1);
+    has_clients(rt, desk, 1);
     take_steps(rt, desk, way, &steps, &report);
 }
 
@@ -175,7 +175,7 @@ fn close_at_desk<W: Wheel + Drop, I: Inlet + Drop>(
         flushed(0, 3),
         flushed(1, 2),
     ];
-    assert_eq!(rt; desk.clients(), 2);
+    has_clients(rt, desk, 2);
     take_steps(rt, desk, way, &steps, &report);
 }
 
@@ -207,7 +207,7 @@ fn held_request<W: Wheel + Drop, I: Inlet + Drop>(
     desk: &mut Desk<W, I>,
     way: Way,
 ) {
-    assert_eq!(rt; desk.clients(), 1);
+    has_clients(rt, desk, 1);
     take_steps(
         rt,
         desk,
@@ -215,13 +215,13 @@ fn held_request<W: Wheel + Drop, I: Inlet + Drop>(
         &[Step::Serve(0)],
         &[served(0, Served::NoMemory)],
     );
-    assert_eq!(rt; desk.clients(), 1);
-    assert_eq!(rt; desk.held(0), Some(numbered(1, 1, 7)));
+    has_clients(rt, desk, 1);
+    same(rt, desk.held(0), Some(numbered(1, 1, 7)));
     let steps = [Step::Serve(0), Step::Flush(0)];
     let report = [did(0, numbered(1, 1, 7), 1, 1), flushed(0, 1)];
     take_steps(rt, desk, way, &steps, &report);
-    assert_eq!(rt; desk.clients(), 1);
-    assert_eq!(rt; desk.held(0), None);
+    has_clients(rt, desk, 1);
+    same(rt, desk.held(0), None);
 }
 
 /// Ends a desk over lines in memory, at which nothing may wait. Returns the lines.
@@ -232,8 +232,16 @@ fn end<W: Wheel + Drop>(
 ) -> Vec<MemoryInlet> {
     idle(rt, &desk);
     let (facility, inlets) = desk.end();
-    assert_eq!(rt; facility.pending(), pending);
+    same(rt, facility.pending(), pending);
     inlets
+}
+
+/// Goes on only where the line of client c was given just these words, but for places.
+fn are_given(rt: &impl Abort, inlets: &[MemoryInlet], c: usize, words: &[Word]) {
+    let Some(inlet) = inlets.get(c) else {
+        panic!(rt; "no line");
+    };
+    are_words(rt, inlet.given(), words);
 }
 
 /// The row `no_room` over a line in memory.
@@ -246,8 +254,8 @@ fn no_room_over<W: Wheel + Drop>(rt: &impl Abort, alloc: Global, wheel: W, way: 
     let mut desk = desk(rt, alloc, wheel, inlets, 2);
     no_room(rt, &mut desk, way);
     let inlets = end(rt, desk, 1);
-    assert_eq!(rt; inlets.len(), 1);
-    are_words(rt, inlets[0].given(), &no_room_words());
+    same(rt, inlets.len(), 1);
+    are_given(rt, &inlets, 0, &no_room_words());
 }
 
 /// The row `close_at_desk` over lines in memory.
@@ -262,9 +270,9 @@ fn close_at_desk_over<W: Wheel + Drop>(rt: &impl Abort, alloc: Global, wheel: W,
     let mut desk = desk(rt, alloc, wheel, inlets, 4);
     close_at_desk(rt, &mut desk, way);
     let inlets = end(rt, desk, 0);
-    assert_eq!(rt; inlets.len(), 2);
-    are_words(rt, inlets[0].given(), &words_of_zero());
-    are_words(rt, inlets[1].given(), &words_of_one());
+    same(rt, inlets.len(), 2);
+    are_given(rt, &inlets, 0, &words_of_zero());
+    are_given(rt, &inlets, 1, &words_of_one());
 }
 
 /// The row `held_request` over a line in memory.
@@ -281,8 +289,8 @@ fn held_request_over<W: Wheel + Drop>(rt: &impl Abort, alloc: Global, wheel: W, 
     let mut desk = desk(rt, alloc, wheel, inlets, 4);
     held_request(rt, &mut desk, way);
     let inlets = end(rt, desk, 1);
-    assert_eq!(rt; inlets.len(), 1);
-    are_words(rt, inlets[0].given(), &[started(1, 1, 1)]);
+    same(rt, inlets.len(), 1);
+    are_given(rt, &inlets, 0, &[started(1, 1, 1)]);
 }
 
 /// A plain wheel at tick 0.
@@ -349,16 +357,16 @@ fn rows_of_a_desk_over_hierarchies_of_wheels(rt: HostRuntime) {
 /// Goes on only where the client receives just these words, but for places.
 fn receives(rt: &impl Abort, end: &mut ClientEnd, words: &[Word]) {
     for word in words {
-        assert_eq!(rt; end.receive().map(bare), Some(*word));
+        same(rt, end.receive().map(bare), Some(*word));
     }
-    assert_eq!(rt; end.receive(), None);
+    same(rt, end.receive(), None);
 }
 
 /// The row `no_room` over a ring line.
 fn no_room_over_ring(rt: &impl Abort, alloc: Global, way: Way) {
     let (mut end, inlet) = line(rt, alloc, 4, 1);
-    assert_eq!(rt; end.submit(start(1, 7)), Ok(1));
-    assert_eq!(rt; end.submit(start(1, 8)), Ok(2));
+    same(rt, end.submit(start(1, 7)), Ok(1));
+    same(rt, end.submit(start(1, 8)), Ok(2));
     let wheel = hierarchy(rt, alloc, Table::Wide);
     let mut desk = desk(rt, alloc, wheel, one(rt, alloc, inlet), 2);
     no_room(rt, &mut desk, way);
@@ -369,9 +377,9 @@ fn no_room_over_ring(rt: &impl Abort, alloc: Global, way: Way) {
 fn close_at_desk_over_rings(rt: &impl Abort, alloc: Global, way: Way) {
     let (mut zero, first) = line(rt, alloc, 4, 1);
     let (mut one, second) = line(rt, alloc, 4, 1);
-    assert_eq!(rt; zero.submit(start(5, 1)), Ok(1));
-    assert_eq!(rt; zero.submit(start(1, 3)), Ok(2));
-    assert_eq!(rt; one.submit(start(3, 2)), Ok(1));
+    same(rt, zero.submit(start(5, 1)), Ok(1));
+    same(rt, zero.submit(start(1, 3)), Ok(2));
+    same(rt, one.submit(start(3, 2)), Ok(1));
     let wheel = hierarchy(rt, alloc, Table::Wide);
     let mut desk = desk(rt, alloc, wheel, two(rt, alloc, first, second), 4);
     close_at_desk(rt, &mut desk, way);
@@ -382,7 +390,7 @@ fn close_at_desk_over_rings(rt: &impl Abort, alloc: Global, way: Way) {
 /// The row `held_request` over a ring line.
 fn held_request_over_ring(rt: &impl Abort, alloc: Global, way: Way) {
     let (mut end, inlet) = line(rt, alloc, 4, 1);
-    assert_eq!(rt; end.submit(start(1, 7)), Ok(1));
+    same(rt, end.submit(start(1, 7)), Ok(1));
     let wheel = refusing(rt, alloc, true);
     let mut desk = desk(rt, alloc, wheel, one(rt, alloc, inlet), 4);
     held_request(rt, &mut desk, way);
@@ -426,7 +434,7 @@ fn start_two(rt: &impl Abort, desk: &mut Desk<HierWheel, RingInlet>, way: Way) {
         flushed(0, 1),
         flushed(1, 1),
     ];
-    assert_eq!(rt; desk.clients(), 2);
+    has_clients(rt, desk, 2);
     take_steps(rt, desk, way, &steps, &report);
 }
 
@@ -477,7 +485,7 @@ fn restart_one(
         flushed(0, 2),
         flushed(1, 1),
     ];
-    assert_eq!(rt; desk.clients(), 2);
+    has_clients(rt, desk, 2);
     take_steps(rt, desk, way, &steps, &report);
 }
 
@@ -485,8 +493,8 @@ fn restart_one(
 fn restart_over_rings(rt: &impl Abort, alloc: Global, way: Way) {
     let (mut zero, first) = line(rt, alloc, 4, 1);
     let (mut one, second) = line(rt, alloc, 4, 1);
-    assert_eq!(rt; zero.submit(start(5, 1)), Ok(1));
-    assert_eq!(rt; one.submit(start(5, 2)), Ok(1));
+    same(rt, zero.submit(start(5, 1)), Ok(1));
+    same(rt, one.submit(start(5, 2)), Ok(1));
     let wheel = hierarchy(rt, alloc, Table::Wide);
     let mut desk = desk(rt, alloc, wheel, two(rt, alloc, first, second), 8);
     start_two(rt, &mut desk, way);
@@ -495,7 +503,7 @@ fn restart_over_rings(rt: &impl Abort, alloc: Global, way: Way) {
         interval: 5,
         action: 3,
     };
-    assert_eq!(rt; zero.submit(request), Ok(2));
+    same(rt, zero.submit(request), Ok(2));
     restart_one(rt, &mut desk, way, Numbered { number: 2, request });
     let third = expired(timer(3, 0, 2, 5, 3));
     receives(rt, &mut zero, &[restarted(), third]);

@@ -3,15 +3,32 @@ ghost use Rattle.std.specs.Prelude.{◌≡◌, ◌≤◌, [], ◌∷◌};
 ghost use Rattle.timer_base.specs.declared.limits.TheConstants.{LAST};
 ghost use Rattle.timer_wheels.specs.HierWheel.{hier_state};
 ghost use Rattle.timer_desk.specs.Ring.{line_of_end, line_of_inlet};
-ghost use Rattle.timer_desk.specs.Desk.{AllIdle};
+ghost use Rattle.timer_desk.specs.Desk.{AllIdle, clients_of};
 
 use crate::refusing::Refusing;
 use std::alloc::Global;
+use std::fmt::Debug;
 use std::process::Abort;
 use timer_base::{Handle, Timer, Wheel};
 use timer_desk::{ClientEnd, Desk, Done, Inlet, Numbered, RingInlet, Served, Word, ring_line};
 use timer_facility::{Answer, Config, Facility, Notice, Request};
 use timer_wheels::{HierWheel, Table};
+
+/// Compares in a function of its own, so that a test is a list of calls without branches.
+pub fn same<T: PartialEq + Debug + Drop>(rt: &impl Abort, found: T, expected: T) {
+    assert_eq!(rt; found, expected);
+}
+
+/// Goes on only where the desk has so many clients.
+pub fn has_clients<W: Wheel + Drop, I: Inlet + Drop>(
+    rt: &impl Abort,
+    desk: &Desk<W, I>,
+    clients: usize,
+)
+    ensures { clients_of desk.now ≡ clients }
+{
+    assert_eq!(rt; desk.clients(), clients);
+}
 
 /// A desk over these lines, one for each client, and a wheel that is empty and stands at tick 0.
 pub fn desk<W: Wheel + Drop, I: Inlet + Drop>(
@@ -208,8 +225,8 @@ pub fn bare_done(done: Done) -> Done {
 
 /// Goes on only where these are just those words, but for places.
 pub fn are_words(rt: &impl Abort, words: &[Word], wanted: &[Word]) {
-    assert_eq!(rt; words.len(), wanted.len());
+    same(rt, words.len(), wanted.len());
     for (word, other) in words.iter().zip(wanted.iter()) {
-        assert_eq!(rt; bare(*word), *other);
+        same(rt, bare(*word), *other);
     }
 }

@@ -1,5 +1,6 @@
 //! Clients in threads: the worked rows, gates that hold clients back, and clients that end badly.
-ghost use Rattle.std.specs.Prelude.{◌≡◌, IfOk, vec_len};
+ghost use Rattle.std.specs.Prelude.{◌≡◌, ◌≤◌, IfOk, vec_len};
+ghost use Rattle.timer_base.specs.declared.limits.TheConstants.{LAST};
 
 use crate::fault::ThreadsFault;
 use crate::gate::{Gate, InTurn, Open};
@@ -88,25 +89,50 @@ fn meeting(alloc: Global) -> Result<Vec<Meet>, AllocError>
     Ok(gates)
 }
 
+/// Runs two clients with these gates, each of which has to hear of its hundred timers.
+fn two_complete<G: Gate + Drop + Send + 'static>(
+    rt: &(impl Threads + Abort),
+    alloc: Global,
+    gates: Vec<G>,
+)
+    requires { vec_len gates ≡ 2 }
+{
+    match threads_run(rt, alloc, gates, 100, LIMIT) {
+        Ok(text) => same(rt, text.as_slice(), TWO_OF_100.as_bytes()),
+        Err(fault) => panic!(rt; "{fault:?}"),
+    }
+}
+
+/// Runs clients with these gates, of which this one has to be named in the error.
+fn fails<G: Gate + Drop + Send + 'static>(
+    rt: &(impl Threads + Abort),
+    alloc: Global,
+    gates: Vec<G>,
+    timers: u64,
+    limit: u64,
+    client: usize,
+)
+    requires gates { (1 ≤ vec_len gates) × (vec_len gates ≤ 64) }
+    requires timers { (1 ≤ timers) × (timers ≤ 10000) }
+    requires limit { (1 ≤ limit) × (limit ≤ LAST) }
+{
+    match threads_run(rt, alloc, gates, timers, limit) {
+        Ok(_) => panic!(rt; "came to an end"),
+        Err(fault) => same(rt, fault, ThreadsFault::Client(client)),
+    }
+}
+
 #[test]
 fn clients_in_turn_are_served_beside_each_other(rt: HostRuntime) -> Result<(), Fail> {
     let alloc = rt.alloc();
-    let gates = vec![in alloc; InTurn, InTurn]?;
-    match threads_run(&rt, alloc, gates, 100, LIMIT) {
-        Ok(text) => assert_eq!(rt; text.as_slice(), TWO_OF_100.as_bytes()),
-        Err(fault) => panic!(rt; "{fault:?}"),
-    }
+    two_complete(&rt, alloc, vec![in alloc; InTurn, InTurn]?);
     Ok(())
 }
 
 #[test]
 fn clients_that_wait_for_each_other_meet(rt: HostRuntime) -> Result<(), Fail> {
     let alloc = rt.alloc();
-    let gates = meeting(alloc)?;
-    match threads_run(&rt, alloc, gates, 100, LIMIT) {
-        Ok(text) => assert_eq!(rt; text.as_slice(), TWO_OF_100.as_bytes()),
-        Err(fault) => panic!(rt; "{fault:?}"),
-    }
+    two_complete(&rt, alloc, meeting(alloc)?);
     Ok(())
 }
 
@@ -114,11 +140,7 @@ fn clients_that_wait_for_each_other_meet(rt: HostRuntime) -> Result<(), Fail> {
 fn clients_that_may_not_send_come_to_their_limit(rt: HostRuntime) -> Result<(), Fail> {
     let alloc = rt.alloc();
     let shut = Door { is_open: false };
-    let gates = vec![in alloc; shut, shut]?;
-    match threads_run(&rt, alloc, gates, 100, 1000) {
-        Ok(_) => panic!(rt; "came to an end"),
-        Err(fault) => assert_eq!(rt; fault, ThreadsFault::Client(0)),
-    }
+    fails(&rt, alloc, vec![in alloc; shut, shut]?, 100, 1000, 0);
     Ok(())
 }
 
@@ -129,10 +151,7 @@ fn the_lowest_client_that_failed_is_named(rt: HostRuntime) -> Result<(), Fail> {
     let shut = Door { is_open: false };
     let gates = vec![in alloc; open, shut, shut]?;
     // Client 0 must not come to this limit while the desk's thread is held up.
-    match threads_run(&rt, alloc, gates, 10, 100_000) {
-        Ok(_) => panic!(rt; "came to an end"),
-        Err(fault) => assert_eq!(rt; fault, ThreadsFault::Client(1)),
-    }
+    fails(&rt, alloc, gates, 10, 100_000, 1);
     Ok(())
 }
 
@@ -241,41 +260,54 @@ fn run_paced<I: Inlet + Drop, L: Line + Send + Drop + 'static>(
     alloc: Global,
     desk: Desk<HierWheel, I>,
     line: L,
-) -> Result<(), Fail> {
+) {
     let mut desk = desk;
-    let child = thread::spawn(rt, move || paced(alloc, line))?;
+    let Ok(child) = thread::spawn(rt, move || paced(alloc, line)) else {
+        panic!(rt; "no thread");
+    };
     let mut flushed = 0usize;
     for _ in 0..LIMIT {
-        assert_eq!(rt; desk.clients(), 1);
         if flushed >= 4 {
             break;
         }
-        desk.turn(&[Step::Serve(0), Step::Tick])?;
-        assert_eq!(rt; desk.clients(), 1);
-        flushed = flushed.saturating_add(desk.flush(0));
+        flushed = flushed.saturating_add(turn_of_one(rt, &mut desk));
         thread::yield_now();
     }
     let Some(words) = child.join(rt) else {
         panic!(rt; "the client gave up");
     };
-    assert_eq!(rt; words.len(), 4);
+    are_paced(rt, &words);
+}
+
+/// One turn of one client. Returns how many words of it were flushed.
+fn turn_of_one<I: Inlet + Drop>(rt: &impl Abort, desk: &mut Desk<HierWheel, I>) -> usize {
+    has_clients(rt, desk, 1);
+    let Ok(_) = desk.turn(&[Step::Serve(0), Step::Tick]) else {
+        panic!(rt; "out of memory");
+    };
+    has_clients(rt, desk, 1);
+    desk.flush(0)
+}
+
+/// Goes on only where these are the answers to two starts, each before its timer, one after the other.
+fn are_paced(rt: &impl Abort, words: &[Word]) {
+    assert!(rt; words.len() == 4);
     let first = told(words[0]);
     let second = told(words[2]);
-    assert_eq!(rt; (first.0, first.1), (1, 1));
-    assert_eq!(rt; told(words[1]), (2, 1, first.2));
-    assert_eq!(rt; (second.0, second.1), (1, 2));
-    assert_eq!(rt; told(words[3]), (2, 2, second.2));
+    same(rt, (first.0, first.1), (1, 1));
+    same(rt, told(words[1]), (2, 1, first.2));
+    same(rt, (second.0, second.1), (1, 2));
+    same(rt, told(words[3]), (2, 2, second.2));
     assert!(rt; first.2 < second.2);
-    Ok(())
 }
 
 #[test]
-fn a_client_in_a_thread_starts_a_timer_after_the_other(rt: HostRuntime) -> Result<(), Fail> {
+fn a_client_in_a_thread_starts_a_timer_after_the_other(rt: HostRuntime) {
     let alloc = rt.alloc();
     let (end, inlet) = line(&rt, alloc, 4, 1);
     let wheel = hierarchy(&rt, alloc, Table::Wide);
     let desk = desk(&rt, alloc, wheel, one(&rt, alloc, inlet), 8);
-    run_paced(&rt, alloc, desk, end)
+    run_paced(&rt, alloc, desk, end);
 }
 
 #[test]
@@ -284,40 +316,43 @@ fn a_client_behind_a_lock_starts_a_timer_after_the_other(rt: HostRuntime) -> Res
     let (end, inlet) = locked_line(rt, alloc, 4, 1)?;
     let wheel = hierarchy(&rt, alloc, Table::Wide);
     let desk = desk(&rt, alloc, wheel, one(&rt, alloc, inlet), 8);
-    run_paced(&rt, alloc, desk, Locked { rt, end })
+    run_paced(&rt, alloc, desk, Locked { rt, end });
+    Ok(())
 }
 
 /// Sends three starts for the same tick, and drops the end of the line.
 fn send_three(rt: &impl Abort, end: ClientEnd) {
     let mut end = end;
-    assert_eq!(rt; end.submit(start(5, 1)), Ok(1));
-    assert_eq!(rt; end.submit(start(5, 2)), Ok(2));
-    assert_eq!(rt; end.submit(start(5, 3)), Ok(3));
+    same(rt, end.submit(start(5, 1)), Ok(1));
+    same(rt, end.submit(start(5, 2)), Ok(2));
+    same(rt, end.submit(start(5, 3)), Ok(3));
 }
 
 /// One turn of two clients. Returns how many words of each were flushed.
 fn turn_of_two(rt: &impl Abort, desk: &mut Desk<HierWheel, RingInlet>) -> (usize, usize) {
-    assert_eq!(rt; desk.clients(), 2);
+    has_clients(rt, desk, 2);
     let Ok(_) = desk.turn(&[Step::Serve(0), Step::Serve(1)]) else {
         panic!(rt; "out of memory");
     };
-    assert_eq!(rt; desk.clients(), 2);
+    has_clients(rt, desk, 2);
     let zero = desk.flush(0);
-    assert_eq!(rt; desk.clients(), 2);
+    has_clients(rt, desk, 2);
     let one = desk.flush(1);
     let _ = desk.tick();
     (zero, one)
 }
 
 #[test]
-fn a_client_that_drops_its_end_holds_up_no_other(rt: HostRuntime) -> Result<(), Fail> {
+fn a_client_that_drops_its_end_holds_up_no_other(rt: HostRuntime) {
     let alloc = rt.alloc();
     let (zero, first) = line(&rt, alloc, 4, 1);
     let (end, second) = line(&rt, alloc, 4, 1);
     let wheel = hierarchy(&rt, alloc, Table::Wide);
     let mut desk = desk(&rt, alloc, wheel, two(&rt, alloc, first, second), 8);
     send_three(&rt, zero);
-    let child = thread::spawn(&rt, move || client_work(end, 50, LIMIT, Open))?;
+    let Ok(child) = thread::spawn(&rt, move || client_work(end, 50, LIMIT, Open)) else {
+        panic!(rt; "no thread");
+    };
     let mut flushed = (0usize, 0usize);
     for _ in 0..LIMIT {
         if flushed.1 >= 100 {
@@ -330,8 +365,11 @@ fn a_client_that_drops_its_end_holds_up_no_other(rt: HostRuntime) -> Result<(), 
     }
     let worked = child.join(&rt);
     assert!(rt; !worked.failed);
-    assert_eq!(rt; (worked.sent, worked.started, worked.expired), (50, 50, 50));
-    assert_eq!(rt; desk.clients(), 2);
-    assert_eq!(rt; flushed.0.saturating_add(desk.outbox_len(0)), 6);
-    Ok(())
+    same(
+        &rt,
+        (worked.sent, worked.started, worked.expired),
+        (50, 50, 50),
+    );
+    has_clients(&rt, &desk, 2);
+    same(&rt, flushed.0.saturating_add(desk.outbox_len(0)), 6);
 }

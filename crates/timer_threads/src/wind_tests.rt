@@ -19,37 +19,37 @@ fn a_drive_over_an_empty_line_comes_to_its_limit(rt: HostRuntime) {
     let wheel = hierarchy(&rt, alloc, Table::Wide);
     let desk = desk(&rt, alloc, wheel, one(&rt, alloc, inlet), 8);
     let driven = drive(alloc, desk, 1, 1000);
-    assert_eq!(rt; driven.outcome, DriveEnd::Limit);
-    assert_eq!(rt; driven.desk.facility().now(), 1000);
+    same(&rt, driven.outcome, DriveEnd::Limit);
+    same(&rt, driven.desk.facility().now(), 1000);
 }
 
 /// Goes on only where the desk holds the request whose start ran out of memory, and the rest of its
 /// turn was done: a flush of no word, and a tick.
 fn holds_the_request(rt: &impl Abort, desk: &Desk<Refusing<HierWheel>, RingInlet>) {
-    assert_eq!(rt; desk.clients(), 1);
-    assert_eq!(rt; desk.held(0), Some(numbered(1, 1, 7)));
-    assert_eq!(rt; desk.outbox_len(0), 0);
-    assert_eq!(rt; desk.facility().now(), 1);
-    assert_eq!(rt; desk.facility().pending(), 0);
+    has_clients(rt, desk, 1);
+    same(rt, desk.held(0), Some(numbered(1, 1, 7)));
+    same(rt, desk.outbox_len(0), 0);
+    same(rt, desk.facility().now(), 1);
+    same(rt, desk.facility().pending(), 0);
 }
 
 #[test]
 fn a_drive_that_ran_out_of_memory_can_be_driven_on(rt: HostRuntime) {
     let alloc = rt.alloc();
     let (mut end, inlet) = line(&rt, alloc, 8, 1);
-    assert_eq!(rt; end.submit(start(1, 7)), Ok(1));
+    same(&rt, end.submit(start(1, 7)), Ok(1));
     let wheel = refusing(&rt, alloc, true);
     let desk = desk(&rt, alloc, wheel, one(&rt, alloc, inlet), 8);
     let driven = drive(alloc, desk, 1, 1000);
-    assert_eq!(rt; driven.outcome, DriveEnd::OutOfMemory);
+    same(&rt, driven.outcome, DriveEnd::OutOfMemory);
     holds_the_request(&rt, &driven.desk);
-    assert_eq!(rt; end.receive(), None);
+    same(&rt, end.receive(), None);
 
     let driven = drive(alloc, driven.desk, 1, 1000);
-    assert_eq!(rt; driven.outcome, DriveEnd::Done);
-    assert_eq!(rt; end.receive().map(bare), Some(started(1, 1, 2)));
-    assert_eq!(rt; end.receive(), Some(expired(timer(1, 0, 1, 2, 7))));
-    assert_eq!(rt; end.receive(), None);
+    same(&rt, driven.outcome, DriveEnd::Done);
+    same(&rt, end.receive().map(bare), Some(started(1, 1, 2)));
+    same(&rt, end.receive(), Some(expired(timer(1, 0, 1, 2, 7))));
+    same(&rt, end.receive(), None);
 }
 
 /// Drives a desk over one ring line to a goal, finishes its client's end, and winds it up. Returns how
@@ -105,8 +105,8 @@ fn wound_up_after(
     requires goal { goal ≤ LAST }
 {
     let (mut end, inlet) = line(rt, alloc, capacity, 1);
-    assert_eq!(rt; end.submit(start(1, 5)), Ok(1));
-    assert_eq!(rt; end.submit(start(1, 5)), Ok(2));
+    same(rt, end.submit(start(1, 5)), Ok(1));
+    same(rt, end.submit(start(1, 5)), Ok(2));
     let wheel = refusing(rt, alloc, refuses);
     let desk = desk(rt, alloc, wheel, one(rt, alloc, inlet), 8);
     wound_up(alloc, end, desk, goal)
@@ -115,11 +115,11 @@ fn wound_up_after(
 #[test]
 fn a_desk_is_wound_up_only_where_nothing_stands_waits_or_is_held(rt: HostRuntime) {
     let alloc = rt.alloc();
-    assert_eq!(rt; wound_up_after(&rt, alloc, 8, 2, false), Some(Ok(4)));
+    same(&rt, wound_up_after(&rt, alloc, 8, 2, false), Some(Ok(4)));
     // Two requests stand in the line.
-    assert_eq!(rt; wound_up_after(&rt, alloc, 8, 0, false), Some(Err(0)));
+    same(&rt, wound_up_after(&rt, alloc, 8, 0, false), Some(Err(0)));
     // The line takes two of the four words.
-    assert_eq!(rt; wound_up_after(&rt, alloc, 2, 2, false), Some(Err(0)));
+    same(&rt, wound_up_after(&rt, alloc, 2, 2, false), Some(Err(0)));
     // The first request ran out of memory.
-    assert_eq!(rt; wound_up_after(&rt, alloc, 8, 2, true), Some(Err(0)));
+    same(&rt, wound_up_after(&rt, alloc, 8, 2, true), Some(Err(0)));
 }
