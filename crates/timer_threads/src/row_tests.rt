@@ -201,11 +201,13 @@ fn words_of_one() -> [Word; 2] {
     [started(1, 2, 3), Word::Notice(returned(2, 1, 3, 2))]
 }
 
-/// A request whose start ran out of memory is held, and tried first at the next serve.
+/// A request whose start ran out of memory is held, and tried first at the next serve. Its interval
+/// counts from the tick of that serve.
 fn held_request<W: Wheel + Drop, I: Inlet + Drop>(
     rt: &impl Abort,
     desk: &mut Desk<W, I>,
     way: Way,
+    ticks: u64,
 ) {
     has_clients(rt, desk, 1);
     take_steps(
@@ -215,10 +217,14 @@ fn held_request<W: Wheel + Drop, I: Inlet + Drop>(
         &[Step::Serve(0)],
         &[served(0, Served::NoMemory)],
     );
+    for _ in 0..ticks {
+        take_steps(rt, desk, way, &[Step::Tick], &[Done::Ticked(Ok(()))]);
+    }
     has_clients(rt, desk, 1);
     same(rt, desk.held(0), Some(numbered(1, 1, 7)));
     let steps = [Step::Serve(0), Step::Flush(0)];
-    let report = [did(0, numbered(1, 1, 7), 1, 1), flushed(0, 1)];
+    let deadline = ticks.saturating_add(1);
+    let report = [did(0, numbered(1, 1, 7), 1, deadline), flushed(0, 1)];
     take_steps(rt, desk, way, &steps, &report);
     has_clients(rt, desk, 1);
     same(rt, desk.held(0), None);
@@ -275,8 +281,14 @@ fn close_at_desk_over<W: Wheel + Drop>(rt: &impl Abort, alloc: Global, wheel: W,
     are_given(rt, &inlets, 1, &words_of_one());
 }
 
-/// The row `held_request` over a line in memory.
-fn held_request_over<W: Wheel + Drop>(rt: &impl Abort, alloc: Global, wheel: W, way: Way)
+/// The row `held_request` over a line in memory, or with a tick `held_over_tick`.
+fn held_request_over<W: Wheel + Drop>(
+    rt: &impl Abort,
+    alloc: Global,
+    wheel: W,
+    way: Way,
+    ticks: u64,
+)
     requires pending { (W.state wheel).pending ≡ [] }
     requires due { (W.state wheel).due ≡ [] }
 {
@@ -287,10 +299,10 @@ fn held_request_over<W: Wheel + Drop>(rt: &impl Abort, alloc: Global, wheel: W, 
         refuses: true,
     };
     let mut desk = desk(rt, alloc, wheel, inlets, 4);
-    held_request(rt, &mut desk, way);
+    held_request(rt, &mut desk, way, ticks);
     let inlets = end(rt, desk, 1);
     same(rt, inlets.len(), 1);
-    are_given(rt, &inlets, 0, &[started(1, 1, 1)]);
+    are_given(rt, &inlets, 0, &[started(1, 1, ticks.saturating_add(1))]);
 }
 
 /// A plain wheel at tick 0.
@@ -319,7 +331,8 @@ fn rows_of_a_desk_over_the_plain_wheel(rt: HostRuntime) {
     for way in WAYS {
         no_room_over(&rt, alloc, plain(&rt, alloc), way);
         close_at_desk_over(&rt, alloc, plain(&rt, alloc), way);
-        held_request_over(&rt, alloc, plain(&rt, alloc), way);
+        held_request_over(&rt, alloc, plain(&rt, alloc), way, 0);
+        held_request_over(&rt, alloc, plain(&rt, alloc), way, 1);
     }
 }
 
@@ -328,7 +341,8 @@ fn rows_over_hashed(rt: &impl Abort, alloc: Global, slots: usize) {
     for way in WAYS {
         no_room_over(rt, alloc, hashed(rt, alloc, slots), way);
         close_at_desk_over(rt, alloc, hashed(rt, alloc, slots), way);
-        held_request_over(rt, alloc, hashed(rt, alloc, slots), way);
+        held_request_over(rt, alloc, hashed(rt, alloc, slots), way, 0);
+        held_request_over(rt, alloc, hashed(rt, alloc, slots), way, 1);
     }
 }
 
@@ -344,7 +358,8 @@ fn rows_over_hierarchy(rt: &impl Abort, alloc: Global, table: Table) {
     for way in WAYS {
         no_room_over(rt, alloc, hierarchy(rt, alloc, table), way);
         close_at_desk_over(rt, alloc, hierarchy(rt, alloc, table), way);
-        held_request_over(rt, alloc, hierarchy(rt, alloc, table), way);
+        held_request_over(rt, alloc, hierarchy(rt, alloc, table), way, 0);
+        held_request_over(rt, alloc, hierarchy(rt, alloc, table), way, 1);
     }
 }
 
@@ -387,14 +402,14 @@ fn close_at_desk_over_rings(rt: &impl Abort, alloc: Global, way: Way) {
     receives(rt, &mut one, &words_of_one());
 }
 
-/// The row `held_request` over a ring line.
-fn held_request_over_ring(rt: &impl Abort, alloc: Global, way: Way) {
+/// The row `held_request` over a ring line, or with a tick `held_over_tick`.
+fn held_request_over_ring(rt: &impl Abort, alloc: Global, way: Way, ticks: u64) {
     let (mut end, inlet) = line(rt, alloc, 4, 1);
     same(rt, end.submit(start(1, 7)), Ok(1));
     let wheel = refusing(rt, alloc, true);
     let mut desk = desk(rt, alloc, wheel, one(rt, alloc, inlet), 4);
-    held_request(rt, &mut desk, way);
-    receives(rt, &mut end, &[started(1, 1, 1)]);
+    held_request(rt, &mut desk, way, ticks);
+    receives(rt, &mut end, &[started(1, 1, ticks.saturating_add(1))]);
 }
 
 #[test]
@@ -403,7 +418,8 @@ fn rows_of_a_desk_over_ring_lines(rt: HostRuntime) {
     for way in WAYS {
         no_room_over_ring(&rt, alloc, way);
         close_at_desk_over_rings(&rt, alloc, way);
-        held_request_over_ring(&rt, alloc, way);
+        held_request_over_ring(&rt, alloc, way, 0);
+        held_request_over_ring(&rt, alloc, way, 1);
     }
 }
 
