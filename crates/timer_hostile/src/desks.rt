@@ -2,14 +2,15 @@
 //!
 //! Each step is taken by a call of its own, or by a turn of one step, and a step that is refused is taken again.
 use crate::facilities::numbers;
-use crate::fault::{Fault, see};
+use crate::fault::{Fault, same, see};
 use crate::lines::{locked, request, ring};
 use crate::wheels::hier;
 use std::alloc::Global;
 use std::sync::Wait;
 use timer_base::{Handle, Timer};
 use timer_desk::{
-    ClientEnd, Desk, Done, Inlet, LockedEnd, MemoryInlet, Numbered, OpenFault, Served, Step, Word,
+    ClientEnd, Desk, Done, Inlet, LockedEnd, MemoryInlet, Numbered, OpenFault, RingInlet, Served,
+    Step, Word,
 };
 use timer_facility::{Answer, CloseFault, Facility, NotTaken, Notice};
 use timer_wheels::{HierWheel, Table};
@@ -38,11 +39,8 @@ fn open<I: Inlet + Drop>(alloc: Global, inlets: Vec<I>) -> Result<Desk<HierWheel
         Ok(desk) => Ok(desk),
         Err(OpenFault::Room(_, _)) => Err(Fault::Wrong("the room of an outbox")),
         Err(OpenFault::OutOfMemory(facility, inlets)) => {
-            see(inlets.len() == clients, "the lines that come back")?;
-            see(
-                facility.now() == 0 && facility.pending() == 0,
-                "the facility that comes back",
-            )?;
+            let back = (inlets.len(), facility.now(), facility.pending());
+            same(back, (clients, 0, 0), "what comes back")?;
             Desk::open(alloc, facility, inlets, ROOM).map_err(|_| Fault::RefusedTwice)
         }
     }
@@ -93,11 +91,11 @@ fn serve<I: Inlet + Drop>(
 ) -> Result<Served, Fault> {
     for _ in 0..2 {
         let before = shown(desk);
-        let served = try_serve(desk, c, by)?;
-        if served != Served::NoMemory {
-            return Ok(bare_served(served));
+        match try_serve(desk, c, by)? {
+            Served::NoMemory => {}
+            served => return Ok(bare_served(served)),
         }
-        see(shown(desk) == before, "a desk after a refused serve")?;
+        same(shown(desk), before, "a desk after a refused serve")?;
     }
     Err(Fault::RefusedTwice)
 }
@@ -160,10 +158,8 @@ fn try_close<I: Inlet + Drop>(
                 Ok(count) => *count,
                 Err(_) => 0,
             };
-            see(
-                report.len() as u64 == returned.wrapping_add(1),
-                "the report of a close",
-            )?;
+            let members = returned.wrapping_add(1);
+            same(report.len() as u64, members, "the report of a close")?;
             Ok(*result)
         }
         _ => Err(Fault::Wrong("the report of a close")),
@@ -179,7 +175,7 @@ fn close<I: Inlet + Drop>(desk: &mut Desk<HierWheel, I>, by: By) -> Result<u64, 
             Err(CloseFault::Closed) => return Err(Fault::Wrong("an open desk")),
             Err(CloseFault::OutOfMemory) => {}
         }
-        see(shown(desk) == before, "a desk after a refused close")?;
+        same(shown(desk), before, "a desk after a refused close")?;
     }
     Err(Fault::RefusedTwice)
 }
@@ -198,17 +194,16 @@ fn flush<I: Inlet + Drop>(
         }
         count = count.wrapping_add(desk.flush(c));
     }
-    see(count == wanted, "how many words went")
+    same(count, wanted, "how many words went")
 }
 
 /// The steps of the row on a close, over two lines.
 fn close_at_desk<I: Inlet + Drop>(desk: &mut Desk<HierWheel, I>, by: By) -> Result<(), Fault> {
-    see(serve(desk, 0, by)? == did(1, 5, 1, 1, 5), "the first start")?;
-    see(
-        serve(desk, 1, by)? == did(1, 3, 2, 2, 3),
-        "the other client's start",
-    )?;
-    see(close(desk, by)? == 2, "how many are returned")?;
+    let first = did(1, 5, 1, 1, 5);
+    same(serve(desk, 0, by)?, first, "the first start")?;
+    let other = did(1, 3, 2, 2, 3);
+    same(serve(desk, 1, by)?, other, "the other client's start")?;
+    same(close(desk, by)?, 2, "how many are returned")?;
     let closed = Served::Did {
         numbered: Numbered {
             number: 2,
@@ -216,8 +211,8 @@ fn close_at_desk<I: Inlet + Drop>(desk: &mut Desk<HierWheel, I>, by: By) -> Resu
         },
         word: not_taken(2),
     };
-    see(serve(desk, 0, by)? == closed, "a start after the close")?;
-    see(shown(desk) == (0, 0, 3, 2), "what waits at the end")?;
+    same(serve(desk, 0, by)?, closed, "a start after the close")?;
+    same(shown(desk), (0, 0, 3, 2), "what waits at the end")?;
     flush(desk, 0, 3)?;
     flush(desk, 1, 2)
 }
@@ -250,32 +245,54 @@ fn words_at_close() -> ([Word; 3], [Word; 2]) {
 
 /// Sends a request, which goes out under this number.
 fn submit(end: &mut ClientEnd, number: u64, interval: u64, action: u64) -> Result<(), Fault> {
-    see(
-        end.submit(request(interval, action)) == Ok(number),
-        "a request that is sent",
-    )
+    let sent = end.submit(request(interval, action));
+    same(sent, Ok(number), "a request that is sent")
 }
 
 /// Goes on only where the client receives just these words, but for places.
 fn see_words(end: &mut ClientEnd, words: &[Word]) -> Result<(), Fault> {
     for word in words {
-        see(end.receive().map(bare) == Some(*word), "a word")?;
+        same(end.receive().map(bare), Some(*word), "a word")?;
     }
-    see(end.receive().is_none(), "a word too many")
+    same(end.receive(), None, "a word too many")
+}
+
+/// A ring line, over which these requests for an interval and an action were sent.
+fn ring_with(alloc: Global, requests: &[(u64, u64)]) -> Result<(ClientEnd, RingInlet), Fault> {
+    let (mut end, inlet) = ring(alloc)?;
+    submit_all(&mut end, requests)?;
+    Ok((end, inlet))
+}
+
+/// Sends these requests, which go out under the numbers from 1 on.
+fn submit_all(end: &mut ClientEnd, requests: &[(u64, u64)]) -> Result<(), Fault> {
+    let mut number = 0u64;
+    for (interval, action) in requests {
+        number = number.wrapping_add(1);
+        submit(end, number, *interval, *action)?;
+    }
+    Ok(())
 }
 
 /// A close over ring lines.
 pub fn close_over_rings(alloc: Global, by: By) -> Result<(), Fault> {
-    let (mut zero, inlet) = ring(alloc)?;
-    let (mut one, other) = ring(alloc)?;
-    submit(&mut zero, 1, 5, 1)?;
-    submit(&mut zero, 2, 1, 3)?;
-    submit(&mut one, 1, 3, 2)?;
+    let (mut zero, inlet) = ring_with(alloc, &[(5, 1), (1, 3)])?;
+    let (mut one, other) = ring_with(alloc, &[(3, 2)])?;
     let mut desk = open(alloc, vec![in alloc; inlet, other]?)?;
-    close_at_desk(&mut desk, by)?;
+    close_and_receive(&mut desk, by, &mut zero, &mut one)
+}
+
+/// Closes, and goes on only where each client receives its words.
+fn close_and_receive(
+    desk: &mut Desk<HierWheel, RingInlet>,
+    by: By,
+    zero: &mut ClientEnd,
+    one: &mut ClientEnd,
+) -> Result<(), Fault> {
+    close_at_desk(desk, by)?;
     let (of_zero, of_one) = words_at_close();
-    see_words(&mut zero, &of_zero)?;
-    see_words(&mut one, &of_one)
+    see_words(zero, &of_zero)?;
+    see_words(one, &of_one)
 }
 
 /// Sends a request over a locked line.
@@ -287,28 +304,44 @@ fn submit_locked(
     action: u64,
 ) -> Result<(), Fault> {
     let sent = end.submit(rt, request(interval, action));
-    see(sent == Ok(number), "a request that is sent")
+    same(sent, Ok(number), "a request that is sent")
 }
 
 fn see_locked_words(rt: &impl Wait, end: &mut LockedEnd, words: &[Word]) -> Result<(), Fault> {
     for word in words {
-        see(end.receive(rt).map(bare) == Some(*word), "a word")?;
+        same(end.receive(rt).map(bare), Some(*word), "a word")?;
     }
-    see(end.receive(rt).is_none(), "a word too many")
+    same(end.receive(rt), None, "a word too many")
 }
 
 /// A close over locked lines.
 pub fn close_over_locks<R: Wait>(rt: &R, alloc: Global, by: By) -> Result<(), Fault> {
     let (mut zero, inlet) = locked(rt, alloc)?;
     let (mut one, other) = locked(rt, alloc)?;
-    submit_locked(rt, &mut zero, 1, 5, 1)?;
-    submit_locked(rt, &mut zero, 2, 1, 3)?;
-    submit_locked(rt, &mut one, 1, 3, 2)?;
+    submit_three(rt, &mut zero, &mut one)?;
     let mut desk = open(alloc, vec![in alloc; inlet, other]?)?;
-    close_at_desk(&mut desk, by)?;
+    close_and_receive_locked(rt, &mut desk, by, &mut zero, &mut one)
+}
+
+/// Sends two requests of the first client, and one of the other.
+fn submit_three(rt: &impl Wait, zero: &mut LockedEnd, one: &mut LockedEnd) -> Result<(), Fault> {
+    submit_locked(rt, zero, 1, 5, 1)?;
+    submit_locked(rt, zero, 2, 1, 3)?;
+    submit_locked(rt, one, 1, 3, 2)
+}
+
+/// Closes, and goes on only where each client receives its words.
+fn close_and_receive_locked<I: Inlet + Drop>(
+    rt: &impl Wait,
+    desk: &mut Desk<HierWheel, I>,
+    by: By,
+    zero: &mut LockedEnd,
+    one: &mut LockedEnd,
+) -> Result<(), Fault> {
+    close_at_desk(desk, by)?;
     let (of_zero, of_one) = words_at_close();
-    see_locked_words(rt, &mut zero, &of_zero)?;
-    see_locked_words(rt, &mut one, &of_one)
+    see_locked_words(rt, zero, &of_zero)?;
+    see_locked_words(rt, one, &of_one)
 }
 
 /// A close over lines in memory.
@@ -330,24 +363,31 @@ pub fn close_in_memory(alloc: Global, by: By) -> Result<(), Fault> {
 /// A start that was refused for memory is held over a tick, and its deadline is counted from the tick at which
 /// it is accepted. Returns whether it was held.
 pub fn hold_over_tick(alloc: Global, by: By) -> Result<bool, Fault> {
-    let (mut end, inlet) = ring(alloc)?;
-    submit(&mut end, 1, 1, 7)?;
+    let (mut end, inlet) = ring_with(alloc, &[(1, 7)])?;
     let mut desk = open(alloc, vec![in alloc; inlet]?)?;
     let first = try_serve(&mut desk, 0, by)?;
     let is_held = desk.clients() > 0 && desk.held(0).is_some();
+    let is_refused = matches!(first, Served::NoMemory);
     see(
-        is_held == (first == Served::NoMemory && by == By::Call) || by == By::Turn,
+        is_held == (is_refused && by == By::Call) || by == By::Turn,
         "what is held",
     )?;
     see(desk.tick().is_ok(), "a tick")?;
     if bare_served(first) == did(1, 1, 7, 1, 1) {
         return Ok(false);
     }
-    see(
-        serve(&mut desk, 0, by)? == did(1, 1, 7, 1, 2),
-        "the start after the tick",
-    )?;
-    flush(&mut desk, 0, 1)?;
-    see_words(&mut end, &[started(1, 1, 2)])?;
+    serve_after_tick(&mut desk, &mut end, by)?;
     Ok(is_held)
+}
+
+/// Serves the start that was refused before the first tick.
+fn serve_after_tick(
+    desk: &mut Desk<HierWheel, RingInlet>,
+    end: &mut ClientEnd,
+    by: By,
+) -> Result<(), Fault> {
+    let second = did(1, 1, 7, 1, 2);
+    same(serve(desk, 0, by)?, second, "the start after the tick")?;
+    flush(desk, 0, 1)?;
+    see_words(end, &[started(1, 1, 2)])
 }

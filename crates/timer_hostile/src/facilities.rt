@@ -1,7 +1,7 @@
 //! A facility, where a start or the close is refused for memory.
 ghost use Rattle.std.specs.Prelude.{◌≡◌, [], OnOk};
 
-use crate::fault::{Fault, see};
+use crate::fault::{Fault, same, see};
 use std::alloc::Global;
 use timer_base::Wheel;
 use timer_facility::{Answer, CloseFault, Config, Facility, NotTaken, Notice, Reason, Request};
@@ -63,15 +63,13 @@ pub fn take<W: Wheel + Drop>(
     for _ in 0..2 {
         settle(facility)?;
         let before = readers_of(facility);
-        let taken = facility.take(client, number, request);
-        if taken != Err(NotTaken::OutOfMemory) {
-            return Ok(taken);
+        match facility.take(client, number, request) {
+            Err(NotTaken::OutOfMemory) => {}
+            taken => return Ok(taken),
         }
         settle(facility)?;
-        see(
-            readers_of(facility) == before,
-            "a facility after a refused start",
-        )?;
+        let after = readers_of(facility);
+        same(after, before, "a facility after a refused start")?;
     }
     Err(Fault::RefusedTwice)
 }
@@ -87,10 +85,8 @@ pub fn close<W: Wheel + Drop>(facility: &mut Facility<W>) -> Result<u64, Fault> 
             Err(CloseFault::OutOfMemory) => {}
         }
         settle(facility)?;
-        see(
-            readers_of(facility) == before,
-            "a facility after a refused close",
-        )?;
+        let after = readers_of(facility);
+        same(after, before, "a facility after a refused close")?;
     }
     Err(Fault::RefusedTwice)
 }
@@ -113,7 +109,7 @@ fn start<W: Wheel + Drop>(
         action: wanted,
     };
     match take(facility, client, number, request)? {
-        Ok(Answer::Started { handle, .. }) => see(handle.serial == wanted, "the serial of a start"),
+        Ok(Answer::Started { handle, .. }) => same(handle.serial, wanted, "the serial of a start"),
         _ => Err(Fault::Wrong("a start")),
     }
 }
@@ -125,11 +121,16 @@ fn see_handed<W: Wheel + Drop>(
     by_close: bool,
 ) -> Result<(), Fault> {
     match facility.next_out() {
-        Some(Notice::Returned(timer)) => see(
-            by_close && timer.serial == serial,
+        Some(Notice::Returned(timer)) => same(
+            (by_close, timer.serial),
+            (true, serial),
             "what is returned",
         ),
-        Some(Notice::Expired(timer)) => see(!by_close && timer.serial == serial, "what expired"),
+        Some(Notice::Expired(timer)) => same(
+            (by_close, timer.serial),
+            (false, serial),
+            "what expired",
+        ),
         None => Err(Fault::Wrong("a timer that isn't handed out")),
     }
 }
@@ -145,25 +146,33 @@ pub fn start_and_close<W: Wheel + Drop>(alloc: Global, wheel: W) -> Result<(), F
         return Err(Fault::Wrong("the numbers of a facility"));
     };
     let mut facility = Facility::open(alloc, checked, wheel);
-    start(&mut facility, 0, 1, 5, 1)?;
-    start(&mut facility, 1, 1, 3, 2)?;
-    start(&mut facility, 0, 2, 5, 3)?;
-    start(&mut facility, 1, 2, 1, 4)?;
+    fill(&mut facility)?;
+    close_full(&mut facility)
+}
+
+/// Starts up to the capacity, after which a start is refused.
+fn fill<W: Wheel + Drop>(facility: &mut Facility<W>) -> Result<(), Fault> {
+    start(facility, 0, 1, 5, 1)?;
+    start(facility, 1, 1, 3, 2)?;
+    start(facility, 0, 2, 5, 3)?;
+    start(facility, 1, 2, 1, 4)?;
     let request = Request::Start {
         interval: 1,
         action: 0,
     };
-    let full = take(&mut facility, 0, 3, request)?;
-    see(full == Ok(Answer::Refused(Reason::Full)), "a full facility")?;
-    tick(&mut facility)?;
-    see_handed(&mut facility, 4, false)?;
-    see(close(&mut facility)? == 3, "how many are returned")?;
+    let full = Ok(Answer::Refused(Reason::Full));
+    same(take(facility, 0, 3, request)?, full, "a full facility")
+}
+
+/// Lets one of four timers expire, and closes.
+fn close_full<W: Wheel + Drop>(facility: &mut Facility<W>) -> Result<(), Fault> {
+    tick(facility)?;
+    see_handed(facility, 4, false)?;
+    same(close(facility)?, 3, "how many are returned")?;
     for serial in [2, 1, 3] {
-        see_handed(&mut facility, serial, true)?;
+        see_handed(facility, serial, true)?;
     }
-    see(facility.next_out().is_none(), "a timer too many")?;
-    see(
-        facility.is_closed() && facility.pending() == 0,
-        "a closed facility",
-    )
+    same(facility.next_out(), None, "a timer too many")?;
+    let end = (facility.is_closed(), facility.pending());
+    same(end, (true, 0), "a closed facility")
 }

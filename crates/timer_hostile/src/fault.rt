@@ -36,3 +36,8 @@ pub fn see(holds: bool, what: &'static str) -> Result<(), Fault>
         Err(Fault::Wrong(what))
     }
 }
+
+/// Goes on only where these are the same. Compares in a function of its own, so that it is proved once.
+pub fn same<T: PartialEq + Drop>(found: T, wanted: T, what: &'static str) -> Result<(), Fault> {
+    see(found == wanted, what)
+}

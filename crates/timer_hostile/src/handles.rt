@@ -2,7 +2,7 @@
 ghost use Rattle.std.specs.Prelude.{◌≡◌, []};
 
 use crate::facilities::{close, numbers, take, tick};
-use crate::fault::{Fault, see};
+use crate::fault::{Fault, same};
 use std::alloc::Global;
 use timer_base::{Handle, LAST, Wheel};
 use timer_facility::{Answer, Facility, NotTaken, Notice, Reason, Request};
@@ -33,23 +33,23 @@ impl<W: Wheel + Drop> Caller<W> {
     /// Goes on only where neither a stop nor a restart finds a timer.
     fn see_no_such(&mut self, handle: Handle) -> Result<(), Fault> {
         let no_such = Ok(Answer::Refused(Reason::NoSuch));
-        see(self.ask(Request::Stop(handle))? == no_such, "a stop")?;
+        same(self.ask(Request::Stop(handle))?, no_such, "a stop")?;
         let restart = Request::Restart {
             handle,
             interval: 1,
             action: 0,
         };
-        see(self.ask(restart)? == no_such, "a restart")
+        same(self.ask(restart)?, no_such, "a restart")
     }
 
     /// Passes ticks up to this one, at which just the timer with this serial expires.
     fn see_expiry(&mut self, at: u64, serial: u64) -> Result<(), Fault> {
         for _ in self.facility.now()..at {
-            see(self.facility.next_out().is_none(), "a timer too many")?;
+            same(self.facility.next_out(), None, "a timer too many")?;
             tick(&mut self.facility)?;
         }
         match self.facility.next_out() {
-            Some(Notice::Expired(timer)) => see(timer.serial == serial, "what expired"),
+            Some(Notice::Expired(timer)) => same(timer.serial, serial, "what expired"),
             _ => Err(Fault::Wrong("a timer that didn't expire")),
         }
     }
@@ -78,6 +78,22 @@ pub fn use_strange_handles<W: Wheel + Drop>(alloc: Global, wheel: W) -> Result<(
         facility,
         number: 1,
     };
+    let gone = start_and_end(&mut caller)?;
+    see_strange(&mut caller, gone)?;
+    see_returned(&mut caller)
+}
+
+/// The handles of two timers that are gone, of one that is pending, and of another client's.
+#[derive(Clone, Copy)]
+struct Started {
+    stopped: Handle,
+    expired: Handle,
+    kept: Handle,
+    others: Handle,
+}
+
+/// Starts timers, of which one is stopped and one expires.
+fn start_and_end<W: Wheel + Drop>(caller: &mut Caller<W>) -> Result<Started, Fault> {
     let stopped = caller.start(9)?;
     let expired = caller.start(1)?;
     let kept = caller.start(7)?;
@@ -87,10 +103,35 @@ pub fn use_strange_handles<W: Wheel + Drop>(alloc: Global, wheel: W) -> Result<(
     };
     let others = handle_of(take(&mut caller.facility, 1, 1, start)?)?;
     let gone = caller.ask(Request::Stop(stopped))?;
-    see(gone == Ok(Answer::Stopped { serial: 1 }), "a stop")?;
+    same(gone, Ok(Answer::Stopped { serial: 1 }), "a stop")?;
     caller.see_expiry(1, 2)?;
+    Ok(Started {
+        stopped,
+        expired,
+        kept,
+        others,
+    })
+}
 
-    let strange = [
+/// Goes on only where no strange handle finds a timer, and the two that are pending expire.
+fn see_strange<W: Wheel + Drop>(caller: &mut Caller<W>, started: Started) -> Result<(), Fault> {
+    for handle in strange_handles(started) {
+        caller.see_no_such(handle)?;
+    }
+    let late = Request::Start {
+        interval: u64::MAX,
+        action: 0,
+    };
+    let too_late = Ok(Answer::Refused(Reason::TooLate));
+    same(caller.ask(late)?, too_late, "a late start")?;
+    caller.see_expiry(6, 4)?;
+    caller.see_expiry(7, 3)
+}
+
+/// Handles that were never given, are dead, or are another client's.
+fn strange_handles(started: Started) -> [Handle; 7] {
+    let kept = started.kept;
+    [
         Handle {
             place: usize::MAX,
             serial: kept.serial,
@@ -107,39 +148,25 @@ pub fn use_strange_handles<W: Wheel + Drop>(alloc: Global, wheel: W) -> Result<(
             place: usize::MAX,
             serial: u64::MAX,
         },
-        others,
-        stopped,
-        expired,
-    ];
-    for handle in strange {
-        caller.see_no_such(handle)?;
-    }
-    let late = Request::Start {
-        interval: u64::MAX,
-        action: 0,
-    };
-    see(
-        caller.ask(late)? == Ok(Answer::Refused(Reason::TooLate)),
-        "a late start",
-    )?;
-    caller.see_expiry(6, 4)?;
-    caller.see_expiry(7, 3)?;
-    see_returned(&mut caller)
+        started.others,
+        started.stopped,
+        started.expired,
+    ]
 }
 
 /// A handle whose timer a close returned, and others after the close.
 fn see_returned<W: Wheel + Drop>(caller: &mut Caller<W>) -> Result<(), Fault> {
     let last = caller.start(5)?;
-    see(close(&mut caller.facility)? == 1, "a close")?;
+    same(close(&mut caller.facility)?, 1, "a close")?;
     match caller.facility.next_out() {
-        Some(Notice::Returned(timer)) => see(timer.serial == last.serial, "what is returned")?,
+        Some(Notice::Returned(timer)) => same(timer.serial, last.serial, "what is returned")?,
         _ => return Err(Fault::Wrong("a timer that isn't returned")),
     }
     for place in [last.place, usize::MAX] {
         for serial in [last.serial, 0, LAST + 1] {
             let handle = Handle { place, serial };
             let closed = take(&mut caller.facility, 0, 1, Request::Stop(handle))?;
-            see(closed == Err(NotTaken::Closed), "a stop after the close")?;
+            same(closed, Err(NotTaken::Closed), "a stop after the close")?;
         }
     }
     Ok(())

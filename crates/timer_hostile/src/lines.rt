@@ -1,5 +1,5 @@
 //! Lines of each kind, where their makers, `take` or `put` are refused.
-use crate::fault::{Fault, see};
+use crate::fault::{Fault, same};
 use std::alloc::Global;
 use std::sync::Wait;
 use timer_desk::{
@@ -51,7 +51,7 @@ pub fn locked<'a, R: Wait>(
 fn put<I: Inlet>(inlet: &mut I, word: Word) -> Result<Put, Fault> {
     for _ in 0..2 {
         match inlet.put(word) {
-            Put::NoMemory(back) => see(back == word, "the word that is handed back")?,
+            Put::NoMemory(back) => same(back, word, "the word that is handed back")?,
             put => return Ok(put),
         }
     }
@@ -76,31 +76,38 @@ fn see_line<I: Inlet>(inlet: &mut I, numbers: u64) -> Result<(), Fault> {
             number,
             request: request(number, 7),
         };
-        see(take(inlet)? == Taken::Got(wanted), "a request")?;
-        see(put(inlet, word(number))? == Put::Done, "a line with room")?;
+        same(take(inlet)?, Taken::Got(wanted), "a request")?;
+        same(put(inlet, word(number))?, Put::Done, "a line with room")?;
     }
-    // Both are said before a want of memory.
-    see(inlet.take() == Taken::Empty, "an empty line")?;
+    // Both are said before out of memory.
+    same(inlet.take(), Taken::Empty, "an empty line")?;
     let more = word(numbers);
-    see(inlet.put(more) == Put::Full(more), "a full line")
+    same(inlet.put(more), Put::Full(more), "a full line")
 }
 
 /// A line in memory takes words.
 pub fn use_memory_line(alloc: Global) -> Result<(), Fault> {
     let mut inlet = MemoryInlet::new(alloc, Vec::new(alloc), ROOM);
+    fill(&mut inlet)?;
+    see_given(inlet.given())
+}
+
+/// Puts words into a line in memory until it has no room.
+fn fill(inlet: &mut MemoryInlet) -> Result<(), Fault> {
     for number in 1..=8 {
-        see(
-            put(&mut inlet, word(number))? == Put::Done,
-            "a line with room",
-        )?;
+        same(put(inlet, word(number))?, Put::Done, "a line with room")?;
     }
     let more = word(9);
-    see(inlet.put(more) == Put::Full(more), "a full line")?;
-    see(inlet.given().len() == ROOM, "how many words were given")?;
+    same(inlet.put(more), Put::Full(more), "a full line")
+}
+
+/// Goes on only where these are the words that filled a line.
+fn see_given(words: &[Word]) -> Result<(), Fault> {
+    same(words.len(), ROOM, "how many words were given")?;
     let mut number = 0u64;
-    for given in inlet.given() {
+    for given in words {
         number = number.wrapping_add(1);
-        see(*given == word(number), "a word that was given")?;
+        same(*given, word(number), "a word that was given")?;
     }
     Ok(())
 }
@@ -108,27 +115,41 @@ pub fn use_memory_line(alloc: Global) -> Result<(), Fault> {
 /// A locked line takes and puts.
 pub fn use_locked_line<R: Wait>(rt: &R, alloc: Global) -> Result<(), Fault> {
     let (mut end, mut inlet) = locked(rt, alloc)?;
+    pass_over_lock(rt, &mut end, &mut inlet)
+}
+
+/// Fills a locked line both ways, and empties it.
+fn pass_over_lock<R: Wait, I: Inlet>(
+    rt: &R,
+    end: &mut LockedEnd,
+    inlet: &mut I,
+) -> Result<(), Fault> {
     for number in 1..=8 {
         let sent = end.submit(rt, request(number, 7));
-        see(sent == Ok(number), "a request that is sent")?;
+        same(sent, Ok(number), "a request that is sent")?;
     }
-    see_line(&mut inlet, 8)?;
+    see_line(inlet, 8)?;
     for number in 1..=8 {
-        see(end.receive(rt) == Some(word(number)), "a word")?;
+        same(end.receive(rt), Some(word(number)), "a word")?;
     }
-    see(end.receive(rt).is_none(), "a word too many")
+    same(end.receive(rt), None, "a word too many")
 }
 
 /// A ring line is made, and takes and puts.
 pub fn use_ring_line(alloc: Global) -> Result<(), Fault> {
     let (mut end, mut inlet) = ring(alloc)?;
+    pass_over_ring(&mut end, &mut inlet)
+}
+
+/// Fills a ring line both ways, and empties it.
+fn pass_over_ring(end: &mut ClientEnd, inlet: &mut RingInlet) -> Result<(), Fault> {
     for number in 1..=8 {
         let sent = end.submit(request(number, 7));
-        see(sent == Ok(number), "a request that is sent")?;
+        same(sent, Ok(number), "a request that is sent")?;
     }
-    see_line(&mut inlet, 8)?;
+    see_line(inlet, 8)?;
     for number in 1..=8 {
-        see(end.receive() == Some(word(number)), "a word")?;
+        same(end.receive(), Some(word(number)), "a word")?;
     }
-    see(end.receive().is_none(), "a word too many")
+    same(end.receive(), None, "a word too many")
 }

@@ -1,5 +1,5 @@
 //! Lists of nodes, where a push is refused.
-use crate::fault::{Fault, see};
+use crate::fault::{Fault, same, see};
 use std::alloc::Global;
 use timer_base::{OutOfMemory, Timer};
 use timer_links::{Links, Node};
@@ -24,7 +24,7 @@ fn make(alloc: Global, lists: usize) -> Result<Links, Fault> {
     }
     for _ in 0..2 {
         if let Ok(links) = Links::new(alloc, lists) {
-            see(links.lists() == lists && links.len() == 0, "new lists")?;
+            same((links.lists(), links.len()), (lists, 0), "new lists")?;
             return Ok(links);
         }
     }
@@ -56,11 +56,11 @@ fn try_push(links: &mut Links, serial: u64) -> Result<bool, Fault> {
     }
     match links.push_back(0, node(serial)) {
         Ok(key) => {
-            see(links.get(key) == Some(node(serial)), "a pushed node")?;
+            same(links.get(key), Some(node(serial)), "a pushed node")?;
             Ok(true)
         }
         Err((back, OutOfMemory)) => {
-            see(back == node(serial), "the node that is handed back")?;
+            same(back, node(serial), "the node that is handed back")?;
             see(has_serials(links, serial - 1), "lists after a refused push")?;
             Ok(false)
         }
@@ -79,8 +79,13 @@ fn push(links: &mut Links, serial: u64) -> Result<(), Fault> {
 /// Makes so many lists, and pushes a hundred nodes.
 pub fn push_a_hundred(alloc: Global, lists: usize) -> Result<(), Fault> {
     let mut links = make(alloc, lists)?;
+    fill(&mut links)
+}
+
+/// Pushes a hundred nodes to list 0.
+fn fill(links: &mut Links) -> Result<(), Fault> {
     for serial in 1..=100 {
-        push(&mut links, serial)?;
+        push(links, serial)?;
     }
-    see(has_serials(&links, 100), "a hundred nodes")
+    see(has_serials(links, 100), "a hundred nodes")
 }

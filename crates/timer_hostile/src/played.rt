@@ -1,6 +1,6 @@
 //! Lists of events, where `play` stops for memory and is called again with the rest.
 use crate::facilities::numbers;
-use crate::fault::{Fault, see};
+use crate::fault::{Fault, same};
 use crate::wheels::hier;
 use std::alloc::Global;
 use timer_base::{Handle, Timer};
@@ -59,9 +59,9 @@ fn bare(out: Out) -> Out {
 
 /// Goes on only where these outs are those that are wanted, but for places.
 fn see_outs(outs: &[Out], wanted: &[Out]) -> Result<(), Fault> {
-    see(outs.len() == wanted.len(), "how many outs there are")?;
+    same(outs.len(), wanted.len(), "how many outs there are")?;
     for (out, want) in outs.iter().zip(wanted.iter()) {
-        see(bare(*out) == *want, "an out")?;
+        same(bare(*out), *want, "an out")?;
     }
     Ok(())
 }
@@ -95,10 +95,8 @@ fn play(player: &mut Player<HierWheel>, events: &[Event], wanted: &[Out]) -> Res
 /// Goes on only where the clock stands at this tick and nothing is pending.
 fn see_end(player: &Player<HierWheel>, now: u64) -> Result<(), Fault> {
     let facility = player.facility();
-    see(
-        facility.now() == now && facility.pending() == 0,
-        "the end of a row",
-    )
+    let end = (facility.now(), facility.pending());
+    same(end, (now, 0), "the end of a row")
 }
 
 /// A timer moves to a lower wheel, and expires with another of its tick.

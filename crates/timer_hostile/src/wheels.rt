@@ -7,7 +7,7 @@ ghost use Rattle.timer_wheels.specs.declared.hashed.HashedWheel.{HashedWheel};
 ghost use Rattle.timer_wheels.specs.declared.hier.HierWheel.{HierWheel};
 ghost use Rattle.timer_wheels.specs.Tables.{last_of_table};
 
-use crate::fault::{Fault, see};
+use crate::fault::{Fault, same, see};
 use std::alloc::Global;
 use timer_base::{LAST, OutOfMemory, PlainWheel, Timer, Wheel};
 use timer_wheels::{HashedWheel, HierWheel, Table};
@@ -70,17 +70,20 @@ fn see_pending<W: Wheel>(wheel: &W, last: u64) -> Result<(), Fault> {
         wheel.len() as u64,
         wheel.has_due(),
     );
-    see(shown == (0, last, last, false), "a wheel's readers")?;
+    same(shown, (0, last, last, false), "a wheel's readers")?;
     let timers = list(wheel)?;
-    see(timers.len() as u64 == last, "how many timers are listed")?;
+    see_timers(&timers, last)
+}
+
+/// Goes on only where these are the timers with the serials from 1 to `last`, by deadline.
+fn see_timers(timers: &[Timer], last: u64) -> Result<(), Fault> {
+    same(timers.len() as u64, last, "how many timers are listed")?;
     let mut before = 0;
-    for timer in &timers {
+    for timer in timers {
         see(before < timer.deadline, "the order of a list")?;
         see(timer.serial <= last, "a serial in a list")?;
-        see(
-            timer.deadline == deadline_of(timer.serial),
-            "a deadline in a list",
-        )?;
+        let deadline = deadline_of(timer.serial);
+        same(timer.deadline, deadline, "a deadline in a list")?;
         before = timer.deadline;
     }
     Ok(())
@@ -105,7 +108,7 @@ fn try_start<W: Wheel>(wheel: &mut W) -> Result<bool, Fault> {
     };
     match wheel.start(timer) {
         Ok(handle) => {
-            see(wheel.look(handle) == Some(timer), "a started timer")?;
+            same(wheel.look(handle), Some(timer), "a started timer")?;
             Ok(true)
         }
         Err(OutOfMemory) => {
@@ -133,12 +136,10 @@ fn expire_at_next_tick<W: Wheel>(wheel: &mut W) -> Result<(), Fault> {
     let Some(timer) = wheel.expire() else {
         return Err(Fault::Wrong("a timer that didn't expire"));
     };
-    see(timer.deadline == wheel.now(), "the tick of a timer")?;
-    see(
-        timer.deadline == deadline_of(timer.serial),
-        "the deadline of a timer",
-    )?;
-    see(wheel.expire().is_none(), "a timer too many")
+    same(timer.deadline, wheel.now(), "the tick of a timer")?;
+    let deadline = deadline_of(timer.serial);
+    same(timer.deadline, deadline, "the deadline of a timer")?;
+    same(wheel.expire(), None, "a timer too many")
 }
 
 /// Starts a hundred timers, and lets each of them expire.
@@ -149,7 +150,7 @@ pub fn start_a_hundred<W: Wheel>(wheel: &mut W) -> Result<(), Fault> {
     for _ in 0..STARTS {
         expire_at_next_tick(wheel)?;
     }
-    see(wheel.len() == 0 && wheel.now() == STARTS, "the end")
+    same((wheel.len(), wheel.now()), (0, STARTS), "the end")
 }
 
 /// Starts a few timers, and lists them.
