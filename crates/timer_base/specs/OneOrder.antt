@@ -1,4 +1,4 @@
--- A list of distinct timers can be put in order in one way only.
+-- The order of distinct timers is unique.
 use Rattle.std.specs.Prelude.{◌≡◌, ◌≢◌, ◌≤◌, ◌+◌, ℕ, true, false, ◌==◌, ◌⊎◌, if◌then◌else◌, List, [], ◌∷◌, map, refl}
 use Rattle.std.proofs.Common.{sym, ◌∙◌, ap, subst, inl, inr, arith}
 use Rattle.std.specs.List.{AllByRecursion, sum_by}
@@ -12,7 +12,7 @@ use Rattle.timer_base.specs.Order.{is_before, insert_in_order, in_order, itself,
 use Rattle.timer_base.specs.OrderLaws.{either, All-weaken, All-in_order, IsOrdered-in_order, AreDistinct-in_order, map-in_order}
 use Rattle.timer_base.specs.Pending.{Entry, timer_of, timers_of}
 
--- z stands in the list
+-- z is a member of the list
 abbrev pub IsMember : {X : Type 0} → X → List X → Type 0
 IsMember z [] = ⊥
 IsMember z (x ∷ xs) = (x ≡ z) ⊎ IsMember z xs
@@ -22,7 +22,7 @@ pub record HaveSameMembers {X : Type 0} (xs ys : List X) : Type 0 where
   pub into : AllByRecursion (λ z. IsMember z ys) xs
   pub back : AllByRecursion (λ z. IsMember z xs) ys
 
--- What holds of each member holds of one.
+-- What holds of every member holds of a given one.
 
 from_first : {X : Type 0} (timer : X → Timer) (t : Timer) (z : X) (ys : List X) → IsFirst t (map timer ys) → IsMember z ys → is_before (timer z) t ≡ false
 from_first timer t z [] f m = absurd m
@@ -103,7 +103,7 @@ each_is_among xs ys p =
 pub same_members : {X : Type 0} (xs ys : List X) → IsPermutation xs ys → HaveSameMembers xs ys
 same_members xs ys p = record { into = each_is_among ys xs (IsPermutation-sym xs ys p); back = each_is_among xs ys p }
 
--- A permutation of distinct timers is distinct: each serial stands in it as often.
+-- A permutation of distinct timers is distinct: each serial occurs in it as often.
 
 abbrev one_at : ℕ → ℕ → ℕ
 one_at k n = if n == k then 1 else 0

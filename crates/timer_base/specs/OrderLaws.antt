@@ -10,7 +10,7 @@ use Rattle.timer_base.specs.Order.{is_before, insert_in_order, in_order, insert_
 pub either : (b : Bool) → (b ≡ true) ⊎ (b ≡ false)
 either b = elim b as (λ v. (v ≡ true) ⊎ (v ≡ false)) [ true ↦ inl refl | false ↦ inr refl ]
 
--- What the test tells, both ways.
+-- The comparison decides the order, both ways.
 
 pub before_means : (a b : Timer) → is_before a b ≡ true → (a.deadline < b.deadline) ⊎ ((a.deadline ≡ b.deadline) × (a.serial < b.serial))
 before_means a b h = grind (arith, nat_tests)
@@ -40,7 +40,7 @@ first_through a b c h k = grind (arith, nat_tests)
 strictly_through : (a b c : Timer) → is_before a b ≡ true → is_before c b ≡ false → is_before a c ≡ true
 strictly_through a b c h k = grind (arith, nat_tests)
 
--- A newest timer, and where it stands among the others.
+-- A newest timer, and its position among the others.
 
 newest_test : (e x : Timer) → x.serial < e.serial → is_before e x ≡ nat_lt e.deadline x.deadline
 newest_test e x h = grind (arith, nat_tests)
@@ -72,12 +72,12 @@ pub AreBelow-in_order : {X : Type 0} (timer : X → Timer) (high : ℕ) (xs : Li
 AreBelow-in_order timer high [] b = tt
 AreBelow-in_order timer high (x ∷ xs) b = AreBelow-insert_in_order timer high x (in_order timer xs) b.0 (AreBelow-in_order timer high xs b.1)
 
--- a newest one, wherever it stands in the list, goes behind those of its deadline
+-- a newest one, wherever it is in the list, is ordered after those of its deadline
 pub in_order-newest : {X : Type 0} (timer : X → Timer) (e : X) (xs ys : List X) → AreBelow (timer e).serial (map timer (xs ++ ys)) → in_order timer (xs ++ e ∷ ys) ≡ insert_by_deadline timer e (in_order timer (xs ++ ys))
 in_order-newest timer e [] ys b = insert_newest timer e (in_order timer ys) (AreBelow-in_order timer (timer e).serial ys b)
 in_order-newest timer e (x ∷ xs) ys b = ap (insert_in_order timer x) (in_order-newest timer e xs ys b.1) ∙ sym (insert_by_deadline-insert_in_order timer e x (in_order timer (xs ++ ys)) b.0)
 
--- Where one stands in a list does not matter to the order.
+-- The position of a member in the list does not affect the order.
 
 both_bools : (b : Bool) → b ≡ true → b ≡ false → ⊥
 both_bools b h k = cc
@@ -114,7 +114,7 @@ pub in_order-anywhere : {X : Type 0} (timer : X → Timer) (x : X) (ys zs : List
 in_order-anywhere timer x [] zs n = refl
 in_order-anywhere timer x (y ∷ ys) zs n = ap (insert_in_order timer y) (in_order-anywhere timer x ys zs n.1) ∙ insert_in_order-commutes timer y x (in_order timer (ys ++ zs)) n.0
 
--- The length, and what holds of each.
+-- The length, and facts of every member.
 
 pub length-insert_in_order : {X : Type 0} (timer : X → Timer) (x : X) (l : List X) → length (insert_in_order timer x l) ≡ suc (length l)
 length-insert_in_order timer x [] = refl
@@ -170,7 +170,7 @@ pub IsOrdered-in_order : {X : Type 0} (timer : X → Timer) (xs : List X) → Is
 IsOrdered-in_order timer [] = tt
 IsOrdered-in_order timer (x ∷ xs) = IsOrdered-insert_in_order timer x (in_order timer xs) (IsOrdered-in_order timer xs)
 
--- A part of the ordered list is the ordered part.
+-- Filtering commutes with ordering.
 
 insert_front : {X : Type 0} (timer : X → Timer) (x y : X) (zs : List X) → is_before (timer x) (timer y) ≡ true → IsFirst (timer y) (map timer zs) → insert_in_order timer x zs ≡ x ∷ zs
 insert_front timer x y [] h f = refl
@@ -217,7 +217,7 @@ filter-in_order timer p (x ∷ xs) = elim (either (p x)) [
   | inr k ↦ rw k (filter_not timer p x (in_order timer xs) k ∙ filter-in_order timer p xs)
 ]
 
--- The order is that of the timers, whatever they stand in.
+-- The order depends on the timers alone, whatever carries them.
 
 map_step : {X : Type 0} {Y : Type 0} (f : X → Timer) (g : Y → Timer) (h : X → Y) (x y : X) (ys : List X) → g (h x) ≡ f x → g (h y) ≡ f y
     → map h (insert_in_order f x ys) ≡ insert_in_order g (h x) (map h ys)

@@ -1,4 +1,4 @@
--- What timers in order of starting mean as a wheel: those after now are pending, and those at now are due.
+-- The wheel state of a list of timers in order of starting: those after now are pending, and those at now are due.
 use Rattle.std.specs.Prelude.{◌≡◌, ◌≤◌, ℕ, Bool, true, ◌&&◌, nat_lt, min, if◌then◌else◌, List, [], ◌∷◌, Option, Some, None, map, filter, length, refl}
 use Rattle.std.specs.List.{AllByRecursion, AllByRecursion-prop}
 use Rattle.std.specs.Coded.{le_prop}
@@ -24,7 +24,7 @@ is_pending_with tick serial t = has_serial serial t && is_after tick t
 abbrev pub at_first_place : Timer → Entry
 at_first_place t = record { place = 0; timer = t }
 
--- the wheel that the timers are
+-- the wheel state of the timers
 abbrev pub plain_state : ℕ → ℕ → List Timer → WheelState
 plain_state now last_serial timers = record {
   last_tick = LAST;

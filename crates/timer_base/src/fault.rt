@@ -21,7 +21,7 @@ impl<T: Drop> From<AllocFailed<T>> for OutOfMemory {
     }
 }
 
-/// Why a wheel was not made, in the order in which it is tested.
+/// Why a wheel was not made, in the order of the tests.
 #[derive(Clone, Copy, Debug, PartialEq, Eq, Error)]
 pub enum MakeFault {
     #[error("the number of slots is out of range")]

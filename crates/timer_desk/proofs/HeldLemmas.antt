@@ -1,10 +1,10 @@
--- What was got but for a request that is held.
+-- The requests that were got, without the held one.
 use Rattle.std.proofs.Common.{◌≡◌, ◌-◌, List, [], ◌∷◌, ◌++◌, length, refl, sym, ◌∙◌, ap, arith, length-append}
 use Rattle.std.specs.Prelude.{take}
 use Rattle.timer_desk.specs.declared.word.Numbered.{Numbered}
 use Rattle.timer_desk.specs.Report.{held_list, Side, got_but_held, HeldIsLast}
 
--- What is taken off the end is what was put there.
+-- Dropping an appended list from the end gives the list before.
 
 take_all : {X : Type 0} (xs : List X) → take (length xs) xs ≡ xs
 take_all [] = refl
@@ -19,7 +19,7 @@ without_end xs ys =
     let n : length (xs ++ ys) - length ys ≡ length xs = let l = length-append xs ys in omega arith in
     ap (λ k. take k (xs ++ ys)) n ∙ take_front xs ys
 
--- where what was got ends in what is held, what was got but for it is the rest
+-- where what was got ends in what is held, the rest is what was got without it
 pub got_but_held_is : (a : Side) (xs : List Numbered) → xs ++ held_list a.backlog.held ≡ a.got → got_but_held a ≡ xs
 got_but_held_is a xs h =
     ap (λ got. take (length got - length (held_list a.backlog.held)) got) (sym h) ∙ without_end xs (held_list a.backlog.held)

@@ -1,4 +1,4 @@
--- Two reports that follow one another are one.
+-- Two consecutive reports, joined, are one.
 use Rattle.std.proofs.Common.{◌≡◌, ℕ, ◌+◌, ◌<◌, ◌≤◌, Bool, true, false, List, [], ◌∷◌, ◌++◌, length, get_or, refl, sym, subst, ◌∙◌, ap, inl, inr, ◌⊎◌, ◌==◌, append_assoc, append-nil, length-append, arith}
 use Rattle.std.specs.Prelude.{take, drop, Option, Some, None, if◌then◌else◌}
 use Rattle.std.proofs.lemmas.Grind.{flat_map-append}
@@ -12,8 +12,8 @@ use Rattle.timer_desk.specs.declared.report.Served.{Served}
 use Rattle.timer_desk.specs.declared.report.Served.TheVariants.{Idle, NoRoom, NoMemory, Did}
 use Rattle.timer_desk.specs.declared.report.Done.{Done}
 use Rattle.timer_desk.specs.declared.report.Done.TheVariants as Dones
-use Rattle.timer_desk.specs.Backlog.{Backlog}
-use Rattle.timer_facility.specs.Standing.{NeedsMemory}
+use Rattle.timer_desk.specs.Backlog.{BacklogState}
+use Rattle.timer_facility.specs.Facility.{NeedsMemory}
 use Rattle.timer_desk.specs.Extends.{Extends, Extends-refl, Extends-front, Extends-is, Extends-trans}
 use Rattle.timer_desk.specs.Report.{Side, got_but_held, held_list, is_held, held_after_serve, held_after, may_hold, HeldIsLast, Tells, Runs, asked, words, flushed, events, outs, asked_in, words_in, events_in, outs_in}
 use Rattle.timer_desk.specs.Right.{AtEach, IsRightServe, IsRightMember, IsNeeded, outbox_after, pending_after, IsRight, IsRightClose}
@@ -67,7 +67,7 @@ serve_keeps NoRoom = inr (refl, refl)
 serve_keeps NoMemory = inl refl
 serve_keeps (Did numbered word) = inl refl
 
--- a member lets the client's held request stay, or decides whether one may be held behind it
+-- a member leaves the client's held request held, or decides by itself whether one may be held after it
 member_keeps : (c : ℕ) (d : Done) → (held_after c true d ≡ held_after c false d) ⊎ ((held_after c true d ≡ true) × (held_after c false d ≡ false))
 member_keeps c (Dones.Served client served) = elim (client == c) as (λ v. ((if v then held_after_serve true served else true) ≡ (if v then held_after_serve false served else false)) ⊎ (((if v then held_after_serve true served else true) ≡ true) × ((if v then held_after_serve false served else false) ≡ false))) [
   | true ↦ serve_keeps served
@@ -121,7 +121,7 @@ Tells-joined c r q x y z f g =
       same_room = g.same_room ∙ f.same_room;
     }
 
--- What is right.
+-- Right members.
 
 serve_moved : (room len len' left left' p p' : ℕ) (served : Served) → len ≡ len' → left' ≤ left → p ≡ p' → IsRightServe room len left p served → IsRightServe room len' left' p' served
 serve_moved room len len' left left' p p' NoRoom a b e h = omega arith
@@ -145,7 +145,7 @@ IsNeeded-longer may_refuse c s (x ∷ xs) (y ∷ ys) e h = let same : y ≡ x = 
     first_same : (x y : Numbered) (xs ys : List Numbered) → Extends (x ∷ xs) (y ∷ ys) → y ≡ x
     first_same x y xs ys e = cc
 
--- What holds of each member.
+-- Facts of each member.
 
 module _ (Q R : List Done → Done → List Done → Type 0) (r : List Done) where
   each_behind : (past ds : List Done) → ((past : List Done) (d : Done) (later : List Done) → Q past d later → R (r ++ past) d later) → AtEach Q past ds → AtEach R (r ++ past) ds
@@ -220,7 +220,7 @@ closes-joined r q s t e h k =
     AtEach-joined (IsRightClose s) (IsRightClose t) (IsRightClose s) r q (λ past d later p. p)
     (λ past d later p is. ap (λ (v : FacilityState). v.is_closed) (sym (state-joined s t r past e)) ∙ p is) h k
 
--- What is in time.
+-- Notices in time.
 
 module _ (s s' : FacilityState) (r : List Done) (runs : Runs r s s') where
   same_so_far : (past : List Done) → outs past ≡ (run s' (events past)).outs → outs (r ++ past) ≡ (run s (events (r ++ past))).outs
@@ -270,7 +270,7 @@ module _ {I : Type 0} (got standing : I → List Numbered) (given : I → List W
     closes = closes-joined r q x.facility y.facility f.facility.state_is f.closes g.closes;
   }
 
--- A report of nothing.
+-- The empty report.
 
 pub not_held : (held : Option Numbered) → is_held held ≡ false → held ≡ None
 not_held (Some numbered) h = absurd (cc)
@@ -289,7 +289,7 @@ Tells-nothing c x last = record {
 
 module _ {I : Type 0} (got standing : I → List Numbered) (given : I → List Word) (same : I → I → Type 0) (refuses : Bool) where
   pub Told-nothing : ((a : I) → same a a) → (x : DeskState I)
-      → ((c : ℕ) (i : I) (b : Backlog) → c < clients_of x → HeldIsLast (side_at got standing given x c i b)) → Told got standing given same refuses [] x x
+      → ((c : ℕ) (i : I) (b : BacklogState) → c < clients_of x → HeldIsLast (side_at got standing given x c i b)) → Told got standing given same refuses [] x x
   Told-nothing reflexive x last = record {
     clients = record {
       same_clients = refl;
@@ -302,7 +302,7 @@ module _ {I : Type 0} (got standing : I → List Numbered) (given : I → List W
     closes = tt;
   }
 
--- Notices behind their tick or close.
+-- Notices after their tick or close.
 
 pub AreBehind-weaken : (b : Bool) (r : List Done) → AreBehind false r → AreBehind b r
 AreBehind-weaken b [] h = tt
@@ -326,7 +326,7 @@ take_all : (hs : List Happened) → take (length hs) hs ≡ hs
 take_all [] = refl
 take_all (h ∷ hs) = ap (λ r. h ∷ r) (take_all hs)
 
--- the law of every run, at a run's end
+-- the lemma on every run, at a run's end
 abbrev pub IsLaw : FacilityState → Type 0
 IsLaw s = (placed : List Placed) (k : ℕ) → notices (take k (history s placed)) ≡ owed s (take k (history s placed))
 

@@ -1,9 +1,9 @@
 pub mod DeskLemmas
-pub mod DriveLemmas
+pub mod DrivingLemmas
 pub mod HeldLemmas
 pub mod Joining
-pub mod NoticeLemmas
-pub mod NoWant
+pub mod HandingLemmas
+pub mod AskingLemmas
 pub mod OneClient
 pub mod ProgressLemmas
-pub mod WindLemmas
+pub mod WindingLemmas

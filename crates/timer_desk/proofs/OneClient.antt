@@ -1,24 +1,24 @@
--- A report of one member, which is of one client.
+-- A report of one member that concerns one client.
 use Rattle.std.proofs.Common.{◌≡◌, ◌≢◌, ℕ, ◌+◌, ◌<◌, ◌≤◌, ◌==◌, Bool, true, false, ◌⊎◌, List, [], ◌∷◌, ◌++◌, length, get_or, refl, sym, ◌∙◌, ap, subst, inl, inr, arith, append-nil, length-append}
 use Rattle.std.specs.Prelude.{slice_set, Option, Some, None, if◌then◌else◌}
 use Rattle.std.proofs.lemmas.Bool.Decides.{nat_tests}
 use Rattle.std.proofs.lemmas.List.{get_or-set_same, get_or-set_other, get_or_default, length-set, set-get_or}
 use Rattle.timer_facility.specs.State.{FacilityState, pending_of}
-use Rattle.timer_facility.specs.Standing.{Standing}
+use Rattle.timer_facility.specs.Facility.{FacilityView}
 use Rattle.timer_desk.specs.declared.word.Numbered.{Numbered}
 use Rattle.timer_desk.specs.declared.word.Word.{Word}
 use Rattle.timer_desk.specs.declared.report.Served.{Served}
 use Rattle.timer_desk.specs.declared.report.Served.TheVariants.{Idle, NoRoom, NoMemory, Did}
 use Rattle.timer_desk.specs.declared.report.Done.{Done}
 use Rattle.timer_desk.specs.declared.report.Done.TheVariants as Dones
-use Rattle.timer_desk.specs.Backlog.{Backlog, notices_for}
-use Rattle.timer_desk.specs.Asked.{IsWant}
+use Rattle.timer_desk.specs.Backlog.{BacklogState, notices_for}
+use Rattle.timer_desk.specs.Asking.{RanOutOfMemory}
 use Rattle.timer_desk.specs.Extends.{Extends, Extends-refl}
 use Rattle.timer_desk.specs.Report.{Side, side_of, got_but_held, held_list, is_held, HeldIsLast, left_of, Tells, Runs, asked, asked_in, request_in, words, words_in, word_in, flushed, flushed_in, held_after, held_after_serve, events}
 use Rattle.timer_desk.specs.Right.{AtEach, IsRight, IsRightServe, IsRightMember, IsNeeded, IsRightClose, outbox_after, pending_after}
 use Rattle.timer_desk.specs.Desk.{DeskState, IsDesk, Told, AreInTime}
 use Rattle.timer_desk.proofs.Joining.{not_held, moved}
-use Rattle.timer_desk.proofs.NoticeLemmas.{desk_of}
+use Rattle.timer_desk.proofs.HandingLemmas.{desk_of}
 use Rattle.timer_desk.proofs.HeldLemmas.{got_but_held_is}
 
 either : (b : Bool) → (b ≡ true) ⊎ (b ≡ false)
@@ -33,7 +33,7 @@ is_other m n h = grind (arith, nat_tests)
 not_same : (m n : ℕ) → n ≢ m → (m == n) ≡ false
 not_same m n h = grind (arith, nat_tests)
 
--- a member that tells of client c, and of no other
+-- a member that concerns client c, and no other
 pub record IsOf (c : ℕ) (done : Done) : Type 0 where
   pub no_request : (k : ℕ) → k ≢ c → asked_in k done ≡ []
   pub no_word : (k : ℕ) → k ≢ c → words_in k done ≡ []
@@ -74,7 +74,7 @@ of_flush c count = record {
   in_time = λ s t runs. (refl, runs.outs_are);
 }
 
--- what a member of another client tells of a side: nothing
+-- a member of another client says nothing of a side
 Tells-other : (c k : ℕ) (done : Done) (a : Side) → IsOf c done → k ≢ c → HeldIsLast a → Tells k (done ∷ []) a a
 Tells-other c k done a o other last =
     let none : asked k (done ∷ []) ≡ [] = ap (λ xs. xs ++ []) (o.no_request k other) in
@@ -88,7 +88,7 @@ Tells-other c k done a o other last =
       same_room = refl;
     }
 
--- the outbox after a report is as long as what is told of it
+-- the outbox after a report has the length that the report gives
 outbox-told : (c : ℕ) (report : List Done) (a b : Side) → Tells c report a b → outbox_after c a report ≡ length b.backlog.outbox
 outbox-told c report a b t =
     let w = ap (λ xs. length xs) t.words_are in
@@ -98,7 +98,7 @@ outbox-told c report a b t =
     let f = t.flushed_are in
     omega arith
 
-needed_first : (refuses : Bool) (c : ℕ) (s : FacilityState) (held : Option Numbered) → IsWant refuses c s held → IsNeeded refuses c s (held_list held)
+needed_first : (refuses : Bool) (c : ℕ) (s : FacilityState) (held : Option Numbered) → RanOutOfMemory refuses c s held → IsNeeded refuses c s (held_list held)
 needed_first refuses c s (Some numbered) h = inr h
 needed_first refuses c s None h = h
 
@@ -106,13 +106,13 @@ pub same_served : (c : ℕ) (x y : Served) → Dones.Served c x ≡ Dones.Served
 same_served c x y h = cc
 
 module _ {I : Type 0} (got standing : I → List Numbered) (given : I → List Word) (same : I → I → Type 0) (refuses : Bool) where
-  -- what is told of a desk whose client c alone was served or had its words flushed
-  pub Told-one : ((a : I) → same a a) → (c : ℕ) (done : Done) (f f' : Standing) (inlets : List I) (backlogs : List Backlog) (i i' : I) (b b' : Backlog)
+  -- the report of a desk whose client c alone was served or had its words flushed
+  pub Told-one : ((a : I) → same a a) → (c : ℕ) (done : Done) (f f' : FacilityView) (inlets : List I) (backlogs : List BacklogState) (i i' : I) (b b' : BacklogState)
       → IsOf c done → IsDesk got standing given f inlets backlogs → c < length inlets
       → i ≡ get_or inlets c i → b ≡ get_or backlogs c b
       → same i i' → Tells c (done ∷ []) (side_of got standing given i b) (side_of got standing given i' b') → Runs (done ∷ []) f.state f'.state
       → IsRightMember c b.room (length b.outbox) (left_of (side_of got standing given i b)) (pending_of f.state c) done
-      → (done ≡ Dones.Served c NoMemory → IsWant refuses c f.state b'.held)
+      → (done ≡ Dones.Served c NoMemory → RanOutOfMemory refuses c f.state b'.held)
       → length b'.outbox + pending_of f'.state c ≤ b'.room
       → ((k : ℕ) → pending_of f'.state k ≤ pending_of f.state k + (if c == k then 1 else 0))
       → Told got standing given same refuses (done ∷ []) (desk_of f inlets backlogs) (desk_of f' (slice_set inlets c i') (slice_set backlogs c b'))
@@ -134,13 +134,13 @@ module _ {I : Type 0} (got standing : I → List Numbered) (given : I → List W
       inlet_here : (k : ℕ) (j : I) → k ≡ c → get_or (slice_set inlets c i') k j ≡ i'
       inlet_here k j is = ap (λ n. get_or (slice_set inlets c i') n j) is ∙ get_or-set_same inlets c i' j low
 
-      backlog_here : (k : ℕ) (e : Backlog) → k ≡ c → get_or (slice_set backlogs c b') k e ≡ b'
+      backlog_here : (k : ℕ) (e : BacklogState) → k ≡ c → get_or (slice_set backlogs c b') k e ≡ b'
       backlog_here k e is = ap (λ n. get_or (slice_set backlogs c b') n e) is ∙ get_or-set_same backlogs c b' e (let m = as_many in omega arith)
 
       inlet_was : (k : ℕ) (j : I) → k ≡ c → get_or inlets k j ≡ i
       inlet_was k j is = ap (λ n. get_or inlets n j) is ∙ get_or_default inlets c j i low ∙ sym is_i
 
-      backlog_was : (k : ℕ) (e : Backlog) → k ≡ c → get_or backlogs k e ≡ b
+      backlog_was : (k : ℕ) (e : BacklogState) → k ≡ c → get_or backlogs k e ≡ b
       backlog_was k e is = ap (λ n. get_or backlogs n e) is ∙ get_or_default backlogs c e b (let m = as_many in omega arith) ∙ sym is_b
 
       line_at : (k : ℕ) (j : I) → k < length inlets → (c == k) ≡ true ⊎ (c == k) ≡ false → same (get_or inlets k j) (get_or (slice_set inlets c i') k j)
@@ -149,7 +149,7 @@ module _ {I : Type 0} (got standing : I → List Numbered) (given : I → List W
           subst (same (get_or inlets k j)) (sym (inlet_here k j is)) (subst (λ x. same x i') (sym (inlet_was k j is)) line)
       line_at k j l (inr h) = subst (same (get_or inlets k j)) (sym (get_or-set_other inlets c k i' j (is_other c k h))) (reflexive (get_or inlets k j))
 
-      side_told : (k : ℕ) (j : I) (e : Backlog) → k < length inlets → (c == k) ≡ true ⊎ (c == k) ≡ false
+      side_told : (k : ℕ) (j : I) (e : BacklogState) → k < length inlets → (c == k) ≡ true ⊎ (c == k) ≡ false
           → Tells k (done ∷ []) (side_of got standing given (get_or inlets k j) (get_or backlogs k e)) (side_of got standing given (get_or (slice_set inlets c i') k j) (get_or (slice_set backlogs c b') k e))
       side_told k j e l (inl h) =
           let is : k ≡ c = is_equal c k h in
@@ -167,7 +167,7 @@ module _ {I : Type 0} (got standing : I → List Numbered) (given : I → List W
       state_after : (k : ℕ) → pending_after k f.state (done ∷ []) ≡ pending_of f'.state k
       state_after k = ap (λ v. pending_of v k) (sym runs.state_is)
 
-      right_at : (k : ℕ) (j : I) (e : Backlog) → k < length inlets → (c == k) ≡ true ⊎ (c == k) ≡ false
+      right_at : (k : ℕ) (j : I) (e : BacklogState) → k < length inlets → (c == k) ≡ true ⊎ (c == k) ≡ false
           → IsRight refuses k f.state (side_of got standing given (get_or inlets k j) (get_or backlogs k e)) (side_of got standing given (get_or (slice_set inlets c i') k j) (get_or (slice_set backlogs c b') k e)) [] done []
       right_at k j e l (inl h) =
           let is : k ≡ c = is_equal c k h in
@@ -199,7 +199,7 @@ module _ {I : Type 0} (got standing : I → List Numbered) (given : I → List W
           let none_went : flushed k (done ∷ []) ≡ 0 = let f0 = o.none_flushed k other in omega arith in
           record { served = o.is_right k _ _ _ _ other; needed = λ is. absurd (o.no_serve k other is); room = omega arith }
 
-  -- where client c has the same line and nothing of it waits anew, a serve took nothing
+  -- where the line and the backlog of client c are unchanged, a serve took nothing
   pub got-one : (c : ℕ) (inlets : List I) (i i' : I) → c < length inlets → i ≡ get_or inlets c i → got i' ≡ got i → (k : ℕ) (j : I) → got (get_or (slice_set inlets c i') k j) ≡ got (get_or inlets k j)
   got-one c inlets i i' low is_i e k j = at (either (c == k))
     where
@@ -209,6 +209,6 @@ module _ {I : Type 0} (got standing : I → List Numbered) (given : I → List W
           ap (λ n. got (get_or (slice_set inlets c i') n j)) is ∙ ap got (get_or-set_same inlets c i' j low) ∙ e ∙ ap got (is_i ∙ get_or_default inlets c i j low) ∙ ap (λ n. got (get_or inlets n j)) (sym is)
       at (inr h) = ap got (get_or-set_other inlets c k i' j (is_other c k h))
 
-  -- written back, an element changes nothing
+  -- writing an element back changes nothing
   pub set-back : {X : Type 0} (xs : List X) (c : ℕ) (x x' : X) → x ≡ get_or xs c x → x' ≡ x → slice_set xs c x' ≡ xs
   set-back xs c x x' is e = ap (λ y. slice_set xs c y) (e ∙ is) ∙ set-get_or xs c x

@@ -2,6 +2,7 @@
 #![tactic(auto)]
 
 mod asking;
+mod backlog;
 mod desk;
 mod driving;
 mod handing;
@@ -18,7 +19,6 @@ mod ring;
 mod ring_maker;
 mod settling;
 mod turn;
-mod waiting;
 mod winding;
 mod word;
 

@@ -1,4 +1,4 @@
-//! How much a facility may hold.
+//! The limits of a facility.
 
 /// The most clients that a facility may have.
 pub const MOST_CLIENTS: u64 = 64;

@@ -1,4 +1,4 @@
-//! Lists of events over the plain wheel: worked examples, and how they may be cut into calls.
+//! Lists of events over the plain wheel: worked examples, and how they may be split into calls.
 use super::*;
 use crate::refusing::Refusing;
 use std::alloc::Global;
@@ -123,7 +123,7 @@ fn bare(out: Out) -> Out {
     }
 }
 
-/// What comes of the events, without places.
+/// The outs of the events, without places.
 fn play<W: Wheel + Drop>(player: &mut Player<W>, events: &[Event]) -> Result<Vec<Out>, Fail> {
     let mut outs = player.play(events)?;
     for out in outs.iter_mut() {
@@ -132,8 +132,8 @@ fn play<W: Wheel + Drop>(player: &mut Player<W>, events: &[Event]) -> Result<Vec
     Ok(outs)
 }
 
-/// Plays the events, and compares what comes of them, the last tick and how many
-/// timers are pending then.
+/// Plays the events, and compares their outs, the last tick and the number of timers
+/// pending then.
 fn check_row<W: Wheel + Drop>(
     rt: &impl Abort,
     row: &str,

@@ -1,6 +1,6 @@
 //! Whole uses of the facility over the plain wheel, and the ranges of its configuration.
 ghost use Rattle.std.specs.Prelude.{◌≡◌, ◌<◌, [], IfOk};
-ghost use Rattle.timer_facility.specs.Standing.{Standing};
+ghost use Rattle.timer_facility.specs.Facility.{FacilityView};
 
 use super::*;
 use std::alloc::Global;
@@ -29,7 +29,7 @@ fn facility(alloc: Global) -> Result<Facility<PlainWheel>, Fail> {
     Ok(Facility::open(alloc, checked, wheel))
 }
 
-/// Goes on only where nothing waits to be handed out.
+/// Checks that nothing waits to be handed out.
 fn settle<W: Wheel + Drop>(rt: &impl Abort, facility: &Facility<W>)
     ensures { facility.now.waiting ≡ [] }
 {

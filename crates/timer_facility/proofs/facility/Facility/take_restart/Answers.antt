@@ -2,8 +2,8 @@ use Rattle.std.proofs.Common.{sym, ap, arith}
 use Rattle.timer_facility.specs.State.{FacilityState, Restart}
 use Rattle.timer_facility.specs.Verdict.{named, interval_refusal}
 use Rattle.timer_facility.specs.Step.{after_restart, new_timer}
-use Rattle.timer_facility.proofs.Parts.{next_when, tells, found_there, parts-used, parts-restart, standing-unchanged, restart_idle, standing-restart}
-use Rattle.timer_facility.proofs.Verdicts.{timely}
+use Rattle.timer_facility.proofs.FacilityParts.{next_when, tells, found_there, parts-used, parts-restart, view-unchanged, restart_idle, view-restart}
+use Rattle.timer_facility.proofs.VerdictLemmas.{timely}
 use Rattle.timer_facility.proofs.facility.Facility.take_restart.Goals as goal
 
 pub overflow_add-self : goal.overflow_add-self
@@ -61,14 +61,14 @@ pub returns-in_default-clause-left : goal.returns-in_default-clause-left
 returns-in_default-clause-left g c =
     let s : FacilityState = c.args.self.now.state in
     let n = next_when c.self.invariant c.self.view_is c.args.client c.args.number c.requires.taken in
-    standing-unchanged c.self.invariant c.self.view_is c.args.client c.args.number n.is_client c.requires.waiting _
+    view-unchanged c.self.invariant c.self.view_is c.args.client c.args.number n.is_client c.requires.waiting _
     (ap (λ o. after_restart o (interval_refusal s c.args.interval) 0 (new_timer s c.args.client c.args.number c.args.interval c.args.action) s) (sym c.in_default.ensures))
 
 pub returns-in-Some-interval_refusal-clause-left : goal.returns-in-Some-interval_refusal-clause-left
 returns-in-Some-interval_refusal-clause-left g c =
     let s : FacilityState = c.args.self.now.state in
     let n = next_when c.self.invariant c.self.view_is c.args.client c.args.number c.requires.taken in
-    standing-unchanged c.self.invariant c.self.view_is c.args.client c.args.number n.is_client c.requires.waiting _
+    view-unchanged c.self.invariant c.self.view_is c.args.client c.args.number n.is_client c.requires.waiting _
     (restart_idle (named s c.args.client (Restart c.args.handle c.args.interval c.args.action)) (interval_refusal s c.args.interval) c.in-Some-interval_refusal.reason 0
     (new_timer s c.args.client c.args.number c.args.interval c.args.action) s (sym c.in-Some-interval_refusal.ensures))
 
@@ -130,7 +130,7 @@ invariant_of-self-2 g c =
 pub returns-clause-left : goal.returns-clause-left
 returns-clause-left g c =
     let n = next_when c.self.invariant c.self.view_is c.args.client c.args.number c.requires.taken in
-    standing-restart c.self.invariant c.self.view_is c.args.client c.args.number c.args.handle c.args.interval c.args.action c.now.result c.in-Some.old c.in-Some-restart.handle.place (g.W.Wheel.state c.restart.new.self)
+    view-restart c.self.invariant c.self.view_is c.args.client c.args.number c.args.handle c.args.interval c.args.action c.now.result c.in-Some.old c.in-Some-restart.handle.place (g.W.Wheel.state c.restart.new.self)
     (record {
       is_client = n.is_client;
       now_is = c.now.ensures;

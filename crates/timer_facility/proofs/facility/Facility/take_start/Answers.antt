@@ -1,7 +1,7 @@
 use Rattle.std.proofs.Common.{sym, ◌+◌, ◌∙◌, ap, refl, arith}
 use Rattle.timer_facility.specs.Step.{answer_to_start, new_timer}
-use Rattle.timer_facility.proofs.Parts.{next_when, tells, standing-refused, standing-start, parts-used, parts-start, answer_started, few_counted}
-use Rattle.timer_facility.proofs.Verdicts.{startable}
+use Rattle.timer_facility.proofs.FacilityParts.{next_when, tells, view-refused, view-start, parts-used, parts-start, answer_started, few_counted}
+use Rattle.timer_facility.proofs.VerdictLemmas.{startable}
 use Rattle.timer_facility.proofs.facility.Facility.take_start.Goals as goal
 
 pub overflow_add-self : goal.overflow_add-self
@@ -24,7 +24,7 @@ bounds-self-inside-client g c =
 pub returns-in-Some-clause-left : goal.returns-in-Some-clause-left
 returns-in-Some-clause-left g c =
     let n = next_when c.self.invariant c.self.view_is c.args.client c.args.number c.requires.taken in
-    standing-refused c.self.invariant c.self.view_is c.args.client c.args.number c.args.interval c.args.action c.in-Some.reason n.is_client c.requires.waiting (sym c.in-Some.ensures)
+    view-refused c.self.invariant c.self.view_is c.args.client c.args.number c.args.interval c.args.action c.in-Some.reason n.is_client c.requires.waiting (sym c.in-Some.ensures)
 
 pub overflow_add-deadline : goal.overflow_add-deadline
 overflow_add-deadline g c =
@@ -104,7 +104,7 @@ returns-in-Ok-clause-answer g c =
 pub returns-in-Ok-clause-left : goal.returns-in-Ok-clause-left
 returns-in-Ok-clause-left g c =
     let n = next_when c.self.invariant c.self.view_is c.args.client c.args.number c.requires.taken in
-    standing-start c.self.invariant c.self.view_is c.args.client c.args.number c.args.interval c.args.action c.in-Ok.handle.place n.is_client c.requires.waiting (sym c.in_default.ensures)
+    view-start c.self.invariant c.self.view_is c.args.client c.args.number c.args.interval c.args.action c.in-Ok.handle.place n.is_client c.requires.waiting (sym c.in_default.ensures)
     c.now.result c.now.ensures (g.W.Wheel.state c.start.new.self) c.in-Ok.ensures.started
 
 pub offset_bounds-self-inside-client-in-Ok-2 : goal.offset_bounds-self-inside-client-in-Ok-2

@@ -1,6 +1,6 @@
 use Rattle.std.proofs.Common.{◌∙◌, sym, ap, refl, None, Some, arith}
 use Rattle.timer_base.specs.Pending.{without_found}
-use Rattle.timer_facility.proofs.Parts.{next_when, standing-stop, found_there, parts-used, parts-stopped, stopped_counted}
+use Rattle.timer_facility.proofs.FacilityParts.{next_when, view-stop, found_there, parts-used, parts-stopped, stopped_counted}
 use Rattle.timer_facility.proofs.facility.Facility.take_stop.Goals as goal
 
 pub overflow_add-self : goal.overflow_add-self
@@ -47,14 +47,14 @@ invariant_of-self-in-Some g c =
 pub returns-in-None-clause-left : goal.returns-in-None-clause-left
 returns-in-None-clause-left g c =
     let n = next_when c.self.invariant c.self.view_is c.args.client c.args.number c.requires.taken in
-    standing-stop c.self.invariant c.self.view_is c.args.client c.args.number c.args.handle None n.is_client c.requires.waiting (sym c.in-None.ensures) (g.W.Wheel.state c.self.inside.wheel) refl
+    view-stop c.self.invariant c.self.view_is c.args.client c.args.number c.args.handle None n.is_client c.requires.waiting (sym c.in-None.ensures) (g.W.Wheel.state c.self.inside.wheel) refl
 
 pub returns-in-Some-clause-left : goal.returns-in-Some-clause-left
 returns-in-Some-clause-left g c =
     let n = next_when c.self.invariant c.self.view_is c.args.client c.args.number c.requires.taken in
     let w = g.W.Wheel.state c.self.inside.wheel in
     let there = found_there c.self.invariant c.self.view_is c.args.client c.args.handle c.in-Some.timer (sym c.in-Some.ensures) in
-    standing-stop c.self.invariant c.self.view_is c.args.client c.args.number c.args.handle (Some c.in-Some.timer) n.is_client c.requires.waiting (sym c.in-Some.ensures) (g.W.Wheel.state c.stop.new.self)
+    view-stop c.self.invariant c.self.view_is c.args.client c.args.number c.args.handle (Some c.in-Some.timer) n.is_client c.requires.waiting (sym c.in-Some.ensures) (g.W.Wheel.state c.stop.new.self)
     (c.stop.ensures.stopped ∙ ap (λ o. record w { pending = without_found o w.pending }) there)
 
 pub offset_bounds-self-inside-client-in-Some-2 : goal.offset_bounds-self-inside-client-in-Some-2
