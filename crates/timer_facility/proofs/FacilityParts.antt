@@ -29,7 +29,7 @@ use Rattle.timer_facility.specs.Facility.{FacilityView, Parts, view_of, kept, Ar
 use Rattle.timer_facility.proofs.FacilityCounts.{count-kept, count-put, count-tick, count-without, count-front, counted-none, counted-as, counted-more, counted-less, IsCounted, is_counted, count_in_range}
 use Rattle.timer_facility.proofs.TimerLists.{Among, first_timer-among, either, timers_of-filter, All_timers-weaken, of_client_some}
 use Rattle.timer_facility.proofs.OwedLemmas.{notices_in-map}
-use Rattle.timer_facility.proofs.VerdictLemmas.{IsKnown, takable, tick_refusal-none}
+use Rattle.timer_facility.proofs.VerdictLemmas.{IsTimely, IsKnown, takable, tick_refusal-none}
 
 -- Lengths.
 
@@ -126,6 +126,34 @@ next_when {p} {v} a e client number h =
     let m = t.to_next in
     let l = t.in_range in
     record { is_client = omega arith; few_clients = a.few_clients; all_numbers = a.all_numbers; in_range = omega arith }
+
+-- so the arrays have an element for it
+pub in_arrays : {p : Parts} {v : FacilityView} → AreParts p → view_of p ≡ v → (client number : ℕ) → not_taken v.state client number ≡ None → client < 64
+in_arrays a e client number h =
+    let n = next_when a e client number h in
+    let is_client = n.is_client in
+    let few_clients = n.few_clients in
+    omega arith
+
+-- a timer that is started or restarted now: its deadline and its serial
+pub record IsInTime (p : Parts) (deadline : ℕ) : Type 0 where
+  pub later : p.wheel.now < deadline
+  pub within : deadline ≤ p.wheel.last_tick
+  pub in_range : deadline ≤ LAST
+  pub unspent : p.next_serial ≤ LAST
+
+pub in_time : {p : Parts} {v : FacilityView} → AreParts p → view_of p ≡ v → Wheels.IsWellFormed p.wheel → (interval now : ℕ) → IsTimely v.state interval → now ≡ p.wheel.now
+    → IsInTime p (now + interval)
+in_time a e w interval now timely told =
+    let t = tells a e in
+    let positive = timely.positive in
+    let within = timely.in_time in
+    let unspent = timely.unspent in
+    let last_is = t.last_is in
+    let now_is = t.now_is in
+    let serial_is = t.serial_is in
+    let last_in_range = w.last_in_range in
+    record { later = omega arith; within = omega arith; in_range = omega arith; unspent = omega arith }
 
 -- the state is sound, since the wheel is well formed
 below_next : (last now serial next : ℕ) (ts : List Timer) → AllByRecursion (Wheels.IsPending last now serial) ts → serial < next → AreBelow next ts

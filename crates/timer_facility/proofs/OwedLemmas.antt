@@ -35,7 +35,7 @@ read_none r = reading_is (r.started ++ []) r.started (r.stopped ++ []) r.stopped
 
 later_start : (c : FacilityState) (interval : ℕ) → start_refusal c interval ≡ None → c.now < c.now + interval
 later_start c interval h =
-    let p : 0 < interval = (startable c interval h).positive in omega arith
+    let p : 0 < interval = (startable c interval h).timely.positive in omega arith
 
 keeps_asked_start : (s : FacilityState) (r : Reading) (ns : List Notice) (c : FacilityState) (client number interval action place : ℕ) (v : Option Reason)
     → start_refusal c interval ≡ v → Keeps s r ns c → c.is_closed ≡ false

@@ -4,8 +4,6 @@ use Rattle.std.specs.Prelude.{map, nat_lt, if◌then◌else◌, Option, Some, No
 use Rattle.timer_base.specs.declared.limits.TheConstants.{LAST}
 use Rattle.timer_base.specs.declared.timer.Timer.{Timer}
 use Rattle.timer_base.specs.Pending.{timers_of}
-use Rattle.timer_facility.specs.declared.request.Answer.{Answer}
-use Rattle.timer_facility.specs.declared.request.Answer.TheVariants.{Refused}
 use Rattle.timer_facility.specs.declared.request.NotTaken.{NotTaken}
 use Rattle.timer_facility.specs.declared.request.NotTaken.TheVariants as NotTakens
 use Rattle.timer_facility.specs.declared.request.Notice.{Notice}

@@ -167,9 +167,7 @@ start_refusal-none s interval h m = start_refusal-room s interval h ∙ rw (diff
 
 -- what is true of a start that is accepted
 pub record IsStartable (s : FacilityState) (interval : ℕ) : Type 0 where
-  pub positive : 0 < interval
-  pub in_time : interval ≤ s.last - s.now
-  pub unspent : s.next_serial ≤ LAST
+  pub timely : IsTimely s interval
   pub room : length s.pending ≢ s.capacity
 
 pub startable : (s : FacilityState) (interval : ℕ) → start_refusal s interval ≡ None → IsStartable s interval
@@ -180,9 +178,11 @@ startable s interval h =
     let c = none_then Reasons.SerialsSpent _ (nat_lt LAST s.next_serial) b.1 in
     let d = none_then Reasons.Full _ (length s.pending == s.capacity) c.1 in
     record {
-      positive = above_zero interval a.0;
-      in_time = at_most (s.last - s.now) interval b.0;
-      unspent = at_most LAST s.next_serial c.0;
+      timely = record {
+        positive = above_zero interval a.0;
+        in_time = at_most (s.last - s.now) interval b.0;
+        unspent = at_most LAST s.next_serial c.0;
+      };
       room = differs (length s.pending) s.capacity d.0;
     }
 

@@ -1,16 +1,16 @@
 -- Before the tick to wake up at, nothing is handed out.
-use Rattle.std.proofs.Common.{◌≡◌, ◌<◌, ◌≤◌, ◌+◌, ℕ, zero, suc, Bool, true, false, not, ◌==◌, List, [], ◌∷◌, ◌++◌, refl, ◌∙◌, ap, subst, inl, inr, arith}
+use Rattle.std.proofs.Common.{◌≡◌, ◌<◌, ◌≤◌, ◌+◌, ℕ, zero, suc, Bool, false, not, ◌==◌, List, [], ◌∷◌, ◌++◌, refl, ◌∙◌, ap, subst, inl, inr, arith}
 use Rattle.std.specs.Prelude.{map, filter, Option, Some, None}
 use Rattle.std.specs.List.{AllByRecursion}
 use Rattle.std.proofs.lemmas.Bool.Decides.{nat_tests}
-use Rattle.timer_base.specs.Pending.{Entry, timers_of, is_due_at, entries_left}
+use Rattle.timer_base.specs.Pending.{Entry, timers_of, is_due_at}
 use Rattle.timer_base.specs.WakeUps as Wheels
 use Rattle.timer_facility.specs.declared.request.Notice.TheVariants.{Expired}
 use Rattle.timer_facility.specs.declared.request.TickFault.{TickFault}
 use Rattle.timer_facility.specs.declared.event.Out.TheVariants as Outs
-use Rattle.timer_facility.specs.State.{FacilityState, Tick}
+use Rattle.timer_facility.specs.State.{FacilityState}
 use Rattle.timer_facility.specs.Verdict.{tick_refusal}
-use Rattle.timer_facility.specs.Step.{Step, step_of_tick, expired_next}
+use Rattle.timer_facility.specs.Step.{Step, step_of_tick}
 use Rattle.timer_facility.specs.Run.{history, notices, notices_in, outs_of}
 use Rattle.timer_facility.specs.Facility.{FacilityView, Parts, view_of, AreParts}
 use Rattle.timer_facility.specs.Ticked.{ticks}

@@ -1,4 +1,3 @@
-use Rattle.std.proofs.Common.{sym}
 use Rattle.timer_facility.specs.Verdict.{refusal}
 use Rattle.timer_facility.specs.Facility.{wanted_of}
 use Rattle.timer_facility.proofs.RefusedLemmas.{verdict-not_taken}
