@@ -57,7 +57,8 @@ step_in (Dones.Flushed client count) = Steps.Flush client ∷ []
 abbrev pub steps_of : List Done → List Step
 steps_of report = flat_map step_in report
 
--- each notice comes after a tick or a close, with only notices in between; `allowed` says whether the first member may be one
+-- each notice comes after a tick or a close, with only notices in between; `allowed` says whether the first member may be
+-- one
 abbrev pub AreBehind : Bool → List Done → Type 0
 AreBehind allowed [] = Unit {0}
 AreBehind allowed (Dones.Served client served ∷ report) = AreBehind false report
