@@ -112,7 +112,7 @@ is_other n k h = grind (arith, nat_tests)
 same_is : (n : ℕ) → (n == n) ≡ true
 same_is n = grind (arith, nat_tests)
 
--- one timer more
+-- one more timer
 pub counted-more : {clients : ℕ} {counts : List ℕ} {ts : List Timer} → AreCounted clients counts ts → (t : Timer) (us : List Timer) → t.client < clients → clients ≤ 64
     → ((client : ℕ) → count_of client us ≡ one_of client t + count_of client ts) → AreCounted clients (slice_set counts t.client (slice_index counts t.client + 1)) us
 counted-more {clients} {counts} {ts} a t us l few h =
@@ -158,7 +158,7 @@ is_counted {clients} {counts} {ts} a t us h =
     let outside : ¬ (64 ≤ t.client) = λ x. let y : slice_index counts t.client ≡ 0 = past (omega arith) in omega arith in
     record { some = some; is_client = not_le contrary; within = not_le outside }
 
--- one timer less
+-- one fewer timer
 pub counted-less : {clients : ℕ} {counts : List ℕ} {ts : List Timer} → AreCounted clients counts ts → (t : Timer) (us : List Timer)
     → ((client : ℕ) → count_of client ts ≡ one_of client t + count_of client us) → AreCounted clients (slice_set counts t.client (slice_index counts t.client - 1)) us
 counted-less {clients} {counts} {ts} a t us h =

@@ -18,6 +18,7 @@ ghost use Rattle.timer_facility.specs.WakeUps.{IsQuietUntil};
 ghost use Rattle.timer_facility.specs.Facility.{FacilityView, Parts, view_of, AreParts, view_after, with_nothing_waiting, asked, place_in, IsTaken, IsNotTaken};
 
 use crate::config::Checked;
+use crate::limits::CLIENTS;
 use crate::request::{Answer, CloseFault, NotTaken, Notice, Reason, Request, TickFault};
 use std::alloc::Global;
 use std::marker::Model;
@@ -31,9 +32,9 @@ pub struct Facility<W: Wheel + Drop> {
     capacity: u64,
     next_serial: u64,
     // The next request number of each client. Those from `clients` on are never read.
-    numbers: [u64; 64],
+    numbers: [u64; CLIENTS],
     // How many timers of each client are pending or wait to be handed out.
-    counts: [usize; 64],
+    counts: [usize; CLIENTS],
     is_closed: bool,
     // The timers that the close returns, in their order.
     returned: Vec<Timer>,
@@ -86,8 +87,8 @@ impl<W: Wheel + Drop> Facility<W> {
             clients: config.clients,
             capacity: config.capacity,
             next_serial: config.first_serial,
-            numbers: [config.first_number; 64],
-            counts: [0; 64],
+            numbers: [config.first_number; CLIENTS],
+            counts: [0; CLIENTS],
             is_closed: false,
             returned: Vec::new(alloc),
             handed: 0,
@@ -221,8 +222,8 @@ impl<W: Wheel + Drop> Facility<W> {
     /// last of them wait to be handed out.
     ///
     /// Nothing expires before the last of them, and fewer than `limit` are passed only where a timer
-    /// expires then or the clock is at its end. A refusal changes nothing. Does not allocate. No timer may wait to be
-    /// handed out.
+    /// expires then or the clock is at its end. A refusal changes nothing. Does not allocate. No timer may
+    /// wait to be handed out.
     pub fn ticks(&mut self, limit: u64) -> Result<u64, TickFault>
         requires waiting { self.old.waiting ≡ [] }
         requires some { 0 < limit }
