@@ -11,7 +11,7 @@ use Rattle.timer_desk.specs.declared.report.Done.{Done}
 use Rattle.timer_desk.specs.Backlog.{BacklogState, notices_for}
 use Rattle.timer_desk.specs.Report.{Side, side_of, got_but_held, HeldIsLast, Tells, asked}
 use Rattle.timer_desk.specs.Desk.{IsDesk}
-use Rattle.timer_desk.proofs.HeldLemmas.{held_last}
+use Rattle.timer_desk.proofs.ReportHeld.{held_last}
 
 either : (b : Bool) → (b ≡ true) ⊎ (b ≡ false)
 either b = elim b as (λ v. (v ≡ true) ⊎ (v ≡ false)) [ true ↦ inl refl | false ↦ inr refl ]

@@ -16,7 +16,7 @@ use Rattle.timer_desk.specs.Backlog.{BacklogState}
 use Rattle.timer_desk.specs.Report.{HeldIsLast, asked, asked_in, flushed}
 use Rattle.timer_desk.specs.Desk.{DeskState, clients_of, side_at, steps_of, step_in, AreBehind, Told, InRange}
 use Rattle.timer_desk.specs.Driving.{IsFit, IsDone, HasCounted, Turns, Drives}
-use Rattle.timer_desk.proofs.Joining.{Told-joined, Told-nothing, AreBehind-joined, IsLaw, AreOwed-in_time}
+use Rattle.timer_desk.proofs.ReportJoining.{Told-joined, Told-nothing, AreBehind-joined, IsLaw, AreOwed-in_time}
 
 flushed_joined : (c : ℕ) (r q : List Done) → flushed c (r ++ q) ≡ flushed c r + flushed c q
 flushed_joined c [] q = omega arith

@@ -31,7 +31,7 @@ use Rattle.timer_desk.specs.declared.report.Served.TheVariants.{NoMemory}
 use Rattle.timer_desk.specs.Extends.{Extends, Extends-refl}
 use Rattle.timer_desk.specs.Report.{Side, side_of, HeldIsLast, got_but_held, held_list, is_held, held_after, may_hold, Tells, Runs, asked, asked_in, words, words_in, flushed, flushed_in, events, events_in, outs, tick_outs, placed}
 use Rattle.timer_desk.specs.Right.{AtEach, IsRight, IsRightMember, IsRightClose, pending_after}
-use Rattle.timer_desk.proofs.Joining.{not_held}
+use Rattle.timer_desk.proofs.ReportJoining.{not_held}
 use Rattle.timer_desk.specs.Desk.{DeskState, IsDesk, Told, AreInTime, AddsStep, tick_notices, close_notices, steps_of, AreBehind}
 
 either : (b : Bool) → (b ≡ true) ⊎ (b ≡ false)

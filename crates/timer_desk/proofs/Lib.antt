@@ -1,9 +1,9 @@
 pub mod DeskLemmas
 pub mod DrivingLemmas
-pub mod HeldLemmas
-pub mod Joining
+pub mod ReportHeld
+pub mod ReportJoining
 pub mod HandingLemmas
 pub mod AskingLemmas
-pub mod OneClient
+pub mod ReportOfOne
 pub mod ProgressLemmas
 pub mod WindingLemmas

@@ -4,7 +4,7 @@ use Rattle.timer_desk.specs.declared.report.Done.TheVariants.{Served}
 use Rattle.timer_desk.specs.Desk.{DeskState, clients_of, Told}
 use Rattle.timer_desk.proofs.DeskLemmas.{IsDesk-one, Tells-held}
 use Rattle.timer_desk.proofs.HandingLemmas.{desk_of}
-use Rattle.timer_desk.proofs.OneClient.{Told-one, of_serve, same_served}
+use Rattle.timer_desk.proofs.ReportOfOne.{Told-one, of_serve, same_served}
 use Rattle.timer_desk.proofs.desk.Desk.serve.Goals as goal
 
 pub invariant_of-self : goal.invariant_of-self

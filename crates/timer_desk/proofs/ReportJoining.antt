@@ -18,7 +18,7 @@ use Rattle.timer_desk.specs.Extends.{Extends, Extends-refl, Extends-front, Exten
 use Rattle.timer_desk.specs.Report.{Side, got_but_held, held_list, is_held, held_after_serve, held_after, may_hold, HeldIsLast, Tells, Runs, asked, words, flushed, events, outs, asked_in, words_in, events_in, outs_in}
 use Rattle.timer_desk.specs.Right.{AtEach, IsRightServe, IsRightMember, IsNeeded, outbox_after, pending_after, IsRight, IsRightClose}
 use Rattle.timer_desk.specs.Desk.{DeskState, clients_of, side_at, ToldSides, Told, AreInTime, AreOwed, AreBehind}
-use Rattle.timer_desk.proofs.HeldLemmas.{got_but_held_is}
+use Rattle.timer_desk.proofs.ReportHeld.{got_but_held_is}
 
 flushed-append : (c : ℕ) (r q : List Done) → flushed c (r ++ q) ≡ flushed c r + flushed c q
 flushed-append c [] q = omega arith

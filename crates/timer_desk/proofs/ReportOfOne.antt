@@ -17,9 +17,9 @@ use Rattle.timer_desk.specs.Extends.{Extends, Extends-refl}
 use Rattle.timer_desk.specs.Report.{Side, side_of, got_but_held, held_list, is_held, HeldIsLast, left_of, Tells, Runs, asked, asked_in, request_in, words, words_in, word_in, flushed, flushed_in, held_after, held_after_serve, events}
 use Rattle.timer_desk.specs.Right.{AtEach, IsRight, IsRightServe, IsRightMember, IsNeeded, IsRightClose, outbox_after, pending_after}
 use Rattle.timer_desk.specs.Desk.{DeskState, IsDesk, Told, AreInTime}
-use Rattle.timer_desk.proofs.Joining.{not_held, moved}
+use Rattle.timer_desk.proofs.ReportJoining.{not_held, moved}
 use Rattle.timer_desk.proofs.HandingLemmas.{desk_of}
-use Rattle.timer_desk.proofs.HeldLemmas.{got_but_held_is}
+use Rattle.timer_desk.proofs.ReportHeld.{got_but_held_is}
 
 either : (b : Bool) → (b ≡ true) ⊎ (b ≡ false)
 either b = elim b as (λ v. (v ≡ true) ⊎ (v ≡ false)) [ true ↦ inl refl | false ↦ inr refl ]
@@ -199,7 +199,7 @@ module _ {I : Type 0} (got standing : I → List Numbered) (given : I → List W
           let none_went : flushed k (done ∷ []) ≡ 0 = let f0 = o.none_flushed k other in omega arith in
           record { served = o.is_right k _ _ _ _ other; needed = λ is. absurd (o.no_serve k other is); room = omega arith }
 
-  -- where the line and the backlog of client c are unchanged, a serve took nothing
+  -- where the line of client c has got nothing more, no line has
   pub got-one : (c : ℕ) (inlets : List I) (i i' : I) → c < length inlets → i ≡ get_or inlets c i → got i' ≡ got i → (k : ℕ) (j : I) → got (get_or (slice_set inlets c i') k j) ≡ got (get_or inlets k j)
   got-one c inlets i i' low is_i e k j = at (either (c == k))
     where
