@@ -93,7 +93,7 @@ both_second false b e = absurd (cc)
 no_timer : (t : Timer) → None ≡ Some t → ⊥
 no_timer t e = cc
 
--- a timer that is looked up has the serial it was looked up by
+-- a timer that a look finds is also found by its own serial
 found_at : (now last : ℕ) (ts : List Timer) (h : Handle) (t : Timer) → AreRising 0 ts → timer_at h (plain_state now last ts) ≡ Some t → find (is_pending_with now t.serial) ts ≡ Some t
 found_at now last ts h t r f = elim (cases_eq h.place 0) [
   | inl z ↦

@@ -51,6 +51,6 @@ abbrev pub AreBelow : ℕ → List Timer → Type 0
 AreBelow high [] = Unit {0}
 AreBelow high (t ∷ ts) = (t.serial < high) × AreBelow high ts
 
--- a timer as its own key
+-- the timer of a timer
 abbrev pub itself : Timer → Timer
 itself t = t

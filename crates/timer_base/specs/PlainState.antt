@@ -68,7 +68,8 @@ timers_of-at_first_place (t ∷ ts) = ap (λ r. t ∷ r) (timers_of-at_first_pla
 kept_is_pending : (now last_serial : ℕ) (t : Timer) → is_after now t ≡ true → IsKept now last_serial t → IsPending LAST now last_serial t
 kept_is_pending now last_serial t h k = record { later = grind (arith, nat_tests); in_range = k.in_range; serial = k.serial }
 
-pub plain_state-well_formed : (now last_serial : ℕ) (ts : List Timer) → now ≤ LAST → last_serial ≤ LAST → AreRising 0 ts → AllByRecursion (IsKept now last_serial) ts → IsWellFormed (plain_state now last_serial ts)
+pub plain_state-well_formed : (now last_serial : ℕ) (ts : List Timer) → now ≤ LAST → last_serial ≤ LAST → AreRising 0 ts
+    → AllByRecursion (IsKept now last_serial) ts → IsWellFormed (plain_state now last_serial ts)
 plain_state-well_formed now last_serial ts n l r k =
     let pending : List Timer = filter (is_after now) ts in
     let same : timers_of (map at_first_place (in_order itself pending)) ≡ in_order itself pending = timers_of-at_first_place (in_order itself pending) in

@@ -34,14 +34,16 @@ passes_none most w e = record {
 }
 
 -- the clock is at its end where all that was left of it was passed
-at_the_end : (passed : ℕ) (old new : WheelState) → new ≡ after_ticks passed old → passed ≡ old.last_tick - old.now → old.now ≤ old.last_tick → new.now ≡ new.last_tick
+at_the_end : (passed : ℕ) (old new : WheelState) → new ≡ after_ticks passed old → passed ≡ old.last_tick - old.now
+    → old.now ≤ old.last_tick → new.now ≡ new.last_tick
 at_the_end passed old new t p b =
     let now : new.now ≡ old.now + passed = ap (λ (w : WheelState). w.now) t ∙ after_ticks-now passed old in
     let last : new.last_tick ≡ old.last_tick = ap (λ (w : WheelState). w.last_tick) t ∙ after_ticks-last passed old in
     omega arith
 
 -- a wheel's advance by at most what is left of the clock, with the serial counted beside it
-pub advanced : (most asked passed serial : ℕ) (old new v : WheelState) → numbered serial old ≡ v → asked ≡ min most (old.last_tick - old.now) → 0 < asked
+pub advanced : (most asked passed serial : ℕ) (old new v : WheelState) → numbered serial old ≡ v
+    → asked ≡ min most (old.last_tick - old.now) → 0 < asked
     → old.now ≤ old.last_tick → Advances asked passed old new → Passes most passed v (numbered serial new)
 advanced most asked passed serial old new v e least more b a =
     let low : passed ≤ asked = a.at_most in
@@ -58,7 +60,8 @@ advanced most asked passed serial old new v e least more b a =
     subst (λ (w : WheelState). Passes most passed w (numbered serial new)) e here
 
 -- a wheel that was advanced has the same last serial
-pub still_counted : (asked passed serial : ℕ) (old new : WheelState) → Advances asked passed old new → old.last_serial ≤ serial → new.last_serial ≤ serial
+pub still_counted : (asked passed serial : ℕ) (old new : WheelState) → Advances asked passed old new → old.last_serial ≤ serial
+    → new.last_serial ≤ serial
 still_counted asked passed serial old new a h =
     let e : new.last_serial ≡ old.last_serial = ap (λ (w : WheelState). w.last_serial) a.ticked ∙ after_ticks-serial passed old in
     omega arith

@@ -14,7 +14,7 @@ pub enum StartFault {
     OutOfMemory,
 }
 
-/// Why no timer was restarted. The old one is as it was.
+/// Why no timer was restarted. The old one is unchanged.
 #[derive(Clone, Copy, Debug, PartialEq, Eq, Error)]
 pub enum RestartFault {
     #[error("no pending timer has this handle")]

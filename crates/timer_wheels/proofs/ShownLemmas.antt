@@ -62,7 +62,7 @@ among-without_deadline : (serial : ℕ) (es : List Entry) → IsNotAmong serial 
 among-without_deadline serial [] n = tt
 among-without_deadline serial (e ∷ es) n = (n.0, among-without_deadline serial es n.1)
 
--- the order by serial is unique, whatever the order before
+-- the order by serial does not depend on the order before
 by_serial-in_order : (es : List Entry) → AreDistinct (map timer_of es) → by_serial (in_order timer_of es) ≡ by_serial es
 by_serial-in_order [] d = refl
 by_serial-in_order (e ∷ es) d =
