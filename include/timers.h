@@ -4,56 +4,56 @@
  *     timers_new, timers_free - make and free timers
  *     timers_start, timers_restart, timers_stop - START_TIMER, RESTART, STOP_TIMER
  *     timers_tick, timers_advance - pass ticks
- *     timers_expire, timers_expire_batch - take the timers that expired
- *     timers_now, timers_len, timers_has_due, timers_wakeup - look
+ *     timers_expire, timers_expire_batch - take expired timers
+ *     timers_now, timers_len, timers_has_due, timers_wakeup - read the state
  *
  * SYNOPSIS
  *     #include <timers.h>
  *     cc prog.c $(pkg-config --cflags --libs timers)
  *
  * DESCRIPTION
- *     A `struct timers` owns timers and a clock of ticks. What a tick is, is the caller's choice: a
- *     millisecond, a frame, a retransmission unit. A timer is started with an interval in ticks and a word,
- *     its action. The clock goes on by timers_tick and timers_advance alone. A timer whose deadline is
- *     the present tick has expired: it is pending no more, and waits until timers_expire takes it.
+ *     A `struct timers` owns timers and a clock of ticks. The length of a tick is the caller's choice: a
+ *     millisecond, a frame, a retransmission unit. A timer is started with an interval in ticks and a value,
+ *     its action. Only timers_tick and timers_advance advance the clock. A timer whose deadline is the
+ *     present tick has expired: it is no longer pending, and waits until timers_expire takes it.
  *     Timers expire in the order of their deadlines, and those of one deadline in the order of their starts.
- *     While some that expired wait, others may be started, restarted and stopped, as by the work that
- *     the first one expired for; only the clock stands still until all of them are taken (TIMERS_DUE).
+ *     While expired timers wait, others may be started, restarted and stopped, for instance by the work
+ *     that the first of them triggers; only the clock stands still until all of them are taken (TIMERS_DUE).
  *
- *     Start, restart, stop and expire cost constant time; a tick costs what expires at it and what goes
- *     to a lower wheel, and timers_advance skips stretches at which nothing happens. Only timers_new and
- *     timers_start allocate.
+ *     Start, restart, stop and expire take constant time; a tick takes time for the timers that expire at
+ *     it and those that move to a lower wheel, and timers_advance skips stretches in which nothing happens.
+ *     Only timers_new and timers_start allocate.
  *
  *     The library is proved: each function meets the contract stated in crates/timer_c/src/exports.rt, for
  *     every call that keeps the rules below. Nothing checks that a caller keeps them.
  *
  * RULES
  *     1. A `struct timers` begins as TIMERS_INIT, or with all its bytes 0: static storage, calloc and
- *        memset will do. Only these functions write it. It is not copied, since it owns memory; it may
- *        be moved by a memcpy after which the old one is not used. To every function, timers_new as well,
- *        uninitialised memory may not be given: whether it owns timers could not be told.
+ *        memset will do. Only these functions write it. It must not be copied, since it owns memory; it
+ *        may be moved by a memcpy after which the old one is not used. No function, timers_new included,
+ *        may be given uninitialised memory: it could not be known whether that owns timers.
  *     2. A pointer argument is not NULL and points to an object of its type that this call alone uses;
  *        no two arguments of one call overlap.
  *     3. Where an argument is only written (handle, restarted, action, passed, out), the object may be
- *        uninitialised: it has integers alone, so that any bits are a value, and no function reads it.
- *        It is written exactly where the function says so, and otherwise left as it was.
- *     4. Calls on one `struct timers` come one at a time. It may go from thread to thread, by a lock
- *        or by a thread's start or join. Calls on two of them are independent.
- *     5. malloc, realloc and free are one allocator, and align as C asks. Link with no other definition of
+ *        uninitialised: it has only integers, so that any bits are a value, and no function reads it.
+ *        It is written exactly where the function says so, and otherwise unchanged.
+ *     4. Calls on one `struct timers` come one at a time. It may be handed from thread to thread, by a
+ *        lock or by a thread's start or join. Calls on two of them are independent.
+ *     5. malloc, realloc and free are one allocator, and align as C requires. Link with no other definition of
  *        rattle_alloc, rattle_dealloc and rattle_realloc than the library's.
  *     6. No call comes from a signal handler, or from the forked child of a process with threads.
  *
- *     Nothing else is asked. A call before timers_new, after timers_free, or in the wrong order
+ *     Nothing else is required. A call before timers_new, after timers_free, or in the wrong order
  *     returns a status and changes nothing.
  *
  * HANDLES
- *     A handle names a timer of the `struct timers` that gave it, and of no other. It is dead once its
- *     timer was stopped, restarted or has expired, and never names another timer: the next serial is
- *     kept over timers_free and timers_new. (A struct that is set to TIMERS_INIT anew has forgotten it.)
+ *     A handle names a timer of the `struct timers` that returned it, and of no other. It is dead once its
+ *     timer was stopped, restarted or has expired, and never names another timer: serials continue
+ *     after timers_free and timers_new. (Setting a struct to TIMERS_INIT again resets them.)
  *
  * STATUS
- *     Each call that can be refused returns one, the first in the order that the function's comment
- *     gives. At any but TIMERS_OK nothing has changed, in the timers or in what the arguments point to.
+ *     Each call that can fail returns one: the first that applies, in the order of the function's comment.
+ *     At any but TIMERS_OK nothing has changed, in the timers or in what the arguments point to.
  */
 #ifndef TIMERS_H
 #define TIMERS_H
@@ -71,8 +71,8 @@ enum timers_status {
 	TIMERS_NOT_OPEN = 1,       /* it holds no timers: timers_new was not called, or timers_free was since */
 	TIMERS_OPEN = 2,           /* it holds timers already */
 	TIMERS_NO_TABLE = 3,       /* the table is none of enum timers_table */
-	TIMERS_NO_MEMORY = 4,      /* malloc or realloc returned NULL, or about 4.29 billion timers are there */
-	TIMERS_DUE = 5,            /* a timer that expired was not yet taken: call timers_expire */
+	TIMERS_NO_MEMORY = 4,      /* malloc or realloc returned NULL, or it has about 4.29 billion timers */
+	TIMERS_DUE = 5,            /* an expired timer was not yet taken: call timers_expire */
 	TIMERS_NOT_PENDING = 6,    /* no pending timer has this handle */
 	TIMERS_ZERO_INTERVAL = 7,  /* the interval is 0 */
 	TIMERS_TOO_LATE = 8,       /* the deadline, or the first tick, is after the last tick */
@@ -98,7 +98,7 @@ struct timers {
 };
 #define TIMERS_INIT { NULL, 0, 0 }
 
-/* How a timer is named. Both fields are free to be read, stored and compared. */
+/* The name of a timer. Both fields may be read, stored and compared. */
 struct timer_handle {
 	size_t place;
 	uint64_t serial;
@@ -107,16 +107,16 @@ struct timer_handle {
 struct timer_expired {
 	uint64_t deadline;   /* the tick at which it expired */
 	uint64_t serial;     /* that of its handle */
-	uint64_t action;     /* the word that its start or restart handed over */
+	uint64_t action;     /* the action that its start or restart was given */
 };
 
 /* Makes timers with this table (enum timers_table), none of them pending, at the first tick. `t` holds them
- * until timers_free. It begins as TIMERS_INIT or as 0 bytes (rule 1).
+ * until timers_free. It must begin as TIMERS_INIT or as 0 bytes (rule 1).
  * TIMERS_OPEN, TIMERS_NO_TABLE, TIMERS_TOO_LATE, TIMERS_NO_MEMORY. */
 enum timers_status timers_new(struct timers *t, uint32_t table, uint64_t first_tick);
 
-/* Frees the timers, if it holds any: what is pending or has expired is forgotten. timers_new may
- * follow. Does nothing where it holds none, so twice is as good as once. */
+/* Frees the timers, if it holds any: pending and expired ones are dropped. timers_new may follow. Does
+ * nothing where it holds none, so it may be called twice. */
 void timers_free(struct timers *t);
 
 /* Starts a timer that expires after `interval` ticks, 1 or more, and hands `action` back with it.
@@ -124,8 +124,8 @@ void timers_free(struct timers *t);
  * TIMERS_NOT_OPEN, TIMERS_ZERO_INTERVAL, TIMERS_TOO_LATE, TIMERS_SERIALS_SPENT, TIMERS_NO_MEMORY. */
 enum timers_status timers_start(struct timers *t, uint64_t interval, uint64_t action, struct timer_handle *handle);
 
-/* Stops the pending timer with this handle and starts another in its stead, as timers_start. A refusal
- * leaves the old one pending. Writes `*restarted`, the new handle, at TIMERS_OK: `handle` is dead then. Does
+/* Stops the pending timer with this handle and starts another in its place, as timers_start. On failure
+ * the old one stays pending. Writes `*restarted`, the new handle, at TIMERS_OK: `handle` is dead then. Does
  * not allocate.
  * TIMERS_NOT_OPEN, TIMERS_NOT_PENDING, TIMERS_ZERO_INTERVAL, TIMERS_TOO_LATE, TIMERS_SERIALS_SPENT. */
 enum timers_status timers_restart(struct timers *t, struct timer_handle handle, uint64_t interval, uint64_t action,
@@ -135,7 +135,7 @@ enum timers_status timers_restart(struct timers *t, struct timer_handle handle, 
  * TIMERS_NOT_OPEN, TIMERS_NOT_PENDING. */
 enum timers_status timers_stop(struct timers *t, struct timer_handle handle, uint64_t *action);
 
-/* Goes to the next tick. The timers with that deadline expire, and wait for timers_expire.
+/* Advances the clock by one tick. The timers with that deadline expire, and wait for timers_expire.
  * TIMERS_NOT_OPEN, TIMERS_DUE, TIMERS_CLOCK_END. */
 enum timers_status timers_tick(struct timers *t);
 
@@ -145,30 +145,30 @@ enum timers_status timers_tick(struct timers *t);
  * TIMERS_NOT_OPEN, TIMERS_DUE, TIMERS_CLOCK_END. */
 enum timers_status timers_advance(struct timers *t, uint64_t most, uint64_t *passed);
 
-/* Takes the first of the timers that expired, in the order of their starts. Returns whether there was one, and
- * writes `*out` exactly then. Never where it holds none. */
+/* Takes the first of the expired timers, in the order of their starts. Returns whether there was one, and
+ * writes `*out` exactly then. false where it holds none. */
 bool timers_expire(struct timers *t, struct timer_expired *out);
 
-/* Takes the first of the timers that expired, as many as there are and as fit into out[0] to out[room - 1].
- * Returns how many, and writes so many of `out`. `out` is not NULL, also where `room` is 0. 0 where it holds none. */
+/* Takes the first of the expired timers, as many as there are and as fit into out[0] to out[room - 1]. Returns
+ * how many, and writes that many of `out`. `out` must not be NULL, even where `room` is 0. 0 where it holds none. */
 size_t timers_expire_batch(struct timers *t, struct timer_expired *out, size_t room);
 
-/* Whether a timer expired and was not yet taken. false where it holds none. */
+/* Whether an expired timer was not yet taken. false where it holds none. */
 bool timers_has_due(struct timers *t);
 
 /* The present tick. 0 where it holds none. */
 uint64_t timers_now(struct timers *t);
 
-/* How many timers are pending. What expired is not counted, taken or not. 0 where it holds none. */
+/* How many timers are pending. Expired timers are not counted. 0 where it holds none. */
 size_t timers_len(struct timers *t);
 
 /* The tick until which the caller may sleep: the present one where an expired timer waits to be taken,
  * TIMERS_NEVER where nothing is pending (or it holds none), and otherwise a tick after the present one, at
- * most the first deadline, before which nothing expires. Ask again once the clock is there: it may be
+ * most the first deadline, before which nothing expires. Call it again once the clock is there: it may be
  * before the first deadline, as the wheels don't search for that. */
 uint64_t timers_wakeup(struct timers *t);
 
-/* What a status says, for messages. */
+/* The text of a status, for messages. */
 static inline const char *timers_message(enum timers_status status)
 {
 	switch (status) {

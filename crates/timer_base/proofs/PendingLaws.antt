@@ -1,4 +1,4 @@
--- The laws of the pending timers: a tick cuts the front, a start keeps the order, and a stop takes one.
+-- Lemmas about the pending timers: a tick removes the front, a start keeps the order, and a stop removes one.
 use Rattle.std.proofs.Common.{◌≡◌, ◌≢◌, ◌<◌, ◌≤◌, ◌+◌, ℕ, Bool, true, false, ◌⊎◌, List, [], ◌∷◌, ◌++◌, length, refl, sym, ◌∙◌, ap, inl, inr, arith}
 use Rattle.std.specs.Prelude.{Some}
 use Rattle.std.specs.List.{AllByRecursion}
@@ -78,7 +78,7 @@ found_serial_step : (test : Entry → Bool) (n : ℕ) (e : Entry) (t : Timer) (e
 found_serial_step test n e t es ih (inl h) f a = let same : e.timer ≡ t = same_some e.timer t (rw h at f) in rw (← same) a.0
 found_serial_step test n e t es ih (inr h) f a = ih (rw h at f) a.1
 
--- what is found has another serial than each of those that the list has not
+-- what is found in a list has a serial different from that of any timer that is not in it
 found_serial : (test : Entry → Bool) (n : ℕ) (t : Timer) (es : List Entry) → first_timer test es ≡ Some t → IsNotAmong n (timers_of es) → t.serial ≢ n
 found_serial test n t [] f a = absurd (cc)
 found_serial test n t (e ∷ es) f a = found_serial_step test n e t es (found_serial test n t es) (either (test e)) f a

@@ -1,4 +1,4 @@
--- What taking the first due timer does to what a `PlainWheel` means.
+-- How removing the first due timer changes the state of a `PlainWheel`.
 use Rattle.std.proofs.Common.{◌≡◌, ◌≢◌, ◌<◌, ◌≤◌, ◌-◌, ℕ, Bool, true, false, not, ◌⊎◌, List, [], ◌∷◌, length, refl, sym, ◌∙◌, ap, inl, inr, arith, drop}
 use Rattle.std.specs.Prelude.{map, filter, find, if◌then◌else◌, Some, None, slice_get}
 use Rattle.std.proofs.lemmas.Bool.Decides.{nat_tests}
@@ -81,7 +81,7 @@ stay_step p q low t f ts x ih (inr h) e r =
     let other : t.serial ≢ f.serial = omega arith in
     rw (other_serial t f.serial other) (ap (λ us. if q t then t ∷ us else us) (ih e' r.1))
 
--- the first that passes is taken out of those that pass
+-- the first that satisfies the test is removed from those that do
 taken_out : (p : Timer → Bool) (low : ℕ) (f : Timer) (ts : List Timer) → find p ts ≡ Some f → AreRising low ts → filter p (filter (λ t. not (has_serial f.serial t)) ts) ≡ drop 1 (filter p ts)
 taken_out p low f [] e r = refl
 taken_out p low f (t ∷ ts) e r = taken_step p low t f ts (taken_out p t.serial f ts) (either (p t)) e r

@@ -1,4 +1,4 @@
--- Looking a timer of a `PlainWheel` up, and taking it away.
+-- Looking up a timer of a `PlainWheel`, and removing it.
 use Rattle.std.proofs.Common.{◌≡◌, ◌≢◌, ◌<◌, ◌≤◌, ℕ, Bool, true, false, not, ◌&&◌, ◌==◌, List, [], ◌∷◌, length, refl, sym, ◌∙◌, ap, inl, inr, arith}
 use Rattle.std.specs.Prelude.{slice_get, map, filter, find, if◌then◌else◌, Some, None}
 use Rattle.std.proofs.lemmas.Bool.{cases_eq}
@@ -93,7 +93,7 @@ both_second false b e = absurd (cc)
 no_timer : (t : Timer) → None ≡ Some t → ⊥
 no_timer t e = cc
 
--- a timer that is looked up stands there under its own serial
+-- a timer that a look finds is also found by its own serial
 found_at : (now last : ℕ) (ts : List Timer) (h : Handle) (t : Timer) → AreRising 0 ts → timer_at h (plain_state now last ts) ≡ Some t → find (is_pending_with now t.serial) ts ≡ Some t
 found_at now last ts h t r f = elim (cases_eq h.place 0) [
   | inl z ↦

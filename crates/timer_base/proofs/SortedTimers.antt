@@ -1,4 +1,4 @@
--- What a sort by deadline and serial gives is ordered.
+-- The result of a sort by deadline and serial is ordered.
 use Rattle.std.proofs.Common.{◌≡◌, ◌+◌, ℕ, suc, false, List, [], ◌∷◌, get_or, sym, ◌∙◌, arith}
 use Rattle.std.specs.List.Sorted.{IsPermutation, IsSortedBy, IsSortedByKey}
 use Rattle.std.specs.Ordering.{nat_cmp, ordering_then, is_lt}
@@ -7,7 +7,7 @@ use Rattle.timer_base.specs.declared.timer.Timer.{Timer}
 use Rattle.timer_base.specs.Order.{is_before, in_order, itself, IsFirst, IsOrdered, AreDistinct}
 use Rattle.timer_base.specs.OneOrder.{ordered_is_in_order, map-itself}
 
--- what a sort goes by
+-- the sort key
 abbrev pub key_of : Timer → ℕ × ℕ
 key_of t = (t.deadline, t.serial)
 
@@ -38,6 +38,6 @@ sorted_is_ordered (t ∷ u ∷ us) s =
 pub by_key : (ts : List Timer) → IsSortedByKey key_of (λ x y. ordering_then (nat_cmp x.0 y.0) (nat_cmp x.1 y.1)) ts → IsSortedBy is_before ts
 by_key ts s = λ k d l h. sym (key_is_before (get_or ts (k + 1) d) (get_or ts k d)) ∙ s k d l h
 
--- what a sort of distinct timers gives
+-- the result of a sort of distinct timers
 pub sorted_in_order : (old new : List Timer) → IsPermutation old new → AreDistinct old → IsSortedByKey key_of (λ x y. ordering_then (nat_cmp x.0 y.0) (nat_cmp x.1 y.1)) new → new ≡ in_order itself old
 sorted_in_order old new p d s = ordered_is_in_order itself old new p (rw (map-itself old) d) (rw (map-itself new) (sorted_is_ordered new (by_key new s)))

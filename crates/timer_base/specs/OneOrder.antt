@@ -1,4 +1,4 @@
--- A list of distinct timers can be put in order in one way only.
+-- The order of distinct timers is unique.
 use Rattle.std.specs.Prelude.{◌≡◌, ◌≢◌, ◌≤◌, ◌+◌, ℕ, true, false, ◌==◌, ◌⊎◌, if◌then◌else◌, List, [], ◌∷◌, map, refl}
 use Rattle.std.proofs.Common.{sym, ◌∙◌, ap, subst, inl, inr, arith}
 use Rattle.std.specs.List.{AllByRecursion, sum_by}
@@ -12,7 +12,7 @@ use Rattle.timer_base.specs.Order.{is_before, insert_in_order, in_order, itself,
 use Rattle.timer_base.specs.OrderLaws.{either, All-weaken, All-in_order, IsOrdered-in_order, AreDistinct-in_order, map-in_order}
 use Rattle.timer_base.specs.Pending.{Entry, timer_of, timers_of}
 
--- z stands in the list
+-- z is a member of the list
 abbrev pub IsMember : {X : Type 0} → X → List X → Type 0
 IsMember z [] = ⊥
 IsMember z (x ∷ xs) = (x ≡ z) ⊎ IsMember z xs
@@ -22,9 +22,10 @@ pub record HaveSameMembers {X : Type 0} (xs ys : List X) : Type 0 where
   pub into : AllByRecursion (λ z. IsMember z ys) xs
   pub back : AllByRecursion (λ z. IsMember z xs) ys
 
--- What holds of each member holds of one.
+-- What holds of every member holds of a given one.
 
-from_first : {X : Type 0} (timer : X → Timer) (t : Timer) (z : X) (ys : List X) → IsFirst t (map timer ys) → IsMember z ys → is_before (timer z) t ≡ false
+from_first : {X : Type 0} (timer : X → Timer) (t : Timer) (z : X) (ys : List X) → IsFirst t (map timer ys) → IsMember z ys
+    → is_before (timer z) t ≡ false
 from_first timer t z [] f m = absurd m
 from_first {X} timer t z (y ∷ ys) f (inl e) = let P : X → Type 0 = λ w. is_before (timer w) t ≡ false in subst P e f.0
 from_first timer t z (y ∷ ys) f (inr m) = from_first timer t z ys f.1 m
@@ -39,24 +40,28 @@ neither a b n h k = grind (arith, nat_tests)
 
 -- Two ordered lists of the same distinct members are equal.
 
-same_heads : {X : Type 0} (timer : X → Timer) (x y : X) (xs ys : List X) → IsFirst (timer x) (map timer xs) → IsFirst (timer y) (map timer ys) → IsNotAmong (timer y).serial (map timer ys) → IsMember x (y ∷ ys) → IsMember y (x ∷ xs) → x ≡ y
+same_heads : {X : Type 0} (timer : X → Timer) (x y : X) (xs ys : List X) → IsFirst (timer x) (map timer xs)
+    → IsFirst (timer y) (map timer ys) → IsNotAmong (timer y).serial (map timer ys) → IsMember x (y ∷ ys) → IsMember y (x ∷ xs) → x ≡ y
 same_heads timer x y xs ys f g n (inl e) m = sym e
 same_heads timer x y xs ys f g n (inr l) (inl e) = e
 same_heads timer x y xs ys f g n (inr l) (inr m) =
     absurd (neither (timer x) (timer y) (from_others timer (timer y).serial x ys n l) (from_first timer (timer y) x ys g l) (from_first timer (timer x) y xs f m))
 
-not_the_head : {X : Type 0} (timer : X → Timer) (x y z : X) (ys : List X) → x ≡ y → (timer z).serial ≢ (timer x).serial → IsMember z (y ∷ ys) → IsMember z ys
+not_the_head : {X : Type 0} (timer : X → Timer) (x y z : X) (ys : List X) → x ≡ y → (timer z).serial ≢ (timer x).serial
+    → IsMember z (y ∷ ys) → IsMember z ys
 not_the_head timer x y z ys e n (inl h) = absurd (n (ap (λ w. (timer w).serial) (sym (e ∙ h))))
 not_the_head timer x y z ys e n (inr m) = m
 
-without_head : {X : Type 0} (timer : X → Timer) (x y : X) (xs ys : List X) → x ≡ y → IsNotAmong (timer x).serial (map timer xs) → AllByRecursion (λ z. IsMember z (y ∷ ys)) xs → AllByRecursion (λ z. IsMember z ys) xs
+without_head : {X : Type 0} (timer : X → Timer) (x y : X) (xs ys : List X) → x ≡ y → IsNotAmong (timer x).serial (map timer xs)
+    → AllByRecursion (λ z. IsMember z (y ∷ ys)) xs → AllByRecursion (λ z. IsMember z ys) xs
 without_head timer x y [] ys e n a = tt
 without_head timer x y (z ∷ zs) ys e n a = (not_the_head timer x y z ys e n.0 a.0, without_head timer x y zs ys e n.1 a.1)
 
 same_tails : {X : Type 0} (x y : X) (xs ys : List X) → x ≡ y → xs ≡ ys → x ∷ xs ≡ y ∷ ys
 same_tails x y xs ys e h = cc
 
-pub one_order : {X : Type 0} (timer : X → Timer) (xs ys : List X) → IsOrdered (map timer xs) → IsOrdered (map timer ys) → AreDistinct (map timer xs) → AreDistinct (map timer ys)
+pub one_order : {X : Type 0} (timer : X → Timer) (xs ys : List X) → IsOrdered (map timer xs) → IsOrdered (map timer ys)
+    → AreDistinct (map timer xs) → AreDistinct (map timer ys)
     → AllByRecursion (λ z. IsMember z ys) xs → AllByRecursion (λ z. IsMember z xs) ys → xs ≡ ys
 one_order timer [] [] o p d e a b = refl
 one_order timer [] (y ∷ ys) o p d e a b = absurd b.0
@@ -80,7 +85,8 @@ inserted_is_member timer x (y ∷ ys) = elim (either (is_before (timer x) (timer
   | inr k ↦ rw k (inr (inserted_is_member timer x ys))
 ]
 
-rest_is_member : {X : Type 0} (timer : X → Timer) (x z y : X) (ys : List X) → (IsMember z ys → IsMember z (insert_in_order timer x ys)) → IsMember z (y ∷ ys) → IsMember z (y ∷ insert_in_order timer x ys)
+rest_is_member : {X : Type 0} (timer : X → Timer) (x z y : X) (ys : List X) → (IsMember z ys → IsMember z (insert_in_order timer x ys))
+    → IsMember z (y ∷ ys) → IsMember z (y ∷ insert_in_order timer x ys)
 rest_is_member timer x z y ys ih (inl e) = inl e
 rest_is_member timer x z y ys ih (inr m) = inr (ih m)
 
@@ -103,7 +109,7 @@ each_is_among xs ys p =
 pub same_members : {X : Type 0} (xs ys : List X) → IsPermutation xs ys → HaveSameMembers xs ys
 same_members xs ys p = record { into = each_is_among ys xs (IsPermutation-sym xs ys p); back = each_is_among xs ys p }
 
--- A permutation of distinct timers is distinct: each serial stands in it as often.
+-- A permutation of distinct timers is distinct: each serial occurs in it as often.
 
 abbrev one_at : ℕ → ℕ → ℕ
 one_at k n = if n == k then 1 else 0
@@ -117,7 +123,8 @@ one_same k n h = grind (arith, nat_tests)
 one_other : (k n : ℕ) → n ≢ k → one_at k n ≡ 0
 one_other k n h = grind (arith, nat_tests)
 
-times-cons : {X : Type 0} (timer : X → Timer) (k : ℕ) (x : X) (xs : List X) → times_of timer k (x ∷ xs) ≡ one_at k (timer x).serial + times_of timer k xs
+times-cons : {X : Type 0} (timer : X → Timer) (k : ℕ) (x : X) (xs : List X)
+    → times_of timer k (x ∷ xs) ≡ one_at k (timer x).serial + times_of timer k xs
 times-cons timer k x xs = sum_by-cons (λ z. one_at k (timer z).serial) x xs
 
 no_times : {X : Type 0} (timer : X → Timer) (k : ℕ) (xs : List X) → IsNotAmong k (map timer xs) → times_of timer k xs ≡ 0
@@ -154,23 +161,27 @@ distinct_from timer (x ∷ xs) a = (
   distinct_from timer xs (λ k. omega (arith, a k, times-cons timer k x xs)),
 )
 
-pub AreDistinct-permuted : {X : Type 0} (timer : X → Timer) (xs ys : List X) → IsPermutation xs ys → AreDistinct (map timer xs) → AreDistinct (map timer ys)
+pub AreDistinct-permuted : {X : Type 0} (timer : X → Timer) (xs ys : List X) → IsPermutation xs ys → AreDistinct (map timer xs)
+    → AreDistinct (map timer ys)
 AreDistinct-permuted timer xs ys p d =
     distinct_from timer ys (λ k. omega (arith, sum_by-IsPermutation (λ z. one_at k (timer z).serial) xs ys p, once_at_most timer k xs d))
 
 -- The laws.
 
 -- two ordered lists of the same distinct timers are equal
-pub the_order_is_one : {X : Type 0} (timer : X → Timer) (xs ys : List X) → IsPermutation xs ys → AreDistinct (map timer xs) → IsOrdered (map timer xs) → IsOrdered (map timer ys) → xs ≡ ys
+pub the_order_is_one : {X : Type 0} (timer : X → Timer) (xs ys : List X) → IsPermutation xs ys → AreDistinct (map timer xs)
+    → IsOrdered (map timer xs) → IsOrdered (map timer ys) → xs ≡ ys
 the_order_is_one timer xs ys p d o q =
     let m = same_members xs ys p in
     one_order timer xs ys o q d (AreDistinct-permuted timer xs ys p d) m.into m.back
 
-into_order : {X : Type 0} (timer : X → Timer) (xs ys : List X) → AllByRecursion (λ z. IsMember z ys) xs → AllByRecursion (λ z. IsMember z (in_order timer ys)) xs
+into_order : {X : Type 0} (timer : X → Timer) (xs ys : List X) → AllByRecursion (λ z. IsMember z ys) xs
+    → AllByRecursion (λ z. IsMember z (in_order timer ys)) xs
 into_order timer xs ys a = All-weaken (λ z. IsMember z ys) (λ z. IsMember z (in_order timer ys)) xs (λ z m. IsMember-in_order timer z ys m) a
 
 -- what is ordered and a permutation of distinct timers is those in order
-pub ordered_is_in_order : {X : Type 0} (timer : X → Timer) (xs ys : List X) → IsPermutation xs ys → AreDistinct (map timer xs) → IsOrdered (map timer ys) → ys ≡ in_order timer xs
+pub ordered_is_in_order : {X : Type 0} (timer : X → Timer) (xs ys : List X) → IsPermutation xs ys → AreDistinct (map timer xs)
+    → IsOrdered (map timer ys) → ys ≡ in_order timer xs
 ordered_is_in_order timer xs ys p d o =
     let m = same_members xs ys p in
     one_order timer ys (in_order timer xs) o (IsOrdered-in_order timer xs) (AreDistinct-permuted timer xs ys p d) (AreDistinct-in_order timer xs d)
@@ -182,7 +193,8 @@ pub in_order-ordered : {X : Type 0} (timer : X → Timer) (xs : List X) → AreD
 in_order-ordered timer xs d o = sym (ordered_is_in_order timer xs xs (IsPermutation-refl xs) d o)
 
 -- a permutation of distinct timers has the same order
-pub in_order-permuted : {X : Type 0} (timer : X → Timer) (xs ys : List X) → IsPermutation xs ys → AreDistinct (map timer xs) → in_order timer xs ≡ in_order timer ys
+pub in_order-permuted : {X : Type 0} (timer : X → Timer) (xs ys : List X) → IsPermutation xs ys → AreDistinct (map timer xs)
+    → in_order timer xs ≡ in_order timer ys
 in_order-permuted timer xs ys p d =
     let m = same_members xs ys p in
     one_order timer (in_order timer xs) (in_order timer ys) (IsOrdered-in_order timer xs) (IsOrdered-in_order timer ys)

@@ -1,4 +1,4 @@
--- The order of timers: by deadline, and then by serial. What is ordered may be timers, or anything that has one.
+-- The order of timers: by deadline, and then by serial. It orders lists of anything that has a timer.
 use Rattle.std.specs.Prelude.{◌≡◌, ◌≢◌, ◌<◌, ℕ, Bool, false, ◌||◌, ◌&&◌, ◌==◌, nat_lt, if◌then◌else◌, List, [], ◌∷◌}
 use Rattle.timer_base.specs.declared.timer.Timer.{Timer}
 
@@ -6,7 +6,7 @@ use Rattle.timer_base.specs.declared.timer.Timer.{Timer}
 abbrev pub is_before : Timer → Timer → Bool
 is_before a b = nat_lt a.deadline b.deadline || (a.deadline == b.deadline && nat_lt a.serial b.serial)
 
--- x goes before the first one that is handed out after it
+-- x is inserted before the first one that is handed out after it
 abbrev pub insert_in_order : {X : Type 0} → (X → Timer) → X → List X → List X
 insert_in_order timer x [] = x ∷ []
 insert_in_order timer x (y ∷ ys) = if is_before (timer x) (timer y) then x ∷ y ∷ ys else y ∷ insert_in_order timer x ys
@@ -16,7 +16,7 @@ abbrev pub in_order : {X : Type 0} → (X → Timer) → List X → List X
 in_order timer [] = []
 in_order timer (x ∷ xs) = insert_in_order timer x (in_order timer xs)
 
--- x goes before the first one with a later deadline, or last where there is none
+-- x is inserted before the first one with a later deadline, or last where there is none
 abbrev pub insert_by_deadline : {X : Type 0} → (X → Timer) → X → List X → List X
 insert_by_deadline timer x [] = x ∷ []
 insert_by_deadline timer x (y ∷ ys) = if nat_lt (timer x).deadline (timer y).deadline then x ∷ y ∷ ys else y ∷ insert_by_deadline timer x ys
@@ -36,7 +36,7 @@ abbrev pub IsNotAmong : ℕ → List Timer → Type 0
 IsNotAmong serial [] = Unit {0}
 IsNotAmong serial (t ∷ ts) = (t.serial ≢ serial) × IsNotAmong serial ts
 
--- no serial stands twice
+-- no serial occurs twice
 abbrev pub AreDistinct : List Timer → Type 0
 AreDistinct [] = Unit {0}
 AreDistinct (t ∷ ts) = IsNotAmong t.serial ts × AreDistinct ts
@@ -51,6 +51,6 @@ abbrev pub AreBelow : ℕ → List Timer → Type 0
 AreBelow high [] = Unit {0}
 AreBelow high (t ∷ ts) = (t.serial < high) × AreBelow high ts
 
--- a timer that stands alone
+-- the timer of a timer
 abbrev pub itself : Timer → Timer
 itself t = t

@@ -21,7 +21,7 @@ timers_of entries = map timer_of entries
 abbrev pub put : Entry → List Entry → List Entry
 put entry entries = insert_by_deadline timer_of entry entries
 
--- the entry has just this handle, place and serial
+-- the entry has exactly this handle, place and serial
 abbrev pub has_handle : Handle → Entry → Bool
 has_handle handle entry = entry.place == handle.place && entry.timer.serial == handle.serial
 
@@ -33,16 +33,16 @@ has_serial serial t = t.serial == serial
 abbrev pub is_due_at : ℕ → Timer → Bool
 is_due_at tick t = t.deadline == tick
 
--- the first timer whose entry passes the test
+-- the first timer whose entry satisfies the test
 abbrev pub first_timer : (Entry → Bool) → List Entry → Option Timer
 first_timer test [] = None
 first_timer test (entry ∷ entries) = if test entry then Some entry.timer else first_timer test entries
 
--- the entries but for those with this serial
+-- the entries except those with this serial
 abbrev pub without_serial : ℕ → List Entry → List Entry
 without_serial serial entries = filter (λ entry. not (has_serial serial entry.timer)) entries
 
--- the entries but for the timer that was found, if one was
+-- the entries except the timer that was found, if one was
 abbrev pub without_found : Option Timer → List Entry → List Entry
 without_found None entries = entries
 without_found (Some t) entries = without_serial t.serial entries

@@ -1,4 +1,4 @@
--- What timers in order of starting mean as a wheel: those after now are pending, and those at now are due.
+-- The wheel state of a list of timers in order of starting: those after now are pending, and those at now are due.
 use Rattle.std.specs.Prelude.{◌≡◌, ◌≤◌, ℕ, Bool, true, ◌&&◌, nat_lt, min, if◌then◌else◌, List, [], ◌∷◌, Option, Some, None, map, filter, length, refl}
 use Rattle.std.specs.List.{AllByRecursion, AllByRecursion-prop}
 use Rattle.std.specs.Coded.{le_prop}
@@ -24,7 +24,7 @@ is_pending_with tick serial t = has_serial serial t && is_after tick t
 abbrev pub at_first_place : Timer → Entry
 at_first_place t = record { place = 0; timer = t }
 
--- the wheel that the timers are
+-- the wheel state of the timers
 abbrev pub plain_state : ℕ → ℕ → List Timer → WheelState
 plain_state now last_serial timers = record {
   last_tick = LAST;
@@ -68,7 +68,8 @@ timers_of-at_first_place (t ∷ ts) = ap (λ r. t ∷ r) (timers_of-at_first_pla
 kept_is_pending : (now last_serial : ℕ) (t : Timer) → is_after now t ≡ true → IsKept now last_serial t → IsPending LAST now last_serial t
 kept_is_pending now last_serial t h k = record { later = grind (arith, nat_tests); in_range = k.in_range; serial = k.serial }
 
-pub plain_state-well_formed : (now last_serial : ℕ) (ts : List Timer) → now ≤ LAST → last_serial ≤ LAST → AreRising 0 ts → AllByRecursion (IsKept now last_serial) ts → IsWellFormed (plain_state now last_serial ts)
+pub plain_state-well_formed : (now last_serial : ℕ) (ts : List Timer) → now ≤ LAST → last_serial ≤ LAST → AreRising 0 ts
+    → AllByRecursion (IsKept now last_serial) ts → IsWellFormed (plain_state now last_serial ts)
 plain_state-well_formed now last_serial ts n l r k =
     let pending : List Timer = filter (is_after now) ts in
     let same : timers_of (map at_first_place (in_order itself pending)) ≡ in_order itself pending = timers_of-at_first_place (in_order itself pending) in

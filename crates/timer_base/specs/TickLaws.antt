@@ -17,7 +17,7 @@ pub after_ticks-last : (n : ℕ) (w : WheelState) → (after_ticks n w).last_tic
 after_ticks-last zero w = refl
 after_ticks-last (suc n) w = after_ticks-last n w
 
--- so many ticks were passed one by one, and nothing was due
+-- `passed` ticks were passed one by one, and nothing was due
 pub record IsPassing (passed : ℕ) (old now : WheelState) : Type 0 where
   pub ticked : now ≡ after_ticks passed old
   pub quiet : (n : ℕ) → n ≤ passed → (after_ticks n old).due ≡ []
@@ -32,7 +32,8 @@ passing_none old h = record { ticked = refl; quiet = none_yet old h }
 pub nothing_due : (passed : ℕ) (old now : WheelState) → IsPassing passed old now → now.due ≡ []
 nothing_due passed old now p = ap (λ (w : WheelState). w.due) p.ticked ∙ p.quiet passed (omega arith)
 
-pub before_last : (passed most : ℕ) (old now : WheelState) → IsPassing passed old now → passed < most → most ≤ old.last_tick - old.now → now.now < now.last_tick
+pub before_last : (passed most : ℕ) (old now : WheelState) → IsPassing passed old now → passed < most → most ≤ old.last_tick - old.now
+    → now.now < now.last_tick
 before_last passed most old now p h m =
     let a : now.now ≡ old.now + passed = ap (λ (w : WheelState). w.now) p.ticked ∙ after_ticks-now passed old in
     let b : now.last_tick ≡ old.last_tick = ap (λ (w : WheelState). w.last_tick) p.ticked ∙ after_ticks-last passed old in
@@ -41,14 +42,16 @@ before_last passed most old now p h m =
 next : (passed : ℕ) (old now new : WheelState) → IsPassing passed old now → new ≡ after_tick now → new ≡ after_ticks (suc passed) old
 next passed old now new p e = e ∙ ap after_tick p.ticked
 
-at_last : (passed n : ℕ) (old now : WheelState) → IsPassing passed old now → (n ≤ passed) ⊎ (n ≡ suc passed) → (after_ticks (suc passed) old).due ≡ [] → (after_ticks n old).due ≡ []
+at_last : (passed n : ℕ) (old now : WheelState) → IsPassing passed old now → (n ≤ passed) ⊎ (n ≡ suc passed)
+    → (after_ticks (suc passed) old).due ≡ [] → (after_ticks n old).due ≡ []
 at_last passed n old now p (inl h) z = p.quiet n h
 at_last passed n old now p (inr e) z = ap (λ (k : ℕ). (after_ticks k old).due) e ∙ z
 
 which : (passed n : ℕ) → n ≤ passed + 1 → (n ≤ passed) ⊎ (n ≡ suc passed)
 which passed n h = elim (cases_lt n (passed + 1)) [ inl k ↦ inl (omega arith) | inr k ↦ inr (omega arith) ]
 
-pub passing_more : (passed : ℕ) (old now new : WheelState) → IsPassing passed old now → new ≡ after_tick now → new.due ≡ [] → IsPassing (passed + 1) old new
+pub passing_more : (passed : ℕ) (old now new : WheelState) → IsPassing passed old now → new ≡ after_tick now → new.due ≡ []
+    → IsPassing (passed + 1) old new
 passing_more passed old now new p e z =
     let t : new ≡ after_ticks (suc passed) old = next passed old now new p e in
     let s : suc passed ≡ passed + 1 = omega arith in
@@ -64,8 +67,9 @@ none_of (t ∷ ts) f = absurd (f (omega arith))
 pub not_due : (due : List Timer) (has : Bool) → ((has ≡ true → 0 < length due) × (0 < length due → has ≡ true)) → has ≡ false → due ≡ []
 not_due due has f e = none_of due (λ h. let k : has ≡ true = f.1 h in absurd (cc))
 
--- the last tick is that at which something is due
-pub stops_early : (passed most : ℕ) (old now new : WheelState) → IsPassing passed old now → passed < most → new ≡ after_tick now → 0 < length new.due → Advances most (passed + 1) old new
+-- something is due at the last of them
+pub stops_early : (passed most : ℕ) (old now new : WheelState) → IsPassing passed old now → passed < most → new ≡ after_tick now
+    → 0 < length new.due → Advances most (passed + 1) old new
 stops_early passed most old now new p h e d =
     let s : suc passed ≡ passed + 1 = omega arith in
     record {
@@ -110,7 +114,8 @@ due_none tick (e ∷ es) f = rw (not_at tick e.timer f.0) (due_none tick es f.1)
 abbrev at_tick : WheelState → ℕ → WheelState
 at_tick w tick = record w { now = tick }
 
-one_more : (n : ℕ) (w x : WheelState) → w.due ≡ [] → AreAfter (w.now + suc n) w.pending → x ≡ at_tick w (w.now + n) → after_tick x ≡ at_tick w (w.now + suc n)
+one_more : (n : ℕ) (w x : WheelState) → w.due ≡ [] → AreAfter (w.now + suc n) w.pending → x ≡ at_tick w (w.now + n)
+    → after_tick x ≡ at_tick w (w.now + suc n)
 one_more n w x z f e =
     let p : x.pending ≡ w.pending = ap (λ (y : WheelState). y.pending) e in
     let t : x.now ≡ w.now + n = ap (λ (y : WheelState). y.now) e in
@@ -120,7 +125,7 @@ one_more n w x z f e =
     let due : timers_of (entries_due (x.now + 1) x.pending) ≡ [] = ap (λ (y : List Entry). timers_of (entries_due (x.now + 1) y)) p ∙ due_none (x.now + 1) w.pending g in
     cc
 
--- only the clock goes on
+-- only the clock advances
 pub after_ticks-quiet : (n : ℕ) (w : WheelState) → w.due ≡ [] → AreAfter (w.now + n) w.pending → after_ticks n w ≡ at_tick w (w.now + n)
 after_ticks-quiet zero w z f = let e : w.now ≡ w.now + 0 = omega arith in ap (at_tick w) e
 after_ticks-quiet (suc n) w z f = one_more n w (after_ticks n w) z f (after_ticks-quiet n w z (sooner_too (w.now + n) (w.now + suc n) w.pending (omega arith) f))
@@ -136,7 +141,7 @@ pub after_ticks-add : (n m : ℕ) (w : WheelState) → after_ticks (n + m) w ≡
 after_ticks-add n zero w = let e : n + zero ≡ n = omega arith in ap (λ (k : ℕ). after_ticks k w) e
 after_ticks-add n (suc m) w = let e : n + suc m ≡ suc (n + m) = omega arith in ap (λ (k : ℕ). after_ticks k w) e ∙ ap after_tick (after_ticks-add n m w)
 
--- where nothing became due, nothing left
+-- where nothing became due, every timer is still pending
 pub none_left_out : (tick : ℕ) (entries : List Entry) → timers_of (entries_due tick entries) ≡ [] → entries_left tick entries ≡ entries
 none_left_out tick [] e = refl
 none_left_out tick (x ∷ xs) e = elim (either (is_due_at tick x.timer)) [

@@ -1,4 +1,4 @@
--- What a wheel means, and what each call makes of it.
+-- The abstract state of a wheel, and the state after each call.
 use Rattle.std.specs.Prelude.{◌≡◌, ℕ, ◌+◌, ◌<◌, ◌≤◌, zero, suc, List, [], Option, Some, None, drop, slice_get, length}
 use Rattle.std.specs.List.{AllByRecursion}
 use Rattle.timer_base.specs.declared.timer.Timer.{Timer}
@@ -27,15 +27,15 @@ empty_wheel last_tick first_tick = record { last_tick = last_tick; now = first_t
 abbrev pub after_start : ℕ → Timer → WheelState → WheelState
 after_start place timer w = record w { pending = put (record { place = place; timer = timer }) w.pending; last_serial = timer.serial }
 
--- the pending timer with just this handle
+-- the pending timer with exactly this handle
 abbrev pub timer_at : Handle → WheelState → Option Timer
 timer_at handle w = first_timer (has_handle handle) w.pending
 
--- the timer with this handle is taken away, if there is one
+-- the timer with this handle is removed, if there is one
 abbrev pub after_stop : Handle → WheelState → WheelState
 after_stop handle w = record w { pending = without_found (timer_at handle w) w.pending }
 
--- the next tick: what has it as its deadline is due, and is pending no more
+-- the next tick: the timers with that deadline become due, and are no longer pending
 abbrev pub after_tick : WheelState → WheelState
 after_tick w = record w {
   now = w.now + 1;
@@ -43,12 +43,12 @@ after_tick w = record w {
   due = timers_of (entries_due (w.now + 1) w.pending);
 }
 
--- so many ticks, one after the other
+-- that many ticks, one after another
 abbrev pub after_ticks : ℕ → WheelState → WheelState
 after_ticks zero w = w
 after_ticks (suc n) w = after_tick (after_ticks n w)
 
--- of at most so many ticks so many were passed, and nothing was due before the last of them
+-- at most `most` ticks were asked for and `passed` were passed, with nothing due before the last of them
 pub record Advances (most passed : ℕ) (old new : WheelState) : Type 0 where
   pub some : 0 < passed
   pub at_most : passed ≤ most
@@ -60,7 +60,7 @@ pub record Advances (most passed : ℕ) (old new : WheelState) : Type 0 where
 abbrev pub first_due : WheelState → Option Timer
 first_due w = slice_get w.due 0
 
--- the first due timer is taken, if there is one
+-- the first due timer is removed, if there is one
 abbrev pub after_expiry : WheelState → WheelState
 after_expiry w = record w { due = drop 1 w.due }
 
@@ -69,7 +69,7 @@ abbrev pub old_timer : Option (Handle × Timer) → Option Timer
 old_timer None = None
 old_timer (Some r) = Some r.1
 
--- a restart that found its timer takes it away, and starts the new one at the place that it answers
+-- a restart that found its timer removes it, and starts the new one at the place that it returns
 abbrev pub after_restart : Option (Handle × Timer) → Handle → Timer → WheelState → WheelState
 after_restart None handle timer w = w
 after_restart (Some r) handle timer w = after_start r.0.place timer (after_stop handle w)
@@ -84,7 +84,7 @@ pub record IsPending (last_tick now last_serial : ℕ) (t : Timer) : Type 0 wher
   pub in_range : t.deadline ≤ last_tick
   pub serial : t.serial ≤ last_serial
 
--- what every wheel keeps
+-- the invariant of every wheel
 pub record IsWellFormed (w : WheelState) : Type 0 where
   pub last_in_range : w.last_tick ≤ LAST
   pub now_in_range : w.now ≤ w.last_tick

@@ -1,8 +1,7 @@
-//! What follows for every wheel from what a wheel means. Each of these functions does nothing, and
-//! its contract is the law.
+//! Lemmas that hold for every wheel. Each of these functions does nothing: its contract is the lemma.
 //!
-//! The pending timers are one ordered list: a tick takes its front, a start puts one timer in, a stop
-//! takes one out. Timers have one order only, so a wheel has no choice in what it lists or makes due.
+//! The pending timers are one ordered list: a tick removes its front, a start inserts one timer, a stop
+//! removes one. That order is unique, so a wheel has no choice in what it lists or makes due.
 ghost use Rattle.std.specs.Prelude.{◌≡◌, ℕ, ◌+◌, ◌<◌, ◌++◌, List, [], ◌∷◌, Some, length};
 ghost use Rattle.std.specs.List.Sorted.{IsPermutation};
 ghost use Rattle.timer_base.specs.declared.timer.Handle.{Handle};
@@ -13,19 +12,21 @@ ghost use Rattle.timer_base.specs.Pending.{entries_due, entries_left, timer_of};
 ghost use Rattle.timer_base.specs.WakeUps.{IsWakeUp};
 ghost use Rattle.timer_base.specs.WheelState.{IsWellFormed, WheelState, after_start, after_stop, after_ticks, timer_at};
 
-/// What a tick makes due is the front of the pending timers, and the others stay behind it.
+/// A tick makes the front of the pending timers due, and leaves the rest pending.
 pub fn a_tick_cuts_the_front()
     ensures { (w : WheelState) → IsWellFormed w → w.pending ≡ entries_due (w.now + 1) w.pending ++ entries_left (w.now + 1) w.pending }
 {}
 
-/// A start puts the new timer where it belongs in the order of the pending ones.
+/// A start inserts the new timer at its position in the order of the pending ones.
 pub fn a_start_keeps_the_order()
-    ensures { (w : WheelState) (place : ℕ) (t : Timer) → IsWellFormed w → w.last_serial < t.serial → (after_start place t w).pending ≡ in_order timer_of (record { place = place; timer = t } ∷ w.pending) }
+    ensures { (w : WheelState) (place : ℕ) (t : Timer) → IsWellFormed w → w.last_serial < t.serial
+        → (after_start place t w).pending ≡ in_order timer_of (record { place = place; timer = t } ∷ w.pending) }
 {}
 
-/// A stop that finds a timer takes away one timer.
+/// A stop that finds a timer removes just that one.
 pub fn a_stop_takes_one()
-    ensures { (w : WheelState) (handle : Handle) (t : Timer) → IsWellFormed w → timer_at handle w ≡ Some t → length (after_stop handle w).pending + 1 ≡ length w.pending }
+    ensures { (w : WheelState) (handle : Handle) (t : Timer) → IsWellFormed w → timer_at handle w ≡ Some t
+        → length (after_stop handle w).pending + 1 ≡ length w.pending }
 {}
 
 /// Nothing becomes due before a tick to wake up at: it is safe to sleep until then.
@@ -38,7 +39,7 @@ pub fn the_last_number()
     ensures { LAST ≡ 1152921504606846975 }
 {}
 
-/// Distinct timers have one order: two ordered lists of the same timers are equal.
+/// The order of distinct timers is unique: two ordered lists of the same timers are equal.
 pub fn the_order_is_one()
     ensures { (xs ys : List Timer) → IsPermutation xs ys → AreDistinct xs → IsOrdered xs → IsOrdered ys → xs ≡ ys }
 {}

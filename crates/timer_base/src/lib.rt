@@ -1,10 +1,10 @@
-//! What every part of the timer facility speaks of: timers and their handles, what a wheel is, and
-//! the plainest wheel.
+//! The vocabulary of the timer facility: timers and their handles, the trait of a wheel, and the
+//! simplest wheel.
 //!
 //! The layer above knows a wheel by the trait [`Wheel`] alone: the present tick, one list of pending
 //! timers by deadline and then serial, the timers that are due, and the last serial. Read `wheel`
-//! first, with `specs/WheelState.antt` beside it, and then `plain`, the shortest body that does it.
-//! `laws` has what follows for every wheel.
+//! first, with `specs/WheelState.antt` beside it, and then `plain`, the shortest implementation.
+//! `laws` has the lemmas that hold for every wheel.
 #![tactic(auto)]
 
 mod fault;

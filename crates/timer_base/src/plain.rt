@@ -1,9 +1,9 @@
 //! The plain wheel: Scheme 1 of G. Varghese and T. Lauck, "Hashed and Hierarchical Timing Wheels",
 //! SOSP 1987.
 //!
-//! One `Vec` of timers in order of starting, and no slots at all: each tick goes through all of them.
-//! What has the present tick as its deadline is due, and stays where it is until it is taken. It is
-//! slow, and the shortest body that is a wheel.
+//! One `Vec` of timers in order of starting, and no slots at all: each tick scans all of them. A timer
+//! whose deadline is the present tick is due, and stays in the `Vec` until it is taken. It is slow, and
+//! the shortest implementation of a wheel.
 //!
 //! Three timers, started at tick 0 for the deadlines 5, 3 and 5 (written serial:deadline):
 //!
@@ -13,7 +13,7 @@
 //!           1:5 3:5           1:5 3:5                   2 is taken
 //!       5   1:5 3:5                               1:5 3:5
 //!
-//! Each handle has place 0: the serial alone says which timer is meant.
+//! Each handle has place 0: the serial alone identifies the timer.
 ghost use Rattle.std.specs.Prelude.{◌≡◌, ◌≤◌, ◌<◌, ◌↔◌, IfOk, IfErr, IsErr, Some, length, filter, find, not, vec_len, vec_capacity};
 ghost use Rattle.std.proofs.Math.Nat.{ℕ_set};
 ghost use Rattle.std.specs.List.{AllByRecursion};
@@ -32,14 +32,14 @@ use crate::timer::{Handle, Timer};
 use crate::wheel::Wheel;
 use std::alloc::Global;
 
-/// One list of timers, which every tick goes through (Scheme 1).
+/// One list of timers, which every tick scans (Scheme 1).
 #[derive(Drop)]
 pub struct PlainWheel {
     now: u64,
     last_serial: u64,
     // In order of starting, the due ones among them.
     timers: Vec<Timer>,
-    // How many of them are due, so that `len` needs no walk.
+    // How many of them are due, so that `len` needs no scan.
     due: usize,
     ghost now_in_range: { now ≤ LAST },
     ghost serial_in_range: { last_serial ≤ LAST },
@@ -118,7 +118,7 @@ impl Wheel for PlainWheel {
     fn restart(&mut self, handle: Handle, timer: Timer) -> Option<(Handle, Timer)> {
         let old = self.look(handle)?;
         drop_serial(&mut self.timers, old.serial);
-        // The room of the old one is there.
+        // The removed timer left room for it.
         self.timers.push_reserved(timer);
         self.last_serial = timer.serial;
         let handle = Handle {
@@ -133,7 +133,7 @@ impl Wheel for PlainWheel {
         self.due = count_due(self.timers.as_slice(), self.now);
     }
 
-    /// Exactly the first pending deadline. It goes through all timers.
+    /// Exactly the first pending deadline, found by a scan of all timers.
     fn quiet_until(&self) -> Option<u64>
         ensures wake_up { IsQuietUntil result (plain_state self.entry.now.now self.entry.now.last_serial self.entry.now.timers.items) }
         ensures exact { result ≡ next_deadline (plain_state self.entry.now.now self.entry.now.last_serial self.entry.now.timers.items).pending }
@@ -207,7 +207,7 @@ fn find_pending(timers: &[Timer], serial: u64, tick: u64) -> Option<Timer>
         .find(|t| t.serial == serial && t.deadline > tick)
 }
 
-/// Takes away what has the serial, and keeps the order of the others.
+/// Removes the timer with the serial, and keeps the order of the others.
 fn drop_serial(timers: &mut Vec<Timer>, serial: u64)
     ensures items { timers.new.items ≡ filter (λ t. not (has_serial serial t)) timers.old.items }
     ensures room { length timers.new.items < length timers.old.items → vec_len timers.new < vec_capacity timers.new }

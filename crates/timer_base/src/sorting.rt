@@ -1,7 +1,7 @@
-//! Puts timers in order, for every wheel that lists what it keeps.
+//! Sorts timers, for every wheel that lists them.
 //!
-//! A wheel copies its timers bucket by bucket and then sorts them. No two have one serial, so there
-//! is only one order, and it doesn't matter which of the buckets was copied first.
+//! A wheel copies its timers bucket by bucket and then sorts them. Serials are distinct, so the order
+//! is unique, and it doesn't matter in which order the buckets were copied.
 ghost use Rattle.std.specs.Prelude.{◌≡◌};
 ghost use Rattle.timer_base.specs.Order.{AreDistinct, in_order, itself};
 

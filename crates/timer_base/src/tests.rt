@@ -1,11 +1,11 @@
-//! One whole use of the plain wheel. The worked rows stand with the other wheels, which they are for too.
+//! One whole use of the plain wheel. The worked examples are in timer_wheels, which runs them on every wheel.
 ghost use Rattle.std.specs.Prelude.{◌≡◌, []};
 
 use super::*;
 use std::process::Abort;
 use std::test::Fail;
 
-/// Goes on only where nothing is due.
+/// Checks that nothing is due.
 fn settle<W: Wheel>(rt: &impl Abort, wheel: &W)
     ensures { (W.state wheel.now).due ≡ [] }
 {

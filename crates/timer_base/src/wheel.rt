@@ -1,10 +1,10 @@
 //! What a wheel is: it keeps timers until the tick of their deadline.
 //!
-//! One record, `WheelState`, is what a wheel means, however it keeps its timers:
+//! One record, `WheelState`, is the abstract state of a wheel, however it keeps its timers:
 //!
 //!     last_tick     the last tick of its clock, which never changes
 //!     now           the present tick
-//!     pending       the timers that wait, by deadline and then serial, each with its place
+//!     pending       the timers that wait for their deadline, by deadline and then serial, each with its place
 //!     due           the timers whose deadline is now, by serial, until they are taken
 //!     last_serial   the serial of the last start, 0 where there was none
 //!
@@ -23,10 +23,10 @@ use crate::timer::{Handle, Timer};
 
 /// Keeps timers until the tick of their deadline.
 pub trait Wheel {
-    /// What the wheel means, however it keeps its timers.
+    /// The abstract state of the wheel, however it keeps its timers.
     ghost state: { Self → WheelState };
 
-    /// The last tick of the wheel's clock: a fixed number, at most `LAST`.
+    /// The last tick of the wheel's clock: constant, and at most `LAST`.
     fn last_tick(&self) -> u64
         ensures { result ≡ (state self.now).last_tick };
 
@@ -48,9 +48,9 @@ pub trait Wheel {
 
     /// Starts a timer (START_TIMER), and returns its handle.
     ///
-    /// The only error is out of memory, and then nothing changes. A wheel whose places are limited in
-    /// number returns it at its limit too, though no allocation failed. The place is a free choice.
-    /// Timers that are due may wait meanwhile, here and in `look`, `stop`, `restart`, `list` and `clear`.
+    /// The only error is out of memory, and then nothing changes. A wheel with a limited number of places
+    /// returns it at its limit too, though no allocation failed. The place is a free choice of the wheel.
+    /// Due timers may be waiting, here and in `look`, `stop`, `restart`, `list` and `clear`.
     fn start(&mut self, timer: Timer) -> Result<Handle, OutOfMemory>
         requires later { (state self.old).now < timer.deadline }
         requires deadline { timer.deadline ≤ (state self.old).last_tick }
@@ -60,22 +60,22 @@ pub trait Wheel {
         ensures started { IfOk result (λ handle. state self.new ≡ after_start handle.place timer (state self.old)) }
         ensures err { OnErr result (state self.new ≡ state self.old) };
 
-    /// Returns the pending timer with just this handle, place and serial, or None where there is none: a
-    /// timer that is due is pending no more. Does not allocate.
+    /// Returns the pending timer with exactly this handle, place and serial, or None where there is none: a
+    /// timer that is due is no longer pending. Does not allocate.
     fn look(&self, handle: Handle) -> Option<Timer>
         ensures { result ≡ timer_at handle (state self.now) };
 
-    /// Takes away the pending timer with just this handle (STOP_TIMER), and returns it.
+    /// Removes the pending timer with exactly this handle (STOP_TIMER), and returns it.
     ///
     /// Where there is none, nothing changes. Does not allocate.
     fn stop(&mut self, handle: Handle) -> Option<Timer>
         ensures timer { result ≡ timer_at handle (state self.old) }
         ensures stopped { state self.new ≡ after_stop handle (state self.old) };
 
-    /// Takes away the pending timer with just this handle and starts another in its stead (RESTART), and
+    /// Removes the pending timer with exactly this handle and starts another in its place (RESTART), and
     /// returns the new handle and the old timer.
     ///
-    /// Where there is none, nothing changes. Does not allocate. The place is a free choice.
+    /// Where there is none, nothing changes. Does not allocate. The place is a free choice of the wheel.
     fn restart(&mut self, handle: Handle, timer: Timer) -> Option<(Handle, Timer)>
         requires later { (state self.old).now < timer.deadline }
         requires deadline { timer.deadline ≤ (state self.old).last_tick }
@@ -85,16 +85,17 @@ pub trait Wheel {
         ensures named { MatchOption result (Unit {0}) (λ r. r.0.serial ≡ timer.serial) }
         ensures restarted { state self.new ≡ after_restart result handle timer (state self.old) };
 
-    /// Goes to the next tick (PER_TICK_BOOKKEEPING): the pending timers with that deadline become
-    /// due, by serial. Does not allocate.
+    /// Advances the clock by one tick (PER_TICK_BOOKKEEPING): the pending timers with that deadline
+    /// become due, by serial. Does not allocate.
     fn per_tick(&mut self)
         requires nothing_due { (state self.old).due ≡ [] }
         requires before_last { (state self.old).now < (state self.old).last_tick }
         ensures { state self.new ≡ after_tick (state self.old) };
 
-    /// Passes ticks, at least one and at most so many, and returns how many.
+    /// Passes at least one and at most `most` ticks, and returns how many.
     ///
-    /// Nothing is due before the last of them, and fewer are passed only where something is due then.
+    /// Nothing becomes due before the last of them, and fewer than `most` are passed only where something
+    /// is due then.
     /// Does not allocate.
     fn advance(&mut self, most: u64) -> u64
         requires nothing_due { (state self.old).due ≡ [] }
@@ -114,12 +115,12 @@ pub trait Wheel {
     /// Returns a tick until which nothing becomes due, or None exactly where nothing is pending.
     ///
     /// It is after the present tick and at most the first pending deadline, so an owner sleeps until
-    /// then, calls `advance`, and asks again. A wheel may wake its owner before the first deadline
+    /// then, calls `advance`, and calls this again. A wheel may wake its owner before the first deadline
     /// rather than search for it. Does not allocate.
     fn quiet_until(&self) -> Option<u64>
         ensures { IsQuietUntil result (state self.now) };
 
-    /// Takes the first of the due timers. Does not allocate.
+    /// Removes the first of the due timers and returns it. Does not allocate.
     fn expire(&mut self) -> Option<Timer>
         ensures first { result ≡ first_due (state self.old) }
         ensures rest { state self.new ≡ after_expiry (state self.old) };
@@ -128,10 +129,10 @@ pub trait Wheel {
     fn list(&self) -> Result<Vec<Timer>, OutOfMemory>
         ensures { IfOk result (λ timers. timers.items ≡ timers_of (state self.now).pending) };
 
-    /// Drops what is pending. The tick and the last serial stay. Does not allocate.
+    /// Drops every pending timer. The tick and the last serial stay. Does not allocate.
     fn clear(&mut self)
         ensures { state self.new ≡ after_clear (state self.old) };
 
-    /// What each wheel keeps.
+    /// The invariant of every wheel.
     ghost well_formed: { (wheel : Self) → IsWellFormed (state wheel) };
 }

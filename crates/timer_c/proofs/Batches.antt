@@ -6,7 +6,7 @@ use Rattle.timer_base.specs.WheelState.{WheelState, first_due, after_expiry}
 use Rattle.timer_c.specs.declared.shapes.Expired.{Expired}
 use Rattle.timer_c.specs.Outcomes.{tell, after_expiries}
 
--- so many were taken, and are written over the array's front
+-- this many were taken, and are written over the front of the array
 pub record IsTaken (count : ℕ) (out : List Expired) (old : WheelState) (out' : List Expired) (new : WheelState) : Type 0 where
   pub some : count ≤ length old.due
   pub told : out' ≡ map tell (take count old.due) ++ drop count out
@@ -21,7 +21,7 @@ none_some t e = cc
 same : (x t : Timer) → Some x ≡ Some t → x ≡ t
 same x t e = cc
 
--- the next one that is due is written behind those that were
+-- the next one that is due is written after those before it
 next : (n : ℕ) (due : List Timer) (out : List Expired) (t : Timer) → slice_get (drop n due) 0 ≡ Some t → n < length out
     → slice_set (map tell (take n due) ++ drop n out) n (tell t) ≡ map tell (take (suc n) due) ++ drop (suc n) out
 next zero [] out t e h = absurd (none_some t e)

@@ -1,4 +1,4 @@
--- What C holds is the same but for what its timers mean.
+-- What C holds is the same except for the state of its timers.
 use Rattle.std.proofs.Common.{◌≡◌, List, [], ◌∷◌, refl, ap, ◌∙◌}
 use Rattle.std.specs.Prelude.{Option, Some, None}
 use Rattle.timer_base.specs.declared.timer.Timer.{Timer}
@@ -11,7 +11,7 @@ use Rattle.timer_c.specs.Frames.{with_timers}
 abbrev pub holding : Held → Slot → Held
 holding t slot = record t { slot = slot }
 
--- where the slot was only looked at
+-- where the slot was only read
 pub looked : (t : Held) (slot : Slot) → slot ≡ t.slot → holding t slot ≡ with_timers t slot.state
 looked t slot e = ap (λ (s : Slot). holding t (with_state s slot.state)) e
 
@@ -26,6 +26,6 @@ nothing_left : (w : WheelState) (due : List Timer) → first_due (record w { due
 nothing_left w [] e = refl
 nothing_left w (t ∷ due) e = absurd (none_of t due e)
 
--- where there is none to be taken, nothing changes
+-- where no timer is due, nothing changes
 pub none_taken : (w : WheelState) → first_due w ≡ None → after_expiry w ≡ w
 none_taken w e = nothing_left w w.due e

@@ -12,6 +12,6 @@ IsOpen t = is_open t.slot.mark ≡ true
 abbrev pub IsShut : Held → Type 0
 IsShut t = is_open t.slot.mark ≡ false
 
--- the same, with timers that mean this
+-- the same, with timers of this state
 abbrev pub with_timers : Held → WheelState → Held
 with_timers t state = record t { slot = record t.slot { state = state } }

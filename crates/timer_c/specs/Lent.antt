@@ -1,4 +1,4 @@
--- What a slot is once its timers were lent.
+-- A slot after its timers were lent.
 use denote.RattleType.{RattleType}
 use Rattle.timer_base.specs.WheelState.{WheelState}
 use Rattle.timer_c.specs.declared.slot.Slot.{Slot}

@@ -1,4 +1,4 @@
--- What each call returns, and what the wheel means after it. A status is the first reason that holds.
+-- What each call returns, and the state of the wheel after it. A status is that of the first reason that holds.
 use Rattle.std.specs.Prelude.{ℕ, ◌≡◌, ◌+◌, ◌<◌, ◌≤◌, ◌⊎◌, [], length, drop, Option, Some, None}
 use Rattle.timer_base.specs.declared.limits.TheConstants.{LAST}
 use Rattle.timer_base.specs.declared.timer.Timer.{Timer}
@@ -12,24 +12,24 @@ use Rattle.timer_c.specs.declared.shapes.Handle.{Handle}
 use Rattle.timer_c.specs.declared.shapes.Expired.{Expired}
 use Rattle.timer_c.specs.declared.status.TheConstants.{NO_TABLE, NO_MEMORY, DUE, NOT_PENDING, ZERO_INTERVAL, TOO_LATE, SERIALS_SPENT, CLOCK_END, WIDE, CLOCK, NEVER}
 
--- an empty wheel with this table, at its first tick, after so many serials
+-- an empty wheel with this table, at its first tick, with this last serial
 abbrev pub IsEmptyAt : ℕ → ℕ → ℕ → WheelState → Type 0
 IsEmptyAt table first_tick serial new =
     ((table ≡ WIDE) × (first_tick ≤ LAST) × (new ≡ numbered serial (empty_wheel LAST first_tick)))
     ⊎ ((table ≡ CLOCK) × (first_tick ≤ LAST_OF_CLOCK) × (new ≡ numbered serial (empty_wheel LAST_OF_CLOCK first_tick)))
 
--- the table and the first tick can be had
+-- there is such a table, and it has the first tick
 abbrev pub IsOpenable : ℕ → ℕ → Type 0
 IsOpenable table first_tick = ((table ≡ WIDE) × (first_tick ≤ LAST)) ⊎ ((table ≡ CLOCK) × (first_tick ≤ LAST_OF_CLOCK))
 
--- why there is no wheel
+-- why no wheel is made
 abbrev pub WhyNoWheel : ℕ → ℕ → ℕ → Type 0
 WhyNoWheel table first_tick status =
     ((status ≡ NO_TABLE) × (CLOCK < table))
     ⊎ ((status ≡ TOO_LATE) × (((table ≡ WIDE) × (LAST < first_tick)) ⊎ ((table ≡ CLOCK) × (LAST_OF_CLOCK < first_tick))))
     ⊎ ((status ≡ NO_MEMORY) × IsOpenable table first_tick)
 
--- a start was done: the wheel goes on by its one equation, at a place that is a free choice
+-- a start was done: the state is that after the start, at a place that is a free choice
 abbrev pub IsStarted : ℕ → ℕ → WheelState → WheelState → Handle → Type 0
 IsStarted interval action old new handle =
     IsStartable interval old × (handle.serial ≡ old.last_serial + 1) × (new ≡ after_start handle.place (next_timer interval action old) old)
@@ -41,11 +41,11 @@ WhyNotStarted interval old status =
     ⊎ ((status ≡ SERIALS_SPENT) × (0 < interval) × (old.now + interval ≤ old.last_tick) × (LAST ≤ old.last_serial))
     ⊎ ((status ≡ NO_MEMORY) × IsStartable interval old)
 
--- the handle, as the wheel has it
+-- the handle as the wheel's type
 abbrev pub named : Handle → base.Handle
 named handle = record { place = handle.place; serial = handle.serial }
 
--- a restart was done: the old timer leaves, and the new one is started by the next serial
+-- a restart was done: the old timer is removed, and the new one started under the next serial
 abbrev pub IsRestarted : Handle → ℕ → ℕ → WheelState → WheelState → Handle → Type 0
 IsRestarted handle interval action old new restarted =
     IsAt (named handle) old × IsStartable interval old × (restarted.serial ≡ old.last_serial + 1)
@@ -58,7 +58,7 @@ WhyNotRestarted handle interval old status =
     ⊎ ((status ≡ TOO_LATE) × IsAt (named handle) old × (0 < interval) × (old.last_tick < old.now + interval))
     ⊎ ((status ≡ SERIALS_SPENT) × IsAt (named handle) old × (0 < interval) × (old.now + interval ≤ old.last_tick) × (LAST ≤ old.last_serial))
 
--- the word that a start handed over
+-- the action that a start was given
 abbrev pub action_of : Option Timer → Option ℕ
 action_of None = None
 action_of (Some t) = Some t.action
@@ -76,17 +76,17 @@ WhyNotStopped handle old status =
 abbrev pub IsTicked : WheelState → WheelState → Type 0
 IsTicked old new = (old.due ≡ []) × (new ≡ after_tick old)
 
--- so many ticks were done
+-- this many ticks were passed
 abbrev pub IsAdvanced : ℕ → ℕ → WheelState → WheelState → Type 0
 IsAdvanced most passed old new = (old.due ≡ []) × Passes most passed old new
 
--- why the clock does not go on
+-- why the clock does not advance
 abbrev pub WhyNotTicked : WheelState → ℕ → Type 0
 WhyNotTicked old status =
     ((status ≡ DUE) × (0 < length old.due))
     ⊎ ((status ≡ CLOCK_END) × (old.due ≡ []) × (old.now ≡ old.last_tick))
 
--- what C is told of a timer
+-- a timer as C's struct
 abbrev pub tell : Timer → Expired
 tell t = record { deadline = t.deadline; serial = t.serial; action = t.action }
 
@@ -94,11 +94,11 @@ abbrev pub told : Option Timer → Option Expired
 told None = None
 told (Some t) = Some (tell t)
 
--- so many of the due timers were taken
+-- this many of the due timers were taken
 abbrev pub after_expiries : ℕ → WheelState → WheelState
 after_expiries count w = record w { due = drop count w.due }
 
--- the tick at which to call again: now where an expired timer waits, else one before which nothing expires
+-- the tick until which the caller may sleep: now where an expired timer waits, else one before which nothing expires
 abbrev pub IsNextCall : ℕ → WheelState → Type 0
 IsNextCall tick w =
     ((tick ≡ w.now) × (0 < length w.due))

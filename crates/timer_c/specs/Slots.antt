@@ -19,7 +19,7 @@ is_open mark = nat_eq mark 1
 abbrev pub the_timers : RattleType
 the_timers = timers.the_row hier.the_row wheel.ghosts
 
--- the heap's handle, which is no more than leave to use it
+-- the heap's handle, which is only the permission to use it
 abbrev pub heap : Global
 heap = record { memory = record { seal = tt } }
 

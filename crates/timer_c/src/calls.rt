@@ -1,4 +1,4 @@
-//! The calls on timers that are there, over any wheel, with C's statuses and structs.
+//! The calls on timers that are held, over any wheel, with C's statuses and structs.
 ghost use Rattle.std.specs.Prelude.{◌≡◌, ◌<◌, ◌++◌, ◌↔◌, true, false, Some, None, [], map, take, drop, length, min};
 ghost use Rattle.timer_base.specs.WheelState.{first_due, after_tick, after_expiry};
 ghost use Rattle.timer_c.specs.Outcomes.{IsStarted, WhyNotStarted, IsRestarted, WhyNotRestarted, IsStopped, WhyNotStopped, IsTicked, IsAdvanced, WhyNotTicked, IsNextCall, told, tell, after_expiries};
@@ -111,7 +111,7 @@ pub(crate) fn expire<W: Wheel + Drop>(timers: &mut Timers<W>, out: &mut Expired)
     }
 }
 
-/// As many expired timers as there are, or as fit into `out`.
+/// Takes as many expired timers as there are, or as fit into `out`.
 pub(crate) fn expire_batch<W: Wheel + Drop>(timers: &mut Timers<W>, out: &mut [Expired]) -> usize
     ensures count { result ≡ min (length out.old) (length timers.old.due) }
     ensures told { out.new ≡ map tell (take result timers.old.due) ++ drop result out.old }
@@ -140,7 +140,7 @@ pub(crate) fn wakeup<W: Wheel + Drop>(timers: &Timers<W>) -> u64
     }
 }
 
-/// A handle, as C has it.
+/// A handle as C's struct.
 fn given(handle: timer_base::Handle) -> Handle
     ensures { result ≡ record { place = handle.place; serial = handle.serial } }
 {
@@ -150,7 +150,7 @@ fn given(handle: timer_base::Handle) -> Handle
     }
 }
 
-/// A handle, as the wheel has it.
+/// A handle as the wheel's type.
 fn named(handle: Handle) -> timer_base::Handle
     ensures { result ≡ record { place = handle.place; serial = handle.serial } }
 {
@@ -160,7 +160,7 @@ fn named(handle: Handle) -> timer_base::Handle
     }
 }
 
-/// What C is told of a timer that expired.
+/// An expired timer as C's struct.
 fn expired(timer: Timer) -> Expired
     ensures { result ≡ tell timer }
 {

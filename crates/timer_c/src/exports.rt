@@ -1,8 +1,8 @@
-//! What C calls. Each looks whether timers are held, and passes the call on.
+//! The functions that C calls. Each tests whether timers are held, and passes the call on.
 //!
-//! Its contract has the same parts each time: what the call did where it returns `OK`, the first
-//! reason that holds where it returns another status, that nothing changed then, and that nothing but
-//! the timers' meaning ever changes in what C holds.
+//! The contracts have the same parts: what the call did where it returns `OK`; the first reason that holds
+//! where it returns another status; that nothing changed then; and that nothing but the state of the timers
+//! ever changes in what C holds.
 ghost use Rattle.std.specs.Prelude.{◌≡◌, ◌<◌, ◌≤◌, ◌⊎◌, ◌↔◌, ◌++◌, true, false, Some, None, [], map, take, drop, length, min, IsTrue};
 ghost use Rattle.timer_base.specs.WheelState.{first_due, after_expiry};
 ghost use Rattle.timer_c.specs.Frames.{IsOpen, IsShut, with_timers};
@@ -18,8 +18,8 @@ use crate::status::{NEVER, NO_MEMORY, NOT_OPEN, OK, OPEN};
 use std::alloc::Global;
 use timer_total::Timers;
 
-/// Makes timers with this table, none of them pending, at the first tick. `t` holds them from then on,
-/// until `timers_free`. Serials go on where those of the timers before ended.
+/// Makes timers with this table, none of them pending, at the first tick. `t` holds them until
+/// `timers_free`. Serials continue after those of the timers that `t` held before.
 #[unsafe(no_mangle)]
 pub extern "C" fn timers_new(alloc: Global, t: &mut Held, table: u32, first_tick: u64) -> u32
     ensures made { result ≡ OK → IsShut t.old × IsOpen t.new × IsEmptyAt table first_tick t.old.last_serial t.new.slot.state }
@@ -70,7 +70,7 @@ pub extern "C" fn timers_start(t: &mut Held, interval: u64, action: u64, handle:
     calls::start(t.slot.timers(), interval, action, handle)
 }
 
-/// Stops the pending timer with just this handle and starts another in its stead, and writes its handle.
+/// Stops the pending timer with exactly this handle and starts another in its place, and writes its handle.
 #[unsafe(no_mangle)]
 pub extern "C" fn timers_restart(
     t: &mut Held,
@@ -80,7 +80,8 @@ pub extern "C" fn timers_restart(
     restarted: &mut Handle,
 ) -> u32
     ensures restarted { result ≡ OK → IsOpen t.old × IsRestarted handle interval action t.old.slot.state t.new.slot.state restarted.new }
-    ensures refused { 0 < result → ((result ≡ NOT_OPEN) × IsShut t.old) ⊎ (IsOpen t.old × WhyNotRestarted handle interval t.old.slot.state result) }
+    ensures refused { 0 < result → ((result ≡ NOT_OPEN) × IsShut t.old)
+        ⊎ (IsOpen t.old × WhyNotRestarted handle interval t.old.slot.state result) }
     ensures kept { 0 < result → (t.new ≡ t.old) × (restarted.new ≡ restarted.old) }
     ensures only { t.new ≡ with_timers t.old t.new.slot.state }
 {
@@ -90,7 +91,7 @@ pub extern "C" fn timers_restart(
     calls::restart(t.slot.timers(), handle, interval, action, restarted)
 }
 
-/// Stops the pending timer with just this handle, and writes its action.
+/// Stops the pending timer with exactly this handle, and writes its action.
 #[unsafe(no_mangle)]
 pub extern "C" fn timers_stop(t: &mut Held, handle: Handle, action: &mut u64) -> u32
     ensures stopped { result ≡ OK → IsOpen t.old × IsStopped handle t.old.slot.state t.new.slot.state action.new }
@@ -104,7 +105,7 @@ pub extern "C" fn timers_stop(t: &mut Held, handle: Handle, action: &mut u64) ->
     calls::stop(t.slot.timers(), handle, action)
 }
 
-/// Goes to the next tick. What expires waits for `timers_expire`.
+/// Advances the clock by one tick. The timers that expire wait for `timers_expire`.
 #[unsafe(no_mangle)]
 pub extern "C" fn timers_tick(t: &mut Held) -> u32
     ensures ticked { result ≡ OK → IsOpen t.old × IsTicked t.old.slot.state t.new.slot.state }
@@ -119,7 +120,7 @@ pub extern "C" fn timers_tick(t: &mut Held) -> u32
 }
 
 /// Passes at most `most` ticks, stops at the first at which a timer expires, and writes how many were
-/// passed: none only where `most` is 0.
+/// passed: 0 only where `most` is 0.
 #[unsafe(no_mangle)]
 pub extern "C" fn timers_advance(t: &mut Held, most: u64, passed: &mut u64) -> u32
     ensures advanced { result ≡ OK → IsOpen t.old × IsAdvanced most passed.new t.old.slot.state t.new.slot.state }
@@ -133,7 +134,7 @@ pub extern "C" fn timers_advance(t: &mut Held, most: u64, passed: &mut u64) -> u
     calls::advance(t.slot.timers(), most, passed)
 }
 
-/// Takes the first of the timers that expired. Returns whether there was one.
+/// Takes the first of the expired timers. Returns whether there was one.
 #[unsafe(no_mangle)]
 pub extern "C" fn timers_expire(t: &mut Held, out: &mut Expired) -> bool
     ensures first { result ≡ true → IsOpen t.old × (told (first_due t.old.slot.state) ≡ Some out.new) }
@@ -148,7 +149,7 @@ pub extern "C" fn timers_expire(t: &mut Held, out: &mut Expired) -> bool
     calls::expire(t.slot.timers(), out)
 }
 
-/// Takes the first of the timers that expired, as many as fit into `out`. Returns how many.
+/// Takes the first of the expired timers, as many as fit into `out`. Returns how many.
 #[unsafe(no_mangle)]
 pub extern "C" fn timers_expire_batch(t: &mut Held, out: &mut [Expired]) -> usize
     ensures count { IsOpen t.old → result ≡ min (length out.old) (length t.old.slot.state.due) }
@@ -189,7 +190,7 @@ pub extern "C" fn timers_now(t: &mut Held) -> u64
     t.slot.timers().now()
 }
 
-/// How many timers are pending, or 0 where no timers are held. What expired and was not yet taken is
+/// How many timers are pending, or 0 where no timers are held. Expired timers that were not yet taken are
 /// not counted.
 #[unsafe(no_mangle)]
 pub extern "C" fn timers_len(t: &mut Held) -> usize

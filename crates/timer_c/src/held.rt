@@ -3,16 +3,16 @@ ghost use Rattle.std.specs.Prelude.{◌≡◌};
 
 use crate::slot::Slot;
 
-/// A slot for timers, and the last serial that was used in it before.
+/// A slot for timers, and the last serial that its earlier timers used.
 #[repr(C)]
 pub struct Held {
     pub slot: Slot,
-    /// Where the slot is empty, the last serial of the timers that it held before, and 0 where there
-    /// were none: serials go on, so that no handle ever names a timer of a later `timers_new`.
+    /// Where the slot is empty, the last serial of the timers that it held before, or 0 where there were
+    /// none: serials continue, so that no handle ever names a timer of a later `timers_new`.
     pub last_serial: u64,
 }
 
-/// It may go to another thread: this is what proves the `Send` of `Slot`.
+/// It may be sent to another thread: here the `Send` of `Slot` is proved.
 fn cross(held: Held) -> Held
     ensures { result ≡ held }
 {

@@ -1,15 +1,16 @@
 //! The timers of timer_total over the hierarchy of wheels, for C: `include/timers.h` declares them.
 //!
-//! C keeps a `struct timers` (`Held`), which owns the timers on the heap. A call asks nothing of C but
-//! what that header says; where it can't be done it returns why, and nothing changes.
+//! C keeps a `struct timers` (`Held`), which owns the timers on the heap. A call requires nothing of C but
+//! the rules of that header; where it can't be done it returns a status that says why, and nothing changes.
 //!
-//!     exports    what C calls: each looks whether timers are held, and passes the call on
+//!     exports    the functions that C calls: each tests whether timers are held, and passes the call on
 //!     calls      the calls over any wheel, with C's statuses and structs
 //!     opening    a wheel by C's number for its table
 //!     held       `struct timers`: the slot, and the last serial while the slot is empty
-//!     slot       the two words that own the timers on the heap. Its four methods are proved by hand
-//!     parked     a box as its address, on its way into the slot and out of it: two more
-//!     shapes     the structs that cross; status: the numbers that cross
+//!     slot       the two machine words that own the timers on the heap; its four methods are proved by hand
+//!     parked     a box as its address, on its way into the slot and out of it; so are its two methods
+//!     shapes     the structs of the header
+//!     status     the statuses of the header
 #![tactic(auto)]
 
 mod calls;

@@ -1,4 +1,4 @@
-//! A wheel by C's number for its table.
+//! Makes a wheel by C's number for its table.
 ghost use Rattle.std.specs.Prelude.{◌≡◌, ◌<◌, ◌≤◌, ◌⊎◌, IfOk, IfErr};
 ghost use Rattle.timer_base.specs.WheelState.{WheelState};
 ghost use Rattle.timer_base.specs.WheelState.{empty_wheel};

@@ -1,7 +1,7 @@
 //! A box as its address, without its type's promise to free it.
 //!
-//! A `Box` can't stand in a struct that C holds, and a raw pointer owns nothing. `Parked` is between
-//! the two: it owns what the box owned, and says so to the prover alone.
+//! A `Box` can't be a field of a struct that C holds, and a raw pointer owns nothing. `Parked` is between
+//! the two: it owns what the box owned, which only the prover knows.
 ghost use Rattle.std.specs.Prelude.{◌≡◌};
 
 use std::alloc::Allocator;
@@ -25,7 +25,7 @@ impl<T: Drop, A: Allocator> Parked<T, A> {
     pub(crate) fn park(whole: Box<T, A>) -> Parked<T, A>
         ensures { result.value ≡ whole.value }
     {
-        // The address and the allocator: what the box owned is at that address, and no one's.
+        // The address and the allocator. The value is at that address, and nothing owns it until `Parked` does.
         let parts = Box::into_raw_with_allocator(whole);
         Parked {
             alloc: parts.1,

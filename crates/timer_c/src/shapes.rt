@@ -1,10 +1,10 @@
-//! The structs that cross to C beside `struct timers`. `include/timers.h` has the same.
+//! The structs that are passed to C and back, other than `struct timers`. `include/timers.h` has the same.
 
-/// How C names a timer: `struct timer_handle`.
+/// How C refers to a timer: `struct timer_handle`.
 #[repr(C)]
 #[derive(Clone, Copy, Debug, PartialEq, Eq)]
 pub struct Handle {
-    /// Where the timer stands: a free choice of the wheel.
+    /// Where the wheel keeps the timer: a free choice of the wheel.
     pub place: usize,
     /// Its serial, which no other timer of the same `struct timers` ever has.
     pub serial: u64,
@@ -18,6 +18,6 @@ pub struct Expired {
     pub deadline: u64,
     /// Its number in the order of starting.
     pub serial: u64,
-    /// The word that its start or restart handed over.
+    /// The action that its start or restart was given.
     pub action: u64,
 }

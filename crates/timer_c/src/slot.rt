@@ -1,8 +1,8 @@
-//! The two words by which C's struct owns the timers on the heap.
+//! The two machine words by which C's struct owns the timers on the heap.
 //!
-//! All that handles a raw pointer stands here and in `parked`. A slot whose mark is `HELD` owns the
+//! All code that touches a raw pointer is here and in `parked`. A slot whose mark is `HELD` owns the
 //! timers at its address and the right to free their block; a slot with any other mark owns nothing,
-//! so that a struct whose bytes are all 0 is an empty slot. Its ghost field is what the timers mean.
+//! so that a struct whose bytes are all 0 is an empty slot. Its ghost field is the state of the timers.
 ghost use Rattle.std.specs.Prelude.{◌≡◌, true, false};
 ghost use Rattle.std.specs.Borrow.{Lends, sem};
 ghost use Rattle.timer_base.specs.WheelState.{WheelState};
@@ -17,7 +17,7 @@ use timer_wheels::HierWheel;
 /// The mark of a slot that holds timers.
 pub const HELD: u64 = 1;
 
-/// Where timers may stand on the heap.
+/// The timers on the heap, if it holds any.
 #[repr(C)]
 pub struct Slot {
     at: *mut u8,
@@ -49,9 +49,9 @@ impl Slot {
         ensures open { self.new.mark ≡ HELD }
         ensures state { self.new.state ≡ timers.value }
     {
-        // What the parked box owned goes along with its address. The allocator is the heap, as always.
+        // Ownership of the value moves with its address. The allocator is always the heap.
         let Parked { alloc: _, at } = timers;
-        // C sees an address of bytes. The slot was empty, so the one that it had named nothing.
+        // C sees an address of bytes. The slot was empty, so its old address pointed to nothing.
         self.at = at as *mut u8;
         // From here on the slot owns what is at that address.
         self.mark = HELD;
@@ -63,16 +63,16 @@ impl Slot {
         ensures shut { self.new.mark ≡ 0 }
         ensures state { result.value ≡ self.old.state }
     {
-        // From here on the slot owns nothing, and nobody follows the address that stays behind in it.
+        // From here on the slot owns nothing, and the address that stays in it is never followed.
         self.mark = 0;
-        // The same address, as one of timers: what the slot owned is the parked box's.
+        // The same address, as one of timers: the parked box owns what the slot owned.
         Parked {
             alloc,
             at: self.at as *mut Timers<HierWheel>,
         }
     }
 
-    /// The timers, lent. What they mean at the end of the loan is the slot's state.
+    /// Lends the timers. Their state at the end of the loan is the slot's state.
     pub(crate) fn timers(&mut self) -> &mut Timers<HierWheel>
         requires { is_open self.old.mark ≡ true }
         ensures* writes_back { sem 𝓛 (Lends the_slot the_timers self.entry result (with_state self.entry.now)) }

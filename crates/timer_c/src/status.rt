@@ -1,4 +1,4 @@
-//! The numbers that cross to C. `include/timers.h` has the same, and tools/c_tests compares them.
+//! The numbers that C sees. `include/timers.h` has the same, and tools/c_tests compares them.
 
 /// The call was done.
 pub const OK: u32 = 0;
@@ -12,10 +12,10 @@ pub const OPEN: u32 = 2;
 /// No table has this number.
 pub const NO_TABLE: u32 = 3;
 
-/// Memory ran out.
+/// Out of memory.
 pub const NO_MEMORY: u32 = 4;
 
-/// A timer that expired was not yet taken.
+/// An expired timer was not yet taken.
 pub const DUE: u32 = 5;
 
 /// No pending timer has this handle.
@@ -27,7 +27,7 @@ pub const ZERO_INTERVAL: u32 = 7;
 /// The deadline, or the first tick, is after the last tick.
 pub const TOO_LATE: u32 = 8;
 
-/// Every serial was used.
+/// The serials are used up.
 pub const SERIALS_SPENT: u32 = 9;
 
 /// The clock is at its last tick.

@@ -1,9 +1,9 @@
 pub mod DeskLemmas
-pub mod DriveLemmas
-pub mod HeldLemmas
-pub mod Joining
-pub mod NoticeLemmas
-pub mod NoWant
-pub mod OneClient
+pub mod DrivingLemmas
+pub mod ReportHeld
+pub mod ReportJoining
+pub mod HandingLemmas
+pub mod AskingLemmas
+pub mod ReportOfOne
 pub mod ProgressLemmas
-pub mod WindLemmas
+pub mod WindingLemmas

@@ -1,4 +1,4 @@
--- How much is left, when one client comes on.
+-- How much is left to do, when one client makes progress.
 use Rattle.std.proofs.Common.{◌≡◌, ◌<◌, ◌+◌, ◌++◌, ℕ, zero, suc, List, [], ◌∷◌, length, get_or, take, ap, arith, append-nil, length-append}
 use Rattle.std.specs.Prelude.{slice_set}
 use Rattle.std.proofs.lemmas.Grind.{flat_map-append}
@@ -14,7 +14,7 @@ all_left-set goal [] c x new l h = absurd (omega arith)
 all_left-set goal (p ∷ ps) zero x new l h = let e : left_for goal x ≡ left_for goal p = ap (left_for goal) h in omega arith
 all_left-set goal (p ∷ ps) (suc c) x new l h = let n = all_left-set goal ps c x new (omega arith) h in omega arith
 
--- one member more
+-- one more member
 
 flushed_more : (c : ℕ) (r q : List Done) → flushed c (r ++ q) ≡ flushed c r + flushed c q
 flushed_more c [] q = omega arith

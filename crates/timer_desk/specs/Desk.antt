@@ -1,10 +1,10 @@
--- What a desk means, and what a report tells of it.
+-- The abstract state of a desk, and the desk before and after a report.
 use Rattle.std.specs.Prelude.{◌≡◌, ℕ, ◌++◌, ◌<◌, Bool, true, false, List, [], ◌∷◌, length, get_or, replicate, None, Ok, Err, Result}
 use Rattle.std.specs.List.{flat_map}
 use Rattle.timer_facility.specs.declared.request.CloseFault.{CloseFault}
 use Rattle.timer_facility.specs.declared.request.Notice.{Notice}
 use Rattle.timer_facility.specs.State.{FacilityState, Tick, Close}
-use Rattle.timer_facility.specs.Standing.{Standing}
+use Rattle.timer_facility.specs.Facility.{FacilityView}
 use Rattle.timer_facility.specs.Step.{step}
 use Rattle.timer_facility.specs.Run.{notices_in, history, run}
 use Rattle.timer_facility.specs.Owed.{owed}
@@ -14,17 +14,17 @@ use Rattle.timer_desk.specs.declared.report.Done.{Done}
 use Rattle.timer_desk.specs.declared.report.Done.TheVariants as Dones
 use Rattle.timer_desk.specs.declared.report.Step.{Step}
 use Rattle.timer_desk.specs.declared.report.Step.TheVariants as Steps
-use Rattle.timer_desk.specs.Backlog.{Backlog, empty_backlog, HasRoom}
+use Rattle.timer_desk.specs.Backlog.{BacklogState, empty_backlog, HasRoom}
 use Rattle.timer_desk.specs.Report.{Side, side_of, HeldIsLast, Tells, Runs, events, outs}
 use Rattle.timer_desk.specs.Right.{AtEach, IsRight, IsRightClose}
 
--- the facility, in which nothing waits; and for each client its line and what waits for it
+-- the facility, in which nothing waits; and for each client its line and its backlog
 pub record DeskState (I : Type 0) : Type 0 where
   pub facility : FacilityState
   pub inlets : List I
-  pub backlogs : List Backlog
+  pub backlogs : List BacklogState
 
--- a desk at which nothing waits
+-- a new desk, with empty backlogs
 abbrev pub opened_desk : {I : Type 0} → FacilityState → List I → ℕ → DeskState I
 opened_desk s inlets room = record { facility = s; inlets = inlets; backlogs = replicate (length inlets) (empty_backlog room) }
 
@@ -32,20 +32,20 @@ opened_desk s inlets room = record { facility = s; inlets = inlets; backlogs = r
 abbrev pub clients_of : {I : Type 0} → DeskState I → ℕ
 clients_of d = length d.inlets
 
--- what waits for a client
-abbrev pub backlog_at : {I : Type 0} → DeskState I → ℕ → Backlog
+-- the backlog of a client
+abbrev pub backlog_at : {I : Type 0} → DeskState I → ℕ → BacklogState
 backlog_at d c = get_or d.backlogs c (empty_backlog 0)
 
--- nothing waits for a client
-pub record IsIdle (b : Backlog) : Type 0 where
+-- the client's outbox is empty, and no request of it is held
+pub record IsIdle (b : BacklogState) : Type 0 where
   pub outbox_empty : b.outbox ≡ []
   pub none_held : b.held ≡ None
 
--- nothing waits at the desk
+-- so for every client
 abbrev pub AllIdle : {I : Type 0} → DeskState I → Type 0
 AllIdle d = (c : ℕ) → c < clients_of d → IsIdle (backlog_at d c)
 
--- the step that a member of a report is of
+-- the step that a member of a report is the result of
 abbrev pub step_in : Done → List Step
 step_in (Dones.Served client served) = Steps.Serve client ∷ []
 step_in (Dones.Ticked result) = Steps.Tick ∷ []
@@ -57,7 +57,8 @@ step_in (Dones.Flushed client count) = Steps.Flush client ∷ []
 abbrev pub steps_of : List Done → List Step
 steps_of report = flat_map step_in report
 
--- each notice stands behind a tick or a close, with notices alone between them; `allowed` says that one may stand first
+-- each notice comes after a tick or a close, with only notices in between; `allowed` says whether the first member may be
+-- one
 abbrev pub AreBehind : Bool → List Done → Type 0
 AreBehind allowed [] = Unit {0}
 AreBehind allowed (Dones.Served client served ∷ report) = AreBehind false report
@@ -66,20 +67,21 @@ AreBehind allowed (Dones.Closed result ∷ report) = AreBehind true report
 AreBehind allowed (Dones.Noticed notice ∷ report) = (allowed ≡ true) × AreBehind allowed report
 AreBehind allowed (Dones.Flushed client count ∷ report) = AreBehind false report
 
--- Before each member of a report that is no notice, and at its end, the outs of the members `past` are those of a run of their
--- events: no notice comes late, and none early.
+-- Before each member of a report that is not a notice, and at its end, the outs of the members `past` are those of a run
+-- of their events: no notice comes late, and none early.
 abbrev pub AreInTime : FacilityState → List Done → List Done → Type 0
 AreInTime s past [] = outs past ≡ (run s (events past)).outs
 AreInTime s past (Dones.Noticed notice ∷ report) = AreInTime s (past ++ Dones.Noticed notice ∷ []) report
 AreInTime s past (done ∷ report) = (outs past ≡ (run s (events past)).outs) × AreInTime s (past ++ done ∷ []) report
 
--- before each member of a report that is no notice, and at its end, the notices in the members `past` are what is owed for their events
+-- before each member of a report that is not a notice, and at its end, the notices among the members `past` are what is
+-- owed for their events
 abbrev pub AreOwed : FacilityState → List Done → List Done → Type 0
 AreOwed s past [] = notices_in (outs past) ≡ owed s (history s (events past))
 AreOwed s past (Dones.Noticed notice ∷ report) = AreOwed s (past ++ Dones.Noticed notice ∷ []) report
 AreOwed s past (done ∷ report) = (notices_in (outs past) ≡ owed s (history s (events past))) × AreOwed s (past ++ done ∷ []) report
 
--- the step names a client of these
+-- the step's client is one of these
 abbrev pub InRange : ℕ → Step → Type 0
 InRange clients (Steps.Serve c) = c < clients
 InRange clients Steps.Tick = Unit {0}
@@ -96,42 +98,45 @@ close_notices s (Ok count) = notices_in (step s Close 0).outs
 close_notices s (Err fault) = []
 
 module _ {I : Type 0} (got standing : I → List Numbered) (given : I → List Word) where
-  -- the side of client c, where i and b stand for what there is no c for
-  abbrev pub side_at : DeskState I → ℕ → I → Backlog → Side
+  -- the side of client c; i and b are the defaults where there is no such client
+  abbrev pub side_at : DeskState I → ℕ → I → BacklogState → Side
   side_at d c i b = side_of got standing given (get_or d.inlets c i) (get_or d.backlogs c b)
 
-  -- what every desk keeps, of the facility with what waits in it, the lines, and what waits for the clients
-  pub record IsDesk (f : Standing) (inlets : List I) (backlogs : List Backlog) : Type 0 where
+  -- the invariant of a desk: of the facility with its waiting notices, the lines, and the backlogs
+  pub record IsDesk (f : FacilityView) (inlets : List I) (backlogs : List BacklogState) : Type 0 where
     pub nothing_waits : f.waiting ≡ []
     pub as_many : length backlogs ≡ length inlets
     pub clients : length inlets ≡ length f.state.numbers
     pub room : HasRoom backlogs f
-    pub held : (c : ℕ) (i : I) (b : Backlog) → c < length inlets → HeldIsLast (side_of got standing given (get_or inlets c i) (get_or backlogs c b))
+    pub held : (c : ℕ) (i : I) (b : BacklogState) → c < length inlets
+        → HeldIsLast (side_of got standing given (get_or inlets c i) (get_or backlogs c b))
 
--- nothing was taken from a line, and all else is as it was
+-- nothing was taken from a line, and all else is unchanged
 pub record TakesNothing {I : Type 0} (got : I → List Numbered) (old new : DeskState I) : Type 0 where
   pub same_facility : new.facility ≡ old.facility
   pub same_backlogs : new.backlogs ≡ old.backlogs
   pub same_got : (c : ℕ) (i : I) → got (get_or new.inlets c i) ≡ got (get_or old.inlets c i)
 
--- Here `same` says that a line is the same one, and `refuses` whether a line may run out of memory when a request is taken from it.
+-- Here `same` is the relation that a line is the same one, and `refuses` whether taking a request from a line may run out
+-- of memory.
 module _ {I : Type 0} (got standing : I → List Numbered) (given : I → List Word) (same : I → I → Type 0) (refuses : Bool) where
-  -- what a report tells of each client, before and after it
+  -- each client before and after the report
   pub record ToldSides (report : List Done) (old new : DeskState I) : Type 0 where
     pub same_clients : clients_of new ≡ clients_of old
     pub lines : (c : ℕ) (i : I) → c < clients_of old → same (get_or old.inlets c i) (get_or new.inlets c i)
-    pub sides : (c : ℕ) (i : I) (b : Backlog) → c < clients_of old → Tells c report (side_at got standing given old c i b) (side_at got standing given new c i b)
+    pub sides : (c : ℕ) (i : I) (b : BacklogState) → c < clients_of old
+        → Tells c report (side_at got standing given old c i b) (side_at got standing given new c i b)
 
-  -- what a report tells of a desk, before and after it
+  -- the desk before and after the report
   pub record Told (report : List Done) (old new : DeskState I) : Type 0 where
     pub clients : ToldSides report old new
     pub facility : Runs report old.facility new.facility
     pub in_time : AreInTime old.facility [] report
-    pub right : (c : ℕ) (i : I) (b : Backlog) → c < clients_of old
+    pub right : (c : ℕ) (i : I) (b : BacklogState) → c < clients_of old
         → AtEach (IsRight refuses c old.facility (side_at got standing given old c i b) (side_at got standing given new c i b)) [] report
     pub closes : AtEach (IsRightClose old.facility) [] report
 
-  -- what a step adds to a report
+  -- a step, and what it appends to the report
   pub record AddsStep (taken : Step) (before after : List Done) (old new : DeskState I) : Type 0 where
     pub more : List Done
     pub added : after ≡ before ++ more

@@ -14,7 +14,7 @@ Extends-refl xs = take-length xs
 pub Extends-front : {X : Type 0} (xs ys : List X) → Extends xs (xs ++ ys)
 Extends-front xs ys = take-append_seam xs ys
 
--- what a list that extends another is
+-- a list that extends another is that list and more
 pub Extends-is : {X : Type 0} (xs ys : List X) → Extends xs ys → ys ≡ xs ++ drop (length xs) ys
 Extends-is xs ys h = sym (take-append-drop (length xs) ys) ∙ ap (λ zs. zs ++ drop (length xs) ys) h
 

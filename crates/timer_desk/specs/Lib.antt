@@ -1,4 +1,4 @@
-pub mod Asked
+pub mod Asking
 pub mod Backlog
 pub mod Desk
 pub mod Extends

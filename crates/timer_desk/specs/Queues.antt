@@ -1,4 +1,4 @@
--- What clauses see of the queues behind a lock.
+-- The abstract state of the two queues, as clauses name it.
 use Rattle.std.specs.Prelude.{ℕ, List}
 use Rattle.timer_desk.specs.declared.word.Numbered.{Numbered}
 use Rattle.timer_desk.specs.declared.word.Word.{Word}

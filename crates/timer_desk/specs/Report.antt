@@ -1,4 +1,4 @@
--- How a report of `turn` is read, and what it tells of one client and of the facility.
+-- The readings of a report of `turn`, and what they say of each client and of the facility.
 use Rattle.std.specs.Prelude.{◌≡◌, ℕ, ◌+◌, ◌-◌, ◌≤◌, ◌==◌, Bool, true, false, List, [], ◌∷◌, ◌++◌, length, take, Option, Some, None, Ok, Err, Result, if◌then◌else◌}
 use Rattle.std.specs.List.{flat_map}
 use Rattle.timer_facility.specs.declared.request.CloseFault.{CloseFault}
@@ -7,7 +7,7 @@ use Rattle.timer_facility.specs.declared.request.TickFault.{TickFault}
 use Rattle.timer_facility.specs.declared.event.Out.{Out}
 use Rattle.timer_facility.specs.declared.event.Out.TheVariants as Outs
 use Rattle.timer_facility.specs.State.{FacilityState, SingleEvent, Tick, Close}
-use Rattle.timer_facility.specs.Standing.{asked as event_asked, place_in}
+use Rattle.timer_facility.specs.Facility.{asked as event_asked, place_in}
 use Rattle.timer_facility.specs.Run.{Placed, run}
 use Rattle.timer_desk.specs.declared.word.Numbered.{Numbered}
 use Rattle.timer_desk.specs.declared.word.Word.{Word}
@@ -16,7 +16,7 @@ use Rattle.timer_desk.specs.declared.report.Served.{Served}
 use Rattle.timer_desk.specs.declared.report.Served.TheVariants.{Idle, NoRoom, NoMemory, Did}
 use Rattle.timer_desk.specs.declared.report.Done.{Done}
 use Rattle.timer_desk.specs.declared.report.Done.TheVariants as Dones
-use Rattle.timer_desk.specs.Backlog.{Backlog, client_of}
+use Rattle.timer_desk.specs.Backlog.{BacklogState, client_of}
 use Rattle.timer_desk.specs.Extends.{Extends}
 
 -- One member of a report.
@@ -54,8 +54,8 @@ flushed_in c (Dones.Closed result) = 0
 flushed_in c (Dones.Noticed notice) = 0
 flushed_in c (Dones.Flushed client count) = if client == c then count else 0
 
--- Whether a request of the client may be held after a serve of it, where `before` says so of the time before. What is held is tried
--- first, so a serve leaves nothing held but where memory ran out; without room nothing is tried.
+-- Whether a request of the client may be held after a serve of it; `before` is whether one was held before. A held request
+-- is retried first, so after a serve one is held only where memory ran out; without room nothing is tried.
 abbrev pub held_after_serve : Bool → Served → Bool
 held_after_serve before Idle = false
 held_after_serve before NoRoom = before
@@ -70,13 +70,13 @@ held_after c before (Dones.Closed result) = before
 held_after c before (Dones.Noticed notice) = before
 held_after c before (Dones.Flushed client count) = before
 
--- the place that a word tells, where it is of an accepted start
+-- the place in a word, where it is the answer to an accepted start or restart
 abbrev pub place_told : Word → ℕ
 place_told (Words.Answered number answer) = place_in answer
 place_told (Words.NotTaken number reason) = 0
 place_told (Words.Notice notice) = 0
 
--- the out that a word to a client is
+-- a word to a client as an out
 abbrev pub out_of : ℕ → Word → Out
 out_of client (Words.Answered number answer) = Outs.Answered client number answer
 out_of client (Words.NotTaken number reason) = Outs.NotTaken client number reason
@@ -145,13 +145,13 @@ abbrev pub flushed : ℕ → List Done → ℕ
 flushed c [] = 0
 flushed c (done ∷ report) = flushed_in c done + flushed c report
 
--- whether a request of client c may be held after a report: what is held comes of a serve of c that ran out of memory, with no serve
--- of c behind it that found the line empty or was done
+-- whether a request of client c may be held after a report: a serve of c ran out of memory, and no later serve of c found
+-- the line empty or was done
 abbrev pub may_hold : ℕ → Bool → List Done → Bool
 may_hold c before [] = before
 may_hold c before (done ∷ report) = may_hold c (held_after c before done) report
 
--- what came to the facility, each accepted start with the place in its answer
+-- the events of the facility, each accepted start with the place in its answer
 abbrev pub events : List Done → List Placed
 events report = flat_map events_in report
 
@@ -159,7 +159,7 @@ events report = flat_map events_in report
 abbrev pub outs : List Done → List Out
 outs report = flat_map outs_in report
 
--- What a report tells of one client.
+-- What a report says of one client.
 
 -- a request that is held, as a list
 abbrev pub held_list : Option Numbered → List Numbered
@@ -176,13 +176,13 @@ pub record Side : Type 0 where
   pub got : List Numbered
   pub standing : List Numbered
   pub given : List Word
-  pub backlog : Backlog
+  pub backlog : BacklogState
 
--- the side of a client whose line is i, as its lists tell, and for whom b waits
-abbrev pub side_of : {I : Type 0} → (I → List Numbered) → (I → List Numbered) → (I → List Word) → I → Backlog → Side
+-- the side of a client with line i, by its lists, and backlog b
+abbrev pub side_of : {I : Type 0} → (I → List Numbered) → (I → List Numbered) → (I → List Word) → I → BacklogState → Side
 side_of got standing given i b = record { got = got i; standing = standing i; given = given i; backlog = b }
 
--- what was got but for a request that is held
+-- the requests that were got, without the held one
 abbrev pub got_but_held : Side → List Numbered
 got_but_held a = take (length a.got - length (held_list a.backlog.held)) a.got
 
@@ -194,7 +194,7 @@ HeldIsLast a = got_but_held a ++ held_list a.backlog.held ≡ a.got
 abbrev pub left_of : Side → ℕ
 left_of a = length (held_list a.backlog.held) + length a.standing
 
--- what a report tells of client c, whose side was a and is b
+-- what a report says of client c, whose side was a and is b
 pub record Tells (c : ℕ) (report : List Done) (a b : Side) : Type 0 where
   -- a request held before is the first one asked since, or is still held
   pub held_first : Extends (held_list a.backlog.held) (asked c report ++ held_list b.backlog.held)
@@ -205,7 +205,7 @@ pub record Tells (c : ℕ) (report : List Done) (a b : Side) : Type 0 where
   pub fewer_left : left_of a ≤ length (asked c report) + left_of b
   pub same_room : b.backlog.room ≡ a.backlog.room
 
--- what a report tells of the facility, whose state was s and is t
+-- what a report says of the facility, whose state was s and is t
 pub record Runs (report : List Done) (s t : FacilityState) : Type 0 where
   pub outs_are : outs report ≡ (run s (events report)).outs
   pub state_is : t ≡ (run s (events report)).state

@@ -1,23 +1,24 @@
--- When the members of a report are right.
+-- When the members of a report are right: which serves and closes may have which result.
 use Rattle.std.specs.Prelude.{◌≡◌, ℕ, ◌+◌, ◌-◌, ◌<◌, ◌≤◌, ◌⊎◌, Bool, true, false, List, [], ◌∷◌, ◌++◌, length, Err}
 use Rattle.timer_facility.specs.declared.request.CloseFault.TheVariants.{OutOfMemory}
 use Rattle.timer_facility.specs.State.{FacilityState, pending_of}
 use Rattle.timer_facility.specs.Run.{run}
-use Rattle.timer_facility.specs.Standing.{NeedsMemory}
+use Rattle.timer_facility.specs.Facility.{NeedsMemory}
 use Rattle.timer_desk.specs.declared.word.Numbered.{Numbered}
 use Rattle.timer_desk.specs.declared.report.Served.{Served}
 use Rattle.timer_desk.specs.declared.report.Served.TheVariants.{Idle, NoRoom, NoMemory, Did}
 use Rattle.timer_desk.specs.declared.report.Done.{Done}
 use Rattle.timer_desk.specs.declared.report.Done.TheVariants as Dones
-use Rattle.timer_desk.specs.Asked.{IsNoWant}
+use Rattle.timer_desk.specs.Asking.{IsNoWant}
 use Rattle.timer_desk.specs.Report.{Side, left_of, held_list, asked, words, flushed, events}
 
--- the fact holds of each member of a report, of those before it (behind `past`) and of those behind it
+-- the fact holds of each member of a report, with the members before it (`past` and on) and those after it
 abbrev pub AtEach : (List Done → Done → List Done → Type 0) → List Done → List Done → Type 0
 AtEach fact past [] = Unit {0}
 AtEach fact past (done ∷ later) = fact past done later × AtEach fact (past ++ done ∷ []) later
 
--- what a serve may answer (no word says out of memory), by the room, the length of the outbox, how many requests are known to be left, and how many timers are pending
+-- which results a serve may have (its word is never a refusal for memory), by the room, the length of the outbox, how many
+-- requests are known to be left, and how many timers are pending
 abbrev pub IsRightServe : ℕ → ℕ → ℕ → ℕ → Served → Type 0
 IsRightServe room len left pending NoRoom = room < len + pending + 2
 IsRightServe room len left pending Idle = (len + pending + 2 ≤ room) × (left ≡ 0)
@@ -31,22 +32,22 @@ IsRightMember c room len left pending (Dones.Closed result) = Unit {0}
 IsRightMember c room len left pending (Dones.Noticed notice) = Unit {0}
 IsRightMember c room len left pending (Dones.Flushed client count) = Unit {0}
 
--- the line may run out of memory, or the first of these requests needs memory of the facility
+-- the line may run out of memory, or the facility allocates for the first of these requests
 abbrev pub IsNeeded : Bool → ℕ → FacilityState → List Numbered → Type 0
 IsNeeded may_refuse c s [] = may_refuse ≡ true
 IsNeeded may_refuse c s (numbered ∷ later) = (may_refuse ≡ true) ⊎ NeedsMemory s c numbered.number numbered.request
 
--- the length of a client's outbox, whose side was a, after a report: it has the words that it had and those since, less those that went
+-- the length of a client's outbox after a report, where its side was a: the words before and those since, less those flushed
 abbrev pub outbox_after : ℕ → Side → List Done → ℕ
 outbox_after c a past = length a.backlog.outbox + length (words c past) - flushed c past
 
--- how many timers of the client are pending after a report, from the state s on
+-- how many timers of the client are pending after a report from the state s
 abbrev pub pending_after : ℕ → FacilityState → List Done → ℕ
 pending_after c s past = pending_of (run s (events past)).state c
 
--- What is right of a member for client c, whose side was a before the report and is b after it: a serve answers by the room, and runs
--- out of memory only where the request that is then held, the next one done or the one held at the end, needs memory; and then the outbox
--- has room for a notice of each pending timer.
+-- When a member is right for client c, whose side was a before the report and is b after it. A serve's result accords with
+-- the room; it runs out of memory only where the request that is then held (the next one done, or the one held at the end)
+-- allocates; and after the member the outbox has room for a notice of each pending timer.
 pub record IsRight (may_refuse : Bool) (c : ℕ) (s : FacilityState) (a b : Side) (past : List Done) (done : Done) (later : List Done) : Type 0 where
   pub served : IsRightMember c a.backlog.room (outbox_after c a past) (left_of a - length (asked c past)) (pending_after c s past) done
   pub needed : done ≡ Dones.Served c NoMemory → IsNeeded may_refuse c (run s (events past)).state (asked c later ++ held_list b.backlog.held)

@@ -1,4 +1,4 @@
--- What clauses see of the ends of a line over rings.
+-- The abstract state of the ends of a ring line, as clauses name it.
 use Rattle.std.specs.Prelude.{◌≡◌, ◌<◌, ◌≤◌, [], ℕ, Bool, true, List, ◌++◌, if◌then◌else◌}
 use Rattle.std.proofs.Common.{◌∙◌, refl}
 use denote.RawPtr.{Ptr}
@@ -19,14 +19,14 @@ use Rattle.timer_desk.specs.declared.ring.Unsent.{Unsent}
 use Rattle.timer_desk.specs.declared.ring.Unsent.TheVariants.{Spent, Full}
 use Rattle.timer_desk.specs.Extends.{Extends, Extends-refl, Extends-trans}
 
--- what makes a ring the one that it is
+-- the identity of a ring
 abbrev pub Ring : Type 0
 Ring = Ptr × Ptr × Names × Global
 
 abbrev pub ring_of : {T P : Type 0} → End T Global P → Ring
 ring_of e = (e.words, e.slots, e.names, e.heap)
 
--- the ring of requests, and the ring of words
+-- the identity of a line: its ring of requests, and its ring of words
 abbrev pub Line : Type 0
 Line = Ring × Ring
 
@@ -57,7 +57,7 @@ received_by_end e = received e.words
 abbrev pub free_of : ClientEnd → ℕ
 free_of e = known_free e.requests
 
--- the words that the client has seen in the line
+-- the words that the client knows to stand in the line
 abbrev pub seen_by_end : ClientEnd → List Word
 seen_by_end e = known_items e.words
 
@@ -68,7 +68,7 @@ next_of e = e.next
 abbrev pub numbered : ℕ → Request → Numbered
 numbered n r = record { number = n; request = r }
 
--- the request comes back: `Spent` where no number is left for it
+-- the request is handed back: `Spent` where no number is left for it, else `Full`
 abbrev pub IsUnsent : Unsent → Request → ℕ → Type 0
 IsUnsent (Spent r) request next = (r ≡ request) × (LAST < next)
 IsUnsent (Full r) request next = (r ≡ request) × (next ≤ LAST)
@@ -91,7 +91,7 @@ given_of i = sent i.words
 abbrev pub is_settled : RingInlet → Bool
 is_settled i = i.settled
 
--- the requests that the owner has seen in the line
+-- the requests that the owner knows to stand in the line
 abbrev pub seen_by_inlet : RingInlet → List Numbered
 seen_by_inlet i = known_items i.requests
 
@@ -99,8 +99,8 @@ seen_by_inlet i = known_items i.requests
 abbrev pub free_of_inlet : RingInlet → ℕ
 free_of_inlet i = known_free i.words
 
--- The line is the same one, and more may have been got and given. Once it is settled it stays so, and what was got and what stands is
--- all that was submitted, as it was.
+-- The line is the same one, and more may have been got and given. Once settled it stays settled, and what was got followed
+-- by what stands stays the same.
 pub record SameRingLine (a b : RingInlet) : Type 0 where
   pub line : line_of_inlet a ≡ line_of_inlet b
   pub got_grows : Extends (got_of a) (got_of b)
@@ -128,7 +128,7 @@ read_by r = received r.words
 abbrev pub is_settled_reader : ClientReader → Bool
 is_settled_reader r = r.settled
 
--- the words that the reader has seen in the line
+-- the words that the reader knows to stand in the line
 abbrev pub seen_by_reader : ClientReader → List Word
 seen_by_reader r = known_items r.words
 

@@ -1,10 +1,10 @@
--- What settling makes of a line over rings.
+-- A ring line before and after it is settled.
 use Rattle.std.specs.Prelude.{◌≡◌, ◌++◌, ℕ, true, List, length}
 use Rattle.timer_desk.specs.declared.word.Numbered.{Numbered}
 use Rattle.timer_desk.specs.declared.ring.RingInlet.{RingInlet}
 use Rattle.timer_desk.specs.Ring.{line_of_inlet, got_of, standing_of, given_of, is_settled}
 
--- the line is the same one, and what was got and what stands is all that was submitted
+-- the line is the same one, and what was got followed by what stands is all that was submitted
 pub record HasSettled (old new : RingInlet) (submitted : List Numbered) (count : ℕ) : Type 0 where
   pub same_line : line_of_inlet new ≡ line_of_inlet old
   pub settled : is_settled new ≡ true

@@ -1,15 +1,15 @@
-//! A client's request goes to the facility.
+//! Passes a client's request to the facility.
 ghost use Rattle.std.specs.Prelude.{◌≡◌, [], None, IfSome, IsNone};
-ghost use Rattle.timer_facility.specs.Standing.{NeedsMemory};
-ghost use Rattle.timer_desk.specs.Asked.{HasAsked};
+ghost use Rattle.timer_facility.specs.Facility.{NeedsMemory};
+ghost use Rattle.timer_desk.specs.Asking.{HasAsked};
 
 use crate::word::{Numbered, Word};
 use timer_base::Wheel;
 use timer_facility::{Facility, NotTaken};
 
-/// Hands a client's request to the facility, and returns the word for its answer or its refusal.
+/// Makes a client's request at the facility, and returns the word for its answer or its refusal.
 ///
-/// None where the facility is out of memory, which changes nothing.
+/// None where the facility is out of memory, and then nothing changes.
 pub fn ask<W: Wheel + Drop>(
     facility: &mut Facility<W>,
     client: u64,

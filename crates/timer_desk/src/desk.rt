@@ -1,16 +1,16 @@
-//! The owner's desk: one facility, and for each client its line and what waits for it.
+//! The owner's desk: one facility, and for each client its line and its backlog.
 ghost use Rattle.std.specs.Prelude.{◌≡◌, ◌<◌, ◌≤◌, ◌+◌, ◌++◌, [], ◌∷◌, length, map, IfOk, IfErr, OnErr, replicate, vec_len, vec_capacity, ℕ};
 ghost use Rattle.timer_facility.specs.State.{FacilityState, IsSound};
-ghost use Rattle.timer_facility.specs.Standing.{with_nothing_waiting};
-ghost use Rattle.timer_desk.specs.Asked.{IsWant};
-ghost use Rattle.timer_desk.specs.Backlog.{Backlog, empty_backlog, HasRoom};
+ghost use Rattle.timer_facility.specs.Facility.{with_nothing_waiting};
+ghost use Rattle.timer_desk.specs.Asking.{RanOutOfMemory};
+ghost use Rattle.timer_desk.specs.Backlog.{BacklogState, empty_backlog, HasRoom};
 ghost use Rattle.timer_desk.specs.Report.{HeldIsLast};
 ghost use Rattle.timer_desk.specs.Desk.{DeskState, opened_desk, clients_of, backlog_at, AllIdle, side_at, TakesNothing, Told, tick_notices, close_notices};
 
+use crate::backlog::Backlog;
 use crate::handing::hand_out;
 use crate::inlet::Inlet;
 use crate::report::{Done, Served};
-use crate::waiting::Waiting;
 use crate::word::Numbered;
 use std::alloc::{AllocError, Global};
 use std::marker::Model;
@@ -22,8 +22,8 @@ use timer_facility::{CloseFault, Facility, TickFault, what_is_handed_out_was_pen
 pub struct Desk<W: Wheel + Drop, I: Inlet + Drop> {
     pub(crate) facility: Facility<W>,
     pub(crate) inlets: Vec<I>,
-    // What waits for each client, in the order of `inlets`.
-    pub(crate) waiting: Vec<Waiting>,
+    // The backlog of each client, in the order of `inlets`.
+    pub(crate) backlogs: Vec<Backlog>,
     pub(crate) alloc: Global,
 }
 
@@ -32,9 +32,9 @@ impl<W: Wheel + Drop, I: Inlet + Drop> Model for Desk<W, I> {
 
     ghost Value = { DeskState I };
 
-    ghost view = { λ d. record { facility = d.facility.state; inlets = d.inlets.items; backlogs = d.waiting.items } };
+    ghost view = { λ d. record { facility = d.facility.state; inlets = d.inlets.items; backlogs = d.backlogs.items } };
 
-    ghost invariant = { λ d. IsDesk I.got I.standing I.given d.facility d.inlets.items d.waiting.items };
+    ghost invariant = { λ d. IsDesk I.got I.standing I.given d.facility d.inlets.items d.backlogs.items };
 }
 
 impl<W: Wheel + Drop, I: Inlet + Drop> Desk<W, I> {
@@ -45,11 +45,12 @@ impl<W: Wheel + Drop, I: Inlet + Drop> Desk<W, I> {
         &self.facility
     }
 
-    /// What every desk keeps: each outbox has room for a notice of each timer of its client that is
-    /// pending, and a request that is held is the last that was got. The call does nothing.
+    /// The invariant of every desk: each outbox has room for a notice of each pending timer of its
+    /// client, and a held request is the last one that was taken. The call does nothing.
     pub fn keeps(&self)
         ensures room { HasRoom self.now.backlogs (with_nothing_waiting self.now.facility) }
-        ensures held { (c : ℕ) (i : I) (b : Backlog) → c < clients_of self.now → HeldIsLast (side_at I.got I.standing I.given self.now c i b) }
+        ensures held { (c : ℕ) (i : I) (b : BacklogState) → c < clients_of self.now
+            → HeldIsLast (side_at I.got I.standing I.given self.now c i b) }
         ensures sound { IsSound self.now.facility }
     {
         let _ = self.facility.pending();
@@ -67,19 +68,19 @@ impl<W: Wheel + Drop, I: Inlet + Drop> Desk<W, I> {
         requires { c < clients_of self.now }
         ensures { result ≡ length (backlog_at self.now c).outbox }
     {
-        self.waiting[c].len()
+        self.backlogs[c].len()
     }
 
-    /// The request of client c that ran out of memory and is tried again. Does not allocate.
+    /// The held request of client c: it ran out of memory, and is retried. Does not allocate.
     pub fn held(&self, c: usize) -> Option<Numbered>
         requires { c < clients_of self.now }
         ensures { result ≡ (backlog_at self.now c).held }
     {
-        self.waiting[c].held()
+        self.backlogs[c].held()
     }
 
-    /// Serves client c once: a request that is held, or else the next one of its line, goes to the
-    /// facility, and the word for it to the back of the client's outbox.
+    /// Serves client c once: takes the held request, or else the next one of its line, to the facility,
+    /// and pushes the word for it to the back of the client's outbox.
     ///
     /// `NoRoom` is tested first, and then nothing was taken. The facility allocates only for a start
     /// that it accepts.
@@ -89,46 +90,48 @@ impl<W: Wheel + Drop, I: Inlet + Drop> Desk<W, I> {
         ensures pending { length self.new.facility.pending ≤ length self.old.facility.pending + 1 }
         ensures no_room { result ≡ Served.NoRoom → self.new ≡ self.old }
         ensures idle { result ≡ Served.Idle → TakesNothing I.got self.old self.new }
-        ensures memory { result ≡ Served.NoMemory → IsWant I.take_may_refuse c self.old.facility (backlog_at self.new c).held }
+        ensures memory { result ≡ Served.NoMemory → RanOutOfMemory I.take_may_refuse c self.old.facility (backlog_at self.new c).held }
     {
-        self.waiting[c].serve(&mut self.inlets[c], &mut self.facility, c)
+        self.backlogs[c].serve(&mut self.inlets[c], &mut self.facility, c)
     }
 
-    /// Puts words of client c into its line until none is left or one is not taken, and returns how
-    /// many went. Does not allocate where the line does not.
+    /// Moves words from client c's outbox into its line until none is left or the line does not take one,
+    /// and returns how many it moved. Does not allocate unless the line does.
     pub fn flush(&mut self, c: usize) -> usize
         requires { c < clients_of self.old }
         ensures told { Told I.got I.standing I.given I.same_line I.take_may_refuse (Done.Flushed c result ∷ []) self.old self.new }
         ensures facility { self.new.facility ≡ self.old.facility }
     {
-        self.waiting[c].flush(&mut self.inlets[c])
+        self.backlogs[c].flush(&mut self.inlets[c])
     }
 
-    /// Goes to the next tick, and puts each notice at the back of its client's outbox. Does not
-    /// allocate.
+    /// Advances the clock by one tick, and pushes each notice to the back of its client's outbox. Does
+    /// not allocate.
     pub fn tick(&mut self) -> Result<(), TickFault>
-        ensures { let report = Done.Ticked result ∷ map Done.Noticed (tick_notices self.old.facility) in Told I.got I.standing I.given I.same_line I.take_may_refuse report self.old self.new }
+        ensures { let report = Done.Ticked result ∷ map Done.Noticed (tick_notices self.old.facility) in
+            Told I.got I.standing I.given I.same_line I.take_may_refuse report self.old self.new }
     {
         what_is_handed_out_was_pending();
         let result = self.facility.tick();
-        hand_out(&mut self.facility, &mut self.waiting);
+        hand_out(&mut self.facility, &mut self.backlogs);
         result
     }
 
-    /// Closes the facility, puts each notice at the back of its client's outbox, and returns how many
-    /// timers are handed back.
+    /// Closes the facility, pushes each notice to the back of its client's outbox, and returns how many
+    /// timers are returned.
     ///
-    /// After `OutOfMemory`, which a closed facility never returns, nothing changed.
+    /// After `OutOfMemory`, which a closed facility never returns, nothing has changed.
     pub fn close(&mut self) -> Result<u64, CloseFault>
-        ensures { let report = Done.Closed result ∷ map Done.Noticed (close_notices self.old.facility result) in Told I.got I.standing I.given I.same_line I.take_may_refuse report self.old self.new }
+        ensures { let report = Done.Closed result ∷ map Done.Noticed (close_notices self.old.facility result) in
+            Told I.got I.standing I.given I.same_line I.take_may_refuse report self.old self.new }
     {
         what_is_handed_out_was_pending();
         let result = self.facility.close();
-        hand_out(&mut self.facility, &mut self.waiting);
+        hand_out(&mut self.facility, &mut self.backlogs);
         result
     }
 
-    /// The facility and the lines, as they are. Nothing may be held, and all outboxes must be empty.
+    /// Gives back the facility and the lines, unchanged. Nothing may be held, and all outboxes must be empty.
     /// Does not allocate.
     pub fn end(self) -> (Facility<W>, Vec<I>)
         requires { AllIdle self }
@@ -138,7 +141,7 @@ impl<W: Wheel + Drop, I: Inlet + Drop> Desk<W, I> {
         let Desk {
             facility,
             inlets,
-            waiting: _,
+            backlogs: _,
             alloc: _,
         } = self;
         (facility, inlets)

@@ -1,4 +1,4 @@
-//! Turns of a desk until each client has come to a goal.
+//! Drives a desk turn by turn until each client has reached a goal.
 ghost use Rattle.std.specs.Prelude.{◌≡◌, ◌≤◌, ◌<◌, ℕ, All, IfOk, OnErr, length, vec_len};
 ghost use Rattle.timer_base.specs.declared.limits.TheConstants.{LAST};
 ghost use Rattle.timer_desk.specs.Desk.{clients_of};
@@ -18,20 +18,20 @@ use timer_facility::notices_are_owed;
 pub enum DriveEnd {
     /// Each client reached the goal.
     Done,
-    /// As many turns in a row as the limit allows passed nothing on.
+    /// `limit` consecutive turns made no progress.
     Limit,
     /// Allocation failed.
     OutOfMemory,
 }
 
-/// A desk after its turns.
+/// A desk after a drive, and why it ended.
 #[derive(Drop)]
 pub struct Driven<W: Wheel + Drop, I: Inlet + Drop> {
     pub desk: Desk<W, I>,
     pub outcome: DriveEnd,
 }
 
-/// What one turn came to.
+/// The outcome of one turn.
 #[derive(Clone, Copy)]
 enum Turned {
     Passed,
@@ -39,10 +39,10 @@ enum Turned {
     Refused,
 }
 
-/// Takes turns: a serve of each client that had fewer than `goal` requests served, a flush of each
-/// client, and a tick. It ends when each client had `goal` requests served and twice as many words
-/// flushed, when `limit` turns in a row passed nothing on, or when allocation failed. A turn that
-/// passed nothing on leaves the processor to another thread.
+/// Runs turns of the desk: a serve of each client that has had fewer than `goal` requests served, a flush
+/// of each client, and a tick. It ends when each client has had `goal` requests served and twice as many
+/// words flushed, when `limit` consecutive turns made no progress, or when allocation failed. A turn
+/// without progress yields the processor to another thread.
 pub fn drive<W: Wheel + Drop, I: Inlet + Drop>(
     alloc: Global,
     desk: Desk<W, I>,
@@ -90,7 +90,7 @@ pub fn drive<W: Wheel + Drop, I: Inlet + Drop>(
     }
 }
 
-/// One turn, which is counted.
+/// Runs one turn, and counts its progress.
 fn one_turn<W: Wheel + Drop, I: Inlet + Drop>(
     alloc: Global,
     desk: &mut Desk<W, I>,

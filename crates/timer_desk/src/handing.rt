@@ -1,61 +1,61 @@
-//! The notices of a tick or a close go into their clients' outboxes.
+//! Moves the notices of a tick or a close into their clients' outboxes.
 ghost use Rattle.std.specs.Prelude.{◌≡◌, ◌≤◌, ◌+◌, ◌++◌, [], map, take, drop, length, slice_get, vec_len, vec_capacity};
-ghost use Rattle.timer_facility.specs.Standing.{with_nothing_waiting};
+ghost use Rattle.timer_facility.specs.Facility.{with_nothing_waiting};
 ghost use Rattle.timer_desk.specs.Backlog.{client_of, HasRoom, with_notices};
 
+use crate::backlog::Backlog;
 use crate::report::Done;
-use crate::waiting::Waiting;
 use crate::word::Word;
 use timer_base::Wheel;
 use timer_facility::{Facility, Notice};
 
-/// Puts each notice that waits last in its client's outbox.
-pub fn hand_out<W: Wheel + Drop>(facility: &mut Facility<W>, waiting: &mut Vec<Waiting>)
-    requires room { HasRoom waiting.old.items facility.old }
-    requires clients { vec_len waiting.old ≡ length facility.old.state.numbers }
+/// Pushes each waiting notice to the back of its client's outbox.
+pub fn hand_out<W: Wheel + Drop>(facility: &mut Facility<W>, backlogs: &mut Vec<Backlog>)
+    requires room { HasRoom backlogs.old.items facility.old }
+    requires clients { vec_len backlogs.old ≡ length facility.old.state.numbers }
     ensures facility { facility.new ≡ with_nothing_waiting facility.old.state }
-    ensures noted { waiting.new.items ≡ with_notices facility.old.waiting waiting.old.items }
-    ensures room { HasRoom waiting.new.items facility.new }
+    ensures noted { backlogs.new.items ≡ with_notices facility.old.waiting backlogs.old.items }
+    ensures room { HasRoom backlogs.new.items facility.new }
 {
-    while hand_out_next(facility, waiting).is_some() {}
+    while hand_out_next(facility, backlogs).is_some() {}
 }
 
-/// Puts each notice that waits last in its client's outbox, and adds it to the report.
+/// Pushes each waiting notice to the back of its client's outbox, and appends it to the report.
 pub fn hand_out_into<W: Wheel + Drop>(
     facility: &mut Facility<W>,
-    waiting: &mut Vec<Waiting>,
+    backlogs: &mut Vec<Backlog>,
     report: &mut Vec<Done>,
 )
-    requires room { HasRoom waiting.old.items facility.old }
-    requires clients { vec_len waiting.old ≡ length facility.old.state.numbers }
+    requires room { HasRoom backlogs.old.items facility.old }
+    requires clients { vec_len backlogs.old ≡ length facility.old.state.numbers }
     requires report { vec_len report.old + length facility.old.waiting ≤ vec_capacity report.old }
     ensures facility { facility.new ≡ with_nothing_waiting facility.old.state }
-    ensures noted { waiting.new.items ≡ with_notices facility.old.waiting waiting.old.items }
-    ensures room { HasRoom waiting.new.items facility.new }
+    ensures noted { backlogs.new.items ≡ with_notices facility.old.waiting backlogs.old.items }
+    ensures room { HasRoom backlogs.new.items facility.new }
     ensures report { report.new.items ≡ report.old.items ++ map Done.Noticed facility.old.waiting }
     ensures len { vec_len report.new ≡ vec_len report.old + length facility.old.waiting }
     ensures capacity { vec_capacity report.new ≡ vec_capacity report.old }
 {
-    while let Some(notice) = hand_out_next(facility, waiting) {
+    while let Some(notice) = hand_out_next(facility, backlogs) {
         report.push_reserved(Done::Noticed(notice));
     }
 }
 
-/// Puts the next notice that waits last in its client's outbox, and returns it.
+/// Pushes the next waiting notice to the back of its client's outbox, and returns it.
 fn hand_out_next<W: Wheel + Drop>(
     facility: &mut Facility<W>,
-    waiting: &mut Vec<Waiting>,
+    backlogs: &mut Vec<Backlog>,
 ) -> Option<Notice>
-    requires room { HasRoom waiting.old.items facility.old }
-    requires clients { vec_len waiting.old ≡ length facility.old.state.numbers }
+    requires room { HasRoom backlogs.old.items facility.old }
+    requires clients { vec_len backlogs.old ≡ length facility.old.state.numbers }
     ensures first { result ≡ slice_get facility.old.waiting 0 }
     ensures rest { facility.new ≡ record facility.old { waiting = drop 1 facility.old.waiting } }
-    ensures noted { waiting.new.items ≡ with_notices (take 1 facility.old.waiting) waiting.old.items }
-    ensures room { HasRoom waiting.new.items facility.new }
+    ensures noted { backlogs.new.items ≡ with_notices (take 1 facility.old.waiting) backlogs.old.items }
+    ensures room { HasRoom backlogs.new.items facility.new }
 {
     let notice = facility.next_out()?;
     let client = client_of(&notice) as usize;
-    waiting[client].note(Word::Notice(notice));
+    backlogs[client].note(Word::Notice(notice));
     Some(notice)
 }
 

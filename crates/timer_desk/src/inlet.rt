@@ -12,7 +12,7 @@ use crate::word::{Numbered, Word};
 /// What `take` returns.
 #[derive(Clone, Copy, Debug, PartialEq, Eq)]
 pub enum Taken {
-    /// Nothing is known to stand in the line.
+    /// No request is known to stand in the line.
     Empty,
     /// The next request.
     Got(Numbered),
@@ -20,7 +20,7 @@ pub enum Taken {
     NoMemory,
 }
 
-/// What `put` returns. A word that was not put comes back.
+/// What `put` returns. A word that was not put is handed back.
 #[derive(Clone, Copy, Debug, PartialEq, Eq)]
 pub enum Put {
     Done,
@@ -53,7 +53,7 @@ pub trait Inlet {
     /// Whether `put` may run out of memory.
     ghost put_may_refuse: { Bool };
 
-    /// Takes the next request.
+    /// Takes the next request from the line.
     fn take(&mut self) -> Taken
         ensures line { same_line self.old self.new }
         ensures got { got self.new ≡ got self.old ++ taken_of result }
@@ -63,7 +63,7 @@ pub trait Inlet {
         ensures memory { result ≡ Taken.NoMemory → take_may_refuse ≡ true }
         ensures given { given self.new ≡ given self.old };
 
-    /// Puts a word, or hands it back.
+    /// Puts a word into the line, or hands it back.
     fn put(&mut self, word: Word) -> Put
         ensures line { same_line self.old self.new }
         ensures given { given self.new ≡ given self.old ++ put_of result word }

@@ -1,7 +1,15 @@
 //! Lines between client threads and the owner of a facility, and the owner's desk.
+//!
+//! A client's line carries its requests to the owner, and words back. A `Desk` owns the facility, its end
+//! of every line, and for each client a backlog: an outbox, and at most one request that ran out of
+//! memory. Its calls are single steps, or a `turn` of many, whose report says which requests were taken
+//! and which words each client gets. The layer above knows a desk by `specs/Desk.antt`, and a report by
+//! `specs/Report.antt`. Read `inlet` first, which is what every line does, then `desk` and `turn`. `ring`
+//! and `locked` are the lines between threads, `memory` is a line for one thread.
 #![tactic(auto)]
 
 mod asking;
+mod backlog;
 mod desk;
 mod driving;
 mod handing;
@@ -18,7 +26,6 @@ mod ring;
 mod ring_maker;
 mod settling;
 mod turn;
-mod waiting;
 mod winding;
 mod word;
 

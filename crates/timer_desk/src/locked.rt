@@ -81,7 +81,7 @@ impl<R: Wait> Inlet for LockedInlet<R> {
 
     ghost transitive = { SameLockedLine-trans };
 
-    // An empty or a full line is reported before a want of memory for the record.
+    // An empty line, and in `put` a full one, is reported before out of memory.
     fn take(&mut self) -> Taken {
         if self.got.reserve(1).is_err() {
             return self.queues.lock(&self.rt).refuse_to_take();

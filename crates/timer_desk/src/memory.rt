@@ -5,7 +5,7 @@ use crate::inlet::{Inlet, Put, Taken};
 use crate::word::{Numbered, Word};
 use std::alloc::Global;
 
-/// Requests that are known from the beginning, and the words put.
+/// A line whose requests are all known when it is made.
 #[derive(Drop)]
 pub struct MemoryInlet {
     requests: Vec<Numbered>,
@@ -20,7 +20,7 @@ pub struct MemoryInlet {
 impl MemoryInlet {
     ghost use Rattle.timer_desk.specs.Memory.{got_of, standing_of, given_of, room_of};
 
-    /// A line in which all these requests stand, with room for so many words. Does not allocate.
+    /// A line in which all these requests stand, with room for `room` words. Does not allocate.
     pub fn new(alloc: Global, requests: Vec<Numbered>, room: usize) -> MemoryInlet
         ensures got { got_of result ≡ [] }
         ensures standing { standing_of result ≡ requests.items }
@@ -35,7 +35,7 @@ impl MemoryInlet {
         }
     }
 
-    /// The words put. Does not allocate.
+    /// The words put into the line. Does not allocate.
     pub fn given(&self) -> &[Word]
         ensures { result.now ≡ given_of self.now }
     {
@@ -73,7 +73,7 @@ impl Inlet for MemoryInlet {
         Taken::Empty
     }
 
-    /// Puts a word. The line is full from its room of words on.
+    /// Puts a word. The line is full once it has `room` words.
     fn put(&mut self, word: Word) -> Put
         ensures line { SameMemoryLine self.old self.new }
         ensures given { given_of self.new ≡ given_of self.old ++ put_of result word }

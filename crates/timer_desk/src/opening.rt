@@ -1,36 +1,35 @@
-//! Opening a desk.
+//! The constructor of a desk, and its errors.
 ghost use Rattle.std.specs.Prelude.{◌≡◌, ◌≤◌, ◌<◌, [], length, IfOk, IfErr, replicate, vec_len, vec_capacity};
-ghost use Rattle.timer_facility.specs.Standing.{Standing, with_nothing_waiting};
+ghost use Rattle.timer_facility.specs.Facility.{FacilityView, with_nothing_waiting};
 ghost use Rattle.timer_desk.specs.Backlog.{empty_backlog};
 ghost use Rattle.timer_desk.specs.Desk.{opened_desk};
 ghost use Rattle.timer_desk.specs.Opening.{HandsBackBoth};
 
+use crate::backlog::Backlog;
 use crate::desk::Desk;
 use crate::inlet::Inlet;
-use crate::waiting::Waiting;
 use std::alloc::{AllocError, Global};
 use timer_base::Wheel;
 use timer_facility::Facility;
 
-/// The fewest words that an outbox may have room for: an answer, and a notice of the timer that it
-/// started.
+/// The least room of an outbox, in words: an answer, and a notice of the timer that it started.
 pub const LEAST_ROOM: usize = 2;
 
-/// The most words that an outbox may have room for.
+/// The greatest room of an outbox, in words.
 pub const MOST_ROOM: usize = 65536;
 
-/// Why a desk is not opened, in the order in which it is tested. Facility and lines come back.
+/// Why a desk was not opened, in the order of the tests. It hands back the facility and the lines.
 #[derive(Drop)]
 pub enum OpenFault<W: Wheel + Drop, I: Drop> {
-    /// The room is not 2 to 65,536.
+    /// The room is not from `LEAST_ROOM` to `MOST_ROOM`.
     Room(Facility<W>, Vec<I>),
     /// Allocation failed.
     OutOfMemory(Facility<W>, Vec<I>),
 }
 
 impl<W: Wheel + Drop, I: Inlet + Drop> Desk<W, I> {
-    /// A desk over this facility, in which no timer is pending and nothing waits, and these lines, one
-    /// for each client. Each outbox has room for so many words.
+    /// Opens a desk over this facility, in which no timer is pending and nothing waits, and these lines,
+    /// one for each client. Each outbox has room for `room` words.
     pub fn open(
         alloc: Global,
         facility: Facility<W>,
@@ -48,10 +47,10 @@ impl<W: Wheel + Drop, I: Inlet + Drop> Desk<W, I> {
             return Err(OpenFault::Room(facility, inlets));
         }
         match empty_backlogs(alloc, inlets.len(), room) {
-            Ok(waiting) => Ok(Desk {
+            Ok(backlogs) => Ok(Desk {
                 facility,
                 inlets,
-                waiting,
+                backlogs,
                 alloc,
             }),
             Err(_) => Err(OpenFault::OutOfMemory(facility, inlets)),
@@ -59,13 +58,13 @@ impl<W: Wheel + Drop, I: Inlet + Drop> Desk<W, I> {
     }
 }
 
-/// For each of so many clients, an empty outbox with this room, and nothing held.
-fn empty_backlogs(alloc: Global, clients: usize, room: usize) -> Result<Vec<Waiting>, AllocError>
+/// For each client an empty outbox with this room, and no held request.
+fn empty_backlogs(alloc: Global, clients: usize, room: usize) -> Result<Vec<Backlog>, AllocError>
     ensures { IfOk result (λ backlogs. backlogs.items ≡ replicate clients (empty_backlog room)) }
 {
     let mut backlogs = Vec::with_capacity(alloc, clients)?;
     for _ in 0..clients {
-        backlogs.push_reserved(Waiting::new(alloc, room)?);
+        backlogs.push_reserved(Backlog::new(alloc, room)?);
     }
     Ok(backlogs)
 }

@@ -7,8 +7,8 @@ ghost use Rattle.timer_desk.specs.Report.{asked_in, flushed_in, asked, flushed};
 use crate::report::{Done, Served};
 use std::alloc::{AllocError, Global};
 
-/// How many requests of a client were served, and how many of its words were flushed, as far as they
-/// are counted.
+/// How many requests of a client were served, and how many of its words were flushed, each counted up
+/// to its goal.
 #[derive(Clone, Copy, Debug, PartialEq, Eq)]
 pub struct Progress {
     pub served: u64,
@@ -18,7 +18,7 @@ pub struct Progress {
 impl Progress {
     ghost use Rattle.timer_desk.specs.Driving.{left_for};
 
-    /// Whether so many requests were served, and their words flushed.
+    /// Whether `goal` requests were served, and twice as many words flushed.
     pub fn is_done(&self, goal: u64) -> bool
         requires { goal ≤ LAST }
         ensures { IsTrue result ↔ IsDone goal self.now }
@@ -26,7 +26,7 @@ impl Progress {
         self.served >= goal && self.flushed >= 2 * goal
     }
 
-    /// Counts one request more, up to the goal, and says whether it was counted.
+    /// Counts one more request, up to the goal, and returns whether it was counted.
     fn count_request(&mut self, goal: u64) -> bool
         requires { goal ≤ LAST }
         ensures served { self.new.served ≤ self.old.served + 1 }
@@ -41,7 +41,7 @@ impl Progress {
         true
     }
 
-    /// Counts so many words more, up to twice the goal, and says whether one was counted.
+    /// Counts `count` more words, up to twice the goal, and returns whether any was counted.
     fn count_words(&mut self, count: usize, goal: u64) -> bool
         requires { goal ≤ LAST }
         ensures served { self.new.served ≡ self.old.served }
@@ -63,7 +63,7 @@ impl Progress {
     }
 }
 
-/// No progress yet, for each of so many clients.
+/// No progress yet, for each of `clients` clients.
 pub fn no_progress(alloc: Global, clients: usize) -> Result<Vec<Progress>, AllocError>
     ensures { IfOk result (λ all. all.items ≡ replicate clients (record { served = 0; flushed = 0 })) }
 {
@@ -90,10 +90,11 @@ pub fn all_done(all: &[Progress], goal: u64) -> bool
     true
 }
 
-/// Counts one member of a report, and says whether it passed something on.
+/// Counts one member of a report, and returns whether it is progress.
 fn count_member(all: &mut Vec<Progress>, member: Done, goal: u64) -> bool
     requires { goal ≤ LAST }
-    ensures counted { (c : ℕ) (p : Progress) → c < vec_len all.old → HasCounted (length (asked_in c member)) (flushed_in c member) (get_or all.old.items c p) (get_or all.new.items c p) }
+    ensures counted { (c : ℕ) (p : Progress) → c < vec_len all.old
+        → HasCounted (length (asked_in c member)) (flushed_in c member) (get_or all.old.items c p) (get_or all.new.items c p) }
     ensures len { vec_len all.new ≡ vec_len all.old }
     ensures fewer { IsTrue result → all_left goal all.new.items < all_left goal all.old.items }
     ensures no_more { all_left goal all.new.items ≤ all_left goal all.old.items }
@@ -118,10 +119,11 @@ fn count_member(all: &mut Vec<Progress>, member: Done, goal: u64) -> bool
     }
 }
 
-/// Counts a report, and says whether it passed something on.
+/// Counts a report, and returns whether any of its members is progress.
 pub fn count_report(all: &mut Vec<Progress>, report: &[Done], goal: u64) -> bool
     requires { goal ≤ LAST }
-    ensures counted { (c : ℕ) (p : Progress) → c < vec_len all.old → HasCounted (length (asked c report.now)) (flushed c report.now) (get_or all.old.items c p) (get_or all.new.items c p) }
+    ensures counted { (c : ℕ) (p : Progress) → c < vec_len all.old
+        → HasCounted (length (asked c report.now)) (flushed c report.now) (get_or all.old.items c p) (get_or all.new.items c p) }
     ensures len { vec_len all.new ≡ vec_len all.old }
     ensures fewer { IsTrue result → all_left goal all.new.items < all_left goal all.old.items }
     ensures no_more { all_left goal all.new.items ≤ all_left goal all.old.items }

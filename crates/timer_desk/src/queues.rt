@@ -1,4 +1,4 @@
-//! What stands behind the lock of a locked line.
+//! The two queues that the lock of a locked line guards.
 ghost use Rattle.std.specs.Prelude.{◌≡◌, ◌≤◌, length};
 
 use crate::inlet::{Put, Taken};
@@ -31,7 +31,7 @@ impl Queues {
         })
     }
 
-    /// Puts a request last, or hands it back where its queue is full.
+    /// Pushes a request, or hands it back where its queue is full.
     pub fn push_request(&mut self, numbered: Numbered) -> Result<(), Numbered>
         ensures ok { OnOk result (requests_in self.new ≡ requests_in self.old ++ numbered ∷ []) }
         ensures err { IfErr result (λ n. (n ≡ numbered) × (requests_in self.new ≡ requests_in self.old)) }
@@ -41,7 +41,7 @@ impl Queues {
         self.requests.try_push_back(numbered)
     }
 
-    /// Takes the first request.
+    /// Pops the first request.
     pub fn pop_request(&mut self) -> Option<Numbered>
         ensures value { result ≡ slice_get (requests_in self.old) 0 }
         ensures requests { requests_in self.new ≡ drop 1 (requests_in self.old) }
@@ -50,7 +50,7 @@ impl Queues {
         self.requests.pop_front()
     }
 
-    /// What a take returns that had no memory for its record.
+    /// What `take` of the line returns where its record cannot grow.
     pub fn refuse_to_take(&self) -> Taken
         ensures empty { requests_in self.now ≡ [] → result ≡ Taken.Empty }
         ensures standing { requests_in self.now ≢ [] → result ≡ Taken.NoMemory }
@@ -62,7 +62,7 @@ impl Queues {
         }
     }
 
-    /// What a put of a word returns that had no memory for its record.
+    /// What `put` of the line returns where its record cannot grow.
     pub fn refuse_to_put(&self, word: Word) -> Put
         ensures full { length (words_in self.now) ≡ capacity_of self.now → result ≡ Put.Full word }
         ensures room { length (words_in self.now) < capacity_of self.now → result ≡ Put.NoMemory word }
@@ -74,7 +74,7 @@ impl Queues {
         }
     }
 
-    /// Puts a word last, or hands it back where its queue is full.
+    /// Pushes a word, or hands it back where its queue is full.
     pub fn push_word(&mut self, word: Word) -> Result<(), Word>
         ensures ok { OnOk result (words_in self.new ≡ words_in self.old ++ word ∷ []) }
         ensures err { IfErr result (λ w. (w ≡ word) × (words_in self.new ≡ words_in self.old)) }
@@ -84,7 +84,7 @@ impl Queues {
         self.words.try_push_back(word)
     }
 
-    /// Takes the first word.
+    /// Pops the first word.
     pub fn pop_word(&mut self) -> Option<Word>
         ensures value { result ≡ slice_get (words_in self.old) 0 }
         ensures words { words_in self.new ≡ drop 1 (words_in self.old) }

@@ -4,19 +4,19 @@
 //!     ClientEnd     submit  --> ring of requests -->   take     RingInlet
 //!                   receive <-- ring of words    <--   put
 //!
-//! Each ring has one producer and one consumer, so each call here is one push or one pop: it needs no
-//! lock and no memory, and it returns. Neither end knows what the other has done since. Once one has
-//! finished, the other settles, and from then on knows all that stands in the ring.
+//! Each ring has one producer and one consumer, so each call here is one push or one pop: it takes no
+//! lock, does not allocate, and returns. Neither end knows what the other has done meanwhile. Once one
+//! end has finished, the other settles the line, and from then on knows all that stands in the ring.
 use crate::inlet::{Inlet, Put, Taken};
 use crate::word::{Numbered, Word};
 use rtrb::{Consumer, Finished, Producer, PushError};
 use timer_base::LAST;
 use timer_facility::Request;
 
-/// Why a request was not sent. It comes back.
+/// Why a request was not sent. It is handed back.
 #[derive(Clone, Copy, Debug, PartialEq, Eq)]
 pub enum Unsent {
-    /// The client used each of its numbers.
+    /// The client's numbers are used up.
     Spent(Request),
     /// The ring has no room for it.
     Full(Request),
@@ -68,17 +68,19 @@ impl ClientEnd {
         self.next
     }
 
-    /// Sends a request, and returns its number, one more than the last.
+    /// Sends a request, and returns its number, one above that of the last.
     ///
-    /// `Spent` where the next number would be above `LAST`, else `Full` where the ring has no room.
-    /// Either hands the request back and changes nothing.
+    /// Fails with `Spent` where the number would be above `LAST`, else with `Full` where the ring has no
+    /// room. Either hands the request back and changes nothing.
     pub fn submit(&mut self, request: Request) -> Result<u64, Unsent>
         ensures line { line_of_end self.new ≡ line_of_end self.old }
-        ensures ok { IfOk result (λ n. (n ≡ next_of self.old) × (n ≤ LAST) × (next_of self.new ≡ n + 1) × (submitted self.new ≡ submitted self.old ++ numbered n request ∷ [])) }
-        ensures err { IfErr result (λ e. IsUnsent e request (next_of self.old) × (next_of self.new ≡ next_of self.old) × (submitted self.new ≡ submitted self.old)) }
+        ensures ok { IfOk result (λ n. (n ≡ next_of self.old) × (n ≤ LAST) × (next_of self.new ≡ n + 1)
+            × (submitted self.new ≡ submitted self.old ++ numbered n request ∷ [])) }
+        ensures err { IfErr result (λ e. IsUnsent e request (next_of self.old)
+            × (next_of self.new ≡ next_of self.old) × (submitted self.new ≡ submitted self.old)) }
         ensures received { (received_by_end self.new ≡ received_by_end self.old) × (seen_by_end self.new ≡ seen_by_end self.old) }
 
-        // `Full` comes only where the ring is seen to be full, and a slot that is known to be free takes a request.
+        // `Full` only where the end knows of no free slot; with one known to be free the call succeeds.
         ensures full { result ≡ Err (Unsent.Full request) → free_of self.new ≡ 0 }
         ensures succeeds { (next_of self.old ≤ LAST) × (0 < free_of self.old) → IsOk result }
         ensures free { OnOk result (free_of self.old ≤ free_of self.new + 1) }
@@ -101,7 +103,8 @@ impl ClientEnd {
         ensures line { line_of_end self.new ≡ line_of_end self.old }
         ensures some { IfSome result (λ w. received_by_end self.new ≡ received_by_end self.old ++ w ∷ []) }
         ensures none { IsNone result → (received_by_end self.new ≡ received_by_end self.old) × (seen_by_end self.old ≡ []) }
-        ensures sent { (submitted self.new ≡ submitted self.old) × (next_of self.new ≡ next_of self.old) × (free_of self.new ≡ free_of self.old) }
+        ensures sent { (submitted self.new ≡ submitted self.old)
+            × (next_of self.new ≡ next_of self.old) × (free_of self.new ≡ free_of self.old) }
     {
         match self.words.pop() {
             Ok(word) => Some(word),
@@ -109,10 +112,11 @@ impl ClientEnd {
         }
     }
 
-    /// Ends the requests of this end. None only where the owner's end was dropped.
+    /// Ends the client's requests. The first result is None only where the owner's end was dropped.
     pub fn finish(self) -> (Option<RequestsEnded>, ClientReader)
         ensures ended { IfSome result.0 (λ e. (requests_ring_of e ≡ (line_of_end self).0) × (all_submitted e ≡ submitted self)) }
-        ensures reader { (words_ring_of_reader result.1 ≡ (line_of_end self).1) × (read_by result.1 ≡ received_by_end self) × (is_settled_reader result.1 ≡ false) }
+        ensures reader { (words_ring_of_reader result.1 ≡ (line_of_end self).1)
+            × (read_by result.1 ≡ received_by_end self) × (is_settled_reader result.1 ≡ false) }
     {
         let ClientEnd {
             requests,
@@ -162,7 +166,7 @@ impl Inlet for RingInlet {
         ensures memory { result ≡ Taken.NoMemory → false ≡ true }
         ensures given { (given_of self.new ≡ given_of self.old) × (free_of_inlet self.new ≡ free_of_inlet self.old) }
 
-        // None is known to stand where it is empty; and only `settle` settles it.
+        // `Empty` only where no request is known to stand; and only `settle` settles the line.
         ensures none_seen { result ≡ Taken.Empty → seen_by_inlet self.old ≡ [] }
         ensures settled { is_settled self.new ≡ is_settled self.old }
     {
@@ -186,7 +190,7 @@ impl Inlet for RingInlet {
         ensures got { got_of self.new ≡ got_of self.old }
         ensures standing { standing_of self.new ≡ standing_of self.old }
 
-        // It is full only where the ring is seen to be full, and a slot that is known to be free takes a word.
+        // `Full` only where the end knows of no free slot; with one known to be free the word is put.
         ensures full { result ≡ Put.Full word → free_of_inlet self.new ≡ 0 }
         ensures succeeds { 0 < free_of_inlet self.old → result ≡ Put.Done }
         ensures free { result ≡ Put.Done → free_of_inlet self.old ≤ free_of_inlet self.new + 1 }
@@ -203,7 +207,7 @@ impl RingInlet {
     ghost use Rattle.std.specs.Prelude.{◌≡◌, ◌++◌, true, length, IfSome};
     ghost use Rattle.timer_desk.specs.Ring.{line_of_inlet, got_of, standing_of, given_of, is_settled, free_of_inlet, requests_ring_of, words_ring_of, all_submitted, all_given};
 
-    /// Settles the line once its client has finished, and returns how many requests stand.
+    /// Settles the line once its client has finished, and returns how many requests stand in it.
     pub fn settle(&mut self, ended: &mut RequestsEnded) -> usize
         requires { requests_ring_of ended.old ≡ (line_of_inlet self.old).0 }
         ensures line { line_of_inlet self.new ≡ line_of_inlet self.old }
@@ -218,7 +222,7 @@ impl RingInlet {
         self.requests.slots_after(&mut ended.finished)
     }
 
-    /// Ends the words of this end. None only where the client's end was dropped.
+    /// Ends the owner's words. None only where the client's end was dropped.
     pub fn finish(self) -> Option<WordsEnded>
         ensures { IfSome result (λ e. (words_ring_of e ≡ (line_of_inlet self).1) × (all_given e ≡ given_of self)) }
     {
@@ -258,7 +262,7 @@ impl ClientReader {
         }
     }
 
-    /// Settles the line once its owner has finished, and returns how many words stand.
+    /// Settles the line once its owner has finished, and returns how many words stand in it.
     pub fn settle(&mut self, ended: &mut WordsEnded) -> usize
         requires { words_ring_of ended.old ≡ words_ring_of_reader self.old }
         ensures line { words_ring_of_reader self.new ≡ words_ring_of_reader self.old }

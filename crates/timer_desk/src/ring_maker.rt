@@ -1,4 +1,4 @@
-//! The maker of a line over rings.
+//! The constructor of a ring line.
 ghost use Rattle.std.specs.Prelude.{◌≡◌, ◌≤◌, [], false, IfOk};
 ghost use Rattle.timer_desk.specs.Ring.{line_of_end, line_of_inlet, submitted, received_by_end, next_of, free_of, got_of, given_of, is_settled, free_of_inlet};
 
@@ -7,7 +7,7 @@ use rtrb::RingBuffer;
 use std::alloc::Global;
 use timer_base::{LAST, OutOfMemory};
 
-/// A line with room for `capacity` items each way. Its two ends are made together.
+/// The two ends of a new line, with room for `capacity` items each way.
 pub fn ring_line(
     alloc: Global,
     capacity: usize,

@@ -1,4 +1,4 @@
-//! A desk over ring lines settles a line once its client has finished.
+//! A desk over ring lines settles a line whose client has finished.
 ghost use Rattle.std.specs.Prelude.{◌≡◌, ◌<◌, ◌++◌, ◌≢◌, ℕ, length, get_or};
 ghost use Rattle.timer_desk.specs.Desk.{clients_of};
 ghost use Rattle.timer_desk.specs.Ring.{line_of_inlet, got_of, standing_of, given_of, is_settled, requests_ring_of, all_submitted};
@@ -10,7 +10,7 @@ use timer_base::Wheel;
 impl<W: Wheel + Drop> Desk<W, RingInlet> {
     ghost use Rattle.timer_desk.specs.Settling.{HasSettled};
 
-    /// Settles the line of client c, and returns how many of its requests stand. Does not allocate.
+    /// Settles the line of client c, and returns how many requests stand in it. Does not allocate.
     pub fn settle(&mut self, c: usize, ended: &mut RequestsEnded) -> usize
         requires client { c < clients_of self.old }
         requires line { (i : RingInlet) → requests_ring_of ended.old ≡ (line_of_inlet (get_or self.old.inlets c i)).0 }

@@ -1,4 +1,4 @@
-//! Lines by themselves, and the room of a desk. Desks at work are tested in `timer_threads`, over all wheels.
+//! Lines alone, and the room of a desk. Whole desks are tested in `timer_threads`, over all wheels.
 use super::*;
 use std::alloc::Global;
 use std::fmt::Debug;
@@ -56,7 +56,7 @@ fn after_the_last_number_none_is_left(rt: HostRuntime) -> Result<(), Fail> {
     Ok(())
 }
 
-/// Whether a desk with outboxes of this room is refused for the room, and both parts come back.
+/// Whether a desk with outboxes of this room is refused for the room, and hands both parts back.
 fn is_refused(rt: &impl Abort, alloc: Global, room: usize) -> Result<bool, Fail> {
     let config = Config {
         clients: 1,

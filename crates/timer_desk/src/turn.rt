@@ -1,10 +1,10 @@
-//! Turns of the desk: lists of steps, and the report of what they did.
+//! Turns of the desk: lists of steps, and the report of their results.
 //!
-//! Room for the whole report is made before the first step. A step adds one member; a tick or a close
+//! Memory for the whole report is reserved before the first step. A step adds one member; a tick or a close
 //! adds a notice of each timer that it hands out, and each of these was pending before the turn or
-//! was started by a serve of it. So two members a step, and one for each pending timer, are enough.
+//! was started by a serve during it. So two members a step, and one for each pending timer, are enough.
 ghost use Rattle.std.specs.Prelude.{◌≡◌, [], ◌≤◌, ◌+◌, length, All, IfOk, OnErr, vec_len, vec_capacity, false};
-ghost use Rattle.timer_facility.specs.Standing.{with_nothing_waiting};
+ghost use Rattle.timer_facility.specs.Facility.{with_nothing_waiting};
 ghost use Rattle.timer_desk.specs.Backlog.{HasRoom};
 ghost use Rattle.timer_desk.specs.Desk.{clients_of, InRange, Told, AddsStep, steps_of, AreBehind, AreOwed};
 
@@ -16,8 +16,8 @@ use timer_base::{OutOfMemory, Wheel};
 use timer_facility::{notices_are_owed, what_is_handed_out_was_pending};
 
 impl<W: Wheel + Drop, I: Inlet + Drop> Desk<W, I> {
-    /// Takes the steps in order, and returns what each did. The report's memory is allocated first:
-    /// where that fails, nothing was done.
+    /// Takes the steps in order, and returns the report of their results. The report is allocated first:
+    /// where that fails, nothing has changed.
     pub fn turn(&mut self, steps: &[Step]) -> Result<Vec<Done>, OutOfMemory>
         requires { All (InRange (clients_of self.old)) steps.now }
         ensures told { IfOk result (λ report. Told I.got I.standing I.given I.same_line I.take_may_refuse report.items self.old self.new) }
@@ -42,7 +42,7 @@ impl<W: Wheel + Drop, I: Inlet + Drop> Desk<W, I> {
         Ok(report)
     }
 
-    /// Takes one step, and adds what it did to the report.
+    /// Takes one step, and appends its result to the report.
     fn step(&mut self, step: Step, report: &mut Vec<Done>)
         requires client { InRange (clients_of self.old) step }
         requires room { vec_len report.old + 1 + length self.old.facility.pending ≤ vec_capacity report.old }
@@ -64,7 +64,7 @@ impl<W: Wheel + Drop, I: Inlet + Drop> Desk<W, I> {
         }
     }
 
-    /// `tick`, which adds what it did to the report.
+    /// `tick`, which appends its result and its notices to the report.
     fn tick_into(&mut self, report: &mut Vec<Done>)
         requires { vec_len report.old + 1 + length self.old.facility.pending ≤ vec_capacity report.old }
         ensures adds { AddsStep I.got I.standing I.given I.same_line I.take_may_refuse Step.Tick report.old.items report.new.items self.old self.new }
@@ -74,19 +74,20 @@ impl<W: Wheel + Drop, I: Inlet + Drop> Desk<W, I> {
         what_is_handed_out_was_pending();
         let result = self.facility.tick();
         report.push_reserved(Done::Ticked(result));
-        hand_out_into(&mut self.facility, &mut self.waiting, report);
+        hand_out_into(&mut self.facility, &mut self.backlogs, report);
     }
 
-    /// `close`, which adds what it did to the report.
+    /// `close`, which appends its result and its notices to the report.
     fn close_into(&mut self, report: &mut Vec<Done>)
         requires { vec_len report.old + 1 + length self.old.facility.pending ≤ vec_capacity report.old }
-        ensures adds { AddsStep I.got I.standing I.given I.same_line I.take_may_refuse Step.Close report.old.items report.new.items self.old self.new }
+        ensures adds { AddsStep I.got I.standing I.given I.same_line I.take_may_refuse Step.Close
+            report.old.items report.new.items self.old self.new }
         ensures capacity { vec_capacity report.new ≡ vec_capacity report.old }
         ensures room { vec_len report.new + length self.new.facility.pending ≤ vec_len report.old + length self.old.facility.pending + 1 }
     {
         what_is_handed_out_was_pending();
         let result = self.facility.close();
         report.push_reserved(Done::Closed(result));
-        hand_out_into(&mut self.facility, &mut self.waiting, report);
+        hand_out_into(&mut self.facility, &mut self.backlogs, report);
     }
 }

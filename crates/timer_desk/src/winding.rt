@@ -1,6 +1,6 @@
 //! The end of a desk over ring lines whose clients have finished.
 ghost use Rattle.std.specs.Prelude.{◌≡◌, ◌<◌, ℕ, get_or, vec_len, false, IsTrue, IfOk, IfErr};
-ghost use Rattle.timer_facility.specs.Standing.{with_nothing_waiting};
+ghost use Rattle.timer_facility.specs.Facility.{with_nothing_waiting};
 ghost use Rattle.timer_desk.specs.Desk.{clients_of, backlog_at, IsIdle, AllIdle};
 ghost use Rattle.timer_desk.specs.Ring.{line_of_inlet, got_of, requests_ring_of, words_ring_of_reader, all_submitted};
 ghost use Rattle.timer_desk.specs.Winding.{AreEndsOf, AreReadersOf, AllGot, IsReadOut, AllReadOut, KeepsLines, IsWaiting, IsBlamed};
@@ -12,8 +12,8 @@ use timer_facility::Facility;
 
 /// Settles each line, ends the desk, and settles the readers.
 ///
-/// An error drops all. It names the first client of which a request is held or stands or a word waits;
-/// or, where that is so of no client, one whose line could not be finished.
+/// An error drops all of them. It is the first client with a held request, a request left in its line or a
+/// word in its outbox; or, where there is no such client, one whose line could not be finished.
 pub fn wind_up<W: Wheel + Drop>(
     desk: Desk<W, RingInlet>,
     ended: Vec<RequestsEnded>,
@@ -47,7 +47,8 @@ pub fn wind_up<W: Wheel + Drop>(
     Ok((facility, readers))
 }
 
-/// Settles the line of client c, and says whether nothing is held of it, stands in it or waits for it.
+/// Settles the line of client c, and returns whether the client is done: no request is held, none stands
+/// in the line, and its outbox is empty.
 fn is_done<W: Wheel + Drop>(
     desk: &mut Desk<W, RingInlet>,
     c: usize,
@@ -57,7 +58,8 @@ fn is_done<W: Wheel + Drop>(
     requires line { (i : RingInlet) → requests_ring_of ended.old ≡ (line_of_inlet (get_or desk.old.inlets c i)).0 }
     ensures idle { IsTrue result → IsIdle (backlog_at desk.old c) }
     ensures all { IsTrue result → (i : RingInlet) → all_submitted ended.old ≡ got_of (get_or desk.old.inlets c i) }
-    ensures waiting { result ≡ false → (i : RingInlet) → IsWaiting (backlog_at desk.old c) (got_of (get_or desk.old.inlets c i)) (all_submitted ended.old) }
+    ensures waiting { result ≡ false → (i : RingInlet)
+        → IsWaiting (backlog_at desk.old c) (got_of (get_or desk.old.inlets c i)) (all_submitted ended.old) }
     ensures keeps { KeepsLines desk.old desk.new }
 {
     if desk.held(c).is_some() {
@@ -69,7 +71,7 @@ fn is_done<W: Wheel + Drop>(
     desk.settle(c, ended) == 0
 }
 
-/// Finishes a line, and settles its reader.
+/// Finishes a line and settles its reader, and returns whether it could.
 fn finish_line(inlet: RingInlet, reader: &mut ClientReader) -> bool
     requires { words_ring_of_reader reader.old ≡ (line_of_inlet inlet).1 }
     ensures { IsTrue result → IsReadOut inlet reader.old reader.new }

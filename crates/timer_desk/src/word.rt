@@ -1,4 +1,4 @@
-//! What goes over a line.
+//! The items that a line carries: requests one way, words the other.
 use timer_facility::{Answer, NotTaken, Notice, Request};
 
 /// A request with its number.
@@ -8,13 +8,13 @@ pub struct Numbered {
     pub request: Request,
 }
 
-/// A word to a client.
+/// A message to a client.
 #[derive(Clone, Copy, Debug, PartialEq, Eq)]
 pub enum Word {
     /// The request with this number was taken.
     Answered { number: u64, answer: Answer },
     /// The request with this number was not taken. The reason is never `OutOfMemory`.
     NotTaken { number: u64, reason: NotTaken },
-    /// A timer of the client is handed out.
+    /// A timer of the client was handed out.
     Notice(Notice),
 }

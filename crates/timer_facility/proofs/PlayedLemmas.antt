@@ -9,16 +9,16 @@ use Rattle.timer_facility.specs.declared.request.Request.TheVariants as Requests
 use Rattle.timer_base.specs.declared.timer.Handle.{Handle}
 use Rattle.timer_facility.specs.declared.event.Event.{Event}
 use Rattle.timer_facility.specs.declared.event.Event.TheVariants as Events
-use Rattle.timer_facility.specs.Recorded.{Places, AreRecorded}
-use Rattle.timer_facility.proofs.RecordedLemmas.{IsHandleOf, step-recorded, restart-recorded}
-use Rattle.timer_facility.proofs.Owed.{notices-take}
+use Rattle.timer_facility.specs.Handles.{HandleList, AreRecorded}
+use Rattle.timer_facility.proofs.HandlesLemmas.{IsHandleOf, step-recorded, restart-recorded}
+use Rattle.timer_facility.proofs.OwedLemmas.{notices-take}
 use Rattle.timer_facility.specs.declared.event.Out.{Out}
 use Rattle.timer_facility.specs.declared.event.Out.TheVariants as Outs
 use Rattle.timer_facility.specs.State.{FacilityState, IsSound, SingleEvent, Wanted, Asked, Stop, StopSerial, Restart, RestartSerial}
 use Rattle.timer_facility.specs.Verdict.{not_taken}
 use Rattle.timer_facility.specs.Step.{Step, step, step_of_request}
 use Rattle.timer_facility.specs.Run.{Placed, Happened, history, state_after, outs_of}
-use Rattle.timer_facility.specs.Standing.{Standing, place_in, asked, IsTaken, IsNotTaken}
+use Rattle.timer_facility.specs.Facility.{FacilityView, place_in, asked, IsTaken, IsNotTaken}
 use Rattle.timer_facility.specs.Played.{singles_of, ArePlaced, IsRun, IsPlayed, AddsRun}
 
 state_after-append : (s : FacilityState) (xs ys : List Placed) → state_after s (xs ++ ys) ≡ state_after (state_after s xs) ys
@@ -101,12 +101,12 @@ AddsRun-one s event single place before outs after h o e =
     }
 
 -- a request that is taken
-pub AddsRun-taken : (s : FacilityState) (event : Event) (client number : ℕ) (request : Request) (answer : Answer) (before outs : List Out) (new : Standing)
+pub AddsRun-taken : (s : FacilityState) (event : Event) (client number : ℕ) (request : Request) (answer : Answer) (before outs : List Out) (new : FacilityView)
     → singles_of s event ≡ asked client number request ∷ [] → IsTaken s client number request answer new → outs ≡ before ++ Outs.Answered client number answer ∷ []
     → AddsRun s event before outs new.state
 AddsRun-taken s event client number request answer before outs new h t o =
     AddsRun-one s event (asked client number request) (place_in answer) before outs new.state h
-    (o ∙ ap (λ os. before ++ os) (sym t.answered)) (ap (λ (v : Standing). v.state) t.left)
+    (o ∙ ap (λ os. before ++ os) (sym t.answered)) (ap (λ (v : FacilityView). v.state) t.left)
 
 -- a request that is not taken
 pub AddsRun-not_taken : (s : FacilityState) (event : Event) (client number : ℕ) (wanted : Wanted) (reason : NotTaken) (before outs : List Out) (after : FacilityState)
@@ -117,7 +117,7 @@ AddsRun-not_taken s event client number wanted reason before outs after h r o e 
     AddsRun-one s event (Asked client number wanted) 0 before outs after h
     (o ∙ ap (λ (st : Step). before ++ st.outs) (sym refused)) (e ∙ ap (λ (st : Step). st.state) (sym refused))
 
--- a request that is not taken, and not because memory ran out, is not taken for the reason of the verdict
+-- a request that is not taken for another reason than memory is not taken for the reason of the verdict
 pub reason-verdict : (s : FacilityState) (client number : ℕ) (request : Request) (reason : NotTaken) → IsNotTaken s client number request reason → (reason ≡ NotTakens.OutOfMemory → ⊥)
     → not_taken s client number ≡ Some reason
 reason-verdict s client number request reason (inl h) n = h
@@ -129,14 +129,14 @@ reason-stop s client number handle reason (inl h) = h
 reason-stop s client number handle reason (inr h) = absurd h.1
 
 -- a stop that is taken with the recorded handle of its serial
-pub AddsRun-stopped : (places : Places) (s : FacilityState) (client number serial : ℕ) (handle : Handle) (answer : Answer) (before outs : List Out) (new : Standing)
-    → AreRecorded places s → IsHandleOf places serial handle → IsTaken s client number (Requests.Stop handle) answer new → outs ≡ before ++ Outs.Answered client number answer ∷ []
+pub AddsRun-stopped : (handles : HandleList) (s : FacilityState) (client number serial : ℕ) (handle : Handle) (answer : Answer) (before outs : List Out) (new : FacilityView)
+    → AreRecorded handles s → IsHandleOf handles serial handle → IsTaken s client number (Requests.Stop handle) answer new → outs ≡ before ++ Outs.Answered client number answer ∷ []
     → AddsRun s (Events.Stop client number serial) before outs new.state
-AddsRun-stopped places s client number serial handle answer before outs new a h t o =
-    let same : step s (Asked client number (Stop handle)) (place_in answer) ≡ step s (Asked client number (StopSerial serial)) (place_in answer) = step-recorded places s client number serial (place_in answer) handle a h in
+AddsRun-stopped handles s client number serial handle answer before outs new a h t o =
+    let same : step s (Asked client number (Stop handle)) (place_in answer) ≡ step s (Asked client number (StopSerial serial)) (place_in answer) = step-recorded handles s client number serial (place_in answer) handle a h in
     AddsRun-one s (Events.Stop client number serial) (Asked client number (StopSerial serial)) (place_in answer) before outs new.state refl
     (o ∙ ap (λ os. before ++ os) (sym t.answered ∙ ap (λ (st : Step). st.outs) same))
-    (ap (λ (v : Standing). v.state) t.left ∙ ap (λ (st : Step). st.state) same)
+    (ap (λ (v : FacilityView). v.state) t.left ∙ ap (λ (st : Step). st.state) same)
 
 -- a restart doesn't allocate
 pub reason-restart : (s : FacilityState) (client number : ℕ) (handle : Handle) (interval action : ℕ) (reason : NotTaken) → IsNotTaken s client number (Requests.Restart handle interval action) reason
@@ -145,16 +145,16 @@ reason-restart s client number handle interval action reason (inl h) = h
 reason-restart s client number handle interval action reason (inr h) = absurd h.1
 
 -- a restart that is taken with the recorded handle of its serial
-pub AddsRun-restarted : (places : Places) (s : FacilityState) (client number serial interval action : ℕ) (handle : Handle) (answer : Answer) (before outs : List Out) (new : Standing)
-    → AreRecorded places s → IsHandleOf places serial handle → IsTaken s client number (Requests.Restart handle interval action) answer new → outs ≡ before ++ Outs.Answered client number answer ∷ []
+pub AddsRun-restarted : (handles : HandleList) (s : FacilityState) (client number serial interval action : ℕ) (handle : Handle) (answer : Answer) (before outs : List Out) (new : FacilityView)
+    → AreRecorded handles s → IsHandleOf handles serial handle → IsTaken s client number (Requests.Restart handle interval action) answer new → outs ≡ before ++ Outs.Answered client number answer ∷ []
     → AddsRun s (Events.Restart client number serial interval action) before outs new.state
-AddsRun-restarted places s client number serial interval action handle answer before outs new a h t o =
+AddsRun-restarted handles s client number serial interval action handle answer before outs new a h t o =
     let same : step s (Asked client number (Restart handle interval action)) (place_in answer) ≡ step s (Asked client number (RestartSerial serial interval action)) (place_in answer) =
-    restart-recorded places s client number serial interval action (place_in answer) handle a h in
+    restart-recorded handles s client number serial interval action (place_in answer) handle a h in
     AddsRun-one s (Events.Restart client number serial interval action) (Asked client number (RestartSerial serial interval action)) (place_in answer) before outs new.state refl
     (o ∙ ap (λ os. before ++ os) (sym t.answered ∙ ap (λ (st : Step). st.outs) same))
-    (ap (λ (v : Standing). v.state) t.left ∙ ap (λ (st : Step). st.state) same)
+    (ap (λ (v : FacilityView). v.state) t.left ∙ ap (λ (st : Step). st.state) same)
 
--- what is owed comes with every run
+-- the notices of every run are what is owed
 pub IsPlayed-run : (s : FacilityState) (es : List Event) (outs : List Out) (c : FacilityState) → IsSound s → IsRun s es outs c → IsPlayed s es outs c
 IsPlayed-run s es outs c i a = record { runs = a; notices_owed = λ k. notices-take s a.placed k i }

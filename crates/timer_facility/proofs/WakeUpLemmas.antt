@@ -1,22 +1,22 @@
 -- Before the tick to wake up at, nothing is handed out.
-use Rattle.std.proofs.Common.{◌≡◌, ◌<◌, ◌≤◌, ◌+◌, ℕ, zero, suc, Bool, true, false, not, ◌==◌, List, [], ◌∷◌, ◌++◌, refl, ◌∙◌, ap, subst, inl, inr, arith}
+use Rattle.std.proofs.Common.{◌≡◌, ◌<◌, ◌≤◌, ◌+◌, ℕ, zero, suc, Bool, false, not, ◌==◌, List, [], ◌∷◌, ◌++◌, refl, ◌∙◌, ap, subst, inl, inr, arith}
 use Rattle.std.specs.Prelude.{map, filter, Option, Some, None}
 use Rattle.std.specs.List.{AllByRecursion}
 use Rattle.std.proofs.lemmas.Bool.Decides.{nat_tests}
-use Rattle.timer_base.specs.Pending.{Entry, timers_of, is_due_at, entries_left}
+use Rattle.timer_base.specs.Pending.{Entry, timers_of, is_due_at}
 use Rattle.timer_base.specs.WakeUps as Wheels
 use Rattle.timer_facility.specs.declared.request.Notice.TheVariants.{Expired}
 use Rattle.timer_facility.specs.declared.request.TickFault.{TickFault}
 use Rattle.timer_facility.specs.declared.event.Out.TheVariants as Outs
-use Rattle.timer_facility.specs.State.{FacilityState, Tick}
+use Rattle.timer_facility.specs.State.{FacilityState}
 use Rattle.timer_facility.specs.Verdict.{tick_refusal}
-use Rattle.timer_facility.specs.Step.{Step, step_of_tick, expired_next}
+use Rattle.timer_facility.specs.Step.{Step, step_of_tick}
 use Rattle.timer_facility.specs.Run.{history, notices, notices_in, outs_of}
-use Rattle.timer_facility.specs.Standing.{Standing, Parts, standing_of, AreParts}
+use Rattle.timer_facility.specs.Facility.{FacilityView, Parts, view_of, AreParts}
 use Rattle.timer_facility.specs.Ticked.{ticks}
 use Rattle.timer_facility.specs.WakeUps.{IsWakeUp, IsQuietUntil}
-use Rattle.timer_facility.proofs.Lists.{either}
-use Rattle.timer_facility.proofs.Owed.{notices_in-append}
+use Rattle.timer_facility.proofs.TimerLists.{either}
+use Rattle.timer_facility.proofs.OwedLemmas.{notices_in-append}
 
 -- each of these timers has its deadline at the tick or after it
 abbrev AreFrom : ℕ → List Entry → Type 0
@@ -58,14 +58,14 @@ quiet_ticks tick (suc n) s a h =
     let rest : notices (history st.state (ticks n)) ≡ [] = quiet_ticks tick n st.state q.from q.before in
     notices_in-append st.outs (outs_of (history st.state (ticks n))) ∙ ap (λ ns. ns ++ notices (history st.state (ticks n))) q.none ∙ rest
 
--- what a wheel says of its timers, its facility says of them
-pub quiet_until_is : {p : Parts} {v : Standing} → AreParts p → standing_of p ≡ v → (result : Option ℕ) → Wheels.IsQuietUntil result p.wheel → IsQuietUntil result v.state
-quiet_until_is {p} {v} a e None h = subst (λ (u : Standing). IsQuietUntil None u.state) e h
+-- a wheel's wake-up is its facility's
+pub quiet_until_is : {p : Parts} {v : FacilityView} → AreParts p → view_of p ≡ v → (result : Option ℕ) → Wheels.IsQuietUntil result p.wheel → IsQuietUntil result v.state
+quiet_until_is {p} {v} a e None h = subst (λ (u : FacilityView). IsQuietUntil None u.state) e h
 quiet_until_is {p} {v} a e (Some tick) h =
-    let here : IsWakeUp tick (standing_of p).state = record {
+    let here : IsWakeUp tick (view_of p).state = record {
       some = h.some;
       later = h.later;
       in_time = h.in_time;
-      quiet = λ n l. quiet_ticks tick n (standing_of p).state h.in_time l;
+      quiet = λ n l. quiet_ticks tick n (view_of p).state h.in_time l;
     } in
-    subst (λ (u : Standing). IsWakeUp tick u.state) e here
+    subst (λ (u : FacilityView). IsWakeUp tick u.state) e here

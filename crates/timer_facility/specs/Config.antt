@@ -1,4 +1,4 @@
--- The ranges of what a facility is opened with.
+-- The ranges of a facility's configuration.
 use Rattle.std.specs.Prelude.{◌≤◌, ℕ, Bool, ◌||◌, nat_lt, if◌then◌else◌, Option, Some, None}
 use Rattle.timer_base.specs.declared.limits.TheConstants.{LAST}
 use Rattle.timer_facility.specs.declared.limits.TheConstants.{MOST_CLIENTS, MOST_PENDING}

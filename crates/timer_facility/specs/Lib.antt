@@ -6,9 +6,9 @@ pub mod Refused
 pub mod Run
 pub mod Owed
 pub mod Opened
-pub mod Standing
+pub mod Facility
 pub mod Played
-pub mod Recorded
+pub mod Handles
 pub mod Ticked
 pub mod WakeUps
 pub mod HandedOver

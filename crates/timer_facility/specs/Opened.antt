@@ -1,4 +1,4 @@
--- A facility at its beginning.
+-- A newly opened facility.
 use Rattle.std.specs.Prelude.{ℕ, false, [], replicate}
 use Rattle.timer_facility.specs.declared.config.Config.{Config}
 use Rattle.timer_facility.specs.State.{FacilityState}

@@ -1,4 +1,10 @@
--- What is owed for a history, read from its requests and answers alone. No list of pending timers is kept.
+-- What is owed for a history: the notices that must have been handed out, computed from its requests and answers alone.
+--
+-- A history is a list of events, each with its outs. `owed s h`, for a history h that begins in state s, is for each
+-- accepted tick in turn the timers due at it, as `Expired`; then, where h has an accepted close, all other timers that
+-- were started and not stopped, by deadline and then serial, as `Returned`. It keeps no list of pending timers: it
+-- filters the timers started by the serials stopped. The lemma `notices_are_owed` states that the notices of every run
+-- are what is owed for it.
 use Rattle.std.specs.Prelude.{◌≡◌, ◌<◌, ◌≤◌, ◌⊎◌, ℕ, zero, suc, ◌+◌, Bool, true, false, ◌&&◌, ◌||◌, ◌==◌, not, nat_lt, if◌then◌else◌, List, [], ◌∷◌, ◌++◌, map, filter}
 use Rattle.std.specs.List.{AllByRecursion}
 use Rattle.timer_base.specs.declared.timer.Timer.{Timer}
@@ -12,24 +18,24 @@ use Rattle.timer_facility.specs.declared.event.Out.TheVariants as Outs
 use Rattle.timer_facility.specs.State.{FacilityState, SingleEvent, Asked, Tick, Start, Restart, RestartSerial}
 use Rattle.timer_facility.specs.Run.{Happened, notices}
 
--- the timer that a start and its answer tell of, where it was accepted
+-- the timer of a start and its answer, where it was accepted
 abbrev pub timer_started : ℕ → ℕ → ℕ → Out → List Timer
 timer_started client number action (Outs.Answered c n (Started handle deadline)) =
     record { serial = handle.serial; client = client; number = number; deadline = deadline; action = action } ∷ []
 timer_started client number action _ = []
 
--- the timers that a start and its outs tell of
+-- the timers of a start and its outs
 abbrev pub timers_started : ℕ → ℕ → ℕ → List Out → List Timer
 timers_started client number action [] = []
 timers_started client number action (out ∷ outs) = timer_started client number action out ++ timers_started client number action outs
 
--- the new timer that a restart and its answer tell of, where it was accepted
+-- the new timer of a restart and its answer, where it was accepted
 abbrev pub timer_restarted : ℕ → ℕ → ℕ → Out → List Timer
 timer_restarted client number action (Outs.Answered c n (Restarted handle deadline old)) =
     record { serial = handle.serial; client = client; number = number; deadline = deadline; action = action } ∷ []
 timer_restarted client number action _ = []
 
--- the new timers that a restart and its outs tell of
+-- the new timers of a restart and its outs
 abbrev pub timers_restarted : ℕ → ℕ → ℕ → List Out → List Timer
 timers_restarted client number action [] = []
 timers_restarted client number action (out ∷ outs) = timer_restarted client number action out ++ timers_restarted client number action outs
@@ -46,13 +52,13 @@ abbrev pub accepted_starts : List Happened → List Timer
 accepted_starts [] = []
 accepted_starts (h ∷ hs) = started_by h.event h.outs ++ accepted_starts hs
 
--- the serial that an answer to an accepted stop tells, and the old one of an accepted restart
+-- the serial in the answer to an accepted stop, and the old one in that to an accepted restart
 abbrev pub serial_told : Out → List ℕ
 serial_told (Outs.Answered c n (Stopped serial)) = serial ∷ []
 serial_told (Outs.Answered c n (Restarted handle deadline old)) = old ∷ []
 serial_told _ = []
 
--- the serials that answers to accepted stops and restarts tell
+-- the serials in the answers to accepted stops and restarts
 abbrev pub serials_told : List Out → List ℕ
 serials_told [] = []
 serials_told (out ∷ outs) = serial_told out ++ serials_told outs
@@ -76,7 +82,7 @@ abbrev pub is_closing : Out → Bool
 is_closing (Outs.Closed count) = true
 is_closing _ = false
 
--- one of the outs passes the test
+-- one of the outs satisfies the test
 abbrev pub any_out : (Out → Bool) → List Out → Bool
 any_out test [] = false
 any_out test (out ∷ outs) = test out || any_out test outs
@@ -123,7 +129,7 @@ abbrev pub owed_by_close : FacilityState → List Happened → Bool → List Not
 owed_by_close s hs false = []
 owed_by_close s hs true = map (λ t. Returned t) (left_after s hs (s.now + accepted_ticks hs))
 
--- what is to be handed out for a history that begins in s: at each accepted tick what is due, at an accepted close the others
+-- what is owed for a history that begins in s: at each accepted tick what is due, at an accepted close all others
 abbrev pub owed : FacilityState → List Happened → List Notice
 owed s hs = owed_by_ticks s hs (accepted_ticks hs) ++ owed_by_close s hs (has_closed hs)
 
@@ -144,15 +150,18 @@ IsIn x (y ∷ ys) = (x ≡ y) ⊎ IsIn x ys
 -- each timer that was started and not stopped is handed out: where its deadline was reached it expired, and where a close
 -- came before that it was returned
 pub record AreAllHandedOut (s : FacilityState) (hs : List Happened) : Type 0 where
-  pub expired : (t : Timer) → IsIn t (started s hs) → is_among t.serial (stopped hs) ≡ false → t.deadline ≤ s.now + accepted_ticks hs → IsIn (Expired t) (notices hs)
-  pub returned : (t : Timer) → IsIn t (started s hs) → is_among t.serial (stopped hs) ≡ false → s.now + accepted_ticks hs < t.deadline → has_closed hs ≡ true → IsIn (Returned t) (notices hs)
+  pub expired : (t : Timer) → IsIn t (started s hs) → is_among t.serial (stopped hs) ≡ false
+      → t.deadline ≤ s.now + accepted_ticks hs → IsIn (Expired t) (notices hs)
+  pub returned : (t : Timer) → IsIn t (started s hs) → is_among t.serial (stopped hs) ≡ false
+      → s.now + accepted_ticks hs < t.deadline → has_closed hs ≡ true → IsIn (Returned t) (notices hs)
 
 -- the deadline is one of the first n ticks after now
 abbrev pub is_due_within : ℕ → ℕ → Timer → Bool
 is_due_within now zero t = false
 is_due_within now (suc n) t = is_due_within now n t || (t.deadline == now + suc n)
 
--- of the started timers the others: those that were due at no accepted tick and were not stopped, by deadline and then by serial
+-- of the started timers the others: those that were not due at any accepted tick and were not stopped, by deadline and
+-- then by serial
 abbrev pub others : FacilityState → List Happened → List Timer
 others s hs = timers_in_order (filter (λ t. not (is_due_within s.now (accepted_ticks hs) t) && not (is_among t.serial (stopped hs))) (started s hs))
 

@@ -1,4 +1,4 @@
--- What a player promises of the events that it plays.
+-- The contract of a player about the events that it plays.
 use Rattle.std.specs.Prelude.{◌≡◌, ℕ, ◌+◌, ◌-◌, min, if◌then◌else◌, List, [], ◌∷◌, ◌++◌, map, take, replicate}
 use Rattle.timer_facility.specs.declared.event.Event.{Event}
 use Rattle.timer_facility.specs.declared.event.Event.TheVariants as Events
@@ -22,7 +22,9 @@ singles_of s Events.Close = Close ∷ []
 -- the single events of these events, each with some place
 abbrev pub ArePlaced : FacilityState → List Event → List Placed → Type 0
 ArePlaced s [] placed = placed ≡ []
-ArePlaced s (event ∷ events) placed = (one rest : List Placed) × (placed ≡ one ++ rest) × (map (λ p. p.event) one ≡ singles_of s event) × ArePlaced (state_after s one) events rest
+ArePlaced s (event ∷ events) placed =
+    (one rest : List Placed) × (placed ≡ one ++ rest) × (map (λ p. p.event) one ≡ singles_of s event)
+    × ArePlaced (state_after s one) events rest
 
 -- the outs and the state are those of a run of the events
 pub record IsRun (s : FacilityState) (events : List Event) (outs : List Out) (after : FacilityState) : Type 0 where
@@ -37,7 +39,7 @@ pub record IsPlayed (s : FacilityState) (events : List Event) (outs : List Out) 
   pub runs : IsRun s events outs after
   pub notices_owed : (k : ℕ) → notices (take k (history s runs.placed)) ≡ owed s (take k (history s runs.placed))
 
--- one more event was played, and its outs added
+-- one more event was played, and its outs appended
 pub record AddsRun (s : FacilityState) (event : Event) (before outs : List Out) (after : FacilityState) : Type 0 where
   pub more : List Out
   pub appended : outs ≡ before ++ more

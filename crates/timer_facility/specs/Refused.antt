@@ -1,4 +1,4 @@
--- Where a verdict is told: by the outs of an event, and by what each call of a facility answers.
+-- How the verdict on an event can be read from its outs, and from the results of the facility's calls.
 use Rattle.std.specs.Prelude.{List, [], ◌∷◌, ◌++◌, Option, Some, None}
 use Rattle.timer_facility.specs.declared.request.Answer.{Answer}
 use Rattle.timer_facility.specs.declared.request.Answer.TheVariants.{Started, Stopped, Restarted, Refused}
@@ -10,7 +10,7 @@ use Rattle.timer_facility.specs.declared.event.Out.{Out}
 use Rattle.timer_facility.specs.declared.event.Out.TheVariants as Outs
 use Rattle.timer_facility.specs.Verdict.{Refusal, RequestNotTaken, RequestRefused, TickRefused, CloseRefused}
 
--- the refusal that an out tells, if it is one
+-- the refusal that an out is, if it is one
 abbrev pub refusal_in : Out → List Refusal
 refusal_in (Outs.Answered client number (Refused reason)) = RequestRefused reason ∷ []
 refusal_in (Outs.NotTaken client number reason) = RequestNotTaken reason ∷ []
@@ -28,7 +28,7 @@ abbrev pub refusals_of : Option Refusal → List Refusal
 refusals_of None = []
 refusals_of (Some refusal) = refusal ∷ []
 
--- the verdict that the answer to a request tells
+-- the verdict given by the answer to a request
 abbrev pub verdict_in : Answer → Option Refusal
 verdict_in (Refused reason) = Some (RequestRefused reason)
 verdict_in (Started handle deadline) = None

@@ -75,13 +75,13 @@ bare_entry entry = record entry { place = 0 }
 abbrev pub bare_state : FacilityState → FacilityState
 bare_state s = record s { pending = map bare_entry s.pending }
 
--- the event names no place: a stop or restart in it goes by the serial alone
+-- the event names no place: a stop or restart names its timer by serial
 abbrev pub NamesBySerial : SingleEvent → Type 0
 NamesBySerial (Asked client number (Stop handle)) = ⊥
 NamesBySerial (Asked client number (Restart handle interval action)) = ⊥
 NamesBySerial _ = Unit {0}
 
--- two runs gave the same outs and ended in the same state, but for places
+-- two runs have the same outs and the same final state, except for places
 pub record AreSameButForPlaces (one other : Step) : Type 0 where
   pub outs_are : bare_outs one.outs ≡ bare_outs other.outs
   pub states_are : bare_state one.state ≡ bare_state other.state

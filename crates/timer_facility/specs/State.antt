@@ -1,4 +1,4 @@
--- What a facility means, and the single events that may come to it.
+-- The abstract state of a facility, and single events.
 use Rattle.std.specs.Prelude.{◌<◌, ◌≤◌, ◌==◌, ℕ, ◌+◌, Bool, if◌then◌else◌, List, [], ◌∷◌, length, slice_index}
 use Rattle.std.specs.List.{AllByRecursion}
 use Rattle.timer_base.specs.declared.limits.TheConstants.{LAST}
@@ -9,9 +9,9 @@ use Rattle.timer_base.specs.Pending.{Entry, timers_of}
 use Rattle.timer_facility.specs.declared.limits.TheConstants.{MOST_CLIENTS, MOST_PENDING}
 
 pub record FacilityState : Type 0 where
-  -- the most timers that may be pending; no event changes it
+  -- the most timers that may be pending; constant
   pub capacity : ℕ
-  -- the last tick of the clock; no event changes it
+  -- the last tick of the clock; constant
   pub last : ℕ
   -- the present tick
   pub now : ℕ
@@ -19,7 +19,7 @@ pub record FacilityState : Type 0 where
   pub next_serial : ℕ
   -- one list, by deadline and then by serial
   pub pending : List Entry
-  -- the next request number of each client; no event changes how many there are
+  -- the next request number of each client; the number of clients is constant
   pub numbers : List ℕ
   pub is_closed : Bool
 
@@ -40,8 +40,8 @@ count_of client (t ∷ ts) = one_of client t + count_of client ts
 abbrev pub pending_of : FacilityState → ℕ → ℕ
 pending_of s client = count_of client (timers_of s.pending)
 
--- what a request asks for: a start with its interval and action, a stop of the timer with a handle, or with a serial, or a
--- restart of one with the interval and action of the new timer
+-- a request: a start with its interval and action, a stop of the timer with a handle or with a serial, or a restart of
+-- one with the interval and action of the new timer
 pub data Wanted : Type 0 where
   Start : ℕ → ℕ → Wanted
   Stop : Handle → Wanted
@@ -49,13 +49,13 @@ pub data Wanted : Type 0 where
   Restart : Handle → ℕ → ℕ → Wanted
   RestartSerial : ℕ → ℕ → ℕ → Wanted
 
--- one event: what a client asks under a number, one tick, or the close
+-- one event: a client's request under a number, one tick, or the close
 pub data SingleEvent : Type 0 where
   Asked : ℕ → ℕ → Wanted → SingleEvent
   Tick : SingleEvent
   Close : SingleEvent
 
--- what each state keeps
+-- the invariant of a state
 pub record IsSound (s : FacilityState) : Type 0 where
   pub few_clients : length s.numbers ≤ MOST_CLIENTS
   pub capacity_in_range : s.capacity ≤ MOST_PENDING

@@ -3,22 +3,22 @@ use Rattle.std.specs.Prelude.{◌≡◌, ◌<◌, ◌≤◌, ◌-◌, ℕ, min, 
 use Rattle.timer_facility.specs.State.{FacilityState, Tick}
 use Rattle.timer_facility.specs.Verdict.{tick_refusal}
 use Rattle.timer_facility.specs.Run.{Placed, history, state_after, run, notices}
-use Rattle.timer_facility.specs.Standing.{Standing, standing_after}
+use Rattle.timer_facility.specs.Facility.{FacilityView, view_after}
 
 -- one tick; its place is never read
 abbrev pub a_tick : Placed
 a_tick = record { event = Tick; place = 0 }
 
--- so many ticks
+-- `n` ticks
 abbrev pub ticks : ℕ → List Placed
 ticks n = replicate n a_tick
 
--- of at most so many ticks so many were passed: they are that many single ticks, each of them accepted
-pub record AreTicked (limit passed : ℕ) (s : FacilityState) (new : Standing) : Type 0 where
+-- at most `limit` ticks were asked for and `passed` were passed: that many single ticks, each of them accepted
+pub record AreTicked (limit passed : ℕ) (s : FacilityState) (new : FacilityView) : Type 0 where
   pub some : 1 ≤ passed
   pub at_most : passed ≤ min limit (s.last - s.now)
   pub accepted : (n : ℕ) → n < passed → tick_refusal (state_after s (ticks n)) ≡ None
-  pub ticked : new ≡ standing_after (run s (ticks passed))
+  pub ticked : new ≡ view_after (run s (ticks passed))
   -- nothing was handed out before the last of them
   pub quiet : (n : ℕ) → n < passed → notices (history s (ticks n)) ≡ []
   -- it stops early only where something waits

@@ -11,7 +11,7 @@ use Rattle.timer_facility.specs.declared.request.TickFault.{TickFault}
 use Rattle.timer_facility.specs.declared.request.TickFault.TheVariants as TickFaults
 use Rattle.timer_facility.specs.State.{FacilityState, number_of, Wanted, Start, Stop, StopSerial, Restart, RestartSerial, SingleEvent, Asked, Tick, Close}
 
--- why a request is not taken, if it is not: the first that holds
+-- why a request is not taken, if it is not taken: the first test that holds
 unfoldable pub not_taken : FacilityState → ℕ → ℕ → Option NotTaken
 not_taken s client number =
     if s.is_closed then Some Closed
@@ -34,7 +34,7 @@ named s client (StopSerial serial) = of_client client (first_timer (λ e. has_se
 named s client (Restart handle interval action) = of_client client (first_timer (has_handle handle) s.pending)
 named s client (RestartSerial serial interval action) = of_client client (first_timer (λ e. has_serial serial e.timer) s.pending)
 
--- why a start with this interval is refused, if it is: the first that holds
+-- why a start with this interval is refused, if it is refused: the first test that holds
 unfoldable pub start_refusal : FacilityState → ℕ → Option Reason
 start_refusal s interval =
     if interval == 0 then Some ZeroInterval
@@ -43,7 +43,7 @@ start_refusal s interval =
     else if length s.pending == s.capacity then Some Full
     else None
 
--- why no timer can be started now with this interval, wherever there is room for it: the first that holds
+-- why no timer can be started now with this interval, whether or not there is room for one: the first test that holds
 unfoldable pub interval_refusal : FacilityState → ℕ → Option Reason
 interval_refusal s interval =
     if interval == 0 then Some ZeroInterval
@@ -61,15 +61,16 @@ abbrev pub restart_refusal : Option Timer → Option Reason → Option Reason
 restart_refusal None reason = Some NoSuch
 restart_refusal (Some t) reason = reason
 
--- why a request that is taken is refused, if it is
+-- why a request that is taken is refused, if it is refused
 abbrev pub refusal : FacilityState → ℕ → Wanted → Option Reason
 refusal s client (Start interval action) = start_refusal s interval
 refusal s client (Stop handle) = stop_refusal (named s client (Stop handle))
 refusal s client (StopSerial serial) = stop_refusal (named s client (StopSerial serial))
 refusal s client (Restart handle interval action) = restart_refusal (named s client (Restart handle interval action)) (interval_refusal s interval)
-refusal s client (RestartSerial serial interval action) = restart_refusal (named s client (RestartSerial serial interval action)) (interval_refusal s interval)
+refusal s client (RestartSerial serial interval action) =
+    restart_refusal (named s client (RestartSerial serial interval action)) (interval_refusal s interval)
 
--- why a tick is refused, if it is: the first that holds
+-- why a tick is refused, if it is refused: the first test that holds
 unfoldable pub tick_refusal : FacilityState → Option TickFault
 tick_refusal s = if s.is_closed then Some TickFaults.Closed else if s.now == s.last then Some TickFaults.ClockEnd else None
 

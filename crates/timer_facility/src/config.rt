@@ -1,4 +1,4 @@
-//! What a facility is opened with, and the ranges of it.
+//! The configuration of a facility, and its ranges.
 ghost use Rattle.std.specs.Prelude.{◌≡◌, None, Some, MatchResult};
 ghost use Rattle.timer_facility.specs.Config.{is_outside, config_fault, IsInRange};
 
@@ -7,7 +7,7 @@ use std::marker::Model;
 use thiserror::Error;
 use timer_base::LAST;
 
-/// The numbers that a facility begins with.
+/// The numbers that a facility is opened with.
 #[derive(Clone, Copy, Debug, PartialEq, Eq)]
 pub struct Config {
     /// How many clients there are: 1 to 64. They are numbered from 0.
@@ -57,7 +57,7 @@ impl Model for Checked {
 }
 
 impl Config {
-    /// The configuration, where each number is in its range. Does not allocate.
+    /// Checks that each number is in its range, in the order of `ConfigFault`. Does not allocate.
     pub fn check(self) -> Result<Checked, ConfigFault>
         ensures { MatchResult result (λ checked. (checked ≡ self) × (config_fault self ≡ None)) (λ fault. config_fault self ≡ Some fault) }
     {

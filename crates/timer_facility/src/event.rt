@@ -1,7 +1,7 @@
-//! What a player plays, and what comes of it.
+//! What a player plays, and the outs that it returns.
 use crate::request::{Answer, NotTaken, Notice, TickFault};
 
-/// One event of a list that is played. A stop or a restart names its timer by the serial alone.
+/// One event of a list that is played. A stop or a restart names its timer by serial.
 #[derive(Clone, Copy, Debug, PartialEq, Eq)]
 pub enum Event {
     /// The client's request, under this number, to start a timer.
@@ -18,7 +18,7 @@ pub enum Event {
         serial: u64,
     },
     /// The client's request, under this number, to stop the timer with this serial and start another in
-    /// its stead.
+    /// its place.
     Restart {
         client: u64,
         number: u64,
@@ -26,7 +26,7 @@ pub enum Event {
         interval: u64,
         action: u64,
     },
-    /// So many ticks one after another, up to the first that is refused.
+    /// `count` ticks, one after another, up to the first that is refused.
     Ticks {
         count: u64,
     },
@@ -34,7 +34,7 @@ pub enum Event {
     Close,
 }
 
-/// What comes of an event, in the order in which it comes.
+/// One result of an event: a list of them is in the order in which they came about.
 #[derive(Clone, Copy, Debug, PartialEq, Eq)]
 pub enum Out {
     /// The client's request with this number was taken.
@@ -53,10 +53,10 @@ pub enum Out {
     Notice(Notice),
     /// A tick was refused.
     TickRefused(TickFault),
-    /// The facility was closed, and hands back so many timers.
+    /// The facility was closed, and returns this many timers.
     Closed {
         count: u64,
     },
-    /// The facility had been closed before.
+    /// A close was refused: the facility was closed already.
     CloseRefused,
 }

@@ -1,8 +1,8 @@
 //! The facility over any wheel: clients, their next numbers, and what waits to be handed out.
 //!
-//! A tick or a close leaves timers that wait; the owner takes them by `next_out` until none waits,
-//! and only then asks the next thing. What expired still stands in the wheel, which gives it out by
-//! serial. What a close returns stands in a list of its own, and the wheel is empty then.
+//! A tick or a close leaves timers that wait to be handed out; the owner takes them by `next_out` until
+//! none waits, and only then makes the next call. Expired timers stay in the wheel, which hands them out
+//! by serial. What a close returns is a list of its own, and the wheel is empty then.
 ghost use Rattle.std.specs.Prelude.{◌≡◌, false, ℕ, ◌+◌, ◌<◌, ◌↔◌, [], length, drop, slice_get, slice_index, IsTrue, IfSome, IfOk, IfErr, OnErr, OnOk, MatchResult, if◌then◌else◌, nat_lt};
 ghost use Rattle.timer_base.specs.Pending.{timers_of};
 ghost use Rattle.timer_base.specs.WheelState.{after_clear};
@@ -12,12 +12,13 @@ ghost use Rattle.timer_facility.specs.Refused.{verdict_in, verdict_on_not_taken,
 ghost use Rattle.timer_facility.specs.Step.{step, answer_to, after_taken};
 ghost use Rattle.timer_facility.specs.Owed.{timer_handed};
 ghost use Rattle.timer_facility.specs.Opened.{opened};
-ghost use Rattle.timer_facility.specs.Recorded.{is_pending};
+ghost use Rattle.timer_facility.specs.Handles.{is_pending};
 ghost use Rattle.timer_facility.specs.Ticked.{AreTicked};
 ghost use Rattle.timer_facility.specs.WakeUps.{IsQuietUntil};
-ghost use Rattle.timer_facility.specs.Standing.{Standing, Parts, standing_of, AreParts, standing_after, with_nothing_waiting, asked, place_in, IsTaken, IsNotTaken};
+ghost use Rattle.timer_facility.specs.Facility.{FacilityView, Parts, view_of, AreParts, view_after, with_nothing_waiting, asked, place_in, IsTaken, IsNotTaken};
 
 use crate::config::Checked;
+use crate::limits::CLIENTS;
 use crate::request::{Answer, CloseFault, NotTaken, Notice, Reason, Request, TickFault};
 use std::alloc::Global;
 use std::marker::Model;
@@ -30,21 +31,21 @@ pub struct Facility<W: Wheel + Drop> {
     clients: u64,
     capacity: u64,
     next_serial: u64,
-    // The next request number of each client. Those from `clients` on are never looked at.
-    numbers: [u64; 64],
+    // The next request number of each client. Those from `clients` on are never read.
+    numbers: [u64; CLIENTS],
     // How many timers of each client are pending or wait to be handed out.
-    counts: [usize; 64],
+    counts: [usize; CLIENTS],
     is_closed: bool,
-    // What the close handed back, in its order.
+    // The timers that the close returns, in their order.
     returned: Vec<Timer>,
     // How many of `returned` were handed out.
     handed: usize,
 }
 
 impl<W: Wheel + Drop> Model for Facility<W> {
-    ghost Value = { Standing };
+    ghost Value = { FacilityView };
 
-    ghost view = { λ f. standing_of (record {
+    ghost view = { λ f. view_of (record {
       wheel = W.state f.wheel;
       clients = f.clients;
       capacity = f.capacity;
@@ -70,9 +71,9 @@ impl<W: Wheel + Drop> Model for Facility<W> {
 }
 
 impl<W: Wheel + Drop> Facility<W> {
-    /// A facility with these numbers, over a wheel that is empty and stands at the first tick.
+    /// A facility with this configuration, over an empty wheel whose clock is at the first tick.
     ///
-    /// Does not allocate; what a close hands back will come from `alloc`.
+    /// Does not allocate; the list that a close returns will be allocated from `alloc`.
     pub fn open(alloc: Global, checked: Checked, wheel: W) -> Facility<W>
         requires pending { (W.state wheel).pending ≡ [] }
         requires due { (W.state wheel).due ≡ [] }
@@ -86,8 +87,8 @@ impl<W: Wheel + Drop> Facility<W> {
             clients: config.clients,
             capacity: config.capacity,
             next_serial: config.first_serial,
-            numbers: [config.first_number; 64],
-            counts: [0; 64],
+            numbers: [config.first_number; CLIENTS],
+            counts: [0; CLIENTS],
             is_closed: false,
             returned: Vec::new(alloc),
             handed: 0,
@@ -123,14 +124,14 @@ impl<W: Wheel + Drop> Facility<W> {
         self.counts[client as usize]
     }
 
-    /// Whether a pending timer has just this handle, place and serial. Does not allocate.
+    /// Whether a pending timer has exactly this handle, place and serial. Does not allocate.
     pub fn is_pending(&self, handle: Handle) -> bool
         ensures { result ≡ is_pending self.now.state handle }
     {
         self.wheel.look(handle).is_some()
     }
 
-    /// Whether it was closed.
+    /// Whether the facility is closed.
     pub fn is_closed(&self) -> bool
         ensures { IsTrue result ↔ IsTrue self.now.state.is_closed }
     {
@@ -144,7 +145,7 @@ impl<W: Wheel + Drop> Facility<W> {
         self.wheel.has_due() || self.handed < self.returned.len()
     }
 
-    /// The serial that the next accepted start gets. It is `LAST` + 1 where each was used.
+    /// The serial that the next accepted start gets, or `LAST` + 1 where all are used up.
     pub fn next_serial(&self) -> u64
         ensures { result ≡ self.now.state.next_serial }
     {
@@ -153,7 +154,7 @@ impl<W: Wheel + Drop> Facility<W> {
 
     /// The client's next request number, or None where there is no such client.
     ///
-    /// It is `LAST` + 1 where the client used each of its numbers.
+    /// It is `LAST` + 1 where the client has used up its numbers.
     pub fn next_number(&self, client: u64) -> Option<u64>
         ensures { result ≡ slice_get self.now.state.numbers client }
     {
@@ -168,13 +169,15 @@ impl<W: Wheel + Drop> Facility<W> {
     /// `Reason`.
     ///
     /// A request that is not taken changes nothing. One that is refused with a `Reason` uses up its
-    /// number and nothing else. Only an accepted start takes memory. The place in a `Started`
+    /// number and nothing else. Only an accepted start allocates. The place in a `Started`
     /// or `Restarted` is a free choice of the wheel. No timer may wait to be handed out.
     pub fn take(&mut self, client: u64, number: u64, request: Request) -> Result<Answer, NotTaken>
         requires { self.old.waiting ≡ [] }
         ensures taken { IfOk result (λ answer. IsTaken self.old.state client number request answer self.new) }
         ensures not_taken { IfErr result (IsNotTaken self.old.state client number request) }
-        ensures verdict { MatchResult result (λ answer. verdict self.old.state (asked client number request) ≡ verdict_in answer) (λ reason. verdict self.old.state (asked client number request) ≡ verdict_on_not_taken reason) }
+        ensures verdict { MatchResult result
+            (λ answer. verdict self.old.state (asked client number request) ≡ verdict_in answer)
+            (λ reason. verdict self.old.state (asked client number request) ≡ verdict_on_not_taken reason) }
         ensures err { OnErr result (self.new ≡ self.old) }
     {
         if let Err(reason) = self.admit(client, number) {
@@ -193,14 +196,16 @@ impl<W: Wheel + Drop> Facility<W> {
         }
     }
 
-    /// Goes to the next tick. What expires waits to be handed out.
+    /// Advances the clock by one tick. The timers that expire wait to be handed out.
     ///
     /// A refusal changes nothing. Does not allocate. No timer may wait to be handed out.
     pub fn tick(&mut self) -> Result<(), TickFault>
         requires { self.old.waiting ≡ [] }
-        ensures ticked { self.new ≡ standing_after (step self.old.state Tick 0) }
+        ensures ticked { self.new ≡ view_after (step self.old.state Tick 0) }
         ensures fault { MatchResult result (λ _. tick_refusal self.old.state ≡ None) (λ fault. tick_refusal self.old.state ≡ Some fault) }
-        ensures verdict { MatchResult result (λ _. verdict self.old.state Tick ≡ None) (λ fault. verdict self.old.state Tick ≡ Some (TickRefused fault)) }
+        ensures verdict { MatchResult result
+            (λ _. verdict self.old.state Tick ≡ None)
+            (λ fault. verdict self.old.state Tick ≡ Some (TickRefused fault)) }
         ensures err { OnErr result (self.new ≡ self.old) }
     {
         if self.is_closed {
@@ -213,12 +218,12 @@ impl<W: Wheel + Drop> Facility<W> {
         Ok(())
     }
 
-    /// Passes ticks, at least one and at most so many, and returns how many. What expires at the last
-    /// of them waits to be handed out.
+    /// Passes at least one and at most `limit` ticks, and returns how many. The timers that expire at the
+    /// last of them wait to be handed out.
     ///
-    /// Nothing expires before the last of them, and fewer are passed only where something waits then or
-    /// the clock is at its end. A refusal changes nothing. Does not allocate. No timer may wait to be
-    /// handed out.
+    /// Nothing expires before the last of them, and fewer than `limit` are passed only where a timer
+    /// expires then or the clock is at its end. A refusal changes nothing. Does not allocate. No timer may
+    /// wait to be handed out.
     pub fn ticks(&mut self, limit: u64) -> Result<u64, TickFault>
         requires waiting { self.old.waiting ≡ [] }
         requires some { 0 < limit }
@@ -239,7 +244,7 @@ impl<W: Wheel + Drop> Facility<W> {
     /// Returns a tick until which nothing is handed out, or None exactly where nothing is pending.
     ///
     /// It is after the present tick and at most the first pending deadline, so an owner sleeps until
-    /// then, calls `ticks`, and asks again. Timers that wait to be handed out are not looked at. Does
+    /// then, calls `ticks`, and calls this again. Timers that wait to be handed out do not count. Does
     /// not allocate.
     pub fn quiet_until(&self) -> Option<u64>
         ensures { IsQuietUntil result self.now.state }
@@ -247,17 +252,19 @@ impl<W: Wheel + Drop> Facility<W> {
         self.wheel.quiet_until()
     }
 
-    /// Closes it, and returns how many timers are handed back. They wait to be handed out.
+    /// Closes the facility, and returns how many timers were pending. They wait to be handed out.
     ///
-    /// A refusal changes nothing: after `OutOfMemory` it is still open. No timer may wait to be
+    /// A refusal changes nothing: after `OutOfMemory` the facility is still open. No timer may wait to be
     /// handed out.
     pub fn close(&mut self) -> Result<u64, CloseFault>
         requires { self.old.waiting ≡ [] }
         ensures count { IfOk result (λ count. count ≡ length self.old.state.pending) }
         ensures open { OnOk result (self.old.state.is_closed ≡ false) }
-        ensures closed { OnOk result (self.new ≡ standing_after (step self.old.state Close 0)) }
+        ensures closed { OnOk result (self.new ≡ view_after (step self.old.state Close 0)) }
         ensures fault { IfErr result (λ fault. fault ≡ CloseFault.Closed ↔ IsTrue self.old.state.is_closed) }
-        ensures verdict { MatchResult result (λ _. verdict self.old.state Close ≡ None) (λ fault. verdict self.old.state Close ≡ verdict_on_close fault) }
+        ensures verdict { MatchResult result
+            (λ _. verdict self.old.state Close ≡ None)
+            (λ fault. verdict self.old.state Close ≡ verdict_on_close fault) }
         ensures err { OnErr result (self.new ≡ self.old) }
     {
         if self.is_closed {
@@ -273,7 +280,7 @@ impl<W: Wheel + Drop> Facility<W> {
         Ok(count)
     }
 
-    /// The next timer that waits to be handed out, or None where none waits. Does not allocate.
+    /// Hands out the next timer that waits, or returns None where none waits. Does not allocate.
     pub fn next_out(&mut self) -> Option<Notice>
         ensures first { result ≡ slice_get self.old.waiting 0 }
         ensures rest { self.new ≡ record self.old { waiting = drop 1 self.old.waiting } }
@@ -294,7 +301,9 @@ impl<W: Wheel + Drop> Facility<W> {
 
     /// Whether a request under this number is taken.
     fn admit(&self, client: u64, number: u64) -> Result<(), NotTaken>
-        ensures { MatchResult result (λ _. not_taken self.now.state client number ≡ None) (λ reason. not_taken self.now.state client number ≡ Some reason) }
+        ensures { MatchResult result
+            (λ _. not_taken self.now.state client number ≡ None)
+            (λ reason. not_taken self.now.state client number ≡ Some reason) }
     {
         if self.is_closed {
             return Err(NotTaken::Closed);
@@ -326,7 +335,8 @@ impl<W: Wheel + Drop> Facility<W> {
         requires waiting { self.old.waiting ≡ [] }
         requires taken { not_taken self.old.state client number ≡ None }
         ensures answer { IfOk result (λ answer. answer ≡ answer_to self.old.state client number (Start interval action) (place_in answer)) }
-        ensures left { IfOk result (λ answer. self.new ≡ with_nothing_waiting (after_taken self.old.state client number (Start interval action) (place_in answer))) }
+        ensures left { IfOk result (λ answer.
+            self.new ≡ with_nothing_waiting (after_taken self.old.state client number (Start interval action) (place_in answer))) }
         ensures memory { IfErr result (λ reason. (reason ≡ NotTaken.OutOfMemory) × (start_refusal self.old.state interval ≡ None)) }
         ensures err { OnErr result (self.new ≡ self.old) }
     {
@@ -353,7 +363,7 @@ impl<W: Wheel + Drop> Facility<W> {
         }
     }
 
-    /// Why a start with this interval is refused, if it is.
+    /// Why a start with this interval is refused, if it is refused.
     fn start_refusal(&self, interval: u64) -> Option<Reason>
         ensures { result ≡ start_refusal self.now.state interval }
     {
@@ -366,7 +376,7 @@ impl<W: Wheel + Drop> Facility<W> {
         None
     }
 
-    /// Why no timer can be started now with this interval, wherever there is room for it.
+    /// Why no timer can be started now with this interval, whether or not there is room for one.
     fn interval_refusal(&self, interval: u64) -> Option<Reason>
         ensures { result ≡ interval_refusal self.now.state interval }
     {
@@ -417,7 +427,8 @@ impl<W: Wheel + Drop> Facility<W> {
         requires waiting { self.old.waiting ≡ [] }
         requires taken { not_taken self.old.state client number ≡ None }
         ensures answer { result ≡ answer_to self.old.state client number (Restart handle interval action) (place_in result) }
-        ensures left { self.new ≡ with_nothing_waiting (after_taken self.old.state client number (Restart handle interval action) (place_in result)) }
+        ensures left { self.new ≡ with_nothing_waiting
+            (after_taken self.old.state client number (Restart handle interval action) (place_in result)) }
     {
         let Some(old) = self.find_named(client, handle) else {
             self.numbers[client as usize] = number + 1;
@@ -447,7 +458,7 @@ impl<W: Wheel + Drop> Facility<W> {
         }
     }
 
-    /// The pending timer of this client with just this handle.
+    /// The pending timer of this client with exactly this handle.
     fn find_named(&self, client: u64, handle: Handle) -> Option<Timer>
         requires { self.now.waiting ≡ [] }
         ensures { result ≡ named self.now.state client (Stop handle) }
@@ -461,9 +472,9 @@ impl<W: Wheel + Drop> Facility<W> {
     }
 }
 
-/// Takes all pending timers out of the wheel, in the order in which they are returned.
+/// Removes all pending timers from the wheel, in the order in which they are returned.
 ///
-/// Only a failed allocation is an error, and then nothing changes.
+/// The only error is out of memory, and then nothing changes.
 fn take_all<W: Wheel>(wheel: &mut W) -> Result<Vec<Timer>, OutOfMemory>
     ensures timers { IfOk result (λ timers. timers.items ≡ timers_of (W.state wheel.old).pending) }
     ensures cleared { OnOk result (W.state wheel.new ≡ after_clear (W.state wheel.old)) }

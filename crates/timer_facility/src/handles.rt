@@ -1,8 +1,8 @@
 //! The handles of the pending timers, by serial.
 //!
-//! Serials rise, so the handles stand in one `Vec` in order of starting, and a binary search finds one.
-//! The handle of a timer that is gone stays for a while. Once there are more than two handles for each
-//! pending timer, and 64 beside them, all that no pending timer has are swept out:
+//! Serials rise, so one `Vec` keeps the handles in order of starting, and a binary search finds one.
+//! The handle of a timer that is no longer pending stays for a while. Once there are more than two
+//! handles for each pending timer, and `SPARE` = 64 more, a sweep drops all that no pending timer has:
 //!
 //!     pending   at most this many handles stay
 //!           0     64
@@ -10,27 +10,27 @@
 //!        1000   2064
 //!
 //! A sweep of n handles drops more than n / 2 of them, and each was added by one start or restart. So
-//! sweeps look up at most two handles for each start or restart, whatever the order of events is.
+//! sweeps look up at most two handles per start or restart, whatever the order of events is.
 ghost use Rattle.std.specs.Prelude.{◌≡◌, ◌<◌, ℕ, [], OnOk, Some, filter};
 ghost use Rattle.std.specs.Prelude.{vec_len, vec_capacity};
-ghost use Rattle.timer_facility.specs.Recorded.{place_at, AreSorted, AreRecorded, AreFew, is_pending, with_answer};
+ghost use Rattle.timer_facility.specs.Handles.{place_at, AreSorted, AreRecorded, AreFew, is_pending, with_answer};
 
 use crate::facility::Facility;
 use crate::request::Answer;
 use std::alloc::Global;
 use timer_base::{Handle, OutOfMemory, Wheel};
 
-/// How many handles may stay beside two for each pending timer.
+/// How many handles may stay in addition to two for each pending timer.
 pub const SPARE: usize = 64;
 
-/// Where each pending timer was put when it was started.
+/// The handle of each pending timer, and some of timers that are no longer pending.
 #[derive(Drop)]
 pub struct Handles {
     list: Vec<Handle>,
 }
 
 impl Handles {
-    /// No timer was started yet. Does not allocate.
+    /// No handles. Does not allocate.
     pub fn new(alloc: Global) -> Handles
         ensures { result.list.items ≡ [] }
     {
@@ -46,7 +46,7 @@ impl Handles {
         &self.list
     }
 
-    /// Makes room for one more. The only error is out of memory, and then nothing changes.
+    /// Reserves room for one more. The only error is out of memory, and then nothing changes.
     pub fn make_room(&mut self) -> Result<(), OutOfMemory>
         ensures list { self.new.list.items ≡ self.old.list.items }
         ensures room { OnOk result (vec_len self.new.list < vec_capacity self.new.list) }
@@ -55,7 +55,7 @@ impl Handles {
         Ok(())
     }
 
-    /// Adds the handle that the answer reports, if it reports one. Room for it was made.
+    /// Adds the handle of an accepted start or restart. Room for it was reserved.
     pub fn record(&mut self, answer: Answer)
         requires { vec_len self.old.list < vec_capacity self.old.list }
         ensures { self.new.list.items ≡ with_answer answer self.old.list.items }
@@ -67,7 +67,7 @@ impl Handles {
         }
     }
 
-    /// Forgets timers that are gone, where they are many. Does not allocate.
+    /// Drops the handles of timers that are no longer pending, where there are many. Does not allocate.
     pub fn forget<W: Wheel + Drop>(&mut self, facility: &Facility<W>)
         requires { AreRecorded self.old.list.items facility.now.state }
         ensures recorded { AreRecorded self.new.list.items facility.now.state }
@@ -94,7 +94,7 @@ impl Handles {
     }
 }
 
-/// The place that stands for the serial.
+/// The place under this serial.
 fn place_of(list: &[Handle], serial: u64) -> Option<usize>
     requires { AreSorted list.now }
     ensures { result ≡ place_at serial list.now }

@@ -1,5 +1,5 @@
-//! What every run of a facility keeps to, whatever the events are and whichever wheel it stands on.
-//! Each of these functions does nothing, and its contract is the law.
+//! Lemmas about every run of a facility, whatever the events are and whichever wheel it runs on.
+//! Each of these functions does nothing: its contract is the lemma.
 ghost use Rattle.std.specs.Prelude.{◌≡◌, List, [], ℕ, ◌+◌, take, map, true, Some};
 ghost use Rattle.std.specs.List.{AllByRecursion};
 ghost use Rattle.timer_facility.specs.declared.limits.TheConstants.{MOST_CLIENTS, MOST_PENDING};
@@ -14,7 +14,7 @@ ghost use Rattle.timer_facility.specs.Played.{IsRun};
 ghost use Rattle.timer_facility.specs.declared.event.Event.{Event};
 ghost use Rattle.timer_facility.specs.declared.event.Out.{Out};
 
-/// Whatever the events are, at every moment the notices so far are what is owed.
+/// Whatever the events are, after each of them the notices so far are what is owed.
 pub fn notices_are_owed()
     ensures { (s : FacilityState) (placed : List Placed) (k : ℕ) → IsSound s
         → notices (take k (history s placed)) ≡ owed s (take k (history s placed)) }
@@ -31,40 +31,41 @@ pub fn each_timer_is_handed_out()
     ensures { (s : FacilityState) (placed : List Placed) → IsSound s → AreAllHandedOut s (history s placed) }
 {}
 
-/// What a close returns are the others: of all timers that were started, those that no tick handed out
-/// and that were not stopped.
+/// A close returns the others: of all timers that were started, those that no tick handed out and that
+/// were not stopped.
 pub fn a_close_returns_the_others()
     ensures { (s : FacilityState) (placed : List Placed) → IsSound s
         → left_after s (history s placed) (s.now + accepted_ticks (history s placed)) ≡ others s (history s placed) }
 {}
 
-/// What comes of events, and the state after them, do not depend on the places that a wheel gives,
-/// where each stop names its timer by the serial.
+/// The outs of events, and the state after them, do not depend on the places that a wheel chooses,
+/// where each stop and restart names its timer by serial.
 pub fn bare_outs_do_not_depend_on_places()
     ensures { (s t : FacilityState) (placed others : List Placed) → bare_state s ≡ bare_state t
         → map (λ p. p.event) placed ≡ map (λ p. p.event) others → AllByRecursion NamesBySerial (map (λ p. p.event) placed)
         → AreSameButForPlaces (run s placed) (run t others) }
 {}
 
-/// Any two players give the same outs for one list of events, but for places.
+/// Any two players return the same outs for one list of events, except for places.
 pub fn players_give_the_same()
     ensures { (s t : FacilityState) (events : List Event) (outs others : List Out) (after end : FacilityState) → bare_state s ≡ bare_state t
-        → IsRun s events outs after → IsRun t events others end → (bare_outs outs ≡ bare_outs others) × (bare_state after ≡ bare_state end) }
+        → IsRun s events outs after → IsRun t events others end
+        → (bare_outs outs ≡ bare_outs others) × (bare_state after ≡ bare_state end) }
 {}
 
-/// A refused event changes nothing, but that a request which is taken uses up its number.
+/// A refused event changes nothing, except that a request which is taken uses up its number.
 pub fn a_refusal_changes_at_most_the_number()
     ensures { (s : FacilityState) (event : SingleEvent) (place : ℕ) (refusal : Refusal) → verdict s event ≡ Some refusal
         → step s event place ≡ refused s event refusal }
 {}
 
-/// The outs of an event tell the verdict on it: an accepted event has no refusal among them, and of a
-/// refused one the only refusal is that of the verdict.
+/// The outs of an event determine the verdict on it: those of an accepted event have no refusal, and the
+/// only refusal among those of a refused one is that of the verdict.
 pub fn the_outs_tell_the_verdict()
     ensures { (s : FacilityState) (event : SingleEvent) (place : ℕ) → refusals_in (step s event place).outs ≡ refusals_of (verdict s event) }
 {}
 
-/// A closed facility refuses each event, and says that it is closed.
+/// A closed facility refuses each event as closed.
 pub fn a_closed_facility_refuses_each_event()
     ensures { (s : FacilityState) (event : SingleEvent) → s.is_closed ≡ true → verdict s event ≡ Some (closed_refusal event) }
 {}
@@ -77,10 +78,11 @@ pub fn nothing_comes_after_the_close()
 
 /// A request adds at most one pending timer to those of its client, and none to those of another.
 pub fn a_request_adds_at_most_one()
-    ensures { (s : FacilityState) (client number : ℕ) (wanted : Wanted) (place : ℕ) → AddsAtMostOne client s (step s (Asked client number wanted) place).state }
+    ensures { (s : FacilityState) (client number : ℕ) (wanted : Wanted) (place : ℕ)
+        → AddsAtMostOne client s (step s (Asked client number wanted) place).state }
 {}
 
-/// What a tick or a close hands out was pending, and is pending no more.
+/// What a tick or a close hands out was pending, and is no longer pending.
 pub fn what_is_handed_out_was_pending()
     ensures tick { (s : FacilityState) → HandsOver s (step s Tick 0) }
     ensures close { (s : FacilityState) → HandsOver s (step s Close 0) }

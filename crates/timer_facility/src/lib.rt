@@ -1,11 +1,11 @@
 //! Clients, their numbered requests, ticks and the close, over any wheel.
 //!
-//! A `Config` says how many clients there are and where the numbers begin. The layer above knows a
+//! A `Config` has the number of clients, the capacity and the first numbers. The layer above knows a
 //! facility by its state and by the notices that wait in it: read `specs/State.antt`, then
-//! `specs/Verdict.antt` (which event is accepted) and `specs/Step.antt` (what comes of it), then
-//! `facility`, which does it, and `player`, which plays whole lists of events over it. What must
-//! have been handed out for a history of requests and answers is `owed`, in `specs/Owed.antt`, and
-//! `notices_are_owed` in `laws` says that it was.
+//! `specs/Verdict.antt` (which events are accepted) and `specs/Step.antt` (the outs of an event and the
+//! state after it), then `facility`, which implements them, and `player`, which plays whole lists of
+//! events. What a history of requests and answers must have handed out is `owed`, in `specs/Owed.antt`;
+//! the lemma `notices_are_owed` in `laws` states that it was.
 #![tactic(auto)]
 
 mod config;

@@ -1,15 +1,16 @@
 //! Plays lists of events.
 //!
-//! Room for all that an event can give is made before the event: one out, one handle for a start or a restart, and
-//! one notice for each timer that is pending. After that nothing can fail, so an event is played
-//! whole or not at all.
+//! Memory for all that an event can produce is reserved before the event: one out, one handle for a start
+//! or a restart, and one notice for each pending timer. After that only the facility's own call can fail,
+//! which then has changed nothing. So an event is played whole or not at all.
 ghost use Rattle.std.specs.Prelude.{◌≡◌, ◌<◌, ◌≤◌, ◌+◌, ◌*◌, ◌++◌, ◌∷◌, ◌↔◌, ℕ, List, [], None, length, map, take, IsTrue, IfOk, IfErr, OnErr, OnOk, vec_len, vec_capacity};
 ghost use Rattle.timer_facility.specs.State.{FacilityState, IsSound, Tick, Close};
 ghost use Rattle.timer_facility.specs.Verdict.{tick_refusal};
 ghost use Rattle.timer_facility.specs.Step.{step};
-ghost use Rattle.timer_facility.specs.Standing.{with_nothing_waiting};
+ghost use Rattle.timer_facility.specs.Facility.{with_nothing_waiting};
 ghost use Rattle.timer_facility.specs.Played.{IsPlayed, AddsRun};
-ghost use Rattle.timer_facility.specs.Recorded.{Places, AreRecorded};
+ghost use Rattle.timer_facility.specs.Handles.{HandleList, AreRecorded};
+ghost use Rattle.timer_facility.specs.declared.handles.TheConstants.{SPARE};
 
 use crate::event::{Event, Out};
 use crate::facility::Facility;
@@ -19,19 +20,19 @@ use std::alloc::Global;
 use std::marker::Model;
 use timer_base::{Handle, OutOfMemory, Wheel};
 
-/// What was played before memory ran out. The next event changed nothing.
+/// What was played before memory ran out. The event after it changed nothing.
 #[derive(Debug, Drop)]
 pub struct PlayStop {
     /// How many events were played.
     pub done: usize,
-    /// What came of them.
+    /// Their outs.
     pub outs: Vec<Out>,
 }
 
 /// A facility whose events are played from lists.
 ///
 /// It keeps the handle of each pending timer, so that a stop or a restart can name one by its serial: at
-/// most two handles for each timer that is pending, and 64 more, however long it plays.
+/// most two handles for each pending timer, and 64 more, however long it plays.
 #[derive(Drop)]
 pub struct Player<W: Wheel + Drop> {
     facility: Facility<W>,
@@ -41,7 +42,7 @@ pub struct Player<W: Wheel + Drop> {
 
 impl<W: Wheel + Drop> Model for Player<W> {
     ghost use Rattle.timer_facility.specs.State.{FacilityState};
-    ghost use Rattle.timer_facility.specs.Recorded.{IsPlayer};
+    ghost use Rattle.timer_facility.specs.Handles.{IsPlayer};
 
     ghost Value = { FacilityState };
 
@@ -73,24 +74,24 @@ impl<W: Wheel + Drop> Player<W> {
     }
 
     /// The handles that it keeps, in order of starting: those of the pending timers, and some of timers
-    /// that are gone. Does not allocate.
+    /// that are no longer pending. Does not allocate.
     pub fn handles(&self) -> &[Handle]
         ensures recorded { AreRecorded result.now self.now }
-        ensures few { length result.now ≤ 2 * length self.now.pending + 64 }
+        ensures few { length result.now ≤ 2 * length self.now.pending + SPARE }
     {
         self.handles.as_slice()
     }
 
-    /// Plays the events one after another, and gives what comes of them in order.
+    /// Plays the events one after another, and returns their outs in order.
     ///
-    /// Only running out of memory stops it, before an event that then changed nothing: `play` may be called
+    /// The only error is out of memory. The event at which it stops changed nothing: `play` may be called
     /// again with that event and the rest.
     pub fn play(&mut self, events: &[Event]) -> Result<Vec<Out>, PlayStop>
         ensures played { IfOk result (λ outs. IsPlayed self.old events.now outs.items self.new) }
         ensures within { IfErr result (λ stop. stop.done < length events.now) }
         ensures stopped { IfErr result (λ stop. IsPlayed self.old (take stop.done events.now) stop.outs.items self.new) }
     {
-        // What `owed` rests on is known of the state from here on.
+        // From here on the prover knows of the state what the lemma on `owed` requires.
         let _now = self.facility.now();
         let mut outs = Vec::new(self.alloc);
         for (i, event) in events.iter().enumerate() {
@@ -102,7 +103,7 @@ impl<W: Wheel + Drop> Player<W> {
         Ok(outs)
     }
 
-    /// Plays one event, and adds what comes of it to the outs.
+    /// Plays one event, and appends its outs.
     ///
     /// The only error is out of memory, and then nothing changes: the event may be played again.
     pub fn play_one(&mut self, event: Event, outs: &mut Vec<Out>) -> Result<(), OutOfMemory>
@@ -177,7 +178,7 @@ impl<W: Wheel + Drop> Player<W> {
         }
     }
 
-    /// Plays a stop, which names its timer by the serial.
+    /// Plays a stop, which names its timer by serial.
     fn play_stop(
         &mut self,
         client: u64,
@@ -212,7 +213,7 @@ impl<W: Wheel + Drop> Player<W> {
         }
     }
 
-    /// Plays a restart, which names its timer by the serial, and keeps the handle of the new timer.
+    /// Plays a restart, which names its timer by serial, and keeps the handle of the new timer.
     fn play_restart(
         &mut self,
         client: u64,
@@ -255,7 +256,7 @@ impl<W: Wheel + Drop> Player<W> {
         }
     }
 
-    /// Plays so many ticks, up to the first that is refused.
+    /// Plays `count` ticks, up to the first that is refused.
     fn play_ticks(&mut self, count: u64, outs: &mut Vec<Out>) -> Result<(), OutOfMemory>
         ensures ok { OnOk result (AddsRun self.old (Event.Ticks count) outs.old.items outs.new.items self.new) }
         ensures state { OnErr result (self.new ≡ self.old) }
@@ -267,7 +268,7 @@ impl<W: Wheel + Drop> Player<W> {
         Ok(())
     }
 
-    /// Plays the close. The timers that it hands back come after its own out.
+    /// Plays the close. The timers that it returns come after its own out.
     fn play_close(&mut self, outs: &mut Vec<Out>) -> Result<(), OutOfMemory>
         ensures ok { OnOk result (AddsRun self.old Event.Close outs.old.items outs.new.items self.new) }
         ensures state { OnErr result (self.new ≡ self.old) }
@@ -290,7 +291,7 @@ impl<W: Wheel + Drop> Player<W> {
     }
 }
 
-/// Makes room for one out and for a notice of each pending timer. Ticks and a close give no more.
+/// Reserves room for one out and for a notice of each pending timer. Ticks and a close produce no more.
 fn make_room<W: Wheel + Drop>(
     facility: &Facility<W>,
     outs: &mut Vec<Out>,
@@ -303,14 +304,14 @@ fn make_room<W: Wheel + Drop>(
     Ok(())
 }
 
-/// So many ticks, up to the first that is refused, each with its notices. Room for them was made.
+/// Passes `count` ticks, up to the first that is refused, each with its notices. Room for them was reserved.
 fn pass_ticks<W: Wheel + Drop>(facility: &mut Facility<W>, count: u64, outs: &mut Vec<Out>)
     requires sound { IsSound facility.old.state }
     requires waiting { facility.old.waiting ≡ [] }
     requires room { vec_len outs.old + length facility.old.state.pending < vec_capacity outs.old }
     ensures run { AddsRun facility.old.state (Event.Ticks count) outs.old.items outs.new.items facility.new.state }
     ensures waiting { facility.new.waiting ≡ [] }
-    ensures places { (places : Places) → AreRecorded places facility.old.state → AreRecorded places facility.new.state }
+    ensures handles { (handles : HandleList) → AreRecorded handles facility.old.state → AreRecorded handles facility.new.state }
 {
     let mut left = count;
     while left > 0 {
@@ -327,7 +328,7 @@ fn pass_ticks<W: Wheel + Drop>(facility: &mut Facility<W>, count: u64, outs: &mu
     }
 }
 
-/// Hands out all that waits. Room for it was made.
+/// Hands out every timer that waits. Room for the notices was reserved.
 fn hand_out<W: Wheel + Drop>(facility: &mut Facility<W>, outs: &mut Vec<Out>)
     requires { vec_len outs.old + length facility.old.waiting ≤ vec_capacity outs.old }
     ensures facility { facility.new ≡ with_nothing_waiting facility.old.state }

@@ -1,6 +1,7 @@
-//! Lists of events over the plain wheel: worked examples, and how they may be cut into calls.
+//! Lists of events over the plain wheel: worked examples, and how they may be split into calls.
 use super::*;
 use crate::refusing::Refusing;
+use crate::tests::facility;
 use std::alloc::Global;
 use std::process::Abort;
 use std::test::Fail;
@@ -16,9 +17,7 @@ const CONFIG: Config = Config {
 
 /// A player of a facility over a plain wheel.
 fn player(alloc: Global, config: Config) -> Result<Player<PlainWheel>, Fail> {
-    let wheel = PlainWheel::new(alloc, config.first_tick)?;
-    let checked = config.check()?;
-    Ok(Player::open(alloc, Facility::open(alloc, checked, wheel)))
+    Ok(Player::open(alloc, facility(alloc, config)?))
 }
 
 fn start(client: u64, number: u64, interval: u64, action: u64) -> Event {
@@ -88,10 +87,6 @@ fn stopped(client: u64, number: u64, serial: u64) -> Out {
     answered(client, number, Answer::Stopped { serial })
 }
 
-fn no_such(client: u64, number: u64) -> Out {
-    answered(client, number, Answer::Refused(Reason::NoSuch))
-}
-
 /// The timer that the client's request with this number started.
 fn timer(client: u64, number: u64, serial: u64, deadline: u64, action: u64) -> Timer {
     Timer {
@@ -123,7 +118,7 @@ fn bare(out: Out) -> Out {
     }
 }
 
-/// What comes of the events, without places.
+/// The outs of the events, without places.
 fn play<W: Wheel + Drop>(player: &mut Player<W>, events: &[Event]) -> Result<Vec<Out>, Fail> {
     let mut outs = player.play(events)?;
     for out in outs.iter_mut() {
@@ -132,8 +127,8 @@ fn play<W: Wheel + Drop>(player: &mut Player<W>, events: &[Event]) -> Result<Vec
     Ok(outs)
 }
 
-/// Plays the events, and compares what comes of them, the last tick and how many
-/// timers are pending then.
+/// Plays the events, and compares their outs, the last tick and the number of timers
+/// pending then.
 fn check_row<W: Wheel + Drop>(
     rt: &impl Abort,
     row: &str,
@@ -202,7 +197,11 @@ fn a_stop_names_its_timer_by_the_serial(rt: HostRuntime) -> Result<(), Fail> {
         "stop_twice",
         player(rt.alloc(), CONFIG)?,
         &[start(0, 1, 5, 0), stop(0, 2, 1), stop(0, 3, 1), ticks(5)],
-        &[started(0, 1, 1, 5), stopped(0, 2, 1), no_such(0, 3)],
+        &[
+            started(0, 1, 1, 5),
+            stopped(0, 2, 1),
+            refused(0, 3, Reason::NoSuch),
+        ],
         (5, 0),
     )
 }
@@ -227,8 +226,8 @@ fn a_restart_names_its_timer_by_the_serial(rt: HostRuntime) -> Result<(), Fail> 
             started(0, 1, 1, 5),
             started(1, 1, 2, 5),
             restarted(0, 2, 1, 3, 8),
-            no_such(0, 3),
-            no_such(1, 2),
+            refused(0, 3, Reason::NoSuch),
+            refused(1, 2, Reason::NoSuch),
             restarted(0, 4, 3, 4, 5),
             expired(timer(1, 1, 2, 5, 2)),
             expired(timer(0, 4, 4, 5, 6)),
@@ -259,7 +258,7 @@ fn a_restart_takes_the_last_serial_and_then_none(rt: HostRuntime) -> Result<(), 
             started(0, 1, LAST - 1, 9),
             restarted(0, 2, LAST - 1, LAST, 2),
             refused(0, 3, Reason::SerialsSpent),
-            no_such(0, 4),
+            refused(0, 4, Reason::NoSuch),
             expired(timer(0, 2, LAST, 2, 2)),
         ],
         (2, 0),
@@ -286,10 +285,10 @@ fn a_stop_of_a_serial_never_given_finds_none(rt: HostRuntime) -> Result<(), Fail
         ],
         &[
             started(0, 1, 5, 9),
-            no_such(0, 2),
-            no_such(0, 3),
-            no_such(0, 4),
-            no_such(0, 5),
+            refused(0, 2, Reason::NoSuch),
+            refused(0, 3, Reason::NoSuch),
+            refused(0, 4, Reason::NoSuch),
+            refused(0, 5, Reason::NoSuch),
             stopped(0, 6, 5),
         ],
         (0, 0),
@@ -375,7 +374,7 @@ fn two_calls_play_as_one(rt: HostRuntime) -> Result<(), Fail> {
 }
 
 #[test]
-fn an_event_that_met_a_refused_growth_can_be_played_again(rt: HostRuntime) -> Result<(), Fail> {
+fn an_event_that_ran_out_of_memory_can_be_played_again(rt: HostRuntime) -> Result<(), Fail> {
     let wheel = PlainWheel::new(rt.alloc(), 0)?;
     let refusing = Refusing {
         wheel,
@@ -415,7 +414,7 @@ fn an_event_that_met_a_refused_growth_can_be_played_again(rt: HostRuntime) -> Re
 #[test]
 fn handles_of_timers_that_are_gone_are_forgotten(rt: HostRuntime) -> Result<(), Fail> {
     let mut player = player(rt.alloc(), CONFIG)?;
-    // Two timers stay pending, the second by restarts, while others come and go behind them.
+    // Two timers stay pending, the second by restarts, while others come and go after them.
     let _ = play(&mut player, &[start(0, 1, 9000, 0), start(2, 1, 9000, 0)])?;
     for i in 0..100 {
         let events = [

@@ -1,7 +1,7 @@
-//! What a client asks for, and what it is answered.
+//! A client's requests, and their answers.
 use timer_base::{Handle, Timer};
 
-/// What a request asks for.
+/// A request of a client.
 #[derive(Clone, Copy, Debug, PartialEq, Eq)]
 pub enum Request {
     /// Start a timer that expires after `interval` ticks, and hand `action` back with it.
@@ -11,7 +11,7 @@ pub enum Request {
     },
     /// Stop the timer with this handle.
     Stop(Handle),
-    /// Stop the timer with this handle and start another in its stead, in one request.
+    /// Stop the timer with this handle and start another in its place, in one request.
     Restart {
         handle: Handle,
         interval: u64,
@@ -19,7 +19,7 @@ pub enum Request {
     },
 }
 
-/// What a request that was taken is answered.
+/// The answer to a request that was taken.
 #[derive(Clone, Copy, Debug, PartialEq, Eq)]
 pub enum Answer {
     /// The timer runs, and expires at the tick `deadline`.
@@ -31,7 +31,7 @@ pub enum Answer {
     Stopped {
         serial: u64,
     },
-    /// The timer with the serial `old` will never be handed out. A new one runs in its stead, and expires
+    /// The timer with the serial `old` will never be handed out. A new one runs in its place, and expires
     /// at the tick `deadline`.
     Restarted {
         handle: Handle,
@@ -50,15 +50,15 @@ pub enum Reason {
     ZeroInterval,
     /// The deadline would be after the last tick.
     TooLate,
-    /// Each serial was used.
+    /// All serials are used up.
     SerialsSpent,
-    /// As many timers are pending as the facility may hold.
+    /// The facility is at its capacity of pending timers.
     Full,
     /// No pending timer of this client has this handle.
     NoSuch,
 }
 
-/// Why a request was not taken, in the order in which it is tested. Nothing changed.
+/// Why a request was not taken, in the order of the tests. Nothing changed.
 #[derive(Clone, Copy, Debug, PartialEq, Eq)]
 pub enum NotTaken {
     /// The facility was closed.
@@ -67,11 +67,11 @@ pub enum NotTaken {
     NoClient,
     /// The number was taken before; `next` is the client's next one.
     Repeated { next: u64 },
-    /// The client used each of its numbers.
+    /// The client's numbers are used up.
     NumbersSpent,
     /// An earlier number is missing; `next` is the client's next one.
     Ahead { next: u64 },
-    /// Memory ran out. The same request may be tried again.
+    /// Out of memory. The same request may be repeated.
     OutOfMemory,
 }
 
@@ -84,20 +84,20 @@ pub enum Notice {
     Returned(Timer),
 }
 
-/// Why a tick is refused, in the order in which it is tested. Nothing changed.
+/// Why a tick is refused, in the order of the tests. Nothing changed.
 #[derive(Clone, Copy, Debug, PartialEq, Eq)]
 pub enum TickFault {
     /// The facility was closed.
     Closed,
-    /// The clock stands at its last tick.
+    /// The clock is at its last tick.
     ClockEnd,
 }
 
-/// Why a close is refused, in the order in which it is tested. Nothing changed.
+/// Why a close is refused, in the order of the tests. Nothing changed.
 #[derive(Clone, Copy, Debug, PartialEq, Eq)]
 pub enum CloseFault {
     /// The facility was closed.
     Closed,
-    /// Memory ran out. The close may be tried again.
+    /// Out of memory. The close may be repeated.
     OutOfMemory,
 }

@@ -1,6 +1,6 @@
 //! Whole uses of the facility over the plain wheel, and the ranges of its configuration.
 ghost use Rattle.std.specs.Prelude.{◌≡◌, ◌<◌, [], IfOk};
-ghost use Rattle.timer_facility.specs.Standing.{Standing};
+ghost use Rattle.timer_facility.specs.Facility.{FacilityView};
 
 use super::*;
 use std::alloc::Global;
@@ -22,14 +22,17 @@ fn same<T: PartialEq + Debug + Drop>(rt: &impl Abort, found: T, expected: T) {
     assert_eq!(rt; found, expected);
 }
 
-/// A facility of two clients over a plain wheel.
-fn facility(alloc: Global) -> Result<Facility<PlainWheel>, Fail> {
-    let wheel = PlainWheel::new(alloc, 0)?;
-    let checked = CONFIG.check()?;
+/// A facility with this configuration over a plain wheel.
+pub fn facility(alloc: Global, config: Config) -> Result<Facility<PlainWheel>, Fail>
+    ensures waiting { IfOk result (λ facility. facility.waiting ≡ []) }
+    ensures pending { IfOk result (λ facility. facility.state.pending ≡ []) }
+{
+    let wheel = PlainWheel::new(alloc, config.first_tick)?;
+    let checked = config.check()?;
     Ok(Facility::open(alloc, checked, wheel))
 }
 
-/// Goes on only where nothing waits to be handed out.
+/// Checks that nothing waits to be handed out.
 fn settle<W: Wheel + Drop>(rt: &impl Abort, facility: &Facility<W>)
     ensures { facility.now.waiting ≡ [] }
 {
@@ -107,7 +110,7 @@ fn expired<W: Wheel + Drop>(facility: &mut Facility<W>) -> Option<u64> {
 
 #[test]
 fn many_ticks_stop_where_something_waits(rt: HostRuntime) -> Result<(), Fail> {
-    let mut facility = facility(rt.alloc())?;
+    let mut facility = facility(rt.alloc(), CONFIG)?;
     for (number, interval) in [(1, 5), (2, 64), (3, 64), (4, 4161)] {
         started(&rt, &mut facility, 0, number, interval, 0);
     }
@@ -125,14 +128,11 @@ fn many_ticks_stop_where_something_waits(rt: HostRuntime) -> Result<(), Fail> {
 
 #[test]
 fn many_ticks_end_at_the_last_one(rt: HostRuntime) -> Result<(), Fail> {
-    let alloc = rt.alloc();
     let config = Config {
         first_tick: LAST - 2,
         ..CONFIG
     };
-    let checked = config.check()?;
-    let wheel = PlainWheel::new(alloc, LAST - 2)?;
-    let mut facility = Facility::open(alloc, checked, wheel);
+    let mut facility = facility(rt.alloc(), config)?;
     same(&rt, ticks(&rt, &mut facility, u64::MAX), Ok(2));
     same(&rt, ticks(&rt, &mut facility, 1), Err(TickFault::ClockEnd));
     same(&rt, close(&rt, &mut facility), Ok(0));
@@ -142,7 +142,7 @@ fn many_ticks_end_at_the_last_one(rt: HostRuntime) -> Result<(), Fail> {
 
 #[test]
 fn a_restart_is_refused_in_its_order(rt: HostRuntime) -> Result<(), Fail> {
-    let mut facility = facility(rt.alloc())?;
+    let mut facility = facility(rt.alloc(), CONFIG)?;
     let handle = started(&rt, &mut facility, 0, 1, 5, 7);
     let restart = |interval| Request::Restart {
         handle,
@@ -178,7 +178,6 @@ fn a_restart_is_refused_in_its_order(rt: HostRuntime) -> Result<(), Fail> {
 
 #[test]
 fn numbers_spent(rt: HostRuntime) -> Result<(), Fail> {
-    let alloc = rt.alloc();
     let config = Config {
         clients: 1,
         capacity: 4,
@@ -186,9 +185,7 @@ fn numbers_spent(rt: HostRuntime) -> Result<(), Fail> {
         first_serial: LAST,
         first_number: LAST - 2,
     };
-    let checked = config.check()?;
-    let wheel = PlainWheel::new(alloc, 0)?;
-    let mut facility = Facility::open(alloc, checked, wheel);
+    let mut facility = facility(rt.alloc(), config)?;
     let last = started(&rt, &mut facility, 0, LAST - 2, 1, 1);
     same(&rt, last.serial, LAST);
     let rows = [
@@ -215,7 +212,7 @@ fn numbers_spent(rt: HostRuntime) -> Result<(), Fail> {
 
 #[test]
 fn a_hostile_handle_restarts_nothing(rt: HostRuntime) -> Result<(), Fail> {
-    let mut facility = facility(rt.alloc())?;
+    let mut facility = facility(rt.alloc(), CONFIG)?;
     let gone = started(&rt, &mut facility, 0, 1, 3, 1);
     let stopped = take(&rt, &mut facility, 0, 2, Request::Stop(gone));
     same(&rt, stopped, Ok(Answer::Stopped { serial: 1 }));
@@ -263,7 +260,7 @@ fn a_hostile_handle_restarts_nothing(rt: HostRuntime) -> Result<(), Fail> {
 
 #[test]
 fn an_owner_sleeps_until_the_first_deadline(rt: HostRuntime) -> Result<(), Fail> {
-    let mut facility = facility(rt.alloc())?;
+    let mut facility = facility(rt.alloc(), CONFIG)?;
     same(&rt, facility.quiet_until(), None);
     started(&rt, &mut facility, 0, 1, 70, 0);
     started(&rt, &mut facility, 1, 1, 7, 0);
@@ -279,7 +276,7 @@ fn an_owner_sleeps_until_the_first_deadline(rt: HostRuntime) -> Result<(), Fail>
 
 #[test]
 fn starts_stops_ticks_and_closes(rt: HostRuntime) -> Result<(), Fail> {
-    let mut facility = facility(rt.alloc())?;
+    let mut facility = facility(rt.alloc(), CONFIG)?;
     let late = started(&rt, &mut facility, 0, 1, 5, 7);
     let early = started(&rt, &mut facility, 1, 1, 1, 8);
     let other = started(&rt, &mut facility, 1, 2, 9, 9);
@@ -324,7 +321,7 @@ fn starts_stops_ticks_and_closes(rt: HostRuntime) -> Result<(), Fail> {
 
 #[test]
 fn a_used_place_does_not_let_an_old_handle_stop(rt: HostRuntime) -> Result<(), Fail> {
-    let mut facility = facility(rt.alloc())?;
+    let mut facility = facility(rt.alloc(), CONFIG)?;
     let old = started(&rt, &mut facility, 0, 1, 5, 1);
     same(&rt, old.serial, 1);
     let stopped = take(&rt, &mut facility, 0, 2, Request::Stop(old));

@@ -1,4 +1,4 @@
--- Where a node that is taken out stood alone.
+-- Whether a node that is removed was alone in its list.
 use Rattle.std.proofs.Common.{◌≡◌, ◌<◌, ◌+◌, ℕ, List, [], ◌∷◌, refl, ◌∙◌, ap, subst, inl, inr, arith}
 use Rattle.std.proofs.lemmas.Bool.{eq-eqb, ne_eqb}
 use Rattle.slab.specs.Slab.{Slab}

@@ -1,4 +1,4 @@
--- A list goes to the back of another as a whole.
+-- A whole list moves to the back of another.
 use Rattle.std.proofs.Common.{◌≡◌, ◌≢◌, ◌<◌, ◌+◌, ℕ, List, [], ◌∷◌, ◌++◌, length, refl, sym, ◌∙◌, ap, subst, inl, inr, arith, length-set, length-append, get_or-set_same, get_or-set_other}
 use Rattle.std.specs.Prelude.{Option, Some, None, slice_set}
 use Rattle.std.proofs.lemmas.Bool.{cases_eq}
@@ -75,7 +75,7 @@ module _ (v : List (List (ℕ × Node))) (from to : ℕ) (o : to ≢ from) (bf :
       let c4 : length (list_at to v ++ list_at from v) ≡ length (list_at to v) + length (list_at from v) = length-append (list_at to v) (list_at from v) in
       omega arith
 
-  -- each key has the node that it had
+  -- each key has the same node as before
   module _ (n : ℕ) (s u : List Sides) (h : AreRings n s v) (g : AreRings n u (appended from to v)) (many : length v ≡ n) where
     by_old : (k : ℕ) (a : Option Node) → node_at k v ≡ a → node_at k (appended from to v) ≡ a
     by_old k (Some node) e =

@@ -1,4 +1,4 @@
--- What each call of `Links` does to what its nodes and sides stand for.
+-- The lists that nodes and sides represent, after each call of `Links`.
 use Rattle.std.proofs.Common.{◌≡◌, ◌<◌, ◌≤◌, ◌+◌, ℕ, List, [], ◌∷◌, ◌++◌, length, refl, sym, ◌∙◌, ap, subst, inl, inr, arith, length-set, length-append}
 use Rattle.std.specs.Prelude.{false, IsTrue, map, Option, Some, None, IsSome, slice_set, slice_index_or}
 use Rattle.std.proofs.lemmas.Bool.{cases_eq}

@@ -8,7 +8,7 @@ abbrev pub In : ℕ → List ℕ → Type 0
 In p [] = ⊥
 In p (q ∷ qs) = (q ≡ p) ⊎ In p qs
 
--- no place stands twice
+-- no place occurs twice
 abbrev pub IsApart : List ℕ → Type 0
 IsApart [] = Unit {0}
 IsApart (p ∷ ps) = (In p ps → ⊥) × IsApart ps
@@ -49,7 +49,7 @@ in_either x [] qs i = inr i
 in_either x (p ∷ ps) qs (inl e) = inl (inl e)
 in_either x (p ∷ ps) qs (inr i) = elim (in_either x ps qs i) [ inl a ↦ inl (inr a) | inr b ↦ inr b ]
 
--- and what stands in it anywhere
+-- and facts of each of its places
 pub in_ring : (x l : ℕ) (ps : List ℕ) → In x (ps ++ l ∷ []) → In x (l ∷ ps)
 in_ring x l ps i = elim (in_either x ps (l ∷ []) i) [
   | inl a ↦ inr a
@@ -92,7 +92,7 @@ pub halves : (s : List Sides) (p : ℕ) (ps : List ℕ) (q : ℕ) (qs : List ℕ
 halves s p [] q qs c = record { front = tt; seam = c.0; back = c.1 }
 halves s p (r ∷ rs) q qs c = let h = halves s r rs q qs c.1 in record { front = (c.0, h.front); seam = h.seam; back = h.back }
 
--- sides that are as they were keep each chain
+-- unchanged sides keep each chain
 pub chain_same : (s u : List Sides) (p : ℕ) (ps : List ℕ) → ((x : ℕ) → sides_at u x ≡ sides_at s x) → IsChain s p ps → IsChain u p ps
 chain_same s u p [] h c = tt
 chain_same s u p (q ∷ qs) h c = (
@@ -100,7 +100,7 @@ chain_same s u p (q ∷ qs) h c = (
   chain_same s u q qs h c.1,
 )
 
--- a join keeps each chain that goes on from no such front, and comes to no such back
+-- a join keeps each chain that contains neither a step from its front nor one to its back
 pub kept : (s u : List Sides) (f b p : ℕ) (ps : List ℕ) → Joins f b s u → (In f (starts p ps) → ⊥) → (In b ps → ⊥) → IsChain s p ps → IsChain u p ps
 kept s u f b p [] j nf nb c = tt
 kept s u f b p (q ∷ qs) j nf nb c = (

@@ -1,4 +1,4 @@
--- What new lists stand on.
+-- The representation of new lists.
 use Rattle.std.proofs.Common.{◌≡◌, ◌<◌, ◌≤◌, ◌+◌, ℕ, zero, suc, List, [], ◌∷◌, ◌++◌, length, refl, sym, ◌∙◌, ap, subst, inl, inr, arith, length-append}
 use Rattle.std.specs.Prelude.{replicate, None}
 use Rattle.std.proofs.lemmas.Bool.{cases_eq}
@@ -11,7 +11,7 @@ use Rattle.timer_links.specs.Ring.{sides_at}
 use Rattle.timer_links.specs.Linked.{IsLinked}
 use Rattle.timer_links.proofs.Rows.{none_is, node_at-none}
 
--- these are the roots of so many empty lists
+-- these are the roots of that many empty lists
 pub record AreRoots (n : ℕ) (sides : List Sides) : Type 0 where
   pub many : length sides ≡ n
   pub each : (l : ℕ) → l < n → sides_at sides l ≡ record { before = l; after = l }

@@ -1,4 +1,4 @@
--- The first row of a list is taken out, or moves.
+-- The first row of a list is removed, or moves.
 use Rattle.std.proofs.Common.{◌≡◌, ◌<◌, ◌+◌, ℕ, List, [], ◌∷◌, length, sym, ◌∙◌, ap, subst}
 use Rattle.std.specs.Prelude.{map, Option, Some, None, IfSome, IsSome, slice_set}
 use Rattle.slab.specs.Slab.{Slab, get, ContainsKey}

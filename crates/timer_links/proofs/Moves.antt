@@ -1,4 +1,4 @@
--- What the joins of each call do to the rings.
+-- The rings after the joins of each call.
 use Rattle.std.proofs.Common.{◌≡◌, ◌≢◌, ◌<◌, ◌+◌, ℕ, List, [], ◌∷◌, ◌++◌, length, refl, sym, ◌∙◌, ap, subst, inl, inr, arith, length-set, get_or-set_same, get_or-set_other}
 use Rattle.std.specs.Prelude.{slice_set}
 use Rattle.std.proofs.lemmas.Bool.{cases_eq}
@@ -96,7 +96,7 @@ module _ (n : ℕ) (s : List Sides) (v : List (List (ℕ × Node))) (h : AreRing
 pub back_is : (n : ℕ) (s : List Sides) (v : List (List (ℕ × Node))) → AreRings n s v → (l : ℕ) → l < n → (sides_at s l).before ≡ last l (places n (list_at l v))
 back_is n s v h l b = (halves s l (places n (list_at l v)) l [] (h l b)).seam.back_to
 
--- a place that stands in no ring goes to the back of one
+-- a place that is in no ring is put at the back of one
 module _ (n : ℕ) (s : List Sides) (v : List (List (ℕ × Node))) (h : AreRings n s v) (key l : ℕ) (node : Node) (b : l < n) (loose : (m : ℕ) → m < n → Has key (list_at m v) → ⊥) where
   off : (m : ℕ) → m < n → In (n + key) (m ∷ places n (list_at m v)) → ⊥
   off m c (inl q) = let z : m ≡ n + key = q in absurd (omega arith)
@@ -125,7 +125,7 @@ module _ (n : ℕ) (s : List Sides) (v : List (List (ℕ × Node))) (h : AreRing
       (off m c)
       (h m c)))
 
--- all rows of one list go to the back of another
+-- all rows of one list move to the back of another
 module _ (n : ℕ) (s : List Sides) (v : List (List (ℕ × Node))) (h : AreRings n s v) (from to : ℕ) (y : ℕ × Node) (ys : List (ℕ × Node)) (bf : from < n) (bt : to < n) (o : to ≢ from) (e : list_at from v ≡ y ∷ ys) where
   source : IsChain s from ((n + y.0) ∷ (places n ys ++ from ∷ []))
   source = chain_as s from (places n (list_at from v) ++ from ∷ []) ((n + y.0) ∷ (places n ys ++ from ∷ [])) (ap (λ (x : List (ℕ × Node)). places n x ++ from ∷ []) e) (h from bf)

@@ -1,4 +1,4 @@
--- A node is put in another's stead.
+-- A node is replaced by another.
 use Rattle.std.proofs.Common.{◌≡◌, ◌≢◌, ◌<◌, ◌+◌, ℕ, zero, suc, List, [], ◌∷◌, ◌++◌, length, refl, sym, ◌∙◌, ap, inl, inr, arith, length-set, get_or-set_same, get_or-set_other}
 use Rattle.std.specs.Prelude.{Option, Some, None, IsSome, is_some, count_by, slice_set, slice_index_or}
 use Rattle.std.specs.List.{fold}

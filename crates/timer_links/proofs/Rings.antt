@@ -1,4 +1,4 @@
--- In rings no key stands twice: from a place on there is one way to a root.
+-- In rings no key occurs twice: from each place there is one way to a root.
 use Rattle.std.proofs.Common.{◌≡◌, ◌≢◌, ◌<◌, ◌+◌, ℕ, suc, List, [], ◌∷◌, ◌++◌, length, refl, sym, ◌∙◌, ap, subst, inl, inr, arith, get_or-set_same, get_or-set_other}
 use Rattle.std.specs.Prelude.{map, Some, slice_set}
 use Rattle.std.proofs.lemmas.Bool.{cases_eq}

@@ -16,7 +16,7 @@ abbrev pub Has : ℕ → List (ℕ × Node) → Type 0
 Has key [] = ⊥
 Has key (row ∷ rest) = (row.0 ≡ key) ⊎ Has key rest
 
--- no key stands twice in the list
+-- no key occurs twice in the list
 abbrev pub IsDistinct : List (ℕ × Node) → Type 0
 IsDistinct [] = Unit {0}
 IsDistinct (row ∷ rest) = (Has row.0 rest → ⊥) × IsDistinct rest

@@ -1,4 +1,4 @@
--- How nodes and sides stand for lists. No public clause cites this file.
+-- How nodes and sides represent lists. No public clause cites this file.
 use Rattle.std.specs.Prelude.{◌≡◌, ℕ, ◌+◌, ◌<◌, ◌≤◌, zero, suc, List, [], ◌∷◌, ◌++◌, length, map, Option, Some, None}
 use Rattle.std.specs.List.{range_with_len}
 use Rattle.slab.specs.Slab.{Slab, get, slab_len, ContainsKey}
@@ -17,7 +17,7 @@ abbrev pub rows_of : Slab Node → Option ℕ → List (ℕ × Node) → List (�
 rows_of nodes None rest = []
 rows_of nodes (Some key) rest = row_of key (get nodes key) rest
 
--- the rows from a place on to the root, at most so many
+-- the rows from a place on to the root, at most that many
 abbrev pub walk : ℕ → ℕ → Slab Node → List Sides → ℕ → List (ℕ × Node)
 walk zero lists nodes sides place = []
 walk (suc n) lists nodes sides place = rows_of nodes (key_of lists place) (walk n lists nodes sides (sides_at sides place).after)

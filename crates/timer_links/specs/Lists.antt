@@ -1,4 +1,4 @@
--- Lists of nodes, each under its key: what a layer above knows of `Links`.
+-- Lists of nodes, each under its key: all that a layer above knows of `Links`.
 use Rattle.std.specs.Prelude.{◌≡◌, ◌<◌, ℕ, ◌+◌, not, ◌==◌, if◌then◌else◌, List, [], ◌∷◌, ◌++◌, length, map, filter, Option, Some, None, slice_index_or, slice_set}
 use Rattle.timer_links.specs.declared.node.Node.{Node}
 
@@ -30,7 +30,7 @@ without_key key rows = filter (λ row. not (row.0 == key)) rows
 abbrev pub list_at : ℕ → List (List (ℕ × Node)) → List (ℕ × Node)
 list_at l lists = slice_index_or lists l []
 
--- the row goes to the back of one list
+-- the row is pushed to the back of one list
 abbrev pub with_row : ℕ → ℕ × Node → List (List (ℕ × Node)) → List (List (ℕ × Node))
 with_row l row lists = slice_set lists l (list_at l lists ++ row ∷ [])
 
@@ -39,29 +39,29 @@ abbrev pub row_count : List (List (ℕ × Node)) → ℕ
 row_count [] = 0
 row_count (rows ∷ lists) = length rows + row_count lists
 
--- the first row of one list is given out, where there is one
+-- the first row of one list is removed, where there is one
 abbrev pub PopsFront : ℕ → List (List (ℕ × Node)) → Option (ℕ × Node) → List (List (ℕ × Node)) → Type 0
 PopsFront l old None new = (list_at l old ≡ []) × (new ≡ old)
 PopsFront l old (Some row) new = (rest : List (ℕ × Node)) × (list_at l old ≡ row ∷ rest) × (new ≡ slice_set old l rest)
 
--- the node goes to the back of one list, and keeps its key
+-- the node moves to the back of one list, and keeps its key
 abbrev pub moved_back : ℕ → ℕ → Node → List (List (ℕ × Node)) → List (List (ℕ × Node))
 moved_back key l node lists = with_row l (key, node) (map (without_key key) lists)
 
--- the key's node goes to the back of one list
+-- the key's node moves to the back of one list
 abbrev pub MovesBack : ℕ → ℕ → List (List (ℕ × Node)) → List (List (ℕ × Node)) → Type 0
 MovesBack key l old new = (node : Node) → node_at key old ≡ Some node → new ≡ moved_back key l node old
 
--- of these rows of one list the first goes to the back of another, where there is one
+-- the first of these rows of one list moves to the back of another, where there is one
 abbrev pub first_row_moved : ℕ → ℕ → List (List (ℕ × Node)) → List (ℕ × Node) → List (List (ℕ × Node))
 first_row_moved from to lists [] = lists
 first_row_moved from to lists (row ∷ rest) = with_row to row (slice_set lists from rest)
 
--- the first row of one list goes to the back of another, where there is one
+-- the first row of one list moves to the back of another, where there is one
 abbrev pub front_moved : ℕ → ℕ → List (List (ℕ × Node)) → List (List (ℕ × Node))
 front_moved from to lists = first_row_moved from to lists (list_at from lists)
 
--- all rows of one list go to the back of another, in their order
+-- all rows of one list move to the back of another, in their order
 abbrev pub appended : ℕ → ℕ → List (List (ℕ × Node)) → List (List (ℕ × Node))
 appended from to lists = slice_set (slice_set lists from []) to (list_at to lists ++ list_at from lists)
 

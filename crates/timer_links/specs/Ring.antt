@@ -1,8 +1,8 @@
--- What stands beside each place, and which places follow one another.
+-- The neighbours of each place, and which places follow one another.
 use Rattle.std.specs.Prelude.{◌≡◌, ◌≢◌, ℕ, ◌-◌, ◌≤◌, nat_lt, ◌==◌, if◌then◌else◌, List, [], ◌∷◌, length, Option, Some, None, slice_index_or}
 use Rattle.timer_links.specs.declared.ring.Sides.{Sides}
 
--- what is at a place, and no more than a default past the end
+-- what is at a place, or a default past the end
 abbrev pub sides_at : List Sides → ℕ → Sides
 sides_at sides place = slice_index_or sides place (record { before = 0; after = 0 })
 
@@ -14,17 +14,17 @@ key_of lists place = if nat_lt place lists then None else Some (place - lists)
 abbrev pub shared_side : Sides → Option ℕ
 shared_side sides = if sides.before == sides.after then Some sides.before else None
 
--- the one place stands right behind the other
+-- the one place comes right after the other
 pub record Meet (sides : List Sides) (front back : ℕ) : Type 0 where
   pub forth : (sides_at sides front).after ≡ back
   pub back_to : (sides_at sides back).before ≡ front
 
--- each of these places stands right behind the one before it
+-- each of these places comes right after the one before it
 abbrev pub IsChain : List Sides → ℕ → List ℕ → Type 0
 IsChain sides place [] = Unit {0}
 IsChain sides place (next ∷ rest) = Meet sides place next × IsChain sides next rest
 
--- the one place was put right behind the other, and all else stays
+-- the one place was put right after the other, and all else stays
 pub record Joins (front back : ℕ) (old new : List Sides) : Type 0 where
   pub forth : (sides_at new front).after ≡ back
   pub back_to : (sides_at new back).before ≡ front
@@ -32,11 +32,11 @@ pub record Joins (front back : ℕ) (old new : List Sides) : Type 0 where
   pub befores : (place : ℕ) → place ≢ back → (sides_at new place).before ≡ (sides_at old place).before
   pub size : length new ≡ length old
 
--- the place was put behind the last one of the root's ring, and before the root
+-- the place was put after the last one of the root's ring, and before the root
 abbrev pub JoinsLast : ℕ → ℕ → List Sides → List Sides → Type 0
 JoinsLast root place old new = (half : List Sides) × Joins (sides_at old root).before place old half × Joins place root half new
 
--- there may be more places, and all sides are as they were
+-- there may be more places, and all sides are unchanged
 pub record IsLonger (old new : List Sides) : Type 0 where
   pub same : (place : ℕ) → sides_at new place ≡ sides_at old place
   pub longer : length old ≤ length new

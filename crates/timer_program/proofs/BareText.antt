@@ -1,4 +1,4 @@
--- The text of outs does not tell the places of handles.
+-- The text of outs does not depend on the places of handles.
 use Rattle.std.proofs.Common.{◌≡◌, List, [], ◌∷◌, length, refl, sym, ap, ◌∙◌}
 use Rattle.std.proofs.lemmas.List.{length-map}
 use Rattle.std.specs.List.{flat_map}

@@ -1,4 +1,4 @@
--- What one more piece does to known bytes.
+-- Known bytes after one more piece.
 use Rattle.std.proofs.Common.{◌≡◌, ℕ, ◌+◌, ◌-◌, ◌≤◌, Bool, false, List, [], ◌++◌, length, take, drop, Option, sym, ap, subst, ◌∙◌, arith}
 use Rattle.std.proofs.lemmas.List.{take_rest, length-append}
 use Rattle.std.specs.Io.KnownBytes.{Consumes, Appends}

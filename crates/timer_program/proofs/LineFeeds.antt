@@ -1,4 +1,4 @@
--- Where the line feeds of lines stand.
+-- The positions of line feeds in lines.
 use Rattle.std.proofs.Common.{◌≡◌, ℕ, ◌+◌, ◌-◌, ◌^◌, ◌%◌, ◌<◌, ◌≤◌, List, [], ◌∷◌, ◌++◌, length, get_or, take, Some, None, decimal, codes, refl, sym, ap, subst, ◌∙◌, arith, append_assoc, append-nil, length-append, lit≤}
 use Rattle.std.proofs.lemmas.Fmt.{length-decimal-le, decimal_by_steps}
 use Rattle.std.proofs.lemmas.List.{take_more}
@@ -36,7 +36,7 @@ pub record IsFed (bytes : List ℕ) : Type 0 where
   pub no_feed : HasNoFeed front
   pub short : length front < MOST_LINE
 
--- a word or a number, as a front of a line
+-- a word or a number, as the beginning of a line
 record IsBare (most : ℕ) (bytes : List ℕ) : Type 0 where
   pub no_feed : HasNoFeed bytes
   pub short : length bytes ≤ most
@@ -96,7 +96,7 @@ line_fed (Ticks k) fits =
     fed 24 _ (codes "tick " ++ decimal k) (lit≤ tt) (join 5 19 _ _ word_tick (number k (few_ticks k fits.1))) (simp append_assoc refl)
 line_fed Close fits = fed 5 _ (codes "close") (lit≤ tt) word_close refl
 
--- bytes are cut at their first line feed in one way
+-- bytes split at their first line feed in one way
 pub first_feed : (xs ys more other : List ℕ) → HasNoFeed xs → HasNoFeed ys → xs ++ 10 ∷ more ≡ ys ++ 10 ∷ other → (xs ≡ ys) × (more ≡ other)
 first_feed [] [] more other a b e = (refl, cc)
 first_feed [] (y ∷ ys) more other a b e = absurd (b.0 (sym (cc)))
@@ -106,7 +106,7 @@ first_feed (x ∷ xs) (y ∷ ys) more other a b e =
     let first : x ≡ y = cc in
     (rw (first, h.0) refl, h.1)
 
--- what has no line feed is no longer than what stands before the first one
+-- bytes without a line feed are no longer than those before the first one
 pub no_feed_long : (xs ys more other : List ℕ) → HasNoFeed xs → xs ++ more ≡ ys ++ 10 ∷ other → length xs ≤ length ys
 no_feed_long [] ys more other a e = omega arith
 no_feed_long (x ∷ xs) [] more other a e = absurd (a.0 cc)
@@ -115,7 +115,7 @@ no_feed_long (x ∷ xs) (y ∷ ys) more other a e = let h = no_feed_long xs ys m
 at_feed : (xs more : List ℕ) → (xs ++ 10 ∷ []) ++ more ≡ xs ++ 10 ∷ more
 at_feed xs more = append_assoc xs (10 ∷ []) more
 
--- so many bytes with no line feed begin no line
+-- bytes with no line feed that are too many for a line begin no line
 pub too_long : (xs : List ℕ) → HasNoFeed xs → length xs ≡ MOST_LINE → IsBadFront xs
 too_long xs none long = record {
   some = omega arith;
@@ -140,7 +140,7 @@ no_feed_no_line xs none event rest fits e =
     no_feed_none (x ∷ xs) [] rest a e = a.0 cc
     no_feed_none (x ∷ xs) (y ∷ ys) rest a e = no_feed_none xs ys rest a.1 cc
 
--- a whole line that is not read begins no line, however it goes on
+-- a complete line that can't be read begins no line, whatever follows
 pub unread : (held front : List ℕ) → HasNoFeed front → held ≡ front ++ 10 ∷ [] → length held ≤ MOST_LINE → line_at held ≡ None → IsBadFront held
 unread held front free is short unread_none = record {
   some = (let h = ap length is in let l = length-append front (10 ∷ []) in omega arith);
@@ -152,7 +152,7 @@ unread held front free is short unread_none = record {
       none-some _ (sym unread_none ∙ ap line_at whole ∙ line_again event [] fits);
 }
 
--- a whole line that is read is the line of an event
+-- a complete line that can be read is the line of an event
 pub read_whole : (held front after : List ℕ) (event : Event) → HasNoFeed front → held ≡ front ++ 10 ∷ [] → line_at held ≡ Some (event, after) → IsInRange event × (held ≡ line event)
 read_whole held front after event none is some =
     let (fits, parts) = line_sound held after event some in
@@ -187,7 +187,7 @@ held_line old bytes new n ending a some within b is joined short ends = record {
   ending_is = ends (old ++ take (n - 1) bytes) (no_feed-append old (take (n - 1) bytes) a.no_feed b) (joined ∙ feed-take old bytes n some within is) short;
 }
 
--- so many bytes with no line feed that they are no line
+-- bytes with no line feed, too many for a line
 pub held_long : (old bytes new : List ℕ) (n : ℕ) → IsPartial old → 0 < n → n ≤ length bytes → HasNoFeed (take (n - 1) bytes) → (get_or bytes (n - 1) 0 ≡ 10 → ⊥)
     → new ≡ old ++ take n bytes → length new ≡ MOST_LINE → HasHeld old bytes n Bad new
 held_long old bytes new n a some within b not joined long = record {

@@ -1,4 +1,4 @@
--- What is read from the front of the bytes is spelled so, and what is spelled so is read.
+-- What is read from the front of the bytes is their spelling, and what is spelled so is read.
 use Rattle.std.proofs.Common.{◌≡◌, ℕ, ◌^◌, ◌<◌, ◌≤◌, ◌==◌, nat_lt, true, false, ◌&&◌, Bool, cond, List, ◌∷◌, ◌++◌, length, get_or, take, drop, Option, Some, None, decimal, codes, refl, sym, ap, subst, ◌∙◌, arith, inl, inr, drop_at, take_at, take-append-drop, append_assoc, lit≤, le-ltb, lt-ltb, ne_eqb, eq-eqb, get_or-take}
 use Rattle.std.specs.Cmp.Lexicographic.{bytes_decides}
 use Rattle.std.proofs.lemmas.Bool.{and_left, and_right, and_from, and_parts, both_ways, cases_lt, leb-true, le-leb}
@@ -188,7 +188,7 @@ tick_sound bytes rest event e =
     subst (λ (x : Event). IsInRange x × (codes "tick " ++ bytes ≡ line x ++ rest)) event_is
     (subst (λ (r : List ℕ). IsInRange (Ticks k.0) × (codes "tick " ++ bytes ≡ line (Ticks k.0) ++ r)) rest_is ((leb-true 1 k.0 low, leb-true k.0 MOST_TICKS high), split))
 
--- a word is there, or not
+-- a word is at the front, or not
 by_word : {A P : Type 0} (o : Option (List ℕ)) (f : List ℕ → Option A) (other : Option A) (y : A) → or_try o f other ≡ Some y → ((s : List ℕ) → o ≡ Some s → f s ≡ Some y → P) → (other ≡ Some y → P) → P
 by_word None f other y e some none = none e
 by_word (Some s) f other y e some none = some s refl e

@@ -29,7 +29,7 @@ adds_chunk {E} (Ok u) s c es all outs written x y run whole same h = record {
 }
 adds_chunk {E} (Err e) s c es all outs written x y run whole same h = tt
 
--- what is cut in two is the two parts
+-- the two parts of a split, joined
 pub cut : (n : ℕ) (xs front back : List Event) → front ≡ take n xs → back ≡ drop n xs → xs ≡ front ++ back
 cut n xs front back f b = sym (ap (λ t. t ++ back) f ∙ ap (λ t. take n xs ++ t) b ∙ take-append-drop n xs)
 

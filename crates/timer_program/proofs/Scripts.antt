@@ -1,4 +1,4 @@
--- Scripts are spelled in one way, and have one first bad line.
+-- The spelling of a script is unique, and so is the first bad line.
 use Rattle.std.proofs.Common.{◌≡◌, ℕ, ◌≤◌, List, [], ◌∷◌, ◌++◌, length, None, refl, sym, ap, ◌∙◌, arith, append_assoc}
 use Rattle.std.specs.List.{AllByRecursion}
 use Rattle.std.proofs.lemmas.Option.{none-some}
@@ -28,7 +28,7 @@ line_long Close = omega arith
 line_some : (event : Event) (more : List ℕ) → 1 ≤ length (line event ++ more)
 line_some event more = let h = line_long event in omega (arith, length-append (line event) more)
 
--- what begins with lines and goes on with no line has no more lines
+-- bytes that begin with lines and continue with no line have no more lines
 front : (xs ys : List Event) (rest other : List ℕ) → AllByRecursion IsInRange xs → AllByRecursion IsInRange ys → BeginsNoLine rest → spelling xs ++ rest ≡ spelling ys ++ other → length ys ≤ length xs
 front xs [] rest other fx fy bad e = omega arith
 front [] (y ∷ ys) rest other fx fy bad e = absurd (bad y (spelling ys ++ other) fy.0 (e ∙ append_assoc (line y) (spelling ys) other))
@@ -45,11 +45,11 @@ one_spelling_is (x ∷ xs) (y ∷ ys) fx fy e =
     let (first, others) = one_line x y (spelling xs) (spelling ys) fx.0 fy.0 e in
     rw (first, one_spelling_is xs ys fx.1 fy.1 others) refl
 
--- no end is no line
+-- the empty rest is no line
 end_is_no_line : BeginsNoLine []
 end_is_no_line event more fits e = let h = line_some event more in absurd (omega (arith, ap length e))
 
--- behind a whole script stands nothing
+-- nothing follows a whole script
 pub no_bad_line : (xs : List Event) (bytes : List ℕ) (n : ℕ) → IsScript xs bytes → IsBadLine bytes n → ⊥
 no_bad_line xs bytes n script bad = rest_of xs bad.before bad.rest script.in_range bad.in_range bad.bad bad.some (sym script.lines ∙ bad.parts)
   where

@@ -1,4 +1,4 @@
--- What turns of a session with a peer come to.
+-- The result of the turns of a session with a peer.
 use Rattle.std.proofs.Common.{◌≡◌, false, zero, suc, ℕ, ◌+◌, ◌-◌, ◌^◌, ◌≤◌, Bool, true, false, List, [], ◌++◌, length, take, drop, inl, inr, refl, sym, ap, subst, ◌∙◌, arith, lit≤, append_assoc, append-nil, length-append, take-append-drop}
 use Rattle.std.specs.Prelude.{min, Result, Ok, Err, OnOk, OnErr, IfErr}
 use Rattle.std.proofs.Math.Seq.{take-append-add}
@@ -22,7 +22,7 @@ use Rattle.timer_program.proofs.Talks.{talked_nothing, talked_wrote, talked_sent
 
 -- ---- one turn
 
--- what was read was fed but for its last bytes, and the text was sent
+-- what was read was fed except for its last bytes, and the text was sent
 passed_sent : (a b : SessionState) (p q r : PeerState) (bytes unfed before txt : List ℕ) → before ≡ [] → HasTalked a p q (bytes ++ unfed) [] true → HasFed a bytes before txt b → HasSent q txt r
     → HasPassed a p r b unfed [] true
 passed_sent a b p q r bytes unfed before txt none talked fed sent = record {
@@ -59,7 +59,7 @@ turned a b p q r piece before txt n none within at_end good talked fed answered 
       good = sent_good q r txt good sent;
     }
 
--- feeding stopped, and what there is was sent
+-- feeding stopped, and the text so far was sent
 pub stops_feeding : (fault : SessionFault) (a b : SessionState) (p q r : PeerState) (piece before txt : List ℕ) (taken : ℕ) → before ≡ [] → q.read_failed ≡ false
     → HasTalked a p q piece [] true → HasFed a (take taken piece) before txt b → WhyStopped fault a b → a.stage ≡ Going → HasSent q txt r → StopsTurn (serve_fault fault) a p r b
 stops_feeding fault a b p q r piece before txt taken none good talked fed why going sent =
@@ -72,7 +72,7 @@ stops_feeding fault a b p q r piece before txt taken none good talked fed why go
     by_fault sessions.OutOfMemory why passed fine = (drop taken piece, passed, fine)
     by_fault sessions.Ended why passed fine = absurd (ended_going a.stage why.0 going)
 
--- a session that goes on was not ended before
+-- a session that is running has not ended
 pub not_ended_before : (fault : SessionFault) (a b : SessionState) → WhyStopped fault a b → a.stage ≡ Going → fault ≡ sessions.Ended → ⊥
 not_ended_before fault a b why going is = let ended = subst (λ f. WhyStopped f a b) is why in ended_going a.stage ended.0 going
 
@@ -145,7 +145,7 @@ turned_more a b c p q r turns n often one some = record {
 
 -- ---- how serving ends
 
--- a turn did not end well
+-- a turn failed
 pub served_turn : (fault : ServeFault) (before : FacilityState) (s new : SessionState) (p q r : PeerState) → HasPassed (fresh before) p q s [] [] true → StopsTurn fault s q r new → HasServed before p r (Err fault)
 served_turn faults.Read before s new p q r f stops = (new, passed_join (fresh before) s new p q r [] [] true f stops.0, stops.1, stops.2, stops.3)
 served_turn (faults.Bad n) before s new p q r f stops =
@@ -225,7 +225,7 @@ served_end faults.Write before s p q r sound at_end answered good f stops =
     )
 served_end faults.TooLong before s p q r sound at_end answered good f stops = absurd stops
 
--- however the end was
+-- however it ended
 pub served_finish : (result : Result Unit ServeFault) (before : FacilityState) (s : SessionState) (p q r : PeerState) → IsSound before → IsAtEnd q.remaining → IsAnsweredSoFar s → AreGood q
     → HasPassed (fresh before) p q s [] [] true → OnOk result (s.held ≡ []) → OnOk result (HasSent q (last_line s) r) → IfErr result (λ fault. StopsEnd fault s q r) → HasServed before p r result
 served_finish (Ok u) before s p q r sound at_end answered good f whole sent stops =
@@ -238,6 +238,6 @@ served_finish (Ok u) before s p q r sound at_end answered good f whole sent stop
     )
 served_finish (Err fault) before s p q r sound at_end answered good f whole sent stops = served_end fault before s p q r sound at_end answered good f stops
 
--- a session is answered from the first
+-- a new session has answered everything
 pub fresh_answered : (s : FacilityState) → IsAnsweredSoFar (fresh s)
 fresh_answered s = record { going = refl; written = refl; partial = record { no_feed = tt; short = lit≤ tt } }

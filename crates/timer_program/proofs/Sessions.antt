@@ -1,4 +1,4 @@
--- What feeding pieces one after another comes to.
+-- The result of feeding pieces one after another.
 use Rattle.std.proofs.Common.{◌≡◌, ℕ, ◌+◌, ◌-◌, ◌^◌, ◌≤◌, false, true, List, [], ◌∷◌, ◌++◌, length, take, drop, refl, sym, ap, subst, ◌∙◌, arith, append_assoc, append-nil, length-append}
 use Rattle.std.specs.Prelude.{min}
 use Rattle.std.specs.List.{AllByRecursion}
@@ -59,7 +59,7 @@ fed_nothing old text = record {
   counted = omega arith;
 }
 
--- bytes went to the held ones
+-- bytes were added to the held ones
 pub fed_held : (a old new : SessionState) (bytes text : List ℕ) → a ≡ old → new.state ≡ a.state → new.unwritten ≡ a.unwritten → new.held ≡ a.held ++ bytes → new.lines ≡ a.lines → HasFed old bytes text text new
 fed_held a old new bytes text is state unwritten held lines = subst (λ (s : SessionState). HasFed s bytes text text new) is (record {
   events = [];
@@ -109,7 +109,7 @@ fed_join a b c bs cs x y z f g = record {
   counted = (let h = f.counted in let k = g.counted in let l = length-append f.events g.events in omega arith);
 }
 
--- ---- what the calls of a session come to
+-- ---- the results of a session's calls
 
 -- nothing changed
 pub fed_still : (old new : SessionState) (bytes before after : List ℕ) → bytes ≡ [] → after ≡ before → new ≡ old → HasFed old bytes before after new
@@ -117,7 +117,7 @@ fed_still old new bytes before after none same is =
     subst (λ (s : SessionState). HasFed old bytes before after s) (sym is) (subst (λ t. HasFed old bytes before t old) (sym same)
     (subst (λ t. HasFed old t before before old) (sym none) (fed_nothing old before)))
 
--- the front of a piece, and then some bytes of the rest
+-- a prefix of a piece, and then some bytes of the rest
 pub fed_more : (a b c : SessionState) (piece : List ℕ) (i n k : ℕ) (x y z : List ℕ) → k ≡ i + n → HasFed a (take i piece) x y b → HasFed b (take n (take (length piece - i) (drop i piece))) y z c → HasFed a (take k piece) x z c
 fed_more a b c piece i n k x y z is f g =
     let parts : take i piece ++ take n (take (length piece - i) (drop i piece)) ≡ take k piece =
@@ -132,7 +132,7 @@ fed_written a b c bytes x z f is h = subst (λ t. HasFed a t x z c) (append-nil 
 pub with_all_written : (s : SessionState) → s.unwritten ≡ [] → record s { unwritten = [] } ≡ s
 with_all_written s told = ap (λ u. record s { unwritten = u }) (sym told)
 
--- all that was unwritten is written, and no bad line came
+-- all that was unwritten is written, and there was no bad line
 pub answered_written : (old new : SessionState) → IsKept old → old.stage ≡ Going → new ≡ record old { unwritten = [] } → IsAnsweredSoFar new
 answered_written old new kept going is = subst IsAnsweredSoFar (sym is) (record { going = going; written = refl; partial = kept.partial going })
 
@@ -140,7 +140,7 @@ answered_written old new kept going is = subst IsAnsweredSoFar (sym is) (record 
 pub failed_kept : (n : ℕ) (s : SessionState) → IsKept s → s.stage ≡ Failed → n ≡ next_line s → HasFailed n s
 failed_kept n s kept failed counted = record { failed = failed; written = kept.written (λ e. absurd (failed_going s.stage failed e)); bad = kept.bad failed; counted = counted }
 
--- a session over which one fault stands is over by no other
+-- a session that is over has only one error
 pub one_fault : (s : SessionState) (fault other : SessionFault) → IsOver fault s → IsOver other s → other ≡ fault
 one_fault s (faults.Bad n) (faults.Bad m) a b = ap faults.Bad (b.counted ∙ sym a.counted)
 one_fault s (faults.Bad n) faults.OutOfMemory a b = absurd b
@@ -150,7 +150,7 @@ one_fault s faults.Ended (faults.Bad m) a b = absurd (failed_ended s.stage b.fai
 one_fault s faults.Ended faults.OutOfMemory a b = absurd b
 one_fault s faults.Ended faults.Ended a b = refl
 
--- a session that goes on is not over
+-- a session that is running is not over
 pub going_on : (s : SessionState) (fault : SessionFault) → s.stage ≡ Going → IsOver fault s → ⊥
 going_on s (faults.Bad n) going a = failed_going s.stage a.failed going
 going_on s faults.OutOfMemory going a = a
@@ -174,13 +174,13 @@ over_stopped (faults.Bad n) s h = h
 over_stopped faults.OutOfMemory s h = absurd h
 over_stopped faults.Ended s h = (h, refl)
 
--- what stops a session that goes on
+-- what stops a session that is running
 pub stopped_going : (fault : SessionFault) (old new : SessionState) → HasStopped fault new → WhyStopped fault old new
 stopped_going (faults.Bad n) old new h = h
 stopped_going faults.OutOfMemory old new h = h
 stopped_going faults.Ended old new h = absurd h
 
--- more text stood before
+-- with more text before
 pub fed_shift : (a b : SessionState) (bytes front x z : List ℕ) → HasFed a bytes x z b → HasFed a bytes (front ++ x) (front ++ z) b
 fed_shift a b bytes front x z f = record {
   events = f.events;
@@ -214,7 +214,7 @@ stopped_at before s bytes more txt n fed written some bad counted = record {
 pub some_more : (held more : List ℕ) → 1 ≤ length held → 1 ≤ length (held ++ more)
 some_more held more some = let h = length-append held more in omega arith
 
--- what fed bytes and the end line give is the answer to the events of the bytes
+-- the text of fed bytes and the end line are the answer to the events of the bytes
 pub session_answers : (s : FacilityState) (bytes txt : List ℕ) (end : SessionState) → IsSound s → HasFed (fresh s) bytes [] txt end → end.unwritten ≡ [] → end.held ≡ []
     → (events : List Event) × IsScript events bytes × IsAnswer s events (txt ++ end_line end.state.now (length end.state.pending))
 session_answers s bytes txt end sound fed written whole =
@@ -229,7 +229,7 @@ session_answers s bytes txt end sound fed written whole =
       },
     )
 
--- a line that is not whole at the end is the first bad one
+-- an incomplete line at the end is the first bad one
 pub session_not_ended : (s : FacilityState) (bytes txt : List ℕ) (end new : SessionState) (n : ℕ) → HasFed (fresh s) bytes [] txt end → end.unwritten ≡ [] → WhyNotEnded (faults.Bad n) end new → IsStoppedAt s bytes txt n
 session_not_ended s bytes txt end new n fed written why =
     let is : new ≡ record end { unwritten = [] } = why.3 in
@@ -238,6 +238,6 @@ session_not_ended s bytes txt end new n fed written why =
     subst (λ b. IsStoppedAt s b txt n) (append-nil bytes)
     (stopped_at s end bytes [] txt n fed written (some_more end.held [] some) (subst BeginsNoLine (sym (append-nil end.held)) bad) (why.2 ∙ ap (λ (x : SessionState). next_line x) is))
 
--- a bad line that came is the first one, however the bytes go on
+-- a bad line that was fed is the first one, whatever follows
 pub session_failed : (s : FacilityState) (bytes more txt : List ℕ) (end : SessionState) (n : ℕ) → HasFed (fresh s) bytes [] txt end → HasFailed n end → IsStoppedAt s (bytes ++ more) txt n
 session_failed s bytes more txt end n fed h = stopped_at s end bytes more txt n fed h.written (some_more end.held more h.bad.some) (h.bad.bad more) h.counted

@@ -1,4 +1,4 @@
--- What calls of a peer one after another come to.
+-- The result of a peer's calls, one after another.
 use Rattle.std.proofs.Common.{inl, inr, eqb-true, ◌≡◌, ℕ, ◌+◌, ◌-◌, ◌<◌, ◌≤◌, ◌==◌, ◌&&◌, ◌||◌, not, Bool, true, false, List, [], ◌∷◌, ◌++◌, length, take, drop, Option, None, Some, refl, sym, ap, subst, ◌∙◌, arith, append_assoc, append-nil, take-append-drop}
 use Rattle.std.specs.Prelude.{Result, Ok, Err, is_err}
 use Rattle.std.specs.Io.KnownBytes.{Consumes, Appends, Keeps, ReadConsumes, WriteAppends}
@@ -42,7 +42,7 @@ flushed_join flushed (Came bytes ∷ xs) ys = flushed_join flushed xs ys
 flushed_join flushed (Went bytes ∷ xs) ys = flushed_join false xs ys
 flushed_join flushed (Flush ∷ xs) ys = flushed_join true xs ys
 
--- what is flushed at the end though nothing was before is flushed in any case
+-- what is flushed at the end, even if nothing was before, is flushed in any case
 flushed_anyway : (flushed : Bool) (xs : List Moment) → is_flushed false xs ≡ true → is_flushed flushed xs ≡ true
 flushed_anyway flushed [] h = absurd cc
 flushed_anyway flushed (Came bytes ∷ xs) h = flushed_anyway flushed xs h
@@ -130,7 +130,7 @@ written_failed {E} p q r text piece e w t = record {
   reading = t.reading ∙ w.reading;
 }
 
--- a flush behind the text
+-- a flush after the text
 pub written_flush : {E : Type 0} (p q r : PeerState) (text : List ℕ) (result : Result Unit E) → HasWritten p text q → Flushes {E = E} q result r → HasWritten p text r
 written_flush {E} p q r text result w f = record {
   moments = w.moments ++ Flush ∷ [];
@@ -212,7 +212,7 @@ pub talked_failed : {E : Type 0} (s : SessionState) (p q : PeerState) (e : E) (p
 talked_failed {E} s p q e piece answered g =
     talked_read s p q [] answered g.moment (Consumes-kept p.remaining p.remaining q.remaining [] (Consumes-nil p.remaining) g.bytes) g.contents
 
--- text was written behind it
+-- text was written after it
 pub talked_wrote : (s : SessionState) (p q r : PeerState) (came gone text : List ℕ) (flushed : Bool) → HasTalked s p q came gone flushed → (w : HasWritten q text r)
     → HasTalked s p r came (gone ++ text) (is_flushed flushed w.moments)
 talked_wrote s p q r came gone text flushed t w = record {

@@ -1,4 +1,4 @@
--- What the command line asks to be played, and when that is refused.
+-- What the command line asks for, and when it is refused.
 use Rattle.std.specs.Prelude.{◌≡◌, ℕ, ◌<◌, ◌≤◌, ◌⊎◌, List, codes, None, Some}
 use Rattle.timer_base.specs.declared.limits.TheConstants.{LAST}
 use Rattle.timer_facility.specs.declared.config.Config.{Config}
@@ -24,7 +24,7 @@ scheme_last Hashed = LAST
 scheme_last Hier = LAST
 scheme_last Clock = LAST_OF_CLOCK
 
--- what the facility is opened with: serials and request numbers begin at 1
+-- the configuration of the facility: serials and request numbers begin at 1
 abbrev pub config_of : Play → Config
 config_of asked = record {
   clients = asked.clients;
@@ -41,7 +41,7 @@ pub record IsPlayable (asked : Play) : Type 0 where
   pub few_slots : asked.slots ≤ 65536
   pub first_tick : asked.first_tick ≤ scheme_last asked.scheme
 
--- why it is not played: the first of the tests that fails
+-- why it is refused: the first test that fails
 abbrev pub IsRefused : PlayFault → Play → Type 0
 IsRefused (faults.Config fault) asked = config_fault (config_of asked) ≡ Some fault
 IsRefused faults.Slots asked = (config_fault (config_of asked) ≡ None) × ((asked.slots ≡ 0) ⊎ (65536 < asked.slots))

@@ -1,4 +1,4 @@
--- Clients in threads that are asked for, and how a call with them ends.
+-- The clients in threads that are asked for, and how a call with them ends.
 use Rattle.std.specs.Prelude.{◌≡◌, ℕ, ◌≤◌, ◌⊎◌, true, false, List, Option}
 use Rattle.std.specs.Io.KnownBytes.{Appends}
 use Rattle.timer_threads.specs.Threads.{whole_text}

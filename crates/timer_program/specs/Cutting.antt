@@ -1,4 +1,4 @@
--- How bytes that come in pieces are cut into lines.
+-- How bytes that arrive in pieces are split into lines.
 use Rattle.std.specs.Prelude.{◌≡◌, ℕ, ◌<◌, ◌≤◌, List, [], ◌∷◌, ◌++◌, length, take}
 use Rattle.std.specs.List.{AllByRecursion}
 use Rattle.timer_program.specs.declared.cutting.TheConstants.{MOST_LINE}
@@ -10,12 +10,12 @@ use Rattle.timer_program.specs.Script.{IsInRange, line, BeginsNoLine}
 abbrev pub HasNoFeed : List ℕ → Type 0
 HasNoFeed bytes = AllByRecursion (λ b. b ≡ 10 → ⊥) bytes
 
--- the bytes may be the front of a line, and are no whole one
+-- the bytes may be a prefix of a line, and are not a complete one
 pub record IsPartial (bytes : List ℕ) : Type 0 where
   pub no_feed : HasNoFeed bytes
   pub short : length bytes < MOST_LINE
 
--- no line begins with the bytes, however they go on; no more of them are held than a line may have
+-- no line begins with the bytes, whatever follows; no more of them are held than a line may have
 pub record IsBadFront (bytes : List ℕ) : Type 0 where
   pub some : 1 ≤ length bytes
   pub short : length bytes ≤ MOST_LINE

@@ -11,7 +11,7 @@ use Rattle.timer_program.specs.Running.{HasRun}
 use Rattle.timer_program.specs.declared.requested.Clients.{Clients}
 use Rattle.timer_program.specs.Clients.{HasRunClients}
 
--- a script was played as asked, or was not read since that is refused
+-- a script was played as asked, or the request was refused and nothing was read
 pub record HasPlayed {R S : Type 0} (asked : Play) (remaining : R → Option (List ℕ)) (contents : S → Option (List ℕ)) (reader reader' : Watched R) (writer writer' : Watched S) (status : ℕ) : Type 0 where
   pub in_range : status ≤ 2
   -- 0: the whole text was written

@@ -1,4 +1,5 @@
--- What the readers of one line compute, on lists. No public clause cites this file: that they read just the lines of events is proved.
+-- What the readers of one line compute, on lists. No public clause cites this file: it is proved that they read exactly the
+-- lines of events.
 use Rattle.std.specs.Prelude.{ℕ, ◌&&◌, List, length, take, drop, slice_index, codes, Option, Some, None, option_map, option_and_then, ◌==◌, nat_eq, nat_lt, nat_le, if◌then◌else◌}
 use Rattle.std.specs.Cmp.Lexicographic.{pointwise}
 use Rattle.std.specs.Net.Reader.{read_number}
@@ -16,12 +17,12 @@ Read A = Option (A × List ℕ)
 abbrev pub read_view : {A B : Type 0} → (A → B) → Option (A × Bor (List ℕ)) → Read B
 read_view view r = option_map (λ p. (view p.0, p.1.now)) r
 
--- f of what is there
+-- f of the value, if there is one
 infixl 10 ◌>>=◌
 abbrev pub ◌>>=◌ : {A B : Type 0} → Option A → (A → Option B) → Option B
 o >>= f = option_and_then f o
 
--- f of what is there, or else another
+-- f of the value, if there is one, or else the default
 abbrev pub or_try : {A B : Type 0} → Option A → (A → B) → B → B
 or_try None f other = other
 or_try (Some x) f other = f x
@@ -38,7 +39,7 @@ digits_at bytes = read_number 10 LAST bytes
 unfoldable pub number_at : List ℕ → Read ℕ
 number_at bytes = digits_at bytes >>= λ n. if nat_lt 1 n.1 && (slice_index bytes 0 == 48) then None else Some (n.0, drop n.1 bytes)
 
--- the fields behind the word `start`
+-- the fields after the word `start`
 unfoldable pub start_at : List ℕ → Read Event
 start_at bytes =
     number_at bytes >>= λ client.
@@ -51,7 +52,7 @@ start_at bytes =
     strip (codes "\n") action.1 >>= λ rest.
     Some (Start client.0 number.0 interval.0 action.0, rest)
 
--- the fields behind the word `stop`
+-- the fields after the word `stop`
 unfoldable pub stop_at : List ℕ → Read Event
 stop_at bytes =
     number_at bytes >>= λ client.
@@ -62,7 +63,7 @@ stop_at bytes =
     strip (codes "\n") serial.1 >>= λ rest.
     Some (Stop client.0 number.0 serial.0, rest)
 
--- the fields behind the word `restart`
+-- the fields after the word `restart`
 unfoldable pub restart_at : List ℕ → Read Event
 restart_at bytes =
     number_at bytes >>= λ client.
@@ -77,13 +78,13 @@ restart_at bytes =
     strip (codes "\n") action.1 >>= λ rest.
     Some (Restart client.0 number.0 serial.0 interval.0 action.0, rest)
 
--- the field behind the word `tick`
+-- the field after the word `tick`
 unfoldable pub tick_at : List ℕ → Read Event
 tick_at bytes =
     number_at bytes >>= λ count.
     if (nat_le 1 count.0 && nat_le count.0 MOST_TICKS) then (strip (codes "\n") count.1 >>= λ rest. Some (Ticks count.0, rest)) else None
 
--- the event whose line stands at the front
+-- the event whose line is at the front
 unfoldable pub line_at : List ℕ → Read Event
 line_at bytes =
     or_try (strip (codes "start ") bytes) start_at

@@ -1,4 +1,4 @@
--- What a server talks with, and in which order bytes come from it and go to it.
+-- The peer of a server, and the order of the bytes that come from it and go to it.
 use Rattle.std.specs.Prelude.{◌≡◌, ℕ, ◌||◌, Bool, true, false, List, [], ◌∷◌, ◌++◌, take, Option, None, Some, Result, Ok, Err, is_err}
 use Rattle.std.specs.Io.{ReadsAtMost, WritesAtMost}
 use Rattle.std.specs.Io.KnownBytes.{Keeps, ReadConsumes, WriteAppends}
@@ -12,10 +12,10 @@ pub data Moment : Type 0 where
 
 -- what is known of a peer
 pub record PeerState : Type 0 where
-  -- the bytes that it has still to give, and those that it took, where it tells them
+  -- the bytes that it has still to give, and those that it took, where they are known
   pub remaining : Option (List ℕ)
   pub contents : Option (List ℕ)
-  -- the calls so far, where it tells them
+  -- the calls so far, where they are known
   pub moments : Option (List Moment)
   -- a read failed
   pub read_failed : Bool

@@ -1,4 +1,4 @@
--- What reading a script to its end does to the reader, which may tell which bytes it has left.
+-- What reading a script to its end does to the reader, whose remaining bytes may be known.
 use Rattle.std.specs.Prelude.{◌≡◌, ℕ, ◌+◌, ◌≤◌, Bool, true, false, List, length, ◌++◌, Option}
 use Rattle.std.specs.Io.KnownBytes.{Keeps, Consumes, IsAtEnd}
 use Rattle.timer_program.specs.declared.input.TheConstants.{MOST_BYTES}
@@ -13,7 +13,7 @@ ReadsWhole old new bytes = Consumes old new bytes × IsAtEnd new
 abbrev pub ReadsUpTo : ℕ → Option (List ℕ) → Option (List ℕ) → Type 0
 ReadsUpTo most old new = (bytes : List ℕ) × Consumes old new bytes × (length bytes ≤ most)
 
--- one byte more was read than a script may have
+-- one byte more than `MOST_BYTES` was read
 abbrev pub ReadsTooMany : Option (List ℕ) → Option (List ℕ) → Type 0
 ReadsTooMany old new = (bytes : List ℕ) × Consumes old new bytes × (length bytes ≡ MOST_BYTES + 1)
 
@@ -25,7 +25,7 @@ StopsReading (faults.Bad line) old new failed = ⊥
 StopsReading faults.OutOfMemory old new failed = ReadsUpTo (MOST_BYTES + 1) old new × (failed ≡ false)
 StopsReading (faults.Write written) old new failed = ⊥
 
--- one read put n bytes behind the old ones; none came only at the end
+-- one read appended n bytes to the old ones; none came only at the end
 pub record HasRead (old new : Option (List ℕ)) (failed : Bool) (bytes bytes' : List ℕ) (n : ℕ) : Type 0 where
   pub more : List ℕ
   pub taken : Consumes old new more
@@ -34,7 +34,7 @@ pub record HasRead (old new : Option (List ℕ)) (failed : Bool) (bytes bytes' :
   pub at_end : n ≡ 0 → IsAtEnd new
   pub good : failed ≡ false
 
--- why one read put nothing behind the old bytes; where the reader failed, no byte was read, and else at most `room` were
+-- why one read appended nothing; where the reader failed, no byte was read, and else at most `room` were
 abbrev pub FailsToRead : RunFault → ℕ → Option (List ℕ) → Option (List ℕ) → Bool → Type 0
 FailsToRead faults.Read room old new failed = Keeps old new × (failed ≡ true)
 FailsToRead faults.TooLong room old new failed = ⊥

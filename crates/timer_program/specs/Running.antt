@@ -1,4 +1,4 @@
--- What a run reads and writes, from the bytes of a script to those of the text that answers it.
+-- What a run reads and writes: from the bytes of a script to those of the text that answers it.
 use Rattle.std.specs.Prelude.{◌≡◌, ℕ, ◌+◌, ◌<◌, ◌≤◌, true, false, List, ◌++◌, length, take, Option, Result, Ok, Err}
 use Rattle.std.specs.List.{flat_map}
 use Rattle.std.specs.Io.KnownBytes.{Appends}
@@ -14,20 +14,20 @@ use Rattle.timer_program.specs.Script.{IsScript, IsBadLine}
 use Rattle.timer_program.specs.Text.{out_line, text}
 use Rattle.timer_program.specs.Reading.{ReadsWhole, ReadsUpTo, ReadsTooMany}
 
--- the events were played, and the text grew by the lines of what came of them
+-- the events were played, and the text grew by the lines of their outs
 pub record AddsLines (before : FacilityState) (events : List Event) (old new : List ℕ) (after : FacilityState) : Type 0 where
   pub outs : List Out
   pub runs : IsRun before events outs after
   pub lines : new ≡ old ++ flat_map out_line outs
 
--- the answer to these events from a state: the lines of what came of them, and the end line
+-- the answer to these events from a state: the lines of their outs, and the end line
 pub record IsAnswer (before : FacilityState) (events : List Event) (answer : List ℕ) : Type 0 where
   pub outs : List Out
   pub after : FacilityState
   pub played : IsPlayed before events outs after
   pub lines : answer ≡ text outs after.now (length after.pending)
 
--- the reader was read to its end, its bytes are the script of some events, no longer than a script may be, and this is the answer to them
+-- the reader was read to its end, its bytes are the script of some events and within the limit, and this is the answer
 pub record IsAnswered (before : FacilityState) (old new : Option (List ℕ)) (answer : List ℕ) : Type 0 where
   pub bytes : List ℕ
   pub events : List Event
@@ -36,14 +36,14 @@ pub record IsAnswered (before : FacilityState) (old new : Option (List ℕ)) (an
   pub script : IsScript events bytes
   pub answered : IsAnswer before events answer
 
--- the reader was read to its end, its bytes are no more than a script may have, and this is their first bad line
+-- the reader was read to its end, its bytes are within the limit, and this is their first bad line
 pub record IsBad (old new : Option (List ℕ)) (line : ℕ) : Type 0 where
   pub bytes : List ℕ
   pub whole : ReadsWhole old new bytes
   pub short : length bytes ≤ MOST_BYTES
   pub bad : IsBadLine bytes line
 
--- why bytes of a script's length have no answer
+-- why bytes within the limit have no answer
 abbrev pub GivesNoAnswer : RunFault → List ℕ → Type 0
 GivesNoAnswer faults.Read bytes = ⊥
 GivesNoAnswer faults.TooLong bytes = ⊥
@@ -61,23 +61,23 @@ HasNoAnswer (faults.Write written) bytes = ⊥
 
 -- what a run did to its reader and its writer, by how it ended
 abbrev pub HasRun : {R S : Type 0} (before : FacilityState) (remaining : R → Option (List ℕ)) (contents : S → Option (List ℕ)) (reader reader' : Watched R) (writer writer' : Watched S) → Result Unit RunFault → Type 0
--- the answer was written, and nothing else
+-- the whole answer was written, and nothing else
 HasRun before remaining contents reader reader' writer writer' (Ok u) =
     (answer : List ℕ) × IsAnswered before (remaining reader.inner) (remaining reader'.inner) answer × (reader'.failed ≡ false)
     × Appends (contents writer.inner) (contents writer'.inner) answer × (writer'.failed ≡ false)
--- the reader failed in this call, after no more bytes than a script may have, and nothing was written
+-- the reader failed in this call, after at most `MOST_BYTES` bytes, and nothing was written
 HasRun before remaining contents reader reader' writer writer' (Err faults.Read) =
     ReadsUpTo MOST_BYTES (remaining reader.inner) (remaining reader'.inner) × (reader'.failed ≡ true) × (writer' ≡ writer)
--- one byte more was read than a script may have, and nothing was written
+-- one byte more than `MOST_BYTES` was read, and nothing was written
 HasRun before remaining contents reader reader' writer writer' (Err faults.TooLong) =
     ReadsTooMany (remaining reader.inner) (remaining reader'.inner) × (reader'.failed ≡ false) × (writer' ≡ writer)
--- the input is no script, this is its first bad line, and nothing was written
+-- the input is not a script, this is its first bad line, and nothing was written
 HasRun before remaining contents reader reader' writer writer' (Err (faults.Bad line)) =
     IsBad (remaining reader.inner) (remaining reader'.inner) line × (reader'.failed ≡ false) × (writer' ≡ writer)
--- nothing was written, and at most one byte more was read than a script may have
+-- nothing was written, and at most one byte more than `MOST_BYTES` was read
 HasRun before remaining contents reader reader' writer writer' (Err faults.OutOfMemory) =
     ReadsUpTo (MOST_BYTES + 1) (remaining reader.inner) (remaining reader'.inner) × (reader'.failed ≡ false) × (writer' ≡ writer)
--- the writer failed in this call, and a front of the answer was written, of this length, and nothing else
+-- the writer failed in this call, and a prefix of the answer was written, of this length, and nothing else
 HasRun before remaining contents reader reader' writer writer' (Err (faults.Write written)) =
     (answer : List ℕ) × IsAnswered before (remaining reader.inner) (remaining reader'.inner) answer × (reader'.failed ≡ false)
     × (written < length answer) × Appends (contents writer.inner) (contents writer'.inner) (take written answer) × (writer'.failed ≡ true)

@@ -1,4 +1,4 @@
--- The one spelling of a list of events, and the first line that is none.
+-- The unique spelling of a list of events, and the first bad line.
 use Rattle.std.specs.Prelude.{◌≡◌, ℕ, ◌+◌, ◌≤◌, List, ◌++◌, length, codes, decimal}
 use Rattle.std.specs.List.{flat_map, AllByRecursion}
 use Rattle.timer_base.specs.declared.limits.TheConstants.{LAST}
@@ -34,11 +34,11 @@ pub record IsScript (events : List Event) (bytes : List ℕ) : Type 0 where
   pub lines : bytes ≡ spelling events
   pub in_range : AllByRecursion IsInRange events
 
--- no line of an event stands at the front
+-- no line of an event is a prefix of the bytes
 abbrev pub BeginsNoLine : List ℕ → Type 0
 BeginsNoLine bytes = (event : Event) (more : List ℕ) → IsInRange event → bytes ≡ line event ++ more → ⊥
 
--- behind the lines of some events stand bytes that begin with no line; n counts from 1
+-- after the lines of some events come bytes that begin with no line; n counts from 1
 pub record IsBadLine (bytes : List ℕ) (n : ℕ) : Type 0 where
   pub before : List Event
   pub rest : List ℕ
@@ -48,7 +48,7 @@ pub record IsBadLine (bytes : List ℕ) (n : ℕ) : Type 0 where
   pub bad : BeginsNoLine rest
   pub counted : n ≡ length before + 1
 
--- the fault names the first bad line, or memory ran out
+-- the error names the first bad line, or is out of memory
 abbrev pub IsFault : ScriptFault → List ℕ → Type 0
 IsFault (Bad n) bytes = IsBadLine bytes n
 IsFault OutOfMemory bytes = Unit {0}

@@ -37,20 +37,20 @@ is_flushed flushed (Came bytes ∷ moments) = is_flushed flushed moments
 is_flushed flushed (Went bytes ∷ moments) = is_flushed false moments
 is_flushed flushed (Flush ∷ moments) = is_flushed true moments
 
--- a session to which these bytes came has answered each whole line of them, and this text is the answer
+-- a session that was fed these bytes has answered each complete line of them, and this text is the answer
 pub record IsAnsweredBy (start : SessionState) (came gone : List ℕ) : Type 0 where
   pub session : SessionState
   pub fed : HasFed start came [] gone session
   pub answered : IsAnsweredSoFar session
 
--- before each read all whole lines that came have been answered, and the answers flushed
+-- before each read all complete lines so far have been answered, and the answers flushed
 abbrev pub IsPrompt : SessionState → (came gone : List ℕ) → Bool → List Moment → Type 0
 IsPrompt start came gone flushed [] = Unit {0}
 IsPrompt start came gone flushed (Came bytes ∷ moments) = (flushed ≡ true) × IsAnsweredBy start came gone × IsPrompt start (came ++ bytes) gone flushed moments
 IsPrompt start came gone flushed (Went bytes ∷ moments) = IsPrompt start came (gone ++ bytes) false moments
 IsPrompt start came gone flushed (Flush ∷ moments) = IsPrompt start came gone true moments
 
--- these bytes came from the peer and this text went to it, each whole line answered before more was read
+-- these bytes came from the peer and this text went to it, each complete line answered before more was read
 pub record HasTalked (start : SessionState) (old new : PeerState) (came gone : List ℕ) (flushed : Bool) : Type 0 where
   pub moments : List Moment
   pub grows : Grows old.moments new.moments moments
@@ -61,8 +61,8 @@ pub record HasTalked (start : SessionState) (old new : PeerState) (came gone : L
   pub read : Consumes old.remaining new.remaining came
   pub written : Appends old.contents new.contents gone
 
--- what went from the peer through the session and back: of the bytes that came the last ones were not fed, and of the text
--- of those that were fed the last part has not gone
+-- what went from the peer through the session and back: the last of the bytes that came were not fed, and the last of the
+-- text of those that were fed has not been sent
 pub record HasPassed (old : SessionState) (peer peer' : PeerState) (new : SessionState) (unfed unsent : List ℕ) (flushed : Bool) : Type 0 where
   pub bytes : List ℕ
   pub sent : List ℕ
@@ -97,14 +97,14 @@ pub record HasSent (old : PeerState) (text : List ℕ) (new : PeerState) : Type 
   pub flushed : is_flushed false written.moments ≡ true
   pub good : new.write_failed ≡ false
 
--- a front of the text was written, and then the peer failed
+-- a prefix of the text was written, and then the peer failed
 pub record HasSentPart (old : PeerState) (text : List ℕ) (new : PeerState) : Type 0 where
   pub count : ℕ
   pub within : count ≤ length text
   pub written : HasWritten old (take count text) new
   pub failed : new.write_failed ≡ true
 
--- one turn: so many bytes came, all whole lines are answered, and the answers flushed
+-- one turn: bytes came, all complete lines are answered, and the answers flushed
 pub record HasTurned (old : SessionState) (peer peer' : PeerState) (new : SessionState) (n : ℕ) : Type 0 where
   pub passed : HasPassed old peer peer' new [] [] true
   pub counted : length passed.bytes ≡ n
@@ -112,19 +112,19 @@ pub record HasTurned (old : SessionState) (peer peer' : PeerState) (new : Sessio
   pub at_end : n ≡ 0 → IsAtEnd peer'.remaining
   pub good : AreGood peer'
 
--- how a fault of a session appears among those of serving
+-- an error of a session as one of serving
 abbrev pub serve_fault : SessionFault → ServeFault
 serve_fault (sessions.Bad n) = faults.Bad n
 serve_fault sessions.OutOfMemory = faults.OutOfMemory
 serve_fault sessions.Ended = faults.OutOfMemory
 
--- why a turn did not end well
+-- why a turn failed
 abbrev pub StopsTurn : ServeFault → SessionState → PeerState → PeerState → SessionState → Type 0
 -- a read failed, and all that came before it is answered
 StopsTurn faults.Read old peer peer' new = HasPassed old peer peer' new [] [] true × IsAnsweredSoFar new × (peer'.read_failed ≡ true) × (peer'.write_failed ≡ false)
 -- a line is bad whatever follows, and all lines before it are answered
 StopsTurn (faults.Bad n) old peer peer' new = (unfed : List ℕ) × HasPassed old peer peer' new unfed [] true × HasFailed n new × AreGood peer'
--- memory ran out: all the text that there is was written
+-- out of memory: all the text so far was written
 StopsTurn faults.OutOfMemory old peer peer' new = (unfed : List ℕ) × HasPassed old peer peer' new unfed [] true × AreGood peer'
 -- a write failed
 StopsTurn faults.Write old peer peer' new = (unfed unsent : List ℕ) × (flushed : Bool) × HasPassed old peer peer' new unfed unsent flushed × (peer'.read_failed ≡ false) × (peer'.write_failed ≡ true)
@@ -134,7 +134,7 @@ StopsTurn faults.TooLong old peer peer' new = ⊥
 abbrev pub last_line : SessionState → List ℕ
 last_line s = end_line s.state.now (length s.state.pending)
 
--- why the end line was not written whole
+-- why the end line was not written completely
 abbrev pub StopsEnd : ServeFault → SessionState → PeerState → PeerState → Type 0
 StopsEnd faults.Read s peer peer' = ⊥
 StopsEnd (faults.Bad n) s peer peer' = (1 ≤ length s.held) × BeginsNoLine s.held × (n ≡ next_line s) × (peer' ≡ peer)
@@ -149,22 +149,23 @@ pub record HasAnsweredAll (before : FacilityState) (peer peer' : PeerState) (byt
   pub script : IsScript events bytes
   pub answered : IsAnswer before events answer
 
--- what serving did, by how it ended; in each case every whole line was answered, and its answer flushed, before more was read
+-- what serving did, by how it ended; in each case every complete line was answered, and its answer flushed, before more
+-- was read
 abbrev pub HasServed : FacilityState → PeerState → PeerState → Result Unit ServeFault → Type 0
 -- the whole answer was written and flushed, and nothing else
 HasServed before peer peer' (Ok u) = (bytes answer : List ℕ) × HasAnsweredAll before peer peer' bytes answer × HasTalked (fresh before) peer peer' bytes answer true × AreGood peer'
--- a read failed, and each whole line that came is answered
+-- a read failed, and each complete line that came is answered
 HasServed before peer peer' (Err faults.Read) =
     (s : SessionState) × HasPassed (fresh before) peer peer' s [] [] true × IsAnsweredSoFar s × (peer'.read_failed ≡ true) × (peer'.write_failed ≡ false)
 -- the n-th line is the first bad one, each line before it is answered, and nothing else was written
 HasServed before peer peer' (Err (faults.Bad n)) = (bytes text : List ℕ) × IsStoppedAt before bytes text n × HasTalked (fresh before) peer peer' bytes text true × AreGood peer'
--- memory ran out: all the text that there was is written
+-- out of memory: all the text so far was written
 HasServed before peer peer' (Err faults.OutOfMemory) = (s : SessionState) × (unfed : List ℕ) × HasPassed (fresh before) peer peer' s unfed [] true × AreGood peer'
--- a write failed: a front of the answers was written, or of the whole answer
+-- a write failed: a prefix of the answers was written, or of the whole answer
 HasServed before peer peer' (Err faults.Write) =
     (((s : SessionState) × (unfed unsent : List ℕ) × (flushed : Bool) × HasPassed (fresh before) peer peer' s unfed unsent flushed)
     ⊎ ((bytes answer : List ℕ) × (k : ℕ) × (flushed : Bool) × HasAnsweredAll before peer peer' bytes answer × (k ≤ length answer) × HasTalked (fresh before) peer peer' bytes (take k answer) flushed))
     × (peer'.read_failed ≡ false) × (peer'.write_failed ≡ true)
--- more bytes came than a u64 counts, and each whole line of them is answered
+-- more bytes came than a u64 counts, and each complete line of them is answered
 HasServed before peer peer' (Err faults.TooLong) =
     (s : SessionState) × (passed : HasPassed (fresh before) peer peer' s [] [] true) × (2 ^ 64 - 1 ≤ length passed.bytes) × IsAnsweredSoFar s × AreGood peer'

@@ -1,4 +1,4 @@
--- A session: lines are played as they come, in whatever pieces they come.
+-- A session: lines are played as they arrive, in pieces of any size.
 use Rattle.std.specs.Prelude.{◌≡◌, ◌≢◌, ℕ, ◌+◌, ◌-◌, ◌^◌, ◌≤◌, List, [], ◌++◌, length, take, min}
 use Rattle.std.specs.List.{flat_map, AllByRecursion}
 use Rattle.timer_facility.specs.declared.event.Event.{Event}
@@ -16,15 +16,15 @@ use Rattle.timer_program.specs.Text.{out_line}
 -- a session between two calls
 pub record SessionState : Type 0 where
   pub state : FacilityState
-  -- what came of a line whose text found no memory: the next call writes it first
+  -- the outs of a line whose text could not be allocated: the next call writes them first
   pub unwritten : List Out
-  -- the bytes of the line whose line feed has not come yet, or of the bad line
+  -- the bytes of an incomplete line, or of the bad line
   pub held : List ℕ
   -- how many lines were played, as far as a u64 counts them
   pub lines : ℕ
   pub stage : Stage
 
--- a session that was fed nothing
+-- a new session
 abbrev pub fresh : FacilityState → SessionState
 fresh s = record { state = s; unwritten = []; held = []; lines = 0; stage = Going }
 
@@ -36,15 +36,15 @@ lines_of outs = flat_map out_line outs
 abbrev pub next_line : SessionState → ℕ
 next_line s = min (s.lines + 1) (2 ^ 64 - 1)
 
--- what a session keeps between two calls
+-- the invariant of a session between two calls
 pub record IsKept (s : SessionState) : Type 0 where
   pub partial : s.stage ≡ Going → IsPartial s.held
   pub bad : s.stage ≡ Failed → IsBadFront s.held
   pub ended : s.stage ≡ Ended → s.held ≡ []
   pub written : s.stage ≢ Going → s.unwritten ≡ []
 
--- some bytes were fed, and the text grew from `before` to `after`: the bytes held before and these are the lines of
--- some events, which were played, and the bytes held now; what came of them is in the text, but for what is unwritten now
+-- The bytes were fed, and the text grew from `before` to `after`: the bytes held before, followed by these, are the lines
+-- of some events, which were played, followed by the bytes held now. The outs are in the text, except those unwritten now.
 pub record HasFed (old : SessionState) (bytes before after : List ℕ) (new : SessionState) : Type 0 where
   pub events : List Event
   pub parts : old.held ++ bytes ≡ spelling events ++ new.held
@@ -56,45 +56,46 @@ pub record HasFed (old : SessionState) (bytes before after : List ℕ) (new : Se
   pub written : lines_of old.unwritten ++ lines_of outs ≡ added ++ lines_of new.unwritten
   pub counted : min new.lines (2 ^ 64 - 1) ≡ min (old.lines + length events) (2 ^ 64 - 1)
 
--- each whole line that was fed is answered
+-- each complete line that was fed is answered
 pub record IsAnsweredSoFar (s : SessionState) : Type 0 where
   pub going : s.stage ≡ Going
   pub written : s.unwritten ≡ []
   pub partial : IsPartial s.held
 
--- a bad line came: the n-th one, whatever follows, and those before it are answered
+-- a bad line was fed: the n-th one, whatever follows, and those before it are answered
 pub record HasFailed (n : ℕ) (s : SessionState) : Type 0 where
   pub failed : s.stage ≡ Failed
   pub written : s.unwritten ≡ []
   pub bad : IsBadFront s.held
   pub counted : n ≡ next_line s
 
--- the session takes no more bytes, and this is the fault of each further call
+-- the session takes no more bytes, and this is the error of each further call
 abbrev pub IsOver : SessionFault → SessionState → Type 0
 IsOver (faults.Bad n) s = HasFailed n s
 IsOver faults.OutOfMemory s = ⊥
 IsOver faults.Ended s = s.stage ≡ Ended
 
--- what stopped a session that was going: a bad line, or memory ran out, and then it goes on
+-- what stopped a session that was running: a bad line; or out of memory, after which it continues
 abbrev pub HasStopped : SessionFault → SessionState → Type 0
 HasStopped (faults.Bad n) s = HasFailed n s
 HasStopped faults.OutOfMemory s = s.stage ≡ Going
 HasStopped faults.Ended s = ⊥
 
--- why feeding stopped: a bad line; or memory ran out, and the session goes on; or it was ended before
+-- why feeding stopped: a bad line; or out of memory, after which the session continues; or it had ended already
 abbrev pub WhyStopped : SessionFault → SessionState → SessionState → Type 0
 WhyStopped (faults.Bad n) old new = HasFailed n new
 WhyStopped faults.OutOfMemory old new = new.stage ≡ Going
 WhyStopped faults.Ended old new = (old.stage ≡ Ended) × (new ≡ old)
 
--- why the script was not ended: bytes are held that are no line, and then they stay; or memory ran out, and the session
--- goes on; or it was ended before
+-- why the script was not ended: the held bytes are no complete line, and they stay held; or out of memory, after which the
+-- session continues; or it had ended already
 abbrev pub WhyNotEnded : SessionFault → SessionState → SessionState → Type 0
 WhyNotEnded (faults.Bad n) old new = (1 ≤ length new.held) × BeginsNoLine new.held × (n ≡ next_line new) × (new ≡ record old { unwritten = [] })
 WhyNotEnded faults.OutOfMemory old new = new.stage ≡ Going
 WhyNotEnded faults.Ended old new = (old.stage ≡ Ended) × (new ≡ old)
 
--- the n-th line (2^64 - 1 stands for any later one) is the first bad one of the bytes, and the text answers the lines before it
+-- the n-th line (2^64 - 1 stands for any later one) is the first bad one of the bytes, and the text answers the lines
+-- before it
 pub record IsStoppedAt (before : FacilityState) (bytes text : List ℕ) (n : ℕ) : Type 0 where
   pub events : List Event
   pub rest : List ℕ

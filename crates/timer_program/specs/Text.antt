@@ -34,7 +34,7 @@ abbrev pub fault_word : TickFault → List ℕ
 fault_word fault.Closed = codes "closed"
 fault_word fault.ClockEnd = codes "clock-end"
 
--- each number in decimal, behind a space
+-- each number in decimal, after a space
 abbrev pub numbers : List ℕ → List ℕ
 numbers all = flat_map (λ n. 32 ∷ decimal n) all
 

@@ -1,4 +1,4 @@
--- What writing a text does to the writer, which may tell which bytes it holds.
+-- What writing a text does to the writer, whose bytes so far may be known.
 use Rattle.std.specs.Prelude.{◌≡◌, ℕ, ◌<◌, ◌==◌, ◌&&◌, not, Bool, true, List, length, take, Option, Result, Ok, Err}
 use Rattle.std.specs.Io.KnownBytes.{Appends}
 use Rattle.timer_program.specs.declared.fault.RunFault.{RunFault}

@@ -1,10 +1,10 @@
-//! A session: a script is played as it comes, in pieces of any size.
+//! A session: a script is played as it arrives, in pieces of any size.
 //!
 //!     piece --cut--> lines --parse--> events --play--> outs --text--> the text of the piece
 //!
-//! Each line is answered by the call that brings its line feed. Between two calls it keeps the bytes of
-//! a line whose line feed has not come, and the outs of the last line where their text found no memory.
-//! For example:
+//! Each line is answered by the call that feeds its line feed. Between two calls a session keeps the bytes
+//! of an incomplete line, and the outs of the last line where their text could not be allocated. For
+//! example:
 //!
 //!     feed          text                    held
 //!     "start 0 1"                           "start 0 1"
@@ -25,7 +25,7 @@ use std::marker::Model;
 use timer_base::{OutOfMemory, Wheel};
 use timer_facility::{Facility, Out, Player};
 
-/// Why feeding stopped, and how many bytes of the piece were taken before.
+/// Why feeding stopped, and how many bytes of the piece were consumed before.
 #[derive(Clone, Copy, Debug, PartialEq, Eq)]
 pub struct FeedStop {
     pub taken: usize,
@@ -36,11 +36,11 @@ pub struct FeedStop {
 #[derive(Drop)]
 pub struct Session<W: Wheel + Drop> {
     player: Player<W>,
-    // What came of lines and is not in the text yet.
+    // Outs that are not in the text yet.
     outs: Vec<Out>,
-    // The bytes of the line whose line feed has not come yet.
+    // The bytes of an incomplete line.
     held: Vec<u8>,
-    // Where the text of one line is made.
+    // A buffer for the text of one line.
     scratch: Vec<u8>,
     lines: u64,
     stage: Stage,
@@ -73,7 +73,7 @@ impl<W: Wheel + Drop> Session<W> {
         }
     }
 
-    /// How far it has come.
+    /// Whether it is running, failed or ended.
     pub fn stage(&self) -> Stage
         ensures stage { result ≡ self.now.stage }
         ensures kept { IsKept self.now }
@@ -81,12 +81,12 @@ impl<W: Wheel + Drop> Session<W> {
         self.stage
     }
 
-    /// Plays each line that these bytes make whole, and adds its answer to the text.
+    /// Plays each line that these bytes complete, and appends its answer to the text.
     ///
     /// `Bad` names the first bad line, counted from 1 over the whole session (2^64 - 1 for every later
     /// line): the lines before it are answered. From then on, and after the end, each call returns the
     /// same error and changes nothing. After `OutOfMemory` the call may be repeated with the bytes that
-    /// were not taken: what was played is in the text, or will be written first.
+    /// were not consumed: the answers so far are in the text, or will be written first.
     pub fn feed(&mut self, piece: &[u8], text: &mut Vec<u8>) -> Result<(), FeedStop>
         ensures fed { OnOk result (HasFed self.old piece.now text.old.items text.new.items self.new) }
         ensures answered { OnOk result (IsAnsweredSoFar self.new) }
@@ -119,9 +119,9 @@ impl<W: Wheel + Drop> Session<W> {
         Ok(())
     }
 
-    /// Ends the script: adds the end line to the text, and then the session takes no more bytes.
+    /// Ends the script: appends the end line to the text. The session then takes no more bytes.
     ///
-    /// Fails with `Bad` where a bad line came or a line is not whole, which then stays held. After
+    /// Fails with `Bad` after a bad line, and where a line is incomplete, which then stays held. After
     /// `OutOfMemory` nothing is lost, and the call may be repeated.
     pub fn end(&mut self, text: &mut Vec<u8>) -> Result<(), SessionFault>
         ensures text { OnOk result (text.new.items ≡ text.old.items ++ lines_of self.old.unwritten ++ end_line self.old.state.now (length self.old.state.pending)) }
@@ -149,7 +149,7 @@ impl<W: Wheel + Drop> Session<W> {
         Ok(())
     }
 
-    /// The error of each call, where it takes no more bytes.
+    /// The error of every further call, where it takes no more bytes.
     fn fault(&self) -> Option<SessionFault>
         ensures over { IfSome result (λ fault. IsOver fault self.now) }
         ensures only { IfSome result (λ fault. (other : SessionFault) → IsOver other self.now → other ≡ fault) }
@@ -163,7 +163,7 @@ impl<W: Wheel + Drop> Session<W> {
         }
     }
 
-    /// Whether bytes of a line are held.
+    /// Whether bytes of an incomplete line are held.
     fn holds_bytes(&self) -> bool
         ensures some { result ≡ true → 1 ≤ length self.now.held }
         ensures none { result ≡ false → self.now.held ≡ [] }
@@ -171,7 +171,7 @@ impl<W: Wheel + Drop> Session<W> {
         !self.held.is_empty()
     }
 
-    /// The line after those that were played is bad.
+    /// Fails at the line after those that were played: it is bad.
     fn bad_line(&self) -> SessionFault
         ensures { result ≡ SessionFault.Bad (next_line self.now) }
     {
@@ -180,7 +180,7 @@ impl<W: Wheel + Drop> Session<W> {
         }
     }
 
-    /// Adds the end line. The only error is out of memory, and then the text is as it was.
+    /// Appends the end line. The only error is out of memory, and then the text is unchanged.
     fn write_end(&mut self, text: &mut Vec<u8>) -> Result<(), OutOfMemory>
         ensures same { self.new ≡ self.old }
         ensures text { OnOk result (text.new.items ≡ text.old.items ++ end_line self.old.state.now (length self.old.state.pending)) }
@@ -194,7 +194,7 @@ impl<W: Wheel + Drop> Session<W> {
         Ok(())
     }
 
-    /// Writes what is not in the text yet. The only error is out of memory, and then nothing changes.
+    /// Writes the outs that are not in the text yet. The only error is out of memory, and then nothing changes.
     fn write_outs(&mut self, text: &mut Vec<u8>) -> Result<(), OutOfMemory>
         ensures written { OnOk result (text.new.items ≡ text.old.items ++ lines_of self.old.unwritten) }
         ensures left { OnOk result (self.new ≡ record self.old { unwritten = [] }) }
@@ -208,7 +208,7 @@ impl<W: Wheel + Drop> Session<W> {
         Ok(())
     }
 
-    /// Takes bytes up to the end of a line, plays it where it is whole, and writes what came of it.
+    /// Consumes bytes up to the end of a line, plays it where it is complete, and writes its outs.
     fn take_line(&mut self, bytes: &[u8], text: &mut Vec<u8>) -> Result<usize, FeedStop>
         requires some { 0 < length bytes.now }
         requires answered { IsAnsweredSoFar self.old }
@@ -235,8 +235,8 @@ impl<W: Wheel + Drop> Session<W> {
         Ok(n)
     }
 
-    /// Takes bytes up to the end of a line, and plays it where it is whole. Returns how many were taken,
-    /// and whether they are a bad line. The only error is out of memory, and then nothing changes.
+    /// Consumes bytes up to the end of a line, and plays it where it is complete. Returns how many it
+    /// consumed, and whether they are a bad line. The only error is out of memory, and then nothing changes.
     fn play_line(&mut self, bytes: &[u8]) -> Result<(usize, bool), OutOfMemory>
         requires some { 0 < length bytes.now }
         requires answered { IsAnsweredSoFar self.old }
@@ -270,7 +270,7 @@ impl<W: Wheel + Drop> Session<W> {
     }
 }
 
-/// Memory ran out when so many bytes were taken.
+/// Out of memory, after `taken` bytes were consumed.
 fn out_of_memory(taken: usize) -> FeedStop
     ensures taken { result.taken ≡ taken }
     ensures fault { result.fault ≡ SessionFault.OutOfMemory }

@@ -1,4 +1,4 @@
--- A word more among those that a client received, and a request more among those that it sent.
+-- One more word among those that a client received, and one more request among those that it sent.
 use Rattle.std.proofs.Common.{◌≡◌, ◌+◌, ◌-◌, ◌*◌, ◌%◌, ◌<◌, ◌≤◌, ◌==◌, ◌&&◌, ◌||◌, nat_lt, not, ℕ, zero, suc, Bool, true, false, List, map, [], ◌∷◌, ◌++◌, length, get_or, refl, sym, ◌∙◌, ap, subst, arith, append_assoc, append-nil, length-append, ◌⊎◌, inl, inr}
 use Rattle.std.specs.Prelude.{Option, Some, None, IfSome}
 use Rattle.std.specs.List.{range_with_len, last_or}
@@ -71,7 +71,7 @@ was_after : (o : Option Timer) (ts : List Timer) (t : Timer) → AreAscending o 
 was_after o [] t a = a.0
 was_after o (x ∷ ts) t a = was_after (Some x) ts t a.1
 
--- One word more.
+-- One more word.
 
 started_by-more : (ws : List Word) (w : Word) → started_by (ws ++ w ∷ []) ≡ started_by ws ++ started_in w
 started_by-more ws w = flat_map-append started_in ws (w ∷ []) ∙ ap (λ xs. started_by ws ++ xs) (append-nil (started_in w))
@@ -79,7 +79,7 @@ started_by-more ws w = flat_map-append started_in ws (w ∷ []) ∙ ap (λ xs. s
 expired_by-more : (ws : List Word) (w : Word) → expired_by (ws ++ w ∷ []) ≡ expired_by ws ++ expired_in w
 expired_by-more ws w = flat_map-append expired_in ws (w ∷ []) ∙ ap (λ xs. expired_by ws ++ xs) (append-nil (expired_in w))
 
--- the lists of the answers and of the timers, with one word more
+-- the lists of the answers and of the timers, with one more word
 record AreWith (ws : List Word) (w : Word) (numbers : List ℕ) (timers : List Timer) : Type 0 where
   pub started : started_by (ws ++ w ∷ []) ≡ started_by ws ++ numbers
   pub expired : expired_by (ws ++ w ∷ []) ≡ expired_by ws ++ timers

@@ -1,4 +1,4 @@
--- The lines of the ends and of the readers of what clients left.
+-- The lines of the ends and of the readers that clients left.
 use Rattle.std.proofs.Common.{◌≡◌, ◌<◌, ◌≤◌, ◌⊎◌, inl, inr, true, ◌++◌, ℕ, min, List, [], ◌∷◌, length, get_or, refl, sym, ◌∙◌, ap, subst, arith, append-nil}
 use Rattle.std.proofs.lemmas.Bool.{cases_lt}
 use Rattle.std.specs.Prelude.{Option, Some, None, IfSome, IsNone}
@@ -112,7 +112,7 @@ some_or a (Some x) = x
 some_is : (a b : ℕ) → Some a ≡ Some b → a ≡ b
 some_is a b h = ap (λ o. some_or a o) h
 
--- who is held back by the ends that the clients left, is held back by what they left
+-- the client that is held back, by the ends that the clients left, is held back by what they left
 pub held_back_by : {X : Type 0} (es : X → List RequestsEnded) (rs : X → List ClientReader) (desk : DeskState RingInlet) (all : List Worked) (parts : Option X) (held : Option ℕ)
     → AreOfLines desk.inlets all → IfSome parts (λ p. AreParted all (es p) (rs p)) → (IsNone parts → IsNone held)
     → IfSome held (λ c. (c < length desk.inlets) × IfSome parts (λ p. IsHeldOf desk (es p) c)) → IfSome held (λ c. (c < length all) × IsHeldBack desk all c)

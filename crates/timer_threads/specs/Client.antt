@@ -25,18 +25,18 @@ abbrev pub notice_passes : Client → Notice → Bool
 notice_passes c (Notices.Expired timer) = nat_lt c.expired c.count && follows c.last timer
 notice_passes c (Notices.Returned timer) = false
 
--- whether the word passes the client's checks
+-- whether the word satisfies the client's checks
 abbrev pub passes : Client → Word → Bool
 passes c (Words.Answered number answer) = answer_passes c number answer
 passes c (Words.NotTaken number reason) = false
 passes c (Words.Notice notice) = notice_passes c notice
 
--- all words pass, or all but the last
+-- all words satisfy the checks, or all but the last
 abbrev pub AreChecked : Bool → ℕ → ℕ → List Word → Type 0
 AreChecked false first count words = ArePassed first count words
 AreChecked true first count words = IsStopped first count words
 
--- what was sent and received since `start`, and how it was counted and checked
+-- what was sent and received since `start`, counted and checked
 pub record IsAtWork (start : ClientEnd) (c : Client) : Type 0 where
   pub line : line_of_end c.end ≡ line_of_end start
   pub first : c.first ≡ next_of start
@@ -56,7 +56,7 @@ pub record IsSound (c : Client) : Type 0 where
   pub started : c.failed ≡ false → c.started ≤ c.count
   pub expired : c.failed ≡ false → c.expired ≤ c.count
 
--- how much is left to do, at most
+-- a measure of what is left to do
 abbrev pub left_of : Client → ℕ
 left_of c = (c.count - c.sent) + (if c.failed then 0 else (1 + ((c.count - c.started) + (c.count - c.expired))))
 

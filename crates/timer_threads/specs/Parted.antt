@@ -1,10 +1,10 @@
--- What clients left, and who of them failed.
+-- What clients leave behind, and which of them failed.
 use Rattle.std.specs.Prelude.{◌≡◌, ◌<◌, ◌||◌, ℕ, Bool, true, false, List, [], ◌∷◌, length, get_or, min, Option, Some, None, is_none}
 use Rattle.timer_desk.specs.declared.ring.RequestsEnded.{RequestsEnded}
 use Rattle.timer_desk.specs.declared.ring.ClientReader.{ClientReader}
 use Rattle.timer_threads.specs.declared.worked.Worked.{Worked}
 
--- a check failed, the client came to its limit, or its requests could not be ended
+-- a check failed, the client reached its limit, or its requests could not be ended
 abbrev pub has_failed : Worked → Bool
 has_failed w = w.failed || is_none w.ended
 

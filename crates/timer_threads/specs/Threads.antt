@@ -1,4 +1,4 @@
--- Clients in threads of their own, and the text that tells their counts.
+-- Clients in threads of their own, and the text of their counts.
 use Rattle.std.specs.Prelude.{◌≡◌, ◌<◌, ◌+◌, ◌++◌, ◌⊎◌, ℕ, zero, suc, true, false, List, [], ◌∷◌, length, get_or, Option, Some, None, codes, decimal}
 use Rattle.std.specs.declared.thread.PromisedHandle.{PromisedHandle}
 use Rattle.timer_desk.specs.declared.ring.RingInlet.{RingInlet}
@@ -16,13 +16,14 @@ use Rattle.timer_threads.specs.declared.worked.Worked.{Worked}
 use Rattle.timer_threads.specs.Working.{IsOfLine, IsWhole}
 use Rattle.timer_threads.specs.Parted.{has_failed, NoneFailed}
 
--- the thread with each number was started with the end of the line with that number, and with so many requests
+-- the thread at each index was started with the end of the line at that index, and with this many requests to send
 pub record AreTied (count : ℕ) (inlets : List RingInlet) (children : List (PromisedHandle Worked Finishes)) : Type 0 where
   pub as_many : length children ≡ length inlets
-  pub lines : (k : ℕ) (i : RingInlet) (h : PromisedHandle Worked Finishes) → k < length inlets → line_of_inlet (get_or inlets k i) ≡ line_of_end (get_or children k h).promise.end.value
+  pub lines : (k : ℕ) (i : RingInlet) (h : PromisedHandle Worked Finishes) → k < length inlets
+      → line_of_inlet (get_or inlets k i) ≡ line_of_end (get_or children k h).promise.end.value
   pub counts : (k : ℕ) (h : PromisedHandle Worked Finishes) → k < length inlets → (get_or children k h).promise.count ≡ count
 
--- what the client with each number left is of the line of the inlet with that number
+-- what the client at each index left is of the line of the inlet at that index
 pub record AreOfLines (inlets : List RingInlet) (all : List Worked) : Type 0 where
   pub as_many : length all ≡ length inlets
   pub each : (k : ℕ) (i : RingInlet) (w : Worked) → k < length inlets → IsOfLine (line_of_inlet (get_or inlets k i)) (get_or all k w)
@@ -30,47 +31,52 @@ pub record AreOfLines (inlets : List RingInlet) (all : List Worked) : Type 0 whe
 -- the line of a client
 abbrev pub client_line : ℕ → ℕ → ℕ → ℕ → List ℕ
 client_line client sent started expired =
-    codes "client " ++ decimal client ++ codes " sent " ++ decimal sent ++ codes " started " ++ decimal started ++ codes " expired " ++ decimal expired ++ codes "\n"
+    codes "client " ++ decimal client ++ codes " sent " ++ decimal sent
+    ++ codes " started " ++ decimal started ++ codes " expired " ++ decimal expired ++ codes "\n"
 
 -- the lines of the clients from this number on
 abbrev pub clients_text : ℕ → List Worked → List ℕ
 clients_text client [] = []
 clients_text client (w ∷ ws) = client_line client w.sent w.started w.expired ++ clients_text (client + 1) ws
 
--- each that did not fail sent so many requests, and as many timers started and expired
+-- each that did not fail sent all its requests, and as many timers started and expired
 abbrev pub AllWhole : ℕ → List Worked → Type 0
 AllWhole timers all = (k : ℕ) (w : Worked) → k < length all → IsWhole timers (get_or all k w)
 
 -- what each reader has read is all that was given
 abbrev pub AllRead : List RingInlet → List ClientReader → Type 0
-AllRead inlets readers = (c : ℕ) (i : RingInlet) (r : ClientReader) → c < length inlets → read_by (get_or readers c r) ≡ given_of (get_or inlets c i)
+AllRead inlets readers = (c : ℕ) (i : RingInlet) (r : ClientReader) → c < length inlets
+    → read_by (get_or readers c r) ≡ given_of (get_or inlets c i)
 
 -- no word is left for any of these readers
 abbrev pub NoneUnread : List ClientReader → Type 0
 NoneUnread readers = (c : ℕ) (r : ClientReader) → c < length readers → unread_by (get_or readers c r) ≡ []
 
--- nothing is held or in an outbox, all that each client submitted was got, and it has read all that it was given
+-- nothing is held or in an outbox, all that each client submitted was got, and each has read all that it was given
 pub record IsWoundUp (desk : DeskState RingInlet) (all : List Worked) : Type 0 where
   pub idle : AllIdle desk
   pub read : (c : ℕ) (i : RingInlet) (w : Worked) → c < length all → read_by (get_or all c w).reader ≡ given_of (get_or desk.inlets c i)
-  pub got : (c : ℕ) (i : RingInlet) (w : Worked) (e : RequestsEnded) → c < length all → (get_or all c w).ended ≡ Some e → all_submitted e ≡ got_of (get_or desk.inlets c i)
+  pub got : (c : ℕ) (i : RingInlet) (w : Worked) (e : RequestsEnded) → c < length all → (get_or all c w).ended ≡ Some e
+      → all_submitted e ≡ got_of (get_or desk.inlets c i)
 
--- the desk came to its goal, no client failed, and the desk was wound up
+-- the desk reached its goal, no client failed, and the desk was wound up
 pub record HasEnded (desk : DeskState RingInlet) (outcome : DriveEnd) (all : List Worked) : Type 0 where
   pub done : outcome ≡ DriveEnds.Done
   pub good : NoneFailed all
   pub wound : IsWoundUp desk all
 
--- something of this client waits; or nothing waits of any, so that it is its line that could not be finished, or its words that were not
--- all read
+-- something of this client waits; or nothing of any client does, and it is its line that could not be finished, or its
+-- words that were not all read
 abbrev pub IsHeldOf : DeskState RingInlet → List RequestsEnded → ℕ → Type 0
 IsHeldOf desk ended c =
-    ((i : RingInlet) (e : RequestsEnded) → IsWaiting (backlog_at desk c) (got_of (get_or desk.inlets c i)) (all_submitted (get_or ended c e))) ⊎ AllIdle desk
+    ((i : RingInlet) (e : RequestsEnded) → IsWaiting (backlog_at desk c) (got_of (get_or desk.inlets c i)) (all_submitted (get_or ended c e)))
+    ⊎ AllIdle desk
 
 -- the same, of what the clients left
 abbrev pub IsHeldBack : DeskState RingInlet → List Worked → ℕ → Type 0
 IsHeldBack desk all c =
-    ((i : RingInlet) (w : Worked) (e : RequestsEnded) → (get_or all c w).ended ≡ Some e → IsWaiting (backlog_at desk c) (got_of (get_or desk.inlets c i)) (all_submitted e))
+    ((i : RingInlet) (w : Worked) (e : RequestsEnded) → (get_or all c w).ended ≡ Some e
+    → IsWaiting (backlog_at desk c) (got_of (get_or desk.inlets c i)) (all_submitted e))
     ⊎ AllIdle desk
 
 -- this client failed or is held back, and none before it failed
@@ -79,30 +85,30 @@ pub record IsFirstClient (desk : DeskState RingInlet) (all : List Worked) (c : �
   pub reason : ((w : Worked) → has_failed (get_or all c w) ≡ true) ⊎ IsHeldBack desk all c
   pub others : (k : ℕ) (w : Worked) → k < c → has_failed (get_or all k w) ≡ false
 
--- the first fault of the desk and of the clients: memory, then clients, then the desk
+-- the first error of the desk and of the clients: memory, then clients, then the desk
 abbrev pub IsFirstFault : DeskState RingInlet → DriveEnd → List Worked → ThreadsFault → Type 0
 IsFirstFault desk outcome all Faults.OutOfMemory = Unit {0}
 IsFirstFault desk outcome all (Faults.Client c) = ¬ (outcome ≡ DriveEnds.OutOfMemory) × IsFirstClient desk all c
 IsFirstFault desk outcome all Faults.Desk = (outcome ≡ DriveEnds.Limit) × NoneFailed all × IsWoundUp desk all
 
--- the fault of a drive that ended so, after which this client failed or was held back, if any
+-- the error of a drive with this end, after which this client failed or was held back, if one was
 abbrev pub fault_of : DriveEnd → Option ℕ → Option ThreadsFault
 fault_of outcome (Some c) = Some (Faults.Client c)
 fault_of DriveEnds.Done None = None
 fault_of DriveEnds.Limit None = Some Faults.Desk
 fault_of DriveEnds.OutOfMemory None = Some Faults.OutOfMemory
 
--- a client that is named is one of so many
+-- a client that an error names is one of the clients
 abbrev pub IsAmong : ℕ → ThreadsFault → Type 0
 IsAmong clients Faults.OutOfMemory = Unit {0}
 IsAmong clients (Faults.Client c) = c < clients
 IsAmong clients Faults.Desk = Unit {0}
 
--- the lines of so many clients from this number on, of which each started so many timers
+-- the lines of `clients` clients from number `client` on, each with `timers` timers sent, started and expired
 abbrev pub whole_lines : ℕ → ℕ → ℕ → List ℕ
 whole_lines client zero timers = []
 whole_lines client (suc clients) timers = client_line client timers timers timers ++ whole_lines (client + 1) clients timers
 
--- the text of so many clients, of which each started so many timers
+-- the text of `clients` clients, each with `timers` timers sent, started and expired
 abbrev pub whole_text : ℕ → ℕ → List ℕ
 whole_text clients timers = whole_lines 0 clients timers ++ codes "end\n"

@@ -1,4 +1,4 @@
--- What a client sends, what it may receive, and what its work comes to.
+-- What a client sends, what it may receive, and the result of its work.
 use Rattle.std.specs.Prelude.{◌≡◌, ◌+◌, ◌-◌, ◌%◌, ◌<◌, ◌≤◌, ◌⊎◌, ℕ, Bool, true, false, List, [], ◌∷◌, ◌++◌, length, map, Option, Some, None, IfSome}
 use Rattle.std.specs.List.{flat_map, range_with_len}
 use Rattle.timer_base.specs.declared.timer.Timer.{Timer}
@@ -17,11 +17,11 @@ use Rattle.timer_threads.specs.declared.worked.Worked.{Worked}
 
 -- What is sent.
 
--- request j, counted from 1, of a client whose first number this is
+-- request j, counted from 1, of a client with this first number
 abbrev pub request_of : ℕ → ℕ → Numbered
 request_of first j = numbered (first + (j - 1)) (Start (1 + j % 97) j)
 
--- the first so many requests of a client
+-- the first `sent` requests of a client
 abbrev pub requests_from : ℕ → ℕ → List Numbered
 requests_from first sent = map (request_of first) (range_with_len 1 sent)
 
@@ -35,23 +35,23 @@ abbrev pub expired_in_notice : Notice → List Timer
 expired_in_notice (Notices.Expired timer) = timer ∷ []
 expired_in_notice (Notices.Returned timer) = []
 
--- the number of the request that the word says to have started a timer
+-- the number of the request that started a timer, by this word
 abbrev pub started_in : Word → List ℕ
 started_in (Words.Answered number answer) = started_in_answer number answer
 started_in (Words.NotTaken number reason) = []
 started_in (Words.Notice notice) = []
 
--- the timer that the word says to have expired
+-- the timer that expired, by this word
 abbrev pub expired_in : Word → List Timer
 expired_in (Words.Answered number answer) = []
 expired_in (Words.NotTaken number reason) = []
 expired_in (Words.Notice notice) = expired_in_notice notice
 
--- the numbers of the requests that started a timer, as these words say
+-- the numbers of the requests that started a timer, by these words
 abbrev pub started_by : List Word → List ℕ
 started_by words = flat_map started_in words
 
--- the timers that expired, as these words say
+-- the timers that expired, by these words
 abbrev pub expired_by : List Word → List Timer
 expired_by words = flat_map expired_in words
 
@@ -65,7 +65,7 @@ abbrev pub AreAscending : Option Timer → List Timer → Type 0
 AreAscending earlier [] = Unit {0}
 AreAscending earlier (t ∷ ts) = (follows earlier t ≡ true) × AreAscending (Some t) ts
 
--- the words pass the checks of a client with so many requests, from this number on
+-- the words satisfy the checks of a client with this many requests, from this number on
 pub record ArePassed (first count : ℕ) (words : List Word) : Type 0 where
   -- each is a `Started` answer or an `Expired` notice
   pub each : length words ≡ length (started_by words) + length (expired_by words)
@@ -74,7 +74,7 @@ pub record ArePassed (first count : ℕ) (words : List Word) : Type 0 where
   pub few_started : length (started_by words) ≤ count
   pub few_expired : length (expired_by words) ≤ count
 
--- the last of the words is the first that does not pass
+-- the last of the words is the first that does not satisfy the checks
 pub record IsStopped (first count : ℕ) (words : List Word) : Type 0 where
   pub passed : List Word
   pub last : Word
@@ -82,7 +82,7 @@ pub record IsStopped (first count : ℕ) (words : List Word) : Type 0 where
   pub pass : ArePassed first count passed
   pub fails : ¬ (ArePassed first count words)
 
--- What the work comes to.
+-- The result of the work.
 
 -- the ended end and the reader are of this line
 pub record IsOfLine (line : Line) (w : Worked) : Type 0 where
@@ -93,7 +93,7 @@ pub record IsOfLine (line : Line) (w : Worked) : Type 0 where
 abbrev pub IsShort : ℕ → Worked → Type 0
 IsShort count w = (w.sent < count) ⊎ ((w.started < count) ⊎ (w.expired < count))
 
--- what was sent and received of so many requests, from the end on that the work began with, and whether it failed
+-- what was sent and received by a client with `count` requests that began its work with this end, and whether it failed
 pub record HasWorked (count : ℕ) (start : ClientEnd) (w : Worked) : Type 0 where
   pub sent : IfSome w.ended (λ e. all_submitted e ≡ submitted start ++ requests_from (next_of start) w.sent)
   pub most : w.sent ≤ count
@@ -105,7 +105,7 @@ pub record HasWorked (count : ℕ) (start : ClientEnd) (w : Worked) : Type 0 whe
   pub complete : w.failed ≡ false → (w.sent ≡ count) × (w.started ≡ count) × (w.expired ≡ count)
   pub failed : w.failed ≡ true → IsStopped (next_of start) count words ⊎ (ArePassed (next_of start) count words × IsShort count w)
 
--- where nothing failed, so many requests were sent, and as many timers started and expired
+-- where nothing failed, all requests were sent, and as many timers started and expired
 pub record IsWhole (count : ℕ) (w : Worked) : Type 0 where
   pub sent : w.failed ≡ false → w.sent ≡ count
   pub started : w.failed ≡ false → w.started ≡ count

@@ -139,7 +139,8 @@ impl Client {
         ensures last { self.new.last ≡ last_or self.old.last (expired_in word) }
         ensures failed { self.new.failed ≡ not (passes self.old word) }
         ensures fewer { left_of self.new < left_of self.old }
-        ensures others { (self.new.end ≡ self.old.end) × (self.new.count ≡ self.old.count) × (self.new.first ≡ self.old.first) × (self.new.sent ≡ self.old.sent) }
+        ensures others { (self.new.end ≡ self.old.end) × (self.new.count ≡ self.old.count)
+            × (self.new.first ≡ self.old.first) × (self.new.sent ≡ self.old.sent) }
     {
         match word {
             Word::Answered {

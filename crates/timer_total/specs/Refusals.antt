@@ -19,7 +19,7 @@ next_timer interval action w = record { serial = w.last_serial + 1; client = 0; 
 abbrev pub IsStartable : ℕ → WheelState → Type 0
 IsStartable interval w = (0 < interval) × (w.now + interval ≤ w.last_tick) × (w.last_serial < LAST)
 
--- why a start is refused before memory is asked for: the first that holds
+-- why a start is refused before anything is allocated: the first test that holds
 abbrev pub WhyNotStarted : ℕ → WheelState → StartFault → Type 0
 WhyNotStarted interval w fault =
     ((fault ≡ start.ZeroInterval) × (interval ≡ 0))
@@ -30,7 +30,7 @@ WhyNotStarted interval w fault =
 abbrev pub IsAt : Handle → WheelState → Type 0
 IsAt handle w = IsSome (timer_at handle w)
 
--- why a restart is refused: the first that holds, the name before the interval
+-- why a restart is refused: the first test that holds, the handle before the interval
 abbrev pub WhyNotRestarted : Handle → ℕ → WheelState → RestartFault → Type 0
 WhyNotRestarted handle interval w fault =
     ((fault ≡ restart.NotPending) × (timer_at handle w ≡ None))
@@ -38,7 +38,7 @@ WhyNotRestarted handle interval w fault =
     ⊎ ((fault ≡ restart.TooLate) × IsAt handle w × (0 < interval) × (w.last_tick < w.now + interval))
     ⊎ ((fault ≡ restart.SerialsSpent) × IsAt handle w × (0 < interval) × (w.now + interval ≤ w.last_tick) × (LAST ≤ w.last_serial))
 
--- why the clock doesn't go on
+-- why the clock does not advance
 abbrev pub WhyNotTicked : WheelState → TickFault → Type 0
 WhyNotTicked w fault =
     ((fault ≡ tick.Due) × (0 < length w.due))

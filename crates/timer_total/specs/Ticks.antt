@@ -9,7 +9,7 @@ use Rattle.timer_base.specs.WheelState.{WheelState, after_tick, after_ticks, Adv
 abbrev pub numbered : ℕ → WheelState → WheelState
 numbered serial w = record w { last_serial = serial }
 
--- of at most so many ticks so many were passed, and nothing was due before the last of them
+-- at most `most` ticks were asked for and `passed` were passed, with nothing due before the last of them
 pub record Passes (most passed : ℕ) (old new : WheelState) : Type 0 where
   pub at_most : passed ≤ most
   pub some : 0 < most → 0 < passed
@@ -34,14 +34,16 @@ passes_none most w e = record {
 }
 
 -- the clock is at its end where all that was left of it was passed
-at_the_end : (passed : ℕ) (old new : WheelState) → new ≡ after_ticks passed old → passed ≡ old.last_tick - old.now → old.now ≤ old.last_tick → new.now ≡ new.last_tick
+at_the_end : (passed : ℕ) (old new : WheelState) → new ≡ after_ticks passed old → passed ≡ old.last_tick - old.now
+    → old.now ≤ old.last_tick → new.now ≡ new.last_tick
 at_the_end passed old new t p b =
     let now : new.now ≡ old.now + passed = ap (λ (w : WheelState). w.now) t ∙ after_ticks-now passed old in
     let last : new.last_tick ≡ old.last_tick = ap (λ (w : WheelState). w.last_tick) t ∙ after_ticks-last passed old in
     omega arith
 
--- a wheel's advance, asked for no more than is left of the clock, with the serial counted beside it
-pub advanced : (most asked passed serial : ℕ) (old new v : WheelState) → numbered serial old ≡ v → asked ≡ min most (old.last_tick - old.now) → 0 < asked
+-- a wheel's advance by at most what is left of the clock, with the serial counted beside it
+pub advanced : (most asked passed serial : ℕ) (old new v : WheelState) → numbered serial old ≡ v
+    → asked ≡ min most (old.last_tick - old.now) → 0 < asked
     → old.now ≤ old.last_tick → Advances asked passed old new → Passes most passed v (numbered serial new)
 advanced most asked passed serial old new v e least more b a =
     let low : passed ≤ asked = a.at_most in
@@ -57,8 +59,9 @@ advanced most asked passed serial old new v e least more b a =
     } in
     subst (λ (w : WheelState). Passes most passed w (numbered serial new)) e here
 
--- the serials of a wheel that was advanced are still counted
-pub still_counted : (asked passed serial : ℕ) (old new : WheelState) → Advances asked passed old new → old.last_serial ≤ serial → new.last_serial ≤ serial
+-- a wheel that was advanced has the same last serial
+pub still_counted : (asked passed serial : ℕ) (old new : WheelState) → Advances asked passed old new → old.last_serial ≤ serial
+    → new.last_serial ≤ serial
 still_counted asked passed serial old new a h =
     let e : new.last_serial ≡ old.last_serial = ap (λ (w : WheelState). w.last_serial) a.ticked ∙ after_ticks-serial passed old in
     omega arith

@@ -1,4 +1,4 @@
-//! Why a call is refused. A refusal changes nothing. Each enum is in the order in which it is tested.
+//! The errors of the calls. A call that fails changes nothing. Each enum is in the order of the tests.
 use thiserror::Error;
 
 /// Why no timer was started.
@@ -14,7 +14,7 @@ pub enum StartFault {
     OutOfMemory,
 }
 
-/// Why no timer was restarted. The old one is as it was.
+/// Why no timer was restarted. The old one is unchanged.
 #[derive(Clone, Copy, Debug, PartialEq, Eq, Error)]
 pub enum RestartFault {
     #[error("no pending timer has this handle")]
@@ -27,7 +27,7 @@ pub enum RestartFault {
     SerialsSpent,
 }
 
-/// Why the clock did not go on.
+/// Why the clock did not advance.
 #[derive(Clone, Copy, Debug, PartialEq, Eq, Error)]
 pub enum TickFault {
     #[error("a timer that expired was not yet taken")]

@@ -1,9 +1,9 @@
 //! Timers over any wheel, for a caller that proves nothing.
 //!
-//! A wheel states conditions that its caller has to meet. `Timers` tests them: each call is total, and
-//! where a condition does not hold it returns the first that fails and changes nothing. There are no
-//! clients and no request numbers; the serials are counted here, beside the wheel, so that they can go
-//! on over one wheel after another.
+//! A wheel has preconditions that its caller must meet. `Timers` tests them: each call is total, and where
+//! a precondition does not hold it returns the error of the first that fails and changes nothing. There
+//! are no clients and no request numbers. The serials are counted here and not in the wheel, so that they
+//! continue from one wheel to the next.
 #![tactic(auto)]
 
 mod fault;

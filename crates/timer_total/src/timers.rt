@@ -1,4 +1,4 @@
-//! A wheel whose calls ask nothing of the caller.
+//! A wheel whose calls have no preconditions.
 ghost use Rattle.std.specs.Prelude.{◌≡◌, ◌+◌, ◌<◌, ◌≤◌, ◌↔◌, ◌⊎◌, ℕ, [], length, IsTrue, IfOk, IfErr, OnErr, None, Some};
 ghost use Rattle.timer_base.specs.declared.limits.TheConstants.{LAST};
 ghost use Rattle.timer_base.specs.WakeUps.{IsQuietUntil};
@@ -10,7 +10,7 @@ use crate::fault::{RestartFault, StartFault, TickFault};
 use std::marker::Model;
 use timer_base::{Handle, LAST, Timer, Wheel};
 
-/// A wheel and the last serial that was used. A contract sees it as what the wheel means, with that serial.
+/// A wheel and the last serial that was used. Its model is the state of the wheel, with that serial.
 #[derive(Drop)]
 pub struct Timers<W: Wheel + Drop> {
     wheel: W,
@@ -31,7 +31,7 @@ impl<W: Wheel + Drop> Model for Timers<W> {
 }
 
 impl<W: Wheel + Drop> Timers<W> {
-    /// The timers of a wheel, whose next start gets the serial after `last_serial`.
+    /// Wraps a wheel. The next start gets the serial after `last_serial`.
     pub fn over(wheel: W, last_serial: u64) -> Timers<W>
         requires { (W.state wheel).last_serial ≤ last_serial }
         ensures { result ≡ numbered last_serial (W.state wheel) }
@@ -46,7 +46,7 @@ impl<W: Wheel + Drop> Timers<W> {
         self.wheel.now()
     }
 
-    /// How many timers are pending. Those that expired and were not yet taken are not counted.
+    /// How many timers are pending. Expired timers that were not yet taken are not counted.
     pub fn len(&self) -> usize
         ensures { result ≡ length self.now.pending }
     {
@@ -68,7 +68,7 @@ impl<W: Wheel + Drop> Timers<W> {
     }
 
     /// A tick until which nothing expires, or None exactly where nothing is pending. It is after the
-    /// present tick, and at most the first deadline.
+    /// present tick and at most the first pending deadline.
     pub fn quiet_until(&self) -> Option<u64>
         ensures { IsQuietUntil result self.now }
     {
@@ -80,7 +80,8 @@ impl<W: Wheel + Drop> Timers<W> {
         ensures started { IfOk result (λ handle. self.new ≡ after_start handle.place (next_timer interval action self.old) self.old) }
         ensures named { IfOk result (λ handle. handle.serial ≡ self.old.last_serial + 1) }
         ensures in_order { IfOk result (λ _. IsStartable interval self.old) }
-        ensures fault { IfErr result (λ fault. WhyNotStarted interval self.old fault ⊎ ((fault ≡ StartFault.OutOfMemory) × IsStartable interval self.old)) }
+        ensures fault { IfErr result (λ fault. WhyNotStarted interval self.old fault
+            ⊎ ((fault ≡ StartFault.OutOfMemory) × IsStartable interval self.old)) }
         ensures err { OnErr result (self.new ≡ self.old) }
     {
         self.admit(interval)?;
@@ -125,7 +126,7 @@ impl<W: Wheel + Drop> Timers<W> {
         }
     }
 
-    /// Takes the pending timer with just this handle away, and returns it. Where there is none, nothing
+    /// Removes the pending timer with exactly this handle, and returns it. Where there is none, nothing
     /// changes. Does not allocate.
     pub fn stop(&mut self, handle: Handle) -> Option<Timer>
         ensures timer { result ≡ timer_at handle self.old }
@@ -134,15 +135,16 @@ impl<W: Wheel + Drop> Timers<W> {
         self.wheel.stop(handle)
     }
 
-    /// Takes the pending timer with just this handle away and starts another in its stead, under the
-    /// next serial. Does not allocate.
+    /// Removes the pending timer with exactly this handle and starts another in its place, under the next
+    /// serial. Does not allocate.
     pub fn restart(
         &mut self,
         handle: Handle,
         interval: u64,
         action: u64,
     ) -> Result<Handle, RestartFault>
-        ensures restarted { IfOk result (λ made. self.new ≡ after_start made.place (next_timer interval action self.old) (after_stop handle self.old)) }
+        ensures restarted { IfOk result (λ made.
+            self.new ≡ after_start made.place (next_timer interval action self.old) (after_stop handle self.old)) }
         ensures named { IfOk result (λ made. made.serial ≡ self.old.last_serial + 1) }
         ensures in_order { IfOk result (λ _. IsAt handle self.old × IsStartable interval self.old) }
         ensures fault { IfErr result (WhyNotRestarted handle interval self.old) }
@@ -179,7 +181,7 @@ impl<W: Wheel + Drop> Timers<W> {
         Ok(())
     }
 
-    /// Goes to the next tick: the pending timers with that deadline expire, and wait to be taken.
+    /// Advances the clock by one tick: the pending timers with that deadline expire, and wait to be taken.
     pub fn tick(&mut self) -> Result<(), TickFault>
         ensures ticked { IfOk result (λ _. (self.old.due ≡ []) × (self.new ≡ after_tick self.old)) }
         ensures fault { IfErr result (WhyNotTicked self.old) }
@@ -196,9 +198,9 @@ impl<W: Wheel + Drop> Timers<W> {
     }
 
     /// Passes at most `most` ticks, stops at the first at which a timer expires, and returns how many
-    /// were passed: none only where `most` is 0.
+    /// were passed: 0 only where `most` is 0.
     ///
-    /// Stretches at which nothing expires are skipped and not walked, as far as the wheel can.
+    /// Stretches in which nothing expires are skipped, as far as the wheel can skip them.
     pub fn advance(&mut self, most: u64) -> Result<u64, TickFault>
         ensures passed { IfOk result (λ passed. (self.old.due ≡ []) × Passes most passed self.old self.new) }
         ensures fault { IfErr result (WhyNotTicked self.old) }
@@ -217,7 +219,7 @@ impl<W: Wheel + Drop> Timers<W> {
         Ok(self.wheel.advance(most.min(left)))
     }
 
-    /// Takes the first of the timers that expired, in the order of their starts.
+    /// Removes the first of the expired timers, in order of starting, and returns it.
     pub fn expire(&mut self) -> Option<Timer>
         ensures first { result ≡ first_due self.old }
         ensures rest { self.new ≡ after_expiry self.old }

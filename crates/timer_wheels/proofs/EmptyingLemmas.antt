@@ -1,4 +1,4 @@
--- The steps through a bucket that is emptied.
+-- The loop that empties a bucket.
 use Rattle.std.proofs.Common.{◌≡◌, ◌≢◌, ◌<◌, ◌≤◌, ◌+◌, ℕ, zero, suc, List, [], ◌∷◌, ◌++◌, length, refl, sym, ◌∙◌, ap, subst, arith, append_assoc, length-set, get_or-set_same, get_or-set_other}
 use Rattle.std.specs.Prelude.{true, false, slice_set, Some, None}
 use Rattle.std.specs.List.{AllByRecursion}
@@ -13,7 +13,7 @@ use Rattle.timer_wheels.specs.Migration.{target, spread, migrated, left_rows, fi
 use Rattle.timer_wheels.proofs.MigrationLemmas.{target_due, target_left}
 use Rattle.timer_wheels.proofs.RowLemmas.{append-nil}
 
--- Lists that are written twice.
+-- Lists that are updated twice.
 
 pub set_twice : (v : List (List (ℕ × Node))) (i : ℕ) (a b : List (ℕ × Node)) → slice_set (slice_set v i a) i b ≡ slice_set v i b
 set_twice [] i a b = refl
@@ -32,7 +32,7 @@ length_list_at [] l = omega arith
 length_list_at (x ∷ xs) zero = omega arith
 length_list_at (x ∷ xs) (suc l) = let h : length (list_at l xs) ≤ row_count xs = length_list_at xs l in omega arith
 
--- so many rows of the list went, and what is left to do leads to the same lists
+-- some rows of the list have moved, and moving the rest leads to the same lists
 pub record IsEmptying (table : List ℕ) (l tick step moves : ℕ) (old lists : List (List (ℕ × Node))) : Type 0 where
   pub leads : migrated table tick l lists ≡ migrated table tick l old
   pub has_lists : length lists ≡ length old
@@ -193,7 +193,7 @@ module _ (table : List ℕ) (l tick step moves d : ℕ) (old lists new : List (L
   pub not_beyond : d ≤ last_of table
   not_beyond = let a : (timer_in f.row).deadline ≤ last_of table = f.first.in_range in let e : (timer_in f.row).deadline ≡ d = f.deadline in omega arith
 
--- A bucket whose rows are all due goes as a whole.
+-- A bucket whose rows are all due moves as a whole.
 
 spread_whole : (table : List ℕ) (tick : ℕ) (rows : List (ℕ × Node)) (lists : List (List (ℕ × Node))) → slots table < length lists → AllByRecursion (IsOfTick tick) rows → spread table tick rows lists ≡ slice_set lists (slots table) (list_at (slots table) lists ++ rows)
 spread_whole table tick [] lists b a = sym (ap (slice_set lists (slots table)) (append-nil (list_at (slots table) lists)) ∙ set-get_or lists (slots table) [])

@@ -1,4 +1,4 @@
--- What one tick makes of the lists of a hashed wheel.
+-- The lists of a hashed wheel after one tick.
 use Rattle.std.proofs.Common.{◌≡◌, ◌≢◌, ◌<◌, ◌+◌, ◌-◌, ◌*◌, ◌/◌, ◌%◌, ℕ, zero, suc, List, [], ◌∷◌, ◌++◌, length, refl, sym, ◌∙◌, ap, subst, inl, inr, arith, length-set, get_or-set_same, get_or-set_other}
 use Rattle.std.specs.Prelude.{Bool, true, false, not, map, filter, slice_set}
 use Rattle.std.specs.List.{AllByRecursion}
@@ -22,7 +22,7 @@ use Rattle.timer_wheels.proofs.ShownLemmas.{filter-one_list}
 
 -- Numbers.
 
--- how far a deadline is behind the next tick, in rounds and what is over
+-- how far a deadline is after the next tick: in rounds, and the remainder
 pub record IsDistance (n now d q r : ℕ) : Type 0 where
   pub is : d ≡ now + 1 + (n * q + r)
   pub over : r < n
@@ -36,7 +36,7 @@ quotient_is n q r x h e = let f : x ≡ q * n + r = omega arith in ap (λ (y : �
 pub remainder_is : (n q r x : ℕ) → r < n → x ≡ n * q + r → x % n ≡ r
 remainder_is n q r x h e = let f : x ≡ q * n + r = omega arith in ap (λ (y : ℕ). y % n) f ∙ mod-mul-add q n r h
 
--- so many steps behind a tick is another slot, unless it is none
+-- the slot some steps after that of a tick is another one, unless there are none
 no_step : (n t r : ℕ) → r < n → (t + r) % n ≡ t % n → r ≡ 0
 no_step n t r h e = elim (cases_lt (t % n + r) n) [
   | inl k ↦ (let a : (t + r) % n ≡ t % n + r = remainder_is n (t / n) (t % n + r) (t + r) k (omega arith) in omega arith)
@@ -66,7 +66,7 @@ now_due n now d q r h e f =
     let i : d ≡ now + 1 + (n * q + r) = h.is in
     omega arith
 
--- a full round less is left
+-- one round fewer is left
 round_less : (n now d q r k : ℕ) → 0 < n → IsDistance n now d q r → r ≡ 0 → q ≡ suc k → (now + 1 < d) × ((d - (now + 1) - 1) / n ≡ k)
 round_less n now d q r k z h e f =
     let m : n * q ≡ n * (suc k) = ap (λ (y : ℕ). n * y) f in
@@ -87,7 +87,7 @@ pred_of k h = omega arith
 
 -- Rows.
 
--- what the tick makes of a row that it meets
+-- a row of the tick's bucket after the tick
 pub record IsMet (n now : ℕ) (row : ℕ × Node) : Type 0 where
   pub due : row.1.rounds ≡ 0 → (timer_in row).deadline ≡ now + 1
   pub later : row.1.rounds ≢ 0 → (now + 1 < (timer_in row).deadline) × (row.1.rounds - 1 ≡ rounds_of n (now + 1) (timer_in row))
@@ -106,7 +106,7 @@ at_slot n now s row z e h b =
           (f.0, sym f.1);
     }
 
--- what it makes of a row elsewhere
+-- a row of another bucket after it
 off_slot : (n now s : ℕ) (row : ℕ × Node) → 0 < n → s ≢ (now + 1) % n → now < (timer_in row).deadline → IsInBucket n now s row → (now + 1 < (timer_in row).deadline) × IsInBucket n (now + 1) s row
 off_slot n now s row z e h b =
     let d : ℕ = (timer_in row).deadline in

@@ -1,4 +1,4 @@
--- What the clock's leaps keep true of a hierarchy of wheels.
+-- The invariant of a hierarchy of wheels, preserved by the leaps of its clock.
 use Rattle.std.proofs.Common.{◌≡◌, ◌<◌, ◌≤◌, ◌+◌, ◌-◌, ◌*◌, ℕ, List, [], ◌∷◌, length, sym, ◌∙◌, ap, subst, inl, inr, arith}
 use Rattle.std.specs.Prelude.{Some}
 use Rattle.std.specs.List.{AllByRecursion}
@@ -112,7 +112,7 @@ module _ (t : Table) (b : Buckets) (words : List ℕ) (h : IsHier t b words) whe
   pub none_wakes : ((s : ℕ) → s < 640 → bit_of words s ≡ 0) → (state_of b).pending ≡ []
   none_wakes f = sleeps b.slots b.last_tick b.tick b.last_serial b.links (λ s k. none_where s k (f s (let r : b.slots ≤ 640 = slots_fit in omega arith)))
 
--- The clock alone goes on.
+-- The clock alone advances.
 
 pub record HasWaited (t : Table) (b : Buckets) (tick : ℕ) : Type 0 where
   pub pending : ArePending b.last_tick tick b.last_serial (rows_below b.slots b.links)
@@ -134,7 +134,7 @@ module _ (t : Table) (b : Buckets) (words : List ℕ) (h : IsHier t b words) (z 
   pub waited : (tick : ℕ) → b.tick ≤ tick → AreNotBefore (radices t) b.slots b.tick (tick + 1) b.links → HasWaited t b tick
   waited tick l q = let e : b.tick + (tick - b.tick) ≡ tick = omega arith in let P : ℕ → Type 0 = HasWaited t b in subst P e (waited_so (tick - b.tick) tick e q)
 
--- One leap, and the tick behind it.
+-- One leap, and the tick after it.
 
 pub near_end : (table : List ℕ) (b : Buckets) (stop tick : ℕ) → tick < stop → AreNotBefore table b.slots b.tick stop b.links → AreNotBefore table b.slots b.tick (tick + 1) b.links
 near_end table b stop tick h a s k = All-weaken (λ row. stop ≤ timer_stop table b.tick (timer_in row).deadline) (λ row. tick + 1 ≤ timer_stop table b.tick (timer_in row).deadline) (list_at s b.links) (λ row q. let x : stop ≤ timer_stop table b.tick (timer_in row).deadline = q in omega arith) (a s k)
@@ -164,7 +164,7 @@ one_leap t most moves more first b new words words2 w l h z e = record {
   not_past = e;
 }
 
--- the moves fit their word
+-- the count of moves does not overflow
 pub moves_fit : (table : List ℕ) (moves more : ℕ) (u v w : WheelState) → Leaps table moves u v → Leaps table more v w → levels_of table u.now u.pending ≤ 9 * LAST → moves + more < 18446744073709551616
 moves_fit table moves more u v w a b r =
     let x : moves + levels_of table v.now v.pending ≤ levels_of table u.now u.pending = a.pays in

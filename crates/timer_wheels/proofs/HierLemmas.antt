@@ -1,4 +1,4 @@
--- What each call keeps true of a hierarchy of wheels.
+-- The invariant of a hierarchy of wheels, preserved by each call.
 use Rattle.std.proofs.Common.{◌≡◌, ◌<◌, ◌≤◌, ◌+◌, ◌*◌, ℕ, zero, suc, List, [], ◌∷◌, length, refl, sym, ◌∙◌, ap, subst, inl, inr, arith}
 use Rattle.std.specs.Prelude.{Bool, filter, map, Option, Some, None, MatchOption, nat_lt, replicate}
 use Rattle.timer_base.specs.declared.timer.Timer.{Timer}
@@ -140,7 +140,7 @@ shown table b s p =
     let P : ℕ → Type 0 = λ n. ShowsBuckets n (bucket_at table b.tick) no_rounds (state_of b) b.links in
     subst P s (shows b.slots (bucket_at table b.tick) no_rounds b.links b.has_lists p b.last_tick b.tick b.last_serial b.in_order)
 
--- Counts that fit.
+-- Counts that do not overflow.
 
 pub paid_bound : (table : List ℕ) (starts moves last_serial now : ℕ) (es : List Entry) → IsClock table → starts ≤ last_serial → last_serial ≤ LAST → IsPaid table starts moves now es → moves + levels_of table now es ≤ 9 * LAST
 paid_bound table starts moves last_serial now es k f r p =

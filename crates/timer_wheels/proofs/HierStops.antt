@@ -1,4 +1,4 @@
--- What a stop, a start and many ticks keep true of the bits and counts of a hierarchy of wheels.
+-- The bits and counts of a hierarchy of wheels, after a stop, a start and many ticks.
 use Rattle.std.proofs.Common.{◌≡◌, ◌≢◌, ◌<◌, ◌≤◌, ◌+◌, ◌-◌, ◌*◌, ℕ, List, [], ◌∷◌, ◌++◌, length, refl, sym, ◌∙◌, ap, subst, inl, inr, arith, get_or-set_same, get_or-set_other}
 use Rattle.std.specs.Prelude.{Bool, true, false, Option, Some, None, MatchOption, map, slice_set}
 use Rattle.std.proofs.lemmas.Bool.{cases_eq}
@@ -26,7 +26,7 @@ use Rattle.timer_wheels.proofs.WheelLemmas.{IsParted, parted, look-has}
 
 -- A stop.
 
--- a bucket loses one row, and its bit is cleared where no other is left in it
+-- one row is removed from a bucket, and its bit is cleared where no other row is left in it
 kept_filled : (n : ℕ) (words words2 : List ℕ) (l : ℕ) (rows : List (ℕ × Node)) (lists new : List (List (ℕ × Node))) → l < n → l < length lists → filled (list_at l lists) ≡ 1 → filled rows ≡ 1 → new ≡ slice_set lists l rows → words2 ≡ words → Tells n words lists → Tells n words2 new
 kept_filled n words words2 l rows lists new h b was now e c t = (
   (λ (s : ℕ) (k : s < n). ap (λ (w : List ℕ). bit_of w s) c ∙ (t.0 s k ∙ sym (ap (λ (y : List (List (ℕ × Node))). filled (list_at s y)) e ∙ elim (cases_eq s l) [

@@ -55,7 +55,7 @@ still table (suc n) a l d f =
     let ih : hops table (a + 1) n d ≡ 0 = still table n (a + 1) l d (λ c p q. f c (omega arith) (omega arith)) in
     omega arith
 
--- A timer that waits on.
+-- A timer that stays pending.
 
 -- a pending timer whose bucket is not emptied before this tick
 record Waits (table : List ℕ) (last a stop d : ℕ) : Type 0 where
@@ -117,7 +117,7 @@ module _ (table : List ℕ) (last a stop n : ℕ) (i : IsTable table) (h : HasDi
       over [] x y = tt
       over (r ∷ rs) x y = (record { later = still_later (timer_in r).deadline x.0; in_range = y.0.in_range; serial = y.0.serial }, over rs x.1 y.1)
 
-    -- only the clock goes on
+    -- only the clock advances
     pub leapt : (wheel_state k last a last_serial lists).due ≡ [] → Leaps table 0 (wheel_state k last a last_serial lists) (wheel_state k last (a + n) last_serial lists)
     leapt z =
         let w : WheelState = wheel_state k last a last_serial lists in

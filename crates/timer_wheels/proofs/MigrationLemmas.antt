@@ -1,4 +1,4 @@
--- What one tick does to the lists of a hierarchical wheel.
+-- The lists of a hierarchical wheel after one tick.
 use Rattle.std.proofs.Common.{◌≡◌, ◌<◌, ◌+◌, ℕ, ◌==◌, List, [], ◌∷◌, ◌++◌, length, refl, sym, ◌∙◌, ap, subst, inl, inr, arith, append_assoc, length-set, get_or-set_same, get_or-set_other}
 use Rattle.std.specs.Prelude.{Bool, true, false, filter, not}
 use Rattle.std.specs.List.{AllByRecursion}
@@ -33,7 +33,7 @@ spread-length table tick (x ∷ xs) lists = spread-length table tick xs (with_ro
 abbrev pub to_list : List ℕ → ℕ → ℕ → List (ℕ × Node) → List (ℕ × Node)
 to_list table tick s rows = filter (λ row. target table tick row == s) rows
 
--- what each list has afterwards
+-- each list afterwards
 pub list_at-spread : (table : List ℕ) (tick s : ℕ) (rows : List (ℕ × Node)) (lists : List (List (ℕ × Node))) → s < length lists → list_at s (spread table tick rows lists) ≡ list_at s lists ++ to_list table tick s rows
 list_at-spread table tick s [] lists b = sym (append-nil (list_at s lists))
 list_at-spread table tick s (x ∷ xs) lists b =
@@ -90,7 +90,7 @@ distinct-filter p (x ∷ xs) d = elim (either (p x)) [
 split_rows : (xs : List (ℕ × Node)) (x : ℕ × Node) (ys : List (ℕ × Node)) → Distinct (xs ++ x ∷ ys) → AreDistinct (timers_in xs ++ timer_in x ∷ timers_in ys)
 split_rows xs x ys d = rw timers-append at d
 
--- a row may be taken out
+-- removing a row
 distinct-taken : (xs : List (ℕ × Node)) (x : ℕ × Node) (ys : List (ℕ × Node)) → Distinct (xs ++ x ∷ ys) → IsNotAmong (timer_in x).serial (timers_in (xs ++ ys)) × Distinct (xs ++ ys)
 distinct-taken xs x ys d =
     let e : timers_in (xs ++ ys) ≡ timers_in xs ++ timers_in ys = timers-append xs ys in
@@ -99,7 +99,7 @@ distinct-taken xs x ys d =
       let P : List Timer → Type 0 = AreDistinct in subst P (sym e) (AreDistinct-taken (timer_in x) (timers_in xs) (timers_in ys) d2),
     )
 
--- and put in anywhere
+-- inserting a row anywhere
 distinct-inserted : (xs : List (ℕ × Node)) (x : ℕ × Node) (ys : List (ℕ × Node)) → Distinct (x ∷ (xs ++ ys)) → Distinct (xs ++ x ∷ ys)
 distinct-inserted [] x ys d = d
 distinct-inserted (z ∷ zs) x ys d =
@@ -107,7 +107,7 @@ distinct-inserted (z ∷ zs) x ys d =
     let b = among-rest (timer_in z).serial zs ys d.1.0 in
     (among-append (timer_in z).serial zs (x ∷ ys) a ((λ e. d.0.0 (sym e)), b), distinct-inserted zs x ys (d.0.1, d.1.1))
 
--- rows may be pulled to the front
+-- moving rows to the front
 pub in_order-pulled : (front xs rest : List (ℕ × Node)) → Distinct (front ++ (xs ++ rest)) → in_order timer_in (front ++ (xs ++ rest)) ≡ in_order timer_in (xs ++ (front ++ rest))
 in_order-pulled front [] rest d = refl
 in_order-pulled front (x ∷ xs) rest d =

@@ -1,4 +1,4 @@
--- What the buckets of a hierarchy of wheels are before and after a tick.
+-- The buckets of a hierarchy of wheels before and after a tick.
 use Rattle.std.proofs.Common.{◌≡◌, ◌<◌, ◌+◌, ℕ, List, [], length, sym, ◌∙◌, ap, subst, arith}
 use Rattle.std.specs.List.{AllByRecursion}
 use Rattle.timer_links.specs.declared.node.Node.{Node}

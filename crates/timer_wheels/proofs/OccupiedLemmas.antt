@@ -83,7 +83,7 @@ first_bit k j words h t c =
       ]),
     )
 
--- What the bits tell.
+-- The bits and the lists.
 
 abbrev Lists : Type 0
 Lists = List (List (ℕ × Node))
@@ -107,7 +107,7 @@ tells_same n words old new e t = ((λ s h. t.0 s h ∙ sym (ap filled (e s h))),
 clear_too : (n l : ℕ) (words words2 : List ℕ) → l < n → ((s : ℕ) → s ≢ l → bit_of words2 s ≡ bit_of words s) → IsClearFrom n words → IsClearFrom n words2
 clear_too n l words words2 h o c s a b = o s (λ (e : s ≡ l). omega arith) ∙ c s a b
 
--- one bit is set, and one row put in
+-- one bit is set, and one row inserted
 pub tells_with_row : (n : ℕ) (words words2 : List ℕ) (l : ℕ) (row : ℕ × Node) (lists : Lists) → l < n → l < length lists → bit_of words2 l ≡ 1 → ((s : ℕ) → s ≢ l → bit_of words2 s ≡ bit_of words s) → Tells n words lists → Tells n words2 (with_row l row lists)
 tells_with_row n words words2 l row lists f b h o t = (
   (λ (s : ℕ) (k : s < n). elim (cases_eq s l) [
@@ -130,7 +130,7 @@ tells_all n words l lists e t = (
   t.1,
 )
 
--- a list goes as a whole behind the buckets
+-- a whole list moves to the one after the buckets
 pub tells_appended : (n : ℕ) (words words2 : List ℕ) (l : ℕ) (lists : Lists) → l < n → length lists ≡ n + 1 → bit_of words2 l ≡ 0 → ((s : ℕ) → s ≢ l → bit_of words2 s ≡ bit_of words s) → Tells n words lists → Tells n words2 (appended l n lists)
 tells_appended n words words2 l lists h len z o t = (
   (λ (s : ℕ) (k : s < n).
@@ -143,7 +143,7 @@ tells_appended n words words2 l lists h len z o t = (
   clear_too n l words words2 h o t.1,
 )
 
--- the first row of a list goes elsewhere
+-- the first row of a list moves to another
 moved_same : (l to s : ℕ) (lists : Lists) (rows : List (ℕ × Node)) → s ≢ l → s ≢ to → list_at s (first_row_moved l to lists rows) ≡ list_at s lists
 moved_same l to s lists [] n m = refl
 moved_same l to s lists (row ∷ rest) n m = get_or-set_other (slice_set lists l rest) to s (list_at to (slice_set lists l rest) ++ row ∷ []) [] m ∙ get_or-set_other lists l s rest [] n

@@ -1,4 +1,4 @@
--- What a restart makes of the buckets: a stop, and a start under the same key.
+-- The buckets after a restart: a stop, and a start under the same key.
 use Rattle.std.proofs.Common.{◌≡◌, ◌<◌, ◌≤◌, ◌+◌, ℕ, List, [], ◌∷◌, ◌++◌, length, refl, ◌∙◌, ap, arith, length-set}
 use Rattle.std.specs.Prelude.{Some, IsSome, map}
 use Rattle.std.proofs.lemmas.List.{length-map}
@@ -67,6 +67,6 @@ module _ (b : Buckets) (handle : Handle) (bucket rounds : ℕ) (timer : Timer) (
       started b.slots b.last_tick b.tick b.last_serial bucket handle.place node rest m.in_slots in_rest m.fresh rest_pending
       ∙ ap (after_start handle.place timer) (stop-found b.tick b.slots handle b.links b.has_lists parts apart b.last_tick b.last_serial old rest b.distinct e refl)
 
--- each row keeps the wheel's own rule
+-- each row satisfies the wheel's own invariant
 pub each_restarted : (fact : ℕ → ℕ × Node → Type 0) (n key bucket : ℕ) (node : Node) (lists : List (List (ℕ × Node))) → bucket < length lists → fact bucket (key, node) → EachRow fact n lists → EachRow fact n (with_row bucket (key, node) (map (without_key key) lists))
 each_restarted fact n key bucket node lists h f a = each-with_row fact n bucket (key, node) (map (without_key key) lists) (let e : length (map (without_key key) lists) ≡ length lists = length-map lists (without_key key) in omega arith) f (each-without_key fact n key lists a)

@@ -37,7 +37,7 @@ all-list_at P (suc n) [] a s b = tt
 all-list_at P (suc n) (x ∷ xs) a zero b = all-front P x (rows_below n xs) a
 all-list_at P (suc n) (x ∷ xs) a (suc s) b = all-list_at P n xs (all-rest P x (rows_below n xs) a) s (omega arith)
 
--- One list is written anew.
+-- One list is replaced.
 
 -- the rows before and behind those of one list
 pub record IsAround (n l : ℕ) (lists : List (List (ℕ × Node))) : Type 0 where
@@ -59,7 +59,7 @@ around (suc n) (suc l) (x ∷ xs) h b =
       with_rows = λ rows. ap (λ (y : List (ℕ × Node)). x ++ y) (ih.with_rows rows) ∙ sym (append_assoc x ih.front (rows ++ ih.rest));
     }
 
--- a list behind the first n is none of theirs
+-- a list after the first n is none of them
 pub rows_below-above : (n l : ℕ) (lists : List (List (ℕ × Node))) (rows : List (ℕ × Node)) → n ≤ l → rows_below n (slice_set lists l rows) ≡ rows_below n lists
 rows_below-above zero l lists rows h = refl
 rows_below-above (suc n) l [] rows h = refl
@@ -84,16 +84,16 @@ rows_below-none (suc n) (x ∷ xs) h =
     let a : x ≡ [] = h 0 (omega arith) in
     rw (a, rows_below-none n xs (λ s b. h (suc s) (omega arith))) refl
 
--- A row is put in.
+-- A row is inserted.
 
--- the new rows are the old ones with one more put in
+-- the new rows are the old ones with one more inserted
 pub record IsInserted (row : ℕ × Node) (old new : List (ℕ × Node)) : Type 0 where
   pub front : List (ℕ × Node)
   pub rest : List (ℕ × Node)
   pub old_is : old ≡ front ++ rest
   pub new_is : new ≡ front ++ row ∷ rest
 
--- a row is put into one list, anywhere
+-- a row is inserted into one list, anywhere
 pub rows_below-inserted : (n l : ℕ) (row : ℕ × Node) (before after : List (ℕ × Node)) (lists : List (List (ℕ × Node))) → l < n → l < length lists → list_at l lists ≡ before ++ after
     → IsInserted row (rows_below n lists) (rows_below n (slice_set lists l (before ++ row ∷ after)))
 rows_below-inserted n l row before after lists h b e =
@@ -109,11 +109,11 @@ pub append-nil : {X : Type 0} (xs : List X) → xs ++ [] ≡ xs
 append-nil [] = refl
 append-nil (x ∷ xs) = ap (λ r. x ∷ r) (append-nil xs)
 
--- a row goes to the back of one list
+-- a row is pushed to the back of one list
 pub rows_below-with_row : (n l : ℕ) (row : ℕ × Node) (lists : List (List (ℕ × Node))) → l < n → l < length lists → IsInserted row (rows_below n lists) (rows_below n (with_row l row lists))
 rows_below-with_row n l row lists h b = rows_below-inserted n l row (list_at l lists) [] lists h b (sym (append-nil (list_at l lists)))
 
--- A row is taken out.
+-- A row is removed.
 
 pub filter-append : {X : Type 0} (p : X → Bool) (xs ys : List X) → filter p (xs ++ ys) ≡ filter p xs ++ filter p ys
 filter-append p [] ys = refl
@@ -192,13 +192,13 @@ pub IsNotAmong-below : (high : ℕ) (ts : List Timer) → AreBelow high ts → I
 IsNotAmong-below high [] b = tt
 IsNotAmong-below high (t ∷ ts) b = ((λ e. let b0 : t.serial < high = b.0 in let e0 : t.serial ≡ high = e in omega arith), IsNotAmong-below high ts b.1)
 
--- a timer with a serial of its own may stand anywhere
+-- a timer with a distinct serial may be inserted anywhere
 pub AreDistinct-inserted : (t : Timer) (xs ys : List Timer) → IsNotAmong t.serial (xs ++ ys) → AreDistinct (xs ++ ys) → AreDistinct (xs ++ t ∷ ys)
 AreDistinct-inserted t [] ys n d = (n, d)
 AreDistinct-inserted t (x ∷ xs) ys n d =
     (IsNotAmong-append x.serial xs (t ∷ ys) (IsNotAmong-front x.serial xs ys d.0) ((λ e. n.0 (sym e)), IsNotAmong-rest x.serial xs ys d.0), AreDistinct-inserted t xs ys n.1 d.1)
 
--- and may be taken out
+-- and may be removed
 pub AreDistinct-taken : (t : Timer) (xs ys : List Timer) → AreDistinct (xs ++ t ∷ ys) → AreDistinct (xs ++ ys)
 AreDistinct-taken t [] ys d = d.1
 AreDistinct-taken t (x ∷ xs) ys d =
@@ -209,14 +209,14 @@ pub IsNotAmong-others : (t : Timer) (xs ys : List Timer) → AreDistinct (xs ++ 
 IsNotAmong-others t [] ys d = d.0
 IsNotAmong-others t (x ∷ xs) ys d = ((λ e. (IsNotAmong-rest x.serial xs (t ∷ ys) d.0).0 (sym e)), IsNotAmong-others t xs ys d.1)
 
--- one list more
+-- one more list
 pub rows_below-more : (n : ℕ) (lists : List (List (ℕ × Node))) → n < length lists → rows_below (suc n) lists ≡ rows_below n lists ++ list_at n lists
 rows_below-more zero [] h = absurd (omega arith)
 rows_below-more zero (x ∷ xs) h = append-nil x
 rows_below-more (suc n) [] h = absurd (omega arith)
 rows_below-more (suc n) (x ∷ xs) h = ap (λ (y : List (ℕ × Node)). x ++ y) (rows_below-more n xs (omega arith)) ∙ sym (append_assoc x (rows_below n xs) (list_at n xs))
 
--- the timers copied from one list more
+-- the timers copied from one more list
 pub timers_below-more : (n : ℕ) (lists : List (List (ℕ × Node))) (old new : List Timer) → n < length lists → old ≡ timers_in (rows_below n lists) → new ≡ old ++ timers_in (list_at n lists) → new ≡ timers_in (rows_below (n + 1) lists)
 timers_below-more n lists old new h a b =
     let e : n + 1 ≡ suc n = omega arith in

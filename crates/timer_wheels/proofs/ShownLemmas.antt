@@ -15,7 +15,7 @@ use Rattle.timer_wheels.specs.Shown.{without_deadline, by_serial, row_of, entrie
 use Rattle.timer_wheels.proofs.RowLemmas.{append-nil, filter-append}
 use Rattle.timer_wheels.proofs.WheelLemmas.{filter-pending_in}
 
--- Which rows pass a test.
+-- Which rows satisfy a test.
 
 pub filter-none : {X : Type 0} (p : X → Bool) (xs : List X) → AllByRecursion (λ x. p x ≡ false) xs → filter p xs ≡ []
 filter-none p [] a = refl
@@ -25,7 +25,7 @@ pub filter-each : {X : Type 0} (p : X → Bool) (xs : List X) → AllByRecursion
 filter-each p [] a = refl
 filter-each p (x ∷ xs) a = rw a.0 (ap (λ r. x ∷ r) (filter-each p xs a.1))
 
--- no row of the lists passes the test
+-- no row of the lists satisfies the test
 pub filter-no_list : (p : ℕ × Node → Bool) (n : ℕ) (lists : List (List (ℕ × Node))) → ((t : ℕ) → t < n → AllByRecursion (λ row. p row ≡ false) (list_at t lists)) → filter p (rows_below n lists) ≡ []
 filter-no_list p zero lists h = refl
 filter-no_list p (suc n) [] h = refl
@@ -62,7 +62,7 @@ among-without_deadline : (serial : ℕ) (es : List Entry) → IsNotAmong serial 
 among-without_deadline serial [] n = tt
 among-without_deadline serial (e ∷ es) n = (n.0, among-without_deadline serial es n.1)
 
--- by serial is by serial, in whatever order they were
+-- the order by serial does not depend on the order before
 by_serial-in_order : (es : List Entry) → AreDistinct (map timer_of es) → by_serial (in_order timer_of es) ≡ by_serial es
 by_serial-in_order [] d = refl
 by_serial-in_order (e ∷ es) d =
@@ -85,7 +85,7 @@ by_serial-pending_in rows r =
 
 -- Each row stands in its timer's bucket.
 
--- what a wheel keeps true of a row of bucket s
+-- the invariant of a row of bucket s
 abbrev pub IsAt : (Timer → ℕ) → (Timer → ℕ) → ℕ → ℕ × Node → Type 0
 IsAt bucket_of rounds_of s row = (bucket_of (timer_in row) ≡ s) × (row.1.rounds ≡ rounds_of (timer_in row))
 

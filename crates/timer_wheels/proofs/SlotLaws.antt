@@ -9,7 +9,7 @@ digit_by_weight [] k t = omega arith
 digit_by_weight (r ∷ rs) zero t = let e : t / 1 ≡ t = omega arith in ap (λ (x : ℕ). x % r) (sym e)
 digit_by_weight (r ∷ rs) (suc k) t = digit_by_weight rs k (t / r) ∙ ap (λ (x : ℕ). x % radix k rs) (div-div-eq-div-mul t r (weight k rs))
 
--- the number of a list tells its wheel and its slot
+-- the number of a list determines its wheel and its slot
 one_slot : (table : List ℕ) (j k x s : ℕ) → IsTable table → j < length table → k < length table → s < radix k table → slot table j (digit table j x) ≡ slots_below k table + s → (j ≡ k) × (digit table j x ≡ s)
 one_slot [] j k x s i a b h e = absurd (omega arith)
 one_slot (r ∷ rs) zero zero x s i a b h e = (refl, omega arith)

@@ -47,7 +47,7 @@ stop_near r rs a d e = rw (eq-eqb (a / r) (d / r) e) refl
 stop_far : (r : ℕ) (rs : List ℕ) (a d : ℕ) → a / r ≢ d / r → timer_stop (r ∷ rs) a d ≡ r * timer_stop rs (a / r) (d / r)
 stop_far r rs a d e = rw (ne_eqb (a / r) (d / r) e) refl
 
--- it comes after now
+-- it is after now
 pub stop_later : (table : List ℕ) (a d : ℕ) → IsTable table → a < d → a < timer_stop table a d
 stop_later [] a d t h = h
 stop_later (r ∷ rs) a d t h = elim (cases_eq (a / r) (d / r)) [
@@ -93,7 +93,7 @@ bucket_stays table a b d e = ap (λ (v : ℕ). slot table v (digit table v d)) e
 
 -- Lists.
 
--- a list that does not come behind the timer's is not emptied later
+-- a list that does not come after the timer's is not emptied later
 pub list_first : (table : List ℕ) (l a d : ℕ) → IsTable table → HasDigits table d → a < d → l ≤ bucket table a d → list_stop table l a ≤ timer_stop table a d
 list_first [] l a d t i h b = omega arith
 list_first (r ∷ rs) l a d t i h b = elim (cases_eq (a / r) (d / r)) [
@@ -145,7 +145,7 @@ none_below (r ∷ rs) t h = elim (cases_eq (t % r) 0) [
   | inr e ↦ rw (lowest_here r rs t e) refl
 ]
 
--- How many multiples of a radix come behind one tick up to another.
+-- How many multiples of a radix lie after one tick and up to another.
 
 one_tick : (r b : ℕ) → 0 < r → (b + 1) / r ≤ b / r + 1
 one_tick r b z =
@@ -171,7 +171,7 @@ same_down r b z p n =
     let e : r * (b / r) + b % r ≡ b = omega arith in
     le-div (b / r) (b - 1) r z (omega arith)
 
--- and one more, where the last tick is none of them
+-- and one more, where the last tick is not one of them
 pub fewer_multiples : (r a b : ℕ) → 0 < r → a < b → b % r ≢ 0 → b / r - a / r + 1 ≤ b - a
 fewer_multiples r a b z h n =
     let d : b / r ≤ (b - 1) / r = same_down r b z (omega arith) n in

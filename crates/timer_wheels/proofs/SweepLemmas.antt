@@ -1,4 +1,4 @@
--- The steps through a bucket.
+-- The loop that sweeps a bucket.
 use Rattle.std.proofs.Common.{◌≡◌, ◌≢◌, ◌<◌, ◌≤◌, ◌+◌, ◌-◌, ℕ, zero, suc, List, [], ◌∷◌, ◌++◌, length, refl, sym, ◌∙◌, ap, subst, inl, inr, arith, length-set, length-append, append_assoc, get_or-set_same, get_or-set_other}
 use Rattle.std.specs.Prelude.{map, IsSome, Option, Some, None, slice_set}
 use Rattle.std.proofs.lemmas.List.{set-get_or}
@@ -16,7 +16,7 @@ set_swapped (x ∷ xs) zero (suc j) a b n = refl
 set_swapped (x ∷ xs) (suc i) zero a b n = refl
 set_swapped (x ∷ xs) (suc i) (suc j) a b n = ap (λ (y : List (List (ℕ × Node))). x ∷ y) (set_swapped xs i j a b (λ (e : i ≡ j). n (ap (λ (k : ℕ). suc k) e)))
 
--- both lists are written anew
+-- both lists are replaced
 rewritten : (v : List (List (ℕ × Node))) (i j : ℕ) (a b c : List (ℕ × Node)) → i ≢ j → slice_set (slice_set (slice_set v i a) j b) i c ≡ slice_set (slice_set v i c) j b
 rewritten v i j a b c n =
     set_swapped (slice_set v i a) j i b c (λ (e : j ≡ i). n (sym e))
@@ -78,7 +78,7 @@ module _ (l due : ℕ) (old : List (List (ℕ × Node))) (n : l ≢ due) (lb : l
       rewritten old l due (due_later past ++ r ∷ rest) (list_at due old ++ due_now past) (due_later past ++ (r.0, record r.1 { rounds = r.1.rounds - 1 }) ∷ rest) n
       ∙ rw (now-later past r z, later-append past r z, append_assoc (due_later past) ((r.0, record r.1 { rounds = r.1.rounds - 1 }) ∷ []) rest) refl
 
--- so many rows of the list were gone through, and the key is that of the next one
+-- some rows of the list were swept, and the key is that of the next one
 pub record IsSweeping (l due step : ℕ) (old lists : List (List (ℕ × Node))) (at : Option ℕ) : Type 0 where
   pub past : List (ℕ × Node)
   pub left : List (ℕ × Node)
@@ -97,7 +97,7 @@ begun l due old at e = record {
   steps = refl;
 }
 
--- the row that comes next
+-- the next row
 pub record IsNext (l due step : ℕ) (old lists : List (List (ℕ × Node))) (key : ℕ) : Type 0 where
   pub past : List (ℕ × Node)
   pub node : Node
@@ -116,7 +116,7 @@ next_of l due step old lists key past (x ∷ xs) r i e c =
 pub next_row : (l due step : ℕ) (old lists : List (List (ℕ × Node))) (at : Option ℕ) (key : ℕ) → IsSweeping l due step old lists at → at ≡ Some key → IsNext l due step old lists key
 next_row l due step old lists at key s e = next_of l due step old lists key s.past s.left s.rows s.is (sym e ∙ s.next) s.steps
 
--- what the end of the walk tells
+-- the end of the walk
 pub record IsSwept (l due : ℕ) (old lists : List (List (ℕ × Node))) : Type 0 where
   pub is : lists ≡ swept l due old
 
@@ -190,7 +190,7 @@ module _ (l due step : ℕ) (old lists : List (List (ℕ × Node))) (n : l ≢ d
     steps = more;
   }
 
-  -- one timer was passed by or became due
+  -- one timer lost a round or became due
   pub passed : (new : List (List (ℕ × Node))) (at : Option ℕ) → AreApart lists
       → ((node : Node) → node_at key lists ≡ Some node → node.rounds ≡ 0 → new ≡ moved_back key due node lists)
       → ((node : Node) → node_at key lists ≡ Some node → node.rounds ≢ 0 → SetsRounds key (node.rounds - 1) lists new)

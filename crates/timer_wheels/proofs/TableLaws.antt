@@ -1,4 +1,4 @@
--- What both tables have in common, and all that a proof about a hierarchy of wheels asks of its table.
+-- What both tables have in common: all that a proof about a hierarchy of wheels requires of its table.
 use Rattle.std.proofs.Common.{◌≡◌, ◌<◌, ◌≤◌, ℕ, List, length, refl, ◌∙◌, ap, arith}
 use Rattle.timer_base.specs.declared.limits.TheConstants.{LAST}
 use Rattle.timer_wheels.specs.declared.table.Table.{Table}

@@ -1,4 +1,4 @@
--- What one tick does to a hierarchical wheel.
+-- A hierarchical wheel after one tick.
 use Rattle.std.proofs.Common.{◌≡◌, ◌≢◌, ◌<◌, ◌≤◌, ◌+◌, ℕ, suc, ◌==◌, ◌⊎◌, List, [], ◌∷◌, ◌++◌, length, refl, sym, ◌∙◌, ap, subst, inl, inr, arith, length-set, get_or-set_same, get_or-set_other}
 use Rattle.std.specs.Prelude.{Bool, true, false, filter, not, if◌then◌else◌, slice_set}
 use Rattle.std.specs.List.{AllByRecursion}
@@ -22,7 +22,7 @@ use Rattle.std.proofs.lemmas.List.Elements.{filter-append}
 use Rattle.timer_wheels.proofs.WheelLemmas.{filter-pending_in, AreRising-part}
 use Rattle.timer_wheels.proofs.MigrationLemmas.{target_due, target_left, spread-length, to_list, list_at-spread, Distinct, distinct-filter, in_order-pulled, distinct-pulled, GoesDown, IsSpread, spread_keeps}
 
--- what holds of a hierarchical wheel before a tick
+-- the invariant of a hierarchical wheel before a tick
 pub record IsBefore (table : List ℕ) (last_tick a last_serial : ℕ) (lists : List (List (ℕ × Node))) : Type 0 where
   pub is_table : IsTable table
   pub digits : HasDigits table last_tick
@@ -34,7 +34,7 @@ pub record IsBefore (table : List ℕ) (last_tick a last_serial : ℕ) (lists : 
   pub in_order : AreInOrder (slots table + 1) lists
   pub none_due : list_at (slots table) lists ≡ []
 
--- what is known of each row of a bucket before the tick
+-- the invariant of each row of a bucket before the tick
 record Stands (table : List ℕ) (last_tick a last_serial s : ℕ) (row : ℕ × Node) : Type 0 where
   placed : IsPlaced table a s row
   pending : IsPending last_tick a last_serial (timer_in row)
@@ -44,7 +44,7 @@ all-both : (P Q R : ℕ × Node → Type 0) (xs : List (ℕ × Node)) → ((x : 
 all-both P Q R [] f a b = tt
 all-both P Q R (x ∷ xs) f a b = (f x a.0 b.0, all-both P Q R xs f a.1 b.1)
 
--- a list in which nothing can stand is empty
+-- a list that can have no row is empty
 none_stands : (P : ℕ × Node → Type 0) (xs : List (ℕ × Node)) → AllByRecursion P xs → ((x : ℕ × Node) → P x → ⊥) → xs ≡ []
 none_stands P [] a f = refl
 none_stands P (x ∷ xs) a f = absurd (f x a.0)
@@ -63,7 +63,7 @@ is_due tick t h = eq-eqb t.deadline tick h
 is_left : (tick : ℕ) (t : Timer) → t.deadline ≢ tick → is_due_at tick t ≡ false
 is_left tick t h = ne_eqb t.deadline tick h
 
--- a row of the list that is emptied: it is due, or goes below the wheels that have timers
+-- a row of the list that is emptied: it is due, or moves below the wheels that have timers
 abbrev IsGoing : List ℕ → ℕ → ℕ → ℕ × Node → Type 0
 IsGoing table a m row = ((timer_in row).deadline ≡ a + 1) ⊎ (((timer_in row).deadline ≢ a + 1) × ((level table (a + 1) (timer_in row).deadline < level table a (timer_in row).deadline) × (bucket table (a + 1) (timer_in row).deadline < m)))
 
@@ -86,7 +86,7 @@ staying table last_tick a last_serial s row n h = elim h.passed.is [
   | inr y ↦ (y.1.0, (y.1.1.0, y.1.1.1 ∙ h.placed.0))
 ]
 
--- where a row that goes can't be
+-- where a row that moves can't go
 not_above : (table : List ℕ) (a m s : ℕ) (row : ℕ × Node) → IsGoing table a m row → m ≤ s → s < slots table → (target table (a + 1) row == s) ≡ false
 not_above table a m s row (inl e) h b = rw (target_due table (a + 1) row (is_due (a + 1) (timer_in row) e)) (ne_eqb (slots table) s (λ (x : slots table ≡ s). omega arith))
 not_above table a m s row (inr y) h b =
@@ -97,7 +97,7 @@ none_to : (table : List ℕ) (a m s : ℕ) (rows : List (ℕ × Node)) → AllBy
 none_to table a m s [] g h b = refl
 none_to table a m s (x ∷ xs) g h b = rw (not_above table a m s x g.0 h b) (none_to table a m s xs g.1 h b)
 
--- the due rows are those that go to the last list
+-- the due rows are those that move to the last list
 last_test : (table : List ℕ) (a m : ℕ) (row : ℕ × Node) → IsGoing table a m row → m ≤ slots table → (target table (a + 1) row == slots table) ≡ is_due_at (a + 1) (timer_in row)
 last_test table a m row (inl e) h = rw (target_due table (a + 1) row (is_due (a + 1) (timer_in row) e)) (eq-eqb (slots table) (slots table) refl ∙ sym (is_due (a + 1) (timer_in row) e))
 last_test table a m row (inr y) h =
@@ -247,7 +247,7 @@ module _ (table : List ℕ) (last_tick a last_serial : ℕ) (lists : List (List 
   list_at-after : (s : ℕ) → s < slots table + 1 → list_at s after ≡ list_at s base ++ to_list table (a + 1) s rows_l
   list_at-after s h = list_at-spread table (a + 1) s rows_l base (let k : length base ≡ slots table + 1 = base-length in omega arith)
 
-  -- a list below the wheel that is emptied has only what goes there
+  -- a list below the wheel that is emptied has only what moves there
   below : (s : ℕ) → s < m → list_at s after ≡ to_list table (a + 1) s rows_l
   below s h =
       let k : l < slots table = l_in_range in
@@ -256,7 +256,7 @@ module _ (table : List ℕ) (last_tick a last_serial : ℕ) (lists : List (List 
       let z : list_at s lists ≡ [] = none_stands (Stands table last_tick a last_serial s) (list_at s lists) (stands s (omega arith)) (λ row w. let x : m ≤ bucket table a (timer_in row).deadline = w.passed.not_below in let y : bucket table a (timer_in row).deadline ≡ s = w.placed.0 in omega arith) in
       list_at-after s (omega arith) ∙ ap (λ (r : List (ℕ × Node)). r ++ to_list table (a + 1) s rows_l) (list_at-base s n ∙ z)
 
-  -- every other list has what it had, and the emptied one nothing
+  -- every other list is unchanged, and the emptied one is empty
   above : (s : ℕ) → m ≤ s → s < slots table → list_at s after ≡ list_at s base
   above s h k = list_at-after s (omega arith) ∙ (ap (λ (r : List (ℕ × Node)). list_at s base ++ r) (none_to table a m s rows_l all_going h k) ∙ append-nil (list_at s base))
 
@@ -333,7 +333,7 @@ module _ (table : List ℕ) (last_tick a last_serial : ℕ) (lists : List (List 
   pub after-pending : ArePending last_tick (a + 1) last_serial (rows_below (slots table) after)
   after-pending = all-rows_below (λ row. IsPending last_tick (a + 1) last_serial (timer_in row)) (slots table) after (λ s h. All-weaken (Fits s) (λ row. IsPending last_tick (a + 1) last_serial (timer_in row)) (list_at s after) (λ row f. f.1) (after_fits s h))
 
-  -- What is pending, and what is due.
+  -- The pending timers, and the due ones.
 
   around_l : IsAround (slots table) l lists
   around_l = around (slots table) l lists l_in_range (let h : length lists ≡ slots table + 1 = b.has_lists in let k : l < slots table = l_in_range in omega arith)
@@ -438,7 +438,7 @@ module _ (table : List ℕ) (last_tick a last_serial : ℕ) (lists : List (List 
       let q : hops_of table a 1 (pending_in (rows_below (slots table) lists)) ≡ row_hops table a (rows_below (slots table) lists) = hops_of-in_order table a 1 (entries_of (rows_below (slots table) lists)) in
       only_middle (row_hops table a around_l.front) (row_hops table a rows_l) (row_hops table a around_l.rest) (hops_of table a 1 (pending_in (rows_below (slots table) lists))) (length (left_rows (a + 1) rows_l)) f r g (q ∙ p)
 
-  -- What the emptying asks for.
+  -- The preconditions of the emptying.
 
   may_migrate : last_tick ≤ last_of table → (row : ℕ × Node) → Stands table last_tick a last_serial l row → MayMigrate table (a + 1) l row
   may_migrate range row h = record {
@@ -496,7 +496,7 @@ all_fall table last_tick a last_serial rows i h p =
     All-in_order timer_of (FallsAt table a) (entries_of rows) (all-entries (FallsAt table a) rows
     (All-weaken (λ row. IsPending last_tick a last_serial (timer_in row)) (λ row. FallsAt table a (entry_of row)) rows (λ row q. falls_at table last_tick a last_serial row i h q) p))
 
--- What a tick makes of a hierarchical wheel with n buckets.
+-- A hierarchical wheel with n buckets after a tick.
 
 abbrev state : ℕ → ℕ → ℕ → List Entry → List Timer → WheelState
 state last_tick tick last_serial pending due = record { last_tick = last_tick; now = tick; pending = pending; due = due; last_serial = last_serial }

@@ -1,4 +1,4 @@
--- When the owner of a wheel of buckets has to look again.
+-- When the owner of a wheel of buckets has to wake up.
 use Rattle.std.proofs.Common.{◌≡◌, ◌⊎◌, ◌<◌, ◌≤◌, ◌+◌, ◌-◌, ◌%◌, ℕ, List, [], ◌∷◌, length, refl, sym, ◌∙◌, ap, subst, inl, inr, arith}
 use Rattle.std.specs.Prelude.{true, false}
 use Rattle.std.specs.List.{AllByRecursion}
@@ -62,7 +62,7 @@ pub first_some : (rows : List (ℕ × Node)) → is_some (first_key rows) ≡ tr
 first_some [] e = absurd (cc)
 first_some (r ∷ rs) e = omega arith
 
--- the slots up to so many steps ahead have no timer
+-- the slots up to some steps ahead have no timer
 abbrev pub AreEmptyAhead : ℕ → ℕ → ℕ → List (List (ℕ × Node)) → Type 0
 AreEmptyAhead n slot step lists = (j : ℕ) → 0 < j → j ≤ step → list_at ((slot + j) % n) lists ≡ []
 

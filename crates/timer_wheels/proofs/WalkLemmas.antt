@@ -1,4 +1,4 @@
--- The steps along one list.
+-- The walk along one list.
 use Rattle.std.proofs.Common.{◌≡◌, ◌≢◌, ◌<◌, ◌≤◌, ◌+◌, ℕ, zero, suc, List, [], ◌∷◌, ◌++◌, length, refl, sym, ◌∙◌, ap, inl, inr, arith, append_assoc, length-append, length-set, get_or-set_same, get_or-set_other}
 use Rattle.std.specs.Prelude.{true, IsSome, Option, Some, None, slice_set}
 use Rattle.std.specs.Option.{is_some}
@@ -10,7 +10,7 @@ use Rattle.timer_links.specs.Lists.{node_at, first_key, list_at, row_count, AreA
 use Rattle.timer_wheels.specs.WheelLists.{timers_in}
 use Rattle.timer_wheels.proofs.RowLemmas.{append-nil, timers-append}
 
--- after so many steps these rows of the list are past and those are left, and the key is that of the next one
+-- after some steps these rows of the list are behind, those are left, and the key is that of the next one
 pub record IsWalking (l step : ℕ) (lists : List (List (ℕ × Node))) (at : Option ℕ) (past : List (ℕ × Node)) : Type 0 where
   pub left : List (ℕ × Node)
   pub rows : list_at l lists ≡ past ++ left
@@ -37,7 +37,7 @@ length-list_at (x ∷ xs) (suc l) = let h : length (list_at l xs) ≤ row_count 
 pub begun : (l : ℕ) (lists : List (List (ℕ × Node))) (at : Option ℕ) → at ≡ first_key (list_at l lists) → IsWalking l 0 lists at []
 begun l lists at e = record { left = list_at l lists; rows = refl; next = e; count = refl }
 
--- the row that comes next, where there is one
+-- the next row, where there is one
 pub record IsNextRow (l step : ℕ) (lists : List (List (ℕ × Node))) (key : ℕ) (past : List (ℕ × Node)) : Type 0 where
   pub node : Node
   pub rest : List (ℕ × Node)
@@ -68,7 +68,7 @@ all_past l lists past left r e = r ∙ (ap (λ (y : List (ℕ × Node)). past ++
 pub ended_none : (l step : ℕ) (lists : List (List (ℕ × Node))) (at : Option ℕ) (past : List (ℕ × Node)) → IsWalking l step lists at past → at ≡ None → list_at l lists ≡ past
 ended_none l step lists at past w e = all_past l lists past w.left w.rows (none_left w.left (sym e ∙ w.next))
 
--- and where it took as many steps as there are rows
+-- and after as many steps as there are rows
 pub ended_count : (l step : ℕ) (lists : List (List (ℕ × Node))) (at : Option ℕ) (past : List (ℕ × Node)) → IsWalking l step lists at past → row_count lists ≤ step → list_at l lists ≡ past
 ended_count l step lists at past w h =
     let a : length (list_at l lists) ≤ row_count lists = length-list_at lists l in
@@ -91,7 +91,7 @@ module _ (l step : ℕ) (lists : List (List (ℕ × Node))) (b : l < length list
     count = (let c : length past ≡ step = w.count in let d : length (past ++ (key, w.node) ∷ []) ≡ length past + 1 = length-append past ((key, w.node) ∷ []) in omega arith);
   }
 
--- so many rows are counted
+-- the rows so far are counted
 pub record IsCounting (l step : ℕ) (lists : List (List (ℕ × Node))) (at : Option ℕ) : Type 0 where
   pub past : List (ℕ × Node)
   pub walk : IsWalking l step lists at past
@@ -113,7 +113,7 @@ counted-all l step lists at c e = sym c.walk.count ∙ ap (λ (y : List (ℕ × 
 pub counted-enough : (l step : ℕ) (lists : List (List (ℕ × Node))) (at : Option ℕ) → IsCounting l step lists at → row_count lists ≤ step → step ≡ length (list_at l lists)
 counted-enough l step lists at c h = sym c.walk.count ∙ ap (λ (y : List (ℕ × Node)). length y) (sym (ended_count l step lists at c.past c.walk h))
 
--- what is copied so far
+-- the rows copied so far
 pub record IsCopying (l step : ℕ) (lists : List (List (ℕ × Node))) (at : Option ℕ) (old new : List Timer) : Type 0 where
   pub past : List (ℕ × Node)
   pub walk : IsWalking l step lists at past
@@ -138,7 +138,7 @@ copied-all l step lists at old new c e = c.timers ∙ ap (λ (y : List (ℕ × N
 
 -- One list is emptied.
 
--- after so many steps these rows of the list are left
+-- after some steps these rows of the list are left
 pub record IsEmptying (l step : ℕ) (old new : List (List (ℕ × Node))) : Type 0 where
   pub left : List (ℕ × Node)
   pub is : new ≡ slice_set old l left
@@ -178,7 +178,7 @@ emptied-count l step old new s h =
 pub length-emptying : (l step : ℕ) (old new : List (List (ℕ × Node))) → IsEmptying l step old new → length new ≡ length old
 length-emptying l step old new s = ap (λ (y : List (List (ℕ × Node))). length y) s.is ∙ length-set old l s.left
 
--- so many lists are empty, and the others are as they were
+-- the lists so far are empty, and the others are unchanged
 pub record AreEmptied (count : ℕ) (old new : List (List (ℕ × Node))) : Type 0 where
   pub same_length : length new ≡ length old
   pub emptied : (s : ℕ) → s < count → list_at s new ≡ []

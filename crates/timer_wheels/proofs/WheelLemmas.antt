@@ -1,4 +1,4 @@
--- What each call makes of the lists of a wheel, and so of what the wheel means.
+-- The lists of a wheel after each call, and so the state of the wheel.
 use Rattle.std.proofs.Common.{◌≡◌, ◌≢◌, ◌<◌, ◌≤◌, ◌+◌, ◌⊎◌, ℕ, zero, suc, ◌==◌, List, [], ◌∷◌, ◌++◌, length, refl, sym, ◌∙◌, ap, subst, inl, inr, arith, append_assoc, length-append, get_or-set_same, get_or-set_other}
 use Rattle.std.specs.Prelude.{Bool, true, false, map, filter, not, slice_set, slice_get, replicate, Option, Some, None}
 use Rattle.std.specs.List.{AllByRecursion}
@@ -15,7 +15,7 @@ use Rattle.timer_wheels.specs.WheelLaws.{timers_of-entries}
 use Rattle.timer_wheels.specs.WheelLists.{timer_in, timers_in, entry_of, entries_of, rows_below, pending_in, wheel_state, ArePending, ArePast, AreInOrder, EachRow}
 use Rattle.timer_wheels.proofs.RowLemmas.{all-append, all-front, all-rest, all-rows_below, rows_below-above, rows_below-none, IsInserted, rows_below-with_row, rows_below-without_key, list_at-without_key, timers-append, entries-append, filter-entries, AreBelow-timers, IsNotAmong-front, IsNotAmong-below, AreDistinct-inserted, AreDistinct-taken, IsNotAmong-others}
 
--- A row is put in.
+-- A row is inserted.
 
 module _ (row : ℕ × Node) (old new : List (ℕ × Node)) (i : IsInserted row old new) where
   entries_old : entries_of old ≡ entries_of i.front ++ entries_of i.rest
@@ -64,7 +64,7 @@ module _ (row : ℕ × Node) (old new : List (ℕ × Node)) (i : IsInserted row 
   pub others-inserted : AreDistinct (timers_in new) → IsNotAmong (timer_in row).serial (timers_in old)
   others-inserted d = subst (IsNotAmong (timer_in row).serial) (sym timers_old) (IsNotAmong-others (timer_in row) (timers_in i.front) (timers_in i.rest) (subst AreDistinct timers_new d))
 
--- A row goes from where it stands to another place among the rows: what is pending stays, in order.
+-- A row moves to another position among the rows: the pending timers, in order, stay the same.
 
 module _ (row : ℕ × Node) (base old new : List (ℕ × Node)) (o : IsInserted row base old) (i : IsInserted row base new) where
   pub pending_in-moved : AreDistinct (timers_in old) → pending_in new ≡ pending_in old
@@ -80,7 +80,7 @@ module _ (row : ℕ × Node) (base old new : List (ℕ × Node)) (o : IsInserted
 
 -- A part of the rows.
 
--- the pending timers that pass a test are those of the rows that pass it
+-- the pending timers that satisfy a test are those of the rows that satisfy it
 pub filter-pending_in : (p : Entry → Bool) (rows : List (ℕ × Node)) → filter p (pending_in rows) ≡ pending_in (filter (λ r. p (entry_of r)) rows)
 filter-pending_in p rows = filter-in_order timer_of p (entries_of rows) ∙ ap (in_order timer_of) (filter-entries p rows)
 
@@ -134,7 +134,7 @@ module _ (n last_tick now last bucket place : ℕ) (node : Node) (lists : List (
   pub started-distinct : AreDistinct (timers_in (rows_below n lists)) → AreDistinct (timers_in (rows_below n (with_row bucket (place, node) lists)))
   started-distinct d = distinct-inserted (place, node) (rows_below n lists) (rows_below n (with_row bucket (place, node) lists)) inserted (IsNotAmong-below node.timer.serial (timers_in (rows_below n lists)) older) d
 
--- A newest row goes to the back of one list: each list stays in order.
+-- A newest row is pushed to the back of one list: each list stays in order.
 pub in_order-with_row : (m l : ℕ) (row : ℕ × Node) (lists : List (List (ℕ × Node))) → l < length lists → 0 < (timer_in row).serial → AreBelow (timer_in row).serial (timers_in (list_at l lists)) → AreInOrder m lists → AreInOrder m (with_row l row lists)
 in_order-with_row m l row lists b z older o s h = elim (cases_eq s l) [
   | inl e ↦ rw (e, get_or-set_same lists l (list_at l lists ++ row ∷ []) [] b, timers-append (list_at l lists) (row ∷ []))
@@ -142,7 +142,7 @@ in_order-with_row m l row lists b z older o s h = elim (cases_eq s l) [
   | inr x ↦ rw (get_or-set_other lists l s (list_at l lists ++ row ∷ []) [] x) (o s h)
 ]
 
--- What a wheel's own rule says of each row.
+-- A wheel's own invariant, for each row.
 
 pub each-with_row : (fact : ℕ → ℕ × Node → Type 0) (n l : ℕ) (row : ℕ × Node) (lists : List (List (ℕ × Node))) → l < length lists → fact l row → EachRow fact n lists → EachRow fact n (with_row l row lists)
 each-with_row fact n l row lists b f a s h = elim (cases_eq s l) [
@@ -168,7 +168,7 @@ pub no_rows : (rows : List (ℕ × Node)) → timers_in rows ≡ [] → rows ≡
 no_rows [] e = refl
 no_rows (x ∷ xs) e = absurd (cc)
 
--- The rows behind the buckets.
+-- The rows after those of the buckets.
 
 -- the lists of a wheel are its buckets and one more
 pub row_count-parts : (n : ℕ) (lists : List (List (ℕ × Node))) → length lists ≡ n + 1 → row_count lists ≡ length (rows_below n lists) + length (list_at n lists)
@@ -316,7 +316,7 @@ some_is a b e = cc
 some_none : (a : Node) → Some a ≡ None → ⊥
 some_none a e = cc
 
--- what the look finds is not what the handle names, or it is due
+-- the node that the look finds is not the timer that the handle names, or it is due
 abbrev pub IsOther : ℕ → Handle → Option Node → Type 0
 IsOther now handle None = Unit {0}
 IsOther now handle (Some node) = (node.timer.serial ≢ handle.serial) ⊎ (node.timer.deadline ≤ now)
@@ -436,7 +436,7 @@ list_at-replicate zero s = refl
 list_at-replicate (suc k) zero = refl
 list_at-replicate (suc k) (suc s) = list_at-replicate k s
 
--- What a stop finds.
+-- The node that a stop finds.
 
 -- the node under the key has this timer
 pub record HasTimer (now key : ℕ) (t : Timer) (lists : List (List (ℕ × Node))) : Type 0 where
@@ -483,7 +483,7 @@ module _ (now n : ℕ) (handle : Handle) (lists : List (List (ℕ × Node))) (le
       ∙ (stopped n last_tick now last handle.place f.node lists len p apart f.later f.at d
       ∙ ap (λ (o : Option Timer). record w { pending = without_found o w.pending }) (ap (λ (u : Timer). Some u) f.timer ∙ sym h))
 
--- What is due stays past.
+-- What is due stays due.
 
 pub past-with_row : (now n bucket : ℕ) (row : ℕ × Node) (lists : List (List (ℕ × Node))) → bucket < n → ArePast now (list_at n lists) → ArePast now (list_at n (with_row bucket row lists))
 past-with_row now n bucket row lists h a =

@@ -1,4 +1,4 @@
--- The table of ten 64s, by shifts and by the place of a bit.
+-- The table of ten 64s, by shifts and bit positions.
 use Rattle.std.specs.Prelude.{◌↔◌}
 use Rattle.std.proofs.Common.{◌≡◌, ◌≢◌, ◌<◌, ◌≤◌, ◌+◌, ◌-◌, ◌*◌, ◌/◌, ◌%◌, ◌^◌, ℕ, zero, suc, List, [], ◌∷◌, length, refl, sym, ◌∙◌, ap, inl, inr, arith}
 use Rattle.std.proofs.lemmas.Bool.{cases_eq, cases_lt}
@@ -11,7 +11,7 @@ use Rattle.std.specs.Int.Count.{count_leading_zeros}
 use Rattle.timer_wheels.specs.Digits.{wide, IsTable, HasDigits, digit, level, lowest, slots_below, slots, slot, bucket}
 use Rattle.timer_wheels.specs.DigitLaws.{level_near, level_far, lowest_here, lowest_above, level_in_table, lowest-bound}
 
--- so many digits in base 64
+-- a table of n digits in base 64
 abbrev pub wides : ℕ → List ℕ
 wides zero = []
 wides (suc n) = 64 ∷ wides n
@@ -120,7 +120,7 @@ has_top a b h r =
     let t = leading_top 64 (bit_xor a b) (omega arith) (omega arith) in
     record { top = t.0; zeros = t.1; low = t.2; high = t.3 }
 
--- what `leading_zeros` tells
+-- the result of `leading_zeros`
 pub level_by_top : (a b : ℕ) → a < b → b ≤ 1152921504606846975 → level wide a b ≡ (63 - count_leading_zeros 64 (bit_xor a b)) / 6
 level_by_top a b h r =
     let t = has_top a b h r in
@@ -217,7 +217,7 @@ lowest_by_bit (suc n) t j h z e = elim (cases_lt j 6) [
       lowest_above 64 (wides n) t s.low ∙ omega arith
 ]
 
--- what `trailing_zeros` tells
+-- the result of `trailing_zeros`
 pub lowest_by_zeros : (t : ℕ) → 0 < t → t ≤ 1152921504606846975 → lowest wide t ≡ trailing_zeros w64 t / 6
 lowest_by_zeros t h r =
     let b = bit_at-trailing_zeros w64 t h (omega arith) in

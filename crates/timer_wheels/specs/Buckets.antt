@@ -1,4 +1,4 @@
--- What the buckets of a wheel, its clock and its last serial mean together.
+-- The wheel state of the buckets, the clock and the last serial together.
 use Rattle.std.specs.Prelude.{◌≡◌}
 use Rattle.timer_base.specs.WheelState.{WheelState, IsWellFormed}
 use Rattle.timer_wheels.specs.declared.buckets.Buckets.{Buckets}
@@ -9,12 +9,12 @@ use Rattle.timer_wheels.specs.WheelLaws.{wheel_state-well_formed}
 abbrev pub state_of : Buckets → WheelState
 state_of buckets = wheel_state buckets.slots buckets.last_tick buckets.tick buckets.last_serial buckets.links
 
--- the clock and the number of buckets are as they were
+-- the clock and the number of buckets are unchanged
 pub record IsSameFrame (old new : Buckets) : Type 0 where
   pub last_tick : new.last_tick ≡ old.last_tick
   pub tick : new.tick ≡ old.tick
   pub slots : new.slots ≡ old.slots
 
--- the invariant of the buckets is what every wheel keeps
+-- the invariant of the buckets implies that of every wheel
 pub state_of-well_formed : (buckets : Buckets) → IsWellFormed (state_of buckets)
 state_of-well_formed buckets = wheel_state-well_formed buckets.slots buckets.last_tick buckets.tick buckets.last_serial buckets.links buckets.last_in_range buckets.tick_in_range buckets.serial_in_range buckets.pending buckets.distinct buckets.in_order

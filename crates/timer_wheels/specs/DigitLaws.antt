@@ -21,7 +21,7 @@ same_parts r x y q z e f h =
     let d : r * (y / r) ≡ r * q = ap (λ (v : ℕ). r * v) f in
     omega arith
 
--- what comes next, from the quotient and the rest
+-- the next number, from the quotient and the remainder
 next_parts : (r q m a : ℕ) → m < r → a ≡ q * r + m → (((a + 1) % r ≢ 0) × ((a + 1) / r ≡ q)) ⊎ (((a + 1) % r ≡ 0) × ((a + 1) / r ≡ q + 1))
 next_parts r q m a h e = elim (cases_lt (m + 1) r) [
   | inl l ↦
@@ -85,7 +85,7 @@ pub digits_down : (table : List ℕ) (a d : ℕ) → IsTable table → a ≤ d �
 digits_down [] a d t h hd = let e : d ≡ 0 = hd in omega arith
 digits_down (r ∷ rs) a d t h hd = digits_down rs (a / r) (d / r) t.1 (quotient_mono r a d t.0 h) hd
 
--- What one tick does to a pending timer: a is the tick before, d the deadline.
+-- A pending timer at one tick: a is the tick before, d the deadline.
 
 abbrev pub IsIn : List ℕ → ℕ → ℕ → ℕ → Type 0
 IsIn table k a d = (level table a d ≡ k) × (digit table k d ≡ digit table k (a + 1))
@@ -93,7 +93,7 @@ IsIn table k a d = (level table a d ≡ k) × (digit table k d ≡ digit table k
 pub record IsTicked (table : List ℕ) (a d : ℕ) : Type 0 where
   -- the wheels below the lowest digit that is not zero are empty
   pub not_below : lowest table (a + 1) ≤ level table a d
-  -- in the bucket that is emptied a timer is due or goes to a lower wheel, and every other one stays
+  -- in the bucket that is emptied a timer is due or moves to a lower wheel, and every other timer stays
   pub is : ((level table a d ≡ lowest table (a + 1)) × ((digit table (lowest table (a + 1)) d ≡ digit table (lowest table (a + 1)) (a + 1)) × ((d ≡ a + 1) ⊎ (level table (a + 1) d < lowest table (a + 1)))))
       ⊎ (((level table a d ≢ lowest table (a + 1)) ⊎ (digit table (lowest table (a + 1)) d ≢ digit table (lowest table (a + 1)) (a + 1))) × (level table (a + 1) d ≡ level table a d))
 
@@ -245,7 +245,7 @@ slots_below-mono (r ∷ rs) zero j h = omega arith
 slots_below-mono (r ∷ rs) (suc k) zero h = absurd (omega arith)
 slots_below-mono (r ∷ rs) (suc k) (suc j) h = let x : slots_below k rs ≤ slots_below j rs = slots_below-mono rs k j (omega arith) in omega arith
 
--- the number of a slot tells its wheel and its digit
+-- the number of a slot determines its wheel and its digit
 pub same_slot : (table : List ℕ) (j k x y : ℕ) → IsTable table → j < length table → k < length table → slot table j (digit table j x) ≡ slot table k (digit table k y) → (j ≡ k) × (digit table j x ≡ digit table k y)
 same_slot table j k x y i a b e = elim (cases_eq j k) [
   | inl f ↦ (f, let g : slots_below j table ≡ slots_below k table = ap (λ (v : ℕ). slots_below v table) f in omega arith)
@@ -276,9 +276,9 @@ emptied_in_range table t i h n =
     let x : lowest table t < length table = lowest-bound table t i h n in
     slot_below table (lowest table t) (length table) t i x x
 
--- What one tick does to the bucket of a pending timer.
+-- The bucket of a pending timer at one tick.
 
--- it is in the bucket that is emptied, and is due or goes to a lower wheel
+-- it is in the bucket that is emptied, and is due or moves to a lower wheel
 abbrev pub IsTaken : List ℕ → ℕ → ℕ → Type 0
 IsTaken table a d = (bucket table a d ≡ emptied table (a + 1)) × ((d ≡ a + 1) ⊎ ((level table (a + 1) d < level table a d) × (bucket table (a + 1) d < slots_below (lowest table (a + 1)) table)))
 

@@ -83,7 +83,7 @@ bucket table now deadline = slot table (level table now deadline) (digit table (
 abbrev pub emptied : List ℕ → ℕ → ℕ
 emptied table tick = slot table (lowest table tick) (digit table (lowest table tick) tick)
 
--- how many of so many ticks after a move a timer with this deadline to a lower wheel
+-- how many of the next ticks after a move a timer with this deadline to a lower wheel
 abbrev pub hops : List ℕ → ℕ → ℕ → ℕ → ℕ
 hops table a zero deadline = 0
 hops table a (suc n) deadline = (if nat_lt (a + 1) deadline && not (level table a deadline == level table (a + 1) deadline) then 1 else 0) + hops table (a + 1) n deadline

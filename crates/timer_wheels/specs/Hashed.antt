@@ -1,4 +1,4 @@
--- What a hashed wheel shows, and what it keeps true of its rows.
+-- What a hashed wheel shows, and the invariant of its rows.
 use Rattle.std.specs.Prelude.{◌≡◌, ℕ, ◌-◌, ◌/◌, ◌%◌, List}
 use Rattle.std.specs.Coded.{×_prop}
 use Rattle.std.proofs.Props.{props}
@@ -12,7 +12,7 @@ use Rattle.timer_wheels.specs.Shown.{ShowsBuckets}
 abbrev pub slot_of : ℕ → Timer → ℕ
 slot_of n t = t.deadline % n
 
--- how often the clock still passes the slot of a pending timer before it is due
+-- how many more times the clock passes the slot of a pending timer before the timer is due
 abbrev pub rounds_of : ℕ → ℕ → Timer → ℕ
 rounds_of n now t = (t.deadline - now - 1) / n
 

@@ -1,4 +1,4 @@
--- What the public clauses of a hashed wheel name.
+-- The names in the public clauses of a hashed wheel.
 use Rattle.std.specs.Prelude.{ℕ}
 use Rattle.timer_wheels.specs.declared.hashed.HashedWheel.{HashedWheel}
 

@@ -1,4 +1,4 @@
--- What holds of the buckets of a hierarchy of wheels, and of the bits that tell which have timers.
+-- The invariant of the buckets of a hierarchy of wheels, and of the bits that mark which have timers.
 use Rattle.std.specs.Prelude.{◌≡◌, ℕ, List}
 use Rattle.timer_wheels.specs.declared.buckets.Buckets.{Buckets}
 use Rattle.timer_wheels.specs.declared.table.Table.{Table}
@@ -13,5 +13,5 @@ pub record IsHier (table : Table) (b : Buckets) (words : List ℕ) : Type 0 wher
   pub clock : b.last_tick ≡ last_of (radices table)
   -- each timer stands in its bucket
   pub placed : EachRow (IsPlaced (radices table) b.tick) b.slots b.links
-  -- and the bits tell which buckets have timers
+  -- the bits mark which buckets have timers
   pub told : Tells b.slots words b.links

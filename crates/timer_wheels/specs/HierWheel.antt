@@ -1,11 +1,11 @@
--- What the public clauses of a hierarchical wheel name.
+-- The names in the public clauses of a hierarchical wheel.
 use Rattle.std.specs.Prelude.{ℕ}
 use Rattle.timer_base.specs.WheelState.{WheelState}
 use Rattle.timer_wheels.specs.Buckets.{state_of}
 use Rattle.timer_wheels.specs.declared.hier.HierWheel.{HierWheel}
 use Rattle.timer_wheels.specs.declared.table.Table.{Table}
 
--- what the wheel means
+-- the state of the wheel
 abbrev pub hier_state : HierWheel → WheelState
 hier_state wheel = state_of wheel.buckets
 
@@ -13,13 +13,13 @@ hier_state wheel = state_of wheel.buckets
 abbrev pub table_of : HierWheel → Table
 table_of wheel = wheel.table
 
--- what a wheel did since it was made
+-- the counts of a wheel since it was made
 pub record WheelCounts : Type 0 where
   -- timers that were started or restarted
   pub starts : ℕ
-  -- how often a timer was put into a lower wheel
+  -- how often a timer moved to a lower wheel
   pub moves : ℕ
-  -- buckets that were emptied, those among them that were known to be empty
+  -- buckets that were visited, counting those that were known to be empty
   pub visits : ℕ
 
 abbrev pub counts_of : HierWheel → WheelCounts

@@ -25,13 +25,13 @@ list_stop (r ∷ rs) l now = if nat_lt l r then r * (now / r) + l else r * list_
 abbrev pub AreNotBefore : List ℕ → ℕ → ℕ → ℕ → List (List (ℕ × Node)) → Type 0
 AreNotBefore table n now stop lists = EachRow (λ s row. stop ≤ timer_stop table now (timer_in row).deadline) n lists
 
--- some ticks were passed, with so many moves, and nothing was due before the last of them
+-- some ticks were passed, with their moves counted, and nothing was due before the last of them
 pub record Leaps (table : List ℕ) (moves : ℕ) (old new : WheelState) : Type 0 where
   pub passed : ℕ
   pub now_is : new.now ≡ old.now + passed
   pub ticked : new ≡ after_ticks passed old
   pub quiet : (n : ℕ) → n < passed → (after_ticks n old).due ≡ []
-  -- where nothing is due yet, what was pending still is
+  -- where nothing is due yet, the pending timers are the same
   pub kept : new.due ≡ [] → new.pending ≡ old.pending
   pub moves_are : moves ≡ hops_of table old.now passed old.pending
   pub pays : moves + levels_of table new.now new.pending ≤ levels_of table old.now old.pending

@@ -4,7 +4,7 @@ use Rattle.timer_base.specs.declared.limits.TheConstants.{LAST}
 use Rattle.timer_base.specs.declared.fault.MakeFault.{MakeFault}
 use Rattle.timer_base.specs.declared.fault.MakeFault.TheVariants.{Slots, FirstTick}
 
--- the fault that no memory would cure: the number of slots is tested before the first tick
+-- the error other than out of memory: the number of slots is tested before the first tick
 abbrev pub fault_of : ℕ → ℕ → Option MakeFault
 fault_of slots first_tick =
     if slots == 0 || nat_lt 65536 slots then Some Slots

@@ -1,4 +1,4 @@
--- What the emptying of one bucket leaves: each row, from the front, at the back of the list that it goes to.
+-- The lists after one bucket is emptied: each row, from the front, moves to the back of its new list.
 use Rattle.std.specs.Prelude.{◌≡◌, ◌≢◌, ℕ, ◌≤◌, not, if◌then◌else◌, List, [], ◌∷◌, filter, slice_set, Option, Some, None}
 use Rattle.timer_base.specs.Pending.{is_due_at}
 use Rattle.timer_links.specs.declared.node.Node.{Node}
@@ -6,11 +6,11 @@ use Rattle.timer_links.specs.Lists.{list_at, with_row}
 use Rattle.timer_wheels.specs.Digits.{bucket, slots, last_of}
 use Rattle.timer_wheels.specs.WheelLists.{timer_in}
 
--- the list that a row goes to at this tick: that of the due timers at its deadline, and else its bucket
+-- the list that a row moves to at this tick: that of the due timers at its deadline, else its bucket
 abbrev pub target : List ℕ → ℕ → ℕ × Node → ℕ
 target table tick row = if is_due_at tick (timer_in row) then slots table else bucket table tick (timer_in row).deadline
 
--- the rows go, one after the other, to the back of their lists
+-- the rows move, one after another, to the back of their lists
 abbrev pub spread : List ℕ → ℕ → List (ℕ × Node) → List (List (ℕ × Node)) → List (List (ℕ × Node))
 spread table tick [] lists = lists
 spread table tick (row ∷ rows) lists = spread table tick rows (with_row (target table tick row) row lists)
@@ -36,7 +36,7 @@ abbrev pub first_deadline : List (ℕ × Node) → Option ℕ
 first_deadline [] = None
 first_deadline (row ∷ rows) = Some (timer_in row).deadline
 
--- a row of a list that is emptied at this tick: it goes to another list
+-- a row of a list that is emptied at this tick: it moves to another list
 pub record MayMigrate (table : List ℕ) (tick l : ℕ) (row : ℕ × Node) : Type 0 where
   pub elsewhere : target table tick row ≢ l
   pub not_past : tick ≤ (timer_in row).deadline

@@ -1,4 +1,4 @@
--- A bit for each bucket, which tells whether it has rows.
+-- A bit for each bucket, set where it has rows.
 use Rattle.std.specs.Prelude.{◌≡◌, ◌≢◌, ℕ, ◌<◌, ◌≤◌, ◌/◌, ◌%◌, List, [], ◌∷◌, Option, Some, None, slice_index_or}
 use Rattle.std.specs.Int.{bit_at}
 use Rattle.std.specs.Coded.{Π_prop, ×_prop}
@@ -26,11 +26,11 @@ abbrev pub filled : List (ℕ × Node) → ℕ
 filled [] = 0
 filled (row ∷ rows) = 1
 
--- no bit is set from this one on
+-- no bit is set from this number on
 abbrev pub IsClearFrom : ℕ → List ℕ → Type 0
 IsClearFrom n words = (s : ℕ) → n ≤ s → s < 640 → bit_of words s ≡ 0
 
--- each bit of the first n lists tells whether its list has rows, and no other is set
+-- each bit of the first n lists is set exactly where its list has rows, and no other is set
 abbrev pub Tells : ℕ → List ℕ → List (List (ℕ × Node)) → Type 0
 Tells n words lists = ((s : ℕ) → s < n → bit_of words s ≡ filled (list_at s lists)) × IsClearFrom n words
 

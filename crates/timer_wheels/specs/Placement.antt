@@ -23,7 +23,7 @@ IsPlaced table now s row = (bucket table now (timer_in row).deadline ≡ s) × (
 pub IsPlaced-prop : (table : List ℕ) (now s : ℕ) (row : ℕ × Node) → IsProp (IsPlaced table now s row)
 IsPlaced-prop table now s row = ×_prop (hlevel props) (hlevel props)
 
--- how many of the next so many ticks move these timers, all together
+-- how often the next ticks move these timers to a lower wheel, in sum
 abbrev pub hops_of : List ℕ → ℕ → ℕ → List Entry → ℕ
 hops_of table now ticks [] = 0
 hops_of table now ticks (entry ∷ entries) = hops table now ticks entry.timer.deadline + hops_of table now ticks entries
@@ -33,11 +33,12 @@ abbrev pub levels_of : List ℕ → ℕ → List Entry → ℕ
 levels_of table now [] = 0
 levels_of table now (entry ∷ entries) = level table now entry.timer.deadline + levels_of table now entries
 
--- a timer moves at most so often: once into each wheel but the highest
+-- the most moves of one timer: once into each wheel but the highest
 abbrev pub most_moves : List ℕ → ℕ
 most_moves table = length table - 1
 
--- each start allows so many moves, and each move lowers a level: what is left to move is counted too
+-- The potential of the pending timers (the sum of their levels) is what is left to move: each start adds at most
+-- `most_moves` to it, and each move takes at least one away. So moves and potential together are paid for by the starts.
 abbrev pub IsPaid : List ℕ → ℕ → ℕ → ℕ → List Entry → Type 0
 IsPaid table starts moves now pending = moves + levels_of table now pending ≤ most_moves table * starts
 
@@ -46,6 +47,7 @@ abbrev pub has_any : List Timer → Bool
 has_any [] = false
 has_any (t ∷ ts) = true
 
--- how many buckets are emptied from tick a to b: one at each multiple of the lowest radix, and that of b where something is due there
+-- how many buckets are visited from tick a to b: one at each multiple of the lowest radix, and that of b where something
+-- is due there
 abbrev pub visited_between : ℕ → ℕ → ℕ → Bool → ℕ
 visited_between r a b due = b / r - a / r + (if due && not (b % r == 0) then 1 else 0)

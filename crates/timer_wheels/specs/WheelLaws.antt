@@ -1,4 +1,4 @@
--- Laws of what the lists of a wheel mean.
+-- Lemmas about the state that the lists of a wheel represent.
 use Rattle.std.specs.Prelude.{◌≡◌, ◌+◌, ℕ, ◌≤◌, List, [], ◌∷◌, map, refl}
 use Rattle.std.proofs.Common.{◌∙◌, ap, arith}
 use Rattle.std.specs.List.{AllByRecursion}
@@ -15,7 +15,7 @@ pub timers_of-entries : (rows : List (ℕ × Node)) → map timer_of (entries_of
 timers_of-entries [] = refl
 timers_of-entries (x ∷ xs) = ap (λ r. timer_in x ∷ r) (timers_of-entries xs)
 
--- What each wheel keeps.
+-- The invariant of each wheel.
 
 pub timers_of-pending : (rows : List (ℕ × Node)) → timers_of (pending_in rows) ≡ in_order itself (timers_in rows)
 timers_of-pending rows = map-in_order timer_of itself timer_of (λ e. refl) (entries_of rows) ∙ ap (in_order itself) (timers_of-entries rows)

@@ -1,4 +1,4 @@
--- What the lists of a wheel mean: the first n are its buckets, and the next one holds what is due.
+-- The state that the lists of a wheel represent: the first n are its buckets, and the next one has what is due.
 use Rattle.std.specs.Prelude.{ℕ, ◌<◌, ◌≤◌, zero, suc, List, [], ◌∷◌, ◌++◌, map}
 use Rattle.std.specs.List.{AllByRecursion, AllByRecursion-prop}
 use Rattle.std.specs.Coded.{Π_prop, le_prop}
@@ -36,7 +36,7 @@ rows_below (suc n) (rows ∷ lists) = rows ++ rows_below n lists
 abbrev pub pending_in : List (ℕ × Node) → List Entry
 pending_in rows = in_order timer_of (entries_of rows)
 
--- what a wheel with n buckets means
+-- the state of a wheel with n buckets
 abbrev pub wheel_state : ℕ → ℕ → ℕ → ℕ → List (List (ℕ × Node)) → WheelState
 wheel_state n last_tick now last_serial lists = record {
   last_tick = last_tick;

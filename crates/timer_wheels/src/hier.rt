@@ -5,19 +5,24 @@
 //! radices, modulo radix k, and wheel k has a slot for each value of digit k.
 //!
 //!     Wide: ticks 0 to 2^60 - 1
-//!     wheel 9   [ 0 | 1 | 2 | .. | 63 ]   a slot is 64^9 ticks     lists 576 to 639
+//!                                         a slot is      range, ahead of now    lists
+//!     wheel 9   [ 0 | 1 | 2 | .. | 63 ]   64^9 ticks     64^10 - 1 ticks        576 to 639
 //!       ..
-//!     wheel 2   [ 0 | 1 | 2 | .. | 63 ]   a slot is 4,096 ticks    lists 128 to 191
-//!     wheel 1   [ 0 | 1 | 2 | .. | 63 ]   a slot is 64 ticks       lists  64 to 127
-//!     wheel 0   [ 0 | 1 | 2 | .. | 63 ]   a slot is 1 tick         lists   0 to  63
-//!     due                                                          list  640
+//!     wheel 2   [ 0 | 1 | 2 | .. | 63 ]   4,096 ticks    262,143 ticks          128 to 191
+//!     wheel 1   [ 0 | 1 | 2 | .. | 63 ]   64 ticks       4,095 ticks             64 to 127
+//!     wheel 0   [ 0 | 1 | 2 | .. | 63 ]   1 tick         63 ticks                 0 to  63
+//!     due                                                                       640
 //!
 //!     Clock: ticks 0 to 8,639,999
-//!     days      [ 0 | 1 | 2 | .. | 99 ]   a slot is 86,400 ticks   lists 144 to 243
-//!     hours     [ 0 | 1 | 2 | .. | 23 ]   a slot is 3,600 ticks    lists 120 to 143
-//!     minutes   [ 0 | 1 | 2 | .. | 59 ]   a slot is 60 ticks       lists  60 to 119
-//!     seconds   [ 0 | 1 | 2 | .. | 59 ]   a slot is 1 tick         lists   0 to  59
-//!     due                                                          list  244
+//!                                         a slot is      range, ahead of now    lists
+//!     days      [ 0 | 1 | 2 | .. | 99 ]   86,400 ticks   8,639,999 ticks        144 to 243
+//!     hours     [ 0 | 1 | 2 | .. | 23 ]   3,600 ticks    86,399 ticks           120 to 143
+//!     minutes   [ 0 | 1 | 2 | .. | 59 ]   60 ticks       3,599 ticks             60 to 119
+//!     seconds   [ 0 | 1 | 2 | .. | 59 ]   1 tick         59 ticks                 0 to  59
+//!     due                                                                       244
+//!
+//! A wheel's range is the farthest deadline that it can have. The nearest is the next tick, in every
+//! wheel: before a rollover the deadline one tick ahead differs from now in a high digit.
 //!
 //! A pending timer stands in wheel k, slot s, where k is the highest digit in which its deadline
 //! differs from now, and s is digit k of its deadline. A start puts it at the back of that bucket.

@@ -1,7 +1,7 @@
 use Rattle.timer_c.proofs.Batches.{IsTaken}
 use Rattle.timer_c.proofs.calls.expire_batch.Given as goal
 
--- so many were taken, and written over the array's front
+-- this many were taken, and are written over the front of the array
 abbrev pub invariant-loop-count : goal.invariant-loop-count
 invariant-loop-count g l = record {
   taken : IsTaken l.count l.initial.out l.initial.timers l.out l.timers;

@@ -1,4 +1,4 @@
-use Rattle.timer_desk.proofs.NoWant.{needs_memory}
+use Rattle.timer_desk.proofs.AskingLemmas.{needs_memory}
 use Rattle.timer_desk.proofs.asking.ask.Goals as goal
 
 pub returns-in-OutOfMemory-clause-memory : goal.returns-in-OutOfMemory-clause-memory

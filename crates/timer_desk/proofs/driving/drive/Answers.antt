@@ -4,7 +4,7 @@ use Rattle.std.proofs.lemmas.List.{length-replicate}
 use Rattle.timer_desk.specs.declared.progress.Progress.{Progress}
 use Rattle.timer_desk.specs.declared.driving.DriveEnd.TheVariants as DriveEnds
 use Rattle.timer_desk.specs.Driving.{IsDone, Turns}
-use Rattle.timer_desk.proofs.DriveLemmas.{Turns-nothing, Turns-joined, Drives-turns}
+use Rattle.timer_desk.proofs.DrivingLemmas.{Turns-nothing, Turns-joined, Drives-turns}
 use Rattle.timer_desk.proofs.driving.drive.Goals as goal
 
 pub returns-in_default : goal.returns-in_default

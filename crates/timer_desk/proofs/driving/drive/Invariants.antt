@@ -3,13 +3,13 @@ use Rattle.timer_desk.specs.Desk.{clients_of}
 use Rattle.timer_desk.specs.Driving.{Turns, all_left}
 use Rattle.timer_desk.proofs.driving.drive.Given as goal
 
--- there is a report of all turns so far, and it was counted
+-- there is one report of all turns so far, and its progress was counted
 abbrev pub invariant-loop-idle : goal.invariant-loop-idle
 invariant-loop-idle g l = record {
   turns : Turns g.I.Inlet.got g.I.Inlet.standing g.I.Inlet.given g.I.Inlet.same_line g.I.Inlet.take_may_refuse l.fn.desk l.desk l.initial.progress.items l.progress.items;
   clients : vec_len l.progress ≡ clients_of l.desk;
 }
 
--- a turn that passes something on leaves less, and any other brings the limit nearer
+-- a turn with progress leaves less to do, and any other brings the limit nearer
 abbrev pub decreases-loop-idle : goal.decreases-loop-idle
 decreases-loop-idle g l = all_left l.goal l.progress.items * (l.limit + 1) + (l.limit - l.idle)

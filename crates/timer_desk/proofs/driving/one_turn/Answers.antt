@@ -1,4 +1,4 @@
-use Rattle.timer_desk.proofs.DriveLemmas.{Turns-nothing}
+use Rattle.timer_desk.proofs.DrivingLemmas.{Turns-nothing}
 use Rattle.timer_desk.proofs.driving.one_turn.Goals as goal
 
 pub returns-in_default-clause-turns : goal.returns-in_default-clause-turns

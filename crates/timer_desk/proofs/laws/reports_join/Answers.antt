@@ -1,4 +1,4 @@
-use Rattle.timer_desk.proofs.Joining.{Told-joined}
+use Rattle.timer_desk.proofs.ReportJoining.{Told-joined}
 use Rattle.timer_desk.proofs.laws.reports_join.Goals as goal
 
 pub returns : goal.returns

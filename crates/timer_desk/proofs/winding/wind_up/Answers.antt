@@ -8,8 +8,8 @@ use Rattle.timer_desk.specs.declared.ring.ClientReader.{ClientReader}
 use Rattle.timer_desk.specs.Ring.{line_of_inlet, words_ring_of_reader, got_of, given_of, all_submitted}
 use Rattle.timer_desk.specs.Winding.{IsWaiting, IsReadOut}
 use Rattle.timer_desk.specs.Desk.{backlog_at}
-use Rattle.timer_desk.specs.Backlog.{Backlog}
-use Rattle.timer_desk.proofs.WindLemmas.{last_is, below_stays, one_more_read, IsReadOut-same}
+use Rattle.timer_desk.specs.Backlog.{BacklogState}
+use Rattle.timer_desk.proofs.WindingLemmas.{last_is, below_stays, one_more_read, IsReadOut-same}
 use Rattle.timer_desk.proofs.winding.wind_up.Goals as goal
 
 pub loop-inlet-preserved : goal.loop-inlet-preserved
@@ -67,7 +67,7 @@ returns-then-not-is_done-clause-err g c =
       got_before = was.got;
       waiting = inl (λ i e.
           let same_end : c.index_mut.result.now ≡ get_or c.args.ended.items n e = c.index_mut.ensures.value ∙ was.later n c.index_mut.result.now here in_ended ∙ get_or_default c.args.ended.items n c.index_mut.result.now e (omega (arith, in_ended, was.as_many, c.args.ended.ok)) in
-          subst (λ (bs : List Backlog). IsWaiting (get_or bs n _) (got_of (get_or c.args.desk.inlets n i)) (all_submitted (get_or c.args.ended.items n e))) was.keeps.same_backlogs
+          subst (λ (bs : List BacklogState). IsWaiting (get_or bs n _) (got_of (get_or c.args.desk.inlets n i)) (all_submitted (get_or c.args.ended.items n e))) was.keeps.same_backlogs
           (subst (λ got. IsWaiting (backlog_at c.loop-c.desk n) got (all_submitted (get_or c.args.ended.items n e))) (was.keeps.same_got n i low)
           (subst (λ x. IsWaiting (backlog_at c.loop-c.desk n) (got_of (get_or c.loop-c.desk.inlets n i)) (all_submitted x)) same_end (waits i))));
     }

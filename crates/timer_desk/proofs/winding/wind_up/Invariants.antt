@@ -7,7 +7,7 @@ use Rattle.timer_desk.specs.Ring.{got_of, all_submitted}
 use Rattle.timer_desk.specs.Winding.{KeepsLines, IsReadOut}
 use Rattle.timer_desk.proofs.winding.wind_up.Given as goal
 
--- the ends from c on are as they were, and below c all is done
+-- the ends from c on are unchanged, and the clients below c are done
 abbrev pub invariant-loop-c : goal.invariant-loop-c
 invariant-loop-c g l = record {
   keeps : KeepsLines l.fn.desk l.desk;
@@ -17,7 +17,7 @@ invariant-loop-c g l = record {
   got : (k : ℕ) (i : RingInlet) (e : RequestsEnded) → k < l.c → all_submitted (get_or l.fn.ended.items k e) ≡ got_of (get_or l.fn.desk.inlets k i);
 }
 
--- the lines left are the first ones, their readers are as they were, and the others are read
+-- the lines left are the first ones, with their readers unchanged; the readers of the others are settled
 abbrev pub invariant-loop-inlet : goal.invariant-loop-inlet
 invariant-loop-inlet g l = record {
   first : l.inlets.items ≡ take (vec_len l.inlets) l.initial.inlets.items;

@@ -1,4 +1,4 @@
-use Rattle.timer_facility.proofs.AtLeastOnce.{left-others}
+use Rattle.timer_facility.proofs.OwedAtLeastOnce.{left-others}
 use Rattle.timer_facility.proofs.laws.a_close_returns_the_others.Goals as goal
 
 pub returns : goal.returns

@@ -1,4 +1,4 @@
-use Rattle.timer_facility.proofs.Owed.{notices-take}
+use Rattle.timer_facility.proofs.OwedLemmas.{notices-take}
 use Rattle.timer_facility.proofs.laws.notices_are_owed.Goals as goal
 
 pub returns : goal.returns

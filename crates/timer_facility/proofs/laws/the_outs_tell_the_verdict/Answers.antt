@@ -1,4 +1,4 @@
-use Rattle.timer_facility.proofs.Told.{outs-verdict}
+use Rattle.timer_facility.proofs.RefusedLemmas.{outs-verdict}
 use Rattle.timer_facility.proofs.laws.the_outs_tell_the_verdict.Goals as goal
 
 pub returns : goal.returns

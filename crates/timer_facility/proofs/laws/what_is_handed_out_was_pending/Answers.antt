@@ -1,4 +1,4 @@
-use Rattle.timer_facility.proofs.PendingOf.{hands_over_tick, hands_over_close}
+use Rattle.timer_facility.proofs.HandedOverLemmas.{hands_over_tick, hands_over_close}
 use Rattle.timer_facility.proofs.laws.what_is_handed_out_was_pending.Goals as goal
 
 pub returns-clause-tick : goal.returns-clause-tick

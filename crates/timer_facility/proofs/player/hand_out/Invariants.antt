@@ -3,7 +3,7 @@ use Rattle.std.specs.Prelude.{vec_capacity}
 use Rattle.timer_facility.specs.declared.event.Out.TheVariants as Outs
 use Rattle.timer_facility.proofs.player.hand_out.Given as goal
 
--- what was handed out, and what still waits, is what waited in the beginning
+-- what was handed out, followed by what still waits, is what waited at the beginning
 abbrev pub invariant-loop-notice : goal.invariant-loop-notice
 invariant-loop-notice g l = record {
   state : l.facility.state ≡ l.initial.facility.state;

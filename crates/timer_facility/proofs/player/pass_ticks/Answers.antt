@@ -1,17 +1,17 @@
 use Rattle.std.proofs.Common.{◌≡◌, ◌≤◌, ◌<◌, ◌+◌, ◌-◌, ap, sym, subst, length, vec_len, arith}
 use Rattle.std.specs.Prelude.{vec_capacity, min}
 use Rattle.timer_facility.specs.State.{FacilityState}
-use Rattle.timer_facility.specs.Standing.{Standing}
-use Rattle.timer_facility.specs.Recorded.{AreRecorded}
+use Rattle.timer_facility.specs.Facility.{FacilityView}
+use Rattle.timer_facility.specs.Handles.{AreRecorded}
 use Rattle.timer_facility.specs.Ticked.{AreTicked}
-use Rattle.timer_facility.proofs.TickRuns.{HasTicked, HasTicked-many, AddsRun-all, AddsRun-refused, length-many}
-use Rattle.timer_facility.proofs.RecordedLemmas.{AreRecorded-ticks}
+use Rattle.timer_facility.proofs.PlayedTicks.{HasTicked, HasTicked-many, AddsRun-all, AddsRun-refused, length-many}
+use Rattle.timer_facility.proofs.HandlesLemmas.{AreRecorded-ticks}
 use Rattle.timer_facility.proofs.player.pass_ticks.Goals as goal
 
 pub hand_out-requires : goal.hand_out-requires
 hand_out-requires g c =
     let here : FacilityState = c.loop-left.facility.state in
-    let there : Standing = c.ticks.new.self in
+    let there : FacilityView = c.ticks.new.self in
     let all : length there.waiting + length there.state.pending ≡ length here.pending = length-many c.loop-left.left c.in-Ok.passed here there c.in-Ok.ensures.ticked in
     let room : vec_len c.loop-left.outs + length here.pending < vec_capacity c.loop-left.outs = c.loop-left.invariant.room in
     omega arith
@@ -20,10 +20,10 @@ pub loop-left-preserved : goal.loop-left-preserved
 loop-left-preserved g c =
     let s : FacilityState = c.args.facility.now.state in
     let here : FacilityState = c.loop-left.facility.state in
-    let there : Standing = c.ticks.new.self in
-    let end : Standing = c.hand_out.new.facility in
+    let there : FacilityView = c.ticks.new.self in
+    let end : FacilityView = c.hand_out.new.facility in
     let t : AreTicked c.loop-left.left c.in-Ok.passed here there = c.in-Ok.ensures.ticked in
-    let state : end.state ≡ there.state = ap (λ (v : Standing). v.state) c.hand_out.ensures.facility in
+    let state : end.state ≡ there.state = ap (λ (v : FacilityView). v.state) c.hand_out.ensures.facility in
     let at_most : c.in-Ok.passed ≤ min c.loop-left.left (here.last - here.now) = t.at_most in
     let few : c.loop-left.left ≤ c.args.count = c.loop-left.invariant.few in
     let passed : c.args.count - c.loop-left.left + c.in-Ok.passed ≡ c.args.count - (c.loop-left.left - c.in-Ok.passed) = omega arith in
@@ -37,9 +37,9 @@ loop-left-preserved g c =
       run = subst (λ n. HasTicked s n c.args.outs.now.items c.hand_out.new.outs.items end.state) passed
           (HasTicked-many s (c.args.count - c.loop-left.left) c.loop-left.left c.in-Ok.passed c.args.outs.now.items c.loop-left.outs.items c.hand_out.new.outs.items here end.state there
           c.loop-left.invariant.run t c.hand_out.ensures.outs state);
-      waiting = ap (λ (v : Standing). v.waiting) c.hand_out.ensures.facility;
+      waiting = ap (λ (v : FacilityView). v.waiting) c.hand_out.ensures.facility;
       room = omega arith;
-      places = λ places a. subst (AreRecorded places) (sym state) (AreRecorded-ticks places c.loop-left.left c.in-Ok.passed here there t (c.loop-left.invariant.places places a));
+      handles = λ handles a. subst (AreRecorded handles) (sym state) (AreRecorded-ticks handles c.loop-left.left c.in-Ok.passed here there t (c.loop-left.invariant.handles handles a));
     }
 
 pub returns-in-Err-clause-run : goal.returns-in-Err-clause-run
@@ -49,7 +49,7 @@ returns-in-Err-clause-run g c =
     let few : c.loop-left.left ≤ c.args.count = c.loop-left.invariant.few in
     let some = c.loop-left-test.true in
     AddsRun-refused s c.args.count (c.args.count - c.loop-left.left) c.args.outs.now.items c.loop-left.outs.items c.push_reserved.new.self.items here c.ticks.new.self.state c.in-Err.fault
-    c.loop-left.invariant.run (omega arith) c.in-Err.ensures.fault (ap (λ (v : Standing). v.state) c.in-Err.ensures.err) c.push_reserved.ensures.items
+    c.loop-left.invariant.run (omega arith) c.in-Err.ensures.fault (ap (λ (v : FacilityView). v.state) c.in-Err.ensures.err) c.push_reserved.ensures.items
 
 pub returns-clause-run : goal.returns-clause-run
 returns-clause-run g c =

@@ -1,7 +1,7 @@
 use Rattle.std.proofs.Common.{refl, inr}
 use Rattle.timer_program.proofs.arguments.command.Goals as goal
 
--- neither a script was played nor clients ran
+-- no script was played, and no clients ran
 pub returns-in-Err : goal.returns-in-Err
 returns-in-Err g c =
     let ended = c.end_unplayed.ensures in

@@ -3,7 +3,7 @@ use Rattle.timer_desk.specs.declared.ring.ClientReader.{ClientReader}
 use Rattle.timer_desk.specs.Ring.{unread_by}
 use Rattle.timer_threads.proofs.ending.first_unread.Given as goal
 
--- for none of the readers so far is a word left, and the others are as they were
+-- no word is left for any of the readers so far, and the others are unchanged
 abbrev pub invariant-loop-c : goal.invariant-loop-c
 invariant-loop-c l = record {
   as_many : vec_len l.readers ≡ vec_len l.fn.readers;

@@ -2,7 +2,7 @@ use Rattle.std.proofs.Common.{◌≡◌, ◌+◌, ◌-◌, ◌*◌}
 use Rattle.timer_threads.specs.Client.{IsSound, IsAtWork, left_of}
 use Rattle.timer_threads.proofs.working.client_work.Given as goal
 
--- nothing was sent or received that isn't counted
+-- all that was sent or received is counted
 abbrev pub invariant-loop-idle : goal.invariant-loop-idle
 invariant-loop-idle g l = record {
   sound : IsSound l.client;

@@ -1,7 +1,7 @@
 use Rattle.std.proofs.Common.{◌∷◌, map, subst}
 use Rattle.timer_desk.specs.declared.report.Done.TheVariants.{Closed, Noticed}
 use Rattle.timer_desk.specs.Desk.{DeskState, Told, close_notices}
-use Rattle.timer_desk.proofs.NoticeLemmas.{desk_of, HasClosed, Told-close, IsDesk-close}
+use Rattle.timer_desk.proofs.HandingLemmas.{desk_of, HasClosed, Told-close, IsDesk-close}
 use Rattle.timer_desk.proofs.desk.Desk.close.Goals as goal
 
 pub invariant_of-self : goal.invariant_of-self
@@ -9,7 +9,7 @@ invariant_of-self g c =
     let handed = c.hand_out.ensures in
     let e = c.close-result.ensures in
     let closed : HasClosed c.self.inside.facility c.close-result.new.self c.close-result.result = record { count = e.count; open_before = e.open; closed = e.closed; fault = e.fault; unchanged = e.err } in
-    IsDesk-close g.I.Inlet.got g.I.Inlet.standing g.I.Inlet.given g.I.Inlet.same_line g.I.Inlet.take_may_refuse c.self.inside.facility c.close-result.new.self c.hand_out.new.facility c.close-result.result c.self.inside.inlets.items c.self.inside.waiting.items c.hand_out.new.waiting.items
+    IsDesk-close g.I.Inlet.got g.I.Inlet.standing g.I.Inlet.given g.I.Inlet.same_line g.I.Inlet.take_may_refuse c.self.inside.facility c.close-result.new.self c.hand_out.new.facility c.close-result.result c.self.inside.inlets.items c.self.inside.backlogs.items c.hand_out.new.backlogs.items
     c.self.invariant closed handed.facility handed.noted handed.room
 
 pub returns : goal.returns
@@ -18,7 +18,7 @@ returns g c =
     let e = c.close-result.ensures in
     let r = c.close-result.result in
     let closed : HasClosed c.self.inside.facility c.close-result.new.self r = record { count = e.count; open_before = e.open; closed = e.closed; fault = e.fault; unchanged = e.err } in
-    let new = desk_of c.hand_out.new.facility c.self.inside.inlets.items c.hand_out.new.waiting.items in
+    let new = desk_of c.hand_out.new.facility c.self.inside.inlets.items c.hand_out.new.backlogs.items in
     subst (λ (d : DeskState g.row.I.Denot). Told g.I.Inlet.got g.I.Inlet.standing g.I.Inlet.given g.I.Inlet.same_line g.I.Inlet.take_may_refuse (Closed r ∷ map (λ n. Noticed n) (close_notices d.facility r)) d new) c.self.view_is
-    (Told-close g.I.Inlet.got g.I.Inlet.standing g.I.Inlet.given g.I.Inlet.same_line g.I.Inlet.take_may_refuse g.met.I.Inlet.reflexive c.self.inside.facility c.close-result.new.self c.hand_out.new.facility r c.self.inside.inlets.items c.self.inside.waiting.items c.hand_out.new.waiting.items
+    (Told-close g.I.Inlet.got g.I.Inlet.standing g.I.Inlet.given g.I.Inlet.same_line g.I.Inlet.take_may_refuse g.met.I.Inlet.reflexive c.self.inside.facility c.close-result.new.self c.hand_out.new.facility r c.self.inside.inlets.items c.self.inside.backlogs.items c.hand_out.new.backlogs.items
     c.self.invariant closed handed.facility handed.noted handed.room)

@@ -2,7 +2,7 @@ use Rattle.std.proofs.Common.{◌++◌, map, ◌∙◌, ap, subst}
 use Rattle.timer_desk.specs.declared.report.Done.TheVariants.{Noticed}
 use Rattle.timer_desk.specs.declared.report.Step.TheVariants as Steps
 use Rattle.timer_desk.specs.Desk.{DeskState, AddsStep}
-use Rattle.timer_desk.proofs.NoticeLemmas.{AddsStep-close, IsDesk-close, HasClosed, desk_of}
+use Rattle.timer_desk.proofs.HandingLemmas.{AddsStep-close, IsDesk-close, HasClosed, desk_of}
 use Rattle.timer_desk.proofs.desk.Desk.close_into.Goals as goal
 
 pub invariant_of-self : goal.invariant_of-self
@@ -10,7 +10,7 @@ invariant_of-self g c =
     let handed = c.hand_out_into.ensures in
     let e = c.close-result.ensures in
     let closed : HasClosed c.self.inside.facility c.close-result.new.self c.close-result.result = record { count = e.count; open_before = e.open; closed = e.closed; fault = e.fault; unchanged = e.err } in
-    IsDesk-close g.I.Inlet.got g.I.Inlet.standing g.I.Inlet.given g.I.Inlet.same_line g.I.Inlet.take_may_refuse c.self.inside.facility c.close-result.new.self c.hand_out_into.new.facility c.close-result.result c.self.inside.inlets.items c.self.inside.waiting.items c.hand_out_into.new.waiting.items
+    IsDesk-close g.I.Inlet.got g.I.Inlet.standing g.I.Inlet.given g.I.Inlet.same_line g.I.Inlet.take_may_refuse c.self.inside.facility c.close-result.new.self c.hand_out_into.new.facility c.close-result.result c.self.inside.inlets.items c.self.inside.backlogs.items c.hand_out_into.new.backlogs.items
     c.self.invariant closed handed.facility handed.noted handed.room
 
 pub returns-clause-adds : goal.returns-clause-adds
@@ -18,10 +18,10 @@ returns-clause-adds g c =
     let handed = c.hand_out_into.ensures in
     let e = c.close-result.ensures in
     let closed : HasClosed c.self.inside.facility c.close-result.new.self c.close-result.result = record { count = e.count; open_before = e.open; closed = e.closed; fault = e.fault; unchanged = e.err } in
-    let new = desk_of c.hand_out_into.new.facility c.self.inside.inlets.items c.hand_out_into.new.waiting.items in
+    let new = desk_of c.hand_out_into.new.facility c.self.inside.inlets.items c.hand_out_into.new.backlogs.items in
     let before = c.args.report.now.items in
     let after = c.hand_out_into.new.report.items in
     let added = handed.report ∙ ap (λ report. report ++ map (λ n. Noticed n) c.close-result.new.self.waiting) c.push_reserved.ensures.items in
     subst (λ (d : DeskState g.row.I.Denot). AddsStep g.I.Inlet.got g.I.Inlet.standing g.I.Inlet.given g.I.Inlet.same_line g.I.Inlet.take_may_refuse Steps.Close before after d new) c.self.view_is
-    (AddsStep-close g.I.Inlet.got g.I.Inlet.standing g.I.Inlet.given g.I.Inlet.same_line g.I.Inlet.take_may_refuse g.met.I.Inlet.reflexive before after c.self.inside.facility c.close-result.new.self c.hand_out_into.new.facility c.close-result.result c.self.inside.inlets.items c.self.inside.waiting.items c.hand_out_into.new.waiting.items
+    (AddsStep-close g.I.Inlet.got g.I.Inlet.standing g.I.Inlet.given g.I.Inlet.same_line g.I.Inlet.take_may_refuse g.met.I.Inlet.reflexive before after c.self.inside.facility c.close-result.new.self c.hand_out_into.new.facility c.close-result.result c.self.inside.inlets.items c.self.inside.backlogs.items c.hand_out_into.new.backlogs.items
     c.self.invariant closed handed.facility handed.noted handed.room added)

@@ -1,11 +1,11 @@
 use Rattle.std.proofs.Common.{ap, sym, ◌∙◌, arith}
-use Rattle.timer_facility.proofs.Parts.{is_open, clients_are, known}
-use Rattle.timer_facility.proofs.Verdicts.{not_taken-closed, not_taken-no_client, not_taken-repeated, not_taken-spent, not_taken-ahead, not_taken-none}
-use Rattle.timer_facility.specs.Standing.{Standing}
+use Rattle.timer_facility.proofs.FacilityParts.{is_open, clients_are, known}
+use Rattle.timer_facility.proofs.VerdictLemmas.{not_taken-closed, not_taken-no_client, not_taken-repeated, not_taken-spent, not_taken-ahead, not_taken-none}
+use Rattle.timer_facility.specs.Facility.{FacilityView}
 use Rattle.timer_facility.proofs.facility.Facility.admit.Goals as goal
 
 pub returns-then-self : goal.returns-then-self
-returns-then-self g c = not_taken-closed c.args.self.now.state c.args.client c.args.number (sym (ap (λ (v : Standing). v.state.is_closed) c.self.view_is) ∙ c.if-self.true)
+returns-then-self g c = not_taken-closed c.args.self.now.state c.args.client c.args.number (sym (ap (λ (v : FacilityView). v.state.is_closed) c.self.view_is) ∙ c.if-self.true)
 
 pub returns-then-client-self : goal.returns-then-client-self
 returns-then-client-self g c =

@@ -1,6 +1,6 @@
 use Rattle.std.proofs.Common.{sym, arith}
-use Rattle.timer_facility.proofs.Parts.{tells}
-use Rattle.timer_facility.proofs.Verdicts.{interval_refusal-zero, interval_refusal-late, interval_refusal-spent, interval_refusal-none}
+use Rattle.timer_facility.proofs.FacilityParts.{tells}
+use Rattle.timer_facility.proofs.VerdictLemmas.{interval_refusal-zero, interval_refusal-late, interval_refusal-spent, interval_refusal-none}
 use Rattle.timer_facility.proofs.facility.Facility.interval_refusal.Goals as goal
 
 pub returns-then-interval-eq0 : goal.returns-then-interval-eq0

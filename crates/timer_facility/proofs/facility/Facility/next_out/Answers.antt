@@ -1,5 +1,5 @@
 use Rattle.std.proofs.Common.{◌≡◌, length, sym, arith}
-use Rattle.timer_facility.proofs.Parts.{due_counted, returned_counted, returned_next, parts-expiry, parts-nothing_due, parts-returned, clients_are}
+use Rattle.timer_facility.proofs.FacilityParts.{due_counted, returned_counted, returned_next, parts-expiry, parts-nothing_due, parts-returned, clients_are}
 use Rattle.timer_facility.proofs.facility.Facility.next_out.Goals as goal
 
 pub offset_bounds-self-inside-timer : goal.offset_bounds-self-inside-timer

@@ -1,14 +1,14 @@
 use Rattle.std.proofs.Common.{◌∙◌, ◌<◌, ap, sym, subst}
-use Rattle.timer_facility.specs.Standing.{with_nothing_waiting}
+use Rattle.timer_facility.specs.Facility.{with_nothing_waiting}
 use Rattle.timer_facility.specs.Opened.{opened}
 use Rattle.timer_facility.specs.declared.config.Config.{Config}
-use Rattle.timer_facility.proofs.Parts.{standing-open, parts-open}
+use Rattle.timer_facility.proofs.FacilityParts.{view-open, parts-open}
 use Rattle.timer_facility.proofs.facility.Facility.open.Goals as goal
 
 pub returns : goal.returns
 returns g c =
     let w = g.W.Wheel.state c.args.wheel in
-    standing-open w c.config-config.result c.new.result.items c.requires.pending c.requires.due
+    view-open w c.config-config.result c.new.result.items c.requires.pending c.requires.due
     (c.requires.now ∙ ap (λ (k : Config). k.first_tick) (sym c.config-config.ensures.config))
     c.config-config.ensures.in_range.few_clients c.new.ensures.items
     ∙ ap (λ (k : Config). with_nothing_waiting (opened k w.last_tick)) c.config-config.ensures.config

@@ -1,5 +1,5 @@
 use Rattle.std.proofs.Common.{sym}
-use Rattle.timer_facility.proofs.Parts.{pending_is, pending_of_none}
+use Rattle.timer_facility.proofs.FacilityParts.{pending_is, pending_of_none}
 use Rattle.timer_facility.proofs.facility.Facility.pending_of.Goals as goal
 
 pub returns-then-client-self : goal.returns-then-client-self

@@ -1,6 +1,6 @@
 use Rattle.std.proofs.Common.{sym, arith}
-use Rattle.timer_facility.proofs.Parts.{tells}
-use Rattle.timer_facility.proofs.Verdicts.{start_refusal-interval, start_refusal-full, start_refusal-none}
+use Rattle.timer_facility.proofs.FacilityParts.{tells}
+use Rattle.timer_facility.proofs.VerdictLemmas.{start_refusal-interval, start_refusal-full, start_refusal-none}
 use Rattle.timer_facility.proofs.facility.Facility.start_refusal.Goals as goal
 
 pub returns-in-Some : goal.returns-in-Some

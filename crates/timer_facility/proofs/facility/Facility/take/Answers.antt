@@ -1,7 +1,6 @@
-use Rattle.std.proofs.Common.{sym}
 use Rattle.timer_facility.specs.Verdict.{refusal}
-use Rattle.timer_facility.specs.Standing.{wanted_of}
-use Rattle.timer_facility.proofs.Told.{verdict-not_taken}
+use Rattle.timer_facility.specs.Facility.{wanted_of}
+use Rattle.timer_facility.proofs.RefusedLemmas.{verdict-not_taken}
 use Rattle.timer_facility.proofs.facility.Facility.take.Goals as goal
 
 pub returns-in-Err-clause-verdict : goal.returns-in-Err-clause-verdict

@@ -1,92 +1,59 @@
 use Rattle.std.proofs.Common.{sym, ◌+◌, ◌∙◌, ap, refl, arith}
 use Rattle.timer_facility.specs.Step.{answer_to_start, new_timer}
-use Rattle.timer_facility.proofs.Parts.{next_when, tells, standing-refused, standing-start, parts-used, parts-start, answer_started, few_counted}
-use Rattle.timer_facility.proofs.Verdicts.{startable}
+use Rattle.timer_facility.proofs.FacilityParts.{next_when, in_arrays, in_time, tells, view-refused, view-start, parts-used, parts-start, answer_started, few_counted}
+use Rattle.timer_facility.proofs.VerdictLemmas.{startable}
 use Rattle.timer_facility.proofs.facility.Facility.take_start.Goals as goal
 
 pub overflow_add-self : goal.overflow_add-self
 overflow_add-self g c = let n = (next_when c.self.invariant c.self.view_is c.args.client c.args.number c.requires.taken).in_range in omega arith
 
 pub offset_bounds-self-inside-client : goal.offset_bounds-self-inside-client
-offset_bounds-self-inside-client g c =
-    let n = next_when c.self.invariant c.self.view_is c.args.client c.args.number c.requires.taken in
-    let a = n.is_client in
-    let b = n.few_clients in
-    omega arith
+offset_bounds-self-inside-client g c = let low = in_arrays c.self.invariant c.self.view_is c.args.client c.args.number c.requires.taken in omega arith
 
 pub bounds-self-inside-client : goal.bounds-self-inside-client
-bounds-self-inside-client g c =
-    let n = next_when c.self.invariant c.self.view_is c.args.client c.args.number c.requires.taken in
-    let a = n.is_client in
-    let b = n.few_clients in
-    omega arith
+bounds-self-inside-client g c = in_arrays c.self.invariant c.self.view_is c.args.client c.args.number c.requires.taken
 
 pub returns-in-Some-clause-left : goal.returns-in-Some-clause-left
 returns-in-Some-clause-left g c =
     let n = next_when c.self.invariant c.self.view_is c.args.client c.args.number c.requires.taken in
-    standing-refused c.self.invariant c.self.view_is c.args.client c.args.number c.args.interval c.args.action c.in-Some.reason n.is_client c.requires.waiting (sym c.in-Some.ensures)
+    view-refused c.self.invariant c.self.view_is c.args.client c.args.number c.args.interval c.args.action c.in-Some.reason n.is_client c.requires.waiting (sym c.in-Some.ensures)
 
 pub overflow_add-deadline : goal.overflow_add-deadline
 overflow_add-deadline g c =
-    let s = startable c.args.self.now.state c.args.interval (sym c.in_default.ensures) in
-    let t = tells c.self.invariant c.self.view_is in
-    let w = g.met.W.Wheel.well_formed c.self.inside.wheel in
-    let in_time = s.in_time in
-    let positive = s.positive in
-    let last = t.last_is in
-    let now = t.now_is in
-    let end = w.last_in_range in
-    let told = c.now.ensures in
+    let t = in_time c.self.invariant c.self.view_is (g.met.W.Wheel.well_formed c.self.inside.wheel) c.args.interval c.now.result
+    (startable c.args.self.now.state c.args.interval (sym c.in_default.ensures)).timely c.now.ensures in
+    let in_range = t.in_range in
     omega arith
 
 pub start-requires-clause-later : goal.start-requires-clause-later
 start-requires-clause-later g c =
-    let s = startable c.args.self.now.state c.args.interval (sym c.in_default.ensures) in
-    let positive = s.positive in
-    let told = c.now.ensures in
-    omega arith
+    (in_time c.self.invariant c.self.view_is (g.met.W.Wheel.well_formed c.self.inside.wheel) c.args.interval c.now.result
+    (startable c.args.self.now.state c.args.interval (sym c.in_default.ensures)).timely c.now.ensures).later
 
 pub start-requires-clause-deadline : goal.start-requires-clause-deadline
 start-requires-clause-deadline g c =
-    let s = startable c.args.self.now.state c.args.interval (sym c.in_default.ensures) in
-    let t = tells c.self.invariant c.self.view_is in
-    let in_time = s.in_time in
-    let positive = s.positive in
-    let last = t.last_is in
-    let now = t.now_is in
-    let told = c.now.ensures in
-    omega arith
+    (in_time c.self.invariant c.self.view_is (g.met.W.Wheel.well_formed c.self.inside.wheel) c.args.interval c.now.result
+    (startable c.args.self.now.state c.args.interval (sym c.in_default.ensures)).timely c.now.ensures).within
 
 pub start-requires-clause-serial : goal.start-requires-clause-serial
 start-requires-clause-serial g c =
-    let s = startable c.args.self.now.state c.args.interval (sym c.in_default.ensures) in
-    let t = tells c.self.invariant c.self.view_is in
-    let unspent = s.unspent in
-    let serial = t.serial_is in
-    omega arith
+    (in_time c.self.invariant c.self.view_is (g.met.W.Wheel.well_formed c.self.inside.wheel) c.args.interval c.now.result
+    (startable c.args.self.now.state c.args.interval (sym c.in_default.ensures)).timely c.now.ensures).unspent
 
 pub overflow_add-self-in-Ok-2 : goal.overflow_add-self-in-Ok-2
 overflow_add-self-in-Ok-2 g c = let n = (next_when c.self.invariant c.self.view_is c.args.client c.args.number c.requires.taken).in_range in omega arith
 
 pub offset_bounds-self-inside-client-in-Ok : goal.offset_bounds-self-inside-client-in-Ok
-offset_bounds-self-inside-client-in-Ok g c =
-    let n = next_when c.self.invariant c.self.view_is c.args.client c.args.number c.requires.taken in
-    let a = n.is_client in
-    let b = n.few_clients in
-    omega arith
+offset_bounds-self-inside-client-in-Ok g c = let low = in_arrays c.self.invariant c.self.view_is c.args.client c.args.number c.requires.taken in omega arith
 
 pub bounds-self-inside-client-in-Ok : goal.bounds-self-inside-client-in-Ok
-bounds-self-inside-client-in-Ok g c =
-    let n = next_when c.self.invariant c.self.view_is c.args.client c.args.number c.requires.taken in
-    let a = n.is_client in
-    let b = n.few_clients in
-    omega arith
+bounds-self-inside-client-in-Ok g c = in_arrays c.self.invariant c.self.view_is c.args.client c.args.number c.requires.taken
 
 pub invariant_of-self-in-Ok : goal.invariant_of-self-in-Ok
 invariant_of-self-in-Ok g c =
     let s = startable c.args.self.now.state c.args.interval (sym c.in_default.ensures) in
     let t = tells c.self.invariant c.self.view_is in
-    let unspent = s.unspent in
+    let unspent = s.timely.unspent in
     let room = s.room in
     let serial = t.serial_is in
     let length = t.length_is in
@@ -104,29 +71,17 @@ returns-in-Ok-clause-answer g c =
 pub returns-in-Ok-clause-left : goal.returns-in-Ok-clause-left
 returns-in-Ok-clause-left g c =
     let n = next_when c.self.invariant c.self.view_is c.args.client c.args.number c.requires.taken in
-    standing-start c.self.invariant c.self.view_is c.args.client c.args.number c.args.interval c.args.action c.in-Ok.handle.place n.is_client c.requires.waiting (sym c.in_default.ensures)
+    view-start c.self.invariant c.self.view_is c.args.client c.args.number c.args.interval c.args.action c.in-Ok.handle.place n.is_client c.requires.waiting (sym c.in_default.ensures)
     c.now.result c.now.ensures (g.W.Wheel.state c.start.new.self) c.in-Ok.ensures.started
 
 pub offset_bounds-self-inside-client-in-Ok-2 : goal.offset_bounds-self-inside-client-in-Ok-2
-offset_bounds-self-inside-client-in-Ok-2 g c =
-    let n = next_when c.self.invariant c.self.view_is c.args.client c.args.number c.requires.taken in
-    let a = n.is_client in
-    let b = n.few_clients in
-    omega arith
+offset_bounds-self-inside-client-in-Ok-2 g c = let low = in_arrays c.self.invariant c.self.view_is c.args.client c.args.number c.requires.taken in omega arith
 
 pub bounds-self-inside-client-in-Ok-2 : goal.bounds-self-inside-client-in-Ok-2
-bounds-self-inside-client-in-Ok-2 g c =
-    let n = next_when c.self.invariant c.self.view_is c.args.client c.args.number c.requires.taken in
-    let a = n.is_client in
-    let b = n.few_clients in
-    omega arith
+bounds-self-inside-client-in-Ok-2 g c = in_arrays c.self.invariant c.self.view_is c.args.client c.args.number c.requires.taken
 
 pub bounds-self-inside-client-in-Ok-3 : goal.bounds-self-inside-client-in-Ok-3
-bounds-self-inside-client-in-Ok-3 g c =
-    let n = next_when c.self.invariant c.self.view_is c.args.client c.args.number c.requires.taken in
-    let a = n.is_client in
-    let b = n.few_clients in
-    omega arith
+bounds-self-inside-client-in-Ok-3 g c = in_arrays c.self.invariant c.self.view_is c.args.client c.args.number c.requires.taken
 
 pub overflow_add-self-in-Ok-3 : goal.overflow_add-self-in-Ok-3
 overflow_add-self-in-Ok-3 g c = let few = few_counted c.self.invariant c.self.view_is c.requires.waiting c.args.client in omega arith

@@ -1,15 +1,15 @@
 use Rattle.std.proofs.Common.{◌∙◌, ap, sym, arith}
-use Rattle.timer_facility.specs.Standing.{Standing}
+use Rattle.timer_facility.specs.Facility.{FacilityView}
 use Rattle.timer_facility.specs.Verdict.{verdict_on_tick}
-use Rattle.timer_facility.proofs.Parts.{nothing_due, is_open, tells, refused_tick, standing-tick, parts-tick}
-use Rattle.timer_facility.proofs.Verdicts.{tick_refusal-closed, tick_refusal-clock_end, tick_refusal-none}
+use Rattle.timer_facility.proofs.FacilityParts.{nothing_due, is_open, tells, refused_tick, view-tick, parts-tick}
+use Rattle.timer_facility.proofs.VerdictLemmas.{tick_refusal-closed, tick_refusal-clock_end, tick_refusal-none}
 use Rattle.timer_facility.proofs.facility.Facility.tick.Goals as goal
 
 pub returns-then-self-clause-fault : goal.returns-then-self-clause-fault
-returns-then-self-clause-fault g c = tick_refusal-closed c.args.self.now.state (sym (ap (λ (v : Standing). v.state.is_closed) c.self.view_is) ∙ c.if-self.true)
+returns-then-self-clause-fault g c = tick_refusal-closed c.args.self.now.state (sym (ap (λ (v : FacilityView). v.state.is_closed) c.self.view_is) ∙ c.if-self.true)
 
 pub returns-then-self-clause-ticked : goal.returns-then-self-clause-ticked
-returns-then-self-clause-ticked g c = refused_tick c.args.self.now _ c.requires (tick_refusal-closed c.args.self.now.state (sym (ap (λ (v : Standing). v.state.is_closed) c.self.view_is) ∙ c.if-self.true))
+returns-then-self-clause-ticked g c = refused_tick c.args.self.now _ c.requires (tick_refusal-closed c.args.self.now.state (sym (ap (λ (v : FacilityView). v.state.is_closed) c.self.view_is) ∙ c.if-self.true))
 
 pub returns-then-now-last_tick-clause-fault : goal.returns-then-now-last_tick-clause-fault
 returns-then-now-last_tick-clause-fault g c =
@@ -43,7 +43,7 @@ returns-clause-ticked g c =
     let told_last = c.last_tick.ensures in
     let told_now = c.now.ensures in
     let test = c.if-now-last_tick.false in
-    standing-tick c.self.invariant c.self.view_is c.requires c.if-self.false (λ e. test (told_now ∙ e ∙ sym told_last)) (g.W.Wheel.state c.per_tick.new.self) c.per_tick.ensures
+    view-tick c.self.invariant c.self.view_is c.requires c.if-self.false (λ e. test (told_now ∙ e ∙ sym told_last)) (g.W.Wheel.state c.per_tick.new.self) c.per_tick.ensures
 
 pub returns-clause-fault : goal.returns-clause-fault
 returns-clause-fault g c =

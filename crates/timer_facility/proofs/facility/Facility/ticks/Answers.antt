@@ -1,13 +1,13 @@
 use Rattle.std.proofs.Common.{◌≡◌, ◌-◌, ◌∙◌, ap, sym, arith}
 use Rattle.std.specs.Prelude.{min}
-use Rattle.timer_facility.specs.Standing.{Standing}
-use Rattle.timer_facility.proofs.Parts.{nothing_due, is_open, tells}
-use Rattle.timer_facility.proofs.ManyTicks.{parts-advanced, standing-advanced}
-use Rattle.timer_facility.proofs.Verdicts.{tick_refusal-closed, tick_refusal-clock_end, tick_refusal-none}
+use Rattle.timer_facility.specs.Facility.{FacilityView}
+use Rattle.timer_facility.proofs.FacilityParts.{nothing_due, is_open, tells}
+use Rattle.timer_facility.proofs.TickedLemmas.{parts-advanced, view-advanced}
+use Rattle.timer_facility.proofs.VerdictLemmas.{tick_refusal-closed, tick_refusal-clock_end, tick_refusal-none}
 use Rattle.timer_facility.proofs.facility.Facility.ticks.Goals as goal
 
 pub returns-then-self-clause-fault : goal.returns-then-self-clause-fault
-returns-then-self-clause-fault g c = tick_refusal-closed c.args.self.now.state (sym (ap (λ (v : Standing). v.state.is_closed) c.self.view_is) ∙ c.if-self.true)
+returns-then-self-clause-fault g c = tick_refusal-closed c.args.self.now.state (sym (ap (λ (v : FacilityView). v.state.is_closed) c.self.view_is) ∙ c.if-self.true)
 
 pub returns-then-left-eq0-clause-fault : goal.returns-then-left-eq0-clause-fault
 returns-then-left-eq0-clause-fault g c =
@@ -39,7 +39,7 @@ returns-clause-ticked g c =
     let told_now = c.now.ensures in
     let least = c.min.ensures in
     let most : c.min.result ≡ min c.args.limit (w.last_tick - w.now) = omega arith in
-    standing-advanced c.self.invariant c.self.view_is c.requires.waiting c.if-self.false c.args.limit c.min.result c.advance.result most (g.W.Wheel.state c.advance.new.self) c.advance.ensures
+    view-advanced c.self.invariant c.self.view_is c.requires.waiting c.if-self.false c.args.limit c.min.result c.advance.result most (g.W.Wheel.state c.advance.new.self) c.advance.ensures
 
 pub returns-clause-fault : goal.returns-clause-fault
 returns-clause-fault g c =

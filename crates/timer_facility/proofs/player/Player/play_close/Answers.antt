@@ -4,9 +4,9 @@ use Rattle.timer_facility.specs.declared.event.Event.TheVariants as Events
 use Rattle.timer_facility.specs.declared.event.Out.TheVariants as Outs
 use Rattle.timer_facility.specs.State.{FacilityState, Close}
 use Rattle.timer_facility.specs.Step.{step}
-use Rattle.timer_facility.specs.Standing.{Standing}
+use Rattle.timer_facility.specs.Facility.{FacilityView}
 use Rattle.timer_facility.specs.Played.{AddsRun}
-use Rattle.timer_facility.proofs.CloseSteps.{length-closed, outs-closed, outs-close_refused, state-close_refused}
+use Rattle.timer_facility.proofs.PlayedClose.{length-closed, outs-closed, outs-close_refused, state-close_refused}
 use Rattle.timer_facility.proofs.PlayedLemmas.{AddsRun-one}
 use Rattle.timer_facility.proofs.player.Player.play_close.Goals as goal
 
@@ -29,7 +29,7 @@ returns-in-Ok-clause-ok g c =
     ∙ ap (λ os. os ++ returned) (c.push_reserved.ensures.items ∙ ap (λ os. os ++ Outs.Closed c.in-Ok.count ∷ []) c.make_room.ensures.items ∙ ap (λ n. before ++ Outs.Closed n ∷ []) c.in-Ok.ensures.count)
     ∙ append_assoc before (Outs.Closed (length s.pending) ∷ []) returned
     ∙ ap (λ os. before ++ os) (outs-closed s c.close.new.self c.in-Ok.ensures.closed c.in-Ok.ensures.open) in
-    let left : c.hand_out.new.facility.state ≡ (step s Close 0).state = ap (λ (v : Standing). v.state) c.hand_out.ensures.facility ∙ ap (λ (v : Standing). v.state) c.in-Ok.ensures.closed in
+    let left : c.hand_out.new.facility.state ≡ (step s Close 0).state = ap (λ (v : FacilityView). v.state) c.hand_out.ensures.facility ∙ ap (λ (v : FacilityView). v.state) c.in-Ok.ensures.closed in
     subst (λ a. AddsRun a Events.Close before c.hand_out.new.outs.items c.hand_out.new.facility.state) c.self.view_is
     (AddsRun-one s Events.Close Close 0 before c.hand_out.new.outs.items c.hand_out.new.facility.state refl outs left)
 
@@ -40,6 +40,6 @@ returns-in-Err-Closed-clause-ok g c =
     let closed : s.is_closed ≡ true = c.in-Err-Closed.ensures.fault.0 c.in-Err-Closed.field-0-is in
     let outs : c.push_reserved-in-Err-Closed.new.self.items ≡ before ++ (step s Close 0).outs =
     c.push_reserved-in-Err-Closed.ensures.items ∙ ap (λ os. os ++ Outs.CloseRefused ∷ []) c.make_room.ensures.items ∙ ap (λ os. before ++ os) (sym (outs-close_refused s closed)) in
-    let left : c.close.new.self.state ≡ (step s Close 0).state = ap (λ (v : Standing). v.state) c.in-Err-Closed.ensures.err ∙ sym (state-close_refused s closed) in
+    let left : c.close.new.self.state ≡ (step s Close 0).state = ap (λ (v : FacilityView). v.state) c.in-Err-Closed.ensures.err ∙ sym (state-close_refused s closed) in
     subst (λ a. AddsRun a Events.Close before c.push_reserved-in-Err-Closed.new.self.items c.close.new.self.state) c.self.view_is
     (AddsRun-one s Events.Close Close 0 before c.push_reserved-in-Err-Closed.new.self.items c.close.new.self.state refl outs left)

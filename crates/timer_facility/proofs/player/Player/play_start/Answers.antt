@@ -4,25 +4,25 @@ use Rattle.timer_facility.specs.declared.event.Out.TheVariants as Outs
 use Rattle.timer_facility.specs.declared.request.Request.TheVariants as Requests
 use Rattle.timer_facility.specs.State.{FacilityState, Start}
 use Rattle.timer_facility.specs.Verdict.{not_taken}
-use Rattle.timer_facility.specs.Standing.{Standing}
+use Rattle.timer_facility.specs.Facility.{FacilityView}
 use Rattle.timer_facility.specs.Played.{AddsRun}
-use Rattle.timer_facility.specs.Recorded.{Places, AreRecorded, with_answer}
-use Rattle.timer_facility.proofs.RecordedLemmas.{StaysRecorded, recorded-start}
+use Rattle.timer_facility.specs.Handles.{HandleList, AreRecorded, with_answer}
+use Rattle.timer_facility.proofs.HandlesLemmas.{StaysRecorded, recorded-start}
 use Rattle.timer_facility.proofs.PlayedLemmas.{AddsRun-taken, AddsRun-not_taken, reason-verdict}
 use Rattle.timer_facility.proofs.player.Player.play_start.Goals as goal
 
 pub forget-requires : goal.forget-requires
 forget-requires g c =
     let s : FacilityState = c.self.inside.facility.state in
-    let before : Places = c.self.inside.handles.list.items in
+    let before : HandleList = c.self.inside.handles.list.items in
     let kept : StaysRecorded c.take.new.self (with_answer c.in-Ok.answer before) =
     recorded-start s c.take.new.self before c.args.client c.args.number c.args.interval c.args.action c.in-Ok.answer c.self.invariant.recorded c.in-Ok.ensures.taken in
-    subst (λ (places : Places). AreRecorded places c.take.new.self.state) (sym (c.record.ensures ∙ ap (with_answer c.in-Ok.answer) c.make_room.ensures.list)) kept.recorded
+    subst (λ (handles : HandleList). AreRecorded handles c.take.new.self.state) (sym (c.record.ensures ∙ ap (with_answer c.in-Ok.answer) c.make_room.ensures.list)) kept.recorded
 
 pub invariant_of-self-in-Ok : goal.invariant_of-self-in-Ok
 invariant_of-self-in-Ok g c =
     let s : FacilityState = c.self.inside.facility.state in
-    let before : Places = c.self.inside.handles.list.items in
+    let before : HandleList = c.self.inside.handles.list.items in
     let kept : StaysRecorded c.take.new.self (with_answer c.in-Ok.answer before) =
     recorded-start s c.take.new.self before c.args.client c.args.number c.args.interval c.args.action c.in-Ok.answer c.self.invariant.recorded c.in-Ok.ensures.taken in
     record { waiting = kept.waiting; recorded = c.forget.ensures.recorded; few = c.forget.ensures.few }
@@ -47,7 +47,7 @@ returns-in_default g c =
     reason-verdict s c.args.client c.args.number (Requests.Start c.args.interval c.args.action) c.in-Err.reason c.in-Err.ensures.not_taken c.in_default.not-OutOfMemory in
     let outs : c.push_reserved-in-Err.new.self.items ≡ before ++ Outs.NotTaken c.args.client c.args.number c.in-Err.reason ∷ [] =
     c.push_reserved-in-Err.ensures.items ∙ ap (λ os. os ++ Outs.NotTaken c.args.client c.args.number c.in-Err.reason ∷ []) c.reserve.ensures.items in
-    let left : c.take.new.self.state ≡ s = ap (λ (v : Standing). v.state) c.in-Err.ensures.err in
+    let left : c.take.new.self.state ≡ s = ap (λ (v : FacilityView). v.state) c.in-Err.ensures.err in
     record {
       ok = subst (λ a. AddsRun a event before c.push_reserved-in-Err.new.self.items c.take.new.self.state) c.self.view_is
           (AddsRun-not_taken s event c.args.client c.args.number wanted c.in-Err.reason before c.push_reserved-in-Err.new.self.items c.take.new.self.state refl reason outs left);

@@ -2,10 +2,10 @@ use Rattle.std.proofs.Common.{◌≡◌, ◌∷◌, ◌++◌, [], ◌∙◌, ap,
 use Rattle.timer_facility.specs.declared.event.Event.TheVariants as Events
 use Rattle.timer_facility.specs.declared.event.Out.TheVariants as Outs
 use Rattle.timer_facility.specs.State.{FacilityState, StopSerial}
-use Rattle.timer_facility.specs.Standing.{Standing}
+use Rattle.timer_facility.specs.Facility.{FacilityView}
 use Rattle.timer_facility.specs.Played.{AddsRun}
-use Rattle.timer_facility.specs.Recorded.{Places}
-use Rattle.timer_facility.proofs.RecordedLemmas.{StaysRecorded, recorded-stop, IsHandleOf}
+use Rattle.timer_facility.specs.Handles.{HandleList}
+use Rattle.timer_facility.proofs.HandlesLemmas.{StaysRecorded, recorded-stop, IsHandleOf}
 use Rattle.timer_facility.proofs.PlayedLemmas.{AddsRun-stopped, AddsRun-not_taken, reason-stop}
 use Rattle.timer_facility.proofs.player.Player.play_stop.Goals as goal
 
@@ -26,12 +26,12 @@ returns-in-Ok-clause-ok g c =
     let s : FacilityState = c.self.inside.facility.state in
     let before = c.args.outs.now.items in
     let event = Events.Stop c.args.client c.args.number c.args.serial in
-    let places : Places = c.self.inside.handles.list.items in
-    let handle : IsHandleOf places c.args.serial c.handle_of-handle.result = record { same_serial = c.handle_of-handle.ensures.serial; same_place = c.handle_of-handle.ensures.place } in
+    let handles : HandleList = c.self.inside.handles.list.items in
+    let handle : IsHandleOf handles c.args.serial c.handle_of-handle.result = record { same_serial = c.handle_of-handle.ensures.serial; same_place = c.handle_of-handle.ensures.place } in
     let outs : c.push_reserved.new.self.items ≡ before ++ Outs.Answered c.args.client c.args.number c.in-Ok.answer ∷ [] =
     c.push_reserved.ensures.items ∙ ap (λ os. os ++ Outs.Answered c.args.client c.args.number c.in-Ok.answer ∷ []) c.reserve.ensures.items in
     subst (λ a. AddsRun a event before c.push_reserved.new.self.items c.take.new.self.state) c.self.view_is
-    (AddsRun-stopped places s c.args.client c.args.number c.args.serial c.handle_of-handle.result c.in-Ok.answer before c.push_reserved.new.self.items c.take.new.self c.self.invariant.recorded handle c.in-Ok.ensures.taken outs)
+    (AddsRun-stopped handles s c.args.client c.args.number c.args.serial c.handle_of-handle.result c.in-Ok.answer before c.push_reserved.new.self.items c.take.new.self c.self.invariant.recorded handle c.in-Ok.ensures.taken outs)
 
 pub returns-in-Err-clause-ok : goal.returns-in-Err-clause-ok
 returns-in-Err-clause-ok g c =
@@ -43,4 +43,4 @@ returns-in-Err-clause-ok g c =
     subst (λ a. AddsRun a event before c.push_reserved-in-Err.new.self.items c.take.new.self.state) c.self.view_is
     (AddsRun-not_taken s event c.args.client c.args.number (StopSerial c.args.serial) c.in-Err.reason before c.push_reserved-in-Err.new.self.items c.take.new.self.state refl
     (reason-stop s c.args.client c.args.number c.handle_of-handle.result c.in-Err.reason c.in-Err.ensures.not_taken) outs
-    (ap (λ (v : Standing). v.state) c.in-Err.ensures.err))
+    (ap (λ (v : FacilityView). v.state) c.in-Err.ensures.err))

@@ -7,7 +7,7 @@ use Rattle.timer_wheels.specs.WheelLists.{rows_below, timers_in, ArePending, Are
 use Rattle.timer_wheels.proofs.WheelLemmas.{expired-rows, expired, expired-past, expired-in_order}
 use Rattle.timer_wheels.proofs.buckets.Buckets.expire.Goals as goal
 
--- what taking the first due row leaves as it was
+-- what removing the first due row leaves unchanged
 record KeepsBuckets (now n : ℕ) (old new : List (List (ℕ × Node))) : Type 0 where
   has_lists : length new ≡ n + 1
   rows : rows_below n new ≡ rows_below n old

@@ -1,0 +1,31 @@
+-- The result of a client's request at the desk.
+use Rattle.std.specs.Prelude.{◌≡◌, ℕ, Bool, true, [], ◌∷◌, Option, Some, None}
+use Rattle.timer_facility.specs.declared.request.NotTaken.TheVariants as NotTakens
+use Rattle.timer_facility.specs.State.{FacilityState}
+use Rattle.timer_facility.specs.Step.{Step, step}
+use Rattle.timer_facility.specs.Facility.{FacilityView, asked as event_asked, with_nothing_waiting, NeedsMemory}
+use Rattle.timer_desk.specs.declared.word.Numbered.{Numbered}
+use Rattle.timer_desk.specs.declared.word.Word.{Word}
+use Rattle.timer_desk.specs.declared.word.Word.TheVariants as Words
+use Rattle.timer_desk.specs.Report.{out_of, place_told}
+
+-- the step of a client's request, with the place in its word
+abbrev pub asked_step : FacilityState → ℕ → Numbered → Word → Step
+asked_step s client numbered word = step s (event_asked client numbered.number numbered.request) (place_told word)
+
+-- the word is not a refusal for memory
+abbrev pub IsNoWant : Word → Type 0
+IsNoWant (Words.Answered number answer) = Unit {0}
+IsNoWant (Words.NotTaken number reason) = ¬ (reason ≡ NotTakens.OutOfMemory)
+IsNoWant (Words.Notice notice) = Unit {0}
+
+-- the request was taken or refused, and this is its word
+pub record HasAsked (s : FacilityState) (client : ℕ) (numbered : Numbered) (word : Word) (new : FacilityView) : Type 0 where
+  pub told : (asked_step s client numbered word).outs ≡ out_of client word ∷ []
+  pub left : new ≡ with_nothing_waiting (asked_step s client numbered word).state
+  pub no_want : IsNoWant word
+
+-- the line ran out of memory, or the request that is now held did: a start that would be accepted
+abbrev pub RanOutOfMemory : Bool → ℕ → FacilityState → Option Numbered → Type 0
+RanOutOfMemory line_may_refuse client s None = line_may_refuse ≡ true
+RanOutOfMemory line_may_refuse client s (Some numbered) = NeedsMemory s client numbered.number numbered.request

@@ -1,0 +1,172 @@
+//! The backlog of one client at the desk: its outbox, and a request that ran out of memory.
+use crate::asking::ask;
+use crate::inlet::{Inlet, Put, Taken};
+use crate::report::{Done, Served};
+use crate::word::{Numbered, Word};
+use circular_buffer::HeapCircularBuffer;
+use std::alloc::{AllocError, Global};
+use std::marker::Model;
+use timer_base::Wheel;
+use timer_facility::{Facility, a_request_adds_at_most_one};
+
+/// The words that wait for a client, and a request that ran out of memory.
+#[derive(Drop)]
+pub struct Backlog {
+    outbox: HeapCircularBuffer<Word>,
+    held: Option<Numbered>,
+}
+
+impl Model for Backlog {
+    ghost use Rattle.timer_desk.specs.Backlog.{BacklogState};
+
+    ghost Value = { BacklogState };
+
+    ghost view = { λ w. record { outbox = w.outbox.items; room = w.outbox.capacity; held = w.held } };
+}
+
+impl Backlog {
+    ghost use Rattle.std.specs.Prelude.{◌≡◌, ◌+◌, ◌<◌, ◌≤◌, [], ◌∷◌, ◌++◌, length, Some, None, IfOk, ℕ, true};
+    ghost use Rattle.timer_desk.specs.Backlog.{empty_backlog, with_word};
+    ghost use Rattle.timer_facility.specs.State.{pending_of};
+    ghost use Rattle.timer_facility.specs.HandedOver.{AddsAtMostOne};
+    ghost use Rattle.timer_desk.specs.Asking.{RanOutOfMemory};
+    ghost use Rattle.timer_desk.specs.Report.{held_list, side_of, HeldIsLast, left_of, Tells, Runs};
+    ghost use Rattle.timer_desk.specs.Right.{IsRightServe};
+    ghost use Rattle.timer_desk.specs.declared.word.Numbered.{Numbered};
+
+    /// An empty backlog, whose outbox has room for `room` words.
+    pub fn new(alloc: Global, room: usize) -> Result<Backlog, AllocError>
+        ensures { IfOk result (λ w. w ≡ empty_backlog room) }
+    {
+        let outbox = HeapCircularBuffer::with_capacity(alloc, room)?;
+        Ok(Backlog { outbox, held: None })
+    }
+
+    /// How many words wait in the outbox.
+    pub fn len(&self) -> usize
+        ensures { result ≡ length self.now.outbox }
+    {
+        self.outbox.len()
+    }
+
+    /// The held request: it ran out of memory.
+    pub fn held(&self) -> Option<Numbered>
+        ensures { result ≡ self.now.held }
+    {
+        self.held
+    }
+
+    /// How many more words the outbox has room for.
+    pub fn free(&self) -> usize
+        ensures { result + length self.now.outbox ≡ self.now.room }
+    {
+        self.outbox.capacity() - self.outbox.len()
+    }
+
+    /// Pushes a word to the back of the outbox.
+    pub fn note(&mut self, word: Word)
+        requires { length self.old.outbox < self.old.room }
+        ensures { self.new ≡ with_word word self.old }
+    {
+        let _ = self.outbox.try_push_back(word);
+    }
+
+    /// Drops the held request, and pushes its word to the back of the outbox.
+    pub fn answer(&mut self, word: Word)
+        requires { length self.old.outbox < self.old.room }
+        ensures { self.new ≡ with_word word (record self.old { held = None }) }
+    {
+        self.held = None;
+        let _ = self.outbox.try_push_back(word);
+    }
+
+    /// Returns the held request, or takes the next one of the line and holds it.
+    pub fn fetch<I: Inlet>(&mut self, inlet: &mut I) -> Taken
+        ensures line { I.same_line inlet.old inlet.new }
+        ensures others { self.new ≡ record self.old { held = self.new.held } }
+        ensures held { (n : Numbered) → result ≡ Taken.Got n → self.new.held ≡ Some n }
+        ensures was_held { (n : Numbered) → self.old.held ≡ Some n → (self.new.held ≡ Some n) × (I.got inlet.new ≡ I.got inlet.old) }
+        ensures was_not_held { self.old.held ≡ None → I.got inlet.new ≡ I.got inlet.old ++ held_list self.new.held }
+        ensures idle { result ≡ Taken.Empty → (self.new ≡ self.old) × (self.old.held ≡ None)
+            × (I.got inlet.new ≡ I.got inlet.old) × (I.standing inlet.old ≡ []) }
+        ensures memory { result ≡ Taken.NoMemory → (self.new.held ≡ None) × (I.take_may_refuse ≡ true) }
+        ensures given { I.given inlet.new ≡ I.given inlet.old }
+        ensures left { length (held_list self.old.held) + length (I.standing inlet.old)
+            ≤ length (held_list self.new.held) + length (I.standing inlet.new) }
+    {
+        if let Some(numbered) = self.held {
+            return Taken::Got(numbered);
+        }
+        let taken = inlet.take();
+        if let Taken::Got(numbered) = taken {
+            self.held = Some(numbered);
+        }
+        taken
+    }
+
+    /// Moves words into the line until none is left or the line does not take one, and returns how many.
+    pub fn flush<I: Inlet>(&mut self, inlet: &mut I) -> usize
+        ensures line { I.same_line inlet.old inlet.new }
+        ensures others { self.new ≡ record self.old { outbox = self.new.outbox } }
+        ensures got { (I.got inlet.new ≡ I.got inlet.old) × (I.standing inlet.new ≡ I.standing inlet.old) }
+        ensures words { I.given inlet.new ++ self.new.outbox ≡ I.given inlet.old ++ self.old.outbox }
+        ensures fewer { length self.new.outbox ≤ length self.old.outbox }
+        ensures count { length (I.given inlet.new) ≡ length (I.given inlet.old) + result }
+    {
+        let mut count = 0usize;
+        for _ in 0..self.outbox.len() {
+            let Some(&word) = self.outbox.front() else {
+                break;
+            };
+            if !matches!(inlet.put(word), Put::Done) {
+                break;
+            }
+            self.outbox.pop_front();
+            count += 1;
+        }
+        count
+    }
+
+    /// Serves the client once: a request is made at the facility, and its word pushed to the outbox.
+    pub fn serve<I: Inlet, W: Wheel + Drop>(
+        &mut self,
+        inlet: &mut I,
+        facility: &mut Facility<W>,
+        client: usize,
+    ) -> Served
+        requires quiet { facility.old.waiting ≡ [] }
+        requires room { length self.old.outbox + pending_of facility.old.state client ≤ self.old.room }
+        requires held { HeldIsLast (side_of I.got I.standing I.given inlet.old self.old) }
+        ensures line { I.same_line inlet.old inlet.new }
+        ensures tells { Tells client (Done.Served client result ∷ [])
+            (side_of I.got I.standing I.given inlet.old self.old) (side_of I.got I.standing I.given inlet.new self.new) }
+        ensures runs { Runs (Done.Served client result ∷ []) facility.old.state facility.new.state }
+        ensures right { IsRightServe self.old.room (length self.old.outbox)
+            (left_of (side_of I.got I.standing I.given inlet.old self.old)) (pending_of facility.old.state client) result }
+        ensures memory { result ≡ Served.NoMemory → RanOutOfMemory I.take_may_refuse client facility.old.state self.new.held }
+        ensures no_room { result ≡ Served.NoRoom → (inlet.new ≡ inlet.old) × (self.new ≡ self.old) × (facility.new ≡ facility.old) }
+        ensures idle { result ≡ Served.Idle
+            → (I.got inlet.new ≡ I.got inlet.old) × (self.new ≡ self.old) × (facility.new ≡ facility.old) }
+        ensures adds { AddsAtMostOne client facility.old.state facility.new.state }
+        ensures room { length self.new.outbox + pending_of facility.new.state client ≤ self.new.room }
+        ensures quiet { facility.new.waiting ≡ [] }
+        ensures clients { length facility.new.state.numbers ≡ length facility.old.state.numbers }
+    {
+        a_request_adds_at_most_one();
+        if self.free() - facility.pending_of(client as u64) < 2 {
+            return Served::NoRoom;
+        }
+        let numbered = match self.fetch(inlet) {
+            Taken::Empty => return Served::Idle,
+            Taken::NoMemory => return Served::NoMemory,
+            Taken::Got(numbered) => numbered,
+        };
+        match ask(facility, client as u64, numbered) {
+            None => Served::NoMemory,
+            Some(word) => {
+                self.answer(word);
+                Served::Did { numbered, word }
+            }
+        }
+    }
+}

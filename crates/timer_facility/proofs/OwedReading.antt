@@ -1,0 +1,120 @@
+-- A history read event by event, and a proof that this yields what is owed for the whole.
+use Rattle.std.proofs.Common.{◌≡◌, ℕ, zero, suc, ◌+◌, Bool, true, false, not, ◌==◌, ◌&&◌, ◌||◌, List, [], ◌∷◌, ◌++◌, refl, sym, ◌∙◌, ap, arith, append-nil, append_assoc}
+use Rattle.std.specs.Prelude.{map, filter, nat_lt}
+use Rattle.timer_base.specs.declared.timer.Timer.{Timer}
+use Rattle.timer_base.specs.Pending.{timers_of}
+use Rattle.timer_facility.specs.declared.request.Notice.{Notice}
+use Rattle.timer_facility.specs.declared.request.Notice.TheVariants.{Expired, Returned}
+use Rattle.timer_facility.specs.State.{FacilityState}
+use Rattle.timer_facility.specs.Run.{Happened}
+use Rattle.timer_facility.specs.Owed.{started, started_by, accepted_starts, serials_told, stopped, ticks_by, accepted_ticks, any_out, is_closing, has_closed, is_among, timers_in_order, due, owed_by_ticks, owed_by_close, owed}
+use Rattle.timer_facility.proofs.TimerLists.{or_false}
+
+-- the reading of a history: the timers started, the serials stopped, the ticks accepted, whether a close was
+pub record Reading : Type 0 where
+  pub started : List Timer
+  pub stopped : List ℕ
+  pub ticks : ℕ
+  pub is_closed : Bool
+
+abbrev pub nothing_read : Reading
+nothing_read = record { started = []; stopped = []; ticks = 0; is_closed = false }
+
+abbrev pub read_more : Reading → Happened → Reading
+read_more r h = record {
+  started = r.started ++ started_by h.event h.outs;
+  stopped = r.stopped ++ serials_told h.outs;
+  ticks = r.ticks + ticks_by h.event h.outs;
+  is_closed = r.is_closed || any_out is_closing h.outs;
+}
+
+abbrev pub read_on : Reading → List Happened → Reading
+read_on r [] = r
+read_on r (h ∷ hs) = read_on (read_more r h) hs
+
+abbrev pub reading : List Happened → Reading
+reading hs = read_on nothing_read hs
+
+-- the timers pending in s, and those started since
+abbrev pub all_started : FacilityState → Reading → List Timer
+all_started s r = timers_of s.pending ++ r.started
+
+-- not stopped, and of this deadline
+abbrev pub is_owed_at : Reading → ℕ → Timer → Bool
+is_owed_at r tick t = t.deadline == tick && not (is_among t.serial r.stopped)
+
+-- not stopped, and of a later deadline
+abbrev pub is_left_at : Reading → ℕ → Timer → Bool
+is_left_at r tick t = nat_lt tick t.deadline && not (is_among t.serial r.stopped)
+
+abbrev pub due_at : FacilityState → Reading → ℕ → List Timer
+due_at s r tick = timers_in_order (filter (is_owed_at r tick) (all_started s r))
+
+abbrev pub owed_at_ticks : FacilityState → Reading → ℕ → List Notice
+owed_at_ticks s r zero = []
+owed_at_ticks s r (suc n) = owed_at_ticks s r n ++ map (λ t. Expired t) (due_at s r (s.now + suc n))
+
+abbrev pub owed_at_close : FacilityState → Reading → Bool → List Notice
+owed_at_close s r false = []
+owed_at_close s r true = map (λ t. Returned t) (timers_in_order (filter (is_left_at r (s.now + r.ticks)) (all_started s r)))
+
+-- what is owed for a reading
+abbrev pub owed_for : FacilityState → Reading → List Notice
+owed_for s r = owed_at_ticks s r r.ticks ++ owed_at_close s r r.is_closed
+
+pub reading_is : (a a' : List Timer) (b b' : List ℕ) (t t' : ℕ) (d d' : Bool) → a ≡ a' → b ≡ b' → t ≡ t' → d ≡ d'
+    → let x : Reading = record { started = a; stopped = b; ticks = t; is_closed = d } in
+    let y : Reading = record { started = a'; stopped = b'; ticks = t'; is_closed = d' } in x ≡ y
+reading_is a a' b b' t t' d d' e f g h = cc
+
+or_assoc : (a b c : Bool) → ((a || b) || c) ≡ (a || (b || c))
+or_assoc true b c = refl
+or_assoc false b c = refl
+
+-- a reading, and the whole of a history
+abbrev joined : Reading → List Happened → Reading
+joined r hs = record {
+  started = r.started ++ accepted_starts hs;
+  stopped = r.stopped ++ stopped hs;
+  ticks = r.ticks + accepted_ticks hs;
+  is_closed = r.is_closed || has_closed hs;
+}
+
+read_on-joined : (r : Reading) (hs : List Happened) → read_on r hs ≡ joined r hs
+read_on-joined r [] = reading_is r.started (r.started ++ []) r.stopped (r.stopped ++ []) r.ticks (r.ticks + 0) r.is_closed (r.is_closed || false)
+    (sym (append-nil r.started)) (sym (append-nil r.stopped)) (omega arith) (sym (or_false r.is_closed))
+read_on-joined r (h ∷ hs) = read_on-joined (read_more r h) hs
+    ∙ reading_is ((r.started ++ started_by h.event h.outs) ++ accepted_starts hs) (r.started ++ (started_by h.event h.outs ++ accepted_starts hs))
+    ((r.stopped ++ serials_told h.outs) ++ stopped hs) (r.stopped ++ (serials_told h.outs ++ stopped hs))
+    (r.ticks + ticks_by h.event h.outs + accepted_ticks hs) (r.ticks + (ticks_by h.event h.outs + accepted_ticks hs))
+    ((r.is_closed || any_out is_closing h.outs) || has_closed hs) (r.is_closed || (any_out is_closing h.outs || has_closed hs))
+    (append_assoc r.started (started_by h.event h.outs) (accepted_starts hs)) (append_assoc r.stopped (serials_told h.outs) (stopped hs))
+    (omega arith) (or_assoc r.is_closed (any_out is_closing h.outs) (has_closed hs))
+
+-- the reading of a whole history
+abbrev whole : List Happened → Reading
+whole hs = record { started = accepted_starts hs; stopped = stopped hs; ticks = accepted_ticks hs; is_closed = has_closed hs }
+
+whole_is : (hs : List Happened) → whole hs ≡ reading hs
+whole_is hs =
+    reading_is (accepted_starts hs) (accepted_starts hs) (stopped hs) (stopped hs) (accepted_ticks hs) (0 + accepted_ticks hs) (has_closed hs) (has_closed hs) refl refl (omega arith) refl
+    ∙ sym (read_on-joined nothing_read hs)
+
+ticks_same : (s : FacilityState) (hs : List Happened) (n : ℕ) → owed_by_ticks s hs n ≡ owed_at_ticks s (whole hs) n
+ticks_same s hs zero = refl
+ticks_same s hs (suc n) = ap (λ xs. xs ++ map (λ t. Expired t) (due s hs (s.now + suc n))) (ticks_same s hs n)
+
+close_same : (s : FacilityState) (hs : List Happened) (b : Bool) → owed_by_close s hs b ≡ owed_at_close s (whole hs) b
+close_same s hs true = refl
+close_same s hs false = refl
+
+-- what is owed for a history is what is owed for its reading
+pub owed_is : (s : FacilityState) (hs : List Happened) → owed s hs ≡ owed_for s (reading hs)
+owed_is s hs =
+    ap (λ xs. xs ++ owed_by_close s hs (has_closed hs)) (ticks_same s hs (accepted_ticks hs))
+    ∙ ap (λ ys. owed_at_ticks s (whole hs) (accepted_ticks hs) ++ ys) (close_same s hs (has_closed hs))
+    ∙ ap (owed_for s) (whole_is hs)
+
+-- the timers started in a history are those of its reading
+pub started_is : (s : FacilityState) (hs : List Happened) → started s hs ≡ all_started s (reading hs)
+started_is s hs = ap (all_started s) (whole_is hs)

@@ -1,0 +1,205 @@
+-- The verdict, from the tests.
+use Rattle.std.proofs.Common.{◌≡◌, ◌≢◌, ◌<◌, ◌≤◌, ◌-◌, ℕ, Bool, true, false, not, ◌==◌, length, refl, ◌∙◌, arith}
+use Rattle.std.specs.Prelude.{nat_lt, if◌then◌else◌, Option, Some, None}
+use Rattle.std.proofs.lemmas.Bool.Decides.{nat_tests}
+use Rattle.timer_base.specs.declared.limits.TheConstants.{LAST}
+use Rattle.timer_facility.specs.declared.request.NotTaken.TheVariants as NotTakens
+use Rattle.timer_facility.specs.declared.request.Reason.{Reason}
+use Rattle.timer_facility.specs.declared.request.Reason.TheVariants as Reasons
+use Rattle.timer_facility.specs.declared.request.TickFault.TheVariants as TickFaults
+use Rattle.timer_facility.specs.State.{FacilityState, number_of}
+use Rattle.timer_facility.specs.Verdict.{not_taken, start_refusal, interval_refusal, tick_refusal}
+
+lt_true : (a b : ℕ) → a < b → nat_lt a b ≡ true
+lt_true a b h = grind (arith, nat_tests)
+
+lt_false : (a b : ℕ) → b ≤ a → nat_lt a b ≡ false
+lt_false a b h = grind (arith, nat_tests)
+
+not_lt : (a b : ℕ) → b ≤ a → not (nat_lt a b) ≡ true
+not_lt a b h = grind (arith, nat_tests)
+
+is_lt : (a b : ℕ) → not (nat_lt a b) ≡ false → a < b
+is_lt a b h = grind (arith, nat_tests)
+
+at_most : (a b : ℕ) → nat_lt a b ≡ false → b ≤ a
+at_most a b h = grind (arith, nat_tests)
+
+same : (a b : ℕ) → a ≡ b → (a == b) ≡ true
+same a b h = grind (arith, nat_tests)
+
+differ : (a b : ℕ) → a ≢ b → (a == b) ≡ false
+differ a b h = grind (arith, nat_tests)
+
+differs : (a b : ℕ) → (a == b) ≡ false → a ≢ b
+differs a b h = grind (arith, nat_tests)
+
+above_zero : (n : ℕ) → (n == 0) ≡ false → 0 < n
+above_zero n h = grind (arith, nat_tests)
+
+-- a test that fails, and the ones after it
+none_then : {X : Type 0} (x : X) (rest : Option X) (b : Bool) → (if b then Some x else rest) ≡ None → (b ≡ false) × (rest ≡ None)
+none_then x rest true h = absurd (cc)
+none_then x rest false h = (refl, h)
+
+-- Requests.
+
+pub not_taken-closed : (s : FacilityState) (client number : ℕ) → s.is_closed ≡ true → not_taken s client number ≡ Some NotTakens.Closed
+unfolding not_taken
+not_taken-closed s client number h = rw h refl
+
+pub not_taken-no_client : (s : FacilityState) (client number : ℕ) → s.is_closed ≡ false → length s.numbers ≤ client → not_taken s client number ≡ Some NotTakens.NoClient
+unfolding not_taken
+not_taken-no_client s client number h k = rw (h, not_lt client (length s.numbers) k) refl
+
+-- the facility is open, and the client is one of its own and has this next number
+pub record IsKnown (s : FacilityState) (client next : ℕ) : Type 0 where
+  pub is_open : s.is_closed ≡ false
+  pub is_client : client < length s.numbers
+  pub next_is : number_of s client ≡ next
+
+pub not_taken-repeated : (s : FacilityState) (client number next : ℕ) → IsKnown s client next → number < next → not_taken s client number ≡ Some (NotTakens.Repeated next)
+unfolding not_taken
+not_taken-repeated s client number next k h = rw (k.is_open, k.next_is, lt_true client (length s.numbers) k.is_client, lt_true number next h) refl
+
+pub not_taken-spent : (s : FacilityState) (client number next : ℕ) → IsKnown s client next → next ≤ number → LAST < next → not_taken s client number ≡ Some NotTakens.NumbersSpent
+unfolding not_taken
+not_taken-spent s client number next k h l = rw (k.is_open, k.next_is, lt_true client (length s.numbers) k.is_client, lt_false number next h, lt_true LAST next l) refl
+
+pub not_taken-ahead : (s : FacilityState) (client number next : ℕ) → IsKnown s client next → next ≤ LAST → next < number → not_taken s client number ≡ Some (NotTakens.Ahead next)
+unfolding not_taken
+not_taken-ahead s client number next k l h =
+    rw (k.is_open, k.next_is, lt_true client (length s.numbers) k.is_client, lt_false number next (omega arith), lt_false LAST next l, lt_true next number h) refl
+
+pub not_taken-none : (s : FacilityState) (client number next : ℕ) → IsKnown s client next → next ≤ number → next ≤ LAST → number ≤ next → not_taken s client number ≡ None
+unfolding not_taken
+not_taken-none s client number next k h l m =
+    rw (k.is_open, k.next_is, lt_true client (length s.numbers) k.is_client, lt_false number next h, lt_false LAST next l, lt_false next number m) refl
+
+-- what is true of a request that is taken
+pub record IsTakable (s : FacilityState) (client number : ℕ) : Type 0 where
+  pub is_open : s.is_closed ≡ false
+  pub is_client : client < length s.numbers
+  pub from_next : number_of s client ≤ number
+  pub in_range : number_of s client ≤ LAST
+  pub to_next : number ≤ number_of s client
+
+pub takable : (s : FacilityState) (client number : ℕ) → not_taken s client number ≡ None → IsTakable s client number
+unfolding not_taken
+takable s client number h =
+    let a = none_then NotTakens.Closed _ s.is_closed h in
+    let b = none_then NotTakens.NoClient _ (not (nat_lt client (length s.numbers))) a.1 in
+    let c = none_then (NotTakens.Repeated (number_of s client)) _ (nat_lt number (number_of s client)) b.1 in
+    let d = none_then NotTakens.NumbersSpent _ (nat_lt LAST (number_of s client)) c.1 in
+    let e = none_then (NotTakens.Ahead (number_of s client)) _ (nat_lt (number_of s client) number) d.1 in
+    record {
+      is_open = a.0;
+      is_client = is_lt client (length s.numbers) b.0;
+      from_next = at_most number (number_of s client) c.0;
+      in_range = at_most LAST (number_of s client) d.0;
+      to_next = at_most (number_of s client) number e.0;
+    }
+
+pub open_when : (s : FacilityState) (client number : ℕ) → not_taken s client number ≡ None → s.is_closed ≡ false
+open_when s client number h = (takable s client number h).is_open
+
+-- Starts, and restarts.
+
+pub interval_refusal-zero : (s : FacilityState) (interval : ℕ) → interval ≡ 0 → interval_refusal s interval ≡ Some Reasons.ZeroInterval
+unfolding interval_refusal
+interval_refusal-zero s interval h = rw (same interval 0 h) refl
+
+pub interval_refusal-late : (s : FacilityState) (interval : ℕ) → interval ≢ 0 → s.last - s.now < interval → interval_refusal s interval ≡ Some Reasons.TooLate
+unfolding interval_refusal
+interval_refusal-late s interval h k = rw (differ interval 0 h, lt_true (s.last - s.now) interval k) refl
+
+pub interval_refusal-spent : (s : FacilityState) (interval : ℕ) → interval ≢ 0 → interval ≤ s.last - s.now → LAST < s.next_serial → interval_refusal s interval ≡ Some Reasons.SerialsSpent
+unfolding interval_refusal
+interval_refusal-spent s interval h k l = rw (differ interval 0 h, lt_false (s.last - s.now) interval k, lt_true LAST s.next_serial l) refl
+
+pub interval_refusal-none : (s : FacilityState) (interval : ℕ) → interval ≢ 0 → interval ≤ s.last - s.now → s.next_serial ≤ LAST → interval_refusal s interval ≡ None
+unfolding interval_refusal
+interval_refusal-none s interval h k l = rw (differ interval 0 h, lt_false (s.last - s.now) interval k, lt_false LAST s.next_serial l) refl
+
+-- what is true of an interval with which a timer can be started
+pub record IsTimely (s : FacilityState) (interval : ℕ) : Type 0 where
+  pub positive : 0 < interval
+  pub in_time : interval ≤ s.last - s.now
+  pub unspent : s.next_serial ≤ LAST
+
+pub timely : (s : FacilityState) (interval : ℕ) → interval_refusal s interval ≡ None → IsTimely s interval
+unfolding interval_refusal
+timely s interval h =
+    let a = none_then Reasons.ZeroInterval _ (interval == 0) h in
+    let b = none_then Reasons.TooLate _ (nat_lt (s.last - s.now) interval) a.1 in
+    let c = none_then Reasons.SerialsSpent _ (nat_lt LAST s.next_serial) b.1 in
+    record {
+      positive = above_zero interval a.0;
+      in_time = at_most (s.last - s.now) interval b.0;
+      unspent = at_most LAST s.next_serial c.0;
+    }
+
+-- three tests, and the case where none of them holds
+three_tests : {X : Type 0} (x y z r : X) (rest : Option X) (a b c : Bool) → (if a then Some x else if b then Some y else if c then Some z else None) ≡ Some r
+    → (if a then Some x else if b then Some y else if c then Some z else rest) ≡ Some r
+three_tests x y z r rest true b c h = h
+three_tests x y z r rest false true c h = h
+three_tests x y z r rest false false true h = h
+three_tests x y z r rest false false false h = absurd (cc)
+
+pub start_refusal-interval : (s : FacilityState) (interval : ℕ) (reason : Reason) → interval_refusal s interval ≡ Some reason → start_refusal s interval ≡ Some reason
+unfolding start_refusal interval_refusal
+start_refusal-interval s interval reason h =
+    three_tests Reasons.ZeroInterval Reasons.TooLate Reasons.SerialsSpent reason _ (interval == 0) (nat_lt (s.last - s.now) interval) (nat_lt LAST s.next_serial) h
+
+start_refusal-room : (s : FacilityState) (interval : ℕ) → interval_refusal s interval ≡ None → start_refusal s interval ≡ (if length s.pending == s.capacity then Some Reasons.Full else None)
+unfolding start_refusal
+start_refusal-room s interval h =
+    let t : IsTimely s interval = timely s interval h in
+    let positive : 0 < interval = t.positive in
+    rw (differ interval 0 (λ e. absurd (omega arith)), lt_false (s.last - s.now) interval t.in_time, lt_false LAST s.next_serial t.unspent) refl
+
+pub start_refusal-full : (s : FacilityState) (interval : ℕ) → interval_refusal s interval ≡ None → length s.pending ≡ s.capacity → start_refusal s interval ≡ Some Reasons.Full
+start_refusal-full s interval h m = start_refusal-room s interval h ∙ rw (same (length s.pending) s.capacity m) refl
+
+pub start_refusal-none : (s : FacilityState) (interval : ℕ) → interval_refusal s interval ≡ None → length s.pending ≢ s.capacity → start_refusal s interval ≡ None
+start_refusal-none s interval h m = start_refusal-room s interval h ∙ rw (differ (length s.pending) s.capacity m) refl
+
+-- what is true of a start that is accepted
+pub record IsStartable (s : FacilityState) (interval : ℕ) : Type 0 where
+  pub timely : IsTimely s interval
+  pub room : length s.pending ≢ s.capacity
+
+pub startable : (s : FacilityState) (interval : ℕ) → start_refusal s interval ≡ None → IsStartable s interval
+unfolding start_refusal
+startable s interval h =
+    let a = none_then Reasons.ZeroInterval _ (interval == 0) h in
+    let b = none_then Reasons.TooLate _ (nat_lt (s.last - s.now) interval) a.1 in
+    let c = none_then Reasons.SerialsSpent _ (nat_lt LAST s.next_serial) b.1 in
+    let d = none_then Reasons.Full _ (length s.pending == s.capacity) c.1 in
+    record {
+      timely = record {
+        positive = above_zero interval a.0;
+        in_time = at_most (s.last - s.now) interval b.0;
+        unspent = at_most LAST s.next_serial c.0;
+      };
+      room = differs (length s.pending) s.capacity d.0;
+    }
+
+-- Ticks.
+
+pub tick_refusal-closed : (s : FacilityState) → s.is_closed ≡ true → tick_refusal s ≡ Some TickFaults.Closed
+unfolding tick_refusal
+tick_refusal-closed s h = rw h refl
+
+pub tick_refusal-clock_end : (s : FacilityState) → s.is_closed ≡ false → s.now ≡ s.last → tick_refusal s ≡ Some TickFaults.ClockEnd
+unfolding tick_refusal
+tick_refusal-clock_end s h k = rw (h, same s.now s.last k) refl
+
+pub tick_refusal-none : (s : FacilityState) → s.is_closed ≡ false → s.now ≢ s.last → tick_refusal s ≡ None
+unfolding tick_refusal
+tick_refusal-none s h k = rw (h, differ s.now s.last k) refl
+
+pub open_at_tick : (s : FacilityState) → tick_refusal s ≡ None → s.is_closed ≡ false
+unfolding tick_refusal
+open_at_tick s h = (none_then TickFaults.Closed _ s.is_closed h).0

@@ -1,0 +1,118 @@
+-- What a caller sees of a facility: its state, and the notices that wait to be handed out. And its fields, the parts.
+use Rattle.std.specs.Prelude.{◌≡◌, ◌<◌, ◌≤◌, ◌⊎◌, ℕ, ◌+◌, Bool, List, [], ◌∷◌, ◌++◌, map, take, drop, length, slice_index, Some, None}
+use Rattle.timer_base.specs.declared.limits.TheConstants.{LAST}
+use Rattle.timer_base.specs.declared.timer.Timer.{Timer}
+use Rattle.timer_base.specs.Pending.{timers_of}
+use Rattle.timer_base.specs.WheelState.{WheelState}
+use Rattle.timer_facility.specs.declared.limits.TheConstants.{MOST_CLIENTS, MOST_PENDING}
+use Rattle.timer_facility.specs.declared.request.Request.{Request}
+use Rattle.timer_facility.specs.declared.request.Request.TheVariants as Requests
+use Rattle.timer_facility.specs.declared.request.Answer.{Answer}
+use Rattle.timer_facility.specs.declared.request.Answer.TheVariants.{Started, Stopped, Restarted, Refused}
+use Rattle.timer_facility.specs.declared.request.NotTaken.{NotTaken}
+use Rattle.timer_facility.specs.declared.request.NotTaken.TheVariants as NotTakens
+use Rattle.timer_facility.specs.declared.request.Notice.{Notice}
+use Rattle.timer_facility.specs.declared.request.Notice.TheVariants.{Expired, Returned}
+use Rattle.timer_facility.specs.declared.event.Out.TheVariants as Outs
+use Rattle.timer_facility.specs.State.{FacilityState, count_of, Wanted, Start, Stop, Restart, SingleEvent, Asked}
+use Rattle.timer_facility.specs.Verdict.{not_taken, refusal}
+use Rattle.timer_facility.specs.Step.{Step, step}
+use Rattle.timer_facility.specs.Run.{notices_in}
+
+pub record FacilityView : Type 0 where
+  pub state : FacilityState
+  -- the first is handed out next
+  pub waiting : List Notice
+
+-- the view after a step: its notices wait
+abbrev pub view_after : Step → FacilityView
+view_after st = record { state = st.state; waiting = notices_in st.outs }
+
+-- a state in which no notice waits
+abbrev pub with_nothing_waiting : FacilityState → FacilityView
+with_nothing_waiting s = record { state = s; waiting = [] }
+
+-- a request as the model has it
+abbrev pub wanted_of : Request → Wanted
+wanted_of (Requests.Start interval action) = Start interval action
+wanted_of (Requests.Stop handle) = Stop handle
+wanted_of (Requests.Restart handle interval action) = Restart handle interval action
+
+-- a client's request under a number
+abbrev pub asked : ℕ → ℕ → Request → SingleEvent
+asked client number request = Asked client number (wanted_of request)
+
+-- the place in an answer
+abbrev pub place_in : Answer → ℕ
+place_in (Started handle deadline) = handle.place
+place_in (Stopped serial) = 0
+place_in (Restarted handle deadline old) = handle.place
+place_in (Refused reason) = 0
+
+-- the request is taken, with this answer and this view after it
+pub record IsTaken (s : FacilityState) (client number : ℕ) (request : Request) (answer : Answer) (new : FacilityView) : Type 0 where
+  pub answered : (step s (asked client number request) (place_in answer)).outs ≡ Outs.Answered client number answer ∷ []
+  pub left : new ≡ view_after (step s (asked client number request) (place_in answer))
+
+-- the request would be taken, and is a start that would be accepted
+abbrev pub NeedsMemory : FacilityState → ℕ → ℕ → Request → Type 0
+NeedsMemory s client number (Requests.Start interval action) =
+    (not_taken s client number ≡ None) × (refusal s client (Start interval action) ≡ None)
+NeedsMemory s client number (Requests.Stop handle) = ⊥
+NeedsMemory s client number (Requests.Restart handle interval action) = ⊥
+
+-- the request is not taken, for the reason of the verdict; or it allocates, and the allocation failed
+abbrev pub IsNotTaken : FacilityState → ℕ → ℕ → Request → NotTaken → Type 0
+IsNotTaken s client number request reason =
+    (not_taken s client number ≡ Some reason) ⊎ ((reason ≡ NotTakens.OutOfMemory) × NeedsMemory s client number request)
+
+-- the fields of a facility, as their values
+pub record Parts : Type 0 where
+  pub wheel : WheelState
+  pub clients : ℕ
+  pub capacity : ℕ
+  pub next_serial : ℕ
+  -- the next request numbers, of which the first `clients` count
+  pub numbers : List ℕ
+  -- how many timers each client has
+  pub counts : List ℕ
+  pub is_closed : Bool
+  -- the timers that a close returns, and how many of them were handed out
+  pub returned : List Timer
+  pub handed : ℕ
+
+-- the view of these parts
+abbrev pub view_of : Parts → FacilityView
+view_of p = record {
+  state = record {
+    capacity = p.capacity;
+    last = p.wheel.last_tick;
+    now = p.wheel.now;
+    next_serial = p.next_serial;
+    pending = p.wheel.pending;
+    numbers = take p.clients p.numbers;
+    is_closed = p.is_closed;
+  };
+  waiting = map (λ t. Expired t) p.wheel.due ++ map (λ t. Returned t) (drop p.handed p.returned);
+}
+
+-- the timers that a facility keeps: those that are pending, and those that wait to be handed out
+abbrev pub kept : Parts → List Timer
+kept p = timers_of p.wheel.pending ++ (p.wheel.due ++ drop p.handed p.returned)
+
+-- the counts are those of these timers, all of clients below `clients`
+pub record AreCounted (clients : ℕ) (counts : List ℕ) (ts : List Timer) : Type 0 where
+  pub all_counts : length counts ≡ MOST_CLIENTS
+  pub each : (client : ℕ) → slice_index counts client ≡ count_of client ts
+  pub no_others : (client : ℕ) → clients ≤ client → slice_index counts client ≡ 0
+
+-- the invariant of the parts
+pub record AreParts (p : Parts) : Type 0 where
+  pub all_numbers : length p.numbers ≡ MOST_CLIENTS
+  pub few_clients : p.clients ≤ MOST_CLIENTS
+  pub capacity_in_range : p.capacity ≤ MOST_PENDING
+  pub few_pending : length p.wheel.pending ≤ p.capacity
+  pub serial_unused : p.wheel.last_serial < p.next_serial
+  pub serial_in_range : p.next_serial ≤ LAST + 1
+  pub handed_in_range : p.handed ≤ length p.returned
+  pub counted : AreCounted p.clients p.counts (kept p)
