@@ -170,14 +170,15 @@ static SCHEMES: [&[&str]; 7] = [
     &["--scheme", "clock"],
 ];
 
-/// Plays the script of a row with a scheme, and compares what is written.
-fn play_row<T: AllocGlobal + Abort + Threads>(
+/// Plays the script of a row with a scheme, or serves it, and compares what is written.
+fn play_row<'a, T: AllocGlobal + Abort + Threads>(
     rt: &T,
+    command: &'a str,
     row: Row,
-    scheme: &[&str],
+    scheme: &[&'a str],
 ) -> Result<(), Fail> {
     let alloc = rt.alloc();
-    let mut arguments = vec![in alloc; "play"]?;
+    let mut arguments = vec![in alloc; command]?;
     arguments.extend_from_slice(scheme)?;
     arguments.extend_from_slice(row.options)?;
     let ended = call(
@@ -207,12 +208,14 @@ fn worked_rows_give_their_text_with_each_scheme(rt: HostRuntime) -> Result<(), F
     for row in rows() {
         for scheme in &SCHEMES {
             if row.name != "clock_end" || scheme[1] != "clock" {
-                play_row(&rt, row, scheme)?;
+                play_row(&rt, "play", row, scheme)?;
+                play_row(&rt, "serve", row, scheme)?;
             }
         }
     }
     for row in clock_rows() {
-        play_row(&rt, row, &["--scheme", "clock"])?;
+        play_row(&rt, "play", row, &["--scheme", "clock"])?;
+        play_row(&rt, "serve", row, &["--scheme", "clock"])?;
     }
     Ok(())
 }
