@@ -8,6 +8,7 @@ pub mod Writing
 pub mod Faults
 pub mod Running
 pub mod Peer
+pub mod Streams
 pub mod Serving
 pub mod Asked
 pub mod Schemes

@@ -129,6 +129,10 @@ fn refused_arguments_read_nothing_and_write_nothing(rt: HostRuntime) {
         ["play", "--scheme", "wheel"].as_slice(),
         ["play", "--scheme"].as_slice(),
         ["play", "x"].as_slice(),
+        ["serve", "--slots", "0"].as_slice(),
+        ["serve", "--clients", "65"].as_slice(),
+        ["serve", "--timers", "1"].as_slice(),
+        ["serve", "x"].as_slice(),
         ["pause"].as_slice(),
         ["--scheme", "plain"].as_slice(),
         [""].as_slice(),
@@ -159,15 +163,17 @@ fn a_clock_begins_at_its_last_tick_at_most(rt: HostRuntime) {
     same(&rt, ended.status, 0);
     same(&rt, ended.output.as_slice(), refused);
 
-    let late = ["play", "--scheme", "clock", "--first-tick", "8640000"];
-    let ended = call(
-        &rt,
-        late.as_slice(),
-        Source::of(b"tick 1\n"),
-        Sink::new(rt.alloc()),
-    );
-    same(&rt, ended.asks, 0);
-    has_left(&rt, "late", &ended, 2, b"", b"first tick above 8639999\n");
+    for command in ["play", "serve"] {
+        let late = [command, "--scheme", "clock", "--first-tick", "8640000"];
+        let ended = call(
+            &rt,
+            late.as_slice(),
+            Source::of(b"tick 1\n"),
+            Sink::new(rt.alloc()),
+        );
+        same(&rt, ended.asks, 0);
+        has_left(&rt, command, &ended, 2, b"", b"first tick above 8639999\n");
+    }
 }
 
 #[test]
@@ -186,6 +192,14 @@ fn help_and_version_are_written_where_they_are_asked_for(rt: HostRuntime) {
         (
             ["help", "play"].as_slice(),
             b"Plays the script on standard input".as_slice(),
+        ),
+        (
+            ["serve", "--help"].as_slice(),
+            b"Answers each line of standard input".as_slice(),
+        ),
+        (
+            ["help", "serve"].as_slice(),
+            b"Answers each line of standard input".as_slice(),
         ),
         (["--version"].as_slice(), b"timers 0.1.0\n".as_slice()),
         (["-V"].as_slice(), b"timers 0.1.0\n".as_slice()),

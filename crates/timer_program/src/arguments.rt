@@ -11,6 +11,8 @@ use crate::options::{Asked, read_arguments};
 use crate::output::write_text;
 use crate::reporting::report;
 use crate::schemes::play_by_scheme;
+use crate::server::serve_lines;
+use crate::streams::Streams;
 use crate::watched::Watched;
 use clap::Error;
 use clap::error::ErrorKind;
@@ -21,26 +23,33 @@ use std::thread::Threads;
 
 /// Runs the program on the arguments after its name, and returns its exit status.
 ///
-/// 0: the script was played, or the clients ran to their end, and the text written, or help was asked
-/// for and written. 1: an error, reported in one line on `faults`. 2: the arguments are refused, for the
-/// reason that `faults` gets; nothing is read or written. An error in writing to `faults` is ignored.
-/// Neither the reader nor the writer may have failed before. Waits where clients run in threads.
+/// 0: the script was played, or the stream served to its end, or the clients ran to theirs, and the text
+/// was written, or help was asked for and written. 1: an error, reported in one line on `faults`. 2: the
+/// arguments are refused, for the reason that `faults` gets; nothing is read or written. An error in
+/// writing to `faults` is ignored. Neither the reader nor the writer may have failed before. Waits where
+/// clients run in threads.
 pub fn command<T: AllocGlobal + Threads, S: AsStr, R: Read, W: Write, F: Write>(
     rt: &T,
     arguments: &[S],
-    reader: &mut Watched<R>,
-    writer: &mut Watched<W>,
+    streams: &mut Streams<R, W>,
     faults: &mut F,
 ) -> u8
-    requires reader_good { reader.old.failed ≡ false }
-    requires writer_good { writer.old.failed ≡ false }
-    ensures { HasEnded R.remaining W.contents reader.old reader.new writer.old writer.new result }
+    requires reader_good { streams.old.reader.failed ≡ false }
+    requires writer_good { streams.old.writer.failed ≡ false }
+    ensures { HasEnded R.remaining W.contents streams.old.reader streams.new.reader streams.old.writer streams.new.writer result }
 {
     let alloc = rt.alloc();
     match read_arguments(alloc, arguments) {
-        Ok(Asked::Play(asked)) => play(alloc, asked, reader, writer, faults),
-        Ok(Asked::Threads(asked)) => run_clients(rt, alloc, asked, writer, faults),
-        Err(error) => end_unplayed(alloc, &error, writer, faults),
+        Ok(Asked::Play(asked)) => play(
+            alloc,
+            asked,
+            &mut streams.reader,
+            &mut streams.writer,
+            faults,
+        ),
+        Ok(Asked::Serve(asked)) => serve_lines(alloc, asked, streams, faults),
+        Ok(Asked::Threads(asked)) => run_clients(rt, alloc, asked, &mut streams.writer, faults),
+        Err(error) => end_unplayed(alloc, &error, &mut streams.writer, faults),
     }
 }
 

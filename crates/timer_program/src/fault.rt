@@ -48,7 +48,7 @@ pub enum SessionFault {
     Ended,
 }
 
-/// Why serving ended before the end of the input.
+/// Why serving ended early. Its text is the line that the user is shown.
 #[derive(Clone, Copy, Debug, PartialEq, Eq, Error)]
 pub enum ServeFault {
     /// A read failed.

@@ -41,7 +41,8 @@ For example:
 
 Nothing is written before the whole script has been played. The exit status is 0 if
 it was, 1 after an error, which is reported in one line on standard error, and 2 if
-the arguments are refused. docs/formats.md lists every line of scripts and output.";
+the arguments are refused. `timers serve` answers each line as it comes instead.
+docs/formats.md lists every line of scripts and output.";
 
 /// What stands below the help of `play`.
 pub static SCHEMES: &str = "\
@@ -62,6 +63,31 @@ For example, with two clients, a stop and a close:
   end 0 0                              tick, pending timers
 
 `timers help` describes the lines of a script; docs/formats.md has all of it.";
+
+pub static SERVE_ABOUT: &str =
+    "Answers each line of standard input as soon as it is complete, until the input ends";
+
+/// What stands below the help of `serve`.
+pub static STREAMS: &str = "\
+A stream has the lines of a script, which `timers help` describes, and they have the
+same answers. Each line is answered as soon as its line feed has come: before more is
+read, the answers to all complete lines are written and flushed. At the end of the
+input the line `end` is written. The input may have any length.
+
+A bad line ends the stream: the lines before it have been answered, and `bad line L`
+is reported. A last line without its line feed is a bad line.
+
+For example, another program writes to the input and reads the output of `timers serve`:
+  start 0 1 30 7         started 0 1 1 30
+  tick 20                (nothing expires, so there is no answer)
+  restart 0 2 1 30 7     restarted 0 2 1 2 50
+  tick 30                expired 50 0 2 7
+  (the input ends)       end 50 0
+
+The schemes are those of `timers play`. The exit status is 0 if the input came to its
+end and every line was answered, 1 after an error, which is reported in one line on
+standard error (`bad line L`, `read failed`, `write failed` or `out of memory`), and 2
+if the arguments are refused. docs/formats.md says what may have been written then.";
 
 pub static THREADS_ABOUT: &str =
     "Runs clients in threads of their own, beside one facility, and writes a line for each";

@@ -1,10 +1,10 @@
 //! The program `timers`: it reads a script of starts, stops, restarts, ticks and closes, plays it on a timer
-//! facility, and writes one line per result.
+//! facility, and writes one line per result; or it answers such lines as they come.
 //!
 //! `play` has the whole run, from the bytes of the script to those of the text, and its contract is
-//! the promise of the program. Read `script` and `text` first, with `specs/Script.antt` and
-//! `specs/Text.antt`: which bytes are a script, and which text answers it. `arguments` is the program
-//! around it, up to the exit status.
+//! the promise of the program; `serving` has the same for lines that are answered as they come. Read
+//! `script` and `text` first, with `specs/Script.antt` and `specs/Text.antt`: which bytes are a script,
+//! and which text answers it. `arguments` is the program around both, up to the exit status.
 #![tactic(auto)]
 
 #[cfg(test)]
@@ -37,6 +37,9 @@ mod schemes;
 mod script;
 #[cfg(test)]
 mod script_tests;
+mod server;
+#[cfg(test)]
+mod server_tests;
 mod serving;
 #[cfg(test)]
 mod serving_tests;
@@ -58,8 +61,8 @@ mod watched;
 use arguments::command;
 use std::process::ExitCode;
 use std::{env, io};
+use streams::Streams;
 use unread::{after_name, end_without_arguments};
-use watched::Watched;
 
 fn main(rt: HostRuntime) -> ExitCode {
     let mut faults = rt.stderr();
@@ -67,8 +70,7 @@ fn main(rt: HostRuntime) -> ExitCode {
         Ok(arguments) => command(
             &rt,
             after_name(&arguments),
-            &mut Watched::new(rt.stdin()),
-            &mut Watched::new(rt.stdout()),
+            &mut Streams::new(rt.stdin(), rt.stdout()),
             &mut faults,
         ),
         Err(error) => end_without_arguments(error.kind(), &mut faults),

@@ -2,6 +2,7 @@
 //!
 //!     timers                        the same as `timers play`
 //!     timers play [OPTIONS]         plays the script on standard input
+//!     timers serve [OPTIONS]        answers the lines of standard input as they come
 //!     timers threads [OPTIONS]      runs clients in threads of their own
 //!     timers help, timers --help    what the program is
 //!     timers --version              its name and version
@@ -11,7 +12,10 @@ ghost use Rattle.std.specs.Prelude.{◌≡◌, IfSome};
 ghost use Rattle.timer_program.specs.Asked.{name_of};
 
 use crate::asked::{Play, Scheme};
-use crate::help::{ABOUT, NAME, PLAY_ABOUT, SCHEMES, SCRIPTS, THREADS, THREADS_ABOUT, VERSION};
+use crate::help::{
+    ABOUT, NAME, PLAY_ABOUT, SCHEMES, SCRIPTS, SERVE_ABOUT, STREAMS, THREADS, THREADS_ABOUT,
+    VERSION,
+};
 use crate::requested::Clients;
 use clap::error::ErrorKind;
 use clap::{Arg, ArgMatches, Command, Error, value_parser};
@@ -23,6 +27,8 @@ use std::convert::AsStr;
 pub enum Asked {
     /// `play`: play the script on standard input.
     Play(Play),
+    /// `serve`: answer the lines of standard input as they come.
+    Serve(Play),
     /// `threads`: run clients in threads of their own.
     Threads(Clients),
 }
@@ -50,8 +56,13 @@ fn number<'a>(
         .help(help)
 }
 
-/// The subcommand `play` with its options.
-fn play_command<'a>(alloc: Global) -> Result<Command<'a>, AllocError> {
+/// A subcommand with the options of `play`.
+fn playing_command<'a>(
+    alloc: Global,
+    name: &'a str,
+    about: &'a str,
+    after_help: &'a str,
+) -> Result<Command<'a>, AllocError> {
     let scheme = Arg::new(alloc, "scheme")
         .long("scheme")
         .value_name("SCHEME")
@@ -90,9 +101,9 @@ fn play_command<'a>(alloc: Global) -> Result<Command<'a>, AllocError> {
         "0",
         "The tick at which the clock begins, 0 to the last tick of the scheme",
     );
-    Command::new(alloc, "play")
-        .about(PLAY_ABOUT)
-        .after_help(SCHEMES)
+    Command::new(alloc, name)
+        .about(about)
+        .after_help(after_help)
         .arg(scheme)?
         .arg(slots)?
         .arg(clients)?
@@ -133,7 +144,8 @@ fn program<'a>(alloc: Global) -> Result<Command<'a>, AllocError> {
         .about(ABOUT)
         .after_help(SCRIPTS)
         .no_binary_name(true)
-        .subcommand(play_command(alloc)?)?
+        .subcommand(playing_command(alloc, "play", PLAY_ABOUT, SCHEMES)?)?
+        .subcommand(playing_command(alloc, "serve", SERVE_ABOUT, STREAMS)?)?
         .subcommand(threads_command(alloc)?)
 }
 
@@ -150,7 +162,7 @@ fn scheme_of(name: &str) -> Option<Scheme>
     }
 }
 
-/// What the options of `play` ask for, where each has a value.
+/// What the options of `play` or `serve` ask for, where each has a value.
 fn play_of(options: &ArgMatches) -> Option<Play> {
     Some(Play {
         scheme: scheme_of(options.get_str("scheme")?)?,
@@ -174,6 +186,7 @@ fn parsed<S: AsStr>(alloc: Global, arguments: &[S]) -> Result<Asked, Error> {
     let matches = program(alloc)?.try_get_matches_from(arguments)?;
     let asked = match matches.subcommand() {
         Some(("play", options)) => play_of(options).map(Asked::Play),
+        Some(("serve", options)) => play_of(options).map(Asked::Serve),
         Some(("threads", options)) => clients_of(options).map(Asked::Threads),
         _ => None,
     };

@@ -1,11 +1,11 @@
 //! Reports an error to the user.
 ghost use Rattle.std.specs.Prelude.{◌≡◌};
 
-use crate::fault::RunFault;
+use std::fmt::Display;
 use std::io::Write;
 
 /// Reports an error in one line, and returns its exit status. An error in reporting it is ignored.
-pub fn report<F: Write>(fault: RunFault, faults: &mut F) -> u8
+pub fn report<F: Write>(fault: impl Display + Drop, faults: &mut F) -> u8
     ensures { result ≡ 1 }
 {
     let _ = writeln!(faults, "{fault}");

@@ -170,14 +170,15 @@ static SCHEMES: [&[&str]; 7] = [
     &["--scheme", "clock"],
 ];
 
-/// The words of a command line: to play, with this scheme and these options.
+/// The words of a command line: a command, this scheme and these options.
 fn command_line(
     rt: &impl Abort,
     alloc: Global,
+    command: &'static str,
     scheme: &[&'static str],
     options: &[&'static str],
 ) -> Vec<&'static str> {
-    let Ok(mut arguments) = vec![in alloc; "play"] else {
+    let Ok(mut arguments) = vec![in alloc; command] else {
         panic!(rt; "out of memory");
     };
     let Ok(()) = arguments.extend_from_slice(scheme) else {
@@ -189,10 +190,15 @@ fn command_line(
     arguments
 }
 
-/// Plays the script of a row with a scheme, and compares what is written.
-fn play_row<T: AllocGlobal + Abort + Threads>(rt: &T, row: Row, scheme: &[&'static str]) {
+/// Plays the script of a row with a scheme, or serves it, and compares what is written.
+fn play_row<T: AllocGlobal + Abort + Threads>(
+    rt: &T,
+    command: &'static str,
+    row: Row,
+    scheme: &[&'static str],
+) {
     let alloc = rt.alloc();
-    let arguments = command_line(rt, alloc, scheme, row.options);
+    let arguments = command_line(rt, alloc, command, scheme, row.options);
     let source = Source::of(row.script.as_bytes());
     let ended = call(rt, &arguments, source, Sink::new(alloc));
     has_left(rt, row.name, &ended, 0, row.text.as_bytes(), b"");
@@ -205,12 +211,14 @@ fn worked_rows_give_their_text_with_each_scheme(rt: HostRuntime) {
     for row in rows() {
         for scheme in &SCHEMES {
             if row.name != "clock_end" || scheme[1] != "clock" {
-                play_row(&rt, row, scheme);
+                play_row(&rt, "play", row, scheme);
+                play_row(&rt, "serve", row, scheme);
             }
         }
     }
     for row in clock_rows() {
-        play_row(&rt, row, &["--scheme", "clock"]);
+        play_row(&rt, "play", row, &["--scheme", "clock"]);
+        play_row(&rt, "serve", row, &["--scheme", "clock"]);
     }
 }
 

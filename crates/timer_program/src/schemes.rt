@@ -1,4 +1,4 @@
-//! Plays a script over the wheel of a scheme.
+//! Plays a script, or answers lines as they come, over the wheel of a scheme.
 ghost use Rattle.std.specs.Prelude.{◌≡◌, ◌<◌, ◌≤◌, [], false, IfOk};
 ghost use Rattle.timer_base.specs.declared.limits.TheConstants.{LAST};
 ghost use Rattle.timer_base.specs.WheelState.{empty_wheel};
@@ -12,10 +12,13 @@ ghost use Rattle.timer_facility.specs.Opened.{opened};
 ghost use Rattle.timer_program.specs.Asked.{scheme_last, config_of, IsPlayable};
 ghost use Rattle.timer_program.specs.Schemes.{IsWheelOf};
 ghost use Rattle.timer_program.specs.Running.{HasRun};
+ghost use Rattle.timer_program.specs.Serving.{AreGood, HasServed};
 
 use crate::asked::{Play, Scheme};
-use crate::fault::RunFault;
+use crate::fault::{RunFault, ServeFault};
+use crate::peer::Peer;
 use crate::play::run;
+use crate::serving::serve;
 use crate::watched::Watched;
 use std::alloc::Global;
 use std::io::{Read, Write};
@@ -126,4 +129,44 @@ fn play_on<R: Read, S: Write, W: Wheel + Drop>(
 {
     let facility = Facility::open(alloc, checked, wheel);
     run(alloc, reader, writer, facility)
+}
+
+/// Answers the peer's lines as they come, over a new wheel of the scheme that is asked for, as `serve` does.
+///
+/// Nothing is read before the wheel is made.
+pub fn serve_by_scheme<P: Peer>(
+    alloc: Global,
+    asked: Play,
+    checked: Checked,
+    peer: &mut P,
+) -> Result<(), ServeFault>
+    requires playable { IsPlayable asked }
+    requires config { checked ≡ config_of asked }
+    requires good { AreGood (P.state peer.old) }
+    ensures { HasServed (opened (config_of asked) (scheme_last asked.scheme)) (P.state peer.old) (P.state peer.new) result }
+{
+    match wheel_of(alloc, asked) {
+        Ok(SchemeWheel::Plain(wheel)) => serve_on(alloc, wheel, checked, peer),
+        Ok(SchemeWheel::Hashed(wheel)) => serve_on(alloc, wheel, checked, peer),
+        Ok(SchemeWheel::Hier(wheel)) => serve_on(alloc, wheel, checked, peer),
+        Err(OutOfMemory) => Err(ServeFault::OutOfMemory),
+    }
+}
+
+/// Answers the peer's lines as they come, over a new wheel, which stands at the first tick.
+fn serve_on<P: Peer, W: Wheel + Drop>(
+    alloc: Global,
+    wheel: W,
+    checked: Checked,
+    peer: &mut P,
+) -> Result<(), ServeFault>
+    requires good { AreGood (P.state peer.old) }
+    requires pending { (W.state wheel).pending ≡ [] }
+    requires due { (W.state wheel).due ≡ [] }
+    requires now { (W.state wheel).now ≡ checked.first_tick }
+    requires serial { (W.state wheel).last_serial < checked.first_serial }
+    ensures { HasServed (opened checked (W.state wheel).last_tick) (P.state peer.old) (P.state peer.new) result }
+{
+    let facility = Facility::open(alloc, checked, wheel);
+    serve(alloc, peer, facility)
 }

@@ -1,6 +1,7 @@
 //! A reader and a writer, as the two directions of a peer.
-ghost use Rattle.std.specs.Prelude.{◌≡◌, None};
+ghost use Rattle.std.specs.Prelude.{◌≡◌, false};
 ghost use Rattle.timer_program.specs.Peer.{PeerState, Gives, Takes, Flushes};
+ghost use Rattle.timer_program.specs.Streams.{streams_state};
 
 use crate::peer::Peer;
 use crate::watched::Watched;
@@ -14,14 +15,23 @@ pub struct Streams<R, S> {
     pub writer: Watched<S>,
 }
 
+impl<R, S> Streams<R, S> {
+    /// A reader and a writer that have not failed yet. Does not allocate.
+    pub fn new(reader: R, writer: S) -> Streams<R, S>
+        ensures reader { result.reader.inner ≡ reader }
+        ensures reader_good { result.reader.failed ≡ false }
+        ensures writer { result.writer.inner ≡ writer }
+        ensures writer_good { result.writer.failed ≡ false }
+    {
+        Streams {
+            reader: Watched::new(reader),
+            writer: Watched::new(writer),
+        }
+    }
+}
+
 impl<R: Read, S: Write> Peer for Streams<R, S> {
-    ghost state = { λ s. record {
-      remaining = R.remaining s.reader.inner;
-      contents = S.contents s.writer.inner;
-      moments = None;
-      read_failed = s.reader.failed;
-      write_failed = s.writer.failed;
-    } };
+    ghost state = { λ s. streams_state R.remaining S.contents s.reader s.writer };
 
     fn read(&mut self, piece: &mut [u8]) -> io::Result<usize> {
         self.reader.read(piece)

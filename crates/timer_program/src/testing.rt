@@ -2,7 +2,7 @@
 ghost use Rattle.std.specs.Prelude.{◌≡◌, ◌≤◌, []};
 
 use crate::arguments::command;
-use crate::watched::Watched;
+use crate::streams::Streams;
 use std::alloc::Global;
 use std::fmt::Debug;
 use std::io;
@@ -202,10 +202,10 @@ pub fn call<T: AllocGlobal + Threads>(
     source: Source,
     sink: Sink,
 ) -> Ended {
-    let mut reader = Watched::new(source);
-    let mut writer = Watched::new(sink);
+    let mut streams = Streams::new(source, sink);
     let mut faults = Vec::new(rt.alloc());
-    let status = command(rt, arguments, &mut reader, &mut writer, &mut faults);
+    let status = command(rt, arguments, &mut streams, &mut faults);
+    let Streams { reader, writer } = streams;
     let reader_failed = reader.failed();
     let writer_failed = writer.failed();
     Ended {
