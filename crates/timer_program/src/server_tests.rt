@@ -1,10 +1,10 @@
 //! Calls of the program with `serve`.
 use crate::asked::{Play, Scheme};
 use crate::options::{Asked, read_arguments};
-use crate::testing::{Fault, Sink, Source, call};
+use crate::testing::{Fault, Sink, Source, call, has_left, same, same_in};
+use std::alloc::Global;
 use std::io::ErrorKind;
 use std::process::Abort;
-use std::test::*;
 use std::thread::Threads;
 
 /// Two timers of one deadline.
@@ -23,13 +23,11 @@ fn check_ended<T: AllocGlobal + Abort + Threads>(
     faults: &str,
 ) {
     let ended = call(rt, &["serve"], source, sink);
-    assert_eq!(rt; ended.output.as_slice(), output);
-    assert_eq!(rt; ended.faults.as_slice(), faults.as_bytes());
-    assert_eq!(rt; ended.status, status);
+    has_left(rt, "serve", &ended, status, output, faults.as_bytes());
 }
 
 #[test]
-fn the_options_of_serve_are_those_of_play(rt: HostRuntime) -> Result<(), Fail> {
+fn the_options_of_serve_are_those_of_play(rt: HostRuntime) {
     let asked = Play {
         scheme: Scheme::Hashed,
         slots: 8,
@@ -45,26 +43,24 @@ fn the_options_of_serve_are_those_of_play(rt: HostRuntime) -> Result<(), Fail> {
         "--capacity=3",
         "--first-tick=4",
     ];
-    match read_arguments(rt.alloc(), arguments.as_slice()) {
-        Ok(read) => assert_eq!(rt; read, Asked::Serve(asked)),
-        Err(_) => assert!(rt; false),
-    }
-    Ok(())
+    let Ok(read) = read_arguments(rt.alloc(), arguments.as_slice()) else {
+        panic!(&rt; "refused");
+    };
+    same(&rt, read, Asked::Serve(asked));
 }
 
 #[test]
-fn a_stream_is_answered_in_pieces_of_any_size(rt: HostRuntime) -> Result<(), Fail> {
+fn a_stream_is_answered_in_pieces_of_any_size(rt: HostRuntime) {
     let alloc = rt.alloc();
     for size in [1, 2, 3, 5, 8, 13, 21, 34, 55, 82] {
         let source = Source::of(SCRIPT).in_pieces(size);
         let sink = Sink::new(alloc).in_pieces(size);
         check_ended(&rt, source, sink, 0, TEXT, "");
     }
-    Ok(())
 }
 
 #[test]
-fn lines_before_a_bad_one_are_answered(rt: HostRuntime) -> Result<(), Fail> {
+fn lines_before_a_bad_one_are_answered(rt: HostRuntime) {
     let alloc = rt.alloc();
     let rows = [
         ("tick 0\ntick 1\n", "", "bad line 1\n"),
@@ -85,11 +81,10 @@ fn lines_before_a_bad_one_are_answered(rt: HostRuntime) -> Result<(), Fail> {
             check_ended(&rt, source, Sink::new(alloc), 1, text.as_bytes(), fault);
         }
     }
-    Ok(())
 }
 
 #[test]
-fn a_stream_is_answered_up_to_the_read_that_fails(rt: HostRuntime) -> Result<(), Fail> {
+fn a_stream_is_answered_up_to_the_read_that_fails(rt: HostRuntime) {
     let alloc = rt.alloc();
     // What has come before the read fails: a part of a line, some lines, all of them.
     for (room, answered) in [(3, 0), (16, 18), (40, 36), (46, 72)] {
@@ -105,45 +100,51 @@ fn a_stream_is_answered_up_to_the_read_that_fails(rt: HostRuntime) -> Result<(),
             );
         }
     }
-    Ok(())
+}
+
+/// A stream whose writer has this fault after so many bytes.
+fn ends_at_a_write<T: AllocGlobal + Abort + Threads>(rt: &T, room: usize, fault: Fault) {
+    let source = Source::of(SCRIPT).in_pieces(7);
+    let sink = Sink::new(rt.alloc()).with_fault_after(room, fault);
+    let ended = call(rt, &["serve"], source, sink);
+    same_in(rt, room, ended.status, 1);
+    same_in(rt, room, TEXT.starts_with(ended.output.as_slice()), true);
+    same_in(
+        rt,
+        room,
+        ended.faults.as_slice(),
+        b"write failed\n".as_slice(),
+    );
+    same_in(rt, room, ended.writer_failed, true);
 }
 
 #[test]
-fn a_stream_ends_at_the_write_that_fails(rt: HostRuntime) -> Result<(), Fail> {
-    let alloc = rt.alloc();
+fn a_stream_ends_at_the_write_that_fails(rt: HostRuntime) {
     for room in 0..TEXT.len() {
         for fault in [Fault::TakesNone, Fault::Fails(ErrorKind::BrokenPipe)] {
-            let source = Source::of(SCRIPT).in_pieces(7);
-            let sink = Sink::new(alloc).with_fault_after(room, fault);
-            let ended = call(&rt, &["serve"], source, sink);
-            assert_eq!(rt; ended.status, 1, "{room}");
-            assert!(rt; TEXT.starts_with(ended.output.as_slice()), "{room}");
-            assert_eq!(rt;
-                ended.faults.as_slice(),
-                b"write failed\n".as_slice(),
-                "{room}"
-            );
-            assert!(rt; ended.writer_failed, "{room}");
+            ends_at_a_write(&rt, room, fault);
         }
     }
-    Ok(())
+}
+
+/// A stream of more bytes than a script may have.
+fn long_stream(rt: &impl Abort, alloc: Global) -> Vec<u8> {
+    let mut stream = Vec::new(alloc);
+    for _ in 0..150_000 {
+        let Ok(()) = stream.extend_from_slice(b"tick 1\n") else {
+            panic!(rt; "out of memory");
+        };
+    }
+    stream
 }
 
 #[test]
-fn a_stream_may_be_longer_than_a_script(rt: HostRuntime) -> Result<(), Fail> {
+fn a_stream_may_be_longer_than_a_script(rt: HostRuntime) {
     let alloc = rt.alloc();
-    let mut stream = Vec::new(alloc);
-    for _ in 0..150_000 {
-        stream.extend_from_slice(b"tick 1\n")?;
-    }
+    let stream = long_stream(&rt, alloc);
     let source = Source::of(&stream).in_pieces(4096);
     check_ended(&rt, source, Sink::new(alloc), 0, b"end 150000 0\n", "");
-    let ended = call(
-        &rt,
-        &["play"],
-        Source::of(&stream).in_pieces(4096),
-        Sink::new(alloc),
-    );
-    assert_eq!(rt; ended.faults.as_slice(), b"too long\n".as_slice());
-    Ok(())
+    let source = Source::of(&stream).in_pieces(4096);
+    let ended = call(&rt, &["play"], source, Sink::new(alloc));
+    has_left(&rt, "play", &ended, 1, b"", b"too long\n");
 }
