@@ -3,10 +3,11 @@ use Rattle.std.proofs.Common.{inl, inr, eqb-true, ◌≡◌, ℕ, ◌+◌, ◌-�
 use Rattle.std.specs.Prelude.{Result, Ok, Err, is_err}
 use Rattle.std.specs.Io.KnownBytes.{Consumes, Appends, Keeps, ReadConsumes, WriteAppends}
 use Rattle.std.proofs.KnownBytes.{Consumes-nil, Consumes-trans, Consumes-kept, Appends-nil, Appends-trans}
-use Rattle.std.proofs.lemmas.List.{take_rest, length-drop}
+use Rattle.std.proofs.lemmas.List.{take_rest, length-drop, length-take-le}
 use Rattle.std.proofs.Math.Seq.{take-add}
 use Rattle.std.proofs.lemmas.Bool.Decides.{nat_tests}
 use Rattle.timer_base.specs.OrderLaws.{either}
+use Rattle.timer_program.specs.declared.serving.TheConstants.{PIECE}
 use Rattle.timer_program.specs.Session.{SessionState, HasFed, IsAnsweredSoFar}
 use Rattle.timer_program.specs.Peer.{PeerState, Moment, Came, Went, Flush, Grows, count_in, Gives, Takes, Flushes}
 use Rattle.timer_program.specs.Serving.{came_of, gone_of, is_flushed, IsAnsweredBy, IsPrompt, HasTalked, HasPassed, AreWrites, HasWritten, HasSent, HasSentPart}
@@ -71,7 +72,7 @@ prompt_join : (s : SessionState) (came gone : List ℕ) (flushed : Bool) (xs ys 
     → IsPrompt s (came ++ came_of xs) (gone ++ gone_of xs) (is_flushed flushed xs) ys → IsPrompt s came gone flushed (xs ++ ys)
 prompt_join s came gone flushed [] ys a b = subst (λ x. IsPrompt s x gone flushed ys) (append-nil came) (subst (λ y. IsPrompt s (came ++ []) y flushed ys) (append-nil gone) b)
 prompt_join s came gone flushed (Came bytes ∷ xs) ys a b =
-    (a.0, a.1, prompt_join s (came ++ bytes) gone flushed xs ys a.2 (subst (λ x. IsPrompt s x (gone ++ gone_of xs) (is_flushed flushed xs) ys) (sym (append_assoc came bytes (came_of xs))) b))
+    (a.0, a.1, a.2, prompt_join s (came ++ bytes) gone flushed xs ys a.3 (subst (λ x. IsPrompt s x (gone ++ gone_of xs) (is_flushed flushed xs) ys) (sym (append_assoc came bytes (came_of xs))) b))
 prompt_join s came gone flushed (Went bytes ∷ xs) ys a b =
     prompt_join s came (gone ++ bytes) false xs ys a (subst (λ y. IsPrompt s (came ++ came_of xs) y (is_flushed false xs) ys) (sym (append_assoc gone bytes (gone_of xs))) b)
 prompt_join s came gone flushed (Flush ∷ xs) ys a b = prompt_join s came gone true xs ys a b
@@ -86,7 +87,8 @@ prompt_earlier a b bytes text came gone flushed (Came more ∷ xs) f p =
     let later' : HasFed b came text (text ++ gone) here.session = subst (λ t. HasFed b came t (text ++ gone) here.session) (append-nil text) later in (
       p.0,
       record { session = here.session; fed = fed_join a b here.session bytes came [] text (text ++ gone) f later'; answered = here.answered },
-      subst (λ x. IsPrompt a x (text ++ gone) flushed xs) (sym (append_assoc bytes came more)) (prompt_earlier a b bytes text (came ++ more) gone flushed xs f p.2),
+      p.2,
+      subst (λ x. IsPrompt a x (text ++ gone) flushed xs) (sym (append_assoc bytes came more)) (prompt_earlier a b bytes text (came ++ more) gone flushed xs f p.3),
     )
 prompt_earlier a b bytes text came gone flushed (Went more ∷ xs) f p =
     subst (λ y. IsPrompt a (bytes ++ came) y false xs) (sym (append_assoc text gone more)) (prompt_earlier a b bytes text came (gone ++ more) false xs f p)
@@ -192,25 +194,29 @@ talked_nothing s p = record {
 }
 
 -- a session that has answered all reads
-talked_read : (s : SessionState) (p q : PeerState) (bytes : List ℕ) → IsAnsweredSoFar s → Grows p.moments q.moments (Came bytes ∷ []) → Consumes p.remaining q.remaining bytes → q.contents ≡ p.contents
+talked_read : (s : SessionState) (p q : PeerState) (bytes : List ℕ) → length bytes ≤ PIECE → IsAnsweredSoFar s → Grows p.moments q.moments (Came bytes ∷ []) → Consumes p.remaining q.remaining bytes → q.contents ≡ p.contents
     → HasTalked s p q bytes [] true
-talked_read s p q bytes answered grows read same = record {
+talked_read s p q bytes short answered grows read same = record {
   moments = Came bytes ∷ [];
   grows = grows;
   came_is = append-nil bytes;
   gone_is = refl;
-  prompt = (refl, record { session = s; fed = fed_nothing s []; answered = answered }, tt);
+  prompt = (refl, record { session = s; fed = fed_nothing s []; answered = answered }, short, tt);
   flush = refl;
   read = read;
   written = subst (λ c. Appends p.contents c []) (sym same) (Appends-nil p.contents);
 }
 
-pub talked_came : {E : Type 0} (s : SessionState) (p q : PeerState) (n : ℕ) (piece : List ℕ) → IsAnsweredSoFar s → Gives {E = E} p (Ok n) piece q → HasTalked s p q (take n piece) [] true
-talked_came {E} s p q n piece answered g = talked_read s p q (take n piece) answered g.moment g.bytes.0 g.contents
+pub talked_came : {E : Type 0} (s : SessionState) (p q : PeerState) (n : ℕ) (piece : List ℕ) → n ≤ length piece → length piece ≤ PIECE → IsAnsweredSoFar s → Gives {E = E} p (Ok n) piece q
+    → HasTalked s p q (take n piece) [] true
+talked_came {E} s p q n piece within short answered g =
+    let counted : length (take n piece) ≡ n = length-take-le n piece within in
+    let few : length (take n piece) ≤ PIECE = omega arith in
+    talked_read s p q (take n piece) few answered g.moment g.bytes.0 g.contents
 
 pub talked_failed : {E : Type 0} (s : SessionState) (p q : PeerState) (e : E) (piece : List ℕ) → IsAnsweredSoFar s → Gives {E = E} p (Err e) piece q → HasTalked s p q [] [] true
 talked_failed {E} s p q e piece answered g =
-    talked_read s p q [] answered g.moment (Consumes-kept p.remaining p.remaining q.remaining [] (Consumes-nil p.remaining) g.bytes) g.contents
+    talked_read s p q [] (omega arith) answered g.moment (Consumes-kept p.remaining p.remaining q.remaining [] (Consumes-nil p.remaining) g.bytes) g.contents
 
 -- text was written after it
 pub talked_wrote : (s : SessionState) (p q r : PeerState) (came gone text : List ℕ) (flushed : Bool) → HasTalked s p q came gone flushed → (w : HasWritten q text r)

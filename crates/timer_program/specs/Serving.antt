@@ -11,6 +11,7 @@ use Rattle.timer_program.specs.declared.fault.ServeFault.{ServeFault}
 use Rattle.timer_program.specs.declared.fault.ServeFault.TheVariants as faults
 use Rattle.timer_program.specs.declared.fault.SessionFault.{SessionFault}
 use Rattle.timer_program.specs.declared.fault.SessionFault.TheVariants as sessions
+use Rattle.timer_program.specs.declared.serving.TheConstants.{PIECE}
 use Rattle.timer_program.specs.Text.{end_line}
 use Rattle.timer_program.specs.Running.{IsAnswer}
 use Rattle.timer_program.specs.Session.{SessionState, fresh, lines_of, next_line, HasFed, IsAnsweredSoFar, HasFailed, IsStoppedAt}
@@ -43,10 +44,12 @@ pub record IsAnsweredBy (start : SessionState) (came gone : List ℕ) : Type 0 w
   pub fed : HasFed start came [] gone session
   pub answered : IsAnsweredSoFar session
 
--- before each read all complete lines so far have been answered, and the answers flushed
+-- before each read all complete lines so far have been answered, and the answers flushed; a read gives few bytes, so all
+-- lines are answered but those of the last ones
 abbrev pub IsPrompt : SessionState → (came gone : List ℕ) → Bool → List Moment → Type 0
 IsPrompt start came gone flushed [] = Unit {0}
-IsPrompt start came gone flushed (Came bytes ∷ moments) = (flushed ≡ true) × IsAnsweredBy start came gone × IsPrompt start (came ++ bytes) gone flushed moments
+IsPrompt start came gone flushed (Came bytes ∷ moments) =
+    (flushed ≡ true) × IsAnsweredBy start came gone × (length bytes ≤ PIECE) × IsPrompt start (came ++ bytes) gone flushed moments
 IsPrompt start came gone flushed (Went bytes ∷ moments) = IsPrompt start came (gone ++ bytes) false moments
 IsPrompt start came gone flushed (Flush ∷ moments) = IsPrompt start came gone true moments
 

@@ -2,7 +2,8 @@
 //!
 //! A turn reads once, plays the lines that came, and writes and flushes their answers. So whenever more
 //! is read, each whole line that came has been answered.
-ghost use Rattle.std.specs.Prelude.{◌≡◌, ◌≢◌, ◌<◌, [], length, false, IfOk, IfErr, OnErr, OnOk};
+ghost use Rattle.std.specs.Prelude.{◌≡◌, ◌≢◌, ◌<◌, ◌≤◌, [], length, false, IfOk, IfErr, OnErr, OnOk};
+ghost use Rattle.timer_program.specs.declared.serving.TheConstants.{PIECE};
 ghost use Rattle.timer_program.specs.Session.{IsAnsweredSoFar};
 ghost use Rattle.timer_program.specs.Serving.{AreGood, HasSent, HasSentPart, HasTurned, StopsTurn, StopsEnd, HasServed, serve_fault, last_line};
 
@@ -62,6 +63,7 @@ fn turn<P: Peer, W: Wheel + Drop>(
     text: &mut Vec<u8>,
 ) -> Result<usize, ServeFault>
     requires room { 0 < length piece.old }
+    requires short { length piece.old ≤ PIECE }
     requires good { AreGood (P.state peer.old) }
     requires answered { IsAnsweredSoFar session.old }
     ensures ok { IfOk result (λ n. HasTurned session.old (P.state peer.old) (P.state peer.new) session.new n) }

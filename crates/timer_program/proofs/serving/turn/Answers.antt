@@ -16,7 +16,7 @@ returns-in-Ok-send-clause-ok g c =
     let q = g.P.Peer.state c.read.new.self in
     let r = g.P.Peer.state c.send.new.peer in
     turned c.args.session.now c.feed.new.self (g.P.Peer.state c.args.peer.now) q r c.read.new.piece c.clear.new.self.items c.feed.new.text.items c.in-Ok.n c.clear.ensures.items (search rules)
-    (λ zero. e.bytes.1 zero (search rules)) (e.failed ∙ ap (λ b. b || false) c.requires.good.reading) (talked_came c.args.session.now _ q c.in-Ok.n _ c.requires.answered e) c.in-Ok-feed.ensures.fed
+    (λ zero. e.bytes.1 zero (search rules)) (e.failed ∙ ap (λ b. b || false) c.requires.good.reading) (talked_came c.args.session.now _ q c.in-Ok.n _ (search rules) (search rules) c.requires.answered e) c.in-Ok-feed.ensures.fed
     c.in-Ok-feed.ensures.answered (subst (λ t. HasSent q t r) c.deref.ensures.value c.in-Ok-send.ensures.ok)
 
 pub returns-in-Err-send-clause-fault : goal.returns-in-Err-send-clause-fault
@@ -26,7 +26,7 @@ returns-in-Err-send-clause-fault g c =
     let r = g.P.Peer.state c.send.new.peer in
     let piece = take c.in-Ok.n c.read.new.piece in
     stops_sending c.in-Err-send.fault c.args.session.now c.feed.new.self (g.P.Peer.state c.args.peer.now) q r piece piece [] c.clear.new.self.items c.feed.new.text.items c.in-Err-send.ensures.fault c.clear.ensures.items
-    (e.failed ∙ ap (λ b. b || false) c.requires.good.reading) (sym (append-nil piece)) (talked_came c.args.session.now _ q c.in-Ok.n _ c.requires.answered e) c.in-Ok-feed.ensures.fed
+    (e.failed ∙ ap (λ b. b || false) c.requires.good.reading) (sym (append-nil piece)) (talked_came c.args.session.now _ q c.in-Ok.n _ (search rules) (search rules) c.requires.answered e) c.in-Ok-feed.ensures.fed
     (subst (λ t. HasSentPart q t r) c.deref.ensures.value c.in-Err-send.ensures.part)
 
 pub fault_of-requires : goal.fault_of-requires
@@ -40,7 +40,7 @@ returns-in-Ok-send-2-clause-fault g c =
     let r = g.P.Peer.state c.send-in-Err.new.peer in
     subst (λ f. StopsTurn f c.args.session.now p r c.feed.new.self) (sym c.fault_of.ensures)
     (stops_feeding c.in-Err.stop.fault c.args.session.now c.feed.new.self p q r (take c.in-Ok.n c.read.new.piece) c.clear.new.self.items c.feed.new.text.items c.in-Err.stop.taken c.clear.ensures.items
-    (e.failed ∙ ap (λ b. b || false) c.requires.good.reading) (talked_came c.args.session.now _ q c.in-Ok.n _ c.requires.answered e) c.in-Err.ensures.stopped c.in-Err.ensures.fault c.requires.answered.going
+    (e.failed ∙ ap (λ b. b || false) c.requires.good.reading) (talked_came c.args.session.now _ q c.in-Ok.n _ (search rules) (search rules) c.requires.answered e) c.in-Err.ensures.stopped c.in-Err.ensures.fault c.requires.answered.going
     (subst (λ t. HasSent q t r) c.deref-in-Err.ensures.value c.in-Ok-send-2.ensures.ok))
 
 pub returns-in-Err-send-2-clause-fault : goal.returns-in-Err-send-2-clause-fault
@@ -52,4 +52,4 @@ returns-in-Err-send-2-clause-fault g c =
     let taken = c.in-Err.stop.taken in
     stops_sending c.in-Err-send-2.fault c.args.session.now c.feed.new.self (g.P.Peer.state c.args.peer.now) q r piece (take taken piece) (drop taken piece) c.clear.new.self.items c.feed.new.text.items
     c.in-Err-send-2.ensures.fault c.clear.ensures.items (e.failed ∙ ap (λ b. b || false) c.requires.good.reading) (sym (take-append-drop taken piece))
-    (talked_came c.args.session.now _ q c.in-Ok.n _ c.requires.answered e) c.in-Err.ensures.stopped (subst (λ t. HasSentPart q t r) c.deref-in-Err.ensures.value c.in-Err-send-2.ensures.part)
+    (talked_came c.args.session.now _ q c.in-Ok.n _ (search rules) (search rules) c.requires.answered e) c.in-Err.ensures.stopped (subst (λ t. HasSentPart q t r) c.deref-in-Err.ensures.value c.in-Err-send-2.ensures.part)

@@ -1,0 +1,89 @@
+#!/usr/bin/env python3
+"""An event loop with a real clock, whose time-outs are kept by `timers serve`.
+
+    examples/serve.py PROGRAM [TICK]      e.g.  examples/serve.py ./timers 0.05
+
+Messages are sent, and each is to be acknowledged within 30 ticks of TICK seconds (0.05 where nothing is said). An
+acknowledgement stops the message's time-out. That of message 4 comes at the very tick at which the time-out fires.
+"""
+import queue, subprocess, sys, threading, time
+
+TIME_OUT = 30
+PLAN = [  # what happens, and at which tick
+    (0, "send", 1), (10, "send", 2), (15, "send", 3), (20, "acknowledge", 1),
+    (25, "acknowledge", 2), (40, "send", 4), (70, "acknowledge", 4),
+]
+
+
+class TimeOuts:
+    """Time-outs in ticks. Each has a number of the caller's own, which `fired` gets where it fires."""
+
+    def __init__(self, program, fired):
+        command = [program, "serve", "--clients", "1"]
+        self.server = subprocess.Popen(command, stdin=subprocess.PIPE, stdout=subprocess.PIPE, text=True)
+        self.fired, self.requests, self.serials, self.lines = fired, 0, {}, queue.Queue()
+        threading.Thread(target=self.hear, daemon=True).start()
+
+    def hear(self):
+        for line in self.server.stdout:
+            self.lines.put(line.split())
+        self.lines.put(["closed"])
+
+    def write(self, line):
+        print(line, file=self.server.stdin, flush=True)
+
+    def listen(self, seconds=None):
+        """Waits for a line. Returns its fields, or None where a time-out fired or nothing came."""
+        try:
+            fields = self.lines.get(timeout=seconds)
+        except queue.Empty:
+            return None
+        if fields[0] != "expired":
+            return fields
+        _, tick, _, _, action = fields
+        self.fired(int(action), int(tick))
+        return None
+
+    def answer(self):
+        """The next line but for those of time-outs that fired."""
+        while not (fields := self.listen()):
+            pass
+        return fields
+
+    def ask(self, word, *numbers):
+        self.requests += 1
+        self.write(" ".join(map(str, (word, 0, self.requests, *numbers))))
+        return self.answer()
+
+    def start(self, ticks, number):
+        _, _, _, self.serials[number], _ = self.ask("start", ticks, number)
+
+    def stop(self, number):
+        """Whether it was stopped in time. Where it fired before, the request is refused as `no-such`."""
+        return self.ask("stop", self.serials.pop(number))[0] == "stopped"
+
+    def close(self):
+        self.server.stdin.close()
+        return self.answer(), self.server.wait()
+
+
+def main(program, tick=0.05):
+    timers = TimeOuts(program, lambda number, now: print(f"message {number} was not acknowledged by tick {now}"))
+    begin, now = time.monotonic(), 0
+    for at, what, number in PLAN:
+        while now < at:
+            now += 1
+            while (left := begin + now * float(tick) - time.monotonic()) > 0:
+                timers.listen(left)  # the loop sleeps here, until a line comes or the next tick is there
+            timers.write("tick 1")
+        if what == "send":
+            timers.start(TIME_OUT, number)
+        elif timers.stop(number):
+            print(f"message {number} was acknowledged in time")
+        else:
+            print(f"message {number} was acknowledged too late")
+    (_, now, pending), status = timers.close()
+    print(f"end at tick {now} with {pending} pending, status {status}")
+
+
+main(*sys.argv[1:])
