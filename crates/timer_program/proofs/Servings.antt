@@ -1,6 +1,6 @@
 -- The result of the turns of a session with a peer.
-use Rattle.std.proofs.Common.{◌≡◌, false, zero, suc, ℕ, ◌+◌, ◌-◌, ◌^◌, ◌≤◌, Bool, true, false, List, [], ◌++◌, length, take, drop, inl, inr, refl, sym, ap, subst, ◌∙◌, arith, lit≤, append_assoc, append-nil, length-append, take-append-drop}
-use Rattle.std.specs.Prelude.{min, Result, Ok, Err, OnOk, OnErr, IfErr}
+use Rattle.std.proofs.Common.{◌≡◌, false, zero, suc, ℕ, ◌+◌, ◌≤◌, Bool, true, false, List, [], ◌++◌, length, take, drop, inl, inr, refl, sym, ap, subst, ◌∙◌, arith, lit≤, append_assoc, append-nil, length-append, take-append-drop}
+use Rattle.std.specs.Prelude.{Result, Ok, Err, OnOk, IfErr}
 use Rattle.std.proofs.Math.Seq.{take-append-add}
 use Rattle.std.proofs.lemmas.List.{length-take-le}
 use Rattle.std.specs.Io.KnownBytes.{IsAtEnd}
@@ -10,12 +10,10 @@ use Rattle.timer_program.specs.declared.fault.ServeFault.{ServeFault}
 use Rattle.timer_program.specs.declared.fault.ServeFault.TheVariants as faults
 use Rattle.timer_program.specs.declared.fault.SessionFault.{SessionFault}
 use Rattle.timer_program.specs.declared.fault.SessionFault.TheVariants as sessions
-use Rattle.timer_program.specs.declared.stage.Stage.TheVariants.{Going, Ended}
-use Rattle.timer_program.specs.Script.{IsScript, spelling, BeginsNoLine}
-use Rattle.timer_program.specs.Text.{text}
-use Rattle.timer_program.specs.Cutting.{IsPartial}
-use Rattle.timer_program.specs.Session.{SessionState, fresh, lines_of, next_line, HasFed, IsAnsweredSoFar, HasFailed, WhyStopped, WhyNotEnded, IsStoppedAt}
-use Rattle.timer_program.specs.Peer.{PeerState, Gives}
+use Rattle.timer_program.specs.declared.stage.Stage.TheVariants.{Going}
+use Rattle.timer_program.specs.Script.{spelling, BeginsNoLine}
+use Rattle.timer_program.specs.Session.{SessionState, fresh, lines_of, next_line, HasFed, IsAnsweredSoFar, HasFailed, WhyStopped, WhyNotEnded}
+use Rattle.timer_program.specs.Peer.{PeerState}
 use Rattle.timer_program.specs.Serving.{HasTalked, HasPassed, AreGood, HasSent, HasSentPart, is_flushed, HasTurned, serve_fault, StopsTurn, last_line, StopsEnd, HasAnsweredAll, HasServed}
 use Rattle.timer_program.proofs.Sessions.{fed_nothing, fed_join, fed_shift, ended_going, stopped_at, some_more}
 use Rattle.timer_program.proofs.Talks.{talked_nothing, talked_wrote, talked_sent, talked_join}

@@ -1,5 +1,5 @@
 -- The result of feeding pieces one after another.
-use Rattle.std.proofs.Common.{◌≡◌, ℕ, ◌+◌, ◌-◌, ◌^◌, ◌≤◌, false, true, List, [], ◌∷◌, ◌++◌, length, take, drop, refl, sym, ap, subst, ◌∙◌, arith, append_assoc, append-nil, length-append}
+use Rattle.std.proofs.Common.{◌≡◌, ℕ, ◌+◌, ◌-◌, ◌^◌, ◌≤◌, List, [], ◌∷◌, ◌++◌, length, take, drop, refl, sym, ap, subst, ◌∙◌, arith, append_assoc, append-nil, length-append}
 use Rattle.std.specs.Prelude.{min}
 use Rattle.std.specs.List.{AllByRecursion}
 use Rattle.std.proofs.lemmas.Grind.{flat_map-append}
@@ -17,7 +17,7 @@ use Rattle.timer_program.specs.declared.fault.SessionFault.TheVariants as faults
 use Rattle.timer_program.specs.declared.stage.Stage.{Stage}
 use Rattle.timer_program.specs.declared.stage.Stage.TheVariants.{Going, Failed, Ended}
 use Rattle.timer_program.specs.Session.{SessionState, fresh, lines_of, next_line, IsStoppedAt, HasFed, IsKept, IsAnsweredSoFar, HasFailed, IsOver, HasStopped, WhyStopped, WhyNotEnded}
-use Rattle.timer_program.specs.Cutting.{IsPartial, IsBadFront}
+use Rattle.timer_program.specs.Cutting.{IsPartial}
 use Rattle.timer_program.proofs.LineFeeds.{no_feed_no_line}
 
 failed_going : (stage : Stage) → stage ≡ Failed → stage ≡ Going → ⊥

@@ -1,7 +1,7 @@
 -- The result of a peer's calls, one after another.
-use Rattle.std.proofs.Common.{inl, inr, eqb-true, ◌≡◌, ℕ, ◌+◌, ◌-◌, ◌<◌, ◌≤◌, ◌==◌, ◌&&◌, ◌||◌, not, Bool, true, false, List, [], ◌∷◌, ◌++◌, length, take, drop, Option, None, Some, refl, sym, ap, subst, ◌∙◌, arith, append_assoc, append-nil, take-append-drop}
-use Rattle.std.specs.Prelude.{Result, Ok, Err, is_err}
-use Rattle.std.specs.Io.KnownBytes.{Consumes, Appends, Keeps, ReadConsumes, WriteAppends}
+use Rattle.std.proofs.Common.{inl, inr, eqb-true, ◌≡◌, ℕ, ◌+◌, ◌-◌, ◌<◌, ◌≤◌, ◌==◌, ◌&&◌, ◌||◌, not, Bool, true, false, List, [], ◌∷◌, ◌++◌, length, take, drop, Option, None, Some, refl, sym, ap, subst, ◌∙◌, arith, append_assoc, append-nil}
+use Rattle.std.specs.Prelude.{Result, Ok, Err}
+use Rattle.std.specs.Io.KnownBytes.{Consumes, Appends, Keeps}
 use Rattle.std.proofs.KnownBytes.{Consumes-nil, Consumes-trans, Consumes-kept, Appends-nil, Appends-trans}
 use Rattle.std.proofs.lemmas.List.{take_rest, length-drop, length-take-le}
 use Rattle.std.proofs.Math.Seq.{take-add}
@@ -9,8 +9,8 @@ use Rattle.std.proofs.lemmas.Bool.Decides.{nat_tests}
 use Rattle.timer_base.specs.OrderLaws.{either}
 use Rattle.timer_program.specs.declared.serving.TheConstants.{PIECE}
 use Rattle.timer_program.specs.Session.{SessionState, HasFed, IsAnsweredSoFar}
-use Rattle.timer_program.specs.Peer.{PeerState, Moment, Came, Went, Flush, Grows, count_in, Gives, Takes, Flushes}
-use Rattle.timer_program.specs.Serving.{came_of, gone_of, is_flushed, IsAnsweredBy, IsPrompt, HasTalked, HasPassed, AreWrites, HasWritten, HasSent, HasSentPart}
+use Rattle.timer_program.specs.Peer.{PeerState, Moment, Came, Went, Flush, Grows, Gives, Takes, Flushes}
+use Rattle.timer_program.specs.Serving.{came_of, gone_of, is_flushed, IsAnsweredBy, IsPrompt, HasTalked, AreWrites, HasWritten, HasSent}
 use Rattle.timer_program.proofs.Sessions.{fed_nothing, fed_join, fed_shift}
 
 -- ---- lists of calls

@@ -1,12 +1,9 @@
 -- A session with a peer: what was played, what went to the peer, and when.
-use Rattle.std.specs.Prelude.{◌≡◌, ℕ, ◌≤◌, ◌⊎◌, ◌+◌, ◌-◌, ◌^◌, min, Bool, true, false, List, [], ◌∷◌, ◌++◌, length, take, Result, Ok, Err}
-use Rattle.std.specs.List.{AllByRecursion}
+use Rattle.std.specs.Prelude.{◌≡◌, ℕ, ◌≤◌, ◌⊎◌, ◌-◌, ◌^◌, Bool, true, false, List, [], ◌∷◌, ◌++◌, length, take, Result, Ok, Err}
 use Rattle.std.specs.Io.KnownBytes.{Consumes, Appends, IsAtEnd}
 use Rattle.timer_facility.specs.declared.event.Event.{Event}
-use Rattle.timer_facility.specs.declared.event.Out.{Out}
 use Rattle.timer_facility.specs.State.{FacilityState}
-use Rattle.timer_facility.specs.Played.{IsRun}
-use Rattle.timer_program.specs.Script.{IsInRange, IsScript, spelling, BeginsNoLine}
+use Rattle.timer_program.specs.Script.{IsScript, BeginsNoLine}
 use Rattle.timer_program.specs.declared.fault.ServeFault.{ServeFault}
 use Rattle.timer_program.specs.declared.fault.ServeFault.TheVariants as faults
 use Rattle.timer_program.specs.declared.fault.SessionFault.{SessionFault}
@@ -14,7 +11,7 @@ use Rattle.timer_program.specs.declared.fault.SessionFault.TheVariants as sessio
 use Rattle.timer_program.specs.declared.serving.TheConstants.{PIECE}
 use Rattle.timer_program.specs.Text.{end_line}
 use Rattle.timer_program.specs.Running.{IsAnswer}
-use Rattle.timer_program.specs.Session.{SessionState, fresh, lines_of, next_line, HasFed, IsAnsweredSoFar, HasFailed, IsStoppedAt}
+use Rattle.timer_program.specs.Session.{SessionState, fresh, next_line, HasFed, IsAnsweredSoFar, HasFailed, IsStoppedAt}
 use Rattle.timer_program.specs.Peer.{PeerState, Moment, Came, Went, Flush, Grows}
 
 -- the bytes that came from a peer

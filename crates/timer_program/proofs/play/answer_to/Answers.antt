@@ -1,5 +1,5 @@
-use Rattle.std.proofs.Common.{◌≡◌, [], ◌++◌, length, sym, ap, subst, ◌∙◌}
-use Rattle.timer_facility.specs.State.{FacilityState, IsSound}
+use Rattle.std.proofs.Common.{◌≡◌, [], ◌++◌, length, ap, subst, ◌∙◌}
+use Rattle.timer_facility.specs.State.{FacilityState}
 use Rattle.timer_program.specs.Text.{end_line}
 use Rattle.timer_program.specs.Running.{AddsLines}
 use Rattle.timer_program.proofs.Playing.{added_answer}

@@ -1,9 +1,7 @@
-use Rattle.std.proofs.Common.{◌≡◌, ◌++◌, take, sym, ap, subst, ◌∙◌}
+use Rattle.std.proofs.Common.{◌≡◌, take, sym, subst}
 use Rattle.std.proofs.lemmas.List.{take_more, take_all}
-use Rattle.std.specs.List.{flat_map}
 use Rattle.timer_facility.specs.Played.{IsRun}
-use Rattle.timer_facility.proofs.PlayedLemmas.{IsRun-none, IsRun-more}
-use Rattle.timer_program.specs.Text.{out_line}
+use Rattle.timer_facility.proofs.PlayedLemmas.{IsRun-more}
 use Rattle.timer_program.proofs.Playing.{adds_chunk}
 use Rattle.timer_program.proofs.play.play_chunk.Goals as goal
 

@@ -1,5 +1,4 @@
 use Rattle.std.proofs.Common.{refl, ◌≡◌, ◌∙◌, ◌≤◌, [], sym, subst, rules, length}
-use Rattle.timer_program.specs.declared.fault.SessionFault.TheVariants.{Bad}
 use Rattle.timer_program.specs.Cutting.{IsPartial}
 use Rattle.timer_program.specs.Session.{SessionState, next_line, WhyNotEnded}
 use Rattle.timer_program.proofs.Sessions.{fed_nothing, fed_still, written_all, over_not_ended, not_ended}
