@@ -3,9 +3,9 @@ pub mod Script
 pub mod Text
 pub mod Cutting
 pub mod Session
-pub mod Reading
-pub mod Writing
-pub mod Faults
+pub mod Input
+pub mod Output
+pub mod Fault
 pub mod Running
 pub mod Peer
 pub mod Streams
@@ -13,4 +13,4 @@ pub mod Serving
 pub mod Asked
 pub mod Schemes
 pub mod Clients
-pub mod Ending
+pub mod Command

@@ -5,7 +5,7 @@ use Rattle.std.specs.Cmp.Lexicographic.{pointwise}
 use Rattle.std.specs.Net.Reader.{read_number}
 use Rattle.std.specs.Borrow.{Bor}
 use Rattle.timer_base.specs.declared.limits.TheConstants.{LAST}
-use Rattle.timer_program.specs.declared.reading.TheConstants.{MOST_TICKS}
+use Rattle.timer_program.specs.declared.lines.TheConstants.{MOST_TICKS}
 use Rattle.timer_facility.specs.declared.event.Event.{Event}
 use Rattle.timer_facility.specs.declared.event.Event.TheVariants.{Start, Stop, Restart, Ticks, Close}
 

@@ -2,7 +2,7 @@
 use Rattle.std.specs.Prelude.{◌≡◌, ℕ, ◌||◌, Bool, List, [], ◌∷◌, ◌++◌, take, Option, None, Some, Result, Ok, Err, is_err}
 use Rattle.std.specs.Io.{ReadsAtMost, WritesAtMost}
 use Rattle.std.specs.Io.KnownBytes.{Keeps, ReadConsumes, WriteAppends}
-use Rattle.timer_program.specs.Writing.{took_nothing}
+use Rattle.timer_program.specs.Output.{took_nothing}
 
 -- one call: a read gave these bytes, a write took these, or a flush; a call that failed gave and took none
 pub data Moment : Type 0 where

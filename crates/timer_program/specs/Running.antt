@@ -12,7 +12,7 @@ use Rattle.timer_program.specs.declared.fault.RunFault.TheVariants as faults
 use Rattle.timer_program.specs.declared.watched.Watched.{Watched}
 use Rattle.timer_program.specs.Script.{IsScript, IsBadLine}
 use Rattle.timer_program.specs.Text.{out_line, text}
-use Rattle.timer_program.specs.Reading.{ReadsWhole, ReadsUpTo, ReadsTooMany}
+use Rattle.timer_program.specs.Input.{ReadsWhole, ReadsUpTo, ReadsTooMany}
 
 -- the events were played, and the text grew by the lines of their outs
 pub record AddsLines (before : FacilityState) (events : List Event) (old new : List ℕ) (after : FacilityState) : Type 0 where

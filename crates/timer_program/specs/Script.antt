@@ -2,7 +2,7 @@
 use Rattle.std.specs.Prelude.{◌≡◌, ℕ, ◌+◌, ◌≤◌, List, ◌++◌, length, codes, decimal}
 use Rattle.std.specs.List.{flat_map, AllByRecursion}
 use Rattle.timer_base.specs.declared.limits.TheConstants.{LAST}
-use Rattle.timer_program.specs.declared.reading.TheConstants.{MOST_TICKS}
+use Rattle.timer_program.specs.declared.lines.TheConstants.{MOST_TICKS}
 use Rattle.timer_facility.specs.declared.event.Event.{Event}
 use Rattle.timer_facility.specs.declared.event.Event.TheVariants.{Start, Stop, Restart, Ticks, Close}
 use Rattle.timer_program.specs.declared.fault.ScriptFault.{ScriptFault}

@@ -1,6 +1,6 @@
 //! Arguments: what they ask for, and what is refused.
+use crate::arguments::{Asked, read_arguments};
 use crate::asked::{Play, PlayFault, Scheme};
-use crate::options::{Asked, read_arguments};
 use crate::testing::{Fault, Sink, Source, call, has_left, same, same_in};
 use crate::unread::{after_name, end_without_arguments};
 use std::alloc::Global;

@@ -1,112 +1,212 @@
-//! The whole program, over its arguments, its input and its outputs.
-ghost use Rattle.std.specs.Prelude.{◌≡◌, ◌≢◌, ◌≤◌, ◌⊎◌, ℕ, List, false, true};
-ghost use Rattle.std.specs.Io.KnownBytes.{Appends};
-ghost use Rattle.clap.specs.Values.{kind_of};
-ghost use Rattle.timer_program.specs.Ending.{HasPlayed, HasEnded};
+//! The arguments of the program: what to play, or a request for help.
+//!
+//!     timers                        the same as `timers play`
+//!     timers play [OPTIONS]         plays the script on standard input
+//!     timers serve [OPTIONS]        answers the lines of standard input as they come
+//!     timers threads [OPTIONS]      runs clients in threads of their own
+//!     timers help, timers --help    what the program is
+//!     timers --version              its name and version
+//!
+//! `clap` reads the arguments, writes the help, and says why arguments are refused.
+ghost use Rattle.std.specs.Prelude.{◌≡◌, IfSome};
+ghost use Rattle.timer_program.specs.Asked.{name_of};
 
-use crate::asked::Play;
-use crate::clients::run_clients;
-use crate::fault::RunFault;
-use crate::options::{Asked, read_arguments};
-use crate::output::write_text;
-use crate::reporting::report;
-use crate::schemes::play_by_scheme;
-use crate::server::serve_lines;
-use crate::streams::Streams;
-use crate::watched::Watched;
-use clap::Error;
+use crate::asked::{Play, Scheme};
+use crate::help::{
+    ABOUT, NAME, PLAY_ABOUT, SCHEMES, SCRIPTS, SERVE_ABOUT, STREAMS, THREADS, THREADS_ABOUT,
+    VERSION,
+};
+use crate::requested::Clients;
 use clap::error::ErrorKind;
-use std::alloc::Global;
+use clap::{Arg, ArgMatches, Command, Error, value_parser};
+use std::alloc::{AllocError, Global};
 use std::convert::AsStr;
-use std::io::{Read, Write};
-use std::thread::Threads;
 
-/// Runs the program on the arguments after its name, and returns its exit status.
+/// What the arguments ask for, where it is not help.
+#[derive(Clone, Copy, Debug, PartialEq, Eq)]
+pub enum Asked {
+    /// `play`: play the script on standard input.
+    Play(Play),
+    /// `serve`: answer the lines of standard input as they come.
+    Serve(Play),
+    /// `threads`: run clients in threads of their own.
+    Threads(Clients),
+}
+
+/// The names of the schemes.
+static SCHEME_NAMES: [&str; 4] = ["plain", "hashed", "hier", "clock"];
+
+/// What no arguments stand for.
+static PLAY: [&str; 1] = ["play"];
+
+/// An option that takes a number in a range.
+fn number<'a>(
+    alloc: Global,
+    name: &'a str,
+    value_name: &'a str,
+    range: (i64, i64),
+    default: &'a str,
+    help: &'a str,
+) -> Arg<'a> {
+    Arg::new(alloc, name)
+        .long(name)
+        .value_name(value_name)
+        .value_parser(value_parser!(u64).range(range.0..=range.1))
+        .default_value(default)
+        .help(help)
+}
+
+/// A subcommand with the options of `play`.
+fn playing_command<'a>(
+    alloc: Global,
+    name: &'a str,
+    about: &'a str,
+    after_help: &'a str,
+) -> Result<Command<'a>, AllocError> {
+    let scheme = Arg::new(alloc, "scheme")
+        .long("scheme")
+        .value_name("SCHEME")
+        .value_parser(SCHEME_NAMES.as_slice())
+        .default_value("hier")
+        .help("How timers are kept; each scheme gives the same text up to its last tick");
+    let slots = number(
+        alloc,
+        "slots",
+        "SLOTS",
+        (1, 65536),
+        "256",
+        "The buckets of the hashed wheel, 1 to 65536; ignored by the other schemes",
+    );
+    let clients = number(
+        alloc,
+        "clients",
+        "CLIENTS",
+        (1, 64),
+        "64",
+        "The number of clients, 1 to 64; they are numbered from 0",
+    );
+    let capacity = number(
+        alloc,
+        "capacity",
+        "TIMERS",
+        (1, 1048576),
+        "1024",
+        "The most timers that may be pending at a time, 1 to 1048576",
+    );
+    let first_tick = number(
+        alloc,
+        "first-tick",
+        "TICK",
+        (0, 1152921504606846975),
+        "0",
+        "The tick at which the clock begins, 0 to the last tick of the scheme",
+    );
+    Command::new(alloc, name)
+        .about(about)
+        .after_help(after_help)
+        .arg(scheme)?
+        .arg(slots)?
+        .arg(clients)?
+        .arg(capacity)?
+        .arg(first_tick)
+}
+
+/// The subcommand `threads` with its options.
+fn threads_command<'a>(alloc: Global) -> Result<Command<'a>, AllocError> {
+    let clients = number(
+        alloc,
+        "clients",
+        "CLIENTS",
+        (1, 64),
+        "4",
+        "The number of clients, 1 to 64, each in a thread of its own",
+    );
+    let timers = number(
+        alloc,
+        "timers",
+        "TIMERS",
+        (1, 10000),
+        "1000",
+        "The number of timers that each client starts, 1 to 10000",
+    );
+    Command::new(alloc, "threads")
+        .about(THREADS_ABOUT)
+        .after_help(THREADS)
+        .arg(clients)?
+        .arg(timers)
+}
+
+/// The whole command line. A subcommand may be left out only where there are no arguments at all.
+fn program<'a>(alloc: Global) -> Result<Command<'a>, AllocError> {
+    Command::new(alloc, NAME)
+        .bin_name(NAME)?
+        .version(VERSION)
+        .about(ABOUT)
+        .after_help(SCRIPTS)
+        .no_binary_name(true)
+        .subcommand(playing_command(alloc, "play", PLAY_ABOUT, SCHEMES)?)?
+        .subcommand(playing_command(alloc, "serve", SERVE_ABOUT, STREAMS)?)?
+        .subcommand(threads_command(alloc)?)
+}
+
+/// The scheme of this name.
+fn scheme_of(name: &str) -> Option<Scheme>
+    ensures { IfSome result (λ scheme. name.now ≡ name_of scheme) }
+{
+    match name {
+        "plain" => Some(Scheme::Plain),
+        "hashed" => Some(Scheme::Hashed),
+        "hier" => Some(Scheme::Hier),
+        "clock" => Some(Scheme::Clock),
+        _ => None,
+    }
+}
+
+/// What the options of `play` or `serve` ask for, where each has a value.
+fn play_of(options: &ArgMatches) -> Option<Play> {
+    Some(Play {
+        scheme: scheme_of(options.get_str("scheme")?)?,
+        slots: options.get_one::<u64>("slots")?,
+        clients: options.get_one::<u64>("clients")?,
+        capacity: options.get_one::<u64>("capacity")?,
+        first_tick: options.get_one::<u64>("first-tick")?,
+    })
+}
+
+/// What the options of `threads` ask for, where each has a value.
+fn clients_of(options: &ArgMatches) -> Option<Clients> {
+    Some(Clients {
+        clients: options.get_one::<u64>("clients")?,
+        timers: options.get_one::<u64>("timers")?,
+    })
+}
+
+/// What some arguments ask for.
+fn parsed<S: AsStr>(alloc: Global, arguments: &[S]) -> Result<Asked, Error> {
+    let matches = program(alloc)?.try_get_matches_from(arguments)?;
+    let asked = match matches.subcommand() {
+        Some(("play", options)) => play_of(options).map(Asked::Play),
+        Some(("serve", options)) => play_of(options).map(Asked::Serve),
+        Some(("threads", options)) => clients_of(options).map(Asked::Threads),
+        _ => None,
+    };
+    match asked {
+        Some(asked) => Ok(asked),
+        // An option without a value is refused as any other mistake in the arguments.
+        None => Err(program(alloc)?.error(
+            ErrorKind::MissingSubcommand,
+            "a subcommand with a value for each of its options is required",
+        )?),
+    }
+}
+
+/// What the arguments ask for. No arguments ask for `play`.
 ///
-/// 0: the script was played, or the stream served to its end, or the clients ran to theirs, and the text
-/// was written, or help was asked for and written. 1: an error, reported in one line on `faults`. 2: the
-/// arguments are refused, for the reason that `faults` gets; nothing is read or written. An error in
-/// writing to `faults` is ignored. Neither the reader nor the writer may have failed before. Waits where
-/// clients run in threads.
-pub fn command<T: AllocGlobal + Threads, S: AsStr, R: Read, W: Write, F: Write>(
-    rt: &T,
-    arguments: &[S],
-    streams: &mut Streams<R, W>,
-    faults: &mut F,
-) -> u8
-    requires reader_good { streams.old.reader.failed ≡ false }
-    requires writer_good { streams.old.writer.failed ≡ false }
-    ensures { HasEnded R.remaining W.contents streams.old.reader streams.new.reader streams.old.writer streams.new.writer result }
-{
-    let alloc = rt.alloc();
-    match read_arguments(alloc, arguments) {
-        Ok(Asked::Play(asked)) => play(
-            alloc,
-            asked,
-            &mut streams.reader,
-            &mut streams.writer,
-            faults,
-        ),
-        Ok(Asked::Serve(asked)) => serve_lines(alloc, asked, streams, faults),
-        Ok(Asked::Threads(asked)) => run_clients(rt, alloc, asked, &mut streams.writer, faults),
-        Err(error) => end_unplayed(alloc, &error, &mut streams.writer, faults),
+/// An error is a request for help or for the version, a refusal, or out of memory.
+pub fn read_arguments<S: AsStr>(alloc: Global, arguments: &[S]) -> Result<Asked, Error> {
+    if arguments.is_empty() {
+        parsed(alloc, PLAY.as_slice())
+    } else {
+        parsed(alloc, arguments)
     }
-}
-
-/// Plays the script of the reader, and returns the exit status.
-fn play<R: Read, W: Write, F: Write>(
-    alloc: Global,
-    asked: Play,
-    reader: &mut Watched<R>,
-    writer: &mut Watched<W>,
-    faults: &mut F,
-) -> u8
-    requires reader_good { reader.old.failed ≡ false }
-    requires writer_good { writer.old.failed ≡ false }
-    ensures { HasPlayed asked R.remaining W.contents reader.old reader.new writer.old writer.new result }
-{
-    let checked = match asked.check() {
-        Ok(checked) => checked,
-        Err(fault) => {
-            let _ = writeln!(faults, "{fault}");
-            return 2;
-        }
-    };
-    match play_by_scheme(alloc, asked, checked, reader, writer) {
-        Ok(()) => 0,
-        Err(fault) => report(fault, faults),
-    }
-}
-
-/// Writes the help or the version that was asked for, or reports why the arguments are refused.
-/// Returns the exit status.
-fn end_unplayed<W: Write, F: Write>(
-    alloc: Global,
-    error: &Error,
-    writer: &mut Watched<W>,
-    faults: &mut F,
-) -> u8
-    requires { writer.old.failed ≡ false }
-    ensures in_range { result ≤ 2 }
-    ensures out_of_memory { kind_of error.now ≡ ErrorKind.OutOfMemory → result ≡ 1 }
-    ensures help { ((kind_of error.now ≡ ErrorKind.DisplayHelp) ⊎ (kind_of error.now ≡ ErrorKind.DisplayVersion)) → result ≤ 1 }
-    ensures refused { kind_of error.now ≢ ErrorKind.OutOfMemory → kind_of error.now ≢ ErrorKind.DisplayHelp → kind_of error.now ≢ ErrorKind.DisplayVersion → result ≡ 2 }
-    ensures written { result ≡ 0 → ((text : List ℕ) × Appends (W.contents writer.old.inner) (W.contents writer.new.inner) text) × (writer.new.failed ≡ false) }
-    ensures failed { result ≡ 1 → (writer.new.failed ≡ true) ⊎ (writer.new ≡ writer.old) }
-    ensures unwritten { result ≡ 2 → writer.new ≡ writer.old }
-{
-    if error.kind() == ErrorKind::OutOfMemory {
-        return report(RunFault::OutOfMemory, faults);
-    }
-    if error.use_stderr() {
-        let _ = write!(faults, "{error}");
-        return 2;
-    }
-    let Ok(text) = format!(in alloc; "{error}") else {
-        return report(RunFault::OutOfMemory, faults);
-    };
-    if let Err(fault) = write_text(writer, text.as_bytes()) {
-        return report(fault, faults);
-    }
-    0
 }

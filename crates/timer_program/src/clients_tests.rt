@@ -1,5 +1,5 @@
 //! Calls of the program with `threads`.
-use crate::options::{Asked, read_arguments};
+use crate::arguments::{Asked, read_arguments};
 use crate::requested::Clients;
 use crate::testing::{Fault, Sink, Source, call, has_left, same, same_in};
 use std::alloc::Global;

@@ -5,7 +5,7 @@
 ghost use Rattle.std.specs.Prelude.{◌≡◌, ◌<◌, ◌≤◌, ◌-◌, ℕ, length, take, IfOk, OnErr};
 ghost use Rattle.timer_program.specs.Cutting.{HasNoFeed, IsPartial, EndsAsLine, HasHeld};
 
-use crate::reading::read_line;
+use crate::lines::read_line;
 use timer_base::OutOfMemory;
 use timer_facility::Event;
 

@@ -2,7 +2,7 @@
 ghost use Rattle.std.specs.Prelude.{◌≡◌};
 ghost use Rattle.timer_program.specs.declared.fault.ScriptFault.TheVariants.{OutOfMemory};
 ghost use Rattle.timer_program.specs.declared.fault.RunFault.TheVariants as faults;
-ghost use Rattle.timer_program.specs.Faults.{run_fault};
+ghost use Rattle.timer_program.specs.Fault.{run_fault};
 
 use std::alloc::{AllocError, AllocFailed};
 use thiserror::Error;

@@ -1,7 +1,7 @@
 //! Reads a script to its end, in few large reads. No error is retried.
 ghost use Rattle.std.specs.Prelude.{◌+◌, OnErr, IsErrOf, vec_len, ◌≡◌, ◌≤◌, ◌<◌, length, IfOk, IfErr, true, false};
 ghost use Rattle.timer_program.specs.declared.input.TheConstants.{MOST_BYTES};
-ghost use Rattle.timer_program.specs.Reading.{ReadsWhole, StopsReading, HasRead, FailsToRead};
+ghost use Rattle.timer_program.specs.Input.{ReadsWhole, StopsReading, HasRead, FailsToRead};
 
 use crate::fault::RunFault;
 use crate::watched::Watched;

@@ -5,7 +5,7 @@ ghost use Rattle.timer_facility.specs.declared.event.Event.{Event};
 ghost use Rattle.timer_facility.specs.State.{FacilityState, IsSound};
 ghost use Rattle.timer_facility.specs.Run.{bare_state};
 ghost use Rattle.timer_program.specs.declared.input.TheConstants.{MOST_BYTES};
-ghost use Rattle.timer_program.specs.declared.reading.TheConstants.{MOST_TICKS};
+ghost use Rattle.timer_program.specs.declared.lines.TheConstants.{MOST_TICKS};
 ghost use Rattle.timer_program.specs.Script.{IsScript, IsBadLine};
 ghost use Rattle.timer_program.specs.Running.{IsAnswer};
 ghost use Rattle.timer_program.specs.declared.fault.SessionFault.TheVariants.{Bad};

@@ -1,12 +1,20 @@
 //! The program `timers`: it reads a script of starts, stops, restarts, ticks and closes, plays it on a timer
 //! facility, and writes one line per result; or it answers such lines as they come.
 //!
-//! `play` has the whole run, from the bytes of the script to those of the text, and its contract is
+//! `running` has the whole run, from the bytes of the script to those of the text, and its contract is
 //! the promise of the program; `serving` has the same for lines that are answered as they come. Read
 //! `script` and `text` first, with `specs/Script.antt` and `specs/Text.antt`: which bytes are a script,
-//! and which text answers it. `arguments` is the program around both, up to the exit status.
+//! and which text answers it. `command` is the program around both, up to the exit status.
+//!
+//! A module's words are in the file of its name in `specs/`, and their lemmas in `proofs/`:
+//!
+//!     bytes     digits and lines (`lines`), scripts (`script`), a stream cut into lines (`cutting`)
+//!     runs      input, output, `running`, `answer` (the same in memory), `text`
+//!     streams   `session`, `peer`, `streams`, `serving`
+//!     command   `arguments` (what the user types), `asked`, `requested`, `schemes`, `command`, `server`, `clients`
 #![tactic(auto)]
 
+mod answer;
 #[cfg(test)]
 mod argument_tests;
 mod arguments;
@@ -14,6 +22,7 @@ mod asked;
 mod clients;
 #[cfg(test)]
 mod clients_tests;
+mod command;
 mod cutting;
 mod fault;
 #[cfg(test)]
@@ -21,18 +30,16 @@ mod handle_tests;
 mod help;
 mod input;
 mod laws;
-mod memory;
-mod options;
+mod lines;
 mod output;
 mod peer;
 #[cfg(test)]
 mod piece_tests;
-mod play;
-mod reading;
 mod reporting;
 mod requested;
 #[cfg(test)]
 mod row_tests;
+mod running;
 mod schemes;
 mod script;
 #[cfg(test)]
@@ -58,7 +65,7 @@ mod text_tests;
 mod unread;
 mod watched;
 
-use arguments::command;
+use command::command;
 use std::process::ExitCode;
 use std::{env, io};
 use streams::Streams;

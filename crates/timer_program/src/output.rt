@@ -2,7 +2,7 @@
 //! writer fails. No error is retried.
 ghost use Rattle.std.specs.Prelude.{◌≡◌, ◌<◌, length, take, Ok, IfOk, IfErr, OnOk, true, false};
 ghost use Rattle.std.specs.Io.KnownBytes.{Appends};
-ghost use Rattle.timer_program.specs.Writing.{StopsWriting};
+ghost use Rattle.timer_program.specs.Output.{StopsWriting};
 
 use crate::fault::RunFault;
 use crate::watched::Watched;

@@ -17,7 +17,7 @@ ghost use Rattle.timer_program.specs.Serving.{AreGood, HasServed};
 use crate::asked::{Play, Scheme};
 use crate::fault::{RunFault, ServeFault};
 use crate::peer::Peer;
-use crate::play::run;
+use crate::running::run;
 use crate::serving::serve;
 use crate::watched::Watched;
 use std::alloc::Global;

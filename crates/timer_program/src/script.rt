@@ -7,7 +7,7 @@ ghost use Rattle.timer_facility.specs.declared.event.Event.{Event};
 ghost use Rattle.timer_program.specs.Script.{IsScript, IsFault};
 
 use crate::fault::ScriptFault;
-use crate::reading::read_line;
+use crate::lines::read_line;
 use std::alloc::Global;
 use timer_facility::Event;
 

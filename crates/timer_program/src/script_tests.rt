@@ -1,6 +1,6 @@
 //! Scripts: which bytes are one, and which line is the first bad one.
+use crate::answer::answer_of;
 use crate::fault::{RunFault, ScriptFault};
-use crate::memory::answer_of;
 use crate::script::parse_script;
 use crate::testing::{SCHEMES, Sink, Source, call, has_left, plain_facility, same, same_in};
 use std::alloc::Global;

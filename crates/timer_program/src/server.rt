@@ -1,6 +1,6 @@
 //! The subcommand `serve`: the lines of a stream are answered as they come.
 ghost use Rattle.std.specs.Prelude.{◌≡◌, false};
-ghost use Rattle.timer_program.specs.Ending.{HasServedLines};
+ghost use Rattle.timer_program.specs.Command.{HasServedLines};
 
 use crate::asked::Play;
 use crate::reporting::report;

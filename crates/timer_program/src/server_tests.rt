@@ -1,6 +1,6 @@
 //! Calls of the program with `serve`.
+use crate::arguments::{Asked, read_arguments};
 use crate::asked::{Play, Scheme};
-use crate::options::{Asked, read_arguments};
 use crate::testing::{Fault, Sink, Source, call, has_left, same, same_in};
 use std::alloc::Global;
 use std::io::ErrorKind;

@@ -1,7 +1,7 @@
 //! Comparisons, readers and writers that fail once, and what a call of the program leaves.
 ghost use Rattle.std.specs.Prelude.{◌≡◌, ◌≤◌, []};
 
-use crate::arguments::command;
+use crate::command::command;
 use crate::streams::Streams;
 use std::alloc::Global;
 use std::fmt::Debug;

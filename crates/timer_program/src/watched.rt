@@ -7,7 +7,7 @@
 ghost use Rattle.std.specs.Prelude.{◌≡◌, ◌||◌, ◌&&◌, ◌==◌, ◌<◌, not, false, length, is_ok, is_err};
 ghost use Rattle.std.specs.Io.{ReadsAtMost, WritesAtMost};
 ghost use Rattle.std.specs.Io.KnownBytes.{Keeps, ReadConsumes, WriteAppends};
-ghost use Rattle.timer_program.specs.Writing.{took_nothing};
+ghost use Rattle.timer_program.specs.Output.{took_nothing};
 
 use std::io;
 use std::io::{Read, Write};

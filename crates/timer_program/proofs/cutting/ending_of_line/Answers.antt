@@ -1,5 +1,5 @@
 use Rattle.std.proofs.Common.{sym}
-use Rattle.timer_program.proofs.LineFeeds.{unread, read_whole}
+use Rattle.timer_program.proofs.CuttingLemmas.{unread, read_whole}
 use Rattle.timer_program.proofs.cutting.ending_of_line.Goals as goal
 
 pub returns-in-Some : goal.returns-in-Some

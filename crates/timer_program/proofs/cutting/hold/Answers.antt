@@ -1,6 +1,6 @@
 use Rattle.std.proofs.Common.{rules, subst}
 use Rattle.timer_program.specs.Cutting.{EndsAsLine}
-use Rattle.timer_program.proofs.LineFeeds.{held_line, held_long}
+use Rattle.timer_program.proofs.CuttingLemmas.{held_line, held_long}
 use Rattle.timer_program.proofs.cutting.hold.Goals as goal
 
 pub returns-then-bytes-len-eq10-clause-ok : goal.returns-then-bytes-len-eq10-clause-ok

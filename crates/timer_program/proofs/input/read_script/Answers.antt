@@ -1,7 +1,7 @@
 use Rattle.std.proofs.Common.{rules, sym, subst, arith}
 use Rattle.std.specs.Io.KnownBytes.{Consumes}
 use Rattle.std.proofs.KnownBytes.{Consumes-nil}
-use Rattle.timer_program.proofs.Known.{reads_more, stops_reading}
+use Rattle.timer_program.proofs.KnownBytes.{reads_more, stops_reading}
 use Rattle.timer_program.proofs.input.read_script.Goals as goal
 
 pub loop-bytes-init : goal.loop-bytes-init

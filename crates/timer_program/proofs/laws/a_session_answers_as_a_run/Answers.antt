@@ -1,7 +1,7 @@
 use Rattle.std.proofs.Common.{subst, ◌≡◌, ◌++◌, length}
 use Rattle.timer_program.specs.Running.{IsAnswer}
 use Rattle.timer_program.specs.Text.{end_line}
-use Rattle.timer_program.proofs.Sessions.{session_answers}
+use Rattle.timer_program.proofs.SessionLemmas.{session_answers}
 use Rattle.timer_program.proofs.laws.a_session_answers_as_a_run.Goals as goal
 
 pub returns : goal.returns

@@ -1,4 +1,4 @@
-use Rattle.timer_program.proofs.Sessions.{session_failed, session_not_ended}
+use Rattle.timer_program.proofs.SessionLemmas.{session_failed, session_not_ended}
 use Rattle.timer_program.proofs.laws.a_session_stops_at_the_first_bad_line.Goals as goal
 
 pub returns-clause-failed : goal.returns-clause-failed

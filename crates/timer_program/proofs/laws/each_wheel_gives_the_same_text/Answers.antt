@@ -1,5 +1,5 @@
 use Rattle.std.proofs.Common.{sym, ◌∙◌}
-use Rattle.timer_program.proofs.BareText.{same_text}
+use Rattle.timer_program.proofs.TextLemmas.{same_text}
 use Rattle.timer_program.proofs.laws.each_wheel_gives_the_same_text.Goals as goal
 
 pub returns : goal.returns

@@ -1,4 +1,4 @@
-use Rattle.timer_program.proofs.Scripts.{no_bad_line, one_bad_line_is}
+use Rattle.timer_program.proofs.ScriptLemmas.{no_bad_line, one_bad_line_is}
 use Rattle.timer_program.proofs.laws.one_bad_line.Goals as goal
 
 pub returns-clause-no_script : goal.returns-clause-no_script

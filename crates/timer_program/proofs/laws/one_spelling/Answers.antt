@@ -1,5 +1,5 @@
 use Rattle.std.proofs.Common.{sym, ◌∙◌}
-use Rattle.timer_program.proofs.Scripts.{one_spelling_is}
+use Rattle.timer_program.proofs.ScriptLemmas.{one_spelling_is}
 use Rattle.timer_program.proofs.laws.one_spelling.Goals as goal
 
 pub returns : goal.returns

@@ -1,5 +1,5 @@
 use Rattle.std.proofs.Common.{rules}
-use Rattle.timer_program.proofs.Known.{sends_more}
+use Rattle.timer_program.proofs.KnownBytes.{sends_more}
 use Rattle.timer_program.proofs.output.write_text.Goals as goal
 
 pub loop-written-preserved : goal.loop-written-preserved

@@ -1,8 +1,8 @@
 use Rattle.std.proofs.Common.{◌==◌, zero, suc, false, eqb-true, ◌≡◌, ◌≤◌, ◌++◌, [], ℕ, length, sym, ◌∙◌, ap, arith, length-append}
 use Rattle.std.proofs.lemmas.List.{append-nil, nil_from_length}
 use Rattle.timer_program.specs.Script.{spelling, line}
-use Rattle.timer_program.proofs.Lines.{line_sound}
-use Rattle.timer_program.proofs.Scripts.{one_spelling_is, no_line_none, line_long, all_push, spelling_push}
+use Rattle.timer_program.proofs.LineLemmas.{line_sound}
+use Rattle.timer_program.proofs.ScriptLemmas.{one_spelling_is, no_line_none, line_long, all_push, spelling_push}
 use Rattle.timer_program.proofs.script.parse_script.Goals as goal
 
 not_empty : (n : ℕ) → (n == 0) ≡ false → 1 ≤ n

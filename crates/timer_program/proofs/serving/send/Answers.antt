@@ -1,7 +1,7 @@
 use Rattle.std.proofs.Common.{◌∙◌, ◌||◌, true, false, ap, subst, rules}
 use Rattle.std.proofs.lemmas.List.{take_all}
 use Rattle.timer_program.specs.Serving.{HasWritten}
-use Rattle.timer_program.proofs.Talks.{written_none, written_more, written_failed, written_flush, sent_all, still_good, took_none, rest_some, within_more}
+use Rattle.timer_program.proofs.PeerLemmas.{written_none, written_more, written_failed, written_flush, sent_all, still_good, took_none, rest_some, within_more}
 use Rattle.timer_program.proofs.serving.send.Goals as goal
 
 pub loop-written-init : goal.loop-written-init

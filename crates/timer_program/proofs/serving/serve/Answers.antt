@@ -1,6 +1,6 @@
 use Rattle.std.proofs.Common.{[], true, sym, subst, arith}
 use Rattle.timer_program.specs.Session.{fresh, IsAnsweredSoFar}
-use Rattle.timer_program.proofs.Servings.{passed_none, passed_join, turned_none, turned_more, served_turn, served_finish, fresh_answered}
+use Rattle.timer_program.proofs.ServingLemmas.{passed_none, passed_join, turned_none, turned_more, served_turn, served_finish, fresh_answered}
 use Rattle.timer_program.proofs.serving.serve.Goals as goal
 
 pub returns-in_default : goal.returns-in_default

@@ -2,7 +2,7 @@ use Rattle.std.proofs.Common.{◌≡◌, vec_len}
 use Rattle.timer_program.specs.declared.serving.TheConstants.{PIECE}
 use Rattle.timer_program.specs.Session.{fresh, IsAnsweredSoFar}
 use Rattle.timer_program.specs.Serving.{AreGood}
-use Rattle.timer_program.proofs.Servings.{HasTurnedOften}
+use Rattle.timer_program.proofs.ServingLemmas.{HasTurnedOften}
 use Rattle.timer_program.proofs.serving.serve.Given as goal
 
 -- all that came was fed and answered

@@ -1,7 +1,7 @@
 use Rattle.std.proofs.Common.{[], ◌∙◌, ◌||◌, true, false, take, drop, ap, sym, subst, append-nil, take-append-drop, rules}
 use Rattle.timer_program.specs.Serving.{HasSent, HasSentPart, StopsTurn}
-use Rattle.timer_program.proofs.Talks.{talked_came, talked_failed}
-use Rattle.timer_program.proofs.Servings.{turned, stops_reading, stops_sending, stops_feeding, not_ended_before}
+use Rattle.timer_program.proofs.PeerLemmas.{talked_came, talked_failed}
+use Rattle.timer_program.proofs.ServingLemmas.{turned, stops_reading, stops_sending, stops_feeding, not_ended_before}
 use Rattle.timer_program.proofs.serving.turn.Goals as goal
 
 pub returns-in_default-clause-fault : goal.returns-in_default-clause-fault

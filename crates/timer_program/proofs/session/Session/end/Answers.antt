@@ -1,7 +1,7 @@
 use Rattle.std.proofs.Common.{refl, ◌≡◌, ◌∙◌, ◌≤◌, [], sym, subst, rules, length}
 use Rattle.timer_program.specs.Cutting.{IsPartial}
 use Rattle.timer_program.specs.Session.{SessionState, next_line, WhyNotEnded}
-use Rattle.timer_program.proofs.Sessions.{fed_nothing, fed_still, written_all, over_not_ended, not_ended}
+use Rattle.timer_program.proofs.SessionLemmas.{fed_nothing, fed_still, written_all, over_not_ended, not_ended}
 use Rattle.timer_program.proofs.session.Session.end.Goals as goal
 
 pub returns-in-Some-clause-written : goal.returns-in-Some-clause-written

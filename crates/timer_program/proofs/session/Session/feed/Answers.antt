@@ -1,5 +1,5 @@
 use Rattle.std.proofs.Common.{refl, ap, take, arith, rules}
-use Rattle.timer_program.proofs.Sessions.{fed_nothing, fed_still, written_all, fed_more, answered_written, over_stopped, stopped_going}
+use Rattle.timer_program.proofs.SessionLemmas.{fed_nothing, fed_still, written_all, fed_more, answered_written, over_stopped, stopped_going}
 use Rattle.timer_program.proofs.session.Session.feed.Goals as goal
 
 pub returns-in-Some-clause-stopped : goal.returns-in-Some-clause-stopped

@@ -1,7 +1,7 @@
 use Rattle.std.proofs.Common.{refl, subst, sym, ◌∙◌, take}
 use Rattle.timer_program.specs.Cutting.{IsEnding}
 use Rattle.timer_program.specs.Session.{SessionState}
-use Rattle.timer_program.proofs.Sessions.{fed_held, fed_line}
+use Rattle.timer_program.proofs.SessionLemmas.{fed_held, fed_line}
 use Rattle.timer_program.proofs.session.Session.play_line.Goals as goal
 
 pub returns-in-Open-clause-fed : goal.returns-in-Open-clause-fed

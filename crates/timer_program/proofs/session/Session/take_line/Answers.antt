@@ -1,5 +1,5 @@
 use Rattle.std.proofs.Common.{refl, ap, take, rules}
-use Rattle.timer_program.proofs.Sessions.{fed_still, fed_written}
+use Rattle.timer_program.proofs.SessionLemmas.{fed_still, fed_written}
 use Rattle.timer_program.proofs.session.Session.take_line.Goals as goal
 
 pub returns-in_default-clause-stopped : goal.returns-in_default-clause-stopped

@@ -2,8 +2,8 @@ use Rattle.std.proofs.Common.{◌≡◌, [], ◌++◌, length, ap, subst, ◌∙
 use Rattle.timer_facility.specs.State.{FacilityState}
 use Rattle.timer_program.specs.Text.{end_line}
 use Rattle.timer_program.specs.Running.{AddsLines}
-use Rattle.timer_program.proofs.Playing.{added_answer}
-use Rattle.timer_program.proofs.play.answer_to.Goals as goal
+use Rattle.timer_program.proofs.RunningLemmas.{added_answer}
+use Rattle.timer_program.proofs.running.answer_to.Goals as goal
 
 pub returns-clause-ok : goal.returns-clause-ok
 returns-clause-ok g c =

@@ -15,8 +15,8 @@ use Rattle.timer_program.specs.Script.{spelling, BeginsNoLine}
 use Rattle.timer_program.specs.Session.{SessionState, fresh, lines_of, next_line, HasFed, IsAnsweredSoFar, HasFailed, WhyStopped, WhyNotEnded}
 use Rattle.timer_program.specs.Peer.{PeerState}
 use Rattle.timer_program.specs.Serving.{HasTalked, HasPassed, AreGood, HasSent, HasSentPart, is_flushed, HasTurned, serve_fault, StopsTurn, last_line, StopsEnd, HasAnsweredAll, HasServed}
-use Rattle.timer_program.proofs.Sessions.{fed_nothing, fed_join, fed_shift, ended_going, stopped_at, some_more}
-use Rattle.timer_program.proofs.Talks.{talked_nothing, talked_wrote, talked_sent, talked_join}
+use Rattle.timer_program.proofs.SessionLemmas.{fed_nothing, fed_join, fed_shift, ended_going, stopped_at, some_more}
+use Rattle.timer_program.proofs.PeerLemmas.{talked_nothing, talked_wrote, talked_sent, talked_join}
 
 -- ---- one turn
 

@@ -4,7 +4,7 @@ use Rattle.std.proofs.lemmas.Fmt.{length-decimal-le, decimal_by_steps}
 use Rattle.std.proofs.lemmas.List.{take_more}
 use Rattle.timer_base.specs.declared.limits.TheConstants.{LAST}
 use Rattle.timer_program.specs.declared.cutting.TheConstants.{MOST_LINE}
-use Rattle.timer_program.specs.declared.reading.TheConstants.{MOST_TICKS}
+use Rattle.timer_program.specs.declared.lines.TheConstants.{MOST_TICKS}
 use Rattle.timer_facility.specs.declared.event.Event.{Event}
 use Rattle.timer_facility.specs.declared.event.Event.TheVariants.{Start, Stop, Restart, Ticks, Close}
 use Rattle.timer_program.specs.Script.{IsInRange, line, BeginsNoLine}
@@ -13,7 +13,7 @@ use Rattle.timer_program.specs.declared.cutting.Ending.TheVariants.{Open, Bad}
 use Rattle.timer_program.specs.Cutting.{HasNoFeed, IsPartial, IsBadFront, EndsAsLine, HasHeld}
 use Rattle.std.proofs.lemmas.Option.{none-some}
 use Rattle.timer_program.specs.Lines.{line_at}
-use Rattle.timer_program.proofs.Lines.{line_again, line_sound}
+use Rattle.timer_program.proofs.LineLemmas.{line_again, line_sound}
 
 pub no_feed-append : (xs ys : List ℕ) → HasNoFeed xs → HasNoFeed ys → HasNoFeed (xs ++ ys)
 no_feed-append [] ys a b = b

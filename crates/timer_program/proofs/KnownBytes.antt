@@ -7,7 +7,7 @@ use Rattle.std.proofs.Math.Seq.{take-add}
 use Rattle.timer_program.specs.declared.input.TheConstants.{MOST_BYTES}
 use Rattle.timer_program.specs.declared.fault.RunFault.{RunFault}
 use Rattle.timer_program.specs.declared.fault.RunFault.TheVariants as faults
-use Rattle.timer_program.specs.Reading.{HasRead, FailsToRead, StopsReading}
+use Rattle.timer_program.specs.Input.{HasRead, FailsToRead, StopsReading}
 
 pub reads_more : (a b c : Option (List ℕ)) (failed : Bool) (old new : List ℕ) (n : ℕ) → Consumes a b old → HasRead b c failed old new n → Consumes a c new
 reads_more a b c failed old new n before h = subst (Consumes a c) (sym h.joined) (Consumes-trans a b c old h.more before h.taken)

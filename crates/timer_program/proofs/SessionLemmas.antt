@@ -18,7 +18,7 @@ use Rattle.timer_program.specs.declared.stage.Stage.{Stage}
 use Rattle.timer_program.specs.declared.stage.Stage.TheVariants.{Going, Failed, Ended}
 use Rattle.timer_program.specs.Session.{SessionState, fresh, lines_of, next_line, IsStoppedAt, HasFed, IsKept, IsAnsweredSoFar, HasFailed, IsOver, HasStopped, WhyStopped, WhyNotEnded}
 use Rattle.timer_program.specs.Cutting.{IsPartial}
-use Rattle.timer_program.proofs.LineFeeds.{no_feed_no_line}
+use Rattle.timer_program.proofs.CuttingLemmas.{no_feed_no_line}
 
 failed_going : (stage : Stage) → stage ≡ Failed → stage ≡ Going → ⊥
 failed_going stage h k = cc

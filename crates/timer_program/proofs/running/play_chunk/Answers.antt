@@ -2,8 +2,8 @@ use Rattle.std.proofs.Common.{◌≡◌, take, sym, subst}
 use Rattle.std.proofs.lemmas.List.{take_more, take_all}
 use Rattle.timer_facility.specs.Played.{IsRun}
 use Rattle.timer_facility.proofs.PlayedLemmas.{IsRun-more}
-use Rattle.timer_program.proofs.Playing.{adds_chunk}
-use Rattle.timer_program.proofs.play.play_chunk.Goals as goal
+use Rattle.timer_program.proofs.RunningLemmas.{adds_chunk}
+use Rattle.timer_program.proofs.running.play_chunk.Goals as goal
 
 pub loop-event-preserved : goal.loop-event-preserved
 loop-event-preserved g c =

@@ -7,7 +7,7 @@ ghost use Rattle.timer_program.specs.Running.{IsAnswer, HasNoAnswer};
 
 use crate::fault::RunFault;
 use crate::input::MOST_BYTES;
-use crate::play::answer_to;
+use crate::running::answer_to;
 use std::alloc::Global;
 use timer_base::Wheel;
 use timer_facility::Facility;

@@ -4,8 +4,8 @@ use Rattle.std.proofs.lemmas.Int.Digits.{digits_more, digits_value_more}
 use Rattle.std.specs.Char.{digit_value}
 use Rattle.std.specs.Str.Parse.{AllDigits, digits_value}
 use Rattle.timer_program.proofs.Digits.{digits_some_at, digits_large_at, digits_empty}
-use Rattle.timer_program.proofs.reading.read_digits.Goals.{else-loop-b-test, then-loop-b-test+in_default}
-use Rattle.timer_program.proofs.reading.read_digits.Goals as goal
+use Rattle.timer_program.proofs.lines.read_digits.Goals.{else-loop-b-test, then-loop-b-test+in_default}
+use Rattle.timer_program.proofs.lines.read_digits.Goals as goal
 
 -- one more digit
 more : (s : List ℕ) (i j value byte digit : ℕ) → i ≡ j → j < length s → AllDigits 10 (take i s) → value ≡ digits_value 10 (take i s) → byte ≡ get_or s j 0 → (digit_value byte < 10) × (digit ≡ digit_value byte) → AllDigits 10 (take (i + 1) s) × (value * 10 + digit ≡ digits_value 10 (take (i + 1) s))

@@ -1,5 +1,5 @@
-use Rattle.timer_program.proofs.Playing.{added_none, added_more, cut}
-use Rattle.timer_program.proofs.play.play_lines.Goals as goal
+use Rattle.timer_program.proofs.RunningLemmas.{added_none, added_more, cut}
+use Rattle.timer_program.proofs.running.play_lines.Goals as goal
 
 pub loop-rest-init : goal.loop-rest-init
 loop-rest-init g c = added_none c.args.player.now c.args.events.now c.args.text.now.items

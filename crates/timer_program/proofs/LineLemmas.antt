@@ -10,7 +10,7 @@ use Rattle.std.specs.Str.Parse.{digits_value}
 use Rattle.std.proofs.NetLemmas.Numbers.{NoDigit}
 use Rattle.std.proofs.NetLemmas.Options.{cond_some, cond_none, and_then_some, same_parts}
 use Rattle.timer_base.specs.declared.limits.TheConstants.{LAST}
-use Rattle.timer_program.specs.declared.reading.TheConstants.{MOST_TICKS}
+use Rattle.timer_program.specs.declared.lines.TheConstants.{MOST_TICKS}
 use Rattle.timer_facility.specs.declared.event.Event.{Event}
 use Rattle.timer_facility.specs.declared.event.Event.TheVariants.{Start, Stop, Restart, Ticks, Close}
 use Rattle.timer_program.specs.Script.{IsInRange, line}

@@ -1,6 +1,6 @@
 use Rattle.std.proofs.Common.{take}
 use Rattle.timer_facility.specs.Played.{IsRun}
-use Rattle.timer_program.proofs.play.play_chunk.Given as goal
+use Rattle.timer_program.proofs.running.play_chunk.Given as goal
 
 -- the events so far were played
 abbrev pub invariant-loop-event : goal.invariant-loop-event

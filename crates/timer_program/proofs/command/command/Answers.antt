@@ -1,5 +1,5 @@
 use Rattle.std.proofs.Common.{refl, inr}
-use Rattle.timer_program.proofs.arguments.command.Goals as goal
+use Rattle.timer_program.proofs.command.command.Goals as goal
 
 -- nothing was played or served, and no clients ran
 pub returns-in-Err : goal.returns-in-Err

@@ -8,7 +8,7 @@ use Rattle.timer_facility.specs.declared.event.Event.{Event}
 use Rattle.timer_facility.specs.declared.event.Event.TheVariants.{Start, Stop, Restart, Ticks, Close}
 use Rattle.timer_program.specs.Script.{IsInRange, line, spelling, IsScript, BeginsNoLine, IsBadLine}
 use Rattle.timer_program.specs.Lines.{line_at}
-use Rattle.timer_program.proofs.Lines.{line_again}
+use Rattle.timer_program.proofs.LineLemmas.{line_again}
 
 -- the first lines of two texts that are one
 one_line : (d e : Event) (xs ys : List ℕ) → IsInRange d → IsInRange e → line d ++ xs ≡ line e ++ ys → (d ≡ e) × (xs ≡ ys)

@@ -11,7 +11,7 @@ use Rattle.timer_program.specs.declared.serving.TheConstants.{PIECE}
 use Rattle.timer_program.specs.Session.{SessionState, HasFed, IsAnsweredSoFar}
 use Rattle.timer_program.specs.Peer.{PeerState, Moment, Came, Went, Flush, Grows, Gives, Takes, Flushes}
 use Rattle.timer_program.specs.Serving.{came_of, gone_of, is_flushed, IsAnsweredBy, IsPrompt, HasTalked, AreWrites, HasWritten, HasSent}
-use Rattle.timer_program.proofs.Sessions.{fed_nothing, fed_join, fed_shift}
+use Rattle.timer_program.proofs.SessionLemmas.{fed_nothing, fed_join, fed_shift}
 
 -- ---- lists of calls
 

@@ -1,0 +1,112 @@
+//! The whole program, over its arguments, its input and its outputs.
+ghost use Rattle.std.specs.Prelude.{◌≡◌, ◌≢◌, ◌≤◌, ◌⊎◌, ℕ, List, false, true};
+ghost use Rattle.std.specs.Io.KnownBytes.{Appends};
+ghost use Rattle.clap.specs.Values.{kind_of};
+ghost use Rattle.timer_program.specs.Command.{HasPlayed, HasEnded};
+
+use crate::arguments::{Asked, read_arguments};
+use crate::asked::Play;
+use crate::clients::run_clients;
+use crate::fault::RunFault;
+use crate::output::write_text;
+use crate::reporting::report;
+use crate::schemes::play_by_scheme;
+use crate::server::serve_lines;
+use crate::streams::Streams;
+use crate::watched::Watched;
+use clap::Error;
+use clap::error::ErrorKind;
+use std::alloc::Global;
+use std::convert::AsStr;
+use std::io::{Read, Write};
+use std::thread::Threads;
+
+/// Runs the program on the arguments after its name, and returns its exit status.
+///
+/// 0: the script was played, or the stream served to its end, or the clients ran to theirs, and the text
+/// was written, or help was asked for and written. 1: an error, reported in one line on `faults`. 2: the
+/// arguments are refused, for the reason that `faults` gets; nothing is read or written. An error in
+/// writing to `faults` is ignored. Neither the reader nor the writer may have failed before. Waits where
+/// clients run in threads.
+pub fn command<T: AllocGlobal + Threads, S: AsStr, R: Read, W: Write, F: Write>(
+    rt: &T,
+    arguments: &[S],
+    streams: &mut Streams<R, W>,
+    faults: &mut F,
+) -> u8
+    requires reader_good { streams.old.reader.failed ≡ false }
+    requires writer_good { streams.old.writer.failed ≡ false }
+    ensures { HasEnded R.remaining W.contents streams.old.reader streams.new.reader streams.old.writer streams.new.writer result }
+{
+    let alloc = rt.alloc();
+    match read_arguments(alloc, arguments) {
+        Ok(Asked::Play(asked)) => play(
+            alloc,
+            asked,
+            &mut streams.reader,
+            &mut streams.writer,
+            faults,
+        ),
+        Ok(Asked::Serve(asked)) => serve_lines(alloc, asked, streams, faults),
+        Ok(Asked::Threads(asked)) => run_clients(rt, alloc, asked, &mut streams.writer, faults),
+        Err(error) => end_unplayed(alloc, &error, &mut streams.writer, faults),
+    }
+}
+
+/// Plays the script of the reader, and returns the exit status.
+fn play<R: Read, W: Write, F: Write>(
+    alloc: Global,
+    asked: Play,
+    reader: &mut Watched<R>,
+    writer: &mut Watched<W>,
+    faults: &mut F,
+) -> u8
+    requires reader_good { reader.old.failed ≡ false }
+    requires writer_good { writer.old.failed ≡ false }
+    ensures { HasPlayed asked R.remaining W.contents reader.old reader.new writer.old writer.new result }
+{
+    let checked = match asked.check() {
+        Ok(checked) => checked,
+        Err(fault) => {
+            let _ = writeln!(faults, "{fault}");
+            return 2;
+        }
+    };
+    match play_by_scheme(alloc, asked, checked, reader, writer) {
+        Ok(()) => 0,
+        Err(fault) => report(fault, faults),
+    }
+}
+
+/// Writes the help or the version that was asked for, or reports why the arguments are refused.
+/// Returns the exit status.
+fn end_unplayed<W: Write, F: Write>(
+    alloc: Global,
+    error: &Error,
+    writer: &mut Watched<W>,
+    faults: &mut F,
+) -> u8
+    requires { writer.old.failed ≡ false }
+    ensures in_range { result ≤ 2 }
+    ensures out_of_memory { kind_of error.now ≡ ErrorKind.OutOfMemory → result ≡ 1 }
+    ensures help { ((kind_of error.now ≡ ErrorKind.DisplayHelp) ⊎ (kind_of error.now ≡ ErrorKind.DisplayVersion)) → result ≤ 1 }
+    ensures refused { kind_of error.now ≢ ErrorKind.OutOfMemory → kind_of error.now ≢ ErrorKind.DisplayHelp → kind_of error.now ≢ ErrorKind.DisplayVersion → result ≡ 2 }
+    ensures written { result ≡ 0 → ((text : List ℕ) × Appends (W.contents writer.old.inner) (W.contents writer.new.inner) text) × (writer.new.failed ≡ false) }
+    ensures failed { result ≡ 1 → (writer.new.failed ≡ true) ⊎ (writer.new ≡ writer.old) }
+    ensures unwritten { result ≡ 2 → writer.new ≡ writer.old }
+{
+    if error.kind() == ErrorKind::OutOfMemory {
+        return report(RunFault::OutOfMemory, faults);
+    }
+    if error.use_stderr() {
+        let _ = write!(faults, "{error}");
+        return 2;
+    }
+    let Ok(text) = format!(in alloc; "{error}") else {
+        return report(RunFault::OutOfMemory, faults);
+    };
+    if let Err(fault) = write_text(writer, text.as_bytes()) {
+        return report(fault, faults);
+    }
+    0
+}
