@@ -7,15 +7,25 @@
 //! The lowest bit that is set is that of the bucket that the clock empties next, of those with a timer:
 //! a lower wheel comes before a higher one, and in a wheel the slots come in turn.
 ghost use Rattle.std.specs.Prelude.{◌≡◌, ◌≢◌, ◌<◌, ℕ, List, length, true, false, MatchOption};
+ghost use Rattle.timer_wheels.specs.declared.occupied.TheConstants.{BUCKETS, WORDS};
 ghost use Rattle.timer_wheels.specs.TakenOut.{Clears};
 ghost use Rattle.timer_wheels.specs.Occupied.{bit_of, IsFirstSet, IsLowestSet};
 
 use std::marker::Model;
 
-/// A bit for each of 640 buckets.
+/// The most buckets that a table has.
+const BUCKETS: usize = 640;
+
+/// The words that have a bit for each of them.
+const WORDS: usize = 10;
+
+/// The bits of a word.
+const BITS: usize = 64;
+
+/// A bit for each bucket.
 #[derive(Drop)]
 pub struct Occupied {
-    words: [u64; 10],
+    words: [u64; WORDS],
 }
 
 impl Model for Occupied {
@@ -23,7 +33,7 @@ impl Model for Occupied {
 
     ghost view = { λ o. o.words };
 
-    ghost invariant = { λ o. length o.words ≡ 10 };
+    ghost invariant = { λ o. length o.words ≡ WORDS };
 }
 
 impl Occupied {
@@ -32,43 +42,43 @@ impl Occupied {
     pub fn new() -> Occupied
         ensures { (s : ℕ) → bit_of result s ≡ 0 }
     {
-        Occupied { words: [0; 10] }
+        Occupied { words: [0; WORDS] }
     }
 
     /// Whether a bucket's bit is set.
     #[inline]
     pub fn has(&self, list: usize) -> bool
-        requires { list < 640 }
+        requires { list < BUCKETS }
         ensures yes { result ≡ true → bit_of self.now list ≡ 1 }
         ensures no { result ≡ false → bit_of self.now list ≡ 0 }
     {
-        self.words[list / 64] >> (list % 64) & 1 == 1
+        self.words[list / BITS] >> (list % BITS) & 1 == 1
     }
 
     /// Sets a bucket's bit.
     // Where it is set already the word is left alone: a store would hold back the next start's load of it.
     #[inline]
     pub fn insert(&mut self, list: usize)
-        requires { list < 640 }
+        requires { list < BUCKETS }
         ensures here { bit_of self.new list ≡ 1 }
         ensures others { (s : ℕ) → s ≢ list → bit_of self.new s ≡ bit_of self.old s }
     {
         if self.has(list) {
             return;
         }
-        let word = list / 64;
-        self.words[word] = self.words[word] | 1 << (list % 64);
+        let word = list / BITS;
+        self.words[word] = self.words[word] | 1 << (list % BITS);
     }
 
     /// Clears a bucket's bit.
     #[inline]
     pub fn remove(&mut self, list: usize)
-        requires { list < 640 }
+        requires { list < BUCKETS }
         ensures here { bit_of self.new list ≡ 0 }
         ensures others { (s : ℕ) → s ≢ list → bit_of self.new s ≡ bit_of self.old s }
     {
-        let word = list / 64;
-        self.words[word] = self.words[word] & !(1 << (list % 64));
+        let word = list / BITS;
+        self.words[word] = self.words[word] & !(1 << (list % BITS));
     }
 
     /// The first bucket whose bit is set.
@@ -76,10 +86,10 @@ impl Occupied {
     pub fn first(&self) -> Option<usize>
         ensures { IsFirstSet self.now result }
     {
-        for k in 0..10 {
+        for k in 0..WORDS {
             let word = self.words[k];
             if word != 0 {
-                return Some(64 * k + lowest_bit(word));
+                return Some(BITS * k + lowest_bit(word));
             }
         }
         None
@@ -98,7 +108,7 @@ fn lowest_bit(word: u64) -> usize
 /// Clears the bit of a bucket that was emptied, if one was.
 #[inline]
 pub fn clear_emptied(occupied: &mut Occupied, emptied: Option<usize>)
-    requires { MatchOption emptied (Unit {0}) (λ list. list < 640) }
+    requires { MatchOption emptied (Unit {0}) (λ list. list < BUCKETS) }
     ensures { Clears emptied occupied.old occupied.new }
 {
     if let Some(list) = emptied {
