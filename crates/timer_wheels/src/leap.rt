@@ -8,8 +8,9 @@ ghost use Rattle.timer_base.specs.declared.limits.TheConstants.{LAST};
 ghost use Rattle.timer_base.specs.WakeUps.{IsQuietUntil};
 ghost use Rattle.timer_base.specs.WheelState.{Advances};
 ghost use Rattle.timer_wheels.specs.Digits.{base, last_of, slots};
+ghost use Rattle.timer_wheels.specs.declared.table.Table.TheVariants.{Wide};
 ghost use Rattle.timer_wheels.specs.Tables.{radices};
-ghost use Rattle.timer_wheels.specs.Placement.{IsPlaced, levels_of, visited_between};
+ghost use Rattle.timer_wheels.specs.Placement.{IsPlaced, levels_of, visited_between, most_moves};
 ghost use Rattle.timer_wheels.specs.Buckets.{state_of};
 ghost use Rattle.timer_wheels.specs.Leaps.{AreNotBefore, Leaps};
 ghost use Rattle.timer_wheels.specs.Hier.{IsHier};
@@ -29,7 +30,7 @@ pub fn pass_ticks(table: Table, buckets: &mut Buckets, occupied: &mut Occupied, 
     requires nothing_due { (state_of buckets.old).due ≡ [] }
     requires some { 0 < most }
     requires before_last { most ≤ buckets.old.last_tick - buckets.old.tick }
-    requires few { levels_of (radices table) buckets.old.tick (state_of buckets.old).pending ≤ 9 * LAST }
+    requires few { levels_of (radices table) buckets.old.tick (state_of buckets.old).pending ≤ most_moves (radices Wide) * LAST }
     ensures hier { IsHier table buckets.new occupied.new }
     ensures leaps { Leaps (radices table) result (state_of buckets.old) (state_of buckets.new) }
     ensures advances { Advances most (buckets.new.tick - buckets.old.tick) (state_of buckets.old) (state_of buckets.new) }

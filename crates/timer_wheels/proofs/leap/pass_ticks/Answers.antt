@@ -10,6 +10,7 @@ pub loop-buckets-init : goal.loop-buckets-init
 loop-buckets-init c = setting_out c.args.table c.args.most c.args.buckets.now c.args.occupied.now c.requires.hier c.requires.nothing_due
 
 pub overflow_add-moves : goal.overflow_add-moves
+unfolding Rattle.timer_wheels.specs.Digits.wide
 overflow_add-moves c =
     let w = c.loop-buckets.invariant in
     let h : c.loop-buckets.moves + c.leap-moves.result < 18446744073709551616 = moves_fit (radices c.args.table) c.loop-buckets.moves c.leap-moves.result (state_of c.args.buckets.now) (state_of c.loop-buckets.buckets) (state_of c.leap-moves.new.buckets) w.leaps c.leap-moves.ensures.leaps c.requires.few in

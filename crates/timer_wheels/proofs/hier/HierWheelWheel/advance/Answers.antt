@@ -38,6 +38,7 @@ least : (moves levels n : ℕ) → moves + levels ≤ n → levels ≤ n
 least moves levels n h = omega arith
 
 pub pass_ticks-moves-requires-clause-few : goal.pass_ticks-moves-requires-clause-few
+unfolding Rattle.timer_wheels.specs.Digits.wide
 pass_ticks-moves-requires-clause-few c =
     let w = c.args.self.now in
     let t = radices w.table in
