@@ -7,7 +7,7 @@
 //!     trips COUNT               so many requests over a ring line, each answered before the next
 //!     one_way COUNT             so many requests over a ring line, one after the other
 //!
-//! It prints how many requests were served and how many words came of them. Without arguments it does a
+//! It prints how many requests were served and how many words were given. Without arguments it does a
 //! little of each.
 #![tactic(auto)]
 

@@ -3,7 +3,7 @@ ghost use Rattle.std.specs.Prelude.{◌≡◌, OnOk, true};
 
 use std::alloc::{AllocError, AllocFailed};
 
-/// Why a scenario didn't come to its end.
+/// Why a scenario did not finish.
 #[derive(Clone, Copy, Debug, PartialEq, Eq)]
 pub enum Fault {
     /// An allocation of the scenario's own was refused.

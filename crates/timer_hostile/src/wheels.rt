@@ -15,7 +15,7 @@ use timer_wheels::{HashedWheel, HierWheel, Table};
 /// How many timers a scenario starts: one less than a prime number.
 const STARTS: u64 = 100;
 
-/// The plain wheel, which takes no memory.
+/// The plain wheel, which is made without an allocation.
 pub fn plain(alloc: Global) -> Result<PlainWheel, Fault>
     ensures { IfOk result (λ wheel. ⟦<PlainWheel as Wheel>⟧.state wheel ≡ empty_wheel LAST 0) }
 {

@@ -1,4 +1,4 @@
-//! Cuts a stream of bytes into lines, in whatever pieces it comes.
+//! Cuts a stream of bytes, which arrives in pieces of any size, into lines.
 //!
 //! The bytes of a line whose line feed has not come yet are held. No line has more than `MOST_LINE`
 //! bytes, so what is held is bounded: that many bytes without a line feed are a bad line at once.

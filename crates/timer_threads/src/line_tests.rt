@@ -24,7 +24,7 @@ fn told(word: Option<Word>) -> (u64, u64, u64) {
     }
 }
 
-/// Takes one turn of two clients, and answers what came of the first serve.
+/// Takes one turn of two clients, and returns the result of the first serve.
 fn turn_of_two(desk: &mut Desk<HierWheel, RingInlet>) -> Served
     requires { clients_of desk.old ≡ 2 }
     ensures clients { clients_of desk.new ≡ 2 }
