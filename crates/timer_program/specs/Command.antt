@@ -4,13 +4,14 @@ use Rattle.std.specs.Io.KnownBytes.{Appends}
 use Rattle.timer_facility.specs.Opened.{opened}
 use Rattle.timer_program.specs.declared.asked.Play.{Play}
 use Rattle.timer_program.specs.declared.asked.PlayFault.{PlayFault}
-use Rattle.timer_program.specs.declared.fault.RunFault.{RunFault}
-use Rattle.timer_program.specs.declared.fault.ServeFault.{ServeFault}
-use Rattle.timer_program.specs.declared.watched.Watched.{Watched}
+use Rattle.timer_script.specs.declared.fault.RunFault.{RunFault}
+use Rattle.timer_script.specs.declared.fault.ServeFault.{ServeFault}
+use Rattle.timer_script.specs.declared.watched.Watched.{Watched}
+use Rattle.timer_script.specs.Watched.{inner_of, has_failed}
 use Rattle.timer_program.specs.Asked.{config_of, scheme_last, IsPlayable, IsRefused}
-use Rattle.timer_program.specs.Running.{HasRun}
-use Rattle.timer_program.specs.Serving.{HasServed}
-use Rattle.timer_program.specs.Streams.{streams_state}
+use Rattle.timer_script.specs.Running.{HasRun}
+use Rattle.timer_script.specs.Serving.{HasServed}
+use Rattle.timer_script.specs.Streams.{streams_state}
 use Rattle.timer_program.specs.declared.requested.Clients.{Clients}
 use Rattle.timer_program.specs.Clients.{HasRunClients}
 
@@ -45,9 +46,9 @@ pub record HasNotPlayed {R S : Type 0} (contents : S → Option (List ℕ)) (rea
   pub in_range : status ≤ 2
   pub unread : reader' ≡ reader
   -- 0: a whole text was written
-  pub written : status ≡ 0 → ((text : List ℕ) × Appends (contents writer.inner) (contents writer'.inner) text) × (writer'.failed ≡ false)
+  pub written : status ≡ 0 → ((text : List ℕ) × Appends (contents (inner_of writer)) (contents (inner_of writer')) text) × (has_failed writer' ≡ false)
   -- 1: the writer failed, or nothing was written
-  pub failed : status ≡ 1 → (writer'.failed ≡ true) ⊎ (writer' ≡ writer)
+  pub failed : status ≡ 1 → (has_failed writer' ≡ true) ⊎ (writer' ≡ writer)
   -- 2: nothing was written
   pub refused : status ≡ 2 → writer' ≡ writer
 

@@ -1,15 +1,3 @@
-pub mod Lines
-pub mod Script
-pub mod Text
-pub mod Cutting
-pub mod Session
-pub mod Input
-pub mod Output
-pub mod Fault
-pub mod Running
-pub mod Peer
-pub mod Streams
-pub mod Serving
 pub mod Asked
 pub mod Schemes
 pub mod Clients

@@ -1,15 +1,14 @@
 //! The subcommand `threads`: clients in threads of their own, and one line for each.
 ghost use Rattle.std.specs.Prelude.{◌≡◌, IfOk, IsTrue, ◌↔◌, vec_len, false};
 ghost use Rattle.timer_program.specs.Clients.{AreFew, HasRunClients};
+ghost use Rattle.timer_script.specs.Watched.{has_failed};
 
-use crate::fault::RunFault;
-use crate::output::write_text;
 use crate::reporting::report;
 use crate::requested::Clients;
-use crate::watched::Watched;
 use std::alloc::{AllocError, Global};
 use std::io::Write;
 use std::thread::Threads;
+use timer_script::{RunFault, Watched, write_text};
 use timer_threads::{Open, ThreadsFault, threads_run};
 
 /// After so many turns in a row that passed nothing on, each side gives up.
@@ -24,7 +23,7 @@ pub fn run_clients<W: Write, F: Write>(
     writer: &mut Watched<W>,
     faults: &mut F,
 ) -> u8
-    requires { writer.old.failed ≡ false }
+    requires { has_failed writer.old ≡ false }
     ensures { HasRunClients asked W.contents writer.old writer.new result }
 {
     if !asked.is_in_range() {

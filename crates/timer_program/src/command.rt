@@ -3,23 +3,21 @@ ghost use Rattle.std.specs.Prelude.{◌≡◌, ◌≢◌, ◌≤◌, ◌⊎◌, 
 ghost use Rattle.std.specs.Io.KnownBytes.{Appends};
 ghost use Rattle.clap.specs.Values.{kind_of};
 ghost use Rattle.timer_program.specs.Command.{HasPlayed, HasEnded};
+ghost use Rattle.timer_script.specs.Watched.{inner_of, has_failed};
 
 use crate::arguments::{Asked, read_arguments};
 use crate::asked::Play;
 use crate::clients::run_clients;
-use crate::fault::RunFault;
-use crate::output::write_text;
 use crate::reporting::report;
 use crate::schemes::play_by_scheme;
 use crate::server::serve_lines;
-use crate::streams::Streams;
-use crate::watched::Watched;
 use clap::Error;
 use clap::error::ErrorKind;
 use std::alloc::Global;
 use std::convert::AsStr;
 use std::io::{Read, Write};
 use std::thread::Threads;
+use timer_script::{RunFault, Streams, Watched, write_text};
 
 /// Runs the program on the arguments after its name, and returns its exit status.
 ///
@@ -34,8 +32,8 @@ pub fn command<T: AllocGlobal + Threads, S: AsStr, R: Read, W: Write, F: Write>(
     streams: &mut Streams<R, W>,
     faults: &mut F,
 ) -> u8
-    requires reader_good { streams.old.reader.failed ≡ false }
-    requires writer_good { streams.old.writer.failed ≡ false }
+    requires reader_good { has_failed streams.old.reader ≡ false }
+    requires writer_good { has_failed streams.old.writer ≡ false }
     ensures { HasEnded R.remaining W.contents streams.old.reader streams.new.reader streams.old.writer streams.new.writer result }
 {
     let alloc = rt.alloc();
@@ -61,8 +59,8 @@ fn play<R: Read, W: Write, F: Write>(
     writer: &mut Watched<W>,
     faults: &mut F,
 ) -> u8
-    requires reader_good { reader.old.failed ≡ false }
-    requires writer_good { writer.old.failed ≡ false }
+    requires reader_good { has_failed reader.old ≡ false }
+    requires writer_good { has_failed writer.old ≡ false }
     ensures { HasPlayed asked R.remaining W.contents reader.old reader.new writer.old writer.new result }
 {
     let checked = match asked.check() {
@@ -86,13 +84,13 @@ fn end_unplayed<W: Write, F: Write>(
     writer: &mut Watched<W>,
     faults: &mut F,
 ) -> u8
-    requires { writer.old.failed ≡ false }
+    requires { has_failed writer.old ≡ false }
     ensures in_range { result ≤ 2 }
     ensures out_of_memory { kind_of error.now ≡ ErrorKind.OutOfMemory → result ≡ 1 }
     ensures help { ((kind_of error.now ≡ ErrorKind.DisplayHelp) ⊎ (kind_of error.now ≡ ErrorKind.DisplayVersion)) → result ≤ 1 }
     ensures refused { kind_of error.now ≢ ErrorKind.OutOfMemory → kind_of error.now ≢ ErrorKind.DisplayHelp → kind_of error.now ≢ ErrorKind.DisplayVersion → result ≡ 2 }
-    ensures written { result ≡ 0 → ((text : List ℕ) × Appends (W.contents writer.old.inner) (W.contents writer.new.inner) text) × (writer.new.failed ≡ false) }
-    ensures failed { result ≡ 1 → (writer.new.failed ≡ true) ⊎ (writer.new ≡ writer.old) }
+    ensures written { result ≡ 0 → ((text : List ℕ) × Appends (W.contents (inner_of writer.old)) (W.contents (inner_of writer.new)) text) × (has_failed writer.new ≡ false) }
+    ensures failed { result ≡ 1 → (has_failed writer.new ≡ true) ⊎ (writer.new ≡ writer.old) }
     ensures unwritten { result ≡ 2 → writer.new ≡ writer.old }
 {
     if error.kind() == ErrorKind::OutOfMemory {

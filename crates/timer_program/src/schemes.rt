@@ -11,19 +11,16 @@ ghost use Rattle.timer_wheels.specs.Tables.{last_of_table};
 ghost use Rattle.timer_facility.specs.Opened.{opened};
 ghost use Rattle.timer_program.specs.Asked.{scheme_last, config_of, IsPlayable};
 ghost use Rattle.timer_program.specs.Schemes.{IsWheelOf};
-ghost use Rattle.timer_program.specs.Running.{HasRun};
-ghost use Rattle.timer_program.specs.Serving.{AreGood, HasServed};
+ghost use Rattle.timer_script.specs.Running.{HasRun};
+ghost use Rattle.timer_script.specs.Serving.{AreGood, HasServed};
+ghost use Rattle.timer_script.specs.Watched.{has_failed};
 
 use crate::asked::{Play, Scheme};
-use crate::fault::{RunFault, ServeFault};
-use crate::peer::Peer;
-use crate::running::run;
-use crate::serving::serve;
-use crate::watched::Watched;
 use std::alloc::Global;
 use std::io::{Read, Write};
 use timer_base::{MakeFault, OutOfMemory, PlainWheel, Wheel};
 use timer_facility::{Checked, Facility};
+use timer_script::{Peer, RunFault, ServeFault, Watched, run, serve};
 use timer_wheels::{HashedWheel, HierWheel, Table};
 
 /// An empty wheel of one of the schemes.
@@ -100,8 +97,8 @@ pub fn play_by_scheme<R: Read, S: Write>(
 ) -> Result<(), RunFault>
     requires playable { IsPlayable asked }
     requires config { checked ≡ config_of asked }
-    requires reader_good { reader.old.failed ≡ false }
-    requires writer_good { writer.old.failed ≡ false }
+    requires reader_good { has_failed reader.old ≡ false }
+    requires writer_good { has_failed writer.old ≡ false }
     ensures { HasRun (opened (config_of asked) (scheme_last asked.scheme)) R.remaining S.contents reader.old reader.new writer.old writer.new result }
 {
     match wheel_of(alloc, asked)? {
@@ -119,8 +116,8 @@ fn play_on<R: Read, S: Write, W: Wheel + Drop>(
     reader: &mut Watched<R>,
     writer: &mut Watched<S>,
 ) -> Result<(), RunFault>
-    requires reader_good { reader.old.failed ≡ false }
-    requires writer_good { writer.old.failed ≡ false }
+    requires reader_good { has_failed reader.old ≡ false }
+    requires writer_good { has_failed writer.old ≡ false }
     requires pending { (W.state wheel).pending ≡ [] }
     requires due { (W.state wheel).due ≡ [] }
     requires now { (W.state wheel).now ≡ checked.first_tick }

@@ -1,12 +1,7 @@
 //! Scripts: which bytes are one, and which line is the first bad one.
-use crate::answer::answer_of;
-use crate::fault::{RunFault, ScriptFault};
-use crate::script::parse_script;
-use crate::testing::{SCHEMES, Sink, Source, call, has_left, plain_facility, same, same_in};
-use std::alloc::Global;
+use crate::testing::{SCHEMES, Sink, Source, call, has_left, same, same_in};
 use std::process::Abort;
 use std::thread::Threads;
-use timer_facility::Event;
 
 #[test]
 fn bad_lines_are_named_and_nothing_is_written_with_each_scheme(rt: HostRuntime) {
@@ -116,20 +111,13 @@ fn longest_script_is_played(rt: HostRuntime) {
     same(&rt, ended.faults.is_empty(), true);
 }
 
-/// Plays a script that is too long, with each scheme and in memory.
+/// Plays a script that is too long, with each scheme.
 fn is_too_long<T: AllocGlobal + Abort + Threads>(rt: &T, script: &[u8]) {
-    let alloc = rt.alloc();
     for scheme in &SCHEMES {
         let source = Source::of(script).in_pieces(100000);
-        let ended = call(rt, scheme, source, Sink::new(alloc));
+        let ended = call(rt, scheme, source, Sink::new(rt.alloc()));
         has_left(rt, scheme, &ended, 1, b"", b"too long\n");
     }
-    same(rt, fault_of(rt, alloc, script), Some(RunFault::TooLong));
-}
-
-/// Why a script in memory has no answer.
-fn fault_of(rt: &impl Abort, alloc: Global, script: &[u8]) -> Option<RunFault> {
-    answer_of(alloc, script, plain_facility(rt, alloc, 64, 1024)).err()
 }
 
 #[test]
@@ -148,52 +136,4 @@ fn one_byte_more_is_too_long_whatever_stands_in_it(rt: HostRuntime) {
         same(&rt, script.len(), 1048577);
         is_too_long(&rt, &script);
     }
-}
-
-#[test]
-fn a_script_in_memory_gives_its_text_or_its_bad_line(rt: HostRuntime) {
-    let alloc = rt.alloc();
-    let facility = plain_facility(&rt, alloc, 64, 1024);
-    let Ok(text) = answer_of(alloc, b"start 0 1 1 7\ntick 1\n", facility) else {
-        panic!(rt; "no answer");
-    };
-    let wanted = b"started 0 1 1 1\nexpired 1 0 1 7\nend 1 0\n".as_slice();
-    same(&rt, text.as_slice(), wanted);
-    let bad = fault_of(&rt, alloc, b"close\ntick 0\n");
-    same(&rt, bad, Some(RunFault::Bad { line: 2 }));
-}
-
-#[test]
-fn a_line_is_read_as_its_event(rt: HostRuntime) {
-    let alloc = rt.alloc();
-    let script =
-        b"start 63 1 0 1152921504606846975\nstop 1 2 0\nrestart 1 3 0 5 9\ntick 1000000\nclose\n";
-    let Ok(events) = parse_script(alloc, script) else {
-        panic!(rt; "no script");
-    };
-    let wanted = [
-        Event::Start {
-            client: 63,
-            number: 1,
-            interval: 0,
-            action: 1152921504606846975,
-        },
-        Event::Stop {
-            client: 1,
-            number: 2,
-            serial: 0,
-        },
-        Event::Restart {
-            client: 1,
-            number: 3,
-            serial: 0,
-            interval: 5,
-            action: 9,
-        },
-        Event::Ticks { count: 1000000 },
-        Event::Close,
-    ];
-    same(&rt, events.as_slice(), wanted.as_slice());
-    let bad = parse_script(alloc, b"close\nclosed\n").err();
-    same(&rt, bad, Some(ScriptFault::Bad { line: 2 }));
 }

@@ -1,13 +1,14 @@
 //! The subcommand `serve`: the lines of a stream are answered as they come.
 ghost use Rattle.std.specs.Prelude.{◌≡◌, false};
 ghost use Rattle.timer_program.specs.Command.{HasServedLines};
+ghost use Rattle.timer_script.specs.Watched.{has_failed};
 
 use crate::asked::Play;
 use crate::reporting::report;
 use crate::schemes::serve_by_scheme;
-use crate::streams::Streams;
 use std::alloc::Global;
 use std::io::{Read, Write};
+use timer_script::Streams;
 
 /// Answers the lines of the reader as they come, and returns the exit status.
 ///
@@ -20,8 +21,8 @@ pub fn serve_lines<R: Read, W: Write, F: Write>(
     streams: &mut Streams<R, W>,
     faults: &mut F,
 ) -> u8
-    requires reader_good { streams.old.reader.failed ≡ false }
-    requires writer_good { streams.old.writer.failed ≡ false }
+    requires reader_good { has_failed streams.old.reader ≡ false }
+    requires writer_good { has_failed streams.old.writer ≡ false }
     ensures { HasServedLines asked R.remaining W.contents streams.old.reader streams.new.reader streams.old.writer streams.new.writer result }
 {
     let checked = match asked.check() {

@@ -1,9 +1,9 @@
 //! Readers and writers that fail once: nothing is tried again, and what went out is a prefix of the text.
 use crate::testing::{Fault, SCHEMES, Sink, Source, call, has_left, same, same_in};
-use crate::watched::Watched;
 use std::io::{ErrorKind, Read, Write};
 use std::process::Abort;
 use std::thread::Threads;
+use timer_script::Watched;
 
 static ONE_TIMER: &str = "start 0 1 1 7\ntick 1\n";
 

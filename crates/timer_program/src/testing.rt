@@ -1,16 +1,12 @@
 //! Comparisons, readers and writers that fail once, and what a call of the program leaves.
-ghost use Rattle.std.specs.Prelude.{◌≡◌, ◌≤◌, []};
-
 use crate::command::command;
-use crate::streams::Streams;
 use std::alloc::Global;
 use std::fmt::Debug;
 use std::io;
 use std::io::{ErrorKind, Read, Write};
 use std::process::Abort;
 use std::thread::Threads;
-use timer_base::PlainWheel;
-use timer_facility::{Config, Facility};
+use timer_script::Streams;
 
 /// Compares in a function of its own, so that a test is a list of calls without branches.
 pub fn same<T: PartialEq + Debug + Drop>(rt: &impl Abort, found: T, expected: T) {
@@ -25,32 +21,6 @@ pub fn same_in<R: Debug + Drop, T: PartialEq + Debug + Drop>(
     expected: T,
 ) {
     assert_eq!(rt; found, expected, "{row:?}");
-}
-
-/// A facility over the plain wheel, with nothing in it.
-pub fn plain_facility(
-    rt: &impl Abort,
-    alloc: Global,
-    clients: u64,
-    capacity: u64,
-) -> Facility<PlainWheel>
-    ensures pending { result.state.pending ≡ [] }
-    ensures waiting { result.waiting ≡ [] }
-{
-    let config = Config {
-        clients,
-        capacity,
-        first_tick: 0,
-        first_serial: 1,
-        first_number: 1,
-    };
-    let Ok(checked) = config.check() else {
-        panic!(rt; "out of range");
-    };
-    let Ok(wheel) = PlainWheel::new(alloc, 0) else {
-        panic!(rt; "out of memory");
-    };
-    Facility::open(alloc, checked, wheel)
 }
 
 /// The schemes, each as a whole command line.

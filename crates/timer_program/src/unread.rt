@@ -1,9 +1,9 @@
 //! The arguments that the system hands over, and the end where they cannot be read.
 ghost use Rattle.std.specs.Prelude.{◌≡◌, ◌≢◌, drop};
 
-use crate::fault::RunFault;
 use crate::reporting::report;
 use std::io::{ErrorKind, Write};
+use timer_script::RunFault;
 
 /// The arguments after the program's name.
 pub fn after_name<S>(arguments: &[S]) -> &[S]

@@ -1,8 +1,8 @@
 use Rattle.std.proofs.Common.{[]}
 use Rattle.timer_facility.specs.Opened.{opened}
 use Rattle.timer_program.specs.Asked.{scheme_last, config_of}
-use Rattle.timer_program.specs.Session.{fresh}
-use Rattle.timer_program.proofs.ServingLemmas.{passed_none}
+use Rattle.timer_script.specs.Session.{fresh}
+use Rattle.timer_script.proofs.ServingLemmas.{passed_none}
 use Rattle.timer_program.proofs.schemes.serve_by_scheme.Goals as goal
 
 -- no wheel could be made, and nothing was read or written

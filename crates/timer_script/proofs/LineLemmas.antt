@@ -1,0 +1,210 @@
+-- What is read from the front of the bytes is their spelling, and what is spelled so is read.
+use Rattle.std.proofs.Common.{◌≡◌, ℕ, ◌^◌, ◌<◌, ◌≤◌, ◌==◌, nat_lt, true, false, ◌&&◌, Bool, cond, List, ◌∷◌, ◌++◌, length, get_or, take, drop, Option, Some, None, decimal, codes, refl, sym, ap, subst, ◌∙◌, arith, inl, inr, drop_at, take_at, take-append-drop, append_assoc, lit≤, le-ltb, lt-ltb, ne_eqb, eq-eqb, get_or-take}
+use Rattle.std.specs.Cmp.Lexicographic.{bytes_decides}
+use Rattle.std.proofs.lemmas.Bool.{and_left, and_right, and_from, and_parts, both_ways, cases_lt, leb-true, le-leb}
+use Rattle.std.proofs.lemmas.List.{get_or_append_left}
+use Rattle.std.proofs.lemmas.Option.{none-some}
+use Rattle.std.proofs.lemmas.Fmt.{decimal_is_IsNumeral, decimal_digit, first_decimal, decimal-digits_value}
+use Rattle.std.proofs.lemmas.Str.Parse.{numerals_by_value, tells_digits}
+use Rattle.std.specs.Str.Parse.{digits_value}
+use Rattle.std.proofs.NetLemmas.Numbers.{NoDigit}
+use Rattle.std.proofs.NetLemmas.Options.{cond_some, cond_none, and_then_some, same_parts}
+use Rattle.timer_base.specs.declared.limits.TheConstants.{LAST}
+use Rattle.timer_script.specs.declared.lines.TheConstants.{MOST_TICKS}
+use Rattle.timer_facility.specs.declared.event.Event.{Event}
+use Rattle.timer_facility.specs.declared.event.Event.TheVariants.{Start, Stop, Restart, Ticks, Close}
+use Rattle.timer_script.specs.Script.{IsInRange, line}
+use Rattle.timer_script.specs.Lines.{or_try, strip, digits_at, number_at, start_at, stop_at, restart_at, tick_at, line_at}
+use Rattle.timer_script.proofs.Digits.{digits_some, digits_sound}
+
+-- ---- a word
+
+pub strip_sound : (word bytes rest : List ℕ) → strip word bytes ≡ Some rest → bytes ≡ word ++ rest
+unfolding strip
+strip_sound word bytes rest e =
+    let (same, tail) = cond_some _ _ _ e in
+    let front : take (length word) bytes ≡ word = (bytes_decides (take (length word) bytes) word).0 same in
+    sym (take-append-drop (length word) bytes) ∙ ap (λ t. t ++ drop (length word) bytes) front ∙ ap (λ t. word ++ t) tail
+
+pub strip_again : (word rest : List ℕ) → strip word (word ++ rest) ≡ Some rest
+unfolding strip
+strip_again word rest = rw (take_at word rest (length word) refl, (bytes_decides word word).1 refl, drop_at word rest (length word) refl) refl
+
+-- ---- a number
+
+-- a decimal has one digit, or begins with another digit than 0
+no_leading_zero : (n : ℕ) (rest : List ℕ) → n ≤ LAST → (nat_lt 1 (length (decimal n)) && (get_or (decimal n ++ rest) 0 0 == 48)) ≡ false
+no_leading_zero n rest fits =
+    let small : n < 2 ^ 64 = omega arith in
+    elim (cases_lt n 10) [
+      | inl one ↦ and_left _ _ (le-ltb 1 (length (decimal n)) (omega (arith, ap length (decimal_digit n one))))
+      | inr more ↦
+          let first = first_decimal n (omega arith) small in
+          let same = get_or_append_left (decimal n) rest 0 0 (decimal_is_IsNumeral n small).0.0 in
+          and_right _ _ (ne_eqb (get_or (decimal n ++ rest) 0 0) 48 (omega arith))
+    ]
+
+pub number_again : (n : ℕ) (rest : List ℕ) → n ≤ LAST → NoDigit 10 rest → number_at (decimal n ++ rest) ≡ Some (n, rest)
+unfolding number_at
+number_again n rest fits stop =
+    let (numeral, value) = decimal_is_IsNumeral n (omega arith) in
+    let read = digits_some (decimal n) rest numeral (omega arith) stop in
+    rw (read, no_leading_zero n rest fits, drop_at (decimal n) rest _ refl, value) refl
+
+pub number_sound : (bytes rest : List ℕ) (n : ℕ) → number_at bytes ≡ Some (n, rest) → (n ≤ LAST) × (bytes ≡ decimal n ++ rest)
+unfolding number_at
+number_sound bytes rest n e =
+    and_then_some _ (digits_at bytes) _ e λ m read kept.
+    let (test, some) = cond_none _ _ _ kept in
+    let (value_is, rest_is) = same_parts m.0 n (drop m.1 bytes) rest some in
+    let (number, fits, len, stop) = digits_sound bytes m.0 m.1 read in
+    let ds = take m.1 bytes in
+    let some_digit : 0 < m.1 = omega (arith, number.0.0) in
+    let alone : get_or ds 0 0 ≡ 48 → length ds ≡ 1 = λ zero_first.
+    elim (cases_lt 1 m.1) [
+      | inl more ↦ absurd (both_ways _ test (and_from _ _ (lt-ltb _ _ more) (eq-eqb _ _ (sym (get_or-take m.1 bytes 0 0 some_digit) ∙ zero_first))))
+      | inr one ↦ omega arith
+    ] in
+    let small : digits_value 10 ds < 2 ^ 64 = omega (arith, number.1) in
+    let spelled = decimal-digits_value (numerals_by_value _ tells_digits) ds number.0.1 number.0.0 alone small in
+    (omega arith, rw (← value_is, ← number.1, spelled, ← rest_is) (sym (take-append-drop m.1 bytes)))
+
+-- ---- a line
+
+spaced : (n : ℕ) (rest : List ℕ) → n ≤ LAST → number_at (decimal n ++ (32 ∷ rest)) ≡ Some (n, 32 ∷ rest)
+spaced n rest fits = number_again n (32 ∷ rest) fits (lit≤ tt)
+
+ended : (n : ℕ) (rest : List ℕ) → n ≤ LAST → number_at (decimal n ++ (10 ∷ rest)) ≡ Some (n, 10 ∷ rest)
+ended n rest fits = number_again n (10 ∷ rest) fits (lit≤ tt)
+
+space : (rest : List ℕ) → strip (codes " ") (32 ∷ rest) ≡ Some rest
+space rest = strip_again (codes " ") rest
+
+feed : (rest : List ℕ) → strip (codes "\n") (10 ∷ rest) ≡ Some rest
+feed rest = strip_again (codes "\n") rest
+
+start_again : (c n i a : ℕ) (rest : List ℕ) → IsInRange (Start c n i a) → start_at (decimal c ++ (32 ∷ (decimal n ++ (32 ∷ (decimal i ++ (32 ∷ (decimal a ++ (10 ∷ rest)))))))) ≡ Some (Start c n i a, rest)
+unfolding start_at
+start_again c n i a rest fits = rw (spaced c _ fits.0, space _, spaced n _ fits.1, space _, spaced i _ fits.2, space _, ended a _ fits.3, feed rest) refl
+
+stop_again : (c n s : ℕ) (rest : List ℕ) → IsInRange (Stop c n s) → stop_at (decimal c ++ (32 ∷ (decimal n ++ (32 ∷ (decimal s ++ (10 ∷ rest)))))) ≡ Some (Stop c n s, rest)
+unfolding stop_at
+stop_again c n s rest fits = rw (spaced c _ fits.0, space _, spaced n _ fits.1, space _, ended s _ fits.2, feed rest) refl
+
+restart_again : (c n s i a : ℕ) (rest : List ℕ) → IsInRange (Restart c n s i a)
+    → restart_at (decimal c ++ (32 ∷ (decimal n ++ (32 ∷ (decimal s ++ (32 ∷ (decimal i ++ (32 ∷ (decimal a ++ (10 ∷ rest)))))))))) ≡ Some (Restart c n s i a, rest)
+unfolding restart_at
+restart_again c n s i a rest fits = rw (spaced c _ fits.0, space _, spaced n _ fits.1, space _, spaced s _ fits.2, space _, spaced i _ fits.3, space _, ended a _ fits.4, feed rest) refl
+
+tick_again : (k : ℕ) (rest : List ℕ) → IsInRange (Ticks k) → tick_at (decimal k ++ (10 ∷ rest)) ≡ Some (Ticks k, rest)
+unfolding tick_at
+tick_again k rest fits = rw (ended k _ (omega arith), and_from _ _ (le-leb 1 k fits.0) (le-leb k MOST_TICKS fits.1), feed rest) refl
+
+pub line_again : (event : Event) (rest : List ℕ) → IsInRange event → line_at (line event ++ rest) ≡ Some (event, rest)
+unfolding line_at line strip
+line_again (Start c n i a) rest fits = simp append_assoc (start_again c n i a rest fits)
+line_again (Stop c n s) rest fits = simp append_assoc (stop_again c n s rest fits)
+line_again (Restart c n s i a) rest fits = simp append_assoc (restart_again c n s i a rest fits)
+line_again (Ticks k) rest fits = simp append_assoc (tick_again k rest fits)
+line_again Close rest fits = refl
+
+start_sound : (bytes rest : List ℕ) (event : Event) → start_at bytes ≡ Some (event, rest) → IsInRange event × (codes "start " ++ bytes ≡ line event ++ rest)
+unfolding start_at line
+start_sound bytes rest event e =
+    and_then_some _ (number_at bytes) _ e λ c read_c e₁.
+    and_then_some _ (strip (codes " ") c.1) _ e₁ λ c' space_c e₂.
+    and_then_some _ (number_at c') _ e₂ λ n read_n e₃.
+    and_then_some _ (strip (codes " ") n.1) _ e₃ λ n' space_n e₄.
+    and_then_some _ (number_at n') _ e₄ λ i read_i e₅.
+    and_then_some _ (strip (codes " ") i.1) _ e₅ λ i' space_i e₆.
+    and_then_some _ (number_at i') _ e₆ λ a read_a e₇.
+    and_then_some _ (strip (codes "\n") a.1) _ e₇ λ a' feed_a e₈.
+    let (event_is, rest_is) = same_parts (Start c.0 n.0 i.0 a.0) event a' rest e₈ in
+    let is_c = number_sound bytes c.1 c.0 read_c in
+    let is_n = number_sound c' n.1 n.0 read_n in
+    let is_i = number_sound n' i.1 i.0 read_i in
+    let is_a = number_sound i' a.1 a.0 read_a in
+    let split : codes "start " ++ bytes ≡ line (Start c.0 n.0 i.0 a.0) ++ a' =
+    rw (is_c.1, strip_sound _ c.1 c' space_c, is_n.1, strip_sound _ n.1 n' space_n, is_i.1, strip_sound _ i.1 i' space_i, is_a.1, strip_sound _ a.1 a' feed_a) (simp append_assoc) in
+    subst (λ (x : Event). IsInRange x × (codes "start " ++ bytes ≡ line x ++ rest)) event_is
+    (subst (λ (r : List ℕ). IsInRange (Start c.0 n.0 i.0 a.0) × (codes "start " ++ bytes ≡ line (Start c.0 n.0 i.0 a.0) ++ r)) rest_is ((is_c.0, is_n.0, is_i.0, is_a.0), split))
+
+stop_sound : (bytes rest : List ℕ) (event : Event) → stop_at bytes ≡ Some (event, rest) → IsInRange event × (codes "stop " ++ bytes ≡ line event ++ rest)
+unfolding stop_at line
+stop_sound bytes rest event e =
+    and_then_some _ (number_at bytes) _ e λ c read_c e₁.
+    and_then_some _ (strip (codes " ") c.1) _ e₁ λ c' space_c e₂.
+    and_then_some _ (number_at c') _ e₂ λ n read_n e₃.
+    and_then_some _ (strip (codes " ") n.1) _ e₃ λ n' space_n e₄.
+    and_then_some _ (number_at n') _ e₄ λ i read_i e₅.
+    and_then_some _ (strip (codes "\n") i.1) _ e₅ λ i' feed_i e₆.
+    let (event_is, rest_is) = same_parts (Stop c.0 n.0 i.0) event i' rest e₆ in
+    let is_c = number_sound bytes c.1 c.0 read_c in
+    let is_n = number_sound c' n.1 n.0 read_n in
+    let is_i = number_sound n' i.1 i.0 read_i in
+    let split : codes "stop " ++ bytes ≡ line (Stop c.0 n.0 i.0) ++ i' =
+    rw (is_c.1, strip_sound _ c.1 c' space_c, is_n.1, strip_sound _ n.1 n' space_n, is_i.1, strip_sound _ i.1 i' feed_i) (simp append_assoc) in
+    subst (λ (x : Event). IsInRange x × (codes "stop " ++ bytes ≡ line x ++ rest)) event_is
+    (subst (λ (r : List ℕ). IsInRange (Stop c.0 n.0 i.0) × (codes "stop " ++ bytes ≡ line (Stop c.0 n.0 i.0) ++ r)) rest_is ((is_c.0, is_n.0, is_i.0), split))
+
+restart_sound : (bytes rest : List ℕ) (event : Event) → restart_at bytes ≡ Some (event, rest) → IsInRange event × (codes "restart " ++ bytes ≡ line event ++ rest)
+unfolding restart_at line
+restart_sound bytes rest event e =
+    and_then_some _ (number_at bytes) _ e λ c read_c e₁.
+    and_then_some _ (strip (codes " ") c.1) _ e₁ λ c' space_c e₂.
+    and_then_some _ (number_at c') _ e₂ λ n read_n e₃.
+    and_then_some _ (strip (codes " ") n.1) _ e₃ λ n' space_n e₄.
+    and_then_some _ (number_at n') _ e₄ λ s read_s e₅.
+    and_then_some _ (strip (codes " ") s.1) _ e₅ λ s' space_s e₆.
+    and_then_some _ (number_at s') _ e₆ λ i read_i e₇.
+    and_then_some _ (strip (codes " ") i.1) _ e₇ λ i' space_i e₈.
+    and_then_some _ (number_at i') _ e₈ λ a read_a e₉.
+    and_then_some _ (strip (codes "\n") a.1) _ e₉ λ a' feed_a e₁₀.
+    let (event_is, rest_is) = same_parts (Restart c.0 n.0 s.0 i.0 a.0) event a' rest e₁₀ in
+    let is_c = number_sound bytes c.1 c.0 read_c in
+    let is_n = number_sound c' n.1 n.0 read_n in
+    let is_s = number_sound n' s.1 s.0 read_s in
+    let is_i = number_sound s' i.1 i.0 read_i in
+    let is_a = number_sound i' a.1 a.0 read_a in
+    let split : codes "restart " ++ bytes ≡ line (Restart c.0 n.0 s.0 i.0 a.0) ++ a' =
+    rw (is_c.1, strip_sound _ c.1 c' space_c, is_n.1, strip_sound _ n.1 n' space_n, is_s.1, strip_sound _ s.1 s' space_s, is_i.1, strip_sound _ i.1 i' space_i, is_a.1, strip_sound _ a.1 a' feed_a) (simp append_assoc) in
+    subst (λ (x : Event). IsInRange x × (codes "restart " ++ bytes ≡ line x ++ rest)) event_is
+    (subst (λ (r : List ℕ). IsInRange (Restart c.0 n.0 s.0 i.0 a.0) × (codes "restart " ++ bytes ≡ line (Restart c.0 n.0 s.0 i.0 a.0) ++ r)) rest_is ((is_c.0, is_n.0, is_s.0, is_i.0, is_a.0), split))
+
+cond_both : {A : Type 0} (b : Bool) (o : Option A) (y : A) → cond b o None ≡ Some y → (b ≡ true) × (o ≡ Some y)
+cond_both true o y e = (refl, e)
+cond_both false o y e = absurd (none-some y e)
+
+tick_sound : (bytes rest : List ℕ) (event : Event) → tick_at bytes ≡ Some (event, rest) → IsInRange event × (codes "tick " ++ bytes ≡ line event ++ rest)
+unfolding tick_at line
+tick_sound bytes rest event e =
+    and_then_some _ (number_at bytes) _ e λ k read_k e₁.
+    let (test, e₂) = cond_both _ _ _ e₁ in
+    and_then_some _ (strip (codes "\n") k.1) _ e₂ λ k' feed_k e₃.
+    let (low, high) = and_parts _ _ test in
+    let (event_is, rest_is) = same_parts (Ticks k.0) event k' rest e₃ in
+    let is_k = number_sound bytes k.1 k.0 read_k in
+    let split : codes "tick " ++ bytes ≡ line (Ticks k.0) ++ k' = rw (is_k.1, strip_sound _ k.1 k' feed_k) (simp append_assoc) in
+    subst (λ (x : Event). IsInRange x × (codes "tick " ++ bytes ≡ line x ++ rest)) event_is
+    (subst (λ (r : List ℕ). IsInRange (Ticks k.0) × (codes "tick " ++ bytes ≡ line (Ticks k.0) ++ r)) rest_is ((leb-true 1 k.0 low, leb-true k.0 MOST_TICKS high), split))
+
+-- a word is at the front, or not
+by_word : {A P : Type 0} (o : Option (List ℕ)) (f : List ℕ → Option A) (other : Option A) (y : A) → or_try o f other ≡ Some y → ((s : List ℕ) → o ≡ Some s → f s ≡ Some y → P) → (other ≡ Some y → P) → P
+by_word None f other y e some none = none e
+by_word (Some s) f other y e some none = some s refl e
+
+close_line : (bytes s : List ℕ) → bytes ≡ codes "close\n" ++ s → bytes ≡ line Close ++ s
+unfolding line
+close_line bytes s e = e
+
+pub line_sound : (bytes rest : List ℕ) (event : Event) → line_at bytes ≡ Some (event, rest) → IsInRange event × (bytes ≡ line event ++ rest)
+unfolding line_at
+line_sound bytes rest event e =
+    by_word (strip (codes "start ") bytes) start_at _ _ e (λ s found e₁. let (fits, is) = start_sound s rest event e₁ in (fits, strip_sound _ bytes s found ∙ is)) λ e'.
+    by_word (strip (codes "stop ") bytes) stop_at _ _ e' (λ s found e₁. let (fits, is) = stop_sound s rest event e₁ in (fits, strip_sound _ bytes s found ∙ is)) λ e''.
+    by_word (strip (codes "restart ") bytes) restart_at _ _ e'' (λ s found e₁. let (fits, is) = restart_sound s rest event e₁ in (fits, strip_sound _ bytes s found ∙ is)) λ e'''.
+    by_word (strip (codes "tick ") bytes) tick_at _ _ e''' (λ s found e₁. let (fits, is) = tick_sound s rest event e₁ in (fits, strip_sound _ bytes s found ∙ is)) λ e''''.
+    and_then_some _ (strip (codes "close\n") bytes) _ e'''' λ s found e₁.
+    let (event_is, rest_is) = same_parts Close event s rest e₁ in
+    subst (λ (x : Event). IsInRange x × (bytes ≡ line x ++ rest)) event_is
+    (subst (λ (r : List ℕ). IsInRange Close × (bytes ≡ line Close ++ r)) rest_is (tt, close_line bytes s (strip_sound _ bytes s found)))

@@ -1,0 +1,257 @@
+-- The result of a peer's calls, one after another.
+use Rattle.std.proofs.Common.{inl, inr, eqb-true, ◌≡◌, ℕ, ◌+◌, ◌-◌, ◌<◌, ◌≤◌, ◌==◌, ◌&&◌, ◌||◌, not, Bool, true, false, List, [], ◌∷◌, ◌++◌, length, take, drop, Option, None, Some, refl, sym, ap, subst, ◌∙◌, arith, append_assoc, append-nil}
+use Rattle.std.specs.Prelude.{Result, Ok, Err}
+use Rattle.std.specs.Io.KnownBytes.{Consumes, Appends, Keeps}
+use Rattle.std.proofs.KnownBytes.{Consumes-nil, Consumes-trans, Consumes-kept, Appends-nil, Appends-trans}
+use Rattle.std.proofs.lemmas.List.{take_rest, length-drop, length-take-le}
+use Rattle.std.proofs.Math.Seq.{take-add}
+use Rattle.std.proofs.lemmas.Bool.Decides.{nat_tests}
+use Rattle.timer_base.specs.OrderLaws.{either}
+use Rattle.timer_script.specs.declared.serving.TheConstants.{PIECE}
+use Rattle.timer_script.specs.Session.{SessionState, HasFed, IsAnsweredSoFar}
+use Rattle.timer_script.specs.Peer.{PeerState, Moment, Came, Went, Flush, Grows, Gives, Takes, Flushes}
+use Rattle.timer_script.specs.Serving.{came_of, gone_of, is_flushed, IsAnsweredBy, IsPrompt, HasTalked, AreWrites, HasWritten, HasSent}
+use Rattle.timer_script.proofs.SessionLemmas.{fed_nothing, fed_join, fed_shift}
+
+-- ---- lists of calls
+
+grows_none : (a : Option (List Moment)) → Grows a a []
+grows_none None = tt
+grows_none (Some xs) = sym (append-nil xs)
+
+grows_join : (a b c : Option (List Moment)) (xs ys : List Moment) → Grows a b xs → Grows b c ys → Grows a c (xs ++ ys)
+grows_join None b c xs ys p q = tt
+grows_join (Some x) None c xs ys p q = absurd p
+grows_join (Some x) (Some y) None xs ys p q = absurd q
+grows_join (Some x) (Some y) (Some z) xs ys p q = q ∙ ap (λ t. t ++ ys) p ∙ append_assoc x xs ys
+
+came_join : (xs ys : List Moment) → came_of (xs ++ ys) ≡ came_of xs ++ came_of ys
+came_join [] ys = refl
+came_join (Came bytes ∷ xs) ys = ap (λ t. bytes ++ t) (came_join xs ys) ∙ sym (append_assoc bytes (came_of xs) (came_of ys))
+came_join (Went bytes ∷ xs) ys = came_join xs ys
+came_join (Flush ∷ xs) ys = came_join xs ys
+
+gone_join : (xs ys : List Moment) → gone_of (xs ++ ys) ≡ gone_of xs ++ gone_of ys
+gone_join [] ys = refl
+gone_join (Came bytes ∷ xs) ys = gone_join xs ys
+gone_join (Went bytes ∷ xs) ys = ap (λ t. bytes ++ t) (gone_join xs ys) ∙ sym (append_assoc bytes (gone_of xs) (gone_of ys))
+gone_join (Flush ∷ xs) ys = gone_join xs ys
+
+flushed_join : (flushed : Bool) (xs ys : List Moment) → is_flushed flushed (xs ++ ys) ≡ is_flushed (is_flushed flushed xs) ys
+flushed_join flushed [] ys = refl
+flushed_join flushed (Came bytes ∷ xs) ys = flushed_join flushed xs ys
+flushed_join flushed (Went bytes ∷ xs) ys = flushed_join false xs ys
+flushed_join flushed (Flush ∷ xs) ys = flushed_join true xs ys
+
+-- what is flushed at the end, even if nothing was before, is flushed in any case
+flushed_anyway : (flushed : Bool) (xs : List Moment) → is_flushed false xs ≡ true → is_flushed flushed xs ≡ true
+flushed_anyway flushed [] h = absurd cc
+flushed_anyway flushed (Came bytes ∷ xs) h = flushed_anyway flushed xs h
+flushed_anyway flushed (Went bytes ∷ xs) h = h
+flushed_anyway flushed (Flush ∷ xs) h = h
+
+writes_join : (xs ys : List Moment) → AreWrites xs → AreWrites ys → AreWrites (xs ++ ys)
+writes_join [] ys a b = b
+writes_join (Came bytes ∷ xs) ys a b = absurd a
+writes_join (Went bytes ∷ xs) ys a b = writes_join xs ys a b
+writes_join (Flush ∷ xs) ys a b = writes_join xs ys a b
+
+nothing_came : (xs : List Moment) → AreWrites xs → came_of xs ≡ []
+nothing_came [] a = refl
+nothing_came (Came bytes ∷ xs) a = absurd a
+nothing_came (Went bytes ∷ xs) a = nothing_came xs a
+nothing_came (Flush ∷ xs) a = nothing_came xs a
+
+writes_prompt : (s : SessionState) (came gone : List ℕ) (flushed : Bool) (xs : List Moment) → AreWrites xs → IsPrompt s came gone flushed xs
+writes_prompt s came gone flushed [] a = tt
+writes_prompt s came gone flushed (Came bytes ∷ xs) a = absurd a
+writes_prompt s came gone flushed (Went bytes ∷ xs) a = writes_prompt s came (gone ++ bytes) false xs a
+writes_prompt s came gone flushed (Flush ∷ xs) a = writes_prompt s came gone true xs a
+
+prompt_join : (s : SessionState) (came gone : List ℕ) (flushed : Bool) (xs ys : List Moment) → IsPrompt s came gone flushed xs
+    → IsPrompt s (came ++ came_of xs) (gone ++ gone_of xs) (is_flushed flushed xs) ys → IsPrompt s came gone flushed (xs ++ ys)
+prompt_join s came gone flushed [] ys a b = subst (λ x. IsPrompt s x gone flushed ys) (append-nil came) (subst (λ y. IsPrompt s (came ++ []) y flushed ys) (append-nil gone) b)
+prompt_join s came gone flushed (Came bytes ∷ xs) ys a b =
+    (a.0, a.1, a.2, prompt_join s (came ++ bytes) gone flushed xs ys a.3 (subst (λ x. IsPrompt s x (gone ++ gone_of xs) (is_flushed flushed xs) ys) (sym (append_assoc came bytes (came_of xs))) b))
+prompt_join s came gone flushed (Went bytes ∷ xs) ys a b =
+    prompt_join s came (gone ++ bytes) false xs ys a (subst (λ y. IsPrompt s (came ++ came_of xs) y (is_flushed false xs) ys) (sym (append_assoc gone bytes (gone_of xs))) b)
+prompt_join s came gone flushed (Flush ∷ xs) ys a b = prompt_join s came gone true xs ys a b
+
+-- what is prompt from a later state of a session is so from an earlier one
+prompt_earlier : (a b : SessionState) (bytes text came gone : List ℕ) (flushed : Bool) (xs : List Moment) → HasFed a bytes [] text b → IsPrompt b came gone flushed xs
+    → IsPrompt a (bytes ++ came) (text ++ gone) flushed xs
+prompt_earlier a b bytes text came gone flushed [] f p = tt
+prompt_earlier a b bytes text came gone flushed (Came more ∷ xs) f p =
+    let here : IsAnsweredBy b came gone = p.1 in
+    let later : HasFed b came (text ++ []) (text ++ gone) here.session = fed_shift b here.session came text [] gone here.fed in
+    let later' : HasFed b came text (text ++ gone) here.session = subst (λ t. HasFed b came t (text ++ gone) here.session) (append-nil text) later in (
+      p.0,
+      record { session = here.session; fed = fed_join a b here.session bytes came [] text (text ++ gone) f later'; answered = here.answered },
+      p.2,
+      subst (λ x. IsPrompt a x (text ++ gone) flushed xs) (sym (append_assoc bytes came more)) (prompt_earlier a b bytes text (came ++ more) gone flushed xs f p.3),
+    )
+prompt_earlier a b bytes text came gone flushed (Went more ∷ xs) f p =
+    subst (λ y. IsPrompt a (bytes ++ came) y false xs) (sym (append_assoc text gone more)) (prompt_earlier a b bytes text came (gone ++ more) false xs f p)
+prompt_earlier a b bytes text came gone flushed (Flush ∷ xs) f p = prompt_earlier a b bytes text came gone true xs f p
+
+-- ---- single calls
+
+Appends-kept : (a b c : Option (List ℕ)) (bs : List ℕ) → Appends a b bs → Keeps b c → Appends a c bs
+Appends-kept None b c bs p q = tt
+Appends-kept (Some x) None c bs p q = absurd p
+Appends-kept (Some x) (Some y) None bs p q = absurd q
+Appends-kept (Some x) (Some y) (Some z) bs p q = q ∙ p
+
+pub written_none : (p : PeerState) → HasWritten p [] p
+written_none p = record { moments = []; grows = grows_none p.moments; writes = tt; gone_is = refl; written = Appends-nil p.contents; remaining = refl; reading = refl }
+
+-- one more write that took some of the rest
+pub written_more : {E : Type 0} (p q r : PeerState) (text : List ℕ) (i n : ℕ) → HasWritten p (take i text) q → Takes {E = E} q (Ok n) (take (length text - i) (drop i text)) r → HasWritten p (take (i + n) text) r
+written_more {E} p q r text i n w t =
+    let piece : List ℕ = take n (take (length text - i) (drop i text)) in
+    let parts : take i text ++ piece ≡ take (i + n) text = ap (λ t. take i text ++ take n t) (take_rest text i) ∙ sym (take-add i n text) in
+    record {
+      moments = w.moments ++ Went piece ∷ [];
+      grows = grows_join p.moments q.moments r.moments w.moments (Went piece ∷ []) w.grows t.moment;
+      writes = writes_join w.moments (Went piece ∷ []) w.writes tt;
+      gone_is = gone_join w.moments (Went piece ∷ []) ∙ ap (λ x. x ++ (piece ++ [])) w.gone_is ∙ ap (λ y. take i text ++ y) (append-nil piece) ∙ parts;
+      written = subst (Appends p.contents r.contents) parts (Appends-trans p.contents q.contents r.contents (take i text) piece w.written t.bytes);
+      remaining = t.remaining ∙ w.remaining;
+      reading = t.reading ∙ w.reading;
+    }
+
+-- one more write that failed
+pub written_failed : {E : Type 0} (p q r : PeerState) (text piece : List ℕ) (e : E) → HasWritten p text q → Takes {E = E} q (Err e) piece r → HasWritten p text r
+written_failed {E} p q r text piece e w t = record {
+  moments = w.moments ++ Went [] ∷ [];
+  grows = grows_join p.moments q.moments r.moments w.moments (Went [] ∷ []) w.grows t.moment;
+  writes = writes_join w.moments (Went [] ∷ []) w.writes tt;
+  gone_is = gone_join w.moments (Went [] ∷ []) ∙ append-nil (gone_of w.moments) ∙ w.gone_is;
+  written = Appends-kept p.contents q.contents r.contents text w.written t.bytes;
+  remaining = t.remaining ∙ w.remaining;
+  reading = t.reading ∙ w.reading;
+}
+
+-- a flush after the text
+pub written_flush : {E : Type 0} (p q r : PeerState) (text : List ℕ) (result : Result Unit E) → HasWritten p text q → Flushes {E = E} q result r → HasWritten p text r
+written_flush {E} p q r text result w f = record {
+  moments = w.moments ++ Flush ∷ [];
+  grows = grows_join p.moments q.moments r.moments w.moments (Flush ∷ []) w.grows f.moment;
+  writes = writes_join w.moments (Flush ∷ []) w.writes tt;
+  gone_is = gone_join w.moments (Flush ∷ []) ∙ append-nil (gone_of w.moments) ∙ w.gone_is;
+  written = Appends-kept p.contents q.contents r.contents text w.written f.bytes;
+  remaining = f.remaining ∙ w.remaining;
+  reading = f.reading ∙ w.reading;
+}
+
+pub sent_all : {E : Type 0} (p q r : PeerState) (text : List ℕ) (u : Unit) → HasWritten p text q → Flushes {E = E} q (Ok u) r → r.write_failed ≡ false → HasSent p text r
+unfolding written_flush
+sent_all {E} p q r text u w f good = record {
+  written = written_flush {E = E} p q r text (Ok u) w f;
+  flushed = flushed_join false w.moments (Flush ∷ []);
+  good = good;
+}
+
+is_zero : (n : ℕ) → n ≡ 0 → (n == 0) ≡ true
+is_zero n h = grind (arith, nat_tests)
+
+not_zero : (n : ℕ) → (n ≡ 0 → ⊥) → (n == 0) ≡ false
+not_zero n h = elim (either (n == 0)) [ inl k ↦ absurd (h (eqb-true n 0 k)) | inr k ↦ k ]
+
+-- a peer that took some bytes has not failed
+pub still_good : {E : Type 0} (q r : PeerState) (n : ℕ) (piece : List ℕ) → q.write_failed ≡ false → (n ≡ 0 → ⊥) → Takes {E = E} q (Ok n) piece r → r.write_failed ≡ false
+still_good {E} q r n piece good some t = t.failed ∙ ap (λ b. b || (n == 0 && not (length piece == 0))) good ∙ ap (λ b. b && not (length piece == 0)) (not_zero n some)
+
+-- one that took no byte has, and so has one whose write failed
+pub took_none : {E : Type 0} (q r : PeerState) (n : ℕ) (piece : List ℕ) → q.write_failed ≡ false → n ≡ 0 → 0 < length piece → Takes {E = E} q (Ok n) piece r → r.write_failed ≡ true
+took_none {E} q r n piece good none some t =
+    t.failed ∙ ap (λ b. b || (n == 0 && not (length piece == 0))) good ∙ ap (λ b. b && not (length piece == 0)) (is_zero n none) ∙ ap not (not_zero (length piece) (λ e. omega arith))
+
+pub rest_some : (text : List ℕ) (i : ℕ) → i < length text → 0 < length (take (length text - i) (drop i text))
+rest_some text i l =
+    let e : length (take (length text - i) (drop i text)) ≡ length (drop i text) = ap length (take_rest text i) in
+    let d : length (drop i text) ≡ length text - i = length-drop i text in
+    omega arith
+
+pub within_more : (text : List ℕ) (i n : ℕ) → i ≤ length text → n ≤ length (take (length text - i) (drop i text)) → i + n ≤ length text
+within_more text i n l m =
+    let e : length (take (length text - i) (drop i text)) ≡ length (drop i text) = ap length (take_rest text i) in
+    let d : length (drop i text) ≡ length text - i = length-drop i text in
+    omega arith
+
+-- ---- a session and its peer
+
+pub talked_nothing : (s : SessionState) (p : PeerState) → HasTalked s p p [] [] true
+talked_nothing s p = record {
+  moments = [];
+  grows = grows_none p.moments;
+  came_is = refl;
+  gone_is = refl;
+  prompt = tt;
+  flush = refl;
+  read = Consumes-nil p.remaining;
+  written = Appends-nil p.contents;
+}
+
+-- a session that has answered all reads
+talked_read : (s : SessionState) (p q : PeerState) (bytes : List ℕ) → length bytes ≤ PIECE → IsAnsweredSoFar s → Grows p.moments q.moments (Came bytes ∷ []) → Consumes p.remaining q.remaining bytes → q.contents ≡ p.contents
+    → HasTalked s p q bytes [] true
+talked_read s p q bytes short answered grows read same = record {
+  moments = Came bytes ∷ [];
+  grows = grows;
+  came_is = append-nil bytes;
+  gone_is = refl;
+  prompt = (refl, record { session = s; fed = fed_nothing s []; answered = answered }, short, tt);
+  flush = refl;
+  read = read;
+  written = subst (λ c. Appends p.contents c []) (sym same) (Appends-nil p.contents);
+}
+
+pub talked_came : {E : Type 0} (s : SessionState) (p q : PeerState) (n : ℕ) (piece : List ℕ) → n ≤ length piece → length piece ≤ PIECE → IsAnsweredSoFar s → Gives {E = E} p (Ok n) piece q
+    → HasTalked s p q (take n piece) [] true
+talked_came {E} s p q n piece within short answered g =
+    let counted : length (take n piece) ≡ n = length-take-le n piece within in
+    let few : length (take n piece) ≤ PIECE = omega arith in
+    talked_read s p q (take n piece) few answered g.moment g.bytes.0 g.contents
+
+pub talked_failed : {E : Type 0} (s : SessionState) (p q : PeerState) (e : E) (piece : List ℕ) → IsAnsweredSoFar s → Gives {E = E} p (Err e) piece q → HasTalked s p q [] [] true
+talked_failed {E} s p q e piece answered g =
+    talked_read s p q [] (omega arith) answered g.moment (Consumes-kept p.remaining p.remaining q.remaining [] (Consumes-nil p.remaining) g.bytes) g.contents
+
+-- text was written after it
+pub talked_wrote : (s : SessionState) (p q r : PeerState) (came gone text : List ℕ) (flushed : Bool) → HasTalked s p q came gone flushed → (w : HasWritten q text r)
+    → HasTalked s p r came (gone ++ text) (is_flushed flushed w.moments)
+talked_wrote s p q r came gone text flushed t w = record {
+  moments = t.moments ++ w.moments;
+  grows = grows_join p.moments q.moments r.moments t.moments w.moments t.grows w.grows;
+  came_is = came_join t.moments w.moments ∙ ap (λ x. came_of t.moments ++ x) (nothing_came w.moments w.writes) ∙ append-nil (came_of t.moments) ∙ t.came_is;
+  gone_is = gone_join t.moments w.moments ∙ ap (λ x. x ++ gone_of w.moments) t.gone_is ∙ ap (λ y. gone ++ y) w.gone_is;
+  prompt = prompt_join s [] [] true t.moments w.moments t.prompt (writes_prompt s (came_of t.moments) (gone_of t.moments) (is_flushed true t.moments) w.moments w.writes);
+  flush = flushed_join true t.moments w.moments ∙ ap (λ f. is_flushed f w.moments) t.flush;
+  read = subst (λ x. Consumes p.remaining x came) (sym w.remaining) t.read;
+  written = Appends-trans p.contents q.contents r.contents gone text t.written w.written;
+}
+
+pub talked_sent : (s : SessionState) (p q r : PeerState) (came gone text : List ℕ) (flushed : Bool) → HasTalked s p q came gone flushed → HasSent q text r → HasTalked s p r came (gone ++ text) true
+talked_sent s p q r came gone text flushed t h =
+    subst (HasTalked s p r came (gone ++ text)) (flushed_anyway flushed h.written.moments h.flushed) (talked_wrote s p q r came gone text flushed t h.written)
+
+-- one conversation after another
+pub talked_join : (a b : SessionState) (p q r : PeerState) (x y x' y' : List ℕ) (flushed : Bool) → HasTalked a p q x y true → HasFed a x [] y b → HasTalked b q r x' y' flushed
+    → HasTalked a p r (x ++ x') (y ++ y') flushed
+talked_join a b p q r x y x' y' flushed t f u =
+    let later : IsPrompt a (x ++ []) (y ++ []) true u.moments = prompt_earlier a b x y [] [] true u.moments f u.prompt in
+    let later' : IsPrompt a (came_of t.moments) (gone_of t.moments) (is_flushed true t.moments) u.moments =
+    subst (λ c. IsPrompt a c (gone_of t.moments) (is_flushed true t.moments) u.moments) (append-nil x ∙ sym t.came_is)
+    (subst (λ g. IsPrompt a (x ++ []) g (is_flushed true t.moments) u.moments) (append-nil y ∙ sym t.gone_is)
+    (subst (λ z. IsPrompt a (x ++ []) (y ++ []) z u.moments) (sym t.flush) later)) in
+    record {
+      moments = t.moments ++ u.moments;
+      grows = grows_join p.moments q.moments r.moments t.moments u.moments t.grows u.grows;
+      came_is = came_join t.moments u.moments ∙ ap (λ z. z ++ came_of u.moments) t.came_is ∙ ap (λ z. x ++ z) u.came_is;
+      gone_is = gone_join t.moments u.moments ∙ ap (λ z. z ++ gone_of u.moments) t.gone_is ∙ ap (λ z. y ++ z) u.gone_is;
+      prompt = prompt_join a [] [] true t.moments u.moments t.prompt later';
+      flush = flushed_join true t.moments u.moments ∙ ap (λ z. is_flushed z u.moments) t.flush ∙ u.flush;
+      read = Consumes-trans p.remaining q.remaining r.remaining x x' t.read u.read;
+      written = Appends-trans p.contents q.contents r.contents y y' t.written u.written;
+    }

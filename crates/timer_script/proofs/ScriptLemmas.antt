@@ -1,0 +1,79 @@
+-- The spelling of a script is unique, and so is the first bad line.
+use Rattle.std.proofs.Common.{◌≡◌, ℕ, ◌≤◌, List, [], ◌∷◌, ◌++◌, length, None, refl, sym, ap, ◌∙◌, arith, append_assoc}
+use Rattle.std.specs.List.{AllByRecursion}
+use Rattle.std.proofs.lemmas.Option.{none-some}
+use Rattle.std.proofs.NetLemmas.Options.{same_parts}
+use Rattle.std.proofs.lemmas.List.{length-append, append-nil}
+use Rattle.timer_facility.specs.declared.event.Event.{Event}
+use Rattle.timer_facility.specs.declared.event.Event.TheVariants.{Start, Stop, Restart, Ticks, Close}
+use Rattle.timer_script.specs.Script.{IsInRange, line, spelling, IsScript, BeginsNoLine, IsBadLine}
+use Rattle.timer_script.specs.Lines.{line_at}
+use Rattle.timer_script.proofs.LineLemmas.{line_again}
+
+-- the first lines of two texts that are one
+one_line : (d e : Event) (xs ys : List ℕ) → IsInRange d → IsInRange e → line d ++ xs ≡ line e ++ ys → (d ≡ e) × (xs ≡ ys)
+one_line d e xs ys fit_d fit_e same = same_parts d e xs ys (sym (line_again d xs fit_d) ∙ ap line_at same ∙ line_again e ys fit_e)
+
+pub no_line_none : (bytes : List ℕ) → line_at bytes ≡ None → BeginsNoLine bytes
+no_line_none bytes none event more fits e = none-some _ (sym none ∙ ap line_at e ∙ line_again event more fits)
+
+pub line_long : (event : Event) → 1 ≤ length (line event)
+unfolding line
+line_long (Start c n i a) = omega arith
+line_long (Stop c n s) = omega arith
+line_long (Restart c n s i a) = omega arith
+line_long (Ticks k) = omega arith
+line_long Close = omega arith
+
+line_some : (event : Event) (more : List ℕ) → 1 ≤ length (line event ++ more)
+line_some event more = let h = line_long event in omega (arith, length-append (line event) more)
+
+-- bytes that begin with lines and continue with no line have no more lines
+front : (xs ys : List Event) (rest other : List ℕ) → AllByRecursion IsInRange xs → AllByRecursion IsInRange ys → BeginsNoLine rest → spelling xs ++ rest ≡ spelling ys ++ other → length ys ≤ length xs
+front xs [] rest other fx fy bad e = omega arith
+front [] (y ∷ ys) rest other fx fy bad e = absurd (bad y (spelling ys ++ other) fy.0 (e ∙ append_assoc (line y) (spelling ys) other))
+front (x ∷ xs) (y ∷ ys) rest other fx fy bad e =
+    let (first, others) = one_line x y (spelling xs ++ rest) (spelling ys ++ other) fx.0 fy.0 (sym (append_assoc (line x) (spelling xs) rest) ∙ e ∙ append_assoc (line y) (spelling ys) other) in
+    let h = front xs ys rest other fx.1 fy.1 bad others in
+    omega arith
+
+pub one_spelling_is : (xs ys : List Event) → AllByRecursion IsInRange xs → AllByRecursion IsInRange ys → spelling xs ≡ spelling ys → xs ≡ ys
+one_spelling_is [] [] fx fy e = refl
+one_spelling_is [] (y ∷ ys) fx fy e = let h = line_some y (spelling ys) in absurd (omega (arith, ap length e))
+one_spelling_is (x ∷ xs) [] fx fy e = let h = line_some x (spelling xs) in absurd (omega (arith, ap length e))
+one_spelling_is (x ∷ xs) (y ∷ ys) fx fy e =
+    let (first, others) = one_line x y (spelling xs) (spelling ys) fx.0 fy.0 e in
+    rw (first, one_spelling_is xs ys fx.1 fy.1 others) refl
+
+-- the empty rest is no line
+end_is_no_line : BeginsNoLine []
+end_is_no_line event more fits e = let h = line_some event more in absurd (omega (arith, ap length e))
+
+-- nothing follows a whole script
+pub no_bad_line : (xs : List Event) (bytes : List ℕ) (n : ℕ) → IsScript xs bytes → IsBadLine bytes n → ⊥
+no_bad_line xs bytes n script bad = rest_of xs bad.before bad.rest script.in_range bad.in_range bad.bad bad.some (sym script.lines ∙ bad.parts)
+  where
+    rest_of : (xs ys : List Event) (rest : List ℕ) → AllByRecursion IsInRange xs → AllByRecursion IsInRange ys → BeginsNoLine rest → 1 ≤ length rest → spelling xs ≡ spelling ys ++ rest → ⊥
+    rest_of [] [] rest fx fy bad some e = omega (arith, ap length e)
+    rest_of [] (y ∷ ys) rest fx fy bad some e = end_is_no_line y (spelling ys ++ rest) fy.0 (e ∙ append_assoc (line y) (spelling ys) rest)
+    rest_of (x ∷ xs) [] rest fx fy bad some e = bad x (spelling xs) fx.0 (sym e)
+    rest_of (x ∷ xs) (y ∷ ys) rest fx fy bad some e =
+        let (first, others) = one_line x y (spelling xs) (spelling ys ++ rest) fx.0 fy.0 (e ∙ append_assoc (line y) (spelling ys) rest) in
+        rest_of xs ys rest fx.1 fy.1 bad some others
+
+pub one_bad_line_is : (bytes : List ℕ) (m n : ℕ) → IsBadLine bytes m → IsBadLine bytes n → m ≡ n
+one_bad_line_is bytes m n a b =
+    let up = front a.before b.before a.rest b.rest a.in_range b.in_range a.bad (sym a.parts ∙ b.parts) in
+    let down = front b.before a.before b.rest a.rest b.in_range a.in_range b.bad (sym b.parts ∙ a.parts) in
+    omega (arith, a.counted, b.counted)
+
+-- ---- steps of the loop
+
+pub all_push : (xs : List Event) (x : Event) → AllByRecursion IsInRange xs → IsInRange x → AllByRecursion IsInRange (xs ++ x ∷ [])
+all_push [] x h one = (one, tt)
+all_push (y ∷ ys) x h one = (h.0, all_push ys x h.1 one)
+
+pub spelling_push : (xs : List Event) (x : Event) (rest : List ℕ) → spelling (xs ++ x ∷ []) ++ rest ≡ spelling xs ++ (line x ++ rest)
+spelling_push [] x rest = ap (λ t. t ++ rest) (append-nil (line x))
+spelling_push (y ∷ ys) x rest =
+    append_assoc (line y) (spelling (ys ++ x ∷ [])) rest ∙ ap (λ t. line y ++ t) (spelling_push ys x rest) ∙ sym (append_assoc (line y) (spelling ys) (line x ++ rest))

@@ -1,0 +1,13 @@
+pub mod Lines
+pub mod Script
+pub mod Text
+pub mod Cutting
+pub mod Session
+pub mod Input
+pub mod Output
+pub mod Fault
+pub mod Watched
+pub mod Running
+pub mod Peer
+pub mod Streams
+pub mod Serving

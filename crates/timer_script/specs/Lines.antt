@@ -1,0 +1,94 @@
+-- What the readers of one line compute, on lists. No public clause cites this file: it is proved that they read exactly the
+-- lines of events.
+use Rattle.std.specs.Prelude.{ℕ, ◌&&◌, List, length, take, drop, slice_index, codes, Option, Some, None, option_map, option_and_then, ◌==◌, nat_eq, nat_lt, nat_le, if◌then◌else◌}
+use Rattle.std.specs.Cmp.Lexicographic.{pointwise}
+use Rattle.std.specs.Net.Reader.{read_number}
+use Rattle.std.specs.Borrow.{Bor}
+use Rattle.timer_base.specs.declared.limits.TheConstants.{LAST}
+use Rattle.timer_script.specs.declared.lines.TheConstants.{MOST_TICKS}
+use Rattle.timer_facility.specs.declared.event.Event.{Event}
+use Rattle.timer_facility.specs.declared.event.Event.TheVariants.{Start, Stop, Restart, Ticks, Close}
+
+-- a value and the bytes after it
+abbrev pub Read : Type 0 → Type 0
+Read A = Option (A × List ℕ)
+
+-- what a function read, with its value seen through `view`
+abbrev pub read_view : {A B : Type 0} → (A → B) → Option (A × Bor (List ℕ)) → Read B
+read_view view r = option_map (λ p. (view p.0, p.1.now)) r
+
+-- f of the value, if there is one
+infixl 10 ◌>>=◌
+abbrev pub ◌>>=◌ : {A B : Type 0} → Option A → (A → Option B) → Option B
+o >>= f = option_and_then f o
+
+-- f of the value, if there is one, or else the default
+abbrev pub or_try : {A B : Type 0} → Option A → (A → B) → B → B
+or_try None f other = other
+or_try (Some x) f other = f x
+
+-- what follows the word
+unfoldable pub strip : List ℕ → List ℕ → Option (List ℕ)
+strip word bytes = if pointwise nat_eq (take (length word) bytes) word then Some (drop (length word) bytes) else None
+
+-- the value of the digits at the front, and how many they are
+abbrev pub digits_at : List ℕ → Option (ℕ × ℕ)
+digits_at bytes = read_number 10 LAST bytes
+
+-- a number with no leading zero
+unfoldable pub number_at : List ℕ → Read ℕ
+number_at bytes = digits_at bytes >>= λ n. if nat_lt 1 n.1 && (slice_index bytes 0 == 48) then None else Some (n.0, drop n.1 bytes)
+
+-- the fields after the word `start`
+unfoldable pub start_at : List ℕ → Read Event
+start_at bytes =
+    number_at bytes >>= λ client.
+    strip (codes " ") client.1 >>= λ a.
+    number_at a >>= λ number.
+    strip (codes " ") number.1 >>= λ b.
+    number_at b >>= λ interval.
+    strip (codes " ") interval.1 >>= λ c.
+    number_at c >>= λ action.
+    strip (codes "\n") action.1 >>= λ rest.
+    Some (Start client.0 number.0 interval.0 action.0, rest)
+
+-- the fields after the word `stop`
+unfoldable pub stop_at : List ℕ → Read Event
+stop_at bytes =
+    number_at bytes >>= λ client.
+    strip (codes " ") client.1 >>= λ a.
+    number_at a >>= λ number.
+    strip (codes " ") number.1 >>= λ b.
+    number_at b >>= λ serial.
+    strip (codes "\n") serial.1 >>= λ rest.
+    Some (Stop client.0 number.0 serial.0, rest)
+
+-- the fields after the word `restart`
+unfoldable pub restart_at : List ℕ → Read Event
+restart_at bytes =
+    number_at bytes >>= λ client.
+    strip (codes " ") client.1 >>= λ a.
+    number_at a >>= λ number.
+    strip (codes " ") number.1 >>= λ b.
+    number_at b >>= λ serial.
+    strip (codes " ") serial.1 >>= λ c.
+    number_at c >>= λ interval.
+    strip (codes " ") interval.1 >>= λ d.
+    number_at d >>= λ action.
+    strip (codes "\n") action.1 >>= λ rest.
+    Some (Restart client.0 number.0 serial.0 interval.0 action.0, rest)
+
+-- the field after the word `tick`
+unfoldable pub tick_at : List ℕ → Read Event
+tick_at bytes =
+    number_at bytes >>= λ count.
+    if (nat_le 1 count.0 && nat_le count.0 MOST_TICKS) then (strip (codes "\n") count.1 >>= λ rest. Some (Ticks count.0, rest)) else None
+
+-- the event whose line is at the front
+unfoldable pub line_at : List ℕ → Read Event
+line_at bytes =
+    or_try (strip (codes "start ") bytes) start_at
+    (or_try (strip (codes "stop ") bytes) stop_at
+    (or_try (strip (codes "restart ") bytes) restart_at
+    (or_try (strip (codes "tick ") bytes) tick_at
+    (strip (codes "close\n") bytes >>= λ rest. Some (Close, rest)))))

@@ -1,0 +1,84 @@
+-- What a run reads and writes: from the bytes of a script to those of the text that answers it.
+use Rattle.std.specs.Prelude.{◌≡◌, ℕ, ◌+◌, ◌<◌, ◌≤◌, true, false, List, ◌++◌, length, take, Option, Result, Ok, Err}
+use Rattle.std.specs.List.{flat_map}
+use Rattle.std.specs.Io.KnownBytes.{Appends}
+use Rattle.timer_facility.specs.declared.event.Event.{Event}
+use Rattle.timer_facility.specs.declared.event.Out.{Out}
+use Rattle.timer_facility.specs.State.{FacilityState}
+use Rattle.timer_facility.specs.Played.{IsRun, IsPlayed}
+use Rattle.timer_script.specs.declared.input.TheConstants.{MOST_BYTES}
+use Rattle.timer_script.specs.declared.fault.RunFault.{RunFault}
+use Rattle.timer_script.specs.declared.fault.RunFault.TheVariants as faults
+use Rattle.timer_script.specs.declared.watched.Watched.{Watched}
+use Rattle.timer_script.specs.Watched.{inner_of, has_failed}
+use Rattle.timer_script.specs.Script.{IsScript, IsBadLine}
+use Rattle.timer_script.specs.Text.{out_line, text}
+use Rattle.timer_script.specs.Input.{ReadsWhole, ReadsUpTo, ReadsTooMany}
+
+-- the events were played, and the text grew by the lines of their outs
+pub record AddsLines (before : FacilityState) (events : List Event) (old new : List ℕ) (after : FacilityState) : Type 0 where
+  pub outs : List Out
+  pub runs : IsRun before events outs after
+  pub lines : new ≡ old ++ flat_map out_line outs
+
+-- the answer to these events from a state: the lines of their outs, and the end line
+pub record IsAnswer (before : FacilityState) (events : List Event) (answer : List ℕ) : Type 0 where
+  pub outs : List Out
+  pub after : FacilityState
+  pub played : IsPlayed before events outs after
+  pub lines : answer ≡ text outs after.now (length after.pending)
+
+-- the reader was read to its end, its bytes are the script of some events and within the limit, and this is the answer
+pub record IsAnswered (before : FacilityState) (old new : Option (List ℕ)) (answer : List ℕ) : Type 0 where
+  pub bytes : List ℕ
+  pub events : List Event
+  pub whole : ReadsWhole old new bytes
+  pub short : length bytes ≤ MOST_BYTES
+  pub script : IsScript events bytes
+  pub answered : IsAnswer before events answer
+
+-- the reader was read to its end, its bytes are within the limit, and this is their first bad line
+pub record IsBad (old new : Option (List ℕ)) (line : ℕ) : Type 0 where
+  pub bytes : List ℕ
+  pub whole : ReadsWhole old new bytes
+  pub short : length bytes ≤ MOST_BYTES
+  pub bad : IsBadLine bytes line
+
+-- why bytes within the limit have no answer
+abbrev pub GivesNoAnswer : RunFault → List ℕ → Type 0
+GivesNoAnswer faults.Read bytes = ⊥
+GivesNoAnswer faults.TooLong bytes = ⊥
+GivesNoAnswer (faults.Bad line) bytes = IsBadLine bytes line
+GivesNoAnswer faults.OutOfMemory bytes = Unit {0}
+GivesNoAnswer (faults.Write written) bytes = ⊥
+
+-- why bytes in memory have no answer
+abbrev pub HasNoAnswer : RunFault → List ℕ → Type 0
+HasNoAnswer faults.Read bytes = ⊥
+HasNoAnswer faults.TooLong bytes = MOST_BYTES < length bytes
+HasNoAnswer (faults.Bad line) bytes = IsBadLine bytes line × (length bytes ≤ MOST_BYTES)
+HasNoAnswer faults.OutOfMemory bytes = length bytes ≤ MOST_BYTES
+HasNoAnswer (faults.Write written) bytes = ⊥
+
+-- what a run did to its reader and its writer, by how it ended
+abbrev pub HasRun : {R S : Type 0} (before : FacilityState) (remaining : R → Option (List ℕ)) (contents : S → Option (List ℕ)) (reader reader' : Watched R) (writer writer' : Watched S) → Result Unit RunFault → Type 0
+-- the whole answer was written, and nothing else
+HasRun before remaining contents reader reader' writer writer' (Ok u) =
+    (answer : List ℕ) × IsAnswered before (remaining (inner_of reader)) (remaining (inner_of reader')) answer × (has_failed reader' ≡ false)
+    × Appends (contents (inner_of writer)) (contents (inner_of writer')) answer × (has_failed writer' ≡ false)
+-- the reader failed in this call, after at most `MOST_BYTES` bytes, and nothing was written
+HasRun before remaining contents reader reader' writer writer' (Err faults.Read) =
+    ReadsUpTo MOST_BYTES (remaining (inner_of reader)) (remaining (inner_of reader')) × (has_failed reader' ≡ true) × (writer' ≡ writer)
+-- one byte more than `MOST_BYTES` was read, and nothing was written
+HasRun before remaining contents reader reader' writer writer' (Err faults.TooLong) =
+    ReadsTooMany (remaining (inner_of reader)) (remaining (inner_of reader')) × (has_failed reader' ≡ false) × (writer' ≡ writer)
+-- the input is not a script, this is its first bad line, and nothing was written
+HasRun before remaining contents reader reader' writer writer' (Err (faults.Bad line)) =
+    IsBad (remaining (inner_of reader)) (remaining (inner_of reader')) line × (has_failed reader' ≡ false) × (writer' ≡ writer)
+-- nothing was written, and at most one byte more than `MOST_BYTES` was read
+HasRun before remaining contents reader reader' writer writer' (Err faults.OutOfMemory) =
+    ReadsUpTo (MOST_BYTES + 1) (remaining (inner_of reader)) (remaining (inner_of reader')) × (has_failed reader' ≡ false) × (writer' ≡ writer)
+-- the writer failed in this call, and a prefix of the answer was written, of this length, and nothing else
+HasRun before remaining contents reader reader' writer writer' (Err (faults.Write written)) =
+    (answer : List ℕ) × IsAnswered before (remaining (inner_of reader)) (remaining (inner_of reader')) answer × (has_failed reader' ≡ false)
+    × (written < length answer) × Appends (contents (inner_of writer)) (contents (inner_of writer')) (take written answer) × (has_failed writer' ≡ true)

@@ -1,0 +1,54 @@
+-- The unique spelling of a list of events, and the first bad line.
+use Rattle.std.specs.Prelude.{◌≡◌, ℕ, ◌+◌, ◌≤◌, List, ◌++◌, length, codes, decimal}
+use Rattle.std.specs.List.{flat_map, AllByRecursion}
+use Rattle.timer_base.specs.declared.limits.TheConstants.{LAST}
+use Rattle.timer_script.specs.declared.lines.TheConstants.{MOST_TICKS}
+use Rattle.timer_facility.specs.declared.event.Event.{Event}
+use Rattle.timer_facility.specs.declared.event.Event.TheVariants.{Start, Stop, Restart, Ticks, Close}
+use Rattle.timer_script.specs.declared.fault.ScriptFault.{ScriptFault}
+use Rattle.timer_script.specs.declared.fault.ScriptFault.TheVariants.{Bad, OutOfMemory}
+
+-- the numbers of a line are at most LAST, and its ticks are 1 to MOST_TICKS
+abbrev pub IsInRange : Event → Type 0
+IsInRange (Start client number interval action) = (client ≤ LAST) × (number ≤ LAST) × (interval ≤ LAST) × (action ≤ LAST)
+IsInRange (Stop client number serial) = (client ≤ LAST) × (number ≤ LAST) × (serial ≤ LAST)
+IsInRange (Restart client number serial interval action) = (client ≤ LAST) × (number ≤ LAST) × (serial ≤ LAST) × (interval ≤ LAST) × (action ≤ LAST)
+IsInRange (Ticks count) = (1 ≤ count) × (count ≤ MOST_TICKS)
+IsInRange Close = Unit {0}
+
+-- a line: words and numbers with one space between them, and a line feed
+unfoldable pub line : Event → List ℕ
+line (Start client number interval action) = codes "start " ++ decimal client ++ codes " " ++ decimal number ++ codes " " ++ decimal interval ++ codes " " ++ decimal action ++ codes "\n"
+line (Stop client number serial) = codes "stop " ++ decimal client ++ codes " " ++ decimal number ++ codes " " ++ decimal serial ++ codes "\n"
+line (Restart client number serial interval action) =
+    codes "restart " ++ decimal client ++ codes " " ++ decimal number ++ codes " " ++ decimal serial ++ codes " " ++ decimal interval ++ codes " " ++ decimal action ++ codes "\n"
+line (Ticks count) = codes "tick " ++ decimal count ++ codes "\n"
+line Close = codes "close\n"
+
+-- the lines of the events, one after another
+abbrev pub spelling : List Event → List ℕ
+spelling events = flat_map line events
+
+-- the bytes are the lines of these events, which are in range
+pub record IsScript (events : List Event) (bytes : List ℕ) : Type 0 where
+  pub lines : bytes ≡ spelling events
+  pub in_range : AllByRecursion IsInRange events
+
+-- no line of an event is a prefix of the bytes
+abbrev pub BeginsNoLine : List ℕ → Type 0
+BeginsNoLine bytes = (event : Event) (more : List ℕ) → IsInRange event → bytes ≡ line event ++ more → ⊥
+
+-- after the lines of some events come bytes that begin with no line; n counts from 1
+pub record IsBadLine (bytes : List ℕ) (n : ℕ) : Type 0 where
+  pub before : List Event
+  pub rest : List ℕ
+  pub parts : bytes ≡ spelling before ++ rest
+  pub in_range : AllByRecursion IsInRange before
+  pub some : 1 ≤ length rest
+  pub bad : BeginsNoLine rest
+  pub counted : n ≡ length before + 1
+
+-- the error names the first bad line, or is out of memory
+abbrev pub IsFault : ScriptFault → List ℕ → Type 0
+IsFault (Bad n) bytes = IsBadLine bytes n
+IsFault OutOfMemory bytes = Unit {0}

@@ -1,0 +1,171 @@
+-- A session with a peer: what was played, what went to the peer, and when.
+use Rattle.std.specs.Prelude.{◌≡◌, ℕ, ◌≤◌, ◌⊎◌, ◌-◌, ◌^◌, Bool, true, false, List, [], ◌∷◌, ◌++◌, length, take, Result, Ok, Err}
+use Rattle.std.specs.Io.KnownBytes.{Consumes, Appends, IsAtEnd}
+use Rattle.timer_facility.specs.declared.event.Event.{Event}
+use Rattle.timer_facility.specs.State.{FacilityState}
+use Rattle.timer_script.specs.Script.{IsScript, BeginsNoLine}
+use Rattle.timer_script.specs.declared.fault.ServeFault.{ServeFault}
+use Rattle.timer_script.specs.declared.fault.ServeFault.TheVariants as faults
+use Rattle.timer_script.specs.declared.fault.SessionFault.{SessionFault}
+use Rattle.timer_script.specs.declared.fault.SessionFault.TheVariants as sessions
+use Rattle.timer_script.specs.declared.serving.TheConstants.{PIECE}
+use Rattle.timer_script.specs.Text.{end_line}
+use Rattle.timer_script.specs.Running.{IsAnswer}
+use Rattle.timer_script.specs.Session.{SessionState, fresh, next_line, HasFed, IsAnsweredSoFar, HasFailed, IsStoppedAt}
+use Rattle.timer_script.specs.Peer.{PeerState, Moment, Came, Went, Flush, Grows}
+
+-- the bytes that came from a peer
+abbrev pub came_of : List Moment → List ℕ
+came_of [] = []
+came_of (Came bytes ∷ moments) = bytes ++ came_of moments
+came_of (Went bytes ∷ moments) = came_of moments
+came_of (Flush ∷ moments) = came_of moments
+
+-- the bytes that went to it
+abbrev pub gone_of : List Moment → List ℕ
+gone_of [] = []
+gone_of (Came bytes ∷ moments) = gone_of moments
+gone_of (Went bytes ∷ moments) = bytes ++ gone_of moments
+gone_of (Flush ∷ moments) = gone_of moments
+
+-- whether what went to it was flushed, if it was before
+abbrev pub is_flushed : Bool → List Moment → Bool
+is_flushed flushed [] = flushed
+is_flushed flushed (Came bytes ∷ moments) = is_flushed flushed moments
+is_flushed flushed (Went bytes ∷ moments) = is_flushed false moments
+is_flushed flushed (Flush ∷ moments) = is_flushed true moments
+
+-- a session that was fed these bytes has answered each complete line of them, and this text is the answer
+pub record IsAnsweredBy (start : SessionState) (came gone : List ℕ) : Type 0 where
+  pub session : SessionState
+  pub fed : HasFed start came [] gone session
+  pub answered : IsAnsweredSoFar session
+
+-- before each read all complete lines so far have been answered, and the answers flushed; a read gives few bytes, so all
+-- lines are answered but those of the last ones
+abbrev pub IsPrompt : SessionState → (came gone : List ℕ) → Bool → List Moment → Type 0
+IsPrompt start came gone flushed [] = Unit {0}
+IsPrompt start came gone flushed (Came bytes ∷ moments) =
+    (flushed ≡ true) × IsAnsweredBy start came gone × (length bytes ≤ PIECE) × IsPrompt start (came ++ bytes) gone flushed moments
+IsPrompt start came gone flushed (Went bytes ∷ moments) = IsPrompt start came (gone ++ bytes) false moments
+IsPrompt start came gone flushed (Flush ∷ moments) = IsPrompt start came gone true moments
+
+-- these bytes came from the peer and this text went to it, each complete line answered before more was read
+pub record HasTalked (start : SessionState) (old new : PeerState) (came gone : List ℕ) (flushed : Bool) : Type 0 where
+  pub moments : List Moment
+  pub grows : Grows old.moments new.moments moments
+  pub came_is : came_of moments ≡ came
+  pub gone_is : gone_of moments ≡ gone
+  pub prompt : IsPrompt start [] [] true moments
+  pub flush : is_flushed true moments ≡ flushed
+  pub read : Consumes old.remaining new.remaining came
+  pub written : Appends old.contents new.contents gone
+
+-- what went from the peer through the session and back: the last of the bytes that came were not fed, and the last of the
+-- text of those that were fed has not been sent
+pub record HasPassed (old : SessionState) (peer peer' : PeerState) (new : SessionState) (unfed unsent : List ℕ) (flushed : Bool) : Type 0 where
+  pub bytes : List ℕ
+  pub sent : List ℕ
+  pub talked : HasTalked old peer peer' (bytes ++ unfed) sent flushed
+  pub fed : HasFed old bytes [] (sent ++ unsent) new
+
+-- neither a read nor a write failed
+pub record AreGood (peer : PeerState) : Type 0 where
+  pub reading : peer.read_failed ≡ false
+  pub writing : peer.write_failed ≡ false
+
+-- no read is among the calls
+abbrev pub AreWrites : List Moment → Type 0
+AreWrites [] = Unit {0}
+AreWrites (Came bytes ∷ moments) = ⊥
+AreWrites (Went bytes ∷ moments) = AreWrites moments
+AreWrites (Flush ∷ moments) = AreWrites moments
+
+-- the text was written, and nothing was read
+pub record HasWritten (old : PeerState) (text : List ℕ) (new : PeerState) : Type 0 where
+  pub moments : List Moment
+  pub grows : Grows old.moments new.moments moments
+  pub writes : AreWrites moments
+  pub gone_is : gone_of moments ≡ text
+  pub written : Appends old.contents new.contents text
+  pub remaining : new.remaining ≡ old.remaining
+  pub reading : new.read_failed ≡ old.read_failed
+
+-- the text was written and flushed
+pub record HasSent (old : PeerState) (text : List ℕ) (new : PeerState) : Type 0 where
+  pub written : HasWritten old text new
+  pub flushed : is_flushed false written.moments ≡ true
+  pub good : new.write_failed ≡ false
+
+-- a prefix of the text was written, and then the peer failed
+pub record HasSentPart (old : PeerState) (text : List ℕ) (new : PeerState) : Type 0 where
+  pub count : ℕ
+  pub within : count ≤ length text
+  pub written : HasWritten old (take count text) new
+  pub failed : new.write_failed ≡ true
+
+-- one turn: bytes came, all complete lines are answered, and the answers flushed
+pub record HasTurned (old : SessionState) (peer peer' : PeerState) (new : SessionState) (n : ℕ) : Type 0 where
+  pub passed : HasPassed old peer peer' new [] [] true
+  pub counted : length passed.bytes ≡ n
+  pub answered : IsAnsweredSoFar new
+  pub at_end : n ≡ 0 → IsAtEnd peer'.remaining
+  pub good : AreGood peer'
+
+-- an error of a session as one of serving
+abbrev pub serve_fault : SessionFault → ServeFault
+serve_fault (sessions.Bad n) = faults.Bad n
+serve_fault sessions.OutOfMemory = faults.OutOfMemory
+serve_fault sessions.Ended = faults.OutOfMemory
+
+-- why a turn failed
+abbrev pub StopsTurn : ServeFault → SessionState → PeerState → PeerState → SessionState → Type 0
+-- a read failed, and all that came before it is answered
+StopsTurn faults.Read old peer peer' new = HasPassed old peer peer' new [] [] true × IsAnsweredSoFar new × (peer'.read_failed ≡ true) × (peer'.write_failed ≡ false)
+-- a line is bad whatever follows, and all lines before it are answered
+StopsTurn (faults.Bad n) old peer peer' new = (unfed : List ℕ) × HasPassed old peer peer' new unfed [] true × HasFailed n new × AreGood peer'
+-- out of memory: all the text so far was written
+StopsTurn faults.OutOfMemory old peer peer' new = (unfed : List ℕ) × HasPassed old peer peer' new unfed [] true × AreGood peer'
+-- a write failed
+StopsTurn faults.Write old peer peer' new = (unfed unsent : List ℕ) × (flushed : Bool) × HasPassed old peer peer' new unfed unsent flushed × (peer'.read_failed ≡ false) × (peer'.write_failed ≡ true)
+StopsTurn faults.TooLong old peer peer' new = ⊥
+
+-- the end line of a session
+abbrev pub last_line : SessionState → List ℕ
+last_line s = end_line s.state.now (length s.state.pending)
+
+-- why the end line was not written completely
+abbrev pub StopsEnd : ServeFault → SessionState → PeerState → PeerState → Type 0
+StopsEnd faults.Read s peer peer' = ⊥
+StopsEnd (faults.Bad n) s peer peer' = (1 ≤ length s.held) × BeginsNoLine s.held × (n ≡ next_line s) × (peer' ≡ peer)
+StopsEnd faults.OutOfMemory s peer peer' = peer' ≡ peer
+StopsEnd faults.Write s peer peer' = (s.held ≡ []) × HasSentPart peer (last_line s) peer'
+StopsEnd faults.TooLong s peer peer' = ⊥
+
+-- the peer was read to its end, its bytes are the script of some events, and the answer to them was written
+pub record HasAnsweredAll (before : FacilityState) (peer peer' : PeerState) (bytes answer : List ℕ) : Type 0 where
+  pub events : List Event
+  pub at_end : IsAtEnd peer'.remaining
+  pub script : IsScript events bytes
+  pub answered : IsAnswer before events answer
+
+-- what serving did, by how it ended; in each case every complete line was answered, and its answer flushed, before more
+-- was read
+abbrev pub HasServed : FacilityState → PeerState → PeerState → Result Unit ServeFault → Type 0
+-- the whole answer was written and flushed, and nothing else
+HasServed before peer peer' (Ok u) = (bytes answer : List ℕ) × HasAnsweredAll before peer peer' bytes answer × HasTalked (fresh before) peer peer' bytes answer true × AreGood peer'
+-- a read failed, and each complete line that came is answered
+HasServed before peer peer' (Err faults.Read) =
+    (s : SessionState) × HasPassed (fresh before) peer peer' s [] [] true × IsAnsweredSoFar s × (peer'.read_failed ≡ true) × (peer'.write_failed ≡ false)
+-- the n-th line is the first bad one, each line before it is answered, and nothing else was written
+HasServed before peer peer' (Err (faults.Bad n)) = (bytes text : List ℕ) × IsStoppedAt before bytes text n × HasTalked (fresh before) peer peer' bytes text true × AreGood peer'
+-- out of memory: all the text so far was written
+HasServed before peer peer' (Err faults.OutOfMemory) = (s : SessionState) × (unfed : List ℕ) × HasPassed (fresh before) peer peer' s unfed [] true × AreGood peer'
+-- a write failed: a prefix of the answers was written, or of the whole answer
+HasServed before peer peer' (Err faults.Write) =
+    (((s : SessionState) × (unfed unsent : List ℕ) × (flushed : Bool) × HasPassed (fresh before) peer peer' s unfed unsent flushed)
+    ⊎ ((bytes answer : List ℕ) × (k : ℕ) × (flushed : Bool) × HasAnsweredAll before peer peer' bytes answer × (k ≤ length answer) × HasTalked (fresh before) peer peer' bytes (take k answer) flushed))
+    × (peer'.read_failed ≡ false) × (peer'.write_failed ≡ true)
+-- more bytes came than a u64 counts, and each complete line of them is answered
+HasServed before peer peer' (Err faults.TooLong) =
+    (s : SessionState) × (passed : HasPassed (fresh before) peer peer' s [] [] true) × (2 ^ 64 - 1 ≤ length passed.bytes) × IsAnsweredSoFar s × AreGood peer'

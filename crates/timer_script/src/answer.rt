@@ -1,0 +1,35 @@
+//! A run over memory.
+ghost use Rattle.std.specs.Prelude.{◌≡◌, ◌≤◌, List, [], length, IfOk, IfErr, OnOk};
+ghost use Rattle.timer_facility.specs.declared.event.Event.{Event};
+ghost use Rattle.timer_script.specs.declared.input.TheConstants.{MOST_BYTES};
+ghost use Rattle.timer_script.specs.Script.{IsScript};
+ghost use Rattle.timer_script.specs.Running.{IsAnswer, HasNoAnswer};
+
+use crate::fault::RunFault;
+use crate::input::MOST_BYTES;
+use crate::running::answer_to;
+use std::alloc::Global;
+use timer_base::Wheel;
+use timer_facility::Facility;
+
+/// The text that answers a script.
+///
+/// Fails, in this order, with `TooLong` where the script has more than `MOST_BYTES` bytes, and with
+/// `Bad`, which names the first bad line. Never fails with `Read` or `Write`. Nothing may be pending
+/// in the facility or wait in it.
+pub fn answer_of<W: Wheel + Drop>(
+    alloc: Global,
+    script: &[u8],
+    facility: Facility<W>,
+) -> Result<Vec<u8>, RunFault>
+    requires pending { facility.state.pending ≡ [] }
+    requires waiting { facility.waiting ≡ [] }
+    ensures ok { IfOk result (λ answer. (events : List Event) × IsScript events script.now × IsAnswer facility.state events answer.items) }
+    ensures short { OnOk result (length script.now ≤ MOST_BYTES) }
+    ensures fault { IfErr result (λ fault. HasNoAnswer fault script.now) }
+{
+    if script.len() > MOST_BYTES {
+        return Err(RunFault::TooLong);
+    }
+    answer_to(alloc, script, facility)
+}

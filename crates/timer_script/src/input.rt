@@ -1,0 +1,71 @@
+//! Reads a script to its end, in few large reads. No error is retried.
+ghost use Rattle.std.specs.Prelude.{◌+◌, OnErr, IsErrOf, vec_len, ◌≡◌, ◌≤◌, ◌<◌, length, IfOk, IfErr, true, false};
+ghost use Rattle.timer_script.specs.declared.input.TheConstants.{MOST_BYTES};
+ghost use Rattle.timer_script.specs.Input.{ReadsWhole, StopsReading, HasRead, FailsToRead};
+
+use crate::fault::RunFault;
+use crate::watched::Watched;
+use std::alloc::Global;
+use std::io::Read;
+
+/// The most bytes that a script may have: 1 MiB.
+pub const MOST_BYTES: usize = 1048576;
+
+/// The most bytes that are read: one more than a script may have shows that an input is too long.
+const READ_LIMIT: usize = MOST_BYTES + 1;
+
+/// The most bytes of one read.
+const PIECE: usize = 65536;
+
+/// A piece of zeros.
+pub fn blank(alloc: Global, len: usize) -> Result<Vec<u8>, RunFault>
+    ensures len { IfOk result (λ piece. vec_len piece ≡ len) }
+    ensures memory { OnErr result (IsErrOf result RunFault.OutOfMemory) }
+{
+    vec![in alloc; 0u8; len].map_err(|_| RunFault::OutOfMemory)
+}
+
+/// Reads once, and appends what came. Returns how many bytes came: 0 only at the end.
+fn read_once<R: Read>(
+    reader: &mut Watched<R>,
+    piece: &mut [u8],
+    bytes: &mut Vec<u8>,
+) -> Result<usize, RunFault>
+    requires good { reader.old.failed ≡ false }
+    requires room { 0 < length piece.old }
+    ensures ok { IfOk result (λ n. HasRead (R.remaining reader.old.inner) (R.remaining reader.new.inner) reader.new.failed bytes.old.items bytes.new.items n) }
+    ensures within { IfOk result (λ n. n ≤ length piece.old) }
+    ensures len { IfOk result (λ n. vec_len bytes.new ≡ vec_len bytes.old + n) }
+    ensures fault { IfErr result (λ fault. FailsToRead fault (length piece.old) (R.remaining reader.old.inner) (R.remaining reader.new.inner) reader.new.failed) }
+{
+    let Ok(n) = reader.read(piece) else {
+        return Err(RunFault::Read);
+    };
+    if bytes.extend_from_slice(&piece[..n]).is_err() {
+        return Err(RunFault::OutOfMemory);
+    }
+    Ok(n)
+}
+
+/// The bytes up to the reader's end.
+///
+/// Fails with `Read` where the reader failed, and with `TooLong` once it gave more than `MOST_BYTES`
+/// bytes, of which one is read.
+pub fn read_script<R: Read>(alloc: Global, reader: &mut Watched<R>) -> Result<Vec<u8>, RunFault>
+    requires { reader.old.failed ≡ false }
+    ensures whole { IfOk result (λ bytes. ReadsWhole (R.remaining reader.old.inner) (R.remaining reader.new.inner) bytes.items) }
+    ensures short { IfOk result (λ bytes. length bytes.items ≤ MOST_BYTES) }
+    ensures good { IfOk result (λ _. reader.new.failed ≡ false) }
+    ensures fault { IfErr result (λ fault. StopsReading fault (R.remaining reader.old.inner) (R.remaining reader.new.inner) reader.new.failed) }
+{
+    let mut piece = blank(alloc, PIECE)?;
+    let mut bytes = Vec::new(alloc);
+    while bytes.len() < READ_LIMIT {
+        let room = PIECE.min(READ_LIMIT - bytes.len());
+        let n = read_once(reader, &mut piece[..room], &mut bytes)?;
+        if n == 0 {
+            return Ok(bytes);
+        }
+    }
+    Err(RunFault::TooLong)
+}

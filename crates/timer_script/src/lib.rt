@@ -1,0 +1,60 @@
+//! Scripts of events, the text that answers them, and the way from one to the other: a whole script at a
+//! time, or lines that are answered as they come. Over any wheel; no command line, and no threads.
+//!
+//! `running` has the whole run, from the bytes of the script to those of the text, and its contract is
+//! the promise of the program; `serving` has the same for lines that are answered as they come. Read
+//! `script` and `text` first, with `specs/Script.antt` and `specs/Text.antt`: which bytes are a script,
+//! and which text answers it.
+//!
+//! A module's words are in the file of its name in `specs/`, and their lemmas in `proofs/`:
+//!
+//!     bytes     digits and lines (`lines`), scripts (`script`), a stream cut into lines (`cutting`)
+//!     runs      input, output, `running`, `answer` (the same in memory), `text`
+//!     streams   `session`, `peer`, `streams`, `serving`
+#![tactic(auto)]
+
+mod answer;
+mod cutting;
+mod fault;
+mod input;
+mod laws;
+mod lines;
+mod output;
+mod peer;
+mod running;
+mod script;
+mod serving;
+mod session;
+mod stage;
+mod streams;
+mod text;
+mod watched;
+
+pub use answer::answer_of;
+pub use fault::{RunFault, ScriptFault, ServeFault, SessionFault};
+pub use input::MOST_BYTES;
+pub use laws::{
+    a_session_answers_as_a_run, a_session_stops_at_the_first_bad_line,
+    each_wheel_gives_the_same_text, limits, one_bad_line, one_spelling, pieces_join,
+};
+pub use lines::MOST_TICKS;
+pub use output::write_text;
+pub use peer::Peer;
+pub use running::run;
+pub use script::parse_script;
+pub use serving::{PIECE, serve};
+pub use session::{FeedStop, Session};
+pub use stage::Stage;
+pub use streams::Streams;
+pub use watched::Watched;
+
+#[cfg(test)]
+mod script_tests;
+#[cfg(test)]
+mod serving_tests;
+#[cfg(test)]
+mod session_tests;
+#[cfg(test)]
+mod testing;
+#[cfg(test)]
+mod text_tests;

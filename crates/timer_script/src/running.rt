@@ -1,0 +1,111 @@
+//! The whole run: a script is read to its end and played, and the text that answers it is written.
+//!
+//!     reader --read--> bytes --parse--> events --play--> outs --text--> bytes --write--> writer
+//!
+//! Events are played in chunks, and the outs of a chunk are text before the next one is played: an out
+//! is much longer than its line, and so the outs of a whole script never stand in memory together.
+//! Nothing is written before the last event was played, so a script with a bad line is rejected as a
+//! whole, and what is written is the whole answer or a prefix of it.
+ghost use Rattle.std.specs.Prelude.{◌≡◌, ◌↔◌, ℕ, List, [], false, IsTrue, IfOk, IfErr, OnOk, IsErrOf};
+ghost use Rattle.timer_facility.specs.declared.event.Event.{Event};
+ghost use Rattle.timer_script.specs.Script.{IsScript};
+ghost use Rattle.timer_script.specs.Running.{AddsLines, IsAnswer, GivesNoAnswer, HasRun};
+ghost use Rattle.timer_script.specs.Watched.{has_failed};
+
+use crate::fault::RunFault;
+use crate::input::read_script;
+use crate::output::write_text;
+use crate::script::parse_script;
+use crate::text::{push_end, push_outs};
+use crate::watched::Watched;
+use std::alloc::Global;
+use std::io::{Read, Write};
+use timer_base::{OutOfMemory, Wheel};
+use timer_facility::{Event, Facility, Out, Player};
+
+/// How many events are played before their outs become text.
+const CHUNK: usize = 1024;
+
+/// Plays the events, and adds the line of each out to the text. `outs` is used up, for its memory alone.
+fn play_chunk<W: Wheel + Drop>(
+    player: &mut Player<W>,
+    events: &[Event],
+    outs: &mut Vec<Out>,
+    text: &mut Vec<u8>,
+) -> Result<(), OutOfMemory>
+    ensures { OnOk result (AddsLines player.old events.now text.old.items text.new.items player.new) }
+{
+    outs.clear();
+    for event in events {
+        player.play_one(*event, outs)?;
+    }
+    push_outs(text, outs)
+}
+
+/// Plays the events in chunks, and adds the line of each out to the text.
+fn play_lines<W: Wheel + Drop>(
+    alloc: Global,
+    player: &mut Player<W>,
+    events: &[Event],
+    text: &mut Vec<u8>,
+) -> Result<(), OutOfMemory>
+    ensures { OnOk result (AddsLines player.old events.now text.old.items text.new.items player.new) }
+{
+    let mut outs = Vec::new(alloc);
+    let mut rest = events;
+    while !rest.is_empty() {
+        let (chunk, after) = rest.split_at(CHUNK.min(rest.len()));
+        play_chunk(player, chunk, &mut outs, text)?;
+        rest = after;
+    }
+    Ok(())
+}
+
+/// Plays a script on the facility, and returns the text that answers it.
+pub fn answer_to<W: Wheel + Drop>(
+    alloc: Global,
+    script: &[u8],
+    facility: Facility<W>,
+) -> Result<Vec<u8>, RunFault>
+    requires pending { facility.state.pending ≡ [] }
+    requires waiting { facility.waiting ≡ [] }
+    ensures ok { IfOk result (λ answer. (events : List Event) × IsScript events script.now × IsAnswer facility.state events answer.items) }
+    ensures fault { IfErr result (λ fault. GivesNoAnswer fault script.now) }
+{
+    // What `owed` rests on is known of the state from here on.
+    let _now = facility.now();
+    let events = parse_script(alloc, script)?;
+    let mut player = Player::open(alloc, facility);
+    let mut answer = Vec::new(alloc);
+    play_lines(alloc, &mut player, &events, &mut answer)?;
+    let now = player.facility().now();
+    let pending = player.facility().pending() as u64;
+    push_end(&mut answer, now, pending)?;
+    Ok(answer)
+}
+
+/// Reads a script to its end, plays it on the facility, and writes the text that answers it.
+///
+/// Fails with `Read` only where the reader failed in this call, and with `Write` only where the writer
+/// did. No error is retried. After `Write` a prefix of the text was written, of that many bytes; after
+/// any other fault nothing was. At most one byte more is read than a script may have, and where that
+/// many came the run fails with `TooLong`. Neither the reader nor the writer may have failed before,
+/// and nothing may be pending in the facility or wait in it.
+pub fn run<R: Read, S: Write, W: Wheel + Drop>(
+    alloc: Global,
+    reader: &mut Watched<R>,
+    writer: &mut Watched<S>,
+    facility: Facility<W>,
+) -> Result<(), RunFault>
+    requires reader_good { has_failed reader.old ≡ false }
+    requires writer_good { has_failed writer.old ≡ false }
+    requires pending { facility.state.pending ≡ [] }
+    requires waiting { facility.waiting ≡ [] }
+    ensures run { HasRun facility.state R.remaining S.contents reader.old reader.new writer.old writer.new result }
+    ensures reader_failed { IsTrue (has_failed reader.new) ↔ IsErrOf result RunFault.Read }
+    ensures writer_failed { IsTrue (has_failed writer.new) ↔ ((written : ℕ) × IsErrOf result (RunFault.Write written)) }
+{
+    let bytes = read_script(alloc, reader)?;
+    let answer = answer_to(alloc, &bytes, facility)?;
+    write_text(writer, &answer)
+}

@@ -1,0 +1,182 @@
+//! The text that answers a script: a line for each out, and the end line.
+//!
+//!     started CLIENT NUMBER SERIAL DEADLINE     the client's request NUMBER started a timer
+//!     stopped CLIENT NUMBER SERIAL              the client's request NUMBER stopped a timer
+//!     restarted CLIENT NUMBER OLD SERIAL DEADLINE
+//!                                               the request stopped the timer OLD and started another
+//!     refused CLIENT NUMBER REASON              the request was refused, or not taken
+//!     expired TICK CLIENT SERIAL ACTION         a timer expired at its deadline
+//!     closed COUNT                              the close returns this many timers
+//!     returned CLIENT SERIAL DEADLINE ACTION    a timer was returned by the close
+//!     tick refused REASON                       a tick was refused
+//!     close refused closed                      the facility had been closed before
+//!     end NOW PENDING                           the tick and the number of pending timers at the end
+//!
+//! The text is built in one `Vec`, with no formatting machinery for each line.
+ghost use Rattle.std.specs.Prelude.{◌≡◌, ◌++◌, IfOk, OnOk, codes, decimal};
+ghost use Rattle.std.specs.List.{flat_map};
+ghost use Rattle.timer_script.specs.Text.{numbers, reason_word, refusal_word, fault_word, out_line, end_line, text};
+
+use itoa::Buffer;
+use std::alloc::Global;
+use timer_base::OutOfMemory;
+use timer_facility::{Answer, NotTaken, Notice, Out, Reason, TickFault};
+
+/// The word for a refusal of a request that was taken.
+fn reason_of(reason: Reason) -> &'static [u8]
+    ensures { result.now ≡ reason_word reason }
+{
+    match reason {
+        Reason::ZeroInterval => b"zero-interval",
+        Reason::TooLate => b"too-late",
+        Reason::SerialsSpent => b"serials-spent",
+        Reason::Full => b"full",
+        Reason::NoSuch => b"no-such",
+    }
+}
+
+/// The word for a request that was not taken.
+fn refusal_of(reason: NotTaken) -> &'static [u8]
+    ensures { result.now ≡ refusal_word reason }
+{
+    match reason {
+        NotTaken::Closed => b"closed",
+        NotTaken::NoClient => b"no-client",
+        NotTaken::Repeated { .. } => b"repeated",
+        NotTaken::NumbersSpent => b"numbers-spent",
+        NotTaken::Ahead { .. } => b"ahead",
+        NotTaken::OutOfMemory => b"out-of-memory",
+    }
+}
+
+/// The word for a refused tick.
+fn fault_of(fault: TickFault) -> &'static [u8]
+    ensures { result.now ≡ fault_word fault }
+{
+    match fault {
+        TickFault::Closed => b"closed",
+        TickFault::ClockEnd => b"clock-end",
+    }
+}
+
+/// Writes numbers, each after a space.
+fn push_numbers(out: &mut Vec<u8>, all: &[u64]) -> Result<(), OutOfMemory>
+    ensures { OnOk result (out.new.items ≡ out.old.items ++ numbers all.now) }
+{
+    let mut buffer = Buffer::new();
+    for n in all {
+        out.push(b' ')?;
+        out.extend_from_slice(buffer.format(*n).as_bytes())?;
+    }
+    Ok(())
+}
+
+/// Writes a word and numbers as a line.
+fn push_line(out: &mut Vec<u8>, word: &[u8], all: &[u64]) -> Result<(), OutOfMemory>
+    ensures { OnOk result (out.new.items ≡ out.old.items ++ word.now ++ numbers all.now ++ codes "\n") }
+{
+    out.extend_from_slice(word)?;
+    push_numbers(out, all)?;
+    out.push(b'\n')?;
+    Ok(())
+}
+
+/// Writes a word, numbers and a reason as a line.
+fn push_refused(
+    out: &mut Vec<u8>,
+    word: &[u8],
+    all: &[u64],
+    reason: &[u8],
+) -> Result<(), OutOfMemory>
+    ensures { OnOk result (out.new.items ≡ out.old.items ++ word.now ++ numbers all.now ++ codes " " ++ reason.now ++ codes "\n") }
+{
+    out.extend_from_slice(word)?;
+    push_numbers(out, all)?;
+    out.push(b' ')?;
+    out.extend_from_slice(reason)?;
+    out.push(b'\n')?;
+    Ok(())
+}
+
+/// Writes one out as its line.
+fn push_out(text: &mut Vec<u8>, out: Out) -> Result<(), OutOfMemory>
+    ensures { OnOk result (text.new.items ≡ text.old.items ++ out_line out) }
+{
+    match out {
+        Out::Answered {
+            client,
+            number,
+            answer: Answer::Started { handle, deadline },
+        } => push_line(text, b"started", &[client, number, handle.serial, deadline]),
+        Out::Answered {
+            client,
+            number,
+            answer: Answer::Stopped { serial },
+        } => push_line(text, b"stopped", &[client, number, serial]),
+        Out::Answered {
+            client,
+            number,
+            answer: Answer::Restarted {
+                handle,
+                deadline,
+                old,
+            },
+        } => push_line(
+            text,
+            b"restarted",
+            &[client, number, old, handle.serial, deadline],
+        ),
+        Out::Answered {
+            client,
+            number,
+            answer: Answer::Refused(reason),
+        } => push_refused(text, b"refused", &[client, number], reason_of(reason)),
+        Out::NotTaken {
+            client,
+            number,
+            reason,
+        } => push_refused(text, b"refused", &[client, number], refusal_of(reason)),
+        Out::Notice(Notice::Expired(t)) => push_line(
+            text,
+            b"expired",
+            &[t.deadline, t.client, t.serial, t.action],
+        ),
+        Out::Notice(Notice::Returned(t)) => push_line(
+            text,
+            b"returned",
+            &[t.client, t.serial, t.deadline, t.action],
+        ),
+        Out::TickRefused(fault) => push_refused(text, b"tick refused", &[], fault_of(fault)),
+        Out::Closed { count } => push_line(text, b"closed", &[count]),
+        Out::CloseRefused => push_line(text, b"close refused closed", &[]),
+    }
+}
+
+/// Writes each out as its line.
+pub fn push_outs(text: &mut Vec<u8>, outs: &[Out]) -> Result<(), OutOfMemory>
+    ensures { OnOk result (text.new.items ≡ text.old.items ++ flat_map out_line outs.now) }
+{
+    for out in outs {
+        push_out(text, *out)?;
+    }
+    Ok(())
+}
+
+/// Writes the end line, with this tick and this number of pending timers.
+pub fn push_end(text: &mut Vec<u8>, now: u64, pending: u64) -> Result<(), OutOfMemory>
+    ensures { OnOk result (text.new.items ≡ text.old.items ++ end_line now pending) }
+{
+    push_line(text, b"end", &[now, pending])
+}
+
+/// The lines of the outs, and the end line with this tick and this number of pending timers.
+///
+/// Fails only where memory ran out.
+pub fn text_of(alloc: Global, outs: &[Out], now: u64, pending: u64) -> Result<Vec<u8>, OutOfMemory>
+    ensures { IfOk result (λ bytes. bytes.items ≡ text outs.now now pending) }
+{
+    let mut bytes = Vec::new(alloc);
+    push_outs(&mut bytes, outs)?;
+    push_end(&mut bytes, now, pending)?;
+    Ok(bytes)
+}
