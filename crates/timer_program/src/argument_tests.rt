@@ -24,95 +24,98 @@ fn usual() -> Play {
     }
 }
 
+/// Goes on only where the arguments ask to play this.
+fn asks_to_play(rt: &impl Abort, alloc: Global, arguments: &[&str], asked: Play) {
+    match read_arguments(alloc, arguments) {
+        Ok(read) => same_in(rt, arguments, read, Asked::Play(asked)),
+        Err(error) => panic!(rt; "{error}"),
+    }
+}
+
 #[test]
-fn arguments_are_read_as_what_they_ask_for(rt: HostRuntime) {
+fn no_options_ask_for_the_usual(rt: HostRuntime) {
     let alloc = rt.alloc();
-    let all = Play {
+    asks_to_play(&rt, alloc, NO_ARGUMENTS.as_slice(), usual());
+    asks_to_play(&rt, alloc, &["play"], usual());
+}
+
+/// Each option, with its value in an argument of its own.
+static APART: [&str; 11] = [
+    "play",
+    "--scheme",
+    "hashed",
+    "--slots",
+    "8",
+    "--clients",
+    "2",
+    "--capacity",
+    "3",
+    "--first-tick",
+    "4",
+];
+
+/// The same in another order, each value in the option's argument.
+static JOINED: [&str; 6] = [
+    "play",
+    "--first-tick=4",
+    "--capacity=3",
+    "--clients=2",
+    "--slots=8",
+    "--scheme=hashed",
+];
+
+#[test]
+fn each_option_is_read_in_any_order_and_in_both_forms(rt: HostRuntime) {
+    let asked = Play {
         scheme: Scheme::Hashed,
         slots: 8,
         clients: 2,
         capacity: 3,
         first_tick: 4,
     };
+    asks_to_play(&rt, rt.alloc(), APART.as_slice(), asked);
+    asks_to_play(&rt, rt.alloc(), JOINED.as_slice(), asked);
+}
+
+#[test]
+fn each_scheme_is_read(rt: HostRuntime) {
     let rows = [
-        (NO_ARGUMENTS.as_slice(), usual()),
-        (["play"].as_slice(), usual()),
-        (
-            [
-                "play",
-                "--scheme",
-                "hashed",
-                "--slots",
-                "8",
-                "--clients",
-                "2",
-                "--capacity",
-                "3",
-                "--first-tick",
-                "4",
-            ]
-            .as_slice(),
-            all,
-        ),
-        (
-            [
-                "play",
-                "--first-tick=4",
-                "--capacity=3",
-                "--clients=2",
-                "--slots=8",
-                "--scheme=hashed",
-            ]
-            .as_slice(),
-            all,
-        ),
-        (
-            ["play", "--scheme", "plain"].as_slice(),
-            Play {
-                scheme: Scheme::Plain,
-                ..usual()
-            },
-        ),
-        (
-            [
-                "play",
-                "--scheme",
-                "clock",
-                "--slots",
-                "65536",
-                "--clients",
-                "1",
-            ]
-            .as_slice(),
-            Play {
-                scheme: Scheme::Clock,
-                slots: 65536,
-                clients: 1,
-                ..usual()
-            },
-        ),
-        (
-            [
-                "play",
-                "--capacity",
-                "1048576",
-                "--first-tick",
-                "1152921504606846975",
-            ]
-            .as_slice(),
-            Play {
-                capacity: 1048576,
-                first_tick: 1152921504606846975,
-                ..usual()
-            },
-        ),
+        ("plain", Scheme::Plain),
+        ("hashed", Scheme::Hashed),
+        ("hier", Scheme::Hier),
+        ("clock", Scheme::Clock),
     ];
-    for (arguments, asked) in rows {
-        match read_arguments(alloc, arguments) {
-            Ok(read) => same_in(&rt, arguments, read, Asked::Play(asked)),
-            Err(error) => panic!(rt; "{error}"),
-        }
+    for (name, scheme) in rows {
+        let asked = Play { scheme, ..usual() };
+        asks_to_play(&rt, rt.alloc(), &["play", "--scheme", name], asked);
     }
+}
+
+#[test]
+fn the_ends_of_each_range_are_read(rt: HostRuntime) {
+    let alloc = rt.alloc();
+    let least = Play {
+        slots: 1,
+        clients: 1,
+        capacity: 1,
+        ..usual()
+    };
+    let arguments = ["play", "--slots=1", "--clients=1", "--capacity=1"];
+    asks_to_play(&rt, alloc, &arguments, least);
+    let most = Play {
+        slots: 65536,
+        capacity: 1048576,
+        first_tick: 1152921504606846975,
+        ..usual()
+    };
+    let arguments = [
+        "play",
+        "--slots=65536",
+        "--clients=64",
+        "--capacity=1048576",
+        "--first-tick=1152921504606846975",
+    ];
+    asks_to_play(&rt, alloc, &arguments, most);
 }
 
 #[test]

@@ -35,8 +35,8 @@ fn usual_row(name: &'static str, script: &'static str, text: &'static str) -> Ro
     }
 }
 
-/// The worked examples, which every scheme answers alike: `clock_end` but for the clock of days.
-fn rows() -> [Row; 20] {
+/// Timers that expire, by way of every wheel and every bucket.
+fn expiring_rows() -> [Row; 8] {
     [
         usual_row("empty", "", "end 0 0\n"),
         usual_row(
@@ -59,6 +59,28 @@ fn rows() -> [Row; 20] {
             "start 0 1 1 11\nstart 0 2 8 12\nstart 0 3 9 13\nstart 0 4 16 14\nstart 0 5 8 15\ntick 16\n",
             "started 0 1 1 1\nstarted 0 2 2 8\nstarted 0 3 3 9\nstarted 0 4 4 16\nstarted 0 5 5 8\nexpired 1 0 1 11\nexpired 8 0 2 12\nexpired 8 0 5 15\nexpired 9 0 3 13\nexpired 16 0 4 14\nend 16 0\n",
         ),
+        usual_row(
+            "two_moves",
+            "start 0 1 4161 1\ntick 4161\n",
+            "started 0 1 1 4161\nexpired 4161 0 1 1\nend 4161 0\n",
+        ),
+        usual_row(
+            "spread",
+            "start 0 1 3661 1\ntick 3600\nstart 1 1 61 2\ntick 61\n",
+            "started 0 1 1 3661\nstarted 1 1 2 3661\nexpired 3661 0 1 1\nexpired 3661 1 2 2\nend 3661 0\n",
+        ),
+        Row {
+            name: "clock_face",
+            options: ELEVEN_DAYS.as_slice(),
+            script: "start 0 1 3045 5\ntick 3045\n",
+            text: "started 0 1 1 990915\nexpired 990915 0 1 5\nend 990915 0\n",
+        },
+    ]
+}
+
+/// Stops and refusals: `clock_end` has another text with the clock of days.
+fn request_rows() -> [Row; 8] {
+    [
         usual_row(
             "stop_middle",
             "start 0 1 10 1\nstart 0 2 10 2\nstart 0 3 10 3\nstop 0 4 2\ntick 10\n",
@@ -92,17 +114,6 @@ fn rows() -> [Row; 20] {
             text: "started 0 1 1 1\nrefused 0 2 full\nexpired 1 0 1 4\nstarted 0 3 2 3\nend 1 1\n",
         },
         usual_row(
-            "close",
-            "start 0 1 5 1\nstart 1 1 3 2\nstart 0 2 5 3\nclose\nstart 0 3 1 4\ntick 2\nclose\n",
-            "started 0 1 1 5\nstarted 1 1 2 3\nstarted 0 2 3 5\nclosed 3\nreturned 1 2 3 2\nreturned 0 1 5 1\nreturned 0 3 5 3\nrefused 0 3 closed\ntick refused closed\nclose refused closed\nend 0 0\n",
-        ),
-        Row {
-            name: "clock_face",
-            options: ELEVEN_DAYS.as_slice(),
-            script: "start 0 1 3045 5\ntick 3045\n",
-            text: "started 0 1 1 990915\nexpired 990915 0 1 5\nend 990915 0\n",
-        },
-        usual_row(
             "other_client",
             "start 0 1 3 7\nstop 1 1 1\ntick 3\n",
             "started 0 1 1 3\nrefused 1 1 no-such\nexpired 3 0 1 7\nend 3 0\n",
@@ -112,15 +123,16 @@ fn rows() -> [Row; 20] {
             "start 64 1 5 0\n",
             "refused 64 1 no-client\nend 0 0\n",
         ),
+    ]
+}
+
+/// Restarts and a close.
+fn restart_and_close_rows() -> [Row; 4] {
+    [
         usual_row(
-            "two_moves",
-            "start 0 1 4161 1\ntick 4161\n",
-            "started 0 1 1 4161\nexpired 4161 0 1 1\nend 4161 0\n",
-        ),
-        usual_row(
-            "spread",
-            "start 0 1 3661 1\ntick 3600\nstart 1 1 61 2\ntick 61\n",
-            "started 0 1 1 3661\nstarted 1 1 2 3661\nexpired 3661 0 1 1\nexpired 3661 1 2 2\nend 3661 0\n",
+            "close",
+            "start 0 1 5 1\nstart 1 1 3 2\nstart 0 2 5 3\nclose\nstart 0 3 1 4\ntick 2\nclose\n",
+            "started 0 1 1 5\nstarted 1 1 2 3\nstarted 0 2 3 5\nclosed 3\nreturned 1 2 3 2\nreturned 0 1 5 1\nreturned 0 3 5 3\nrefused 0 3 closed\ntick refused closed\nclose refused closed\nend 0 0\n",
         ),
         usual_row(
             "restart",
@@ -206,16 +218,23 @@ fn play_row<T: AllocGlobal + Abort + Threads>(
     same_in(rt, row.name, failed, (false, false));
 }
 
-#[test]
-fn worked_rows_give_their_text_with_each_scheme(rt: HostRuntime) {
-    for row in rows() {
+/// Plays and serves the rows with each scheme that gives their text.
+fn play_rows<T: AllocGlobal + Abort + Threads>(rt: &T, rows: &[Row]) {
+    for row in rows {
         for scheme in &SCHEMES {
             if row.name != "clock_end" || scheme[1] != "clock" {
-                play_row(&rt, "play", row, scheme);
-                play_row(&rt, "serve", row, scheme);
+                play_row(rt, "play", *row, scheme);
+                play_row(rt, "serve", *row, scheme);
             }
         }
     }
+}
+
+#[test]
+fn worked_rows_give_their_text_with_each_scheme(rt: HostRuntime) {
+    play_rows(&rt, &expiring_rows());
+    play_rows(&rt, &request_rows());
+    play_rows(&rt, &restart_and_close_rows());
     for row in clock_rows() {
         play_row(&rt, "play", row, &["--scheme", "clock"]);
         play_row(&rt, "serve", row, &["--scheme", "clock"]);
