@@ -8,7 +8,7 @@
 #![tactic(auto)]
 
 mod fault;
-mod laws;
+pub mod laws;
 mod limits;
 mod plain;
 mod sorting;
@@ -16,10 +16,6 @@ mod timer;
 mod wheel;
 
 pub use fault::{MakeFault, OutOfMemory};
-pub use laws::{
-    a_start_keeps_the_order, a_stop_takes_one, a_tick_cuts_the_front,
-    nothing_is_due_before_the_wake_up, the_last_number, the_order_is_one,
-};
 pub use limits::LAST;
 pub use plain::PlainWheel;
 pub use sorting::sort_timers;

@@ -7,7 +7,8 @@ use circular_buffer::HeapCircularBuffer;
 use std::alloc::{AllocError, Global};
 use std::marker::Model;
 use timer_base::Wheel;
-use timer_facility::{Facility, a_request_adds_at_most_one};
+use timer_facility::Facility;
+use timer_facility::laws::a_request_adds_at_most_one;
 
 /// The words that wait for a client, and a request that ran out of memory.
 #[derive(Drop)]

@@ -15,7 +15,8 @@ use crate::word::Numbered;
 use std::alloc::{AllocError, Global};
 use std::marker::Model;
 use timer_base::Wheel;
-use timer_facility::{CloseFault, Facility, TickFault, what_is_handed_out_was_pending};
+use timer_facility::laws::what_is_handed_out_was_pending;
+use timer_facility::{CloseFault, Facility, TickFault};
 
 /// A facility and its clients' lines.
 #[derive(Drop)]

@@ -11,7 +11,7 @@ use crate::report::{Done, Served, Step};
 use std::alloc::{AllocError, Global};
 use std::thread;
 use timer_base::Wheel;
-use timer_facility::notices_are_owed;
+use timer_facility::laws::notices_are_owed;
 
 /// Why a drive ended.
 #[derive(Clone, Copy, Debug, PartialEq, Eq)]

@@ -13,7 +13,7 @@ use crate::handing::hand_out_into;
 use crate::inlet::Inlet;
 use crate::report::{Done, Step};
 use timer_base::{OutOfMemory, Wheel};
-use timer_facility::{notices_are_owed, what_is_handed_out_was_pending};
+use timer_facility::laws::{notices_are_owed, what_is_handed_out_was_pending};
 
 impl<W: Wheel + Drop, I: Inlet + Drop> Desk<W, I> {
     /// Takes the steps in order, and returns the report of their results. The report is allocated first:

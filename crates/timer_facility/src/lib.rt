@@ -12,7 +12,7 @@ mod config;
 mod event;
 mod facility;
 mod handles;
-mod laws;
+pub mod laws;
 mod limits;
 mod player;
 mod request;
@@ -20,13 +20,6 @@ mod request;
 pub use config::{Checked, Config, ConfigFault};
 pub use event::{Event, Out};
 pub use facility::Facility;
-pub use laws::{
-    a_close_returns_the_others, a_closed_facility_refuses_each_event,
-    a_refusal_changes_at_most_the_number, a_request_adds_at_most_one,
-    bare_outs_do_not_depend_on_places, each_timer_is_handed_out, each_timer_is_handed_out_once,
-    nothing_comes_after_the_close, notices_are_owed, players_give_the_same,
-    the_limits_of_a_facility, the_outs_tell_the_verdict, what_is_handed_out_was_pending,
-};
 pub use limits::{MOST_CLIENTS, MOST_PENDING};
 pub use player::{PlayStop, Player};
 pub use request::{Answer, CloseFault, NotTaken, Notice, Reason, Request, TickFault};

@@ -61,7 +61,8 @@ HasNoAnswer faults.OutOfMemory bytes = length bytes ≤ MOST_BYTES
 HasNoAnswer (faults.Write written) bytes = ⊥
 
 -- what a run did to its reader and its writer, by how it ended
-abbrev pub HasRun : {R S : Type 0} (before : FacilityState) (remaining : R → Option (List ℕ)) (contents : S → Option (List ℕ)) (reader reader' : Watched R) (writer writer' : Watched S) → Result Unit RunFault → Type 0
+abbrev pub HasRun : {R S : Type 0} (before : FacilityState) (remaining : R → Option (List ℕ)) (contents : S → Option (List ℕ))
+    (reader reader' : Watched R) (writer writer' : Watched S) → Result Unit RunFault → Type 0
 -- the whole answer was written, and nothing else
 HasRun before remaining contents reader reader' writer writer' (Ok u) =
     (answer : List ℕ) × IsAnswered before (remaining (inner_of reader)) (remaining (inner_of reader')) answer × (has_failed reader' ≡ false)
@@ -81,4 +82,5 @@ HasRun before remaining contents reader reader' writer writer' (Err faults.OutOf
 -- the writer failed in this call, and a prefix of the answer was written, of this length, and nothing else
 HasRun before remaining contents reader reader' writer writer' (Err (faults.Write written)) =
     (answer : List ℕ) × IsAnswered before (remaining (inner_of reader)) (remaining (inner_of reader')) answer × (has_failed reader' ≡ false)
-    × (written < length answer) × Appends (contents (inner_of writer)) (contents (inner_of writer')) (take written answer) × (has_failed writer' ≡ true)
+    × (written < length answer) × Appends (contents (inner_of writer)) (contents (inner_of writer')) (take written answer)
+    × (has_failed writer' ≡ true)

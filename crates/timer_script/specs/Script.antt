@@ -18,10 +18,12 @@ IsInRange Close = Unit {0}
 
 -- a line: words and numbers with one space between them, and a line feed
 unfoldable pub line : Event → List ℕ
-line (Start client number interval action) = codes "start " ++ decimal client ++ codes " " ++ decimal number ++ codes " " ++ decimal interval ++ codes " " ++ decimal action ++ codes "\n"
+line (Start client number interval action) =
+    codes "start " ++ decimal client ++ codes " " ++ decimal number ++ codes " " ++ decimal interval ++ codes " " ++ decimal action ++ codes "\n"
 line (Stop client number serial) = codes "stop " ++ decimal client ++ codes " " ++ decimal number ++ codes " " ++ decimal serial ++ codes "\n"
 line (Restart client number serial interval action) =
-    codes "restart " ++ decimal client ++ codes " " ++ decimal number ++ codes " " ++ decimal serial ++ codes " " ++ decimal interval ++ codes " " ++ decimal action ++ codes "\n"
+    codes "restart " ++ decimal client ++ codes " " ++ decimal number ++ codes " " ++ decimal serial ++ codes " " ++ decimal interval
+    ++ codes " " ++ decimal action ++ codes "\n"
 line (Ticks count) = codes "tick " ++ decimal count ++ codes "\n"
 line Close = codes "close\n"
 

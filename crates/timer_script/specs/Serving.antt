@@ -121,13 +121,16 @@ serve_fault sessions.Ended = faults.OutOfMemory
 -- why a turn failed
 abbrev pub StopsTurn : ServeFault → SessionState → PeerState → PeerState → SessionState → Type 0
 -- a read failed, and all that came before it is answered
-StopsTurn faults.Read old peer peer' new = HasPassed old peer peer' new [] [] true × IsAnsweredSoFar new × (peer'.read_failed ≡ true) × (peer'.write_failed ≡ false)
+StopsTurn faults.Read old peer peer' new =
+    HasPassed old peer peer' new [] [] true × IsAnsweredSoFar new × (peer'.read_failed ≡ true) × (peer'.write_failed ≡ false)
 -- a line is bad whatever follows, and all lines before it are answered
 StopsTurn (faults.Bad n) old peer peer' new = (unfed : List ℕ) × HasPassed old peer peer' new unfed [] true × HasFailed n new × AreGood peer'
 -- out of memory: all the text so far was written
 StopsTurn faults.OutOfMemory old peer peer' new = (unfed : List ℕ) × HasPassed old peer peer' new unfed [] true × AreGood peer'
 -- a write failed
-StopsTurn faults.Write old peer peer' new = (unfed unsent : List ℕ) × (flushed : Bool) × HasPassed old peer peer' new unfed unsent flushed × (peer'.read_failed ≡ false) × (peer'.write_failed ≡ true)
+StopsTurn faults.Write old peer peer' new =
+    (unfed unsent : List ℕ) × (flushed : Bool) × HasPassed old peer peer' new unfed unsent flushed × (peer'.read_failed ≡ false)
+    × (peer'.write_failed ≡ true)
 StopsTurn faults.TooLong old peer peer' new = ⊥
 
 -- the end line of a session
@@ -153,19 +156,25 @@ pub record HasAnsweredAll (before : FacilityState) (peer peer' : PeerState) (byt
 -- was read
 abbrev pub HasServed : FacilityState → PeerState → PeerState → Result Unit ServeFault → Type 0
 -- the whole answer was written and flushed, and nothing else
-HasServed before peer peer' (Ok u) = (bytes answer : List ℕ) × HasAnsweredAll before peer peer' bytes answer × HasTalked (fresh before) peer peer' bytes answer true × AreGood peer'
+HasServed before peer peer' (Ok u) =
+    (bytes answer : List ℕ) × HasAnsweredAll before peer peer' bytes answer × HasTalked (fresh before) peer peer' bytes answer true × AreGood peer'
 -- a read failed, and each complete line that came is answered
 HasServed before peer peer' (Err faults.Read) =
-    (s : SessionState) × HasPassed (fresh before) peer peer' s [] [] true × IsAnsweredSoFar s × (peer'.read_failed ≡ true) × (peer'.write_failed ≡ false)
+    (s : SessionState) × HasPassed (fresh before) peer peer' s [] [] true × IsAnsweredSoFar s × (peer'.read_failed ≡ true)
+    × (peer'.write_failed ≡ false)
 -- the n-th line is the first bad one, each line before it is answered, and nothing else was written
-HasServed before peer peer' (Err (faults.Bad n)) = (bytes text : List ℕ) × IsStoppedAt before bytes text n × HasTalked (fresh before) peer peer' bytes text true × AreGood peer'
+HasServed before peer peer' (Err (faults.Bad n)) =
+    (bytes text : List ℕ) × IsStoppedAt before bytes text n × HasTalked (fresh before) peer peer' bytes text true × AreGood peer'
 -- out of memory: all the text so far was written
-HasServed before peer peer' (Err faults.OutOfMemory) = (s : SessionState) × (unfed : List ℕ) × HasPassed (fresh before) peer peer' s unfed [] true × AreGood peer'
+HasServed before peer peer' (Err faults.OutOfMemory) =
+    (s : SessionState) × (unfed : List ℕ) × HasPassed (fresh before) peer peer' s unfed [] true × AreGood peer'
 -- a write failed: a prefix of the answers was written, or of the whole answer
 HasServed before peer peer' (Err faults.Write) =
     (((s : SessionState) × (unfed unsent : List ℕ) × (flushed : Bool) × HasPassed (fresh before) peer peer' s unfed unsent flushed)
-    ⊎ ((bytes answer : List ℕ) × (k : ℕ) × (flushed : Bool) × HasAnsweredAll before peer peer' bytes answer × (k ≤ length answer) × HasTalked (fresh before) peer peer' bytes (take k answer) flushed))
+    ⊎ ((bytes answer : List ℕ) × (k : ℕ) × (flushed : Bool) × HasAnsweredAll before peer peer' bytes answer
+    × (k ≤ length answer) × HasTalked (fresh before) peer peer' bytes (take k answer) flushed))
     × (peer'.read_failed ≡ false) × (peer'.write_failed ≡ true)
 -- more bytes came than a u64 counts, and each complete line of them is answered
 HasServed before peer peer' (Err faults.TooLong) =
-    (s : SessionState) × (passed : HasPassed (fresh before) peer peer' s [] [] true) × (2 ^ 64 - 1 ≤ length passed.bytes) × IsAnsweredSoFar s × AreGood peer'
+    (s : SessionState) × (passed : HasPassed (fresh before) peer peer' s [] [] true) × (2 ^ 64 - 1 ≤ length passed.bytes)
+    × IsAnsweredSoFar s × AreGood peer'

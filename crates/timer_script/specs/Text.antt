@@ -40,9 +40,11 @@ numbers all = flat_map (λ n. 32 ∷ decimal n) all
 
 -- the line of an out, with its line feed
 abbrev pub out_line : Out → List ℕ
-out_line (out.Answered client number (Started handle deadline)) = codes "started" ++ numbers (client ∷ number ∷ handle.serial ∷ deadline ∷ []) ++ codes "\n"
+out_line (out.Answered client number (Started handle deadline)) =
+    codes "started" ++ numbers (client ∷ number ∷ handle.serial ∷ deadline ∷ []) ++ codes "\n"
 out_line (out.Answered client number (Stopped serial)) = codes "stopped" ++ numbers (client ∷ number ∷ serial ∷ []) ++ codes "\n"
-out_line (out.Answered client number (Restarted handle deadline old)) = codes "restarted" ++ numbers (client ∷ number ∷ old ∷ handle.serial ∷ deadline ∷ []) ++ codes "\n"
+out_line (out.Answered client number (Restarted handle deadline old)) =
+    codes "restarted" ++ numbers (client ∷ number ∷ old ∷ handle.serial ∷ deadline ∷ []) ++ codes "\n"
 out_line (out.Answered client number (Refused why)) = codes "refused" ++ numbers (client ∷ number ∷ []) ++ codes " " ++ reason_word why ++ codes "\n"
 out_line (out.NotTaken client number why) = codes "refused" ++ numbers (client ∷ number ∷ []) ++ codes " " ++ refusal_word why ++ codes "\n"
 out_line (out.Notice (Expired t)) = codes "expired" ++ numbers (t.deadline ∷ t.client ∷ t.serial ∷ t.action ∷ []) ++ codes "\n"

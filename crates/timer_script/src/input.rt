@@ -33,10 +33,12 @@ fn read_once<R: Read>(
 ) -> Result<usize, RunFault>
     requires good { reader.old.failed ≡ false }
     requires room { 0 < length piece.old }
-    ensures ok { IfOk result (λ n. HasRead (R.remaining reader.old.inner) (R.remaining reader.new.inner) reader.new.failed bytes.old.items bytes.new.items n) }
+    ensures ok { IfOk result (λ n. HasRead (R.remaining reader.old.inner) (R.remaining reader.new.inner) reader.new.failed
+        bytes.old.items bytes.new.items n) }
     ensures within { IfOk result (λ n. n ≤ length piece.old) }
     ensures len { IfOk result (λ n. vec_len bytes.new ≡ vec_len bytes.old + n) }
-    ensures fault { IfErr result (λ fault. FailsToRead fault (length piece.old) (R.remaining reader.old.inner) (R.remaining reader.new.inner) reader.new.failed) }
+    ensures fault { IfErr result (λ fault. FailsToRead fault (length piece.old)
+        (R.remaining reader.old.inner) (R.remaining reader.new.inner) reader.new.failed) }
 {
     let Ok(n) = reader.read(piece) else {
         return Err(RunFault::Read);

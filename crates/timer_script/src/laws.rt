@@ -12,7 +12,7 @@ ghost use Rattle.timer_script.specs.declared.fault.SessionFault.TheVariants.{Bad
 ghost use Rattle.timer_script.specs.Session.{SessionState, fresh, HasFed, HasFailed, WhyNotEnded, IsStoppedAt};
 ghost use Rattle.timer_script.specs.Text.{end_line};
 
-use timer_facility::players_give_the_same;
+use timer_facility::laws::players_give_the_same;
 
 /// The limits that the definitions name, as numbers.
 pub fn limits()

@@ -17,7 +17,7 @@ mod answer;
 mod cutting;
 mod fault;
 mod input;
-mod laws;
+pub mod laws;
 mod lines;
 mod output;
 mod peer;
@@ -33,10 +33,6 @@ mod watched;
 pub use answer::answer_of;
 pub use fault::{RunFault, ScriptFault, ServeFault, SessionFault};
 pub use input::MOST_BYTES;
-pub use laws::{
-    a_session_answers_as_a_run, a_session_stops_at_the_first_bad_line,
-    each_wheel_gives_the_same_text, limits, one_bad_line, one_spelling, pieces_join,
-};
 pub use lines::MOST_TICKS;
 pub use output::write_text;
 pub use peer::Peer;

@@ -17,7 +17,8 @@ pub fn write_text<S: Write>(writer: &mut Watched<S>, text: &[u8]) -> Result<(), 
     requires { has_failed writer.old ≡ false }
     ensures ok { OnOk result (Appends (S.contents (inner_of writer.old)) (S.contents (inner_of writer.new)) text.now) }
     ensures good { OnOk result (has_failed writer.new ≡ false) }
-    ensures fault { IfErr result (λ fault. StopsWriting fault (S.contents (inner_of writer.old)) (S.contents (inner_of writer.new)) (has_failed writer.new) text.now) }
+    ensures fault { IfErr result (λ fault. StopsWriting fault (S.contents (inner_of writer.old)) (S.contents (inner_of writer.new))
+        (has_failed writer.new) text.now) }
 {
     let mut written = 0;
     while written < text.len() {

@@ -124,7 +124,8 @@ impl<W: Wheel + Drop> Session<W> {
     /// Fails with `Bad` after a bad line, and where a line is incomplete, which then stays held. After
     /// `OutOfMemory` nothing is lost, and the call may be repeated.
     pub fn end(&mut self, text: &mut Vec<u8>) -> Result<(), SessionFault>
-        ensures text { OnOk result (text.new.items ≡ text.old.items ++ lines_of self.old.unwritten ++ end_line self.old.state.now (length self.old.state.pending)) }
+        ensures text { OnOk result (text.new.items ≡ text.old.items ++ lines_of self.old.unwritten
+            ++ end_line self.old.state.now (length self.old.state.pending)) }
         ensures whole { OnOk result (self.old.held ≡ []) }
         ensures going { OnOk result (self.old.stage ≡ Stage.Going) }
         ensures ended { OnOk result (self.new ≡ record self.old { unwritten = []; stage = Stage.Ended }) }
