@@ -1,3 +1,3 @@
 pub mod Lists
 pub mod Ring
-pub mod Linked
+pub mod Links

@@ -7,7 +7,7 @@ use Rattle.timer_base.specs.declared.timer.Handle.{Handle}
 use Rattle.timer_base.specs.TickLaws.{after_ticks-serial}
 use Rattle.timer_base.specs.WheelState.{WheelState, timer_at, Advances}
 use Rattle.timer_links.specs.declared.node.Node.{Node}
-use Rattle.timer_links.specs.Lists.{list_at, without_key, only, AreApart, TellsEmptied}
+use Rattle.timer_links.specs.Lists.{list_at, without_key, list_if_alone, AreApart, IsAloneIn}
 use Rattle.timer_wheels.specs.declared.buckets.Buckets.{Buckets}
 use Rattle.timer_wheels.specs.Buckets.{state_of}
 use Rattle.timer_wheels.specs.Digits.{slots}
@@ -37,7 +37,7 @@ kept_filled n words words2 l rows lists new h b was now e c t = (
 )
 
 taken_out : (n : ℕ) (words words2 : List ℕ) (key l : ℕ) (node : Node) (front rest : List (ℕ × Node)) (lists new : List (List (ℕ × Node))) → l < n → l < length lists → list_at l lists ≡ front ++ (key, node) ∷ rest → new ≡ slice_set lists l (front ++ rest)
-    → Clears (only l front rest) words words2 → Tells n words lists → Tells n words2 new
+    → Clears (list_if_alone l front rest) words words2 → Tells n words lists → Tells n words2 new
 taken_out n words words2 key l node [] [] lists new h b at e c t = (
   (λ (s : ℕ) (k : s < n). elim (cases_eq s l) [
     | inl q ↦ ap (bit_of words2) q ∙ (c.0 ∙ sym (ap (λ (y : List (List (ℕ × Node))). filled (list_at s y)) e ∙ (ap (λ (v : ℕ). filled (list_at v (slice_set lists l []))) q ∙ ap filled (get_or-set_same lists l [] [] b))))
@@ -48,7 +48,7 @@ taken_out n words words2 key l node [] [] lists new h b at e c t = (
 taken_out n words words2 key l node [] (x ∷ xs) lists new h b at e c t = kept_filled n words words2 l (x ∷ xs) lists new h b (ap filled at) refl e c t
 taken_out n words words2 key l node (x ∷ xs) rest lists new h b at e c t = kept_filled n words words2 l (x ∷ (xs ++ rest)) lists new h b (ap filled at) refl e c t
 
-only_in : (l : ℕ) (front rest : List (ℕ × Node)) → l < 640 → MatchOption (only l front rest) (Unit {0}) (λ l. l < 640)
+only_in : (l : ℕ) (front rest : List (ℕ × Node)) → l < 640 → MatchOption (list_if_alone l front rest) (Unit {0}) (λ l. l < 640)
 only_in l [] [] h = h
 only_in l [] (x ∷ xs) h = tt
 only_in l (x ∷ xs) rest h = tt
@@ -69,20 +69,20 @@ module _ (t : Table) (b : Buckets) (words : List ℕ) (h : IsHier t b words) (ap
       omega arith
 
   -- the bits after a stop
-  told_at : (key : ℕ) (node : Node) (emptied : Option ℕ) (words2 : List ℕ) → b.tick < node.timer.deadline → StandsIn key node b.links → TellsEmptied key b.links emptied → Clears emptied words words2 → Tells b.slots words2 (map (without_key key) b.links)
+  told_at : (key : ℕ) (node : Node) (emptied : Option ℕ) (words2 : List ℕ) → b.tick < node.timer.deadline → StandsIn key node b.links → IsAloneIn key b.links emptied → Clears emptied words words2 → Tells b.slots words2 (map (without_key key) b.links)
   told_at key node emptied words2 later s e c =
       let w = was_in_slots key node later s in
       let P : Option ℕ → Type 0 = λ o. Clears o words words2 in
       taken_out b.slots words words2 key s.l node s.front s.rest b.links (map (without_key key) b.links) w s.in_range s.at (apart s.l s.front (key, node) s.rest s.in_range s.at).1
       (subst P (e s.l s.front node s.rest s.in_range s.at) c) h.told
 
-  emptied_at : (key : ℕ) (node : Node) (emptied : Option ℕ) → b.tick < node.timer.deadline → StandsIn key node b.links → TellsEmptied key b.links emptied → MatchOption emptied (Unit {0}) (λ l. l < 640)
+  emptied_at : (key : ℕ) (node : Node) (emptied : Option ℕ) → b.tick < node.timer.deadline → StandsIn key node b.links → IsAloneIn key b.links emptied → MatchOption emptied (Unit {0}) (λ l. l < 640)
   emptied_at key node emptied later s e = let P : Option ℕ → Type 0 = λ o. MatchOption o (Unit {0}) (λ l. l < 640) in subst P (sym (e s.l s.front node s.rest s.in_range s.at)) (only_in s.l s.front s.rest (let k : s.l < b.slots = was_in_slots key node later s in let x : b.slots ≡ slots (radices t) = h.has_slots in let y : slots (radices t) ≤ 640 = (of_table t).few_slots in omega arith))
 
-  pub told_after : (handle : Handle) (timer : Timer) (emptied : Option ℕ) (words2 : List ℕ) → timer_at handle (state_of b) ≡ Some timer → TellsEmptied handle.place b.links emptied → Clears emptied words words2 → Tells b.slots words2 (map (without_key handle.place) b.links)
+  pub told_after : (handle : Handle) (timer : Timer) (emptied : Option ℕ) (words2 : List ℕ) → timer_at handle (state_of b) ≡ Some timer → IsAloneIn handle.place b.links emptied → Clears emptied words words2 → Tells b.slots words2 (map (without_key handle.place) b.links)
   told_after handle timer emptied words2 q e c = let f = look-has b.tick b.slots handle b.links b.has_lists parts apart timer b.distinct q in told_at handle.place f.node emptied words2 f.later (stands_in handle.place f.node b.links f.at) e c
 
-  pub emptied_in : (handle : Handle) (timer : Timer) (emptied : Option ℕ) → timer_at handle (state_of b) ≡ Some timer → TellsEmptied handle.place b.links emptied → MatchOption emptied (Unit {0}) (λ l. l < 640)
+  pub emptied_in : (handle : Handle) (timer : Timer) (emptied : Option ℕ) → timer_at handle (state_of b) ≡ Some timer → IsAloneIn handle.place b.links emptied → MatchOption emptied (Unit {0}) (λ l. l < 640)
   emptied_in handle timer emptied q e = let f = look-has b.tick b.slots handle b.links b.has_lists parts apart timer b.distinct q in emptied_at handle.place f.node emptied f.later (stands_in handle.place f.node b.links f.at) e
 
   -- the links of the buckets after a stop

@@ -1,12 +1,12 @@
--- The rings after the joins of each call.
+-- The rings after `join` and `join_last`: a place is removed from a ring, added at its back, or a ring is appended.
 use Rattle.std.proofs.Common.{◌≡◌, ◌≢◌, ◌<◌, ◌+◌, ℕ, List, [], ◌∷◌, ◌++◌, length, refl, sym, ◌∙◌, ap, subst, inl, inr, arith, length-set, get_or-set_same, get_or-set_other}
 use Rattle.std.specs.Prelude.{slice_set}
 use Rattle.std.proofs.lemmas.Bool.{cases_eq}
 use Rattle.timer_links.specs.declared.node.Node.{Node}
 use Rattle.timer_links.specs.declared.ring.Sides.{Sides}
 use Rattle.timer_links.specs.Lists.{list_at, with_row, appended}
-use Rattle.timer_links.specs.Ring.{sides_at, Meet, IsChain, Joins, JoinsLast}
-use Rattle.timer_links.specs.Linked.{places, AreRings}
+use Rattle.timer_links.specs.Ring.{sides_at, AreJoined, IsChain, Joins, JoinsLast}
+use Rattle.timer_links.specs.Links.{places, AreRings}
 use Rattle.timer_links.proofs.Chains.{In, IsApart, last, last_in, last_not_start, last_push, last_on, starts_in, starts_ring, in_either, in_ring, apart_push, apart_both, glue, Halves, halves, kept, ring_kept, extended}
 use Rattle.timer_links.proofs.Rows.{Has, IsDistinct, has_left, has_right, has_in, distinct_parts}
 use Rattle.timer_links.proofs.Rings.{has_place, place_in, root_not, key_at, places_apart, places_both, ring_both, chain_as, distinct, elsewhere, ring_apart, ring_here, distinct_here, rings_set}
@@ -17,7 +17,7 @@ joins_as s u a b f g e i j =
     let Q : ℕ → Type 0 = λ x. Joins f x s u in
     subst Q i (subst P e j)
 
-met : (s u : List Sides) (f b : ℕ) → Joins f b s u → Meet u f b
+met : (s u : List Sides) (f b : ℕ) → Joins f b s u → AreJoined u f b
 met s u f b j = record { forth = j.forth; back_to = j.back_to }
 
 -- the place of the first row, or the root

@@ -1,4 +1,4 @@
--- A node is replaced by another.
+-- Lemmas for `set_node` and `set_rounds`: the node under a key is replaced by another.
 use Rattle.std.proofs.Common.{◌≡◌, ◌≢◌, ◌<◌, ◌+◌, ℕ, zero, suc, List, [], ◌∷◌, ◌++◌, length, refl, sym, ◌∙◌, ap, inl, inr, arith, length-set, get_or-set_same, get_or-set_other}
 use Rattle.std.specs.Prelude.{Option, Some, None, IsSome, is_some, count_by, slice_set, slice_index_or}
 use Rattle.std.specs.List.{fold}
@@ -8,10 +8,10 @@ use Rattle.slab.specs.Slab.{Slab, get, slab_len, with_value, ContainsKey}
 use Rattle.timer_links.specs.declared.node.Node.{Node}
 use Rattle.timer_links.specs.declared.ring.Sides.{Sides}
 use Rattle.timer_links.specs.Lists.{node_in, node_at, list_at, row_count}
-use Rattle.timer_links.specs.Linked.{places, IsLinked}
+use Rattle.timer_links.specs.Links.{places, IsLinked}
 use Rattle.timer_links.proofs.Rows.{none_is, length_split, row_count-set, same_node}
 use Rattle.timer_links.proofs.Rings.{rings_set, chain_as, node_at-here}
-use Rattle.timer_links.proofs.Calls.{low, some_is}
+use Rattle.timer_links.proofs.LinksCalls.{low, some_is}
 
 slot_below : (slots : List (Option Node)) (key : ℕ) → IsSome (slice_index_or slots key None) → key < length slots
 slot_below [] key i = absurd (none_is i)

@@ -1,6 +1,6 @@
-use Rattle.timer_links.proofs.Linked.{opened}
-use Rattle.timer_links.proofs.Fronts.{first_used}
-use Rattle.timer_links.proofs.links.Links.first.Goals as goal
+use Rattle.timer_links.proofs.UniqueLists.{opened}
+use Rattle.timer_links.proofs.PopFront.{first_used}
+use Rattle.timer_links.proofs.links.Links.used_front.Goals as goal
 
 pub returns-clause-used : goal.returns-clause-used
 returns-clause-used c =

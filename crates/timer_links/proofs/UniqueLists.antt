@@ -1,4 +1,4 @@
--- The lists that nodes and sides represent are unique.
+-- The nodes and links represent one value alone: whatever lists satisfy `IsLinked` are `lists_of`.
 use Rattle.std.proofs.Common.{◌≡◌, ◌<◌, ◌≤◌, ◌+◌, ℕ, zero, suc, true, false, List, [], ◌∷◌, ◌++◌, length, refl, sym, ◌∙◌, ap, subst, arith, Vec}
 use Rattle.std.specs.Prelude.{Some, None, nat_lt, ◌-◌}
 use Rattle.std.proofs.lemmas.Bool.Decides.{nat_tests}
@@ -11,7 +11,7 @@ use Rattle.timer_links.specs.declared.ring.Sides.{Sides}
 use Rattle.timer_links.specs.declared.links.Links.TheInside.{Inside}
 use Rattle.timer_links.specs.Lists.{list_at, row_count}
 use Rattle.timer_links.specs.Ring.{sides_at, key_of, IsChain}
-use Rattle.timer_links.specs.Linked.{places, walk, lists_of, IsLinked}
+use Rattle.timer_links.specs.Links.{places, walk, lists_of, IsLinked}
 use Rattle.timer_links.proofs.Rows.{length_list_at}
 use Rattle.timer_links.proofs.Rings.{node_at-here}
 

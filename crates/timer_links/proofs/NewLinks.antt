@@ -1,4 +1,4 @@
--- The representation of new lists.
+-- Lemmas for `new`: the representation of empty lists.
 use Rattle.std.proofs.Common.{◌≡◌, ◌<◌, ◌≤◌, ◌+◌, ℕ, zero, suc, List, [], ◌∷◌, ◌++◌, length, refl, sym, ◌∙◌, ap, subst, inl, inr, arith, length-append}
 use Rattle.std.specs.Prelude.{replicate, None}
 use Rattle.std.proofs.lemmas.Bool.{cases_eq}
@@ -8,7 +8,7 @@ use Rattle.timer_links.specs.declared.node.Node.{Node}
 use Rattle.timer_links.specs.declared.ring.Sides.{Sides}
 use Rattle.timer_links.specs.Lists.{list_at, row_count}
 use Rattle.timer_links.specs.Ring.{sides_at}
-use Rattle.timer_links.specs.Linked.{IsLinked}
+use Rattle.timer_links.specs.Links.{IsLinked}
 use Rattle.timer_links.proofs.Rows.{none_is, node_at-none}
 
 -- these are the roots of that many empty lists

@@ -1,4 +1,4 @@
--- How nodes and sides represent lists. No public clause cites this file.
+-- How `Links` represents its lists by nodes and links: its invariant. No public clause cites this file.
 use Rattle.std.specs.Prelude.{◌≡◌, ℕ, ◌+◌, ◌<◌, ◌≤◌, zero, suc, List, [], ◌∷◌, ◌++◌, length, map, Option, Some, None}
 use Rattle.std.specs.List.{range_with_len}
 use Rattle.slab.specs.Slab.{Slab, get, slab_len, ContainsKey}
@@ -22,7 +22,7 @@ abbrev pub walk : ℕ → ℕ → Slab Node → List Sides → ℕ → List (ℕ
 walk zero lists nodes sides place = []
 walk (suc n) lists nodes sides place = rows_of nodes (key_of lists place) (walk n lists nodes sides (sides_at sides place).after)
 
--- the lists, each walked from behind its root
+-- the lists, each walked from the place after its root
 abbrev pub lists_of : ℕ → Slab Node → List Sides → List (List (ℕ × Node))
 lists_of lists nodes sides = map (λ root. walk (slab_len nodes) lists nodes sides (sides_at sides root).after) (range_with_len 0 lists)
 

@@ -1,4 +1,4 @@
--- The first row of a list is removed, or moves.
+-- Lemmas for `pop_front` and `move_front`: the first row of a list is removed, or moves.
 use Rattle.std.proofs.Common.{◌≡◌, ◌<◌, ◌+◌, ℕ, List, [], ◌∷◌, length, sym, ◌∙◌, ap, subst}
 use Rattle.std.specs.Prelude.{map, Option, Some, None, IfSome, IsSome, slice_set}
 use Rattle.slab.specs.Slab.{Slab, get, ContainsKey}
@@ -6,11 +6,11 @@ use Rattle.timer_links.specs.declared.node.Node.{Node}
 use Rattle.timer_links.specs.declared.ring.Sides.{Sides}
 use Rattle.timer_links.specs.Lists.{node_at, first_key, list_at, without_key, with_row, moved_back, front_moved, first_row_moved}
 use Rattle.timer_links.specs.Ring.{sides_at, Joins}
-use Rattle.timer_links.specs.Linked.{IsLinked}
+use Rattle.timer_links.specs.Links.{IsLinked}
 use Rattle.timer_links.proofs.Rows.{same_node}
 use Rattle.timer_links.proofs.Rings.{node_at-here, without_is}
-use Rattle.timer_links.proofs.Moves.{joins_as, before_is}
-use Rattle.timer_links.proofs.Calls.{low, some_is}
+use Rattle.timer_links.proofs.RingJoins.{joins_as, before_is}
+use Rattle.timer_links.proofs.LinksCalls.{low, some_is}
 
 same_key : (a b : ℕ) → Some a ≡ Some b → a ≡ b
 same_key a b h = cc

@@ -1,4 +1,4 @@
--- The lists that nodes and sides represent, after each call of `Links`.
+-- Lemmas shared by the calls of `Links`: the representation after a node is added, removed or moved.
 use Rattle.std.proofs.Common.{◌≡◌, ◌<◌, ◌≤◌, ◌+◌, ℕ, List, [], ◌∷◌, ◌++◌, length, refl, sym, ◌∙◌, ap, subst, inl, inr, arith, length-set, length-append}
 use Rattle.std.specs.Prelude.{false, IsTrue, map, Option, Some, None, IsSome, slice_set, slice_index_or}
 use Rattle.std.proofs.lemmas.Bool.{cases_eq}
@@ -8,14 +8,14 @@ use Rattle.timer_links.specs.declared.node.Node.{Node}
 use Rattle.timer_links.specs.declared.ring.Sides.{Sides}
 use Rattle.timer_links.specs.declared.ring.TheConstants.{PLACES}
 use Rattle.timer_links.specs.Lists.{node_at, first_key, list_at, row_count, without_key, with_row, moved_back}
-use Rattle.timer_links.specs.Ring.{sides_at, key_of, Joins, JoinsLast, IsLonger}
-use Rattle.timer_links.specs.Linked.{places, AreRings, IsLinked}
+use Rattle.timer_links.specs.Ring.{sides_at, key_of, Joins, JoinsLast, IsGrown}
+use Rattle.timer_links.specs.Links.{places, AreRings, IsLinked}
 use Rattle.timer_links.proofs.Chains.{In, last, last_in, chain_same}
 use Rattle.timer_links.proofs.Rows.{Has, split_at, length_split, none_is, some_none, Found, found, map_each, without_absent, row_count-set}
 use Rattle.timer_links.proofs.NodeAt.{without_this, without_other, push_this, push_other}
 use Rattle.timer_links.proofs.Rings.{key_at, node_at-here, without_is}
-use Rattle.timer_links.proofs.Moves.{joins_as, first, first_is, before_is, after_is, last_here, first_here, detached, back_is, attached}
-use Rattle.timer_links.proofs.Linked.{root_low, key_high}
+use Rattle.timer_links.proofs.RingJoins.{joins_as, first, first_is, before_is, after_is, last_here, first_here, detached, back_is, attached}
+use Rattle.timer_links.proofs.UniqueLists.{root_low, key_high}
 
 -- the node of a key in use
 pub record Held (o : Option Node) : Type 0 where
@@ -172,7 +172,7 @@ moved n nodes s t u v key l node h g d j jl =
     }
 
 -- more places change nothing
-pub grown : (n : ℕ) (nodes : Slab Node) (s t : List Sides) (v : List (List (ℕ × Node))) → IsLinked n nodes s v → IsLonger s t → length t ≤ PLACES → IsLinked n nodes t v
+pub grown : (n : ℕ) (nodes : Slab Node) (s t : List Sides) (v : List (List (ℕ × Node))) → IsLinked n nodes s v → IsGrown s t → length t ≤ PLACES → IsLinked n nodes t v
 grown n nodes s t v h g f =
     let more : length s ≤ length t = g.longer in
     record {
