@@ -235,12 +235,12 @@ abbrev pub AreLater : ℕ → List (ℕ × Node) → Type 0
 AreLater now rows = AllByRecursion (λ row. now < (timer_in row).deadline) rows
 
 -- the rows of the first n lists are after the tick, and those of the next list are not
-pub record IsParted (now n : ℕ) (lists : List (List (ℕ × Node))) : Type 0 where
+pub record IsSeparated (now n : ℕ) (lists : List (List (ℕ × Node))) : Type 0 where
   pub later : AreLater now (rows_below n lists)
   pub past : ArePast now (list_at n lists)
 
-pub parted : (last_tick now last n : ℕ) (lists : List (List (ℕ × Node))) → ArePending last_tick now last (rows_below n lists) → ArePast now (list_at n lists) → IsParted now n lists
-parted last_tick now last n lists p q = record {
+pub separated : (last_tick now last n : ℕ) (lists : List (List (ℕ × Node))) → ArePending last_tick now last (rows_below n lists) → ArePast now (list_at n lists) → IsSeparated now n lists
+separated last_tick now last n lists p q = record {
   later = All-weaken (λ row. IsPending last_tick now last (timer_in row)) (λ row. now < (timer_in row).deadline) (rows_below n lists) (λ row r. r.later) p;
   past = q;
 }
@@ -268,7 +268,7 @@ pending_part now key node None due a h e = absurd (not_past now key node due a h
 pending_part now key node (Some n) due a h e = e
 
 -- it stands among the pending ones
-pending_there : (now n key : ℕ) (node : Node) (lists : List (List (ℕ × Node))) → length lists ≡ n + 1 → IsParted now n lists → now < node.timer.deadline → node_at key lists ≡ Some node → node_in key (rows_below n lists) ≡ Some node
+pending_there : (now n key : ℕ) (node : Node) (lists : List (List (ℕ × Node))) → length lists ≡ n + 1 → IsSeparated now n lists → now < node.timer.deadline → node_at key lists ≡ Some node → node_in key (rows_below n lists) ≡ Some node
 pending_there now n key node lists len p h e = pending_part now key node (node_in key (rows_below n lists)) (list_at n lists) p.past h (sym (node_at-parts n key lists len) ∙ e)
 
 -- so none of the due ones goes with it
@@ -406,7 +406,7 @@ same_part key node (x ∷ xs) a e d = elim (cases_eq x.0 key) [
       same_there key node x xs d.0 k f (same_part key node xs a.1 f d.1)
 ]
 
-pub stopped : (n last_tick now last key : ℕ) (node : Node) (lists : List (List (ℕ × Node))) → length lists ≡ n + 1 → IsParted now n lists → AreApart lists → now < node.timer.deadline → node_at key lists ≡ Some node → AreDistinct (timers_in (rows_below n lists))
+pub stopped : (n last_tick now last key : ℕ) (node : Node) (lists : List (List (ℕ × Node))) → length lists ≡ n + 1 → IsSeparated now n lists → AreApart lists → now < node.timer.deadline → node_at key lists ≡ Some node → AreDistinct (timers_in (rows_below n lists))
     → wheel_state n last_tick now last (map (without_key key) lists) ≡ (let w : WheelState = wheel_state n last_tick now last lists in record w { pending = without_found (Some node.timer) w.pending })
 stopped n last_tick now last key node lists len p apart h e d =
     let rows : List (ℕ × Node) = rows_below n lists in
@@ -451,7 +451,7 @@ no_timer t e = cc
 same_timer : (a b : Timer) → Some a ≡ Some b → a ≡ b
 same_timer a b e = cc
 
-module _ (now n : ℕ) (handle : Handle) (lists : List (List (ℕ × Node))) (len : length lists ≡ n + 1) (p : IsParted now n lists) (apart : AreApart lists) where
+module _ (now n : ℕ) (handle : Handle) (lists : List (List (ℕ × Node))) (len : length lists ≡ n + 1) (p : IsSeparated now n lists) (apart : AreApart lists) where
   each_has : (found : Option Node) → node_at handle.place lists ≡ found → AllByRecursion (HasNode handle.place found) (rows_below n lists)
   each_has found e = subst (λ (o : Option Node). AllByRecursion (HasNode handle.place o) (rows_below n lists)) e (apart_rows n handle.place lists (omega arith) apart)
 

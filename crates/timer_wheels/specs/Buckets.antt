@@ -1,5 +1,6 @@
 -- The wheel state of the buckets, the clock and the last serial together.
-use Rattle.std.specs.Prelude.{◌≡◌}
+use Rattle.std.specs.Prelude.{◌≡◌, ℕ, Option, Some, None}
+use Rattle.timer_base.specs.declared.timer.Timer.{Timer}
 use Rattle.timer_base.specs.WheelState.{WheelState, IsWellFormed}
 use Rattle.timer_wheels.specs.declared.buckets.Buckets.{Buckets}
 use Rattle.timer_wheels.specs.WheelLists.{wheel_state}
@@ -14,6 +15,11 @@ pub record IsSameFrame (old new : Buckets) : Type 0 where
   pub last_tick : new.last_tick ≡ old.last_tick
   pub tick : new.tick ≡ old.tick
   pub slots : new.slots ≡ old.slots
+
+-- the timer that was removed, if one was found
+abbrev pub taken_timer : Option (Timer × Option ℕ) → Option Timer
+taken_timer None = None
+taken_timer (Some r) = Some r.0
 
 -- the invariant of the buckets implies that of every wheel
 pub state_of-well_formed : (buckets : Buckets) → IsWellFormed (state_of buckets)

@@ -3,7 +3,7 @@ use Rattle.std.specs.Prelude.{◌≡◌, ℕ, List}
 use Rattle.timer_wheels.specs.declared.buckets.Buckets.{Buckets}
 use Rattle.timer_wheels.specs.declared.table.Table.{Table}
 use Rattle.timer_wheels.specs.Digits.{slots, last_of}
-use Rattle.timer_wheels.specs.Occupied.{Tells}
+use Rattle.timer_wheels.specs.Occupied.{AreMarked}
 use Rattle.timer_wheels.specs.Placement.{IsPlaced}
 use Rattle.timer_wheels.specs.Tables.{radices}
 use Rattle.timer_wheels.specs.WheelLists.{EachRow}
@@ -14,4 +14,4 @@ pub record IsHier (table : Table) (b : Buckets) (words : List ℕ) : Type 0 wher
   -- each timer stands in its bucket
   pub placed : EachRow (IsPlaced (radices table) b.tick) b.slots b.links
   -- the bits mark which buckets have timers
-  pub told : Tells b.slots words b.links
+  pub marked : AreMarked b.slots words b.links

@@ -21,7 +21,6 @@ ghost use Rattle.std.specs.Prelude.{◌≡◌, ◌⊎◌, ◌<◌, ◌≤◌, �
 ghost use Rattle.timer_base.specs.declared.limits.TheConstants.{LAST};
 ghost use Rattle.timer_base.specs.WheelState.{empty_wheel, first_due, timer_at, after_start, after_stop, after_tick, after_expiry, after_clear, after_restart, old_timer, Advances};
 ghost use Rattle.timer_wheels.specs.Hashed.{IsHashed, AreInBuckets, AreInBuckets-prop};
-ghost use Rattle.timer_wheels.specs.Making.{fault_of};
 
 use crate::buckets::Buckets;
 use crate::sweep::{first_visit, next_tick, slot_after};
@@ -49,7 +48,7 @@ pub struct HashedWheel {
 }
 
 impl HashedWheel {
-    ghost use Rattle.timer_wheels.specs.HashedWheel.{slots_of};
+    ghost use Rattle.timer_wheels.specs.HashedWheel.{slots_of, fault_of};
 
     /// A wheel with no timer, of 1 to 65,536 slots, at a first tick of at most `LAST`.
     ///

@@ -52,16 +52,16 @@ ghost use Rattle.timer_base.specs.declared.limits.TheConstants.{LAST};
 ghost use Rattle.timer_base.specs.WheelState.{empty_wheel, timer_at, first_due, after_start, after_stop, after_tick, after_expiry, after_clear, after_restart, old_timer, Advances};
 ghost use Rattle.timer_wheels.specs.Buckets.{state_of, state_of-well_formed};
 ghost use Rattle.timer_wheels.specs.WheelLists.{EachRow, EachRow-prop};
-ghost use Rattle.timer_wheels.specs.Digits.{slots, last_of, base};
+ghost use Rattle.timer_wheels.specs.Digits.{slots, last_of, lowest_radix};
 ghost use Rattle.timer_wheels.specs.Tables.{radices, last_of_table};
 ghost use Rattle.timer_wheels.specs.declared.table.Table.TheVariants.{Wide};
-ghost use Rattle.timer_wheels.specs.Occupied.{Tells, Tells-prop};
+ghost use Rattle.timer_wheels.specs.Occupied.{AreMarked, AreMarked-prop};
 ghost use Rattle.timer_wheels.specs.Placement.{IsPlaced, IsPlaced-prop, IsPaid, hops_of, bucket_at, no_rounds, visited_between, has_any, most_moves};
 ghost use Rattle.timer_wheels.specs.Shown.{ShowsBuckets};
 
 use crate::buckets::Buckets;
 use crate::digits::{bucket_of, buckets_of, last_tick_of};
-use crate::leap::{first_stop, pass_ticks, visits_between};
+use crate::leap::{first_visit, advance_until_due, visits_between};
 use crate::migration::next_tick;
 use crate::occupied::Occupied;
 use crate::stopping::{restart_timer, stop_timer};
@@ -110,7 +110,7 @@ pub struct HierWheel {
     ghost has_clock: { buckets.last_tick ≡ last_of (radices table) },
     // Each timer stands in its bucket.
     ghost placed: { EachRow (IsPlaced (radices table) buckets.tick) buckets.slots buckets.links } by { EachRow-prop (IsPlaced (radices table) buckets.tick) (IsPlaced-prop (radices table) buckets.tick) buckets.slots buckets.links },
-    ghost told: { Tells buckets.slots occupied buckets.links } by { Tells-prop buckets.slots occupied buckets.links },
+    ghost marked: { AreMarked buckets.slots occupied buckets.links } by { AreMarked-prop buckets.slots occupied buckets.links },
     ghost few_starts: { counts.starts ≤ buckets.last_serial },
     ghost few_visits: { counts.visits ≤ buckets.tick },
     // A start allows nine moves and each move lowers a level, so what is left to move is counted too.
@@ -304,11 +304,11 @@ impl Wheel for HierWheel {
         requires some { 0 < most }
         requires before_last { most ≤ (hier_state self.old).last_tick - (hier_state self.old).now }
         ensures advances { Advances most result (hier_state self.old) (hier_state self.new) }
-        ensures counted { counts_of self.new ≡ record (counts_of self.old) { moves = moves_of self.old + hops_of (radices (table_of self.old)) (hier_state self.old).now result (hier_state self.old).pending; visits = visits_of self.old + visited_between (base (radices (table_of self.old))) (hier_state self.old).now (hier_state self.new).now (has_any (hier_state self.new).due) } }
+        ensures counted { counts_of self.new ≡ record (counts_of self.old) { moves = moves_of self.old + hops_of (radices (table_of self.old)) (hier_state self.old).now result (hier_state self.old).pending; visits = visits_of self.old + visited_between (lowest_radix (radices (table_of self.old))) (hier_state self.old).now (hier_state self.new).now (has_any (hier_state self.new).due) } }
         ensures table { table_of self.new ≡ table_of self.old }
     {
         let first = self.buckets.tick;
-        let moves = pass_ticks(self.table, &mut self.buckets, &mut self.occupied, most);
+        let moves = advance_until_due(self.table, &mut self.buckets, &mut self.occupied, most);
         let last = self.buckets.tick;
         let visits = visits_between(self.table, first, last, self.buckets.has_due());
         let counts = &mut self.counts;
@@ -319,7 +319,7 @@ impl Wheel for HierWheel {
 
     /// The next tick at which a bucket with a timer is emptied: a timer is due then, or moves to a lower wheel.
     fn quiet_until(&self) -> Option<u64> {
-        first_stop(self.table, &self.buckets, &self.occupied)
+        first_visit(self.table, &self.buckets, &self.occupied)
     }
 
     fn expire(&mut self) -> Option<Timer>

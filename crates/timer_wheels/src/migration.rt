@@ -4,10 +4,10 @@ ghost use Rattle.std.specs.List.{AllByRecursion};
 ghost use Rattle.timer_base.specs.WheelState.{after_tick};
 ghost use Rattle.timer_links.specs.Lists.{list_at};
 ghost use Rattle.timer_wheels.specs.Buckets.{state_of};
-ghost use Rattle.timer_wheels.specs.Digits.{slots, base};
+ghost use Rattle.timer_wheels.specs.Digits.{slots, lowest_radix};
 ghost use Rattle.timer_wheels.specs.Hier.{IsHier};
 ghost use Rattle.timer_wheels.specs.Migration.{MayMigrate, IsOfTick, migrated, left_rows, first_deadline};
-ghost use Rattle.timer_wheels.specs.Occupied.{bit_of, Tells, TellsBut};
+ghost use Rattle.timer_wheels.specs.Occupied.{bit_of, AreMarked, AreMarkedBut};
 ghost use Rattle.timer_wheels.specs.Placement.{hops_of, levels_of};
 ghost use Rattle.timer_wheels.specs.Tables.{radices};
 
@@ -55,11 +55,11 @@ fn empty_bucket(
     requires lists { length links.old ≡ slots (radices table) + 1 }
     requires list { list < slots (radices table) }
     requires rows { AllByRecursion (MayMigrate (radices table) tick list) (list_at list links.old) }
-    requires lowest { list < base (radices table) → AllByRecursion (IsOfTick tick) (list_at list links.old) }
-    requires told { Tells (slots (radices table)) occupied.old links.old }
+    requires lowest { list < lowest_radix (radices table) → AllByRecursion (IsOfTick tick) (list_at list links.old) }
+    requires marked { AreMarked (slots (radices table)) occupied.old links.old }
     ensures migrated { links.new ≡ migrated (radices table) tick list links.old }
     ensures moves { result ≡ length (left_rows tick (list_at list links.old)) }
-    ensures told { Tells (slots (radices table)) occupied.new links.new }
+    ensures marked { AreMarked (slots (radices table)) occupied.new links.new }
 {
     if links.is_empty(list) {
         return 0;
@@ -69,14 +69,14 @@ fn empty_bucket(
         links.append(list, buckets_of(table));
         0
     } else {
-        empty_by_one(table, links, occupied, list, tick)
+        migrate_one_by_one(table, links, occupied, list, tick)
     }
 }
 
 /// Empties a bucket from its front, timer by timer, and returns how many went to a lower wheel.
 // Kept out of line, since a tick seldom needs it.
 #[inline(never)]
-fn empty_by_one(
+fn migrate_one_by_one(
     table: Table,
     links: &mut Links,
     occupied: &mut Occupied,
@@ -87,10 +87,10 @@ fn empty_by_one(
     requires list { list < slots (radices table) }
     requires rows { AllByRecursion (MayMigrate (radices table) tick list) (list_at list links.old) }
     requires clear { bit_of occupied.old list ≡ 0 }
-    requires told { TellsBut (slots (radices table)) list occupied.old links.old }
+    requires marked { AreMarkedBut (slots (radices table)) list occupied.old links.old }
     ensures migrated { links.new ≡ migrated (radices table) tick list links.old }
     ensures moves { result ≡ length (left_rows tick (list_at list links.old)) }
-    ensures told { Tells (slots (radices table)) occupied.new links.new }
+    ensures marked { AreMarked (slots (radices table)) occupied.new links.new }
 {
     let due = buckets_of(table);
     let mut moves = 0;

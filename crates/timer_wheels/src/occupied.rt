@@ -8,8 +8,7 @@
 //! a lower wheel comes before a higher one, and in a wheel the slots come in turn.
 ghost use Rattle.std.specs.Prelude.{◌≡◌, ◌≢◌, ◌<◌, ℕ, List, length, true, false, MatchOption};
 ghost use Rattle.timer_wheels.specs.declared.occupied.TheConstants.{BUCKETS, WORDS};
-ghost use Rattle.timer_wheels.specs.TakenOut.{Clears};
-ghost use Rattle.timer_wheels.specs.Occupied.{bit_of, IsFirstSet, IsLowestSet};
+ghost use Rattle.timer_wheels.specs.Occupied.{bit_of, IsFirstSet, IsLowestSet, Clears};
 
 use std::marker::Model;
 
