@@ -1,4 +1,4 @@
--- The lists of a hashed wheel after one tick.
+-- One tick of a hashed wheel: rounds, the invariant and the state after `swept`.
 use Rattle.std.proofs.Common.{◌≡◌, ◌≢◌, ◌<◌, ◌+◌, ◌-◌, ◌*◌, ◌/◌, ◌%◌, ℕ, zero, suc, List, [], ◌∷◌, ◌++◌, length, refl, sym, ◌∙◌, ap, subst, inl, inr, arith, length-set, get_or-set_same, get_or-set_other}
 use Rattle.std.specs.Prelude.{Bool, true, false, not, map, filter, slice_set}
 use Rattle.std.specs.List.{AllByRecursion}

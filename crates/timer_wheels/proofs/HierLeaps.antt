@@ -1,4 +1,4 @@
--- The invariant of a hierarchy of wheels, preserved by the leaps of its clock.
+-- Lemmas for `leap`: the first visit ahead, the clock set forward to it, and the loop of `advance_until_due`.
 use Rattle.std.proofs.Common.{◌≡◌, ◌<◌, ◌≤◌, ◌+◌, ◌-◌, ◌*◌, ℕ, List, [], ◌∷◌, length, sym, ◌∙◌, ap, subst, inl, inr, arith}
 use Rattle.std.specs.Prelude.{Some}
 use Rattle.std.specs.List.{AllByRecursion}

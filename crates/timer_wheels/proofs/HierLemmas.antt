@@ -1,4 +1,4 @@
--- The invariant of a hierarchy of wheels, preserved by each call.
+-- The invariant of a hierarchy of wheels when it is made, after a start and a restart, and what `links` shows.
 use Rattle.std.proofs.Common.{◌≡◌, ◌<◌, ◌≤◌, ◌+◌, ◌*◌, ℕ, zero, suc, List, [], ◌∷◌, length, refl, sym, ◌∙◌, ap, subst, inl, inr, arith}
 use Rattle.std.specs.Prelude.{Bool, filter, map, Option, Some, None, MatchOption, nat_lt, replicate}
 use Rattle.timer_base.specs.declared.timer.Timer.{Timer}

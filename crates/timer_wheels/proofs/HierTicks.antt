@@ -1,4 +1,4 @@
--- A hierarchical wheel after one tick.
+-- One tick of a hierarchy of wheels: the invariant, the state and the moves after `migrated`.
 use Rattle.std.proofs.Common.{◌≡◌, ◌≢◌, ◌<◌, ◌≤◌, ◌+◌, ℕ, suc, ◌==◌, ◌⊎◌, List, [], ◌∷◌, ◌++◌, length, refl, sym, ◌∙◌, ap, subst, inl, inr, arith, length-set, get_or-set_same, get_or-set_other}
 use Rattle.std.specs.Prelude.{Bool, true, false, filter, not, if◌then◌else◌, slice_set}
 use Rattle.std.specs.List.{AllByRecursion}

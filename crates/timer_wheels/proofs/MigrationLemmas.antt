@@ -1,4 +1,4 @@
--- The lists of a hierarchical wheel after one tick.
+-- Where the rows of an emptied bucket go: each list after `migrated`, and the order of what is pending then.
 use Rattle.std.proofs.Common.{◌≡◌, ◌<◌, ◌+◌, ℕ, ◌==◌, List, [], ◌∷◌, ◌++◌, length, refl, sym, ◌∙◌, ap, subst, inl, inr, arith, append_assoc, length-set, get_or-set_same, get_or-set_other}
 use Rattle.std.specs.Prelude.{Bool, true, false, filter, not}
 use Rattle.std.specs.List.{AllByRecursion}

@@ -1,4 +1,4 @@
--- The loop that empties a bucket.
+-- Lemmas for `empty_bucket`: the loop invariant of migrating one by one, and a bucket that is due as a whole.
 use Rattle.std.proofs.Common.{◌≡◌, ◌≢◌, ◌<◌, ◌≤◌, ◌+◌, ℕ, zero, suc, List, [], ◌∷◌, ◌++◌, length, refl, sym, ◌∙◌, ap, subst, arith, append_assoc, length-set, get_or-set_same, get_or-set_other}
 use Rattle.std.specs.Prelude.{true, false, slice_set, Some, None}
 use Rattle.std.specs.List.{AllByRecursion}

@@ -1,4 +1,4 @@
--- The buckets of a hierarchy of wheels before and after a tick.
+-- Lemmas for `migration::next_tick`: from the invariant before a tick to the lists after it.
 use Rattle.std.proofs.Common.{◌≡◌, ◌<◌, ◌+◌, ℕ, List, [], length, sym, ◌∙◌, ap, subst, arith}
 use Rattle.std.specs.List.{AllByRecursion}
 use Rattle.timer_links.specs.declared.node.Node.{Node}

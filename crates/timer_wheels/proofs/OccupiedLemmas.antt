@@ -1,4 +1,4 @@
--- The bits of the buckets.
+-- Lemmas about the bits of the buckets, and for `Occupied::first`.
 use Rattle.std.proofs.Common.{◌≡◌, ◌≢◌, ◌<◌, ◌≤◌, ◌+◌, ◌-◌, ◌*◌, ◌/◌, ◌%◌, ◌^◌, ℕ, List, [], ◌∷◌, ◌++◌, length, refl, sym, ◌∙◌, ap, inl, inr, arith, length-set, get_or-set_same, get_or-set_other, slice_index_or, slice_set, bit_and, bit_or}
 use Rattle.std.specs.Prelude.{Some}
 use Rattle.std.specs.Int.{bit_at, w64, trailing_zeros}

@@ -1,4 +1,4 @@
--- Where a node stands, and the lists after another node has replaced it under its key.
+-- Lemmas for `replace_node`: which list a node is in, and the lists once another node is under its key.
 use Rattle.std.proofs.Common.{◌≡◌, ◌⊎◌, ◌<◌, ◌==◌, ℕ, suc, List, [], ◌∷◌, ◌++◌, length, refl, sym, ◌∙◌, ap, inl, inr, arith, length-set, get_or-set_same}
 use Rattle.std.specs.Prelude.{Option, Some, None, IsSome, map, slice_set}
 use Rattle.std.proofs.lemmas.Bool.{eqb-true}

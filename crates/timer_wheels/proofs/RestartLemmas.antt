@@ -1,4 +1,4 @@
--- The buckets after a restart: a stop, and a start under the same key.
+-- Lemmas for `Buckets::restart`: a stop, and a start under the same key.
 use Rattle.std.proofs.Common.{◌≡◌, ◌<◌, ◌≤◌, ◌+◌, ℕ, List, [], ◌∷◌, ◌++◌, length, refl, ◌∙◌, ap, arith, length-set}
 use Rattle.std.specs.Prelude.{Some, IsSome, map}
 use Rattle.std.proofs.lemmas.List.{length-map}

@@ -1,4 +1,4 @@
--- Digits by division, and the slot of a wheel by its list's number, for every table.
+-- Lemmas for `laws`: a digit is a quotient, and a list is a slot of its wheel, for every table of radices.
 use Rattle.std.proofs.Common.{◌≡◌, ◌<◌, ◌+◌, ◌/◌, ◌%◌, ℕ, zero, suc, List, [], ◌∷◌, length, refl, sym, ◌∙◌, ap, arith}
 use Rattle.std.proofs.Math.Nat.{div-div-eq-div-mul}
 use Rattle.timer_wheels.specs.Digits.{IsTable, HasDigits, digit, radix, weight, level, bucket, list_of_slot, slots_below}

@@ -1,4 +1,4 @@
--- The loop that sweeps a bucket.
+-- Lemmas for `sweep_bucket`: its loop invariant.
 use Rattle.std.proofs.Common.{◌≡◌, ◌≢◌, ◌<◌, ◌≤◌, ◌+◌, ◌-◌, ℕ, zero, suc, List, [], ◌∷◌, ◌++◌, length, refl, sym, ◌∙◌, ap, subst, inl, inr, arith, length-set, length-append, append_assoc, get_or-set_same, get_or-set_other}
 use Rattle.std.specs.Prelude.{map, IsSome, Option, Some, None, slice_set}
 use Rattle.std.proofs.lemmas.List.{set-get_or}

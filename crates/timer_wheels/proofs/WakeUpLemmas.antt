@@ -1,4 +1,4 @@
--- When the owner of a wheel of buckets has to wake up.
+-- Lemmas for `quiet_until`: a first visit is a tick to wake up at, and the slots ahead of a hashed wheel.
 use Rattle.std.proofs.Common.{◌≡◌, ◌⊎◌, ◌<◌, ◌≤◌, ◌+◌, ◌-◌, ◌%◌, ℕ, List, [], ◌∷◌, length, refl, sym, ◌∙◌, ap, subst, inl, inr, arith}
 use Rattle.std.specs.Prelude.{true, false}
 use Rattle.std.specs.List.{AllByRecursion}

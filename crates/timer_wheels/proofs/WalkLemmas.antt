@@ -1,4 +1,4 @@
--- The walk along one list.
+-- Lemmas for `walks`: the loop invariants of copying, counting and emptying one list.
 use Rattle.std.proofs.Common.{◌≡◌, ◌≢◌, ◌<◌, ◌≤◌, ◌+◌, ℕ, zero, suc, List, [], ◌∷◌, ◌++◌, length, refl, sym, ◌∙◌, ap, inl, inr, arith, append_assoc, length-append, length-set, get_or-set_same, get_or-set_other}
 use Rattle.std.specs.Prelude.{true, IsSome, Option, Some, None, slice_set}
 use Rattle.std.specs.Option.{is_some}

@@ -1,4 +1,4 @@
--- The lists of a wheel after each call, and so the state of the wheel.
+-- Lemmas for `Buckets`: the lists after each call but a tick, and so the state of the wheel.
 use Rattle.std.proofs.Common.{◌≡◌, ◌≢◌, ◌<◌, ◌≤◌, ◌+◌, ◌⊎◌, ℕ, zero, suc, ◌==◌, List, [], ◌∷◌, ◌++◌, length, refl, sym, ◌∙◌, ap, subst, inl, inr, arith, append_assoc, length-append, get_or-set_same, get_or-set_other}
 use Rattle.std.specs.Prelude.{Bool, true, false, map, filter, not, slice_set, slice_get, replicate, Option, Some, None}
 use Rattle.std.specs.List.{AllByRecursion}

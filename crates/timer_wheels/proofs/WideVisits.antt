@@ -1,4 +1,4 @@
--- The next tick that empties a slot, by shifts.
+-- The next visit of a list of `Table::Wide`, by shifts.
 use Rattle.std.proofs.Common.{◌≡◌, ◌<◌, ◌≤◌, ◌+◌, ◌-◌, ◌*◌, ◌/◌, ◌%◌, ◌^◌, ℕ, zero, suc, sym, ◌∙◌, ap, inl, inr, arith}
 use Rattle.std.proofs.Math.Nat.{div-div-eq-div-mul, mul-le-mul_right, div-mul-le_self}
 use Rattle.std.proofs.lemmas.Nat.{pow-add, pow_below}

@@ -1,4 +1,4 @@
--- The wheel state of the buckets, the clock and the last serial together.
+-- The state that `Buckets` represents, and how its calls change the lists.
 use Rattle.std.specs.Prelude.{◌≡◌, ℕ, Option, Some, None}
 use Rattle.timer_base.specs.declared.timer.Timer.{Timer}
 use Rattle.timer_base.specs.WheelState.{WheelState, IsWellFormed}

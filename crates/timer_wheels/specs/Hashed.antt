@@ -1,4 +1,4 @@
--- What a hashed wheel shows, and the invariant of its rows.
+-- The slot and the rounds of a timer in a hashed wheel, what its `links` shows, and the invariant of its rows.
 use Rattle.std.specs.Prelude.{◌≡◌, ℕ, ◌-◌, ◌/◌, ◌%◌, List}
 use Rattle.std.specs.Coded.{×_prop}
 use Rattle.std.proofs.Props.{props}

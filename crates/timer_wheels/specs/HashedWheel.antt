@@ -1,4 +1,4 @@
--- The names in the public clauses of a hashed wheel.
+-- The names in the public clauses of `HashedWheel`.
 use Rattle.std.specs.Prelude.{ℕ, ◌||◌, ◌==◌, nat_lt, if◌then◌else◌, Option, Some, None}
 use Rattle.timer_base.specs.declared.limits.TheConstants.{LAST}
 use Rattle.timer_base.specs.declared.fault.MakeFault.{MakeFault}

@@ -1,4 +1,4 @@
--- The names in the public clauses of a hierarchical wheel.
+-- The names in the public clauses of `HierWheel`.
 use Rattle.std.specs.Prelude.{ℕ}
 use Rattle.timer_base.specs.WheelState.{WheelState}
 use Rattle.timer_wheels.specs.Buckets.{state_of}

@@ -1,27 +1,27 @@
--- When the buckets of a hierarchy of wheels are emptied next.
+-- The next visit of a bucket in a hierarchy of wheels (the tick that empties it), and leaps of its clock.
 use Rattle.std.specs.Prelude.{◌≡◌, ℕ, ◌+◌, ◌-◌, ◌*◌, ◌/◌, ◌<◌, ◌≤◌, nat_lt, zero, suc, ◌==◌, if◌then◌else◌, List, [], ◌∷◌}
 use Rattle.timer_base.specs.WheelState.{WheelState, after_ticks}
 use Rattle.timer_links.specs.declared.node.Node.{Node}
 use Rattle.timer_wheels.specs.WheelLists.{timer_in, EachRow}
 use Rattle.timer_wheels.specs.Placement.{hops_of, levels_of}
 
--- the next tick that empties slot s of wheel k: now with s as its digit k, and zeros below
+-- the next visit of slot s of wheel k: now with s as its digit k, and zeros below
 abbrev pub slot_visit : List ℕ → ℕ → ℕ → ℕ → ℕ
 slot_visit [] k s now = now
 slot_visit (r ∷ rs) zero s now = r * (now / r) + s
 slot_visit (r ∷ rs) (suc k) s now = r * slot_visit rs k s (now / r)
 
--- the next tick that empties the bucket of a pending timer: its deadline, with zeros below its level
+-- the next visit of the bucket of a pending timer: its deadline, with zeros below its level
 abbrev pub timer_visit : List ℕ → ℕ → ℕ → ℕ
 timer_visit [] now deadline = deadline
 timer_visit (r ∷ rs) now deadline = if (now / r) == (deadline / r) then deadline else r * timer_visit rs (now / r) (deadline / r)
 
--- the next tick that empties a list
+-- the next visit of a list
 abbrev pub list_visit : List ℕ → ℕ → ℕ → ℕ
 list_visit [] l now = now
 list_visit (r ∷ rs) l now = if nat_lt l r then r * (now / r) + l else r * list_visit rs (l - r) (now / r)
 
--- no bucket with a timer is emptied before this tick
+-- no bucket with a timer is visited before this tick
 abbrev pub AreNotVisitedBefore : List ℕ → ℕ → ℕ → ℕ → List (List (ℕ × Node)) → Type 0
 AreNotVisitedBefore table n now visit lists = EachRow (λ s row. visit ≤ timer_visit table now (timer_in row).deadline) n lists
 

@@ -1,4 +1,4 @@
--- The lists after one bucket is emptied: each row, from the front, moves to the back of its new list.
+-- The lists of a hierarchy of wheels after one bucket is emptied: each row, from the front, moves to its new list.
 use Rattle.std.specs.Prelude.{◌≡◌, ◌≢◌, ℕ, ◌≤◌, not, if◌then◌else◌, List, [], ◌∷◌, filter, slice_set, Option, Some, None}
 use Rattle.timer_base.specs.Pending.{is_due_at}
 use Rattle.timer_links.specs.declared.node.Node.{Node}

@@ -1,4 +1,4 @@
--- In which bucket each pending timer stands, and how often it still moves: what `links`, `moves` and `starts` show.
+-- In which bucket of a hierarchy each timer is, and how often it still moves: what `links`, `moves` and `starts` show.
 use Rattle.std.specs.Prelude.{◌≡◌, ℕ, ◌+◌, ◌-◌, ◌*◌, ◌/◌, ◌%◌, ◌≤◌, ◌==◌, ◌&&◌, not, Bool, true, false, if◌then◌else◌, length, List, [], ◌∷◌}
 use Rattle.std.specs.Coded.{×_prop}
 use Rattle.std.proofs.Props.{props}

@@ -1,4 +1,4 @@
--- What the buckets show: the pending timers, each in its bucket.
+-- What `links` shows of either wheel: the pending timers, each in its bucket.
 use Rattle.std.specs.Prelude.{◌≡◌, ◌==◌, ℕ, ◌+◌, ◌<◌, List, length, map, filter}
 use Rattle.timer_base.specs.declared.timer.Timer.{Timer}
 use Rattle.timer_base.specs.Order.{in_order}

@@ -1,4 +1,4 @@
--- Lemmas about the state that the lists of a wheel represent.
+-- Lemmas about the state that lists represent. They are in specs/ since `Buckets.state_of-well_formed` cites them.
 use Rattle.std.specs.Prelude.{◌≡◌, ◌+◌, ℕ, ◌≤◌, List, [], ◌∷◌, map, refl}
 use Rattle.std.proofs.Common.{◌∙◌, ap, arith}
 use Rattle.std.specs.List.{AllByRecursion}

@@ -82,7 +82,7 @@ struct Counts {
 }
 
 impl Counts {
-    /// Adds to the moves. Most ticks move nothing, and leave the word alone.
+    /// Adds to the moves. Most ticks move nothing, and store nothing.
     #[inline]
     fn add_moves(&mut self, moves: u64)
         requires { self.old.moves + moves < 18446744073709551616 }
@@ -122,7 +122,7 @@ impl HierWheel {
 
     /// An empty hierarchy of ten wheels of 64 slots, a clock of 2^60 ticks, at its first tick.
     ///
-    /// Refused, in this order: `FirstTick` above `LAST`; `OutOfMemory`.
+    /// Errors, in this order: `FirstTick` above `LAST`; `OutOfMemory`.
     pub fn new(alloc: Global, first_tick: u64) -> Result<HierWheel, MakeFault>
         ensures state { IfOk result (λ wheel. hier_state wheel ≡ empty_wheel LAST first_tick) }
         ensures counts { IfOk result (λ wheel. counts_of wheel ≡ record { starts = 0; moves = 0; visits = 0 }) }
@@ -135,7 +135,7 @@ impl HierWheel {
 
     /// An empty hierarchy at its first tick, whose wheels have the slots of the table.
     ///
-    /// Refused, in this order: `FirstTick` above the table's last tick, which is `LAST` or
+    /// Errors, in this order: `FirstTick` above the table's last tick, which is `LAST` or
     /// `LAST_OF_CLOCK`; `OutOfMemory`.
     pub fn with_table(alloc: Global, table: Table, first_tick: u64) -> Result<HierWheel, MakeFault>
         ensures state { IfOk result (λ wheel. hier_state wheel ≡ empty_wheel (last_of_table table) first_tick) }
@@ -164,7 +164,7 @@ impl HierWheel {
         })
     }
 
-    /// The buckets, and behind them the list of the due timers, which is list 640 of `Table::Wide` and
+    /// The buckets, and after them the list of due timers, which is list 640 of `Table::Wide` and
     /// list 244 of `Table::Clock`.
     ///
     /// Slot s of wheel k is the list whose number is s more than the lower wheels have slots: `64 * k + s`

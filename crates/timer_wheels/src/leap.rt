@@ -2,7 +2,8 @@
 //!
 //! A bucket with a timer is emptied next at the tick that has the bucket's digit in place of now's, and
 //! zeros below it. The first of these ticks is that of the first bucket with a timer. Up to it nothing
-//! moves and nothing is due, so the clock alone goes on.
+//! moves and nothing is due, so the clock alone advances.
+//! A tick that empties a bucket is the bucket's visit.
 ghost use Rattle.std.specs.Prelude.{◌≡◌, ◌+◌, ◌-◌, ◌*◌, ◌<◌, ◌≤◌, ℕ, [], MatchOption};
 ghost use Rattle.timer_base.specs.declared.limits.TheConstants.{LAST};
 ghost use Rattle.timer_base.specs.WakeUps.{IsQuietUntil};
@@ -22,7 +23,7 @@ use crate::migration::next_tick;
 use crate::occupied::Occupied;
 use crate::table::Table;
 
-/// Passes ticks up to the first at which something is due, and at most so many.
+/// Advances to the first tick at which something is due, by at most `most` ticks.
 ///
 /// Returns how many timers went to a lower wheel. Does not allocate.
 pub fn advance_until_due(table: Table, buckets: &mut Buckets, occupied: &mut Occupied, most: u64) -> u64
@@ -46,7 +47,7 @@ pub fn advance_until_due(table: Table, buckets: &mut Buckets, occupied: &mut Occ
     moves
 }
 
-/// Goes on to the next tick that empties a bucket with a timer, or to the end where that comes first.
+/// Advances to the next visit of a bucket with a timer, or to the end where that comes first.
 fn leap_to_visit(table: Table, buckets: &mut Buckets, occupied: &mut Occupied, end: u64) -> u64
     requires hier { IsHier table buckets.old occupied.old }
     requires nothing_due { (state_of buckets.old).due ≡ [] }
@@ -67,7 +68,7 @@ fn leap_to_visit(table: Table, buckets: &mut Buckets, occupied: &mut Occupied, e
     }
 }
 
-/// The next tick that empties a bucket with a timer, or the one after the end where there is none.
+/// The next visit of a bucket with a timer, or the tick after the end where no bucket has one.
 fn next_visit(table: Table, buckets: &Buckets, occupied: &Occupied, end: u64) -> u64
     requires hier { IsHier table buckets.now occupied.now }
     requires before_end { buckets.now.tick < end }
@@ -81,7 +82,7 @@ fn next_visit(table: Table, buckets: &Buckets, occupied: &Occupied, end: u64) ->
     }
 }
 
-/// The next tick that empties a bucket with a timer, or None where no bucket has one.
+/// The next visit of a bucket with a timer, or None where no bucket has one.
 #[inline]
 pub fn first_visit(table: Table, buckets: &Buckets, occupied: &Occupied) -> Option<u64>
     requires { IsHier table buckets.now occupied.now }
@@ -94,7 +95,7 @@ pub fn first_visit(table: Table, buckets: &Buckets, occupied: &Occupied) -> Opti
     }
 }
 
-/// Lets the clock go on, where no bucket with a timer is emptied.
+/// Sets the clock to a later tick, where no bucket with a timer is visited up to it.
 fn skip_to(table: Table, buckets: &mut Buckets, occupied: &Occupied, tick: u64)
     requires hier { IsHier table buckets.old occupied.now }
     requires nothing_due { (state_of buckets.old).due ≡ [] }
@@ -110,9 +111,8 @@ fn skip_to(table: Table, buckets: &mut Buckets, occupied: &Occupied, tick: u64)
     buckets.tick = tick;
 }
 
-/// How many buckets the ticks behind the first up to the last empty: one at each multiple of the lowest
-/// wheel's slots, and
-/// that of the last tick where something is due then.
+/// How many visits the ticks after the first one up to the last count: one at each multiple of the lowest
+/// wheel's slots, and that of the last tick where something is due then.
 ///
 /// An empty bucket counts without a look at it, since emptying it changes nothing.
 pub fn visits_between(table: Table, first: u64, last: u64, due: bool) -> u64

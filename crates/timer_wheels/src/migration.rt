@@ -17,7 +17,7 @@ use crate::occupied::Occupied;
 use crate::table::Table;
 use timer_links::Links;
 
-/// Goes to the next tick, and empties the bucket of its lowest digit that isn't zero.
+/// Advances to the next tick, and empties the bucket of its lowest digit that isn't zero.
 ///
 /// Returns how many timers went to a lower wheel. Does not allocate.
 // Always inlined: with a call, a tick at which nothing is due takes two to three times as long.
@@ -39,7 +39,7 @@ pub fn next_tick(table: Table, buckets: &mut Buckets, occupied: &mut Occupied) -
 }
 
 /// Empties a bucket: a timer whose deadline is this tick goes to the back of the list of due timers, and
-/// any other one to the back of its bucket in a lower wheel, each of them in its turn.
+/// any other one to the back of its bucket in a lower wheel, one after the other.
 ///
 /// A bucket of the lowest wheel has only timers of this tick, so it goes as a whole. Returns how
 /// many timers went to a lower wheel. Does not allocate.
