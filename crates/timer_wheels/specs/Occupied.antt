@@ -44,4 +44,6 @@ Clears None old new = new ≡ old
 Clears (Some l) old new = (bit_of new l ≡ 0) × ((s : ℕ) → s ≢ l → bit_of new s ≡ bit_of old s)
 
 pub AreMarked-prop : (n : ℕ) (words : List ℕ) (lists : List (List (ℕ × Node))) → IsProp (AreMarked n words lists)
-AreMarked-prop n words lists = ×_prop (Π_prop (λ s. Π_prop (λ b. ℕ_set (bit_of words s) (filled (list_at s lists))))) (Π_prop (λ s. Π_prop (λ a. Π_prop (λ b. ℕ_set (bit_of words s) 0))))
+AreMarked-prop n words lists =
+    ×_prop (Π_prop (λ s. Π_prop (λ b. ℕ_set (bit_of words s) (filled (list_at s lists)))))
+    (Π_prop (λ s. Π_prop (λ a. Π_prop (λ b. ℕ_set (bit_of words s) 0))))

@@ -24,7 +24,10 @@ all-timers : (P : Timer → Type 0) (rows : List (ℕ × Node)) → AllByRecursi
 all-timers P [] a = tt
 all-timers P (x ∷ xs) a = (a.0, all-timers P xs a.1)
 
-pub wheel_state-well_formed : (n last_tick now last : ℕ) (lists : List (List (ℕ × Node))) → last_tick ≤ LAST → now ≤ last_tick → last ≤ LAST → ArePending last_tick now last (rows_below n lists) → AreDistinct (timers_in (rows_below n lists)) → AreInOrder (n + 1) lists → IsWellFormed (wheel_state n last_tick now last lists)
+pub wheel_state-well_formed : (n last_tick now last : ℕ) (lists : List (List (ℕ × Node)))
+    → last_tick ≤ LAST → now ≤ last_tick → last ≤ LAST
+    → ArePending last_tick now last (rows_below n lists) → AreDistinct (timers_in (rows_below n lists))
+    → AreInOrder (n + 1) lists → IsWellFormed (wheel_state n last_tick now last lists)
 wheel_state-well_formed n last_tick now last lists a b c p d o =
     let rows : List (ℕ × Node) = rows_below n lists in
     record {
@@ -33,6 +36,7 @@ wheel_state-well_formed n last_tick now last lists a b c p d o =
       serial_in_range = c;
       ordered = IsOrdered-in_order timer_of (entries_of rows);
       distinct = AreDistinct-in_order timer_of (entries_of rows) (rw (timers_of-entries rows) d);
-      each = rw (timers_of-pending rows) (All-in_order itself (IsPending last_tick now last) (timers_in rows) (all-timers (IsPending last_tick now last) rows p));
+      each = rw (timers_of-pending rows)
+      (All-in_order itself (IsPending last_tick now last) (timers_in rows) (all-timers (IsPending last_tick now last) rows p));
       due_rising = o n (omega arith);
     }

@@ -50,6 +50,10 @@ wheel_state n last_tick now last_serial lists = record {
 abbrev pub ArePending : ℕ → ℕ → ℕ → List (ℕ × Node) → Type 0
 ArePending last_tick now last_serial rows = AllByRecursion (λ row. IsPending last_tick now last_serial (timer_in row)) rows
 
+-- each row of the first n lists is of a pending timer
+abbrev pub ArePendingBelow : ℕ → ℕ → ℕ → ℕ → List (List (ℕ × Node)) → Type 0
+ArePendingBelow n last_tick now last_serial lists = ArePending last_tick now last_serial (rows_below n lists)
+
 -- each of the first n lists has its rows in order of starting
 abbrev pub AreInOrder : ℕ → List (List (ℕ × Node)) → Type 0
 AreInOrder n lists = (s : ℕ) → s < n → AreRising 0 (timers_in (list_at s lists))
@@ -65,8 +69,10 @@ EachRow fact n lists = (s : ℕ) → s < n → AllByRecursion (fact s) (list_at 
 IsPending-prop : (last_tick now last_serial : ℕ) (t : Timer) → IsProp (IsPending last_tick now last_serial t)
 IsPending-prop last_tick now last_serial t = hlevel props
 
-pub ArePending-prop : (last_tick now last_serial : ℕ) (rows : List (ℕ × Node)) → IsProp (ArePending last_tick now last_serial rows)
-ArePending-prop last_tick now last_serial rows = AllByRecursion-prop (λ row. IsPending last_tick now last_serial (timer_in row)) (λ row. IsPending-prop last_tick now last_serial (timer_in row)) rows
+pub ArePendingBelow-prop : (n last_tick now last_serial : ℕ) (lists : List (List (ℕ × Node))) → IsProp (ArePendingBelow n last_tick now last_serial lists)
+ArePendingBelow-prop n last_tick now last_serial lists =
+    AllByRecursion-prop (λ row. IsPending last_tick now last_serial (timer_in row))
+    (λ row. IsPending-prop last_tick now last_serial (timer_in row)) (rows_below n lists)
 
 pub ArePast-prop : (now : ℕ) (rows : List (ℕ × Node)) → IsProp (ArePast now rows)
 ArePast-prop now rows = AllByRecursion-prop (λ row. (timer_in row).deadline ≤ now) (λ row. le_prop) rows
@@ -74,7 +80,8 @@ ArePast-prop now rows = AllByRecursion-prop (λ row. (timer_in row).deadline ≤
 pub AreInOrder-prop : (n : ℕ) (lists : List (List (ℕ × Node))) → IsProp (AreInOrder n lists)
 AreInOrder-prop n lists = Π_prop (λ s. Π_prop (λ b. AreRising-prop 0 (timers_in (list_at s lists))))
 
-pub EachRow-prop : (fact : ℕ → ℕ × Node → Type 0) → ((s : ℕ) (row : ℕ × Node) → IsProp (fact s row)) → (n : ℕ) (lists : List (List (ℕ × Node))) → IsProp (EachRow fact n lists)
+pub EachRow-prop : (fact : ℕ → ℕ × Node → Type 0) → ((s : ℕ) (row : ℕ × Node) → IsProp (fact s row))
+    → (n : ℕ) (lists : List (List (ℕ × Node))) → IsProp (EachRow fact n lists)
 EachRow-prop fact prop n lists = Π_prop (λ s. Π_prop (λ b. AllByRecursion-prop (fact s) (prop s) (list_at s lists)))
 
 IsNotAmong-prop : (serial : ℕ) (ts : List Timer) → IsProp (IsNotAmong serial ts)

@@ -48,7 +48,7 @@ pub struct HashedWheel {
 }
 
 impl HashedWheel {
-    ghost use Rattle.timer_wheels.specs.HashedWheel.{slots_of, fault_of};
+    ghost use Rattle.timer_wheels.specs.HashedWheel.{slots_of, fault_of, IsHashedFault};
 
     /// A wheel with no timer, of 1 to 65,536 slots, at a first tick of at most `LAST`.
     ///
@@ -58,7 +58,7 @@ impl HashedWheel {
         ensures ok { IfOk result (λ wheel. ⟦<HashedWheel as Wheel>⟧.state wheel ≡ empty_wheel LAST first_tick) }
         ensures slots { IfOk result (λ wheel. slots_of wheel ≡ slots) }
         ensures no_fault { IfOk result (λ wheel. fault_of slots first_tick ≡ None) }
-        ensures err { IfErr result (λ fault. (fault_of slots first_tick ≡ Some fault) ⊎ ((fault_of slots first_tick ≡ None) × (fault ≡ MakeFault.OutOfMemory))) }
+        ensures err { IfErr result (λ fault. IsHashedFault slots first_tick fault) }
     {
         if slots == 0 || slots > MOST_SLOTS {
             return Err(MakeFault::Slots);

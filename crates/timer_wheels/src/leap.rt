@@ -2,20 +2,18 @@
 //!
 //! A bucket with a timer is emptied next at the tick that has the bucket's digit in place of now's, and
 //! zeros below it. The first of these ticks is that of the first bucket with a timer. Up to it nothing
-//! moves and nothing is due, so the clock alone advances.
-//! A tick that empties a bucket is the bucket's visit.
+//! moves and nothing is due, so the clock alone advances. Such a tick is the visit of its bucket.
 ghost use Rattle.std.specs.Prelude.{◌≡◌, ◌+◌, ◌-◌, ◌*◌, ◌<◌, ◌≤◌, ℕ, [], MatchOption};
 ghost use Rattle.timer_base.specs.declared.limits.TheConstants.{LAST};
 ghost use Rattle.timer_base.specs.WakeUps.{IsQuietUntil};
 ghost use Rattle.timer_base.specs.WheelState.{Advances};
-ghost use Rattle.timer_wheels.specs.Digits.{lowest_radix, last_of, slots};
+ghost use Rattle.timer_wheels.specs.Digits.{lowest_radix};
 ghost use Rattle.timer_wheels.specs.declared.table.Table.TheVariants.{Wide};
 ghost use Rattle.timer_wheels.specs.Tables.{radices};
-ghost use Rattle.timer_wheels.specs.Placement.{IsPlaced, levels_of, visited_between, most_moves};
+ghost use Rattle.timer_wheels.specs.Placement.{visited_between, most_moves};
 ghost use Rattle.timer_wheels.specs.Buckets.{state_of};
-ghost use Rattle.timer_wheels.specs.Leap.{AreNotVisitedBefore, Leaps};
-ghost use Rattle.timer_wheels.specs.Hier.{IsHier};
-ghost use Rattle.timer_wheels.specs.WheelLists.{EachRow};
+ghost use Rattle.timer_wheels.specs.Leap.{AreNotVisitedBefore, IsVisitBound, Leaps};
+ghost use Rattle.timer_wheels.specs.Hier.{IsHier, potential};
 
 use crate::buckets::Buckets;
 use crate::digits::{lowest_slots, visit_of};
@@ -31,7 +29,7 @@ pub fn advance_until_due(table: Table, buckets: &mut Buckets, occupied: &mut Occ
     requires nothing_due { (state_of buckets.old).due ≡ [] }
     requires some { 0 < most }
     requires before_last { most ≤ buckets.old.last_tick - buckets.old.tick }
-    requires few { levels_of (radices table) buckets.old.tick (state_of buckets.old).pending ≤ most_moves (radices Wide) * LAST }
+    requires few { potential table buckets.old ≤ most_moves (radices Wide) * LAST }
     ensures hier { IsHier table buckets.new occupied.new }
     ensures leaps { Leaps (radices table) result (state_of buckets.old) (state_of buckets.new) }
     ensures advances { Advances most (buckets.new.tick - buckets.old.tick) (state_of buckets.old) (state_of buckets.new) }
@@ -87,7 +85,7 @@ fn next_visit(table: Table, buckets: &Buckets, occupied: &Occupied, end: u64) ->
 pub fn first_visit(table: Table, buckets: &Buckets, occupied: &Occupied) -> Option<u64>
     requires { IsHier table buckets.now occupied.now }
     ensures quiet { IsQuietUntil result (state_of buckets.now) }
-    ensures not_before { MatchOption result ((visit : ℕ) → AreNotVisitedBefore (radices table) buckets.now.slots buckets.now.tick visit buckets.now.links) (λ visit. AreNotVisitedBefore (radices table) buckets.now.slots buckets.now.tick visit buckets.now.links) }
+    ensures not_before { IsVisitBound (radices table) buckets.now.slots buckets.now.tick result buckets.now.links }
 {
     match occupied.first() {
         Some(list) => Some(visit_of(table, list, buckets.tick)),

@@ -5,10 +5,10 @@ ghost use Rattle.timer_base.specs.WheelState.{after_tick};
 ghost use Rattle.timer_links.specs.Lists.{list_at};
 ghost use Rattle.timer_wheels.specs.Buckets.{state_of};
 ghost use Rattle.timer_wheels.specs.Digits.{slots, lowest_radix};
-ghost use Rattle.timer_wheels.specs.Hier.{IsHier};
+ghost use Rattle.timer_wheels.specs.Hier.{IsHier, potential};
 ghost use Rattle.timer_wheels.specs.Migration.{MayMigrate, IsOfTick, migrated, left_rows, first_deadline};
 ghost use Rattle.timer_wheels.specs.Occupied.{bit_of, AreMarked, AreMarkedBut};
-ghost use Rattle.timer_wheels.specs.Placement.{hops_of, levels_of};
+ghost use Rattle.timer_wheels.specs.Placement.{hops_of};
 ghost use Rattle.timer_wheels.specs.Tables.{radices};
 
 use crate::buckets::Buckets;
@@ -29,7 +29,7 @@ pub fn next_tick(table: Table, buckets: &mut Buckets, occupied: &mut Occupied) -
     ensures ticked { state_of buckets.new ≡ after_tick (state_of buckets.old) }
     ensures hier { IsHier table buckets.new occupied.new }
     ensures moves { result ≡ hops_of (radices table) buckets.old.tick 1 (state_of buckets.old).pending }
-    ensures falls { result + levels_of (radices table) buckets.new.tick (state_of buckets.new).pending ≤ levels_of (radices table) buckets.old.tick (state_of buckets.old).pending }
+    ensures falls { result + potential table buckets.new ≤ potential table buckets.old }
 {
     let tick = buckets.tick + 1;
     let list = emptied_at(table, tick);
