@@ -5,8 +5,16 @@ use Rattle.timer_wheels.specs.declared.buckets.Buckets.{Buckets}
 use Rattle.timer_wheels.specs.declared.table.Table.{Table}
 use Rattle.timer_wheels.specs.Digits.{slots, last_of}
 use Rattle.timer_wheels.specs.Occupied.{AreMarked}
-use Rattle.timer_wheels.specs.Placement.{ArePlaced, levels_of}
+use Rattle.timer_wheels.specs.Placement.{IsPlaced, IsPlaced-prop, levels_of}
 use Rattle.timer_wheels.specs.Tables.{radices}
+use Rattle.timer_wheels.specs.WheelLists.{EachRow, EachRow-prop}
+
+-- each row of the buckets is in its timer's bucket
+abbrev pub ArePlaced : Table → Buckets → Type 0
+ArePlaced table b = EachRow (IsPlaced (radices table) b.tick) b.slots b.links
+
+pub ArePlaced-prop : (table : Table) (b : Buckets) → IsProp (ArePlaced table b)
+ArePlaced-prop table b = EachRow-prop (IsPlaced (radices table) b.tick) (IsPlaced-prop (radices table) b.tick) b.slots b.links
 
 -- the potential of the pending timers: the sum of their levels
 abbrev pub potential : Table → Buckets → ℕ
@@ -17,6 +25,6 @@ pub record IsHier (table : Table) (b : Buckets) (words : List ℕ) : Type 0 wher
   pub has_slots : b.slots ≡ slots (radices table)
   pub clock : b.last_tick ≡ last_of (radices table)
   -- each timer stands in its bucket
-  pub placed : ArePlaced (radices table) b.tick b.slots b.links
+  pub placed : ArePlaced table b
   -- the bits mark which buckets have timers
   pub marked : AreMarked b.slots words b.links

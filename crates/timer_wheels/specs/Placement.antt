@@ -8,7 +8,7 @@ use Rattle.timer_base.specs.WheelState.{WheelState}
 use Rattle.timer_links.specs.declared.node.Node.{Node}
 use Rattle.timer_wheels.specs.Digits.{level, bucket, slots, hops}
 use Rattle.timer_wheels.specs.Shown.{ShowsBuckets}
-use Rattle.timer_wheels.specs.WheelLists.{timer_in, EachRow, EachRow-prop}
+use Rattle.timer_wheels.specs.WheelLists.{timer_in}
 
 -- the list of a pending timer
 abbrev pub bucket_at : List ℕ → ℕ → Timer → ℕ
@@ -22,20 +22,13 @@ no_rounds t = 0
 abbrev pub IsPlaced : List ℕ → ℕ → ℕ → ℕ × Node → Type 0
 IsPlaced table now s row = (bucket table now (timer_in row).deadline ≡ s) × (row.1.rounds ≡ 0)
 
--- each row of the buckets is in its timer's bucket
-abbrev pub ArePlaced : List ℕ → ℕ → ℕ → List (List (ℕ × Node)) → Type 0
-ArePlaced table now n lists = EachRow (IsPlaced table now) n lists
-
 -- list s, for s below the number of slots, has the pending timers whose bucket it is, by serial, each under its place with
 -- no rounds, and the next list has what is due
 abbrev pub ShowsWheels : List ℕ → WheelState → List (List (ℕ × Node)) → Type 0
 ShowsWheels table w lists = ShowsBuckets (slots table) (bucket_at table w.now) no_rounds w lists
 
-IsPlaced-prop : (table : List ℕ) (now s : ℕ) (row : ℕ × Node) → IsProp (IsPlaced table now s row)
+pub IsPlaced-prop : (table : List ℕ) (now s : ℕ) (row : ℕ × Node) → IsProp (IsPlaced table now s row)
 IsPlaced-prop table now s row = ×_prop (hlevel props) (hlevel props)
-
-pub ArePlaced-prop : (table : List ℕ) (now n : ℕ) (lists : List (List (ℕ × Node))) → IsProp (ArePlaced table now n lists)
-ArePlaced-prop table now n lists = EachRow-prop (IsPlaced table now) (IsPlaced-prop table now) n lists
 
 -- how often the next ticks move these timers to a lower wheel, in sum
 abbrev pub hops_of : List ℕ → ℕ → ℕ → List Entry → ℕ

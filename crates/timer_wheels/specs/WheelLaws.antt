@@ -37,6 +37,6 @@ wheel_state-well_formed n last_tick now last lists a b c p d o =
       ordered = IsOrdered-in_order timer_of (entries_of rows);
       distinct = AreDistinct-in_order timer_of (entries_of rows) (rw (timers_of-entries rows) d);
       each = rw (timers_of-pending rows)
-      (All-in_order itself (IsPending last_tick now last) (timers_in rows) (all-timers (IsPending last_tick now last) rows p));
+          (All-in_order itself (IsPending last_tick now last) (timers_in rows) (all-timers (IsPending last_tick now last) rows p));
       due_rising = o n (omega arith);
     }

@@ -69,7 +69,8 @@ EachRow fact n lists = (s : ℕ) → s < n → AllByRecursion (fact s) (list_at 
 IsPending-prop : (last_tick now last_serial : ℕ) (t : Timer) → IsProp (IsPending last_tick now last_serial t)
 IsPending-prop last_tick now last_serial t = hlevel props
 
-pub ArePendingBelow-prop : (n last_tick now last_serial : ℕ) (lists : List (List (ℕ × Node))) → IsProp (ArePendingBelow n last_tick now last_serial lists)
+pub ArePendingBelow-prop : (n last_tick now last_serial : ℕ) (lists : List (List (ℕ × Node)))
+    → IsProp (ArePendingBelow n last_tick now last_serial lists)
 ArePendingBelow-prop n last_tick now last_serial lists =
     AllByRecursion-prop (λ row. IsPending last_tick now last_serial (timer_in row))
     (λ row. IsPending-prop last_tick now last_serial (timer_in row)) (rows_below n lists)

@@ -55,11 +55,12 @@ ghost use Rattle.timer_wheels.specs.Digits.{slots, last_of};
 ghost use Rattle.timer_wheels.specs.Tables.{radices, last_of_table};
 ghost use Rattle.timer_wheels.specs.declared.table.Table.TheVariants.{Wide};
 ghost use Rattle.timer_wheels.specs.Occupied.{AreMarked, AreMarked-prop};
-ghost use Rattle.timer_wheels.specs.Placement.{ArePlaced, ArePlaced-prop, ShowsWheels, IsPaid, most_moves};
+ghost use Rattle.timer_wheels.specs.Hier.{ArePlaced, ArePlaced-prop};
+ghost use Rattle.timer_wheels.specs.Placement.{ShowsWheels, IsPaid, most_moves};
 
 use crate::buckets::Buckets;
 use crate::digits::{bucket_of, buckets_of, last_tick_of};
-use crate::leap::{first_visit, advance_until_due, visits_between};
+use crate::leap::{advance_until_due, first_visit, visits_between};
 use crate::migration::next_tick;
 use crate::occupied::Occupied;
 use crate::stopping::{restart_timer, stop_timer};
@@ -107,7 +108,7 @@ pub struct HierWheel {
     ghost has_slots: { buckets.slots ≡ slots (radices table) },
     ghost has_clock: { buckets.last_tick ≡ last_of (radices table) },
     // Each timer stands in its bucket.
-    ghost placed: { ArePlaced (radices table) buckets.tick buckets.slots buckets.links } by { ArePlaced-prop (radices table) buckets.tick buckets.slots buckets.links },
+    ghost placed: { ArePlaced table buckets } by { ArePlaced-prop table buckets },
     ghost marked: { AreMarked buckets.slots occupied buckets.links } by { AreMarked-prop buckets.slots occupied buckets.links },
     ghost few_starts: { counts.starts ≤ buckets.last_serial },
     ghost few_visits: { counts.visits ≤ buckets.tick },

@@ -24,7 +24,12 @@ use crate::table::Table;
 /// Advances to the first tick at which something is due, by at most `most` ticks.
 ///
 /// Returns how many timers went to a lower wheel. Does not allocate.
-pub fn advance_until_due(table: Table, buckets: &mut Buckets, occupied: &mut Occupied, most: u64) -> u64
+pub fn advance_until_due(
+    table: Table,
+    buckets: &mut Buckets,
+    occupied: &mut Occupied,
+    most: u64,
+) -> u64
     requires hier { IsHier table buckets.old occupied.old }
     requires nothing_due { (state_of buckets.old).due ≡ [] }
     requires some { 0 < most }
