@@ -12,12 +12,12 @@ use Rattle.timer_base.specs.Pending.{Entry, timer_of, timers_of, is_due_at, entr
 use Rattle.timer_base.specs.WheelState.{IsPending, after_tick}
 use Rattle.timer_links.specs.declared.node.Node.{Node}
 use Rattle.timer_links.specs.Lists.{list_at}
-use Rattle.timer_wheels.specs.WheelLaws.{timers_of-entries}
-use Rattle.timer_wheels.specs.WheelLists.{timer_in, timers_in, entry_of, entries_of, rows_below, pending_in, wheel_state, ArePending, AreInOrder}
+use Rattle.timer_wheels.specs.BucketLaws.{timers_of-entries}
+use Rattle.timer_wheels.specs.BucketLists.{timer_in, timers_in, entry_of, entries_of, rows_below, pending_in, wheel_state, ArePending, AreInOrder}
 use Rattle.timer_wheels.specs.Hashed.{IsInBucket, AreInBuckets, rounds_of}
 use Rattle.timer_wheels.specs.Sweep.{due_now, due_later, swept}
 use Rattle.timer_wheels.proofs.RowLemmas.{all-rows_below, all-list_at, append-nil, entries-append, filter-entries, filter-append}
-use Rattle.timer_wheels.proofs.WheelLemmas.{filter-pending_in, AreDistinct-part}
+use Rattle.timer_wheels.proofs.BucketLemmas.{filter-pending_in, AreDistinct-part}
 use Rattle.timer_wheels.proofs.ShownLemmas.{filter-one_list}
 
 -- Numbers.

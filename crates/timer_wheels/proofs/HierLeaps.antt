@@ -19,7 +19,7 @@ use Rattle.timer_wheels.specs.Hier.{IsHier}
 use Rattle.timer_wheels.specs.Leap.{list_visit, timer_visit, AreNotVisitedBefore, Leaps}
 use Rattle.timer_wheels.specs.Occupied.{bit_of, filled, IsFirstSet}
 use Rattle.timer_wheels.specs.Placement.{IsPlaced, hops_of, levels_of}
-use Rattle.timer_wheels.specs.WheelLists.{timer_in, rows_below, wheel_state, ArePending, EachRow}
+use Rattle.timer_wheels.specs.BucketLists.{timer_in, rows_below, wheel_state, ArePending, EachRow}
 use Rattle.timer_wheels.proofs.LeapLemmas.{leapt, leapt_placed, leapt_pending, leaps_none, leaps_tick, leaps_on}
 use Rattle.timer_wheels.proofs.OccupiedLemmas.{no_rows_there}
 use Rattle.timer_wheels.proofs.RowLemmas.{all-list_at}

@@ -13,9 +13,9 @@ use Rattle.timer_wheels.specs.declared.buckets.Buckets.{Buckets}
 use Rattle.timer_wheels.specs.Buckets.{state_of, IsSameFrame}
 use Rattle.timer_wheels.specs.Digits.{slots, level, bucket, last_of}
 use Rattle.timer_wheels.proofs.DigitLaws.{level_in_table, digits_down}
-use Rattle.timer_wheels.specs.WheelLists.{EachRow}
+use Rattle.timer_wheels.specs.BucketLists.{EachRow}
 use Rattle.timer_wheels.specs.Placement.{IsPlaced, bucket_at, no_rounds, levels_of, IsPaid, most_moves}
-use Rattle.timer_wheels.proofs.WheelLemmas.{each-with_row, each-without_key, each-none}
+use Rattle.timer_wheels.proofs.BucketLemmas.{each-with_row, each-without_key, each-none}
 use Rattle.timer_wheels.specs.Shown.{ShowsBuckets}
 use Rattle.timer_wheels.proofs.ShownLemmas.{shows}
 use Rattle.timer_wheels.proofs.TableLaws.{IsClock}

@@ -13,14 +13,14 @@ use Rattle.timer_links.specs.declared.node.Node.{Node}
 use Rattle.timer_links.specs.Lists.{list_at}
 use Rattle.timer_wheels.specs.Digits.{IsTable, HasDigits, level, lowest, slots_below, slots, bucket, emptied, hops, last_of, BucketAtTick}
 use Rattle.timer_wheels.proofs.DigitLaws.{bucket_at_tick, digits_down, emptied_in_range}
-use Rattle.timer_wheels.specs.WheelLists.{timer_in, timers_in, entry_of, entries_of, rows_below, pending_in, ArePending, AreInOrder, EachRow, wheel_state}
+use Rattle.timer_wheels.specs.BucketLists.{timer_in, timers_in, entry_of, entries_of, rows_below, pending_in, ArePending, AreInOrder, EachRow, wheel_state}
 use Rattle.timer_wheels.specs.Placement.{IsPlaced, hops_of, levels_of}
 use Rattle.timer_wheels.specs.Migration.{target, migrated, due_rows, left_rows, MayMigrate, IsOfTick}
 use Rattle.timer_wheels.proofs.RowLemmas.{all-append, all-front, all-rest, all-rows_below, all-list_at, IsAround, around, append-nil}
-use Rattle.timer_wheels.specs.WheelLaws.{timers_of-entries}
+use Rattle.timer_wheels.specs.BucketLaws.{timers_of-entries}
 use Rattle.std.proofs.lemmas.List.Elements.{filter-append}
-use Rattle.timer_wheels.proofs.WheelLemmas.{filter-pending_in, AreRising-part}
-use Rattle.timer_wheels.proofs.MigrationLemmas.{target_due, target_left, spread-length, to_list, list_at-spread, Distinct, distinct-filter, in_order-pulled, distinct-pulled, GoesDown, IsSpread, spread_keeps}
+use Rattle.timer_wheels.proofs.BucketLemmas.{filter-pending_in, AreRising-part}
+use Rattle.timer_wheels.proofs.MigrationLemmas.{target_due, target_left, migrate_rows-length, to_list, list_at-migrate_rows, Distinct, distinct-filter, in_order-pulled, distinct-pulled, GoesDown, AreMigrated, migrate_rows_keeps}
 
 -- the invariant of a hierarchical wheel before a tick
 pub record IsBefore (table : List ℕ) (last_tick a last_serial : ℕ) (lists : List (List (ℕ × Node))) : Type 0 where
@@ -35,7 +35,7 @@ pub record IsBefore (table : List ℕ) (last_tick a last_serial : ℕ) (lists : 
   pub none_due : list_at (slots table) lists ≡ []
 
 -- the invariant of each row of a bucket before the tick
-record Stands (table : List ℕ) (last_tick a last_serial s : ℕ) (row : ℕ × Node) : Type 0 where
+record KnownRow (table : List ℕ) (last_tick a last_serial s : ℕ) (row : ℕ × Node) : Type 0 where
   placed : IsPlaced table a s row
   pending : IsPending last_tick a last_serial (timer_in row)
   bucket_at_tick : BucketAtTick table a (timer_in row).deadline
@@ -45,9 +45,9 @@ all-both P Q R [] f a b = tt
 all-both P Q R (x ∷ xs) f a b = (f x a.0 b.0, all-both P Q R xs f a.1 b.1)
 
 -- a list that can have no row is empty
-none_stands : (P : ℕ × Node → Type 0) (xs : List (ℕ × Node)) → AllByRecursion P xs → ((x : ℕ × Node) → P x → ⊥) → xs ≡ []
-none_stands P [] a f = refl
-none_stands P (x ∷ xs) a f = absurd (f x a.0)
+none_known : (P : ℕ × Node → Type 0) (xs : List (ℕ × Node)) → AllByRecursion P xs → ((x : ℕ × Node) → P x → ⊥) → xs ≡ []
+none_known P [] a f = refl
+none_known P (x ∷ xs) a f = absurd (f x a.0)
 
 -- Tests.
 
@@ -64,15 +64,15 @@ is_left : (tick : ℕ) (t : Timer) → t.deadline ≢ tick → is_due_at tick t 
 is_left tick t h = ne_eqb t.deadline tick h
 
 -- a row of the list that is emptied: it is due, or moves below the wheels that have timers
-abbrev IsGoing : List ℕ → ℕ → ℕ → ℕ × Node → Type 0
-IsGoing table a m row = ((timer_in row).deadline ≡ a + 1) ⊎ (((timer_in row).deadline ≢ a + 1) × ((level table (a + 1) (timer_in row).deadline < level table a (timer_in row).deadline) × (bucket table (a + 1) (timer_in row).deadline < m)))
+abbrev RowLeaves : List ℕ → ℕ → ℕ → ℕ × Node → Type 0
+RowLeaves table a m row = ((timer_in row).deadline ≡ a + 1) ⊎ (((timer_in row).deadline ≢ a + 1) × ((level table (a + 1) (timer_in row).deadline < level table a (timer_in row).deadline) × (bucket table (a + 1) (timer_in row).deadline < m)))
 
 -- a row of another list: it stays
-abbrev IsStaying : List ℕ → ℕ → ℕ → ℕ × Node → Type 0
-IsStaying table a s row = ((timer_in row).deadline ≢ a + 1) × ((level table (a + 1) (timer_in row).deadline ≡ level table a (timer_in row).deadline) × (bucket table (a + 1) (timer_in row).deadline ≡ s))
+abbrev RowStays : List ℕ → ℕ → ℕ → ℕ × Node → Type 0
+RowStays table a s row = ((timer_in row).deadline ≢ a + 1) × ((level table (a + 1) (timer_in row).deadline ≡ level table a (timer_in row).deadline) × (bucket table (a + 1) (timer_in row).deadline ≡ s))
 
-going : (table : List ℕ) (last_tick a last_serial : ℕ) (row : ℕ × Node) → Stands table last_tick a last_serial (emptied table (a + 1)) row → IsGoing table a (slots_below (lowest table (a + 1)) table) row
-going table last_tick a last_serial row h = elim (cases_eq (timer_in row).deadline (a + 1)) [
+row_leaves : (table : List ℕ) (last_tick a last_serial : ℕ) (row : ℕ × Node) → KnownRow table last_tick a last_serial (emptied table (a + 1)) row → RowLeaves table a (slots_below (lowest table (a + 1)) table) row
+row_leaves table last_tick a last_serial row h = elim (cases_eq (timer_in row).deadline (a + 1)) [
   | inl e ↦ inl e
   | inr n ↦ elim h.bucket_at_tick.is [
     | inl y ↦ elim y.1 [ inl e ↦ inl e | inr z ↦ inr (n, (z.0, z.1)) ]
@@ -80,25 +80,25 @@ going table last_tick a last_serial row h = elim (cases_eq (timer_in row).deadli
   ]
 ]
 
-staying : (table : List ℕ) (last_tick a last_serial s : ℕ) (row : ℕ × Node) → s ≢ emptied table (a + 1) → Stands table last_tick a last_serial s row → IsStaying table a s row
-staying table last_tick a last_serial s row n h = elim h.bucket_at_tick.is [
+row_stays : (table : List ℕ) (last_tick a last_serial s : ℕ) (row : ℕ × Node) → s ≢ emptied table (a + 1) → KnownRow table last_tick a last_serial s row → RowStays table a s row
+row_stays table last_tick a last_serial s row n h = elim h.bucket_at_tick.is [
   | inl y ↦ absurd (n (sym h.placed.0 ∙ y.0))
   | inr y ↦ (y.1.0, (y.1.1.0, y.1.1.1 ∙ h.placed.0))
 ]
 
 -- where a row that moves can't go
-not_above : (table : List ℕ) (a m s : ℕ) (row : ℕ × Node) → IsGoing table a m row → m ≤ s → s < slots table → (target table (a + 1) row == s) ≡ false
+not_above : (table : List ℕ) (a m s : ℕ) (row : ℕ × Node) → RowLeaves table a m row → m ≤ s → s < slots table → (target table (a + 1) row == s) ≡ false
 not_above table a m s row (inl e) h b = rw (target_due table (a + 1) row (is_due (a + 1) (timer_in row) e)) (ne_eqb (slots table) s (λ (x : slots table ≡ s). omega arith))
 not_above table a m s row (inr y) h b =
     let z : bucket table (a + 1) (timer_in row).deadline < m = y.1.1 in
     rw (target_left table (a + 1) row (is_left (a + 1) (timer_in row) y.0)) (ne_eqb (bucket table (a + 1) (timer_in row).deadline) s (λ (x : bucket table (a + 1) (timer_in row).deadline ≡ s). omega arith))
 
-none_to : (table : List ℕ) (a m s : ℕ) (rows : List (ℕ × Node)) → AllByRecursion (IsGoing table a m) rows → m ≤ s → s < slots table → to_list table (a + 1) s rows ≡ []
+none_to : (table : List ℕ) (a m s : ℕ) (rows : List (ℕ × Node)) → AllByRecursion (RowLeaves table a m) rows → m ≤ s → s < slots table → to_list table (a + 1) s rows ≡ []
 none_to table a m s [] g h b = refl
 none_to table a m s (x ∷ xs) g h b = rw (not_above table a m s x g.0 h b) (none_to table a m s xs g.1 h b)
 
 -- the due rows are those that move to the last list
-last_test : (table : List ℕ) (a m : ℕ) (row : ℕ × Node) → IsGoing table a m row → m ≤ slots table → (target table (a + 1) row == slots table) ≡ is_due_at (a + 1) (timer_in row)
+last_test : (table : List ℕ) (a m : ℕ) (row : ℕ × Node) → RowLeaves table a m row → m ≤ slots table → (target table (a + 1) row == slots table) ≡ is_due_at (a + 1) (timer_in row)
 last_test table a m row (inl e) h = rw (target_due table (a + 1) row (is_due (a + 1) (timer_in row) e)) (eq-eqb (slots table) (slots table) refl ∙ sym (is_due (a + 1) (timer_in row) e))
 last_test table a m row (inr y) h =
     let z : bucket table (a + 1) (timer_in row).deadline < m = y.1.1 in
@@ -219,18 +219,18 @@ module _ (table : List ℕ) (last_tick a last_serial : ℕ) (lists : List (List 
   not_below_m : m ≤ l
   not_below_m = omega arith
 
-  stands : (s : ℕ) → s < slots table → AllByRecursion (Stands table last_tick a last_serial s) (list_at s lists)
-  stands s h =
-      all-both (IsPlaced table a s) (λ row. IsPending last_tick a last_serial (timer_in row)) (Stands table last_tick a last_serial s) (list_at s lists)
+  known_rows : (s : ℕ) → s < slots table → AllByRecursion (KnownRow table last_tick a last_serial s) (list_at s lists)
+  known_rows s h =
+      all-both (IsPlaced table a s) (λ row. IsPending last_tick a last_serial (timer_in row)) (KnownRow table last_tick a last_serial s) (list_at s lists)
       (λ row p q. record { placed = p; pending = q; bucket_at_tick = bucket_at_tick table a (timer_in row).deadline b.is_table (digits_down table (timer_in row).deadline last_tick b.is_table q.in_range b.digits) q.later })
       (b.placed s h)
       (all-list_at (λ row. IsPending last_tick a last_serial (timer_in row)) (slots table) lists b.pending s h)
 
-  all_going : AllByRecursion (IsGoing table a m) rows_l
-  all_going = All-weaken (Stands table last_tick a last_serial l) (IsGoing table a m) rows_l (λ row h. going table last_tick a last_serial row h) (stands l l_in_range)
+  all_going : AllByRecursion (RowLeaves table a m) rows_l
+  all_going = All-weaken (KnownRow table last_tick a last_serial l) (RowLeaves table a m) rows_l (λ row h. row_leaves table last_tick a last_serial row h) (known_rows l l_in_range)
 
-  all_staying : (s : ℕ) → s < slots table → s ≢ l → AllByRecursion (IsStaying table a s) (list_at s lists)
-  all_staying s h n = All-weaken (Stands table last_tick a last_serial s) (IsStaying table a s) (list_at s lists) (λ row k. staying table last_tick a last_serial s row n k) (stands s h)
+  all_staying : (s : ℕ) → s < slots table → s ≢ l → AllByRecursion (RowStays table a s) (list_at s lists)
+  all_staying s h n = All-weaken (KnownRow table last_tick a last_serial s) (RowStays table a s) (list_at s lists) (λ row k. row_stays table last_tick a last_serial s row n k) (known_rows s h)
 
   list_at-base : (s : ℕ) → s ≢ l → list_at s base ≡ list_at s lists
   list_at-base s n = get_or-set_other lists l s [] [] n
@@ -242,10 +242,10 @@ module _ (table : List ℕ) (last_tick a last_serial : ℕ) (lists : List (List 
   base-length = length-set lists l [] ∙ b.has_lists
 
   pub after-length : length after ≡ slots table + 1
-  after-length = spread-length table (a + 1) rows_l base ∙ base-length
+  after-length = migrate_rows-length table (a + 1) rows_l base ∙ base-length
 
   list_at-after : (s : ℕ) → s < slots table + 1 → list_at s after ≡ list_at s base ++ to_list table (a + 1) s rows_l
-  list_at-after s h = list_at-spread table (a + 1) s rows_l base (let k : length base ≡ slots table + 1 = base-length in omega arith)
+  list_at-after s h = list_at-migrate_rows table (a + 1) s rows_l base (let k : length base ≡ slots table + 1 = base-length in omega arith)
 
   -- a list below the wheel that is emptied has only what moves there
   below : (s : ℕ) → s < m → list_at s after ≡ to_list table (a + 1) s rows_l
@@ -253,7 +253,7 @@ module _ (table : List ℕ) (last_tick a last_serial : ℕ) (lists : List (List 
       let k : l < slots table = l_in_range in
       let q : m ≤ l = not_below_m in
       let n : s ≢ l = λ (e : s ≡ l). omega arith in
-      let z : list_at s lists ≡ [] = none_stands (Stands table last_tick a last_serial s) (list_at s lists) (stands s (omega arith)) (λ row w. let x : m ≤ bucket table a (timer_in row).deadline = w.bucket_at_tick.not_below in let y : bucket table a (timer_in row).deadline ≡ s = w.placed.0 in omega arith) in
+      let z : list_at s lists ≡ [] = none_known (KnownRow table last_tick a last_serial s) (list_at s lists) (known_rows s (omega arith)) (λ row w. let x : m ≤ bucket table a (timer_in row).deadline = w.bucket_at_tick.not_below in let y : bucket table a (timer_in row).deadline ≡ s = w.placed.0 in omega arith) in
       list_at-after s (omega arith) ∙ ap (λ (r : List (ℕ × Node)). r ++ to_list table (a + 1) s rows_l) (list_at-base s n ∙ z)
 
   -- every other list is unchanged, and the emptied one is empty
@@ -267,7 +267,7 @@ module _ (table : List ℕ) (last_tick a last_serial : ℕ) (lists : List (List 
       let n : slots table ≢ l = λ (e : slots table ≡ l). omega arith in
       list_at-after (slots table) (omega arith)
       ∙ (ap (λ (r : List (ℕ × Node)). r ++ to_list table (a + 1) (slots table) rows_l) (list_at-base (slots table) n ∙ b.none_due)
-      ∙ filter_alike (λ row. target table (a + 1) row == slots table) (λ row. is_due_at (a + 1) (timer_in row)) rows_l (All-weaken (IsGoing table a m) (λ row. (target table (a + 1) row == slots table) ≡ is_due_at (a + 1) (timer_in row)) rows_l (λ row g. last_test table a m row g (omega arith)) all_going))
+      ∙ filter_alike (λ row. target table (a + 1) row == slots table) (λ row. is_due_at (a + 1) (timer_in row)) rows_l (All-weaken (RowLeaves table a m) (λ row. (target table (a + 1) row == slots table) ≡ is_due_at (a + 1) (timer_in row)) rows_l (λ row g. last_test table a m row g (omega arith)) all_going))
 
   -- Each list is in order of starting.
 
@@ -302,12 +302,12 @@ module _ (table : List ℕ) (last_tick a last_serial : ℕ) (lists : List (List 
   later : (row : ℕ × Node) → IsPending last_tick a last_serial (timer_in row) → (timer_in row).deadline ≢ a + 1 → IsPending last_tick (a + 1) last_serial (timer_in row)
   later row p n = record { later = (let h : a < (timer_in row).deadline = p.later in omega arith); in_range = p.in_range; serial = p.serial }
 
-  fits_staying : (s : ℕ) → s ≢ l → (row : ℕ × Node) → Stands table last_tick a last_serial s row → Fits s row
+  fits_staying : (s : ℕ) → s ≢ l → (row : ℕ × Node) → KnownRow table last_tick a last_serial s row → Fits s row
   fits_staying s n row h =
-      let k = staying table last_tick a last_serial s row n h in
+      let k = row_stays table last_tick a last_serial s row n h in
       ((k.1.1, h.placed.1), later row h.pending k.0)
 
-  fits_going : (s : ℕ) → s < slots table → (row : ℕ × Node) → (target table (a + 1) row == s) ≡ true → Stands table last_tick a last_serial l row → Fits s row
+  fits_going : (s : ℕ) → s < slots table → (row : ℕ × Node) → (target table (a + 1) row == s) ≡ true → KnownRow table last_tick a last_serial l row → Fits s row
   fits_going s h row e k =
       let f : target table (a + 1) row ≡ s = eqb-true (target table (a + 1) row) s e in
       elim (cases_eq (timer_in row).deadline (a + 1)) [
@@ -318,14 +318,14 @@ module _ (table : List ℕ) (last_tick a last_serial : ℕ) (lists : List (List 
   base_fits : (s : ℕ) → s < slots table → AllByRecursion (Fits s) (list_at s base)
   base_fits s h = elim (cases_eq s l) [
     | inl e ↦ subst (AllByRecursion (Fits s)) (sym (ap (λ (v : ℕ). list_at v base) e ∙ list_at-l)) tt
-    | inr n ↦ subst (AllByRecursion (Fits s)) (sym (list_at-base s n)) (All-weaken (Stands table last_tick a last_serial s) (Fits s) (list_at s lists) (fits_staying s n) (stands s h))
+    | inr n ↦ subst (AllByRecursion (Fits s)) (sym (list_at-base s n)) (All-weaken (KnownRow table last_tick a last_serial s) (Fits s) (list_at s lists) (fits_staying s n) (known_rows s h))
   ]
 
   after_fits : (s : ℕ) → s < slots table → AllByRecursion (Fits s) (list_at s after)
   after_fits s h =
       subst (AllByRecursion (Fits s)) (sym (list_at-after s (omega arith)))
       (all-append (Fits s) (list_at s base) (to_list table (a + 1) s rows_l) (base_fits s h)
-      (All-filter (Stands table last_tick a last_serial l) (Fits s) (λ row. target table (a + 1) row == s) rows_l (fits_going s h) (stands l l_in_range)))
+      (All-filter (KnownRow table last_tick a last_serial l) (Fits s) (λ row. target table (a + 1) row == s) rows_l (fits_going s h) (known_rows l l_in_range)))
 
   pub after-placed : EachRow (IsPlaced table (a + 1)) (slots table) after
   after-placed s h = All-weaken (Fits s) (IsPlaced table (a + 1) s) (list_at s after) (λ row f. f.0) (after_fits s h)
@@ -356,7 +356,7 @@ module _ (table : List ℕ) (last_tick a last_serial : ℕ) (lists : List (List 
   distinct_around : Distinct (around_l.front ++ (rows_l ++ around_l.rest))
   distinct_around = subst Distinct around_l.rows b.distinct
 
-  goes_down : (row : ℕ × Node) → IsGoing table a m row → GoesDown table (a + 1) row
+  goes_down : (row : ℕ × Node) → RowLeaves table a m row → GoesDown table (a + 1) row
   goes_down row (inl e) f = absurd (left_means (a + 1) (timer_in row) f e)
   goes_down row (inr y) f =
       let z : bucket table (a + 1) (timer_in row).deadline < m = y.1.1 in
@@ -364,9 +364,9 @@ module _ (table : List ℕ) (last_tick a last_serial : ℕ) (lists : List (List 
       let q : m ≤ l = not_below_m in
       omega arith
 
-  keeps : IsSpread table (a + 1) rows_l base
-  keeps = spread_keeps table (a + 1) rows_l base base-length
-      (All-weaken (IsGoing table a m) (GoesDown table (a + 1)) rows_l goes_down all_going)
+  keeps : AreMigrated table (a + 1) rows_l base
+  keeps = migrate_rows_keeps table (a + 1) rows_l base base-length
+      (All-weaken (RowLeaves table a m) (GoesDown table (a + 1)) rows_l goes_down all_going)
       (let P : List (ℕ × Node) → Type 0 = λ rows. Distinct (rows_l ++ rows) in subst P (sym base_rows) (distinct-pulled around_l.front rows_l around_l.rest distinct_around))
 
   pub after-distinct : AreDistinct (timers_in (rows_below (slots table) after))
@@ -413,8 +413,8 @@ module _ (table : List ℕ) (last_tick a last_serial : ℕ) (lists : List (List 
 
   -- How many timers move.
 
-  going_hop : (row : ℕ × Node) → Stands table last_tick a last_serial l row → hops table a 1 (timer_in row).deadline ≡ (if is_due_at (a + 1) (timer_in row) then 0 else 1)
-  going_hop row h = elim (going table last_tick a last_serial row h) [
+  going_hop : (row : ℕ × Node) → KnownRow table last_tick a last_serial l row → hops table a 1 (timer_in row).deadline ≡ (if is_due_at (a + 1) (timer_in row) then 0 else 1)
+  going_hop row h = elim (row_leaves table last_tick a last_serial row h) [
     | inl e ↦ rw (is_due (a + 1) (timer_in row) e) (no_hop_due table a (timer_in row).deadline e)
     | inr y ↦ rw (is_left (a + 1) (timer_in row) y.0) (hop_when table a (timer_in row).deadline (let n : (timer_in row).deadline ≢ a + 1 = y.0 in let p : a < (timer_in row).deadline = h.pending.later in omega arith) y.1.0)
   ]
@@ -422,7 +422,7 @@ module _ (table : List ℕ) (last_tick a last_serial : ℕ) (lists : List (List 
   base_hop : (s : ℕ) → s < slots table → AllByRecursion (λ row. hops table a 1 (timer_in row).deadline ≡ 0) (list_at s base)
   base_hop s h = elim (cases_eq s l) [
     | inl e ↦ subst (AllByRecursion (λ row. hops table a 1 (timer_in row).deadline ≡ 0)) (sym (ap (λ (v : ℕ). list_at v base) e ∙ list_at-l)) tt
-    | inr n ↦ subst (AllByRecursion (λ row. hops table a 1 (timer_in row).deadline ≡ 0)) (sym (list_at-base s n)) (All-weaken (IsStaying table a s) (λ row. hops table a 1 (timer_in row).deadline ≡ 0) (list_at s lists) (λ row k. no_hop_same table a (timer_in row).deadline k.1.0) (all_staying s h n))
+    | inr n ↦ subst (AllByRecursion (λ row. hops table a 1 (timer_in row).deadline ≡ 0)) (sym (list_at-base s n)) (All-weaken (RowStays table a s) (λ row. hops table a 1 (timer_in row).deadline ≡ 0) (list_at s lists) (λ row k. no_hop_same table a (timer_in row).deadline k.1.0) (all_staying s h n))
   ]
 
   no_hops_around : AllByRecursion (λ row. hops table a 1 (timer_in row).deadline ≡ 0) (around_l.front ++ around_l.rest)
@@ -432,7 +432,7 @@ module _ (table : List ℕ) (last_tick a last_serial : ℕ) (lists : List (List 
   after-moves =
       let f : row_hops table a around_l.front ≡ 0 = no_row_hops table a around_l.front (all-front (λ row. hops table a 1 (timer_in row).deadline ≡ 0) around_l.front around_l.rest no_hops_around) in
       let r : row_hops table a around_l.rest ≡ 0 = no_row_hops table a around_l.rest (all-rest (λ row. hops table a 1 (timer_in row).deadline ≡ 0) around_l.front around_l.rest no_hops_around) in
-      let g : row_hops table a rows_l ≡ length (left_rows (a + 1) rows_l) = all_row_hops table a rows_l (All-weaken (Stands table last_tick a last_serial l) (λ row. hops table a 1 (timer_in row).deadline ≡ (if is_due_at (a + 1) (timer_in row) then 0 else 1)) rows_l going_hop (stands l l_in_range)) in
+      let g : row_hops table a rows_l ≡ length (left_rows (a + 1) rows_l) = all_row_hops table a rows_l (All-weaken (KnownRow table last_tick a last_serial l) (λ row. hops table a 1 (timer_in row).deadline ≡ (if is_due_at (a + 1) (timer_in row) then 0 else 1)) rows_l going_hop (known_rows l l_in_range)) in
       let p : row_hops table a (rows_below (slots table) lists) ≡ row_hops table a around_l.front + (row_hops table a rows_l + row_hops table a around_l.rest) =
       ap (row_hops table a) around_l.rows ∙ (hops-append table a around_l.front (rows_l ++ around_l.rest) ∙ ap (λ (v : ℕ). row_hops table a around_l.front + v) (hops-append table a rows_l around_l.rest)) in
       let q : hops_of table a 1 (pending_in (rows_below (slots table) lists)) ≡ row_hops table a (rows_below (slots table) lists) = hops_of-in_order table a 1 (entries_of (rows_below (slots table) lists)) in
@@ -440,24 +440,24 @@ module _ (table : List ℕ) (last_tick a last_serial : ℕ) (lists : List (List 
 
   -- The preconditions of the emptying.
 
-  may_migrate : last_tick ≤ last_of table → (row : ℕ × Node) → Stands table last_tick a last_serial l row → MayMigrate table (a + 1) l row
+  may_migrate : last_tick ≤ last_of table → (row : ℕ × Node) → KnownRow table last_tick a last_serial l row → MayMigrate table (a + 1) l row
   may_migrate range row h = record {
-    elsewhere = elsewhere (going table last_tick a last_serial row h);
+    elsewhere = elsewhere (row_leaves table last_tick a last_serial row h);
     not_past = (let p : a < (timer_in row).deadline = h.pending.later in omega arith);
     in_range = (let p : (timer_in row).deadline ≤ last_tick = h.pending.in_range in omega arith);
   } where
-    elsewhere : IsGoing table a m row → target table (a + 1) row ≢ l
+    elsewhere : RowLeaves table a m row → target table (a + 1) row ≢ l
     elsewhere (inl e) = λ (x : target table (a + 1) row ≡ l). let g : target table (a + 1) row ≡ slots table = target_due table (a + 1) row (is_due (a + 1) (timer_in row) e) in let k : l < slots table = l_in_range in omega arith
     elsewhere (inr y) = λ (x : target table (a + 1) row ≡ l). let g : target table (a + 1) row ≡ bucket table (a + 1) (timer_in row).deadline = target_left table (a + 1) row (is_left (a + 1) (timer_in row) y.0) in let z : bucket table (a + 1) (timer_in row).deadline < m = y.1.1 in let q : m ≤ l = not_below_m in omega arith
 
   pub all_may_migrate : last_tick ≤ last_of table → AllByRecursion (MayMigrate table (a + 1) l) rows_l
-  all_may_migrate range = All-weaken (Stands table last_tick a last_serial l) (MayMigrate table (a + 1) l) rows_l (may_migrate range) (stands l l_in_range)
+  all_may_migrate range = All-weaken (KnownRow table last_tick a last_serial l) (MayMigrate table (a + 1) l) rows_l (may_migrate range) (known_rows l l_in_range)
 
   -- A bucket of the lowest wheel has only timers of this tick.
 
   pub all_of_tick : m ≡ 0 → AllByRecursion (IsOfTick (a + 1)) rows_l
-  all_of_tick z = All-weaken (IsGoing table a m) (IsOfTick (a + 1)) rows_l of_tick all_going where
-    of_tick : (row : ℕ × Node) → IsGoing table a m row → IsOfTick (a + 1) row
+  all_of_tick z = All-weaken (RowLeaves table a m) (IsOfTick (a + 1)) rows_l of_tick all_going where
+    of_tick : (row : ℕ × Node) → RowLeaves table a m row → IsOfTick (a + 1) row
     of_tick row (inl e) = e
     of_tick row (inr y) = absurd (let k : bucket table (a + 1) (timer_in row).deadline < m = y.1.1 in omega arith)
 

@@ -13,7 +13,7 @@ use Rattle.timer_wheels.specs.Digits.{IsTable, HasDigits, level, hops}
 use Rattle.timer_wheels.proofs.DigitLaws.{digits_down}
 use Rattle.timer_wheels.specs.Leap.{timer_visit, AreNotVisitedBefore, Leaps}
 use Rattle.timer_wheels.specs.Placement.{IsPlaced, hops_of, levels_of}
-use Rattle.timer_wheels.specs.WheelLists.{timer_in, entries_of, rows_below, pending_in, wheel_state, ArePending, EachRow}
+use Rattle.timer_wheels.specs.BucketLists.{timer_in, entries_of, rows_below, pending_in, wheel_state, ArePending, EachRow}
 use Rattle.timer_wheels.proofs.RowLemmas.{all-rows_below, all-list_at}
 use Rattle.timer_wheels.proofs.VisitLaws.{visit_in_time, level_stays, bucket_stays}
 

@@ -1,7 +1,7 @@
 -- The lemmas that the proofs of this crate share.
 pub mod DigitLaws
 pub mod RowLemmas
-pub mod WheelLemmas
+pub mod BucketLemmas
 pub mod WalkLemmas
 pub mod WideDigits
 pub mod MigrationLemmas

@@ -8,8 +8,8 @@ use Rattle.timer_base.specs.Pending.{is_due_at}
 use Rattle.timer_links.specs.declared.node.Node.{Node}
 use Rattle.timer_links.specs.Lists.{list_at, with_row, row_count, front_moved, first_row_moved, appended, node_at, first_key, AreApart}
 use Rattle.timer_wheels.specs.Digits.{slots, bucket, last_of}
-use Rattle.timer_wheels.specs.WheelLists.{timer_in}
-use Rattle.timer_wheels.specs.Migration.{target, spread, migrated, left_rows, first_deadline, MayMigrate, IsOfTick}
+use Rattle.timer_wheels.specs.BucketLists.{timer_in}
+use Rattle.timer_wheels.specs.Migration.{target, migrate_rows, migrated, left_rows, first_deadline, MayMigrate, IsOfTick}
 use Rattle.timer_wheels.proofs.MigrationLemmas.{target_due, target_left}
 use Rattle.timer_wheels.proofs.RowLemmas.{append-nil}
 
@@ -70,9 +70,9 @@ module _ (table : List ℕ) (l tick : ℕ) (lists : List (List (ℕ × Node))) (
 
   leads_same : migrated table tick l after ≡ migrated table tick l lists
   leads_same =
-      ap (λ (y : List (ℕ × Node)). spread table tick y (slice_set after l [])) left_at
-      ∙ (ap (spread table tick rest) emptied_is
-      ∙ ap (λ (y : List (ℕ × Node)). spread table tick y (slice_set lists l [])) (sym at))
+      ap (λ (y : List (ℕ × Node)). migrate_rows table tick y (slice_set after l [])) left_at
+      ∙ (ap (migrate_rows table tick rest) emptied_is
+      ∙ ap (λ (y : List (ℕ × Node)). migrate_rows table tick y (slice_set lists l [])) (sym at))
 
   length_same : length after ≡ length lists
   length_same = length-set (slice_set lists l rest) to (list_at to (slice_set lists l rest) ++ row ∷ []) ∙ length-set lists l rest
@@ -123,7 +123,7 @@ at_end table l tick step moves old lists s e =
     let y : length (left_rows tick (list_at l lists)) ≡ 0 = ap (λ (y : List (ℕ × Node)). length (left_rows tick y)) e in
     let q : moves + length (left_rows tick (list_at l lists)) ≡ length (left_rows tick (list_at l old)) = s.moves_are in
     record {
-      lists_are = sym (ap (λ (y : List (ℕ × Node)). spread table tick y (slice_set lists l [])) e ∙ (ap (slice_set lists l) (sym e) ∙ set-get_or lists l [])) ∙ s.leads;
+      lists_are = sym (ap (λ (y : List (ℕ × Node)). migrate_rows table tick y (slice_set lists l [])) e ∙ (ap (slice_set lists l) (sym e) ∙ set-get_or lists l [])) ∙ s.leads;
       moves_are = omega arith;
       emptied = e;
     }
@@ -195,22 +195,22 @@ module _ (table : List ℕ) (l tick step moves d : ℕ) (old lists new : List (L
 
 -- A bucket whose rows are all due moves as a whole.
 
-spread_whole : (table : List ℕ) (tick : ℕ) (rows : List (ℕ × Node)) (lists : List (List (ℕ × Node))) → slots table < length lists → AllByRecursion (IsOfTick tick) rows → spread table tick rows lists ≡ slice_set lists (slots table) (list_at (slots table) lists ++ rows)
-spread_whole table tick [] lists b a = sym (ap (slice_set lists (slots table)) (append-nil (list_at (slots table) lists)) ∙ set-get_or lists (slots table) [])
-spread_whole table tick (x ∷ xs) lists b a =
+migrate_rows_whole : (table : List ℕ) (tick : ℕ) (rows : List (ℕ × Node)) (lists : List (List (ℕ × Node))) → slots table < length lists → AllByRecursion (IsOfTick tick) rows → migrate_rows table tick rows lists ≡ slice_set lists (slots table) (list_at (slots table) lists ++ rows)
+migrate_rows_whole table tick [] lists b a = sym (ap (slice_set lists (slots table)) (append-nil (list_at (slots table) lists)) ∙ set-get_or lists (slots table) [])
+migrate_rows_whole table tick (x ∷ xs) lists b a =
     let to : target table tick x ≡ slots table = target_due table tick x (eq-eqb (timer_in x).deadline tick a.0) in
     let had : List (ℕ × Node) = list_at (slots table) lists in
     let more : List (List (ℕ × Node)) = with_row (slots table) x lists in
     let b2 : slots table < length more = rw (length-set lists (slots table) (list_at (slots table) lists ++ x ∷ [])) b in
-    ap (λ (k : ℕ). spread table tick xs (with_row k x lists)) to
-    ∙ (spread_whole table tick xs more b2 a.1
+    ap (λ (k : ℕ). migrate_rows table tick xs (with_row k x lists)) to
+    ∙ (migrate_rows_whole table tick xs more b2 a.1
     ∙ (ap (λ (y : List (ℕ × Node)). slice_set more (slots table) (y ++ xs)) (get_or-set_same lists (slots table) (had ++ x ∷ []) [] b)
     ∙ (set_twice lists (slots table) (had ++ x ∷ []) ((had ++ x ∷ []) ++ xs)
     ∙ ap (slice_set lists (slots table)) (append_assoc had (x ∷ []) xs))))
 
 migrated_whole : (table : List ℕ) (tick l : ℕ) (lists : List (List (ℕ × Node))) → slots table < length lists → slots table ≢ l → AllByRecursion (IsOfTick tick) (list_at l lists) → migrated table tick l lists ≡ appended l (slots table) lists
 migrated_whole table tick l lists b n a =
-    spread_whole table tick (list_at l lists) (slice_set lists l []) (rw (length-set lists l []) b) a
+    migrate_rows_whole table tick (list_at l lists) (slice_set lists l []) (rw (length-set lists l []) b) a
     ∙ ap (λ (y : List (ℕ × Node)). slice_set (slice_set lists l []) (slots table) (y ++ list_at l lists)) (get_or-set_other lists l (slots table) [] [] n)
 
 pub append_whole : (table : List ℕ) (k tick l : ℕ) (lists : List (List (ℕ × Node))) → k ≡ slots table → length lists ≡ slots table + 1 → l < slots table → AllByRecursion (IsOfTick tick) (list_at l lists) → appended l k lists ≡ migrated table tick l lists

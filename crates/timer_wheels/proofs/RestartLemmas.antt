@@ -10,10 +10,10 @@ use Rattle.timer_links.specs.declared.node.Node.{Node}
 use Rattle.timer_links.specs.Lists.{list_at, node_at, with_row, without_key, AreApart}
 use Rattle.timer_wheels.specs.declared.buckets.Buckets.{Buckets}
 use Rattle.timer_wheels.specs.Buckets.{state_of}
-use Rattle.timer_wheels.specs.WheelLists.{timer_in, timers_in, rows_below, wheel_state, ArePending, ArePast, AreInOrder, EachRow}
+use Rattle.timer_wheels.specs.BucketLists.{timer_in, timers_in, rows_below, wheel_state, ArePending, ArePast, AreInOrder, EachRow}
 use Rattle.timer_wheels.proofs.RowLemmas.{all-list_at}
 use Rattle.timer_wheels.proofs.ReplaceLemmas.{is_used}
-use Rattle.timer_wheels.proofs.WheelLemmas.{IsSeparated, separated, look-has, past-with_row, past-without_key, stop-found, stopped-pending, stopped-distinct, stopped-in_order, started, started-pending, started-distinct, in_order-with_row, AreBelow-pending, each-with_row, each-without_key}
+use Rattle.timer_wheels.proofs.BucketLemmas.{IsSeparated, separated, look-has, past-with_row, past-without_key, stop-found, stopped-pending, stopped-distinct, stopped-in_order, started, started-pending, started-distinct, in_order-with_row, AreBelow-pending, each-with_row, each-without_key}
 
 pub record MayRestart (b : Buckets) (bucket : ℕ) (timer : Timer) : Type 0 where
   pub in_slots : bucket < b.slots

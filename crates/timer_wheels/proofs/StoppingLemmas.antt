@@ -19,9 +19,9 @@ use Rattle.timer_wheels.specs.Hier.{IsHier}
 use Rattle.timer_wheels.specs.Leap.{Leaps}
 use Rattle.timer_wheels.specs.Occupied.{bit_of, filled, AreMarked, Clears}
 use Rattle.timer_wheels.specs.Placement.{IsPaid, hops_of, levels_of, has_any, most_moves}
-use Rattle.timer_wheels.specs.WheelLists.{timer_in, ArePast}
+use Rattle.timer_wheels.specs.BucketLists.{timer_in, ArePast}
 use Rattle.timer_wheels.proofs.RowLemmas.{all-rest}
-use Rattle.timer_wheels.proofs.WheelLemmas.{IsSeparated, separated, look-has}
+use Rattle.timer_wheels.proofs.BucketLemmas.{IsSeparated, separated, look-has}
 
 -- A stop.
 

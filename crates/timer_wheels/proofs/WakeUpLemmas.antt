@@ -12,10 +12,10 @@ use Rattle.timer_base.specs.WheelState.{IsPending}
 use Rattle.timer_links.specs.declared.node.Node.{Node}
 use Rattle.timer_links.specs.Lists.{list_at, first_key}
 use Rattle.timer_wheels.specs.Hashed.{IsInBucket, AreInBuckets}
-use Rattle.timer_wheels.specs.WheelLists.{timer_in, entries_of, rows_below, pending_in, wheel_state, ArePending, EachRow}
+use Rattle.timer_wheels.specs.BucketLists.{timer_in, entries_of, rows_below, pending_in, wheel_state, ArePending, EachRow}
 use Rattle.timer_wheels.proofs.HashedTicks.{remainder_is}
 use Rattle.timer_wheels.proofs.RowLemmas.{all-rows_below, all-list_at, rows_below-none}
-use Rattle.timer_wheels.proofs.WheelLemmas.{length-pending_in}
+use Rattle.timer_wheels.proofs.BucketLemmas.{length-pending_in}
 
 -- Some timer is pending, or none is.
 

@@ -7,7 +7,7 @@ use Rattle.std.proofs.lemmas.List.{set-get_or}
 use Rattle.timer_base.specs.declared.timer.Timer.{Timer}
 use Rattle.timer_links.specs.declared.node.Node.{Node}
 use Rattle.timer_links.specs.Lists.{node_at, first_key, list_at, row_count, AreApart, IsNext, PopsFront}
-use Rattle.timer_wheels.specs.WheelLists.{timers_in}
+use Rattle.timer_wheels.specs.BucketLists.{timers_in}
 use Rattle.timer_wheels.proofs.RowLemmas.{append-nil, timers-append}
 
 -- after some steps these rows of the list are behind, those are left, and the key is that of the next one

@@ -5,8 +5,8 @@ use Rattle.timer_base.specs.WheelState.{WheelState, IsWellFormed}
 use Rattle.timer_links.specs.declared.node.Node.{Node}
 use Rattle.timer_links.specs.Lists.{with_row, without_key}
 use Rattle.timer_wheels.specs.declared.buckets.Buckets.{Buckets}
-use Rattle.timer_wheels.specs.WheelLists.{wheel_state}
-use Rattle.timer_wheels.specs.WheelLaws.{wheel_state-well_formed}
+use Rattle.timer_wheels.specs.BucketLists.{wheel_state}
+use Rattle.timer_wheels.specs.BucketLaws.{wheel_state-well_formed}
 
 -- the wheel whose buckets these are
 abbrev pub state_of : Buckets → WheelState

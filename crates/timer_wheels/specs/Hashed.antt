@@ -5,7 +5,7 @@ use Rattle.std.proofs.Props.{props}
 use Rattle.timer_base.specs.declared.timer.Timer.{Timer}
 use Rattle.timer_base.specs.WheelState.{WheelState}
 use Rattle.timer_links.specs.declared.node.Node.{Node}
-use Rattle.timer_wheels.specs.WheelLists.{timer_in, EachRow, EachRow-prop}
+use Rattle.timer_wheels.specs.BucketLists.{timer_in, EachRow, EachRow-prop}
 use Rattle.timer_wheels.specs.Shown.{ShowsBuckets}
 
 -- the slot of a timer

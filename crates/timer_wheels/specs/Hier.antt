@@ -7,7 +7,7 @@ use Rattle.timer_wheels.specs.Digits.{slots, last_of}
 use Rattle.timer_wheels.specs.Occupied.{AreMarked}
 use Rattle.timer_wheels.specs.Placement.{IsPlaced, IsPlaced-prop, levels_of}
 use Rattle.timer_wheels.specs.Tables.{radices}
-use Rattle.timer_wheels.specs.WheelLists.{EachRow, EachRow-prop}
+use Rattle.timer_wheels.specs.BucketLists.{EachRow, EachRow-prop}
 
 -- each row of the buckets is in its timer's bucket
 abbrev pub ArePlaced : Table → Buckets → Type 0

@@ -2,7 +2,7 @@
 use Rattle.std.specs.Prelude.{◌≡◌, ℕ, ◌+◌, ◌-◌, ◌*◌, ◌/◌, ◌<◌, ◌≤◌, nat_lt, zero, suc, ◌==◌, if◌then◌else◌, List, [], ◌∷◌, Option, MatchOption}
 use Rattle.timer_base.specs.WheelState.{WheelState, after_ticks}
 use Rattle.timer_links.specs.declared.node.Node.{Node}
-use Rattle.timer_wheels.specs.WheelLists.{timer_in, EachRow}
+use Rattle.timer_wheels.specs.BucketLists.{timer_in, EachRow}
 use Rattle.timer_wheels.specs.Placement.{hops_of, levels_of}
 
 -- the next visit of slot s of wheel k: now with s as its digit k, and zeros below

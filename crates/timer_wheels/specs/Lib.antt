@@ -1,6 +1,6 @@
 -- The definitions of this crate, and the lemmas that clauses or crates above cite.
-pub mod WheelLists
-pub mod WheelLaws
+pub mod BucketLists
+pub mod BucketLaws
 pub mod Buckets
 pub mod Digits
 pub mod Placement

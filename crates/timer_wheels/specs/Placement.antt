@@ -8,7 +8,7 @@ use Rattle.timer_base.specs.WheelState.{WheelState}
 use Rattle.timer_links.specs.declared.node.Node.{Node}
 use Rattle.timer_wheels.specs.Digits.{level, bucket, slots, hops}
 use Rattle.timer_wheels.specs.Shown.{ShowsBuckets}
-use Rattle.timer_wheels.specs.WheelLists.{timer_in}
+use Rattle.timer_wheels.specs.BucketLists.{timer_in}
 
 -- the list of a pending timer
 abbrev pub bucket_at : List ℕ → ℕ → Timer → ℕ

@@ -6,7 +6,7 @@ use Rattle.timer_base.specs.Pending.{Entry}
 use Rattle.timer_base.specs.WheelState.{WheelState}
 use Rattle.timer_links.specs.declared.node.Node.{Node}
 use Rattle.timer_links.specs.Lists.{list_at}
-use Rattle.timer_wheels.specs.WheelLists.{timers_in}
+use Rattle.timer_wheels.specs.BucketLists.{timers_in}
 
 -- the timer, were its deadline 0
 abbrev pub without_deadline : Entry → Timer

@@ -1,6 +1,6 @@
 use Rattle.timer_links.specs.Lists.{list_at}
 use Rattle.timer_wheels.proofs.HierLeaps.{skipped}
-use Rattle.timer_wheels.proofs.WheelLemmas.{none_past}
+use Rattle.timer_wheels.proofs.BucketLemmas.{none_past}
 use Rattle.timer_wheels.proofs.leap.skip_to.Goals as goal
 
 pub invariant_of-buckets-clause-pending : goal.invariant_of-buckets-clause-pending

@@ -2,7 +2,7 @@ use Rattle.std.proofs.Common.{◌+◌, ℕ, ap, subst, sym, arith}
 use Rattle.timer_base.specs.WheelState.{WheelState}
 use Rattle.timer_links.specs.Lists.{list_at}
 use Rattle.timer_wheels.specs.Buckets.{state_of}
-use Rattle.timer_wheels.proofs.WheelLemmas.{due_past}
+use Rattle.timer_wheels.proofs.BucketLemmas.{due_past}
 use Rattle.timer_wheels.specs.Occupied.{AreMarked}
 use Rattle.timer_wheels.proofs.MigrationTick.{may_migrate_at, all_of_tick_at, next_at}
 use Rattle.timer_wheels.proofs.migration.next_tick.Goals as goal

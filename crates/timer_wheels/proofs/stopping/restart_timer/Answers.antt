@@ -6,13 +6,13 @@ use Rattle.timer_wheels.specs.Digits.{slots}
 use Rattle.timer_wheels.specs.Occupied.{AreMarked}
 use Rattle.timer_wheels.specs.Placement.{IsPlaced}
 use Rattle.timer_wheels.specs.Tables.{radices}
-use Rattle.timer_wheels.specs.WheelLists.{EachRow}
+use Rattle.timer_wheels.specs.BucketLists.{EachRow}
 use Rattle.timer_wheels.proofs.StoppingLemmas.{marked_after, emptied_in}
 use Rattle.timer_wheels.proofs.OccupiedLemmas.{marked_with_row}
 use Rattle.timer_wheels.proofs.RestartLemmas.{each_restarted}
 use Rattle.timer_wheels.proofs.ReplaceLemmas.{is_used}
 use Rattle.timer_wheels.proofs.TableLaws.{of_table, below}
-use Rattle.timer_wheels.proofs.WheelLemmas.{separated, look-has}
+use Rattle.timer_wheels.proofs.BucketLemmas.{separated, look-has}
 use Rattle.std.proofs.lemmas.List.{length-map}
 use Rattle.timer_wheels.proofs.stopping.restart_timer.Goals as goal
 

@@ -1,5 +1,5 @@
 use Rattle.std.proofs.Common.{Some, None, inl, inr, sym, ◌∙◌}
-use Rattle.timer_wheels.proofs.WheelLemmas.{separated, look-some, look-none}
+use Rattle.timer_wheels.proofs.BucketLemmas.{separated, look-some, look-none}
 use Rattle.timer_wheels.proofs.buckets.Buckets.look.Goals as goal
 
 pub returns-in_err-node : goal.returns-in_err-node

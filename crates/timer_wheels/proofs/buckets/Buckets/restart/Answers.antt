@@ -4,7 +4,7 @@ use Rattle.timer_base.specs.WheelState.{after_start, after_stop}
 use Rattle.timer_links.specs.declared.node.Node.{Node}
 use Rattle.timer_links.specs.Lists.{list_at}
 use Rattle.timer_wheels.specs.Buckets.{state_of}
-use Rattle.timer_wheels.specs.WheelLists.{timers_in, rows_below, wheel_state, ArePending, ArePast, AreInOrder}
+use Rattle.timer_wheels.specs.BucketLists.{timers_in, rows_below, wheel_state, ArePending, ArePast, AreInOrder}
 use Rattle.timer_wheels.proofs.RestartLemmas.{restart_used, restart_length, restart_pending, restart_distinct, restart_past, restart_in_order, restart_state}
 use Rattle.timer_wheels.proofs.buckets.Buckets.restart.Goals as goal
 

@@ -2,7 +2,7 @@ use Rattle.std.proofs.Common.{◌+◌, ℕ, List, length, sym, ◌∙◌, ap}
 use Rattle.std.proofs.lemmas.List.{length-map}
 use Rattle.timer_links.specs.declared.node.Node.{Node}
 use Rattle.timer_links.specs.Lists.{without_key}
-use Rattle.timer_wheels.proofs.WheelLemmas.{separated, past-without_key, look-has, stop-found, stopped-pending, stopped-distinct, stopped-in_order}
+use Rattle.timer_wheels.proofs.BucketLemmas.{separated, past-without_key, look-has, stop-found, stopped-pending, stopped-distinct, stopped-in_order}
 use Rattle.timer_wheels.proofs.ReplaceLemmas.{is_used}
 use Rattle.timer_wheels.proofs.buckets.Buckets.take.Goals as goal
 

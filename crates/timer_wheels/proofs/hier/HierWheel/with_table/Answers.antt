@@ -3,7 +3,7 @@ use Rattle.timer_links.specs.Lists.{list_at}
 use Rattle.timer_wheels.specs.Tables.{radices}
 use Rattle.timer_wheels.proofs.HierLemmas.{new_placed, new_paid}
 use Rattle.timer_wheels.proofs.OccupiedLemmas.{marked_none}
-use Rattle.timer_wheels.proofs.WheelLemmas.{list_at-replicate}
+use Rattle.timer_wheels.proofs.BucketLemmas.{list_at-replicate}
 use Rattle.timer_wheels.proofs.hier.HierWheel.with_table.Goals as goal
 
 pub invariant_of-result-clause-placed : goal.invariant_of-result-clause-placed

@@ -11,8 +11,8 @@ use Rattle.timer_base.specs.Pending.{Entry, timer_of, timers_of, is_due_at, entr
 use Rattle.timer_base.specs.WheelState.{WheelState, IsPending, after_start, after_stop, after_expiry, after_clear}
 use Rattle.timer_links.specs.declared.node.Node.{Node}
 use Rattle.timer_links.specs.Lists.{list_at, node_in, node_at, first_of, with_row, without_key, row_count, AreApart}
-use Rattle.timer_wheels.specs.WheelLaws.{timers_of-entries}
-use Rattle.timer_wheels.specs.WheelLists.{timer_in, timers_in, entry_of, entries_of, rows_below, pending_in, wheel_state, ArePending, ArePast, AreInOrder, EachRow}
+use Rattle.timer_wheels.specs.BucketLaws.{timers_of-entries}
+use Rattle.timer_wheels.specs.BucketLists.{timer_in, timers_in, entry_of, entries_of, rows_below, pending_in, wheel_state, ArePending, ArePast, AreInOrder, EachRow}
 use Rattle.timer_wheels.proofs.RowLemmas.{all-append, all-front, all-rest, all-rows_below, rows_below-above, rows_below-none, IsInserted, rows_below-with_row, rows_below-without_key, list_at-without_key, timers-append, entries-append, filter-entries, AreBelow-timers, IsNotAmong-front, IsNotAmong-below, AreDistinct-inserted, AreDistinct-taken, IsNotAmong-others}
 
 -- A row is inserted.

@@ -9,7 +9,7 @@ use Rattle.timer_base.specs.OrderLaws.{map-in_order, All-in_order, IsOrdered-in_
 use Rattle.timer_base.specs.Pending.{timer_of, timers_of}
 use Rattle.timer_base.specs.WheelState.{IsPending, IsWellFormed}
 use Rattle.timer_links.specs.declared.node.Node.{Node}
-use Rattle.timer_wheels.specs.WheelLists.{timer_in, timers_in, entries_of, rows_below, pending_in, wheel_state, ArePending, AreInOrder}
+use Rattle.timer_wheels.specs.BucketLists.{timer_in, timers_in, entries_of, rows_below, pending_in, wheel_state, ArePending, AreInOrder}
 
 pub timers_of-entries : (rows : List (ℕ × Node)) → map timer_of (entries_of rows) ≡ timers_in rows
 timers_of-entries [] = refl
