@@ -1,4 +1,4 @@
--- What a clear of a `PlainWheel` leaves: the timers that are due.
+-- Lemmas for `clear` of a `PlainWheel`: what it leaves is what is due.
 use Rattle.std.proofs.Common.{◌≡◌, ℕ, Bool, true, false, List, [], ◌∷◌, length, refl, ap, inl, inr, arith}
 use Rattle.std.specs.Prelude.{map, filter}
 use Rattle.std.proofs.lemmas.Bool.Decides.{nat_tests}

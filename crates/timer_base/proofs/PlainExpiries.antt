@@ -1,4 +1,4 @@
--- How removing the first due timer changes the state of a `PlainWheel`.
+-- Lemmas for `expire` of a `PlainWheel`: removing the first due timer.
 use Rattle.std.proofs.Common.{◌≡◌, ◌≢◌, ◌<◌, ◌≤◌, ◌-◌, ℕ, Bool, true, false, not, ◌⊎◌, List, [], ◌∷◌, length, refl, sym, ◌∙◌, ap, inl, inr, arith, drop}
 use Rattle.std.specs.Prelude.{map, filter, find, if◌then◌else◌, Some, None, slice_get}
 use Rattle.std.proofs.lemmas.Bool.Decides.{nat_tests}

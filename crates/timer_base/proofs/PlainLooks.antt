@@ -1,4 +1,4 @@
--- Looking up a timer of a `PlainWheel`, and removing it.
+-- Lemmas for `look` and `stop` of a `PlainWheel`: a timer is found by its serial, and removed.
 use Rattle.std.proofs.Common.{◌≡◌, ◌≢◌, ◌<◌, ◌≤◌, ℕ, Bool, true, false, not, ◌&&◌, ◌==◌, List, [], ◌∷◌, length, refl, sym, ◌∙◌, ap, inl, inr, arith}
 use Rattle.std.specs.Prelude.{slice_get, map, filter, find, if◌then◌else◌, Some, None}
 use Rattle.std.proofs.lemmas.Bool.{cases_eq}

@@ -1,4 +1,4 @@
--- A restart of a plain wheel: one timer is removed, and another pushed.
+-- Lemmas for `restart` of a `PlainWheel`: one timer is removed, and another pushed.
 use Rattle.std.proofs.Common.{◌≡◌, ◌<◌, ◌≤◌, ◌+◌, ◌-◌, ℕ, List, length, ap, arith}
 use Rattle.std.specs.Prelude.{Some, filter, not}
 use Rattle.std.specs.List.{AllByRecursion}

@@ -1,4 +1,4 @@
--- How a start and a tick change the state of a `PlainWheel`, and its counts.
+-- Lemmas for `start` and `per_tick` of a `PlainWheel`: the state, and the count of due timers.
 use Rattle.std.proofs.Common.{◌≡◌, ◌<◌, ◌≤◌, ◌+◌, ◌-◌, ℕ, suc, Bool, true, false, not, List, [], ◌∷◌, ◌++◌, length, refl, sym, ◌∙◌, ap, inl, inr, arith, append-nil}
 use Rattle.std.specs.Prelude.{map, filter, nat_lt, if◌then◌else◌}
 use Rattle.std.specs.List.{AllByRecursion}

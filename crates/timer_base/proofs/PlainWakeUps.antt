@@ -1,4 +1,4 @@
--- The first pending deadline of a `PlainWheel`.
+-- Lemmas for `quiet_until` of a `PlainWheel`: its first pending deadline.
 use Rattle.std.proofs.Common.{◌≡◌, ◌<◌, ◌≤◌, ℕ, true, false, List, [], ◌∷◌, refl, sym, ◌∙◌, ap, inl, inr, arith}
 use Rattle.std.specs.Prelude.{map, filter, min, Option, Some, None}
 use Rattle.std.specs.List.{AllByRecursion}

@@ -1,3 +1,4 @@
+-- The definitions of this crate, and the lemmas that clauses or crates above cite.
 pub mod OneOrder
 pub mod Order
 pub mod OrderLaws

@@ -1,4 +1,4 @@
--- The order of distinct timers is unique.
+-- Lemmas: the order of distinct timers is unique. They are in specs/ since crates above cite them.
 use Rattle.std.specs.Prelude.{◌≡◌, ◌≢◌, ◌≤◌, ◌+◌, ℕ, true, false, ◌==◌, ◌⊎◌, if◌then◌else◌, List, [], ◌∷◌, map, refl}
 use Rattle.std.proofs.Common.{sym, ◌∙◌, ap, subst, inl, inr, arith}
 use Rattle.std.specs.List.{AllByRecursion, sum_by}
@@ -45,7 +45,8 @@ same_heads : {X : Type 0} (timer : X → Timer) (x y : X) (xs ys : List X) → I
 same_heads timer x y xs ys f g n (inl e) m = sym e
 same_heads timer x y xs ys f g n (inr l) (inl e) = e
 same_heads timer x y xs ys f g n (inr l) (inr m) =
-    absurd (neither (timer x) (timer y) (from_others timer (timer y).serial x ys n l) (from_first timer (timer y) x ys g l) (from_first timer (timer x) y xs f m))
+    absurd (neither (timer x) (timer y) (from_others timer (timer y).serial x ys n l)
+    (from_first timer (timer y) x ys g l) (from_first timer (timer x) y xs f m))
 
 not_the_head : {X : Type 0} (timer : X → Timer) (x y z : X) (ys : List X) → x ≡ y → (timer z).serial ≢ (timer x).serial
     → IsMember z (y ∷ ys) → IsMember z ys
@@ -99,12 +100,15 @@ IsMember-insert_in_order timer x z (y ∷ ys) m = elim (either (is_before (timer
 
 pub IsMember-in_order : {X : Type 0} (timer : X → Timer) (z : X) (xs : List X) → IsMember z xs → IsMember z (in_order timer xs)
 IsMember-in_order timer z [] m = absurd m
-IsMember-in_order {X} timer z (x ∷ xs) (inl e) = let P : X → Type 0 = λ w. IsMember w (insert_in_order timer x (in_order timer xs)) in subst P e (inserted_is_member timer x (in_order timer xs))
+IsMember-in_order {X} timer z (x ∷ xs) (inl e) =
+    let P : X → Type 0 = λ w. IsMember w (insert_in_order timer x (in_order timer xs)) in
+    subst P e (inserted_is_member timer x (in_order timer xs))
 IsMember-in_order timer z (x ∷ xs) (inr m) = IsMember-insert_in_order timer x z (in_order timer xs) (IsMember-in_order timer z xs m)
 
 each_is_among : {X : Type 0} (xs ys : List X) → IsPermutation xs ys → AllByRecursion (λ z. IsMember z xs) ys
 each_is_among xs ys p =
-    recursion_from_All (λ z. IsMember z xs) ys (All-permutation (λ z. IsMember z xs) xs ys p (All-from_recursion (λ z. IsMember z xs) xs (each_is_member xs)))
+    recursion_from_All (λ z. IsMember z xs) ys
+    (All-permutation (λ z. IsMember z xs) xs ys p (All-from_recursion (λ z. IsMember z xs) xs (each_is_member xs)))
 
 pub same_members : {X : Type 0} (xs ys : List X) → IsPermutation xs ys → HaveSameMembers xs ys
 same_members xs ys p = record { into = each_is_among ys xs (IsPermutation-sym xs ys p); back = each_is_among xs ys p }
@@ -157,7 +161,8 @@ not_among_from timer k (x ∷ xs) z = (
 distinct_from : {X : Type 0} (timer : X → Timer) (xs : List X) → ((k : ℕ) → times_of timer k xs ≤ 1) → AreDistinct (map timer xs)
 distinct_from timer [] a = tt
 distinct_from timer (x ∷ xs) a = (
-  not_among_from timer (timer x).serial xs (omega (arith, a (timer x).serial, times-cons timer (timer x).serial x xs, one_same (timer x).serial (timer x).serial refl)),
+  not_among_from timer (timer x).serial xs
+      (omega (arith, a (timer x).serial, times-cons timer (timer x).serial x xs, one_same (timer x).serial (timer x).serial refl)),
   distinct_from timer xs (λ k. omega (arith, a k, times-cons timer k x xs)),
 )
 

@@ -1,4 +1,4 @@
--- Laws of the order of timers, for any list whose members have a timer.
+-- Lemmas about the order of anything that has a timer. They are in specs/ since clauses and crates above cite them.
 use Rattle.std.specs.Prelude.{◌≡◌, ◌≢◌, ◌<◌, ◌≤◌, ℕ, suc, Bool, true, false, ◌==◌, ◌⊎◌, nat_lt, if◌then◌else◌, List, [], ◌∷◌, ◌++◌, length, filter, map, refl}
 use Rattle.std.proofs.Common.{sym, ◌∙◌, ap, inl, inr, arith}
 use Rattle.std.specs.Coded.{×_prop, Unit-prop, le_prop}
@@ -81,7 +81,9 @@ AreBelow-in_order timer high (x ∷ xs) b = AreBelow-insert_in_order timer high 
 pub in_order-newest : {X : Type 0} (timer : X → Timer) (e : X) (xs ys : List X) → AreBelow (timer e).serial (map timer (xs ++ ys))
     → in_order timer (xs ++ e ∷ ys) ≡ insert_by_deadline timer e (in_order timer (xs ++ ys))
 in_order-newest timer e [] ys b = insert_newest timer e (in_order timer ys) (AreBelow-in_order timer (timer e).serial ys b)
-in_order-newest timer e (x ∷ xs) ys b = ap (insert_in_order timer x) (in_order-newest timer e xs ys b.1) ∙ sym (insert_by_deadline-insert_in_order timer e x (in_order timer (xs ++ ys)) b.0)
+in_order-newest timer e (x ∷ xs) ys b =
+    ap (insert_in_order timer x) (in_order-newest timer e xs ys b.1)
+    ∙ sym (insert_by_deadline-insert_in_order timer e x (in_order timer (xs ++ ys)) b.0)
 
 -- The position of a member in the list does not affect the order.
 
@@ -120,13 +122,18 @@ insert_in_order-commutes timer x y (z ∷ zs) n = elim (either (is_before (timer
 pub in_order-anywhere : {X : Type 0} (timer : X → Timer) (x : X) (ys zs : List X) → IsNotAmong (timer x).serial (map timer ys)
     → in_order timer (ys ++ x ∷ zs) ≡ insert_in_order timer x (in_order timer (ys ++ zs))
 in_order-anywhere timer x [] zs n = refl
-in_order-anywhere timer x (y ∷ ys) zs n = ap (insert_in_order timer y) (in_order-anywhere timer x ys zs n.1) ∙ insert_in_order-commutes timer y x (in_order timer (ys ++ zs)) n.0
+in_order-anywhere timer x (y ∷ ys) zs n =
+    ap (insert_in_order timer y) (in_order-anywhere timer x ys zs n.1)
+    ∙ insert_in_order-commutes timer y x (in_order timer (ys ++ zs)) n.0
 
 -- The length, and facts of every member.
 
 pub length-insert_in_order : {X : Type 0} (timer : X → Timer) (x : X) (l : List X) → length (insert_in_order timer x l) ≡ suc (length l)
 length-insert_in_order timer x [] = refl
-length-insert_in_order timer x (y ∷ ys) = elim (either (is_before (timer x) (timer y))) [ inl h ↦ rw h refl | inr h ↦ rw h (ap suc (length-insert_in_order timer x ys)) ]
+length-insert_in_order timer x (y ∷ ys) = elim (either (is_before (timer x) (timer y))) [
+  | inl h ↦ rw h refl
+  | inr h ↦ rw h (ap suc (length-insert_in_order timer x ys))
+]
 
 pub length-in_order : {X : Type 0} (timer : X → Timer) (xs : List X) → length (in_order timer xs) ≡ length xs
 length-in_order timer [] = refl
@@ -228,7 +235,8 @@ filter_kept timer p x (y ∷ ys) n o = elim (either (is_before (timer x) (timer 
 pub filter-in_order : {X : Type 0} (timer : X → Timer) (p : X → Bool) (xs : List X) → filter p (in_order timer xs) ≡ in_order timer (filter p xs)
 filter-in_order timer p [] = refl
 filter-in_order timer p (x ∷ xs) = elim (either (p x)) [
-  | inl k ↦ rw k (filter_kept timer p x (in_order timer xs) k (IsOrdered-in_order timer xs) ∙ ap (insert_in_order timer x) (filter-in_order timer p xs))
+  | inl k ↦ rw k (filter_kept timer p x (in_order timer xs) k (IsOrdered-in_order timer xs)
+      ∙ ap (insert_in_order timer x) (filter-in_order timer p xs))
   | inr k ↦ rw k (filter_not timer p x (in_order timer xs) k ∙ filter-in_order timer p xs)
 ]
 
@@ -242,7 +250,8 @@ map_step f g h x y ys a b ih = rw (a, b) (elim (either (is_before (f x) (f y))) 
   | inr k ↦ rw k (ap (λ r. h y ∷ r) ih)
 ])
 
-map-insert_in_order : {X : Type 0} {Y : Type 0} (f : X → Timer) (g : Y → Timer) (h : X → Y) (same : (x : X) → g (h x) ≡ f x) (x : X) (ys : List X) → map h (insert_in_order f x ys) ≡ insert_in_order g (h x) (map h ys)
+map-insert_in_order : {X : Type 0} {Y : Type 0} (f : X → Timer) (g : Y → Timer) (h : X → Y) (same : (x : X) → g (h x) ≡ f x)
+    → (x : X) (ys : List X) → map h (insert_in_order f x ys) ≡ insert_in_order g (h x) (map h ys)
 map-insert_in_order f g h same x [] = refl
 map-insert_in_order f g h same x (y ∷ ys) = map_step f g h x y ys (same x) (same y) (map-insert_in_order f g h same x ys)
 
@@ -323,7 +332,9 @@ IsNotAmong-in_order timer s (x ∷ xs) n = IsNotAmong-insert_in_order timer s x 
 
 pub AreDistinct-in_order : {X : Type 0} (timer : X → Timer) (xs : List X) → AreDistinct (map timer xs) → AreDistinct (map timer (in_order timer xs))
 AreDistinct-in_order timer [] d = tt
-AreDistinct-in_order timer (x ∷ xs) d = AreDistinct-insert_in_order timer x (in_order timer xs) (IsNotAmong-in_order timer (timer x).serial xs d.0) (AreDistinct-in_order timer xs d.1)
+AreDistinct-in_order timer (x ∷ xs) d =
+    AreDistinct-insert_in_order timer x (in_order timer xs)
+    (IsNotAmong-in_order timer (timer x).serial xs d.0) (AreDistinct-in_order timer xs d.1)
 
 IsNotAmong-rising : (s low : ℕ) (ts : List Timer) → s ≤ low → AreRising low ts → IsNotAmong s ts
 IsNotAmong-rising s low [] h r = tt

@@ -72,16 +72,19 @@ pub plain_state-well_formed : (now last_serial : ℕ) (ts : List Timer) → now 
     → AllByRecursion (IsKept now last_serial) ts → IsWellFormed (plain_state now last_serial ts)
 plain_state-well_formed now last_serial ts n l r k =
     let pending : List Timer = filter (is_after now) ts in
-    let same : timers_of (map at_first_place (in_order itself pending)) ≡ in_order itself pending = timers_of-at_first_place (in_order itself pending) in
+    let same : timers_of (map at_first_place (in_order itself pending)) ≡ in_order itself pending =
+    timers_of-at_first_place (in_order itself pending) in
     let ordered : IsOrdered (in_order itself pending) = rw (map-itself (in_order itself pending)) at (IsOrdered-in_order itself pending) in
     let apart : AreDistinct pending = AreDistinct-rising 0 pending (AreRising-filter (is_after now) 0 ts r) in
-    let distinct : AreDistinct (in_order itself pending) = rw (map-itself (in_order itself pending)) at (AreDistinct-in_order itself pending (rw (map-itself pending) apart)) in
+    let distinct : AreDistinct (in_order itself pending) =
+    rw (map-itself (in_order itself pending)) at (AreDistinct-in_order itself pending (rw (map-itself pending) apart)) in
     record {
       last_in_range = omega arith;
       now_in_range = n;
       serial_in_range = l;
       ordered = rw same ordered;
       distinct = rw same distinct;
-      each = rw same (All-in_order itself (IsPending LAST now last_serial) pending (All-filter (IsKept now last_serial) (IsPending LAST now last_serial) (is_after now) ts (kept_is_pending now last_serial) k));
+      each = rw same (All-in_order itself (IsPending LAST now last_serial) pending
+          (All-filter (IsKept now last_serial) (IsPending LAST now last_serial) (is_after now) ts (kept_is_pending now last_serial) k));
       due_rising = AreRising-filter (is_due_at now) 0 ts r;
     }

@@ -1,4 +1,4 @@
--- Ticks one after another.
+-- Lemmas about ticks one after another. They are in specs/ since crates above cite them.
 use Rattle.std.proofs.Common.{◌≡◌, ◌<◌, ◌≤◌, ◌+◌, ◌-◌, ℕ, zero, suc, ◌⊎◌, List, [], ◌∷◌, length, refl, sym, ◌∙◌, ap, subst, inl, inr, arith}
 use Rattle.std.specs.Prelude.{Bool, true, false}
 use Rattle.std.specs.List.{AllByRecursion}
@@ -122,13 +122,16 @@ one_more n w x z f e =
     let t1 : x.now + 1 ≡ w.now + suc n = omega arith in
     let g : AreAfter (x.now + 1) w.pending = let P : ℕ → Type 0 = λ k. AreAfter k w.pending in subst P (sym t1) f in
     let left : entries_left (x.now + 1) x.pending ≡ w.pending = ap (entries_left (x.now + 1)) p ∙ left_all (x.now + 1) w.pending g in
-    let due : timers_of (entries_due (x.now + 1) x.pending) ≡ [] = ap (λ (y : List Entry). timers_of (entries_due (x.now + 1) y)) p ∙ due_none (x.now + 1) w.pending g in
+    let due : timers_of (entries_due (x.now + 1) x.pending) ≡ [] =
+    ap (λ (y : List Entry). timers_of (entries_due (x.now + 1) y)) p ∙ due_none (x.now + 1) w.pending g in
     cc
 
 -- only the clock advances
 pub after_ticks-quiet : (n : ℕ) (w : WheelState) → w.due ≡ [] → AreAfter (w.now + n) w.pending → after_ticks n w ≡ at_tick w (w.now + n)
 after_ticks-quiet zero w z f = let e : w.now ≡ w.now + 0 = omega arith in ap (at_tick w) e
-after_ticks-quiet (suc n) w z f = one_more n w (after_ticks n w) z f (after_ticks-quiet n w z (sooner_too (w.now + n) (w.now + suc n) w.pending (omega arith) f))
+after_ticks-quiet (suc n) w z f =
+    one_more n w (after_ticks n w) z f
+    (after_ticks-quiet n w z (sooner_too (w.now + n) (w.now + suc n) w.pending (omega arith) f))
 
 pub quiet_until : (n : ℕ) (w : WheelState) → w.due ≡ [] → AreAfter (w.now + n) w.pending → (k : ℕ) → k ≤ n → (after_ticks k w).due ≡ []
 quiet_until n w z f k h = ap (λ (y : WheelState). y.due) (after_ticks-quiet k w z (sooner_too (w.now + k) (w.now + n) w.pending (omega arith) f)) ∙ z
@@ -139,7 +142,9 @@ passing_quiet n w z f = record { ticked = sym (after_ticks-quiet n w z f); quiet
 
 pub after_ticks-add : (n m : ℕ) (w : WheelState) → after_ticks (n + m) w ≡ after_ticks m (after_ticks n w)
 after_ticks-add n zero w = let e : n + zero ≡ n = omega arith in ap (λ (k : ℕ). after_ticks k w) e
-after_ticks-add n (suc m) w = let e : n + suc m ≡ suc (n + m) = omega arith in ap (λ (k : ℕ). after_ticks k w) e ∙ ap after_tick (after_ticks-add n m w)
+after_ticks-add n (suc m) w =
+    let e : n + suc m ≡ suc (n + m) = omega arith in
+    ap (λ (k : ℕ). after_ticks k w) e ∙ ap after_tick (after_ticks-add n m w)
 
 -- where nothing became due, every timer is still pending
 pub none_left_out : (tick : ℕ) (entries : List Entry) → timers_of (entries_due tick entries) ≡ [] → entries_left tick entries ≡ entries

@@ -1,4 +1,4 @@
--- How long the owner of a wheel may sleep.
+-- Ticks to wake up at: how long the owner of a wheel may sleep.
 use Rattle.std.specs.Prelude.{◌≡◌, ℕ, ◌<◌, ◌≤◌, List, [], ◌∷◌, Option, Some, None, length}
 use Rattle.std.specs.List.{AllByRecursion}
 use Rattle.timer_base.specs.Pending.{Entry}

@@ -1,4 +1,4 @@
-//! What a replay tells its driver.
+//! The result of a replay, as its driver reads it.
 use timer_base::Timer;
 
 const MIX_A: u64 = 0x9E3779B97F4A7C15;
@@ -7,7 +7,7 @@ const MIX_B: u64 = 0xC2B2AE3D27D4EB4F;
 
 const MIX_C: u64 = 0x00000100000001B3;
 
-/// What was handed out and stopped, mixed so that two wheels' answers can be compared.
+/// Counts and checksums of the timers handed out and stopped, by which two wheels' results can be compared.
 #[derive(Clone, Copy, Default)]
 pub struct Sums {
     expired: u64,
@@ -34,7 +34,7 @@ impl Sums {
         self.stop_mix = self.stop_mix.wrapping_add(timer.deadline ^ timer.action);
     }
 
-    /// The eight words that the driver reads, with no fault.
+    /// The eight values for the driver. The last one is its error flag, which is not set.
     pub fn words(&self, now: u64, pending: usize) -> [u64; 8] {
         [
             self.expired,

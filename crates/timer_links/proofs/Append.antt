@@ -1,4 +1,4 @@
--- A whole list moves to the back of another.
+-- Lemmas for `append`: a whole list moves to the back of another.
 use Rattle.std.proofs.Common.{◌≡◌, ◌≢◌, ◌<◌, ◌+◌, ℕ, List, [], ◌∷◌, ◌++◌, length, refl, sym, ◌∙◌, ap, subst, inl, inr, arith, length-set, length-append, get_or-set_same, get_or-set_other}
 use Rattle.std.specs.Prelude.{Option, Some, None, slice_set}
 use Rattle.std.proofs.lemmas.Bool.{cases_eq}
@@ -8,13 +8,13 @@ use Rattle.timer_links.specs.declared.node.Node.{Node}
 use Rattle.timer_links.specs.declared.ring.Sides.{Sides}
 use Rattle.timer_links.specs.Lists.{first_key, node_at, list_at, row_count, appended}
 use Rattle.timer_links.specs.Ring.{sides_at, Joins}
-use Rattle.timer_links.specs.Linked.{places, AreRings, IsLinked}
+use Rattle.timer_links.specs.Links.{places, AreRings, IsLinked}
 use Rattle.timer_links.proofs.Chains.{last}
 use Rattle.timer_links.proofs.Rows.{Has, has_either, Found, found, some_none, split_at, node_in-absent, node_at-none, row_count-set}
 use Rattle.timer_links.proofs.Rings.{node_at-here}
-use Rattle.timer_links.proofs.Moves.{joins_as, ends_are, rings_appended}
-use Rattle.timer_links.proofs.Calls.{low}
-use Rattle.timer_links.proofs.Fronts.{front_of}
+use Rattle.timer_links.proofs.RingJoins.{joins_as, ends_are, rings_appended}
+use Rattle.timer_links.proofs.LinksCalls.{low}
+use Rattle.timer_links.proofs.PopFront.{front_of}
 
 module _ (v : List (List (ℕ × Node))) (from to : ℕ) (o : to ≢ from) (bf : from < length v) (bt : to < length v) where
   emptied : length (slice_set v from []) ≡ length v

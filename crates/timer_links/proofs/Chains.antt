@@ -1,7 +1,7 @@
--- Chains of places, and what a join does to them. Nothing here knows of keys or nodes.
+-- Lemmas about chains of places, and what a join does to them. Nothing here knows of keys or nodes.
 use Rattle.std.proofs.Common.{◌≡◌, ℕ, ◌⊎◌, List, [], ◌∷◌, ◌++◌, refl, sym, ◌∙◌, ap, subst, inl, inr}
 use Rattle.timer_links.specs.declared.ring.Sides.{Sides}
-use Rattle.timer_links.specs.Ring.{sides_at, Meet, IsChain, Joins}
+use Rattle.timer_links.specs.Ring.{sides_at, AreJoined, IsChain, Joins}
 
 -- the place is one of these
 abbrev pub In : ℕ → List ℕ → Type 0
@@ -79,13 +79,13 @@ apart_both (p ∷ ps) qs a b n = (
 )
 
 -- two chains and the step between them
-pub glue : (s : List Sides) (p : ℕ) (ps : List ℕ) (q : ℕ) (qs : List ℕ) → IsChain s p ps → Meet s (last p ps) q → IsChain s q qs → IsChain s p (ps ++ q ∷ qs)
+pub glue : (s : List Sides) (p : ℕ) (ps : List ℕ) (q : ℕ) (qs : List ℕ) → IsChain s p ps → AreJoined s (last p ps) q → IsChain s q qs → IsChain s p (ps ++ q ∷ qs)
 glue s p [] q qs c m d = (m, d)
 glue s p (r ∷ rs) q qs c m d = (c.0, glue s r rs q qs c.1 m d)
 
 pub record Halves (s : List Sides) (p : ℕ) (ps : List ℕ) (q : ℕ) (qs : List ℕ) : Type 0 where
   pub front : IsChain s p ps
-  pub seam : Meet s (last p ps) q
+  pub seam : AreJoined s (last p ps) q
   pub back : IsChain s q qs
 
 pub halves : (s : List Sides) (p : ℕ) (ps : List ℕ) (q : ℕ) (qs : List ℕ) → IsChain s p (ps ++ q ∷ qs) → Halves s p ps q qs

@@ -1,12 +1,13 @@
+-- The lemmas that the proofs of this crate share.
 pub mod Chains
 pub mod Rows
 pub mod NodeAt
 pub mod Rings
-pub mod Moves
-pub mod Linked
-pub mod Calls
-pub mod Alone
-pub mod Fronts
+pub mod RingJoins
+pub mod UniqueLists
+pub mod LinksCalls
+pub mod AloneIn
+pub mod PopFront
 pub mod Append
-pub mod Nodes
-pub mod Empty
+pub mod SetNode
+pub mod NewLinks

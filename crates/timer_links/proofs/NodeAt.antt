@@ -1,4 +1,4 @@
--- Which node stands under a key, once a list has changed.
+-- Lemmas about `node_at`: which node is under a key, once one list has changed.
 use Rattle.std.proofs.Common.{◌≡◌, ◌≢◌, ◌<◌, ℕ, zero, suc, List, [], ◌∷◌, ◌++◌, length, refl, sym, ◌∙◌, inl, inr, arith}
 use Rattle.std.specs.Prelude.{map, Option, Some, None}
 use Rattle.std.proofs.lemmas.Bool.{cases_eq, eq-eqb, ne_eqb}

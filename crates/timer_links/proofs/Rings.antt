@@ -1,4 +1,4 @@
--- In rings no key occurs twice: from each place there is one way to a root.
+-- Lemmas about rings: no key occurs twice, since from each place there is one way to a root.
 use Rattle.std.proofs.Common.{◌≡◌, ◌≢◌, ◌<◌, ◌+◌, ℕ, suc, List, [], ◌∷◌, ◌++◌, length, refl, sym, ◌∙◌, ap, subst, inl, inr, arith, get_or-set_same, get_or-set_other}
 use Rattle.std.specs.Prelude.{map, Some, slice_set}
 use Rattle.std.proofs.lemmas.Bool.{cases_eq}
@@ -6,7 +6,7 @@ use Rattle.timer_links.specs.declared.node.Node.{Node}
 use Rattle.timer_links.specs.declared.ring.Sides.{Sides}
 use Rattle.timer_links.specs.Lists.{node_in, node_at, list_at, without_key, AreApart}
 use Rattle.timer_links.specs.Ring.{IsChain}
-use Rattle.timer_links.specs.Linked.{places, AreRings}
+use Rattle.timer_links.specs.Links.{places, AreRings}
 use Rattle.timer_links.proofs.Chains.{In, IsApart}
 use Rattle.timer_links.proofs.Rows.{Has, IsDistinct, has_in, distinct_in, has_this, split_at, without_absent, without_split, node_in-absent, node_in-split, map_without, node_at-some}
 

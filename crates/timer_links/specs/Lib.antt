@@ -1,3 +1,4 @@
+-- The definitions of this crate.
 pub mod Lists
 pub mod Ring
-pub mod Linked
+pub mod Links

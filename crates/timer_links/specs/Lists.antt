@@ -7,7 +7,7 @@ abbrev pub node_in : ℕ → List (ℕ × Node) → Option Node
 node_in key [] = None
 node_in key (row ∷ rest) = if row.0 == key then Some row.1 else node_in key rest
 
--- the first of two that is there
+-- the first of two nodes, or the second where there is no first
 abbrev pub first_of : Option Node → Option Node → Option Node
 first_of (Some node) other = Some node
 first_of None other = other
@@ -65,7 +65,7 @@ front_moved from to lists = first_row_moved from to lists (list_at from lists)
 abbrev pub appended : ℕ → ℕ → List (List (ℕ × Node)) → List (List (ℕ × Node))
 appended from to lists = slice_set (slice_set lists from []) to (list_at to lists ++ list_at from lists)
 
--- wherever the key stands, this is the key behind it, or none where it is the last one
+-- wherever the key stands, this is the key after it, or none where it is the last one
 abbrev pub IsNext : ℕ → List (List (ℕ × Node)) → Option ℕ → Type 0
 IsNext key lists found =
     (l : ℕ) (front : List (ℕ × Node)) (node : Node) (rest : List (ℕ × Node))
@@ -85,17 +85,17 @@ SetsNode key node old new =
     → l < length old → list_at l old ≡ front ++ (key, was) ∷ rest
     → new ≡ slice_set old l (front ++ (key, node) ∷ rest)
 
--- the list, where nothing stands before and behind
-abbrev pub only : ℕ → List (ℕ × Node) → List (ℕ × Node) → Option ℕ
-only l [] [] = Some l
-only l [] (x ∷ xs) = None
-only l (x ∷ xs) rest = None
+-- the list, where no row stands before or after this one
+abbrev pub list_if_alone : ℕ → List (ℕ × Node) → List (ℕ × Node) → Option ℕ
+list_if_alone l [] [] = Some l
+list_if_alone l [] (x ∷ xs) = None
+list_if_alone l (x ∷ xs) rest = None
 
--- wherever the key stands, this is that list where nothing else stands in it
-abbrev pub TellsEmptied : ℕ → List (List (ℕ × Node)) → Option ℕ → Type 0
-TellsEmptied key lists emptied =
+-- wherever the key stands, this is its list where no other row is in it, and else none
+abbrev pub IsAloneIn : ℕ → List (List (ℕ × Node)) → Option ℕ → Type 0
+IsAloneIn key lists emptied =
     (l : ℕ) (front : List (ℕ × Node)) (node : Node) (rest : List (ℕ × Node))
-    → l < length lists → list_at l lists ≡ front ++ (key, node) ∷ rest → emptied ≡ only l front rest
+    → l < length lists → list_at l lists ≡ front ++ (key, node) ∷ rest → emptied ≡ list_if_alone l front rest
 
 -- the node under the key has these rounds
 abbrev pub HasRounds : ℕ → List (List (ℕ × Node)) → ℕ → Type 0

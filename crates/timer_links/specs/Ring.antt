@@ -1,4 +1,4 @@
--- The neighbours of each place, and which places follow one another.
+-- The links of each place, what a join changes, and which places follow one another: all that `ring` states.
 use Rattle.std.specs.Prelude.{◌≡◌, ◌≢◌, ℕ, ◌-◌, ◌≤◌, nat_lt, ◌==◌, if◌then◌else◌, List, [], ◌∷◌, length, Option, Some, None, slice_index_or}
 use Rattle.timer_links.specs.declared.ring.Sides.{Sides}
 
@@ -11,20 +11,20 @@ abbrev pub key_of : ℕ → ℕ → Option ℕ
 key_of lists place = if nat_lt place lists then None else Some (place - lists)
 
 -- the neighbour on both sides, where it is the same
-abbrev pub shared_side : Sides → Option ℕ
-shared_side sides = if sides.before == sides.after then Some sides.before else None
+abbrev pub neighbour_on_both_sides : Sides → Option ℕ
+neighbour_on_both_sides sides = if sides.before == sides.after then Some sides.before else None
 
--- the one place comes right after the other
-pub record Meet (sides : List Sides) (front back : ℕ) : Type 0 where
+-- the two places are neighbours: the second comes right after the first
+pub record AreJoined (sides : List Sides) (front back : ℕ) : Type 0 where
   pub forth : (sides_at sides front).after ≡ back
   pub back_to : (sides_at sides back).before ≡ front
 
 -- each of these places comes right after the one before it
 abbrev pub IsChain : List Sides → ℕ → List ℕ → Type 0
 IsChain sides place [] = Unit {0}
-IsChain sides place (next ∷ rest) = Meet sides place next × IsChain sides next rest
+IsChain sides place (next ∷ rest) = AreJoined sides place next × IsChain sides next rest
 
--- the one place was put right after the other, and all else stays
+-- the second place was put right after the first, and all else stays
 pub record Joins (front back : ℕ) (old new : List Sides) : Type 0 where
   pub forth : (sides_at new front).after ≡ back
   pub back_to : (sides_at new back).before ≡ front
@@ -37,6 +37,6 @@ abbrev pub JoinsLast : ℕ → ℕ → List Sides → List Sides → Type 0
 JoinsLast root place old new = (half : List Sides) × Joins (sides_at old root).before place old half × Joins place root half new
 
 -- there may be more places, and all sides are unchanged
-pub record IsLonger (old new : List Sides) : Type 0 where
+pub record IsGrown (old new : List Sides) : Type 0 where
   pub same : (place : ℕ) → sides_at new place ≡ sides_at old place
   pub longer : length old ≤ length new

@@ -10,10 +10,10 @@
 //! The nodes are in a `Slab`, whose keys these are. Their order is kept apart from them, as rings in one
 //! array (`ring`), so that changing a neighbour's link never touches the neighbour's node.
 ghost use Rattle.std.specs.Prelude.{◌≡◌, ◌≢◌, ◌<◌, ◌≤◌, ◌↔◌, IsTrue, Some, None, IfOk, OnErr, IfErr, IfSome, IsSome, length, map, [], replicate};
-ghost use Rattle.timer_links.specs.Lists.{node_at, first_key, with_row, row_count, list_at, without_key, front_moved, appended, PopsFront, AreApart, IsNext, SetsRounds, SetsNode, MovesBack, TellsEmptied, HasRounds};
+ghost use Rattle.timer_links.specs.Lists.{node_at, first_key, with_row, row_count, list_at, without_key, front_moved, appended, PopsFront, AreApart, IsNext, SetsRounds, SetsNode, MovesBack, IsAloneIn, HasRounds};
 
 use crate::node::Node;
-use crate::ring::{PLACES, Sides, join, join_last, key_at, only_neighbour, reach};
+use crate::ring::{PLACES, Sides, join, join_last, key_at, only_neighbour, reserve_place};
 use slab::Slab;
 use std::alloc::Global;
 use std::marker::Model;
@@ -48,7 +48,7 @@ pub struct Links {
 impl Model for Links {
     ghost use Rattle.std.specs.Prelude.{List, ℕ};
     ghost use Rattle.timer_links.specs.declared.node.Node.{Node};
-    ghost use Rattle.timer_links.specs.Linked.{IsLinked, lists_of};
+    ghost use Rattle.timer_links.specs.Links.{IsLinked, lists_of};
 
     ghost Value = { List (List (ℕ × Node)) };
 
@@ -78,7 +78,7 @@ impl Links {
         })
     }
 
-    /// Does nothing. It gives a proof that no key is in two places.
+    /// Does nothing at run time. Its contract is a lemma: no key is in two places.
     #[inline]
     pub fn keys_are_apart(&self)
         ensures { AreApart self.now }
@@ -106,9 +106,9 @@ impl Links {
         key_at(self.sides[list].after, self.lists)
     }
 
-    /// `front`, and it gives a proof that the key is in use.
+    /// The same as `front`, with a proof that the key is in use.
     #[inline]
-    fn first(&self, list: usize) -> Option<usize>
+    fn used_front(&self, list: usize) -> Option<usize>
         requires { list < length self.now }
         ensures key { result ≡ first_key (list_at list self.now) }
         ensures used { IfSome result (λ key. IsSome (node_at key self.now)) }
@@ -183,7 +183,7 @@ impl Links {
         if key >= PLACES - self.lists {
             return Err((node, OutOfMemory));
         }
-        let Ok(()) = reach(&mut self.sides, self.lists + key) else {
+        let Ok(()) = reserve_place(&mut self.sides, self.lists + key) else {
             return Err((node, OutOfMemory));
         };
         let Ok(key) = self.nodes.insert(node) else {
@@ -215,7 +215,7 @@ impl Links {
         requires { IsSome (node_at key self.old) }
         ensures node { Some result.node ≡ node_at key self.old }
         ensures taken { self.new ≡ map (without_key key) self.old }
-        ensures emptied { TellsEmptied key self.old result.emptied }
+        ensures emptied { IsAloneIn key self.old result.emptied }
     {
         let sides = self.sides[self.lists + key];
         let node = self.nodes.remove(key);
@@ -231,7 +231,7 @@ impl Links {
     #[inline]
     pub fn alone_in(&self, key: usize) -> Option<usize>
         requires { IsSome (node_at key self.now) }
-        ensures { TellsEmptied key self.now result }
+        ensures { IsAloneIn key self.now result }
     {
         only_neighbour(self.sides[self.lists + key])
     }
@@ -242,7 +242,7 @@ impl Links {
         requires { list < length self.old }
         ensures { PopsFront list self.old result self.new }
     {
-        let key = self.first(list)?;
+        let key = self.used_front(list)?;
         let after = self.sides[self.lists + key].after;
         let node = self.nodes.remove(key);
         join(self.sides.as_mut_slice(), list as u32, after);
@@ -289,7 +289,7 @@ impl Links {
         requires to { to < length self.old }
         ensures { self.new ≡ front_moved from to self.old }
     {
-        let Some(key) = self.first(from) else {
+        let Some(key) = self.used_front(from) else {
             return;
         };
         let place = self.lists + key;

@@ -41,7 +41,7 @@ pub struct Sides {
     pub after: u32,
 }
 
-ghost use Rattle.timer_links.specs.Ring.{sides_at, key_of, shared_side, IsLonger, Joins, JoinsLast};
+ghost use Rattle.timer_links.specs.Ring.{sides_at, key_of, neighbour_on_both_sides, IsGrown, Joins, JoinsLast};
 
 /// The key of the node at a place, or None for a root.
 #[inline(always)]
@@ -56,11 +56,11 @@ pub fn key_at(place: u32, lists: usize) -> Option<usize>
     }
 }
 
-/// The neighbour of a place, where it has one and the same on both sides: of a node, the root of a list
-/// with no other node.
+/// The neighbour of a place, where it is the same on both sides. For a node this is the root of a list that
+/// has no other node.
 #[inline(always)]
 pub fn only_neighbour(sides: Sides) -> Option<usize>
-    ensures { result ≡ shared_side sides }
+    ensures { result ≡ neighbour_on_both_sides sides }
 {
     if sides.before == sides.after {
         Some(sides.before as usize)
@@ -93,29 +93,29 @@ pub fn join_last(sides: &mut [Sides], root: u32, place: u32)
     join(sides, place, root);
 }
 
-/// Makes the array long enough for a place. Where memory is refused nothing in it changes.
+/// Makes the array long enough for a place. On an error no link in it changes; the error is out of memory.
 #[inline(always)]
-pub fn reach(sides: &mut Vec<Sides>, place: usize) -> Result<(), OutOfMemory>
+pub fn reserve_place(sides: &mut Vec<Sides>, place: usize) -> Result<(), OutOfMemory>
     requires place { place < PLACES }
     requires few { length sides.old.items ≤ PLACES }
-    ensures kept { IsLonger sides.old.items sides.new.items }
+    ensures kept { IsGrown sides.old.items sides.new.items }
     ensures few { length sides.new.items ≤ PLACES }
     ensures reached { OnOk result (place < length sides.new.items) }
 {
     if place < sides.len() {
         Ok(())
     } else {
-        lengthen(sides, place)
+        grow(sides, place)
     }
 }
 
-/// Makes up to 64 places at a time. So it is rare, and kept out of line, which keeps its callers small.
+/// Adds up to 64 places at a time. So it is rarely called, and kept out of line, which keeps its callers small.
 #[cold]
 #[inline(never)]
-fn lengthen(sides: &mut Vec<Sides>, place: usize) -> Result<(), OutOfMemory>
+fn grow(sides: &mut Vec<Sides>, place: usize) -> Result<(), OutOfMemory>
     requires place { place < PLACES }
     requires past { length sides.old.items ≤ place }
-    ensures kept { IsLonger sides.old.items sides.new.items }
+    ensures kept { IsGrown sides.old.items sides.new.items }
     ensures few { length sides.new.items ≤ PLACES }
     ensures reached { OnOk result (place < length sides.new.items) }
 {

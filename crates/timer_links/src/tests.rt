@@ -82,7 +82,7 @@ fn set_node(links: &mut Links, key: usize, node: Node) -> bool {
     }
 }
 
-/// A step as its two answers, and None where the key is not in use.
+/// The two values that a step returns, or None where the key is not in use.
 fn step(links: &Links, key: usize) -> Option<(u64, Option<usize>)> {
     match links.get(key) {
         Some(_) => {

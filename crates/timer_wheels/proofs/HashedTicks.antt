@@ -1,4 +1,4 @@
--- The lists of a hashed wheel after one tick.
+-- One tick of a hashed wheel: rounds, the invariant and the state after `swept`.
 use Rattle.std.proofs.Common.{◌≡◌, ◌≢◌, ◌<◌, ◌+◌, ◌-◌, ◌*◌, ◌/◌, ◌%◌, ℕ, zero, suc, List, [], ◌∷◌, ◌++◌, length, refl, sym, ◌∙◌, ap, subst, inl, inr, arith, length-set, get_or-set_same, get_or-set_other}
 use Rattle.std.specs.Prelude.{Bool, true, false, not, map, filter, slice_set}
 use Rattle.std.specs.List.{AllByRecursion}
@@ -12,12 +12,12 @@ use Rattle.timer_base.specs.Pending.{Entry, timer_of, timers_of, is_due_at, entr
 use Rattle.timer_base.specs.WheelState.{IsPending, after_tick}
 use Rattle.timer_links.specs.declared.node.Node.{Node}
 use Rattle.timer_links.specs.Lists.{list_at}
-use Rattle.timer_wheels.specs.WheelLaws.{timers_of-entries}
-use Rattle.timer_wheels.specs.WheelLists.{timer_in, timers_in, entry_of, entries_of, rows_below, pending_in, wheel_state, ArePending, AreInOrder}
+use Rattle.timer_wheels.specs.BucketLaws.{timers_of-entries}
+use Rattle.timer_wheels.specs.BucketLists.{timer_in, timers_in, entry_of, entries_of, rows_below, pending_in, wheel_state, ArePending, AreInOrder}
 use Rattle.timer_wheels.specs.Hashed.{IsInBucket, AreInBuckets, rounds_of}
-use Rattle.timer_wheels.specs.Swept.{due_now, due_later, swept}
+use Rattle.timer_wheels.specs.Sweep.{due_now, due_later, swept}
 use Rattle.timer_wheels.proofs.RowLemmas.{all-rows_below, all-list_at, append-nil, entries-append, filter-entries, filter-append}
-use Rattle.timer_wheels.proofs.WheelLemmas.{filter-pending_in, AreDistinct-part}
+use Rattle.timer_wheels.proofs.BucketLemmas.{filter-pending_in, AreDistinct-part}
 use Rattle.timer_wheels.proofs.ShownLemmas.{filter-one_list}
 
 -- Numbers.
@@ -52,12 +52,12 @@ same_slot n now d q r h =
     ap (λ (y : ℕ). y % n) e ∙ add-mul-mod_self_left (now + 1 + r) n q
 
 -- the clock meets the timer
-met : (n now d q r : ℕ) → IsDistance n now d q r → d % n ≡ (now + 1) % n → r ≡ 0
-met n now d q r h e = no_step n (now + 1) r h.over (sym (same_slot n now d q r h) ∙ e)
+same_slot_no_remainder : (n now d q r : ℕ) → IsDistance n now d q r → d % n ≡ (now + 1) % n → r ≡ 0
+same_slot_no_remainder n now d q r h e = no_step n (now + 1) r h.over (sym (same_slot n now d q r h) ∙ e)
 
 -- it does not
-missed : (n now d q r : ℕ) → IsDistance n now d q r → d % n ≢ (now + 1) % n → r ≢ 0
-missed n now d q r h m = λ (e : r ≡ 0). m (same_slot n now d q r h ∙ ap (λ (y : ℕ). y % n) (let f : now + 1 + r ≡ now + 1 = omega arith in f))
+other_slot_remainder : (n now d q r : ℕ) → IsDistance n now d q r → d % n ≢ (now + 1) % n → r ≢ 0
+other_slot_remainder n now d q r h m = λ (e : r ≡ 0). m (same_slot n now d q r h ∙ ap (λ (y : ℕ). y % n) (let f : now + 1 + r ≡ now + 1 = omega arith in f))
 
 -- no round is left
 now_due : (n now d q r : ℕ) → IsDistance n now d q r → q ≡ 0 → r ≡ 0 → d ≡ now + 1
@@ -88,17 +88,17 @@ pred_of k h = omega arith
 -- Rows.
 
 -- a row of the tick's bucket after the tick
-pub record IsMet (n now : ℕ) (row : ℕ × Node) : Type 0 where
+pub record IsSweptRow (n now : ℕ) (row : ℕ × Node) : Type 0 where
   pub due : row.1.rounds ≡ 0 → (timer_in row).deadline ≡ now + 1
   pub later : row.1.rounds ≢ 0 → (now + 1 < (timer_in row).deadline) × (row.1.rounds - 1 ≡ rounds_of n (now + 1) (timer_in row))
 
-at_slot : (n now s : ℕ) (row : ℕ × Node) → 0 < n → s ≡ (now + 1) % n → now < (timer_in row).deadline → IsInBucket n now s row → IsMet n now row
+at_slot : (n now s : ℕ) (row : ℕ × Node) → 0 < n → s ≡ (now + 1) % n → now < (timer_in row).deadline → IsInBucket n now s row → IsSweptRow n now row
 at_slot n now s row z e h b =
     let d : ℕ = (timer_in row).deadline in
     let q : ℕ = (d - now - 1) / n in
     let r : ℕ = (d - now - 1) % n in
     let far : IsDistance n now d q r = distance n now d z h in
-    let none : r ≡ 0 = met n now d q r far (b.0 ∙ e) in
+    let none : r ≡ 0 = same_slot_no_remainder n now d q r far (b.0 ∙ e) in
     record {
       due = λ k. now_due n now d q r far (sym b.1 ∙ k) none;
       later = λ k.
@@ -113,7 +113,7 @@ off_slot n now s row z e h b =
     let q : ℕ = (d - now - 1) / n in
     let r : ℕ = (d - now - 1) % n in
     let far : IsDistance n now d q r = distance n now d z h in
-    let some : r ≢ 0 = missed n now d q r far (λ (k : d % n ≡ (now + 1) % n). e (sym b.0 ∙ k)) in
+    let some : r ≢ 0 = other_slot_remainder n now d q r far (λ (k : d % n ≡ (now + 1) % n). e (sym b.0 ∙ k)) in
     let f = same_round n now d q r (r - 1) far (pred_of r some) in
     (f.0, (b.0, b.1 ∙ sym f.1))
 
@@ -124,7 +124,7 @@ is_not_due : (tick : ℕ) (t : Timer) → tick < t.deadline → is_due_at tick t
 is_not_due tick t h = ne_eqb t.deadline tick (omega arith)
 
 -- the rows that stay are those of the timers that are not due
-entries-later : (n now : ℕ) (rows : List (ℕ × Node)) → AllByRecursion (IsMet n now) rows → entries_of (due_later rows) ≡ entries_left (now + 1) (entries_of rows)
+entries-later : (n now : ℕ) (rows : List (ℕ × Node)) → AllByRecursion (IsSweptRow n now) rows → entries_of (due_later rows) ≡ entries_left (now + 1) (entries_of rows)
 entries-later n now [] a = refl
 entries-later n now (x ∷ xs) a = elim (cases_eq x.1.rounds 0) [
   | inl e ↦ rw (eq-eqb x.1.rounds 0 e, is_due (now + 1) (timer_in x) (a.0.due e)) (entries-later n now xs a.1)
@@ -132,7 +132,7 @@ entries-later n now (x ∷ xs) a = elim (cases_eq x.1.rounds 0) [
 ]
 
 -- and the others those that are
-entries-now : (n now : ℕ) (rows : List (ℕ × Node)) → AllByRecursion (IsMet n now) rows → entries_of (due_now rows) ≡ entries_due (now + 1) (entries_of rows)
+entries-now : (n now : ℕ) (rows : List (ℕ × Node)) → AllByRecursion (IsSweptRow n now) rows → entries_of (due_now rows) ≡ entries_due (now + 1) (entries_of rows)
 entries-now n now [] a = refl
 entries-now n now (x ∷ xs) a = elim (cases_eq x.1.rounds 0) [
   | inl e ↦ rw (eq-eqb x.1.rounds 0 e, is_due (now + 1) (timer_in x) (a.0.due e)) (ap (λ (r : List Entry). entry_of x ∷ r) (entries-now n now xs a.1))
@@ -160,14 +160,14 @@ StaysIn n last_tick now last s row = IsPending last_tick now last (timer_in row)
 still : (last_tick now last : ℕ) (t : Timer) → IsPending last_tick now last t → now + 1 < t.deadline → IsPending last_tick (now + 1) last t
 still last_tick now last t p h = record { later = h; in_range = p.in_range; serial = p.serial }
 
-stays-later : (n last_tick now last s : ℕ) (rows : List (ℕ × Node)) → AllByRecursion (IsMet n now) rows → AllByRecursion (StaysIn n last_tick now last s) rows → AllByRecursion (StaysIn n last_tick (now + 1) last s) (due_later rows)
+stays-later : (n last_tick now last s : ℕ) (rows : List (ℕ × Node)) → AllByRecursion (IsSweptRow n now) rows → AllByRecursion (StaysIn n last_tick now last s) rows → AllByRecursion (StaysIn n last_tick (now + 1) last s) (due_later rows)
 stays-later n last_tick now last s [] a b = tt
 stays-later n last_tick now last s (x ∷ xs) a b = elim (cases_eq x.1.rounds 0) [
   | inl e ↦ rw (eq-eqb x.1.rounds 0 e) (stays-later n last_tick now last s xs a.1 b.1)
   | inr e ↦ rw (ne_eqb x.1.rounds 0 e) ((still last_tick now last (timer_in x) b.0.0 (a.0.later e).0, (b.0.1.0, (a.0.later e).1)), stays-later n last_tick now last s xs a.1 b.1)
 ]
 
-all-due : (n now : ℕ) (rows : List (ℕ × Node)) → AllByRecursion (IsMet n now) rows → AllAt (now + 1) (map timer_of (entries_of (due_now rows)))
+all-due : (n now : ℕ) (rows : List (ℕ × Node)) → AllByRecursion (IsSweptRow n now) rows → AllAt (now + 1) (map timer_of (entries_of (due_now rows)))
 all-due n now [] a = tt
 all-due n now (x ∷ xs) a = elim (cases_eq x.1.rounds 0) [
   | inl e ↦ rw (eq-eqb x.1.rounds 0 e) (a.0.due e, all-due n now xs a.1)
@@ -205,11 +205,11 @@ module _ (n last_tick now last : ℕ) (lists : List (List (ℕ × Node))) (z : 0
   stays : (t : ℕ) → t < n → AllByRecursion (StaysIn n last_tick now last t) (list_at t lists)
   stays t h = both (λ row. IsPending last_tick now last (timer_in row)) (IsInBucket n now t) (list_at t lists) (all-list_at (λ row. IsPending last_tick now last (timer_in row)) n lists p t h) (b t h)
 
-  meets : AllByRecursion (IsMet n now) (list_at ((now + 1) % n) lists)
-  meets = All-weaken (StaysIn n last_tick now last ((now + 1) % n)) (IsMet n now) (list_at ((now + 1) % n) lists) (λ row q. at_slot n now ((now + 1) % n) row z refl q.0.later q.1) (stays ((now + 1) % n) below)
+  swept_rows : AllByRecursion (IsSweptRow n now) (list_at ((now + 1) % n) lists)
+  swept_rows = All-weaken (StaysIn n last_tick now last ((now + 1) % n)) (IsSweptRow n now) (list_at ((now + 1) % n) lists) (λ row q. at_slot n now ((now + 1) % n) row z refl q.0.later q.1) (stays ((now + 1) % n) below)
 
-  passes : (t : ℕ) → t < n → t ≢ (now + 1) % n → AllByRecursion (StaysIn n last_tick (now + 1) last t) (list_at t lists)
-  passes t h e = All-weaken (StaysIn n last_tick now last t) (StaysIn n last_tick (now + 1) last t) (list_at t lists)
+  staying_rows : (t : ℕ) → t < n → t ≢ (now + 1) % n → AllByRecursion (StaysIn n last_tick (now + 1) last t) (list_at t lists)
+  staying_rows t h e = All-weaken (StaysIn n last_tick now last t) (StaysIn n last_tick (now + 1) last t) (list_at t lists)
       (λ row q. let f = off_slot n now t row z e q.0.later q.1 in (still last_tick now last (timer_in row) q.0 f.0, f.1)) (stays t h)
 
   pub length-swept : length (swept ((now + 1) % n) n lists) ≡ length lists
@@ -232,18 +232,18 @@ module _ (n last_tick now last : ℕ) (lists : List (List (ℕ × Node))) (z : 0
 
   each_after : (t : ℕ) → t < n → AllByRecursion (StaysIn n last_tick (now + 1) last t) (list_at t (swept ((now + 1) % n) n lists))
   each_after t h = elim (cases_eq t ((now + 1) % n)) [
-    | inl e ↦ rw (e, at_this) (stays-later n last_tick now last ((now + 1) % n) (list_at ((now + 1) % n) lists) meets (stays ((now + 1) % n) below))
-    | inr x ↦ rw (at_other t h x) (passes t h x)
+    | inl e ↦ rw (e, at_this) (stays-later n last_tick now last ((now + 1) % n) (list_at ((now + 1) % n) lists) swept_rows (stays ((now + 1) % n) below))
+    | inr x ↦ rw (at_other t h x) (staying_rows t h x)
   ]
 
   left_in : (t : ℕ) → t < n → entries_of (list_at t (swept ((now + 1) % n) n lists)) ≡ entries_left (now + 1) (entries_of (list_at t lists))
   left_in t h = elim (cases_eq t ((now + 1) % n)) [
-    | inl e ↦ rw (e, at_this) (entries-later n now (list_at ((now + 1) % n) lists) meets)
-    | inr x ↦ rw (at_other t h x) (sym (all_left n last_tick now last t (list_at t lists) (passes t h x)))
+    | inl e ↦ rw (e, at_this) (entries-later n now (list_at ((now + 1) % n) lists) swept_rows)
+    | inr x ↦ rw (at_other t h x) (sym (all_left n last_tick now last t (list_at t lists) (staying_rows t h x)))
   ]
 
   none_other : (t : ℕ) → t < n → t ≢ (now + 1) % n → AllByRecursion (λ row. is_due_at (now + 1) (timer_in row) ≡ false) (list_at t lists)
-  none_other t h e = All-weaken (StaysIn n last_tick (now + 1) last t) (λ row. is_due_at (now + 1) (timer_in row) ≡ false) (list_at t lists) (λ row q. is_not_due (now + 1) (timer_in row) q.0.later) (passes t h e)
+  none_other t h e = All-weaken (StaysIn n last_tick (now + 1) last t) (λ row. is_due_at (now + 1) (timer_in row) ≡ false) (list_at t lists) (λ row q. is_not_due (now + 1) (timer_in row) q.0.later) (staying_rows t h e)
 
   -- the rows that are left are those of the timers that are not due
   rows_left : entries_of (rows_below n (swept ((now + 1) % n) n lists)) ≡ entries_left (now + 1) (entries_of (rows_below n lists))
@@ -277,8 +277,8 @@ module _ (n last_tick now last : ℕ) (lists : List (List (ℕ × Node))) (z : 0
       ap timers_of (
       filter-pending_in (λ (entry : Entry). is_due_at (now + 1) entry.timer) (rows_below n lists)
       ∙ (ap pending_in (filter-one_list (λ (row : ℕ × Node). is_due_at (now + 1) (timer_in row)) n ((now + 1) % n) lists below (omega (arith, below)) none_other)
-      ∙ (ap (in_order timer_of) (sym (filter-entries (λ (entry : Entry). is_due_at (now + 1) entry.timer) (list_at ((now + 1) % n) lists)) ∙ sym (entries-now n now (list_at ((now + 1) % n) lists) meets))
-      ∙ in_order-same timer_of (now + 1) 0 (entries_of (due_now (list_at ((now + 1) % n) lists))) (all-due n now (list_at ((now + 1) % n) lists) meets) (rw (timers_of-entries (due_now (list_at ((now + 1) % n) lists))) (rising-now 0 (list_at ((now + 1) % n) lists) (o ((now + 1) % n) (omega (arith, below))))))))
+      ∙ (ap (in_order timer_of) (sym (filter-entries (λ (entry : Entry). is_due_at (now + 1) entry.timer) (list_at ((now + 1) % n) lists)) ∙ sym (entries-now n now (list_at ((now + 1) % n) lists) swept_rows))
+      ∙ in_order-same timer_of (now + 1) 0 (entries_of (due_now (list_at ((now + 1) % n) lists))) (all-due n now (list_at ((now + 1) % n) lists) swept_rows) (rw (timers_of-entries (due_now (list_at ((now + 1) % n) lists))) (rising-now 0 (list_at ((now + 1) % n) lists) (o ((now + 1) % n) (omega (arith, below))))))))
       ∙ timers_of-entries (due_now (list_at ((now + 1) % n) lists))
 
   pub ticked : AreInOrder (n + 1) lists → wheel_state n last_tick (now + 1) last (swept ((now + 1) % n) n lists) ≡ after_tick (wheel_state n last_tick now last lists)

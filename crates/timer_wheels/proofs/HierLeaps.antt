@@ -1,4 +1,4 @@
--- The invariant of a hierarchy of wheels, preserved by the leaps of its clock.
+-- Lemmas for `leap`: the first visit ahead, the clock set forward to it, and the loop of `advance_until_due`.
 use Rattle.std.proofs.Common.{◌≡◌, ◌<◌, ◌≤◌, ◌+◌, ◌-◌, ◌*◌, ℕ, List, [], ◌∷◌, length, sym, ◌∙◌, ap, subst, inl, inr, arith}
 use Rattle.std.specs.Prelude.{Some}
 use Rattle.std.specs.List.{AllByRecursion}
@@ -13,19 +13,19 @@ use Rattle.timer_wheels.specs.declared.buckets.Buckets.{Buckets}
 use Rattle.timer_wheels.specs.Buckets.{state_of}
 use Rattle.timer_wheels.specs.declared.table.Table.{Table}
 use Rattle.timer_wheels.specs.Digits.{HasDigits, slots, bucket}
-use Rattle.timer_wheels.specs.DigitLaws.{digits_down}
+use Rattle.timer_wheels.proofs.DigitLaws.{digits_down}
 use Rattle.timer_wheels.specs.Tables.{radices}
 use Rattle.timer_wheels.specs.Hier.{IsHier}
-use Rattle.timer_wheels.specs.Leaps.{list_stop, timer_stop, AreNotBefore, Leaps}
+use Rattle.timer_wheels.specs.Leap.{list_visit, timer_visit, AreNotVisitedBefore, Leaps}
 use Rattle.timer_wheels.specs.Occupied.{bit_of, filled, IsFirstSet}
 use Rattle.timer_wheels.specs.Placement.{IsPlaced, hops_of, levels_of}
-use Rattle.timer_wheels.specs.WheelLists.{timer_in, rows_below, wheel_state, ArePending, EachRow}
+use Rattle.timer_wheels.specs.BucketLists.{timer_in, rows_below, wheel_state, ArePending, EachRow}
 use Rattle.timer_wheels.proofs.LeapLemmas.{leapt, leapt_placed, leapt_pending, leaps_none, leaps_tick, leaps_on}
 use Rattle.timer_wheels.proofs.OccupiedLemmas.{no_rows_there}
 use Rattle.timer_wheels.proofs.RowLemmas.{all-list_at}
-use Rattle.timer_wheels.proofs.StopLaws.{stop_later, stop_in_time, list_is, list_first}
+use Rattle.timer_wheels.proofs.VisitLaws.{visit_later, visit_in_time, list_is, list_first}
 use Rattle.timer_wheels.proofs.TableLaws.{of_table}
-use Rattle.timer_wheels.proofs.WakingLemmas.{wakes, sleeps}
+use Rattle.timer_wheels.proofs.WakeUpLemmas.{wakes, sleeps}
 
 -- The next tick that empties a bucket with a timer.
 
@@ -53,44 +53,44 @@ module _ (t : Table) (b : Buckets) (words : List ℕ) (h : IsHier t b words) whe
   known s k = known_rows s (list_at s b.links) (all-list_at (λ row. IsPending b.last_tick b.tick b.last_serial (timer_in row)) b.slots b.links b.pending s k) (h.placed s k)
 
   none_where : (s : ℕ) → s < b.slots → bit_of words s ≡ 0 → list_at s b.links ≡ []
-  none_where s k z = no_rows_there (list_at s b.links) (sym (h.told.0 s k) ∙ z)
+  none_where s k z = no_rows_there (list_at s b.links) (sym (h.marked.0 s k) ∙ z)
 
-  pub none_ahead : (stop : ℕ) → ((s : ℕ) → s < 640 → bit_of words s ≡ 0) → AreNotBefore (radices t) b.slots b.tick stop b.links
-  none_ahead stop f s k = let P : List (ℕ × Node) → Type 0 = AllByRecursion (λ row. stop ≤ timer_stop (radices t) b.tick (timer_in row).deadline) in let r : b.slots ≤ 640 = slots_fit in subst P (sym (none_where s k (f s (omega arith)))) tt
+  pub none_ahead : (visit : ℕ) → ((s : ℕ) → s < 640 → bit_of words s ≡ 0) → AreNotVisitedBefore (radices t) b.slots b.tick visit b.links
+  none_ahead visit f s k = let P : List (ℕ × Node) → Type 0 = AllByRecursion (λ row. visit ≤ timer_visit (radices t) b.tick (timer_in row).deadline) in let r : b.slots ≤ 640 = slots_fit in subst P (sym (none_where s k (f s (omega arith)))) tt
 
   -- a bit that is set is that of a bucket
   first_in : (l : ℕ) → l < 640 → bit_of words l ≡ 1 → l < b.slots
   first_in l f e = elim (cases_lt l b.slots) [
     | inl c ↦ c
-    | inr c ↦ absurd (let z : bit_of words l ≡ 0 = h.told.1 l c f in omega arith)
+    | inr c ↦ absurd (let z : bit_of words l ≡ 0 = h.marked.1 l c f in omega arith)
   ]
 
   pub first_in_range : (l : ℕ) → IsFirstSet words (Some l) → l < slots (radices t)
   first_in_range l f = let c : l < b.slots = first_in l f.0 f.1 in let e : b.slots ≡ slots (radices t) = h.has_slots in omega arith
 
-  pub first_ahead : (l stop : ℕ) → stop ≡ list_stop (radices t) l b.tick → IsFirstSet words (Some l) → AreNotBefore (radices t) b.slots b.tick stop b.links
-  first_ahead l stop e f s k = elim (cases_lt s l) [
-    | inl c ↦ let P : List (ℕ × Node) → Type 0 = AllByRecursion (λ row. stop ≤ timer_stop (radices t) b.tick (timer_in row).deadline) in subst P (sym (none_where s k (f.2 s c))) tt
-    | inr c ↦ All-weaken (IsKnown (radices t) b.tick s) (λ row. stop ≤ timer_stop (radices t) b.tick (timer_in row).deadline) (list_at s b.links)
+  pub first_ahead : (l visit : ℕ) → visit ≡ list_visit (radices t) l b.tick → IsFirstSet words (Some l) → AreNotVisitedBefore (radices t) b.slots b.tick visit b.links
+  first_ahead l visit e f s k = elim (cases_lt s l) [
+    | inl c ↦ let P : List (ℕ × Node) → Type 0 = AllByRecursion (λ row. visit ≤ timer_visit (radices t) b.tick (timer_in row).deadline) in subst P (sym (none_where s k (f.2 s c))) tt
+    | inr c ↦ All-weaken (IsKnown (radices t) b.tick s) (λ row. visit ≤ timer_visit (radices t) b.tick (timer_in row).deadline) (list_at s b.links)
         (λ row w.
         let p : bucket (radices t) b.tick (timer_in row).deadline ≡ s = w.placed in
-        let x : list_stop (radices t) l b.tick ≤ timer_stop (radices t) b.tick (timer_in row).deadline = list_first (radices t) l b.tick (timer_in row).deadline (of_table t).is_table w.digits w.later (omega arith) in
+        let x : list_visit (radices t) l b.tick ≤ timer_visit (radices t) b.tick (timer_in row).deadline = list_first (radices t) l b.tick (timer_in row).deadline (of_table t).is_table w.digits w.later (omega arith) in
         omega arith)
         (known s k)
   ]
 
-  later_by : (l : ℕ) (rows : List (ℕ × Node)) → filled rows ≡ 1 → AllByRecursion (IsKnown (radices t) b.tick l) rows → b.tick < list_stop (radices t) l b.tick
+  later_by : (l : ℕ) (rows : List (ℕ × Node)) → filled rows ≡ 1 → AllByRecursion (IsKnown (radices t) b.tick l) rows → b.tick < list_visit (radices t) l b.tick
   later_by l [] e a = absurd (omega arith)
   later_by l (r ∷ rs) e a =
-      let q : list_stop (radices t) l b.tick ≡ timer_stop (radices t) b.tick (timer_in r).deadline =
-      ap (λ (x : ℕ). list_stop (radices t) x b.tick) (sym a.0.placed) ∙ list_is (radices t) b.tick (timer_in r).deadline (of_table t).is_table a.0.digits a.0.later in
-      let x : b.tick < timer_stop (radices t) b.tick (timer_in r).deadline = stop_later (radices t) b.tick (timer_in r).deadline (of_table t).is_table a.0.later in
+      let q : list_visit (radices t) l b.tick ≡ timer_visit (radices t) b.tick (timer_in r).deadline =
+      ap (λ (x : ℕ). list_visit (radices t) x b.tick) (sym a.0.placed) ∙ list_is (radices t) b.tick (timer_in r).deadline (of_table t).is_table a.0.digits a.0.later in
+      let x : b.tick < timer_visit (radices t) b.tick (timer_in r).deadline = visit_later (radices t) b.tick (timer_in r).deadline (of_table t).is_table a.0.later in
       omega arith
 
-  pub first_later : (l stop : ℕ) → stop ≡ list_stop (radices t) l b.tick → IsFirstSet words (Some l) → b.tick < stop
-  first_later l stop e f =
+  pub first_later : (l visit : ℕ) → visit ≡ list_visit (radices t) l b.tick → IsFirstSet words (Some l) → b.tick < visit
+  first_later l visit e f =
       let c : l < b.slots = first_in l f.0 f.1 in
-      let x : b.tick < list_stop (radices t) l b.tick = later_by l (list_at l b.links) (sym (h.told.0 l c) ∙ f.1) (known l c) in
+      let x : b.tick < list_visit (radices t) l b.tick = later_by l (list_at l b.links) (sym (h.marked.0 l c) ∙ f.1) (known l c) in
       omega arith
 
   filled_some : (rows : List (ℕ × Node)) → filled rows ≡ 1 → 0 < length rows
@@ -98,30 +98,30 @@ module _ (t : Table) (b : Buckets) (words : List ℕ) (h : IsHier t b words) whe
   filled_some (r ∷ rs) e = omega arith
 
   -- the next tick that empties a bucket with a timer is one to wake up at
-  pub first_wakes : (l stop : ℕ) → stop ≡ list_stop (radices t) l b.tick → IsFirstSet words (Some l) → IsWakeUp stop (state_of b)
-  first_wakes l stop e f =
+  pub first_wakes : (l visit : ℕ) → visit ≡ list_visit (radices t) l b.tick → IsFirstSet words (Some l) → IsWakeUp visit (state_of b)
+  first_wakes l visit e f =
       let c : l < b.slots = first_in l f.0 f.1 in
-      wakes b.slots b.last_tick b.tick b.last_serial b.links stop l c (filled_some (list_at l b.links) (sym (h.told.0 l c) ∙ f.1)) (first_later l stop e f)
-      (λ s k. All-weaken (λ row. stop ≤ timer_stop (radices t) b.tick (timer_in row).deadline) (λ row. stop ≤ (timer_in row).deadline) (list_at s b.links)
+      wakes b.slots b.last_tick b.tick b.last_serial b.links visit l c (filled_some (list_at l b.links) (sym (h.marked.0 l c) ∙ f.1)) (first_later l visit e f)
+      (λ s k. All-weaken (λ row. visit ≤ timer_visit (radices t) b.tick (timer_in row).deadline) (λ row. visit ≤ (timer_in row).deadline) (list_at s b.links)
       (λ row q.
-      let p : stop ≤ timer_stop (radices t) b.tick (timer_in row).deadline = q in
-      let x : timer_stop (radices t) b.tick (timer_in row).deadline ≤ (timer_in row).deadline = stop_in_time (radices t) b.tick (timer_in row).deadline (of_table t).is_table in
+      let p : visit ≤ timer_visit (radices t) b.tick (timer_in row).deadline = q in
+      let x : timer_visit (radices t) b.tick (timer_in row).deadline ≤ (timer_in row).deadline = visit_in_time (radices t) b.tick (timer_in row).deadline (of_table t).is_table in
       omega arith)
-      (first_ahead l stop e f s k))
+      (first_ahead l visit e f s k))
 
   pub none_wakes : ((s : ℕ) → s < 640 → bit_of words s ≡ 0) → (state_of b).pending ≡ []
   none_wakes f = sleeps b.slots b.last_tick b.tick b.last_serial b.links (λ s k. none_where s k (f s (let r : b.slots ≤ 640 = slots_fit in omega arith)))
 
 -- The clock alone advances.
 
-pub record HasWaited (t : Table) (b : Buckets) (tick : ℕ) : Type 0 where
+pub record HasSkipped (t : Table) (b : Buckets) (tick : ℕ) : Type 0 where
   pub pending : ArePending b.last_tick tick b.last_serial (rows_below b.slots b.links)
   pub placed : EachRow (IsPlaced (radices t) tick) b.slots b.links
   pub leaps : Leaps (radices t) 0 (state_of b) (wheel_state b.slots b.last_tick tick b.last_serial b.links)
 
 module _ (t : Table) (b : Buckets) (words : List ℕ) (h : IsHier t b words) (z : (state_of b).due ≡ []) where
-  waited_so : (n tick : ℕ) → b.tick + n ≡ tick → AreNotBefore (radices t) b.slots b.tick (tick + 1) b.links → HasWaited t b (b.tick + n)
-  waited_so n tick e q =
+  skipped_by : (n tick : ℕ) → b.tick + n ≡ tick → AreNotVisitedBefore (radices t) b.slots b.tick (tick + 1) b.links → HasSkipped t b (b.tick + n)
+  skipped_by n tick e q =
       let near : b.tick + n < tick + 1 = omega arith in
       let i = (of_table t).is_table in
       let d = last_digits t b words h in
@@ -131,13 +131,13 @@ module _ (t : Table) (b : Buckets) (words : List ℕ) (h : IsHier t b words) (z 
         leaps = leapt (radices t) b.last_tick b.tick (tick + 1) n i d near b.slots b.last_serial b.links b.pending q z;
       }
 
-  pub waited : (tick : ℕ) → b.tick ≤ tick → AreNotBefore (radices t) b.slots b.tick (tick + 1) b.links → HasWaited t b tick
-  waited tick l q = let e : b.tick + (tick - b.tick) ≡ tick = omega arith in let P : ℕ → Type 0 = HasWaited t b in subst P e (waited_so (tick - b.tick) tick e q)
+  pub skipped : (tick : ℕ) → b.tick ≤ tick → AreNotVisitedBefore (radices t) b.slots b.tick (tick + 1) b.links → HasSkipped t b tick
+  skipped tick l q = let e : b.tick + (tick - b.tick) ≡ tick = omega arith in let P : ℕ → Type 0 = HasSkipped t b in subst P e (skipped_by (tick - b.tick) tick e q)
 
 -- One leap, and the tick after it.
 
-pub near_end : (table : List ℕ) (b : Buckets) (stop tick : ℕ) → tick < stop → AreNotBefore table b.slots b.tick stop b.links → AreNotBefore table b.slots b.tick (tick + 1) b.links
-near_end table b stop tick h a s k = All-weaken (λ row. stop ≤ timer_stop table b.tick (timer_in row).deadline) (λ row. tick + 1 ≤ timer_stop table b.tick (timer_in row).deadline) (list_at s b.links) (λ row q. let x : stop ≤ timer_stop table b.tick (timer_in row).deadline = q in omega arith) (a s k)
+pub near_end : (table : List ℕ) (b : Buckets) (visit tick : ℕ) → tick < visit → AreNotVisitedBefore table b.slots b.tick visit b.links → AreNotVisitedBefore table b.slots b.tick (tick + 1) b.links
+near_end table b visit tick h a s k = All-weaken (λ row. visit ≤ timer_visit table b.tick (timer_in row).deadline) (λ row. tick + 1 ≤ timer_visit table b.tick (timer_in row).deadline) (list_at s b.links) (λ row q. let x : visit ≤ timer_visit table b.tick (timer_in row).deadline = q in omega arith) (a s k)
 
 pub leap_and_tick : (table : List ℕ) (moves : ℕ) (old mid new : WheelState) → Leaps table 0 old mid → mid.due ≡ [] → new ≡ after_tick mid → moves ≡ hops_of table mid.now 1 mid.pending → moves + levels_of table new.now new.pending ≤ levels_of table mid.now mid.pending → Leaps table moves old new
 leap_and_tick table moves old mid new a z e m p =
@@ -147,17 +147,17 @@ leap_and_tick table moves old mid new a z e m p =
 
 -- Leap by leap.
 
-pub record IsOnTheWay (t : Table) (most moves : ℕ) (first b : Buckets) (words : List ℕ) : Type 0 where
+pub record IsAdvancing (t : Table) (most moves : ℕ) (first b : Buckets) (words : List ℕ) : Type 0 where
   pub hier : IsHier t b words
   pub nothing_due : (state_of b).due ≡ []
   pub leaps : Leaps (radices t) moves (state_of first) (state_of b)
   pub not_past : b.tick ≤ first.tick + most
 
-pub setting_out : (t : Table) (most : ℕ) (b : Buckets) (words : List ℕ) → IsHier t b words → (state_of b).due ≡ [] → IsOnTheWay t most 0 b b words
-setting_out t most b words h z = record { hier = h; nothing_due = z; leaps = leaps_none (radices t) (state_of b); not_past = omega arith }
+pub advancing_none : (t : Table) (most : ℕ) (b : Buckets) (words : List ℕ) → IsHier t b words → (state_of b).due ≡ [] → IsAdvancing t most 0 b b words
+advancing_none t most b words h z = record { hier = h; nothing_due = z; leaps = leaps_none (radices t) (state_of b); not_past = omega arith }
 
-pub one_leap : (t : Table) (most moves more : ℕ) (first b new : Buckets) (words words2 : List ℕ) → IsOnTheWay t most moves first b words → Leaps (radices t) more (state_of b) (state_of new) → IsHier t new words2 → (state_of new).due ≡ [] → new.tick ≤ first.tick + most → IsOnTheWay t most (moves + more) first new words2
-one_leap t most moves more first b new words words2 w l h z e = record {
+pub advancing_leap : (t : Table) (most moves more : ℕ) (first b new : Buckets) (words words2 : List ℕ) → IsAdvancing t most moves first b words → Leaps (radices t) more (state_of b) (state_of new) → IsHier t new words2 → (state_of new).due ≡ [] → new.tick ≤ first.tick + most → IsAdvancing t most (moves + more) first new words2
+advancing_leap t most moves more first b new words words2 w l h z e = record {
   hier = h;
   nothing_due = z;
   leaps = leaps_on (radices t) moves more (state_of first) (state_of b) (state_of new) w.leaps w.nothing_due l;
@@ -171,8 +171,8 @@ moves_fit table moves more u v w a b r =
     let y : more + levels_of table w.now w.pending ≤ levels_of table v.now v.pending = b.pays in
     omega arith
 
-pub arrived : (table : List ℕ) (most moves : ℕ) (u w : WheelState) → Leaps table moves u w → u.now < w.now → w.now ≤ u.now + most → (w.now < u.now + most → 0 < length w.due) → Advances most (w.now - u.now) u w
-arrived table most moves u w l a b f =
+pub advancing_ends : (table : List ℕ) (most moves : ℕ) (u w : WheelState) → Leaps table moves u w → u.now < w.now → w.now ≤ u.now + most → (w.now < u.now + most → 0 < length w.due) → Advances most (w.now - u.now) u w
+advancing_ends table most moves u w l a b f =
     let n : w.now ≡ u.now + l.passed = l.now_is in
     let e : w.now - u.now ≡ l.passed = omega arith in
     record {

@@ -1,4 +1,4 @@
--- The invariant of a hierarchy of wheels, preserved by each call.
+-- The invariant of a hierarchy of wheels when it is made, after a start and a restart, and what `links` shows.
 use Rattle.std.proofs.Common.{◌≡◌, ◌<◌, ◌≤◌, ◌+◌, ◌*◌, ℕ, zero, suc, List, [], ◌∷◌, length, refl, sym, ◌∙◌, ap, subst, inl, inr, arith}
 use Rattle.std.specs.Prelude.{Bool, filter, map, Option, Some, None, MatchOption, nat_lt, replicate}
 use Rattle.timer_base.specs.declared.timer.Timer.{Timer}
@@ -12,10 +12,10 @@ use Rattle.timer_links.specs.Lists.{list_at, with_row, without_key}
 use Rattle.timer_wheels.specs.declared.buckets.Buckets.{Buckets}
 use Rattle.timer_wheels.specs.Buckets.{state_of, IsSameFrame}
 use Rattle.timer_wheels.specs.Digits.{slots, level, bucket, last_of}
-use Rattle.timer_wheels.specs.DigitLaws.{level_in_table, digits_down}
-use Rattle.timer_wheels.specs.WheelLists.{EachRow}
+use Rattle.timer_wheels.proofs.DigitLaws.{level_in_table, digits_down}
+use Rattle.timer_wheels.specs.BucketLists.{EachRow}
 use Rattle.timer_wheels.specs.Placement.{IsPlaced, bucket_at, no_rounds, levels_of, IsPaid, most_moves}
-use Rattle.timer_wheels.proofs.WheelLemmas.{each-with_row, each-without_key, each-none}
+use Rattle.timer_wheels.proofs.BucketLemmas.{each-with_row, each-without_key, each-none}
 use Rattle.timer_wheels.specs.Shown.{ShowsBuckets}
 use Rattle.timer_wheels.proofs.ShownLemmas.{shows}
 use Rattle.timer_wheels.proofs.TableLaws.{IsClock}

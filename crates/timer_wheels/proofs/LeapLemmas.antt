@@ -1,4 +1,4 @@
--- Stretches of ticks.
+-- Lemmas about `Leaps`: ticks at which no bucket with a timer is visited change the clock alone, and leaps compose.
 use Rattle.std.proofs.Common.{◌≡◌, ℕ, ◌+◌, ◌-◌, ◌<◌, ◌≤◌, ◌==◌, zero, suc, List, [], ◌∷◌, refl, sym, ◌∙◌, ap, inl, inr, arith}
 use Rattle.std.specs.Prelude.{not, nat_lt, ◌&&◌, if◌then◌else◌}
 use Rattle.std.specs.List.{AllByRecursion}
@@ -10,12 +10,12 @@ use Rattle.timer_base.specs.WheelState.{WheelState, IsPending, after_tick, after
 use Rattle.timer_links.specs.declared.node.Node.{Node}
 use Rattle.timer_links.specs.Lists.{list_at}
 use Rattle.timer_wheels.specs.Digits.{IsTable, HasDigits, level, hops}
-use Rattle.timer_wheels.specs.DigitLaws.{digits_down}
-use Rattle.timer_wheels.specs.Leaps.{timer_stop, AreNotBefore, Leaps}
+use Rattle.timer_wheels.proofs.DigitLaws.{digits_down}
+use Rattle.timer_wheels.specs.Leap.{timer_visit, AreNotVisitedBefore, Leaps}
 use Rattle.timer_wheels.specs.Placement.{IsPlaced, hops_of, levels_of}
-use Rattle.timer_wheels.specs.WheelLists.{timer_in, entries_of, rows_below, pending_in, wheel_state, ArePending, EachRow}
+use Rattle.timer_wheels.specs.BucketLists.{timer_in, entries_of, rows_below, pending_in, wheel_state, ArePending, EachRow}
 use Rattle.timer_wheels.proofs.RowLemmas.{all-rows_below, all-list_at}
-use Rattle.timer_wheels.proofs.StopLaws.{stop_in_time, level_stays, bucket_stays}
+use Rattle.timer_wheels.proofs.VisitLaws.{visit_in_time, level_stays, bucket_stays}
 
 -- Hops over a stretch.
 
@@ -58,62 +58,62 @@ still table (suc n) a l d f =
 -- A timer that stays pending.
 
 -- a pending timer whose bucket is not emptied before this tick
-record Waits (table : List ℕ) (last a stop d : ℕ) : Type 0 where
+record Waits (table : List ℕ) (last a visit d : ℕ) : Type 0 where
   later : a < d
   in_range : d ≤ last
-  not_before : stop ≤ timer_stop table a d
+  not_before : visit ≤ timer_visit table a d
 
-module _ (table : List ℕ) (last a stop n : ℕ) (i : IsTable table) (h : HasDigits table last) (near : a + n < stop) where
-  keeps_level : (d : ℕ) → Waits table last a stop d → (c : ℕ) → a ≤ c → c ≤ a + n → level table c d ≡ level table a d
-  keeps_level d w c p q = level_stays table a c d i (digits_down table d last i w.in_range h) w.later p (let x : stop ≤ timer_stop table a d = w.not_before in let y : a + n < stop = near in omega arith)
+module _ (table : List ℕ) (last a visit n : ℕ) (i : IsTable table) (h : HasDigits table last) (near : a + n < visit) where
+  keeps_level : (d : ℕ) → Waits table last a visit d → (c : ℕ) → a ≤ c → c ≤ a + n → level table c d ≡ level table a d
+  keeps_level d w c p q = level_stays table a c d i (digits_down table d last i w.in_range h) w.later p (let x : visit ≤ timer_visit table a d = w.not_before in let y : a + n < visit = near in omega arith)
 
-  still_later : (d : ℕ) → Waits table last a stop d → a + n < d
-  still_later d w = let x : stop ≤ timer_stop table a d = w.not_before in let y : timer_stop table a d ≤ d = stop_in_time table a d i in let z : a + n < stop = near in omega arith
+  still_later : (d : ℕ) → Waits table last a visit d → a + n < d
+  still_later d w = let x : visit ≤ timer_visit table a d = w.not_before in let y : timer_visit table a d ≤ d = visit_in_time table a d i in let z : a + n < visit = near in omega arith
 
-  no_hops : (es : List Entry) → AllByRecursion (λ e. Waits table last a stop e.timer.deadline) es → hops_of table a n es ≡ 0
+  no_hops : (es : List Entry) → AllByRecursion (λ e. Waits table last a visit e.timer.deadline) es → hops_of table a n es ≡ 0
   no_hops [] f = refl
   no_hops (e ∷ es) f =
       let x : hops table a n e.timer.deadline ≡ 0 = still table n a (level table a e.timer.deadline) e.timer.deadline (keeps_level e.timer.deadline f.0) in
       let ih : hops_of table a n es ≡ 0 = no_hops es f.1 in
       omega arith
 
-  same_levels : (es : List Entry) → AllByRecursion (λ e. Waits table last a stop e.timer.deadline) es → levels_of table (a + n) es ≡ levels_of table a es
+  same_levels : (es : List Entry) → AllByRecursion (λ e. Waits table last a visit e.timer.deadline) es → levels_of table (a + n) es ≡ levels_of table a es
   same_levels [] f = refl
   same_levels (e ∷ es) f =
       let x : level table (a + n) e.timer.deadline ≡ level table a e.timer.deadline = keeps_level e.timer.deadline f.0 (a + n) (omega arith) (omega arith) in
       let ih : levels_of table (a + n) es ≡ levels_of table a es = same_levels es f.1 in
       omega arith
 
-  all_after : (es : List Entry) → AllByRecursion (λ e. Waits table last a stop e.timer.deadline) es → AreAfter (a + n) es
+  all_after : (es : List Entry) → AllByRecursion (λ e. Waits table last a visit e.timer.deadline) es → AreAfter (a + n) es
   all_after [] f = tt
   all_after (e ∷ es) f = (still_later e.timer.deadline f.0, all_after es f.1)
 
-  waiting_row : (last_serial : ℕ) (row : ℕ × Node) → IsPending last a last_serial (timer_in row) → stop ≤ timer_stop table a (timer_in row).deadline → Waits table last a stop (timer_in row).deadline
+  waiting_row : (last_serial : ℕ) (row : ℕ × Node) → IsPending last a last_serial (timer_in row) → visit ≤ timer_visit table a (timer_in row).deadline → Waits table last a visit (timer_in row).deadline
   waiting_row last_serial row p q = record { later = p.later; in_range = p.in_range; not_before = q }
 
-  all_waiting : (k last_serial : ℕ) (lists : List (List (ℕ × Node))) → ArePending last a last_serial (rows_below k lists) → AreNotBefore table k a stop lists → (s : ℕ) → s < k → AllByRecursion (λ row. Waits table last a stop (timer_in row).deadline) (list_at s lists)
+  all_waiting : (k last_serial : ℕ) (lists : List (List (ℕ × Node))) → ArePending last a last_serial (rows_below k lists) → AreNotVisitedBefore table k a visit lists → (s : ℕ) → s < k → AllByRecursion (λ row. Waits table last a visit (timer_in row).deadline) (list_at s lists)
   all_waiting k last_serial lists p q s b = both (list_at s lists) (all-list_at (λ row. IsPending last a last_serial (timer_in row)) k lists p s b) (q s b) where
-    both : (rows : List (ℕ × Node)) → AllByRecursion (λ row. IsPending last a last_serial (timer_in row)) rows → AllByRecursion (λ row. stop ≤ timer_stop table a (timer_in row).deadline) rows → AllByRecursion (λ row. Waits table last a stop (timer_in row).deadline) rows
+    both : (rows : List (ℕ × Node)) → AllByRecursion (λ row. IsPending last a last_serial (timer_in row)) rows → AllByRecursion (λ row. visit ≤ timer_visit table a (timer_in row).deadline) rows → AllByRecursion (λ row. Waits table last a visit (timer_in row).deadline) rows
     both [] x y = tt
     both (r ∷ rs) x y = (waiting_row last_serial r x.0 y.0, both rs x.1 y.1)
 
-  entries_wait : (rows : List (ℕ × Node)) → AllByRecursion (λ row. Waits table last a stop (timer_in row).deadline) rows → AllByRecursion (λ e. Waits table last a stop e.timer.deadline) (entries_of rows)
+  entries_wait : (rows : List (ℕ × Node)) → AllByRecursion (λ row. Waits table last a visit (timer_in row).deadline) rows → AllByRecursion (λ e. Waits table last a visit e.timer.deadline) (entries_of rows)
   entries_wait [] f = tt
   entries_wait (r ∷ rs) f = (f.0, entries_wait rs f.1)
 
-  module _ (k last_serial : ℕ) (lists : List (List (ℕ × Node))) (p : ArePending last a last_serial (rows_below k lists)) (q : AreNotBefore table k a stop lists) where
-    pending_wait : AllByRecursion (λ e. Waits table last a stop e.timer.deadline) (pending_in (rows_below k lists))
-    pending_wait = All-in_order timer_of (λ e. Waits table last a stop e.timer.deadline) (entries_of (rows_below k lists)) (entries_wait (rows_below k lists) (all-rows_below (λ row. Waits table last a stop (timer_in row).deadline) k lists (all_waiting k last_serial lists p q)))
+  module _ (k last_serial : ℕ) (lists : List (List (ℕ × Node))) (p : ArePending last a last_serial (rows_below k lists)) (q : AreNotVisitedBefore table k a visit lists) where
+    pending_wait : AllByRecursion (λ e. Waits table last a visit e.timer.deadline) (pending_in (rows_below k lists))
+    pending_wait = All-in_order timer_of (λ e. Waits table last a visit e.timer.deadline) (entries_of (rows_below k lists)) (entries_wait (rows_below k lists) (all-rows_below (λ row. Waits table last a visit (timer_in row).deadline) k lists (all_waiting k last_serial lists p q)))
 
     pub leapt_placed : EachRow (IsPlaced table a) k lists → EachRow (IsPlaced table (a + n)) k lists
     leapt_placed f s b = over (list_at s lists) (all_waiting k last_serial lists p q s b) (f s b) where
-      over : (rows : List (ℕ × Node)) → AllByRecursion (λ row. Waits table last a stop (timer_in row).deadline) rows → AllByRecursion (IsPlaced table a s) rows → AllByRecursion (IsPlaced table (a + n) s) rows
+      over : (rows : List (ℕ × Node)) → AllByRecursion (λ row. Waits table last a visit (timer_in row).deadline) rows → AllByRecursion (IsPlaced table a s) rows → AllByRecursion (IsPlaced table (a + n) s) rows
       over [] x y = tt
       over (r ∷ rs) x y = ((bucket_stays table a (a + n) (timer_in r).deadline (keeps_level (timer_in r).deadline x.0 (a + n) (omega arith) (omega arith)) ∙ y.0.0, y.0.1), over rs x.1 y.1)
 
     pub leapt_pending : ArePending last (a + n) last_serial (rows_below k lists)
-    leapt_pending = over (rows_below k lists) (all-rows_below (λ row. Waits table last a stop (timer_in row).deadline) k lists (all_waiting k last_serial lists p q)) p where
-      over : (rows : List (ℕ × Node)) → AllByRecursion (λ row. Waits table last a stop (timer_in row).deadline) rows → ArePending last a last_serial rows → ArePending last (a + n) last_serial rows
+    leapt_pending = over (rows_below k lists) (all-rows_below (λ row. Waits table last a visit (timer_in row).deadline) k lists (all_waiting k last_serial lists p q)) p where
+      over : (rows : List (ℕ × Node)) → AllByRecursion (λ row. Waits table last a visit (timer_in row).deadline) rows → ArePending last a last_serial rows → ArePending last (a + n) last_serial rows
       over [] x y = tt
       over (r ∷ rs) x y = (record { later = still_later (timer_in r).deadline x.0; in_range = y.0.in_range; serial = y.0.serial }, over rs x.1 y.1)
 

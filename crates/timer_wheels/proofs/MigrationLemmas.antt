@@ -1,4 +1,4 @@
--- The lists of a hierarchical wheel after one tick.
+-- Where the rows of an emptied bucket go: each list after `migrated`, and the order of what is pending then.
 use Rattle.std.proofs.Common.{◌≡◌, ◌<◌, ◌+◌, ℕ, ◌==◌, List, [], ◌∷◌, ◌++◌, length, refl, sym, ◌∙◌, ap, subst, inl, inr, arith, append_assoc, length-set, get_or-set_same, get_or-set_other}
 use Rattle.std.specs.Prelude.{Bool, true, false, filter, not}
 use Rattle.std.specs.List.{AllByRecursion}
@@ -10,8 +10,8 @@ use Rattle.timer_base.specs.Pending.{is_due_at}
 use Rattle.timer_links.specs.declared.node.Node.{Node}
 use Rattle.timer_links.specs.Lists.{list_at, with_row}
 use Rattle.timer_wheels.specs.Digits.{slots, bucket}
-use Rattle.timer_wheels.specs.WheelLists.{timer_in, timers_in, rows_below}
-use Rattle.timer_wheels.specs.Migration.{target, spread, left_rows}
+use Rattle.timer_wheels.specs.BucketLists.{timer_in, timers_in, rows_below}
+use Rattle.timer_wheels.specs.Migration.{target, migrate_rows, left_rows}
 use Rattle.timer_wheels.proofs.RowLemmas.{rows_below-above, rows_below-with_row, append-nil, timers-append, AreDistinct-taken, IsNotAmong-others}
 
 abbrev Row : Type 0
@@ -25,21 +25,21 @@ target_due table tick row h = rw h refl
 pub target_left : (table : List ℕ) (tick : ℕ) (row : ℕ × Node) → is_due_at tick (timer_in row) ≡ false → target table tick row ≡ bucket table tick (timer_in row).deadline
 target_left table tick row h = rw h refl
 
-pub spread-length : (table : List ℕ) (tick : ℕ) (rows : List (ℕ × Node)) (lists : List (List (ℕ × Node))) → length (spread table tick rows lists) ≡ length lists
-spread-length table tick [] lists = refl
-spread-length table tick (x ∷ xs) lists = spread-length table tick xs (with_row (target table tick x) x lists) ∙ length-set lists (target table tick x) (list_at (target table tick x) lists ++ x ∷ [])
+pub migrate_rows-length : (table : List ℕ) (tick : ℕ) (rows : List (ℕ × Node)) (lists : List (List (ℕ × Node))) → length (migrate_rows table tick rows lists) ≡ length lists
+migrate_rows-length table tick [] lists = refl
+migrate_rows-length table tick (x ∷ xs) lists = migrate_rows-length table tick xs (with_row (target table tick x) x lists) ∙ length-set lists (target table tick x) (list_at (target table tick x) lists ++ x ∷ [])
 
 -- the rows that go to one list
 abbrev pub to_list : List ℕ → ℕ → ℕ → List (ℕ × Node) → List (ℕ × Node)
 to_list table tick s rows = filter (λ row. target table tick row == s) rows
 
 -- each list afterwards
-pub list_at-spread : (table : List ℕ) (tick s : ℕ) (rows : List (ℕ × Node)) (lists : List (List (ℕ × Node))) → s < length lists → list_at s (spread table tick rows lists) ≡ list_at s lists ++ to_list table tick s rows
-list_at-spread table tick s [] lists b = sym (append-nil (list_at s lists))
-list_at-spread table tick s (x ∷ xs) lists b =
+pub list_at-migrate_rows : (table : List ℕ) (tick s : ℕ) (rows : List (ℕ × Node)) (lists : List (List (ℕ × Node))) → s < length lists → list_at s (migrate_rows table tick rows lists) ≡ list_at s lists ++ to_list table tick s rows
+list_at-migrate_rows table tick s [] lists b = sym (append-nil (list_at s lists))
+list_at-migrate_rows table tick s (x ∷ xs) lists b =
     let lists2 : List (List (ℕ × Node)) = with_row (target table tick x) x lists in
     let b2 : s < length lists2 = rw (length-set lists (target table tick x) (list_at (target table tick x) lists ++ x ∷ [])) b in
-    let ih : list_at s (spread table tick xs lists2) ≡ list_at s lists2 ++ to_list table tick s xs = list_at-spread table tick s xs lists2 b2 in
+    let ih : list_at s (migrate_rows table tick xs lists2) ≡ list_at s lists2 ++ to_list table tick s xs = list_at-migrate_rows table tick s xs lists2 b2 in
     elim (cases_eq (target table tick x) s) [
       | inl e ↦
           let here : list_at s lists2 ≡ list_at s lists ++ x ∷ [] = ap (λ (v : ℕ). list_at s (with_row v x lists)) e ∙ get_or-set_same lists s (list_at s lists ++ x ∷ []) [] b in
@@ -123,17 +123,17 @@ distinct-pulled front (x ∷ xs) rest d =
 
 -- What is pending afterwards, in order.
 
-pub record IsSpread (table : List ℕ) (tick : ℕ) (rows : List (ℕ × Node)) (lists : List (List (ℕ × Node))) : Type 0 where
-  pub distinct : AreDistinct (timers_in (rows_below (slots table) (spread table tick rows lists)))
-  pub pending : in_order timer_in (rows_below (slots table) (spread table tick rows lists)) ≡ in_order timer_in (left_rows tick rows ++ rows_below (slots table) lists)
+pub record AreMigrated (table : List ℕ) (tick : ℕ) (rows : List (ℕ × Node)) (lists : List (List (ℕ × Node))) : Type 0 where
+  pub distinct : AreDistinct (timers_in (rows_below (slots table) (migrate_rows table tick rows lists)))
+  pub pending : in_order timer_in (rows_below (slots table) (migrate_rows table tick rows lists)) ≡ in_order timer_in (left_rows tick rows ++ rows_below (slots table) lists)
 
 -- where a row that is not due goes to
 abbrev pub GoesDown : List ℕ → ℕ → ℕ × Node → Type 0
 GoesDown table tick row = is_due_at tick (timer_in row) ≡ false → bucket table tick (timer_in row).deadline < slots table
 
-spread_due : (table : List ℕ) (tick : ℕ) (x : ℕ × Node) (xs : List (ℕ × Node)) (lists : List (List (ℕ × Node))) → is_due_at tick (timer_in x) ≡ true → Distinct ((x ∷ xs) ++ rows_below (slots table) lists)
-    → (Distinct (xs ++ rows_below (slots table) (with_row (slots table) x lists)) → IsSpread table tick xs (with_row (slots table) x lists)) → IsSpread table tick (x ∷ xs) lists
-spread_due table tick x xs lists k d ih =
+migrate_rows_due : (table : List ℕ) (tick : ℕ) (x : ℕ × Node) (xs : List (ℕ × Node)) (lists : List (List (ℕ × Node))) → is_due_at tick (timer_in x) ≡ true → Distinct ((x ∷ xs) ++ rows_below (slots table) lists)
+    → (Distinct (xs ++ rows_below (slots table) (with_row (slots table) x lists)) → AreMigrated table tick xs (with_row (slots table) x lists)) → AreMigrated table tick (x ∷ xs) lists
+migrate_rows_due table tick x xs lists k d ih =
     let e : rows_below (slots table) (with_row (slots table) x lists) ≡ rows_below (slots table) lists = rows_below-above (slots table) (slots table) lists (list_at (slots table) lists ++ x ∷ []) (omega arith) in
     let P : List (ℕ × Node) → Type 0 = λ rows. Distinct (xs ++ rows) in
     let s = ih (subst P (sym e) d.1) in
@@ -145,9 +145,9 @@ spread_due table tick x xs lists k d ih =
 kept_left : (tick : ℕ) (x : ℕ × Node) (xs rows : List (ℕ × Node)) → is_due_at tick (timer_in x) ≡ false → in_order timer_in (left_rows tick (x ∷ xs) ++ rows) ≡ insert_in_order timer_in x (in_order timer_in (left_rows tick xs ++ rows))
 kept_left tick x xs rows k = rw k refl
 
-spread_left : (table : List ℕ) (tick : ℕ) (x : ℕ × Node) (xs : List (ℕ × Node)) (lists : List (List (ℕ × Node))) (l : ℕ) → l ≡ bucket table tick (timer_in x).deadline → l < slots table → length lists ≡ slots table + 1 → is_due_at tick (timer_in x) ≡ false → Distinct ((x ∷ xs) ++ rows_below (slots table) lists)
-    → (Distinct (xs ++ rows_below (slots table) (with_row l x lists)) → IsSpread table tick xs (with_row l x lists)) → IsSpread table tick (x ∷ xs) lists
-spread_left table tick x xs lists l le b len k d ih =
+migrate_rows_left : (table : List ℕ) (tick : ℕ) (x : ℕ × Node) (xs : List (ℕ × Node)) (lists : List (List (ℕ × Node))) (l : ℕ) → l ≡ bucket table tick (timer_in x).deadline → l < slots table → length lists ≡ slots table + 1 → is_due_at tick (timer_in x) ≡ false → Distinct ((x ∷ xs) ++ rows_below (slots table) lists)
+    → (Distinct (xs ++ rows_below (slots table) (with_row l x lists)) → AreMigrated table tick xs (with_row l x lists)) → AreMigrated table tick (x ∷ xs) lists
+migrate_rows_left table tick x xs lists l le b len k d ih =
     let i = rows_below-with_row (slots table) l x lists b (omega arith) in
     let P : List (ℕ × Node) → Type 0 = Distinct in
     let Q : List (ℕ × Node) → Type 0 = λ rows. Distinct (x ∷ (xs ++ rows)) in
@@ -161,8 +161,8 @@ spread_left table tick x xs lists l le b len k d ih =
     let n1 = among-filter (timer_in x).serial (λ row. not (is_due_at tick (timer_in row))) xs (among-front (timer_in x).serial xs (i.front ++ i.rest) d1.0) in
     let n2 = among-front (timer_in x).serial i.front i.rest (among-rest (timer_in x).serial xs (i.front ++ i.rest) d1.0) in
     let w : with_row (target table tick x) x lists ≡ with_row l x lists = ap (λ (v : ℕ). with_row v x lists) (target_left table tick x k ∙ sym le) in
-    let S : List (List (ℕ × Node)) → Type 0 = λ ys. Distinct (rows_below (slots table) (spread table tick xs ys)) in
-    let T : List (List (ℕ × Node)) → Type 0 = λ ys. in_order timer_in (rows_below (slots table) (spread table tick xs ys)) ≡ in_order timer_in (ls ++ rows_below (slots table) (with_row l x lists)) in
+    let S : List (List (ℕ × Node)) → Type 0 = λ ys. Distinct (rows_below (slots table) (migrate_rows table tick xs ys)) in
+    let T : List (List (ℕ × Node)) → Type 0 = λ ys. in_order timer_in (rows_below (slots table) (migrate_rows table tick xs ys)) ≡ in_order timer_in (ls ++ rows_below (slots table) (with_row l x lists)) in
     record {
       distinct = subst S (sym w) s.distinct;
       pending =
@@ -175,13 +175,13 @@ spread_left table tick x xs lists l le b len k d ih =
           ∙ sym (kept_left tick x xs (rows_below (slots table) lists) k))))));
     }
 
-pub spread_keeps : (table : List ℕ) (tick : ℕ) (rows : List (ℕ × Node)) (lists : List (List (ℕ × Node))) → length lists ≡ slots table + 1 → AllByRecursion (GoesDown table tick) rows → Distinct (rows ++ rows_below (slots table) lists) → IsSpread table tick rows lists
-spread_keeps table tick [] lists len g d = record { distinct = d; pending = refl }
-spread_keeps table tick (x ∷ xs) lists len g d = elim (either (is_due_at tick (timer_in x))) [
-  | inl k ↦ spread_due table tick x xs lists k d
-      (λ d2. spread_keeps table tick xs (with_row (slots table) x lists) (length-set lists (slots table) (list_at (slots table) lists ++ x ∷ []) ∙ len) g.1 d2)
+pub migrate_rows_keeps : (table : List ℕ) (tick : ℕ) (rows : List (ℕ × Node)) (lists : List (List (ℕ × Node))) → length lists ≡ slots table + 1 → AllByRecursion (GoesDown table tick) rows → Distinct (rows ++ rows_below (slots table) lists) → AreMigrated table tick rows lists
+migrate_rows_keeps table tick [] lists len g d = record { distinct = d; pending = refl }
+migrate_rows_keeps table tick (x ∷ xs) lists len g d = elim (either (is_due_at tick (timer_in x))) [
+  | inl k ↦ migrate_rows_due table tick x xs lists k d
+      (λ d2. migrate_rows_keeps table tick xs (with_row (slots table) x lists) (length-set lists (slots table) (list_at (slots table) lists ++ x ∷ []) ∙ len) g.1 d2)
   | inr k ↦
       let l : ℕ = bucket table tick (timer_in x).deadline in
-      spread_left table tick x xs lists l refl (g.0 k) len k d
-      (λ d2. spread_keeps table tick xs (with_row l x lists) (length-set lists l (list_at l lists ++ x ∷ []) ∙ len) g.1 d2)
+      migrate_rows_left table tick x xs lists l refl (g.0 k) len k d
+      (λ d2. migrate_rows_keeps table tick xs (with_row l x lists) (length-set lists l (list_at l lists ++ x ∷ []) ∙ len) g.1 d2)
 ]

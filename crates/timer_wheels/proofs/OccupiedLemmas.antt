@@ -1,4 +1,4 @@
--- The bits of the buckets.
+-- Lemmas about the bits of the buckets, and for `Occupied::first`.
 use Rattle.std.proofs.Common.{◌≡◌, ◌≢◌, ◌<◌, ◌≤◌, ◌+◌, ◌-◌, ◌*◌, ◌/◌, ◌%◌, ◌^◌, ℕ, List, [], ◌∷◌, ◌++◌, length, refl, sym, ◌∙◌, ap, inl, inr, arith, length-set, get_or-set_same, get_or-set_other, slice_index_or, slice_set, bit_and, bit_or}
 use Rattle.std.specs.Prelude.{Some}
 use Rattle.std.specs.Int.{bit_at, w64, trailing_zeros}
@@ -6,7 +6,7 @@ use Rattle.std.proofs.lemmas.Bool.{cases_eq, cases_lt}
 use Rattle.std.proofs.lemmas.Nat.Bits.{bit_at_set_same, bit_at_set_other, bit_at_clear_same, bit_at_clear_other, bit_at-trailing_zeros, bit_at-zero}
 use Rattle.timer_links.specs.declared.node.Node.{Node}
 use Rattle.timer_links.specs.Lists.{list_at, with_row, front_moved, first_row_moved, appended}
-use Rattle.timer_wheels.specs.Occupied.{bit_of, filled, Tells, TellsBut, IsClearFrom, IsFirstSet, IsLowestSet}
+use Rattle.timer_wheels.specs.Occupied.{bit_of, filled, AreMarked, AreMarkedBut, IsClearFrom, IsFirstSet, IsLowestSet}
 
 -- One word is written.
 
@@ -88,8 +88,8 @@ first_bit k j words h t c =
 abbrev Lists : Type 0
 Lists = List (List (ℕ × Node))
 
-pub tells_none : (n : ℕ) (words : List ℕ) (lists : Lists) → ((s : ℕ) → bit_of words s ≡ 0) → ((s : ℕ) → s < n → list_at s lists ≡ []) → Tells n words lists
-tells_none n words lists w e = ((λ s h. w s ∙ sym (ap filled (e s h))), (λ s a b. w s))
+pub marked_none : (n : ℕ) (words : List ℕ) (lists : Lists) → ((s : ℕ) → bit_of words s ≡ 0) → ((s : ℕ) → s < n → list_at s lists ≡ []) → AreMarked n words lists
+marked_none n words lists w e = ((λ s h. w s ∙ sym (ap filled (e s h))), (λ s a b. w s))
 
 pub no_rows_there : (rows : List (ℕ × Node)) → filled rows ≡ 0 → rows ≡ []
 no_rows_there [] e = refl
@@ -100,16 +100,16 @@ filled_behind [] row = refl
 filled_behind (x ∷ xs) row = refl
 
 -- the bits are those of the same lists
-pub tells_same : (n : ℕ) (words : List ℕ) (old new : Lists) → ((s : ℕ) → s < n → list_at s new ≡ list_at s old) → Tells n words old → Tells n words new
-tells_same n words old new e t = ((λ s h. t.0 s h ∙ sym (ap filled (e s h))), t.1)
+pub marked_same : (n : ℕ) (words : List ℕ) (old new : Lists) → ((s : ℕ) → s < n → list_at s new ≡ list_at s old) → AreMarked n words old → AreMarked n words new
+marked_same n words old new e t = ((λ s h. t.0 s h ∙ sym (ap filled (e s h))), t.1)
 
 -- the bits from n on stay clear
 clear_too : (n l : ℕ) (words words2 : List ℕ) → l < n → ((s : ℕ) → s ≢ l → bit_of words2 s ≡ bit_of words s) → IsClearFrom n words → IsClearFrom n words2
 clear_too n l words words2 h o c s a b = o s (λ (e : s ≡ l). omega arith) ∙ c s a b
 
 -- one bit is set, and one row inserted
-pub tells_with_row : (n : ℕ) (words words2 : List ℕ) (l : ℕ) (row : ℕ × Node) (lists : Lists) → l < n → l < length lists → bit_of words2 l ≡ 1 → ((s : ℕ) → s ≢ l → bit_of words2 s ≡ bit_of words s) → Tells n words lists → Tells n words2 (with_row l row lists)
-tells_with_row n words words2 l row lists f b h o t = (
+pub marked_with_row : (n : ℕ) (words words2 : List ℕ) (l : ℕ) (row : ℕ × Node) (lists : Lists) → l < n → l < length lists → bit_of words2 l ≡ 1 → ((s : ℕ) → s ≢ l → bit_of words2 s ≡ bit_of words s) → AreMarked n words lists → AreMarked n words2 (with_row l row lists)
+marked_with_row n words words2 l row lists f b h o t = (
   (λ (s : ℕ) (k : s < n). elim (cases_eq s l) [
     | inl e ↦ ap (bit_of words2) e ∙ (h ∙ sym (ap (λ (v : ℕ). filled (list_at v (with_row l row lists))) e ∙ (ap filled (get_or-set_same lists l (list_at l lists ++ row ∷ []) [] b) ∙ filled_behind (list_at l lists) row)))
     | inr m ↦ o s m ∙ (t.0 s k ∙ sym (ap filled (get_or-set_other lists l s (list_at l lists ++ row ∷ []) [] m)))
@@ -118,11 +118,11 @@ tells_with_row n words words2 l row lists f b h o t = (
 )
 
 -- but one
-pub tells_but : (n : ℕ) (words words2 : List ℕ) (l : ℕ) (lists : Lists) → l < n → ((s : ℕ) → s ≢ l → bit_of words2 s ≡ bit_of words s) → Tells n words lists → TellsBut n l words2 lists
-tells_but n words words2 l lists f o t = ((λ s h m. o s m ∙ t.0 s h), clear_too n l words words2 f o t.1)
+pub marked_but : (n : ℕ) (words words2 : List ℕ) (l : ℕ) (lists : Lists) → l < n → ((s : ℕ) → s ≢ l → bit_of words2 s ≡ bit_of words s) → AreMarked n words lists → AreMarkedBut n l words2 lists
+marked_but n words words2 l lists f o t = ((λ s h m. o s m ∙ t.0 s h), clear_too n l words words2 f o t.1)
 
-pub tells_all : (n : ℕ) (words : List ℕ) (l : ℕ) (lists : Lists) → bit_of words l ≡ filled (list_at l lists) → TellsBut n l words lists → Tells n words lists
-tells_all n words l lists e t = (
+pub marked_all : (n : ℕ) (words : List ℕ) (l : ℕ) (lists : Lists) → bit_of words l ≡ filled (list_at l lists) → AreMarkedBut n l words lists → AreMarked n words lists
+marked_all n words l lists e t = (
   (λ (s : ℕ) (h : s < n). elim (cases_eq s l) [
     | inl q ↦ ap (bit_of words) q ∙ (e ∙ sym (ap (λ (v : ℕ). filled (list_at v lists)) q))
     | inr m ↦ t.0 s h m
@@ -131,8 +131,8 @@ tells_all n words l lists e t = (
 )
 
 -- a whole list moves to the one after the buckets
-pub tells_appended : (n : ℕ) (words words2 : List ℕ) (l : ℕ) (lists : Lists) → l < n → length lists ≡ n + 1 → bit_of words2 l ≡ 0 → ((s : ℕ) → s ≢ l → bit_of words2 s ≡ bit_of words s) → Tells n words lists → Tells n words2 (appended l n lists)
-tells_appended n words words2 l lists h len z o t = (
+pub marked_appended : (n : ℕ) (words words2 : List ℕ) (l : ℕ) (lists : Lists) → l < n → length lists ≡ n + 1 → bit_of words2 l ≡ 0 → ((s : ℕ) → s ≢ l → bit_of words2 s ≡ bit_of words s) → AreMarked n words lists → AreMarked n words2 (appended l n lists)
+marked_appended n words words2 l lists h len z o t = (
   (λ (s : ℕ) (k : s < n).
       let ne : s ≢ n = λ (e : s ≡ n). omega arith in
       let other : list_at s (appended l n lists) ≡ list_at s (slice_set lists l []) = get_or-set_other (slice_set lists l []) n s (list_at n lists ++ list_at l lists) [] ne in
@@ -153,17 +153,17 @@ moved_there l to lists row rest b =
     ap filled (get_or-set_same (slice_set lists l rest) to (list_at to (slice_set lists l rest) ++ row ∷ []) [] (rw (length-set lists l rest) b))
     ∙ filled_behind (list_at to (slice_set lists l rest)) row
 
-pub told_due : (n : ℕ) (words : List ℕ) (l to : ℕ) (lists new : Lists) → to ≡ n → new ≡ front_moved l to lists → TellsBut n l words lists → TellsBut n l words new
-told_due n words l to lists new q e t = (
+pub marked_due : (n : ℕ) (words : List ℕ) (l to : ℕ) (lists new : Lists) → to ≡ n → new ≡ front_moved l to lists → AreMarkedBut n l words lists → AreMarkedBut n l words new
+marked_due n words l to lists new q e t = (
   (λ (s : ℕ) (h : s < n) (d : s ≢ l).
       let m : s ≢ to = λ (x : s ≡ to). omega arith in
       t.0 s h d ∙ sym (ap (λ (y : Lists). filled (list_at s y)) e ∙ ap filled (moved_same l to s lists (list_at l lists) d m))),
   t.1,
 )
 
-pub told_left : (n : ℕ) (words words2 : List ℕ) (l to : ℕ) (row : ℕ × Node) (rest : List (ℕ × Node)) (lists new : Lists) → to < n → to < length lists → bit_of words2 to ≡ 1 → ((s : ℕ) → s ≢ to → bit_of words2 s ≡ bit_of words s)
-    → list_at l lists ≡ row ∷ rest → new ≡ front_moved l to lists → TellsBut n l words lists → TellsBut n l words2 new
-told_left n words words2 l to row rest lists new f b z o at e t =
+pub marked_left : (n : ℕ) (words words2 : List ℕ) (l to : ℕ) (row : ℕ × Node) (rest : List (ℕ × Node)) (lists new : Lists) → to < n → to < length lists → bit_of words2 to ≡ 1 → ((s : ℕ) → s ≢ to → bit_of words2 s ≡ bit_of words s)
+    → list_at l lists ≡ row ∷ rest → new ≡ front_moved l to lists → AreMarkedBut n l words lists → AreMarkedBut n l words2 new
+marked_left n words words2 l to row rest lists new f b z o at e t =
     let is : new ≡ first_row_moved l to lists (row ∷ rest) = e ∙ ap (first_row_moved l to lists) at in (
       (λ (s : ℕ) (h : s < n) (d : s ≢ l). elim (cases_eq s to) [
         | inl q ↦ ap (bit_of words2) q ∙ (z ∙ sym (ap (λ (v : ℕ). filled (list_at v new)) q ∙ (ap (λ (y : Lists). filled (list_at to y)) is ∙ moved_there l to lists row rest b)))

@@ -8,7 +8,7 @@ use Rattle.timer_base.specs.OrderLaws.{either}
 use Rattle.timer_base.specs.Pending.{Entry}
 use Rattle.timer_links.specs.declared.node.Node.{Node}
 use Rattle.timer_links.specs.Lists.{list_at, with_row, without_key}
-use Rattle.timer_wheels.specs.WheelLists.{timer_in, timers_in, entry_of, entries_of, rows_below}
+use Rattle.timer_wheels.specs.BucketLists.{timer_in, timers_in, entry_of, entries_of, rows_below}
 
 -- Facts of every row.
 

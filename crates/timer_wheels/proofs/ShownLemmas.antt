@@ -1,4 +1,4 @@
--- The buckets show the pending timers, where each row stands in its timer's bucket.
+-- Lemmas about `ShowsBuckets`: it holds where each row is in its timer's bucket.
 use Rattle.std.proofs.Common.{◌≡◌, ◌≢◌, ◌<◌, ◌+◌, ℕ, zero, suc, ◌==◌, List, [], ◌∷◌, ◌++◌, length, refl, sym, ◌∙◌, ap, inl, inr, arith}
 use Rattle.std.specs.Prelude.{Bool, true, false, map, filter}
 use Rattle.std.specs.List.{AllByRecursion}
@@ -9,11 +9,11 @@ use Rattle.timer_base.specs.OrderLaws.{either, insert_in_order-commutes, in_orde
 use Rattle.timer_base.specs.Pending.{Entry, timer_of}
 use Rattle.timer_links.specs.declared.node.Node.{Node}
 use Rattle.timer_links.specs.Lists.{list_at}
-use Rattle.timer_wheels.specs.WheelLists.{timer_in, timers_in, entries_of, rows_below, pending_in, wheel_state, AreInOrder, EachRow}
-use Rattle.timer_wheels.specs.WheelLaws.{timers_of-entries}
+use Rattle.timer_wheels.specs.BucketLists.{timer_in, timers_in, entries_of, rows_below, pending_in, wheel_state, AreInOrder, EachRow}
+use Rattle.timer_wheels.specs.BucketLaws.{timers_of-entries}
 use Rattle.timer_wheels.specs.Shown.{without_deadline, by_serial, row_of, entries_at, ShowsBuckets}
 use Rattle.timer_wheels.proofs.RowLemmas.{append-nil, filter-append}
-use Rattle.timer_wheels.proofs.WheelLemmas.{filter-pending_in}
+use Rattle.timer_wheels.proofs.BucketLemmas.{filter-pending_in}
 
 -- Which rows satisfy a test.
 

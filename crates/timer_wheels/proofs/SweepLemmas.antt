@@ -1,11 +1,11 @@
--- The loop that sweeps a bucket.
+-- Lemmas for `sweep_bucket`: its loop invariant.
 use Rattle.std.proofs.Common.{◌≡◌, ◌≢◌, ◌<◌, ◌≤◌, ◌+◌, ◌-◌, ℕ, zero, suc, List, [], ◌∷◌, ◌++◌, length, refl, sym, ◌∙◌, ap, subst, inl, inr, arith, length-set, length-append, append_assoc, get_or-set_same, get_or-set_other}
 use Rattle.std.specs.Prelude.{map, IsSome, Option, Some, None, slice_set}
 use Rattle.std.proofs.lemmas.List.{set-get_or}
 use Rattle.std.proofs.lemmas.Bool.{cases_eq, eq-eqb, ne_eqb}
 use Rattle.timer_links.specs.declared.node.Node.{Node}
 use Rattle.timer_links.specs.Lists.{node_at, first_key, list_at, row_count, without_key, with_row, moved_back, AreApart, SetsRounds}
-use Rattle.timer_wheels.specs.Swept.{due_now, due_later, half_swept, swept}
+use Rattle.timer_wheels.specs.Sweep.{due_now, due_later, half_swept, swept}
 use Rattle.timer_wheels.proofs.RowLemmas.{append-nil}
 use Rattle.timer_wheels.proofs.WalkLemmas.{some_none, same_key, length-list_at, set_twice}
 

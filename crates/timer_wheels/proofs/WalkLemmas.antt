@@ -1,4 +1,4 @@
--- The walk along one list.
+-- Lemmas for `walks`: the loop invariants of copying, counting and emptying one list.
 use Rattle.std.proofs.Common.{◌≡◌, ◌≢◌, ◌<◌, ◌≤◌, ◌+◌, ℕ, zero, suc, List, [], ◌∷◌, ◌++◌, length, refl, sym, ◌∙◌, ap, inl, inr, arith, append_assoc, length-append, length-set, get_or-set_same, get_or-set_other}
 use Rattle.std.specs.Prelude.{true, IsSome, Option, Some, None, slice_set}
 use Rattle.std.specs.Option.{is_some}
@@ -7,7 +7,7 @@ use Rattle.std.proofs.lemmas.List.{set-get_or}
 use Rattle.timer_base.specs.declared.timer.Timer.{Timer}
 use Rattle.timer_links.specs.declared.node.Node.{Node}
 use Rattle.timer_links.specs.Lists.{node_at, first_key, list_at, row_count, AreApart, IsNext, PopsFront}
-use Rattle.timer_wheels.specs.WheelLists.{timers_in}
+use Rattle.timer_wheels.specs.BucketLists.{timers_in}
 use Rattle.timer_wheels.proofs.RowLemmas.{append-nil, timers-append}
 
 -- after some steps these rows of the list are behind, those are left, and the key is that of the next one

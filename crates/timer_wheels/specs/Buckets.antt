@@ -1,9 +1,12 @@
--- The wheel state of the buckets, the clock and the last serial together.
-use Rattle.std.specs.Prelude.{◌≡◌}
+-- The state that `Buckets` represents, and how its calls change the lists.
+use Rattle.std.specs.Prelude.{◌≡◌, ℕ, List, map, Option, Some, None, MatchOption}
+use Rattle.timer_base.specs.declared.timer.Timer.{Timer}
 use Rattle.timer_base.specs.WheelState.{WheelState, IsWellFormed}
+use Rattle.timer_links.specs.declared.node.Node.{Node}
+use Rattle.timer_links.specs.Lists.{with_row, without_key}
 use Rattle.timer_wheels.specs.declared.buckets.Buckets.{Buckets}
-use Rattle.timer_wheels.specs.WheelLists.{wheel_state}
-use Rattle.timer_wheels.specs.WheelLaws.{wheel_state-well_formed}
+use Rattle.timer_wheels.specs.BucketLists.{wheel_state}
+use Rattle.timer_wheels.specs.BucketLaws.{wheel_state-well_formed}
 
 -- the wheel whose buckets these are
 abbrev pub state_of : Buckets → WheelState
@@ -15,6 +18,26 @@ pub record IsSameFrame (old new : Buckets) : Type 0 where
   pub tick : new.tick ≡ old.tick
   pub slots : new.slots ≡ old.slots
 
+-- the timer that was removed, if one was found
+abbrev pub taken_timer : Option (Timer × Option ℕ) → Option Timer
+taken_timer None = None
+taken_timer (Some r) = Some r.0
+
+-- a timer at its place, as a row
+abbrev pub row_at : ℕ → Timer → ℕ → ℕ × Node
+row_at place timer rounds = (place, record { timer = timer; rounds = rounds })
+
+-- where a timer was found, the row under its key is removed; else the lists are unchanged
+abbrev pub RemovesRow : {X : Type 0} → Option X → ℕ → List (List (ℕ × Node)) → List (List (ℕ × Node)) → Type 0
+RemovesRow found key old new = MatchOption found (new ≡ old) (λ r. new ≡ map (without_key key) old)
+
+-- where a timer was found, the row under its key is removed, and this row is pushed to the back of a list; else the lists
+-- are unchanged
+abbrev pub ReplacesRow : {X : Type 0} → Option X → ℕ → ℕ × Node → List (List (ℕ × Node)) → List (List (ℕ × Node)) → Type 0
+ReplacesRow found l row old new = MatchOption found (new ≡ old) (λ r. new ≡ with_row l row (map (without_key row.0) old))
+
 -- the invariant of the buckets implies that of every wheel
 pub state_of-well_formed : (buckets : Buckets) → IsWellFormed (state_of buckets)
-state_of-well_formed buckets = wheel_state-well_formed buckets.slots buckets.last_tick buckets.tick buckets.last_serial buckets.links buckets.last_in_range buckets.tick_in_range buckets.serial_in_range buckets.pending buckets.distinct buckets.in_order
+state_of-well_formed buckets =
+    wheel_state-well_formed buckets.slots buckets.last_tick buckets.tick buckets.last_serial buckets.links
+    buckets.last_in_range buckets.tick_in_range buckets.serial_in_range buckets.pending buckets.distinct buckets.in_order

@@ -1,5 +1,5 @@
--- The digits of a tick, and the slot of the wheels in which a timer stands. A table has the radix of each digit, the lowest digit first.
-use Rattle.std.specs.Prelude.{◌≡◌, ◌≢◌, ℕ, ◌+◌, ◌-◌, ◌*◌, ◌/◌, ◌%◌, ◌<◌, zero, suc, ◌==◌, ◌&&◌, nat_lt, not, if◌then◌else◌, List, [], ◌∷◌, length}
+-- The digits of a tick, and the bucket of a timer. A table has the radix of each digit, the lowest digit first.
+use Rattle.std.specs.Prelude.{◌≡◌, ◌≢◌, ◌⊎◌, ℕ, ◌+◌, ◌-◌, ◌*◌, ◌/◌, ◌%◌, ◌<◌, ◌≤◌, zero, suc, ◌==◌, ◌&&◌, nat_lt, not, if◌then◌else◌, List, [], ◌∷◌, length}
 
 -- ten digits in base 64
 unfoldable pub wide : List ℕ
@@ -19,9 +19,9 @@ abbrev pub last_of : List ℕ → ℕ
 last_of table = span table - 1
 
 -- the lowest radix
-abbrev pub base : List ℕ → ℕ
-base [] = 1
-base (r ∷ rs) = r
+abbrev pub lowest_radix : List ℕ → ℕ
+lowest_radix [] = 1
+lowest_radix (r ∷ rs) = r
 
 -- each radix is above 0
 abbrev pub IsTable : List ℕ → Type 0
@@ -72,21 +72,23 @@ abbrev pub slots : List ℕ → ℕ
 slots table = slots_below (length table) table
 
 -- the list of slot s of wheel k
-abbrev pub slot : List ℕ → ℕ → ℕ → ℕ
-slot table k s = slots_below k table + s
+abbrev pub list_of_slot : List ℕ → ℕ → ℕ → ℕ
+list_of_slot table k s = slots_below k table + s
 
 -- the list of a timer: the wheel is the highest digit in which its deadline differs from now, the slot is that digit of the deadline
 abbrev pub bucket : List ℕ → ℕ → ℕ → ℕ
-bucket table now deadline = slot table (level table now deadline) (digit table (level table now deadline) deadline)
+bucket table now deadline = list_of_slot table (level table now deadline) (digit table (level table now deadline) deadline)
 
 -- the list that is emptied at a tick: the wheel is its lowest digit that is not zero, the slot is that digit
 abbrev pub emptied : List ℕ → ℕ → ℕ
-emptied table tick = slot table (lowest table tick) (digit table (lowest table tick) tick)
+emptied table tick = list_of_slot table (lowest table tick) (digit table (lowest table tick) tick)
 
 -- how many of the next ticks after a move a timer with this deadline to a lower wheel
 abbrev pub hops : List ℕ → ℕ → ℕ → ℕ → ℕ
 hops table a zero deadline = 0
-hops table a (suc n) deadline = (if nat_lt (a + 1) deadline && not (level table a deadline == level table (a + 1) deadline) then 1 else 0) + hops table (a + 1) n deadline
+hops table a (suc n) deadline =
+    (if nat_lt (a + 1) deadline && not (level table a deadline == level table (a + 1) deadline) then 1 else 0)
+    + hops table (a + 1) n deadline
 
 -- k is the highest digit in which a and b differ
 pub record IsHighest (table : List ℕ) (a b k : ℕ) : Type 0 where
@@ -97,3 +99,25 @@ pub record IsHighest (table : List ℕ) (a b k : ℕ) : Type 0 where
 pub record IsLowest (table : List ℕ) (t k : ℕ) : Type 0 where
   pub not_zero : digit table k t ≢ 0
   pub below : (j : ℕ) → j < k → digit table j t ≡ 0
+
+-- The bucket of a pending timer at one tick: a is the tick before, d the deadline.
+
+-- it is in the bucket that is emptied, and is due or moves to a lower wheel
+abbrev pub LeavesBucket : List ℕ → ℕ → ℕ → Type 0
+LeavesBucket table a d =
+    (bucket table a d ≡ emptied table (a + 1))
+    × ((d ≡ a + 1) ⊎ ((level table (a + 1) d < level table a d) × (bucket table (a + 1) d < slots_below (lowest table (a + 1)) table)))
+
+-- it is in another one, and stays there
+abbrev pub StaysInBucket : List ℕ → ℕ → ℕ → Type 0
+StaysInBucket table a d =
+    (bucket table a d ≢ emptied table (a + 1))
+    × ((d ≢ a + 1) × ((level table (a + 1) d ≡ level table a d) × (bucket table (a + 1) d ≡ bucket table a d)))
+
+-- a timer's bucket before and after the tick
+pub record BucketAtTick (table : List ℕ) (a d : ℕ) : Type 0 where
+  pub in_range : bucket table a d < slots table
+  -- the wheels below the one that is emptied are empty
+  pub not_below : slots_below (lowest table (a + 1)) table ≤ bucket table a d
+  pub falls : level table (a + 1) d ≤ level table a d
+  pub is : LeavesBucket table a d ⊎ StaysInBucket table a d

@@ -1,11 +1,11 @@
--- What a hashed wheel shows, and the invariant of its rows.
+-- The slot and the rounds of a timer in a hashed wheel, what its `links` shows, and the invariant of its rows.
 use Rattle.std.specs.Prelude.{◌≡◌, ℕ, ◌-◌, ◌/◌, ◌%◌, List}
 use Rattle.std.specs.Coded.{×_prop}
 use Rattle.std.proofs.Props.{props}
 use Rattle.timer_base.specs.declared.timer.Timer.{Timer}
 use Rattle.timer_base.specs.WheelState.{WheelState}
 use Rattle.timer_links.specs.declared.node.Node.{Node}
-use Rattle.timer_wheels.specs.WheelLists.{timer_in, EachRow, EachRow-prop}
+use Rattle.timer_wheels.specs.BucketLists.{timer_in, EachRow, EachRow-prop}
 use Rattle.timer_wheels.specs.Shown.{ShowsBuckets}
 
 -- the slot of a timer

@@ -1,7 +1,21 @@
--- The names in the public clauses of a hashed wheel.
-use Rattle.std.specs.Prelude.{ℕ}
+-- The names in the public clauses of `HashedWheel`.
+use Rattle.std.specs.Prelude.{◌≡◌, ◌⊎◌, ℕ, ◌||◌, ◌==◌, nat_lt, if◌then◌else◌, Option, Some, None}
+use Rattle.timer_base.specs.declared.limits.TheConstants.{LAST}
+use Rattle.timer_base.specs.declared.fault.MakeFault.{MakeFault}
+use Rattle.timer_base.specs.declared.fault.MakeFault.TheVariants.{Slots, FirstTick, OutOfMemory}
 use Rattle.timer_wheels.specs.declared.hashed.HashedWheel.{HashedWheel}
 
 -- how many slots the wheel has
 abbrev pub slots_of : HashedWheel → ℕ
 slots_of wheel = wheel.buckets.slots
+
+-- why a hashed wheel can't be made, other than out of memory: the number of slots is tested before the first tick
+abbrev pub fault_of : ℕ → ℕ → Option MakeFault
+fault_of slots first_tick =
+    if slots == 0 || nat_lt 65536 slots then Some Slots
+    else (if nat_lt LAST first_tick then Some FirstTick else None)
+
+-- the error of `new`: that of its arguments where there is one, else out of memory
+abbrev pub IsHashedFault : ℕ → ℕ → MakeFault → Type 0
+IsHashedFault slots first_tick fault =
+    (fault_of slots first_tick ≡ Some fault) ⊎ ((fault_of slots first_tick ≡ None) × (fault ≡ OutOfMemory))

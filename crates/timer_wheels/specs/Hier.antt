@@ -1,17 +1,30 @@
--- The invariant of the buckets of a hierarchy of wheels, and of the bits that mark which have timers.
+-- The invariant of the buckets of a hierarchy of wheels and of their bits, and the potential of the timers.
 use Rattle.std.specs.Prelude.{◌≡◌, ℕ, List}
+use Rattle.timer_wheels.specs.Buckets.{state_of}
 use Rattle.timer_wheels.specs.declared.buckets.Buckets.{Buckets}
 use Rattle.timer_wheels.specs.declared.table.Table.{Table}
 use Rattle.timer_wheels.specs.Digits.{slots, last_of}
-use Rattle.timer_wheels.specs.Occupied.{Tells}
-use Rattle.timer_wheels.specs.Placement.{IsPlaced}
+use Rattle.timer_wheels.specs.Occupied.{AreMarked}
+use Rattle.timer_wheels.specs.Placement.{IsPlaced, IsPlaced-prop, levels_of}
 use Rattle.timer_wheels.specs.Tables.{radices}
-use Rattle.timer_wheels.specs.WheelLists.{EachRow}
+use Rattle.timer_wheels.specs.BucketLists.{EachRow, EachRow-prop}
 
+-- each row of the buckets is in its timer's bucket
+abbrev pub ArePlaced : Table → Buckets → Type 0
+ArePlaced table b = EachRow (IsPlaced (radices table) b.tick) b.slots b.links
+
+pub ArePlaced-prop : (table : Table) (b : Buckets) → IsProp (ArePlaced table b)
+ArePlaced-prop table b = EachRow-prop (IsPlaced (radices table) b.tick) (IsPlaced-prop (radices table) b.tick) b.slots b.links
+
+-- the potential of the pending timers: the sum of their levels
+abbrev pub potential : Table → Buckets → ℕ
+potential table b = levels_of (radices table) b.tick (state_of b).pending
+
+-- the invariant of a hierarchy of wheels
 pub record IsHier (table : Table) (b : Buckets) (words : List ℕ) : Type 0 where
   pub has_slots : b.slots ≡ slots (radices table)
   pub clock : b.last_tick ≡ last_of (radices table)
   -- each timer stands in its bucket
-  pub placed : EachRow (IsPlaced (radices table) b.tick) b.slots b.links
+  pub placed : ArePlaced table b
   -- the bits mark which buckets have timers
-  pub told : Tells b.slots words b.links
+  pub marked : AreMarked b.slots words b.links

@@ -1,9 +1,14 @@
--- The names in the public clauses of a hierarchical wheel.
-use Rattle.std.specs.Prelude.{ℕ}
+-- The names in the public clauses of `HierWheel`.
+use Rattle.std.specs.Prelude.{◌≡◌, ◌⊎◌, ℕ, ◌+◌, ◌<◌, ◌≤◌}
+use Rattle.timer_base.specs.declared.fault.MakeFault.{MakeFault}
+use Rattle.timer_base.specs.declared.fault.MakeFault.TheVariants.{FirstTick, OutOfMemory}
 use Rattle.timer_base.specs.WheelState.{WheelState}
 use Rattle.timer_wheels.specs.Buckets.{state_of}
 use Rattle.timer_wheels.specs.declared.hier.HierWheel.{HierWheel}
 use Rattle.timer_wheels.specs.declared.table.Table.{Table}
+use Rattle.timer_wheels.specs.Digits.{lowest_radix}
+use Rattle.timer_wheels.specs.Placement.{hops_of, visited_between, has_any}
+use Rattle.timer_wheels.specs.Tables.{radices}
 
 -- the state of the wheel
 abbrev pub hier_state : HierWheel → WheelState
@@ -12,6 +17,11 @@ hier_state wheel = state_of wheel.buckets
 -- the table by which it reads its digits
 abbrev pub table_of : HierWheel → Table
 table_of wheel = wheel.table
+
+-- the error of `new` and `with_table`: the first tick is after the last one, or out of memory
+abbrev pub IsHierFault : ℕ → ℕ → MakeFault → Type 0
+IsHierFault last first_tick fault =
+    ((fault ≡ FirstTick) × (last < first_tick)) ⊎ ((fault ≡ OutOfMemory) × (first_tick ≤ last))
 
 -- the counts of a wheel since it was made
 pub record WheelCounts : Type 0 where
@@ -33,3 +43,21 @@ moves_of wheel = wheel.counts.moves
 
 abbrev pub visits_of : HierWheel → ℕ
 visits_of wheel = wheel.counts.visits
+
+-- the counts after one more start or restart
+abbrev pub with_start : WheelCounts → WheelCounts
+with_start counts = record counts { starts = counts.starts + 1 }
+
+-- the counts after some ticks, with their moves and visits
+abbrev pub with_ticks : ℕ → ℕ → WheelCounts → WheelCounts
+with_ticks moves visits counts = record counts { moves = counts.moves + moves; visits = counts.visits + visits }
+
+-- how often the next ticks move a timer to a lower wheel
+abbrev pub hops_ahead : HierWheel → ℕ → ℕ
+hops_ahead wheel ticks =
+    hops_of (radices (table_of wheel)) (hier_state wheel).now ticks (hier_state wheel).pending
+
+-- how many buckets are visited from one state of a wheel to a later one
+abbrev pub visits_to : HierWheel → HierWheel → ℕ
+visits_to old new =
+    visited_between (lowest_radix (radices (table_of old))) (hier_state old).now (hier_state new).now (has_any (hier_state new).due)

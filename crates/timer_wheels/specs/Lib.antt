@@ -1,18 +1,16 @@
-pub mod WheelLists
-pub mod WheelLaws
+-- The definitions of this crate, and the lemmas that clauses or crates above cite.
+pub mod BucketLists
+pub mod BucketLaws
 pub mod Buckets
 pub mod Digits
-pub mod DigitLaws
 pub mod Placement
 pub mod Migration
 pub mod Shown
 pub mod Hashed
-pub mod Swept
+pub mod Sweep
 pub mod HashedWheel
-pub mod Making
 pub mod Occupied
-pub mod Leaps
+pub mod Leap
 pub mod Hier
 pub mod Tables
-pub mod TakenOut
 pub mod HierWheel

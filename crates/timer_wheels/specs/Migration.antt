@@ -1,23 +1,23 @@
--- The lists after one bucket is emptied: each row, from the front, moves to the back of its new list.
+-- The lists of a hierarchy of wheels after one bucket is emptied: each row, from the front, moves to its new list.
 use Rattle.std.specs.Prelude.{◌≡◌, ◌≢◌, ℕ, ◌≤◌, not, if◌then◌else◌, List, [], ◌∷◌, filter, slice_set, Option, Some, None}
 use Rattle.timer_base.specs.Pending.{is_due_at}
 use Rattle.timer_links.specs.declared.node.Node.{Node}
 use Rattle.timer_links.specs.Lists.{list_at, with_row}
 use Rattle.timer_wheels.specs.Digits.{bucket, slots, last_of}
-use Rattle.timer_wheels.specs.WheelLists.{timer_in}
+use Rattle.timer_wheels.specs.BucketLists.{timer_in}
 
 -- the list that a row moves to at this tick: that of the due timers at its deadline, else its bucket
 abbrev pub target : List ℕ → ℕ → ℕ × Node → ℕ
 target table tick row = if is_due_at tick (timer_in row) then slots table else bucket table tick (timer_in row).deadline
 
 -- the rows move, one after another, to the back of their lists
-abbrev pub spread : List ℕ → ℕ → List (ℕ × Node) → List (List (ℕ × Node)) → List (List (ℕ × Node))
-spread table tick [] lists = lists
-spread table tick (row ∷ rows) lists = spread table tick rows (with_row (target table tick row) row lists)
+abbrev pub migrate_rows : List ℕ → ℕ → List (ℕ × Node) → List (List (ℕ × Node)) → List (List (ℕ × Node))
+migrate_rows table tick [] lists = lists
+migrate_rows table tick (row ∷ rows) lists = migrate_rows table tick rows (with_row (target table tick row) row lists)
 
 -- one list is emptied from its front
 abbrev pub migrated : List ℕ → ℕ → ℕ → List (List (ℕ × Node)) → List (List (ℕ × Node))
-migrated table tick l lists = spread table tick (list_at l lists) (slice_set lists l [])
+migrated table tick l lists = migrate_rows table tick (list_at l lists) (slice_set lists l [])
 
 -- the rows that are due at this tick
 abbrev pub due_rows : ℕ → List (ℕ × Node) → List (ℕ × Node)

@@ -1,12 +1,14 @@
--- In which bucket each pending timer stands, and how often it still moves: what `links`, `moves` and `starts` show.
+-- In which bucket of a hierarchy each timer is, and how often it still moves: what `links`, `moves` and `starts` show.
 use Rattle.std.specs.Prelude.{◌≡◌, ℕ, ◌+◌, ◌-◌, ◌*◌, ◌/◌, ◌%◌, ◌≤◌, ◌==◌, ◌&&◌, not, Bool, true, false, if◌then◌else◌, length, List, [], ◌∷◌}
 use Rattle.std.specs.Coded.{×_prop}
 use Rattle.std.proofs.Props.{props}
 use Rattle.timer_base.specs.declared.timer.Timer.{Timer}
 use Rattle.timer_base.specs.Pending.{Entry}
+use Rattle.timer_base.specs.WheelState.{WheelState}
 use Rattle.timer_links.specs.declared.node.Node.{Node}
-use Rattle.timer_wheels.specs.Digits.{level, bucket, hops}
-use Rattle.timer_wheels.specs.WheelLists.{timer_in}
+use Rattle.timer_wheels.specs.Digits.{level, bucket, slots, hops}
+use Rattle.timer_wheels.specs.Shown.{ShowsBuckets}
+use Rattle.timer_wheels.specs.BucketLists.{timer_in}
 
 -- the list of a pending timer
 abbrev pub bucket_at : List ℕ → ℕ → Timer → ℕ
@@ -19,6 +21,11 @@ no_rounds t = 0
 -- a row of list s: the list is the timer's bucket, and it has no rounds
 abbrev pub IsPlaced : List ℕ → ℕ → ℕ → ℕ × Node → Type 0
 IsPlaced table now s row = (bucket table now (timer_in row).deadline ≡ s) × (row.1.rounds ≡ 0)
+
+-- list s, for s below the number of slots, has the pending timers whose bucket it is, by serial, each under its place with
+-- no rounds, and the next list has what is due
+abbrev pub ShowsWheels : List ℕ → WheelState → List (List (ℕ × Node)) → Type 0
+ShowsWheels table w lists = ShowsBuckets (slots table) (bucket_at table w.now) no_rounds w lists
 
 pub IsPlaced-prop : (table : List ℕ) (now s : ℕ) (row : ℕ × Node) → IsProp (IsPlaced table now s row)
 IsPlaced-prop table now s row = ×_prop (hlevel props) (hlevel props)

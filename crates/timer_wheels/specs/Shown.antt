@@ -1,4 +1,4 @@
--- What the buckets show: the pending timers, each in its bucket.
+-- What `links` shows of either wheel: the pending timers, each in its bucket.
 use Rattle.std.specs.Prelude.{◌≡◌, ◌==◌, ℕ, ◌+◌, ◌<◌, List, length, map, filter}
 use Rattle.timer_base.specs.declared.timer.Timer.{Timer}
 use Rattle.timer_base.specs.Order.{in_order}
@@ -6,7 +6,7 @@ use Rattle.timer_base.specs.Pending.{Entry}
 use Rattle.timer_base.specs.WheelState.{WheelState}
 use Rattle.timer_links.specs.declared.node.Node.{Node}
 use Rattle.timer_links.specs.Lists.{list_at}
-use Rattle.timer_wheels.specs.WheelLists.{timers_in}
+use Rattle.timer_wheels.specs.BucketLists.{timers_in}
 
 -- the timer, were its deadline 0
 abbrev pub without_deadline : Entry → Timer

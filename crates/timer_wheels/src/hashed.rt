@@ -2,8 +2,8 @@
 //! Wheels", SOSP 1987.
 //!
 //! N buckets. A timer goes to the back of bucket (deadline mod N), with its rounds: how often the
-//! clock still passes it by, (interval - 1) div N. Tick t goes through bucket (t mod N) alone, from
-//! its front: what has no rounds left is due, and any other timer has one round less.
+//! clock still passes its slot before it is due, (interval - 1) div N. Tick t sweeps bucket (t mod N)
+//! alone, from its front: a timer with no rounds left is due, and any other has one round fewer.
 //!
 //!     N = 8, at tick 0, intervals 1, 8, 9, 16, 8 (written serial:rounds, from the front)
 //!                bucket 0        bucket 1     due
@@ -12,7 +12,7 @@
 //!     tick 8     4:0             3:0          2 5
 //!
 //! Timer 4, followed to its end: 16 mod 8 is 0 and (16 - 1) div 8 is 1, so it stands in bucket 0 with
-//! one round. Tick 8 passes it by, and leaves it no round. Tick 16 finds it there, and it is due.
+//! one round. Tick 8 leaves it there with no round. Tick 16 finds it there, and it is due.
 //!
 //! A bucket is in order of starting and not of deadlines, so a start needs no walk. The rounds are
 //! counted from the interval less 1, since an interval of N ends when the clock is back at the slot
@@ -21,7 +21,6 @@ ghost use Rattle.std.specs.Prelude.{◌≡◌, ◌⊎◌, ◌<◌, ◌≤◌, �
 ghost use Rattle.timer_base.specs.declared.limits.TheConstants.{LAST};
 ghost use Rattle.timer_base.specs.WheelState.{empty_wheel, first_due, timer_at, after_start, after_stop, after_tick, after_expiry, after_clear, after_restart, old_timer, Advances};
 ghost use Rattle.timer_wheels.specs.Hashed.{IsHashed, AreInBuckets, AreInBuckets-prop};
-ghost use Rattle.timer_wheels.specs.Making.{fault_of};
 
 use crate::buckets::Buckets;
 use crate::sweep::{first_visit, next_tick, slot_after};
@@ -49,17 +48,17 @@ pub struct HashedWheel {
 }
 
 impl HashedWheel {
-    ghost use Rattle.timer_wheels.specs.HashedWheel.{slots_of};
+    ghost use Rattle.timer_wheels.specs.HashedWheel.{slots_of, fault_of, IsHashedFault};
 
     /// A wheel with no timer, of 1 to 65,536 slots, at a first tick of at most `LAST`.
     ///
-    /// Refused, in this order: `Slots` where there are none or more than `MOST_SLOTS`; `FirstTick` above
+    /// Errors, in this order: `Slots` where there are none or more than `MOST_SLOTS`; `FirstTick` above
     /// `LAST`; `OutOfMemory`.
     pub fn new(alloc: Global, slots: usize, first_tick: u64) -> Result<HashedWheel, MakeFault>
         ensures ok { IfOk result (λ wheel. ⟦<HashedWheel as Wheel>⟧.state wheel ≡ empty_wheel LAST first_tick) }
         ensures slots { IfOk result (λ wheel. slots_of wheel ≡ slots) }
         ensures no_fault { IfOk result (λ wheel. fault_of slots first_tick ≡ None) }
-        ensures err { IfErr result (λ fault. (fault_of slots first_tick ≡ Some fault) ⊎ ((fault_of slots first_tick ≡ None) × (fault ≡ MakeFault.OutOfMemory))) }
+        ensures err { IfErr result (λ fault. IsHashedFault slots first_tick fault) }
     {
         if slots == 0 || slots > MOST_SLOTS {
             return Err(MakeFault::Slots);
@@ -81,7 +80,7 @@ impl HashedWheel {
         self.buckets.slots
     }
 
-    /// The buckets, and behind them the list of what is due. Does not allocate.
+    /// The buckets, and after them the list of due timers. Does not allocate.
     ///
     /// List s, for s below the number N of slots, holds the pending timers with deadline mod N = s,
     /// by serial, each under its handle's place. List N holds the due ones, by serial.
@@ -133,7 +132,7 @@ impl Wheel for HashedWheel {
         ensures slots { slots_of self.new ≡ slots_of self.old }
     {
         let buckets = &mut self.buckets;
-        // What is left of the interval behind the next tick: one division gives its rounds and its slots.
+        // What is left of the interval after the next tick: one division gives its rounds and its slots.
         let rest = timer.deadline - buckets.tick - 1;
         let rounds = rest / buckets.slots as u64;
         let steps = (rest % buckets.slots as u64) as usize + 1;
@@ -199,7 +198,7 @@ impl Wheel for HashedWheel {
         most
     }
 
-    /// The tick of the first slot ahead that has a timer, due then or later. It looks at each slot before it.
+    /// The tick of the first slot ahead that has a timer, due then or later. Each slot before it is looked at.
     fn quiet_until(&self) -> Option<u64> {
         first_visit(&self.buckets, self.slot)
     }

@@ -51,17 +51,16 @@ ghost use Rattle.std.specs.Prelude.{◌≡◌, ◌+◌, ◌-◌, ◌*◌, ◌<�
 ghost use Rattle.timer_base.specs.declared.limits.TheConstants.{LAST};
 ghost use Rattle.timer_base.specs.WheelState.{empty_wheel, timer_at, first_due, after_start, after_stop, after_tick, after_expiry, after_clear, after_restart, old_timer, Advances};
 ghost use Rattle.timer_wheels.specs.Buckets.{state_of, state_of-well_formed};
-ghost use Rattle.timer_wheels.specs.WheelLists.{EachRow, EachRow-prop};
-ghost use Rattle.timer_wheels.specs.Digits.{slots, last_of, base};
+ghost use Rattle.timer_wheels.specs.Digits.{slots, last_of};
 ghost use Rattle.timer_wheels.specs.Tables.{radices, last_of_table};
 ghost use Rattle.timer_wheels.specs.declared.table.Table.TheVariants.{Wide};
-ghost use Rattle.timer_wheels.specs.Occupied.{Tells, Tells-prop};
-ghost use Rattle.timer_wheels.specs.Placement.{IsPlaced, IsPlaced-prop, IsPaid, hops_of, bucket_at, no_rounds, visited_between, has_any, most_moves};
-ghost use Rattle.timer_wheels.specs.Shown.{ShowsBuckets};
+ghost use Rattle.timer_wheels.specs.Occupied.{AreMarked, AreMarked-prop};
+ghost use Rattle.timer_wheels.specs.Hier.{ArePlaced, ArePlaced-prop};
+ghost use Rattle.timer_wheels.specs.Placement.{ShowsWheels, IsPaid, most_moves};
 
 use crate::buckets::Buckets;
 use crate::digits::{bucket_of, buckets_of, last_tick_of};
-use crate::leap::{first_stop, pass_ticks, visits_between};
+use crate::leap::{advance_until_due, first_visit, visits_between};
 use crate::migration::next_tick;
 use crate::occupied::Occupied;
 use crate::stopping::{restart_timer, stop_timer};
@@ -82,7 +81,7 @@ struct Counts {
 }
 
 impl Counts {
-    /// Adds to the moves. Most ticks move nothing, and leave the word alone.
+    /// Adds to the moves. Most ticks move nothing, and store nothing.
     #[inline]
     fn add_moves(&mut self, moves: u64)
         requires { self.old.moves + moves < 18446744073709551616 }
@@ -109,8 +108,8 @@ pub struct HierWheel {
     ghost has_slots: { buckets.slots ≡ slots (radices table) },
     ghost has_clock: { buckets.last_tick ≡ last_of (radices table) },
     // Each timer stands in its bucket.
-    ghost placed: { EachRow (IsPlaced (radices table) buckets.tick) buckets.slots buckets.links } by { EachRow-prop (IsPlaced (radices table) buckets.tick) (IsPlaced-prop (radices table) buckets.tick) buckets.slots buckets.links },
-    ghost told: { Tells buckets.slots occupied buckets.links } by { Tells-prop buckets.slots occupied buckets.links },
+    ghost placed: { ArePlaced table buckets } by { ArePlaced-prop table buckets },
+    ghost marked: { AreMarked buckets.slots occupied buckets.links } by { AreMarked-prop buckets.slots occupied buckets.links },
     ghost few_starts: { counts.starts ≤ buckets.last_serial },
     ghost few_visits: { counts.visits ≤ buckets.tick },
     // A start allows nine moves and each move lowers a level, so what is left to move is counted too.
@@ -118,31 +117,31 @@ pub struct HierWheel {
 }
 
 impl HierWheel {
-    ghost use Rattle.timer_wheels.specs.HierWheel.{hier_state, table_of, counts_of, starts_of, moves_of, visits_of};
+    ghost use Rattle.timer_wheels.specs.HierWheel.{hier_state, table_of, counts_of, starts_of, moves_of, visits_of, IsHierFault};
 
     /// An empty hierarchy of ten wheels of 64 slots, a clock of 2^60 ticks, at its first tick.
     ///
-    /// Refused, in this order: `FirstTick` above `LAST`; `OutOfMemory`.
+    /// Errors, in this order: `FirstTick` above `LAST`; `OutOfMemory`.
     pub fn new(alloc: Global, first_tick: u64) -> Result<HierWheel, MakeFault>
         ensures state { IfOk result (λ wheel. hier_state wheel ≡ empty_wheel LAST first_tick) }
         ensures counts { IfOk result (λ wheel. counts_of wheel ≡ record { starts = 0; moves = 0; visits = 0 }) }
         ensures table { IfOk result (λ wheel. table_of wheel ≡ Wide) }
         ensures in_range { IfOk result (λ wheel. first_tick ≤ LAST) }
-        ensures fault { IfErr result (λ fault. ((fault ≡ MakeFault.FirstTick) × (LAST < first_tick)) ⊎ ((fault ≡ MakeFault.OutOfMemory) × (first_tick ≤ LAST))) }
+        ensures fault { IfErr result (λ fault. IsHierFault LAST first_tick fault) }
     {
         HierWheel::with_table(alloc, Table::Wide, first_tick)
     }
 
     /// An empty hierarchy at its first tick, whose wheels have the slots of the table.
     ///
-    /// Refused, in this order: `FirstTick` above the table's last tick, which is `LAST` or
+    /// Errors, in this order: `FirstTick` above the table's last tick, which is `LAST` or
     /// `LAST_OF_CLOCK`; `OutOfMemory`.
     pub fn with_table(alloc: Global, table: Table, first_tick: u64) -> Result<HierWheel, MakeFault>
         ensures state { IfOk result (λ wheel. hier_state wheel ≡ empty_wheel (last_of_table table) first_tick) }
         ensures counts { IfOk result (λ wheel. counts_of wheel ≡ record { starts = 0; moves = 0; visits = 0 }) }
         ensures table { IfOk result (λ wheel. table_of wheel ≡ table) }
         ensures in_range { IfOk result (λ wheel. first_tick ≤ last_of_table table) }
-        ensures fault { IfErr result (λ fault. ((fault ≡ MakeFault.FirstTick) × (last_of_table table < first_tick)) ⊎ ((fault ≡ MakeFault.OutOfMemory) × (first_tick ≤ last_of_table table))) }
+        ensures fault { IfErr result (λ fault. IsHierFault (last_of_table table) first_tick fault) }
     {
         let last_tick = last_tick_of(table);
         if first_tick > last_tick {
@@ -164,14 +163,14 @@ impl HierWheel {
         })
     }
 
-    /// The buckets, and behind them the list of the due timers, which is list 640 of `Table::Wide` and
+    /// The buckets, and after them the list of due timers, which is list 640 of `Table::Wide` and
     /// list 244 of `Table::Clock`.
     ///
     /// Slot s of wheel k is the list whose number is s more than the lower wheels have slots: `64 * k + s`
     /// in `Table::Wide`. The timers of a bucket stand by serial, each under its handle's place, with
     /// rounds 0. Does not allocate.
     pub fn links(&self) -> &Links
-        ensures { ShowsBuckets (slots (radices (table_of self.now))) (bucket_at (radices (table_of self.now)) (hier_state self.now).now) no_rounds (hier_state self.now) result.now }
+        ensures { ShowsWheels (radices (table_of self.now)) (hier_state self.now) result.now }
     {
         &self.buckets.links
     }
@@ -206,7 +205,7 @@ impl HierWheel {
 // A call that changes the wheel repeats the clauses of the trait, which its own would replace, and adds
 // what it counts and that the table stays.
 impl Wheel for HierWheel {
-    ghost use Rattle.timer_wheels.specs.HierWheel.{hier_state, table_of, counts_of, starts_of, moves_of, visits_of};
+    ghost use Rattle.timer_wheels.specs.HierWheel.{hier_state, table_of, counts_of, with_start, with_ticks, hops_ahead, visits_to};
 
     ghost state = { λ wheel. hier_state wheel };
 
@@ -238,7 +237,7 @@ impl Wheel for HierWheel {
         ensures named { IfOk result (λ handle. handle.serial ≡ timer.serial) }
         ensures started { IfOk result (λ handle. hier_state self.new ≡ after_start handle.place timer (hier_state self.old)) }
         ensures err { OnErr result (hier_state self.new ≡ hier_state self.old) }
-        ensures counted { IfOk result (λ handle. counts_of self.new ≡ record (counts_of self.old) { starts = starts_of self.old + 1 }) }
+        ensures counted { IfOk result (λ handle. counts_of self.new ≡ with_start (counts_of self.old)) }
         ensures not_counted { OnErr result (counts_of self.new ≡ counts_of self.old) }
         ensures table { table_of self.new ≡ table_of self.old }
     {
@@ -271,7 +270,7 @@ impl Wheel for HierWheel {
         ensures old { old_timer result ≡ timer_at handle (hier_state self.old) }
         ensures named { MatchOption result (Unit {0}) (λ r. r.0.serial ≡ timer.serial) }
         ensures restarted { hier_state self.new ≡ after_restart result handle timer (hier_state self.old) }
-        ensures counted { MatchOption result (counts_of self.new ≡ counts_of self.old) (λ r. counts_of self.new ≡ record (counts_of self.old) { starts = starts_of self.old + 1 }) }
+        ensures counted { MatchOption result (counts_of self.new ≡ counts_of self.old) (λ r. counts_of self.new ≡ with_start (counts_of self.old)) }
         ensures table { table_of self.new ≡ table_of self.old }
     {
         let restarted = restart_timer(
@@ -290,7 +289,7 @@ impl Wheel for HierWheel {
         requires nothing_due { (hier_state self.old).due ≡ [] }
         requires before_last { (hier_state self.old).now < (hier_state self.old).last_tick }
         ensures ticked { hier_state self.new ≡ after_tick (hier_state self.old) }
-        ensures counted { counts_of self.new ≡ record (counts_of self.old) { moves = moves_of self.old + hops_of (radices (table_of self.old)) (hier_state self.old).now 1 (hier_state self.old).pending; visits = visits_of self.old + 1 } }
+        ensures counted { counts_of self.new ≡ with_ticks (hops_ahead self.old 1) 1 (counts_of self.old) }
         ensures table { table_of self.new ≡ table_of self.old }
     {
         let moves = next_tick(self.table, &mut self.buckets, &mut self.occupied);
@@ -304,11 +303,11 @@ impl Wheel for HierWheel {
         requires some { 0 < most }
         requires before_last { most ≤ (hier_state self.old).last_tick - (hier_state self.old).now }
         ensures advances { Advances most result (hier_state self.old) (hier_state self.new) }
-        ensures counted { counts_of self.new ≡ record (counts_of self.old) { moves = moves_of self.old + hops_of (radices (table_of self.old)) (hier_state self.old).now result (hier_state self.old).pending; visits = visits_of self.old + visited_between (base (radices (table_of self.old))) (hier_state self.old).now (hier_state self.new).now (has_any (hier_state self.new).due) } }
+        ensures counted { counts_of self.new ≡ with_ticks (hops_ahead self.old result) (visits_to self.old self.new) (counts_of self.old) }
         ensures table { table_of self.new ≡ table_of self.old }
     {
         let first = self.buckets.tick;
-        let moves = pass_ticks(self.table, &mut self.buckets, &mut self.occupied, most);
+        let moves = advance_until_due(self.table, &mut self.buckets, &mut self.occupied, most);
         let last = self.buckets.tick;
         let visits = visits_between(self.table, first, last, self.buckets.has_due());
         let counts = &mut self.counts;
@@ -319,7 +318,7 @@ impl Wheel for HierWheel {
 
     /// The next tick at which a bucket with a timer is emptied: a timer is due then, or moves to a lower wheel.
     fn quiet_until(&self) -> Option<u64> {
-        first_stop(self.table, &self.buckets, &self.occupied)
+        first_visit(self.table, &self.buckets, &self.occupied)
     }
 
     fn expire(&mut self) -> Option<Timer>

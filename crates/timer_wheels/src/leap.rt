@@ -2,35 +2,39 @@
 //!
 //! A bucket with a timer is emptied next at the tick that has the bucket's digit in place of now's, and
 //! zeros below it. The first of these ticks is that of the first bucket with a timer. Up to it nothing
-//! moves and nothing is due, so the clock alone goes on.
+//! moves and nothing is due, so the clock alone advances. Such a tick is the visit of its bucket.
 ghost use Rattle.std.specs.Prelude.{◌≡◌, ◌+◌, ◌-◌, ◌*◌, ◌<◌, ◌≤◌, ℕ, [], MatchOption};
 ghost use Rattle.timer_base.specs.declared.limits.TheConstants.{LAST};
 ghost use Rattle.timer_base.specs.WakeUps.{IsQuietUntil};
 ghost use Rattle.timer_base.specs.WheelState.{Advances};
-ghost use Rattle.timer_wheels.specs.Digits.{base, last_of, slots};
+ghost use Rattle.timer_wheels.specs.Digits.{lowest_radix};
 ghost use Rattle.timer_wheels.specs.declared.table.Table.TheVariants.{Wide};
 ghost use Rattle.timer_wheels.specs.Tables.{radices};
-ghost use Rattle.timer_wheels.specs.Placement.{IsPlaced, levels_of, visited_between, most_moves};
+ghost use Rattle.timer_wheels.specs.Placement.{visited_between, most_moves};
 ghost use Rattle.timer_wheels.specs.Buckets.{state_of};
-ghost use Rattle.timer_wheels.specs.Leaps.{AreNotBefore, Leaps};
-ghost use Rattle.timer_wheels.specs.Hier.{IsHier};
-ghost use Rattle.timer_wheels.specs.WheelLists.{EachRow};
+ghost use Rattle.timer_wheels.specs.Leap.{AreNotVisitedBefore, IsVisitBound, Leaps};
+ghost use Rattle.timer_wheels.specs.Hier.{IsHier, potential};
 
 use crate::buckets::Buckets;
-use crate::digits::{lowest_slots, stop_of};
+use crate::digits::{lowest_slots, visit_of};
 use crate::migration::next_tick;
 use crate::occupied::Occupied;
 use crate::table::Table;
 
-/// Passes ticks up to the first at which something is due, and at most so many.
+/// Advances to the first tick at which something is due, by at most `most` ticks.
 ///
 /// Returns how many timers went to a lower wheel. Does not allocate.
-pub fn pass_ticks(table: Table, buckets: &mut Buckets, occupied: &mut Occupied, most: u64) -> u64
+pub fn advance_until_due(
+    table: Table,
+    buckets: &mut Buckets,
+    occupied: &mut Occupied,
+    most: u64,
+) -> u64
     requires hier { IsHier table buckets.old occupied.old }
     requires nothing_due { (state_of buckets.old).due ≡ [] }
     requires some { 0 < most }
     requires before_last { most ≤ buckets.old.last_tick - buckets.old.tick }
-    requires few { levels_of (radices table) buckets.old.tick (state_of buckets.old).pending ≤ most_moves (radices Wide) * LAST }
+    requires few { potential table buckets.old ≤ most_moves (radices Wide) * LAST }
     ensures hier { IsHier table buckets.new occupied.new }
     ensures leaps { Leaps (radices table) result (state_of buckets.old) (state_of buckets.new) }
     ensures advances { Advances most (buckets.new.tick - buckets.old.tick) (state_of buckets.old) (state_of buckets.new) }
@@ -38,7 +42,7 @@ pub fn pass_ticks(table: Table, buckets: &mut Buckets, occupied: &mut Occupied, 
     let end = buckets.tick + most;
     let mut moves = 0;
     while buckets.tick < end {
-        moves += leap(table, buckets, occupied, end);
+        moves += leap_to_visit(table, buckets, occupied, end);
         if buckets.has_due() {
             return moves;
         }
@@ -46,8 +50,8 @@ pub fn pass_ticks(table: Table, buckets: &mut Buckets, occupied: &mut Occupied, 
     moves
 }
 
-/// Goes on to the next tick that empties a bucket with a timer, or to the end where that comes first.
-fn leap(table: Table, buckets: &mut Buckets, occupied: &mut Occupied, end: u64) -> u64
+/// Advances to the next visit of a bucket with a timer, or to the end where that comes first.
+fn leap_to_visit(table: Table, buckets: &mut Buckets, occupied: &mut Occupied, end: u64) -> u64
     requires hier { IsHier table buckets.old occupied.old }
     requires nothing_due { (state_of buckets.old).due ≡ [] }
     requires before_end { buckets.old.tick < end }
@@ -57,50 +61,50 @@ fn leap(table: Table, buckets: &mut Buckets, occupied: &mut Occupied, end: u64) 
     ensures later { buckets.old.tick < buckets.new.tick }
     ensures end { buckets.new.tick ≤ end }
 {
-    let stop = next_stop(table, buckets, occupied, end);
-    if end < stop {
-        wait_until(table, buckets, occupied, end);
+    let visit = next_visit(table, buckets, occupied, end);
+    if end < visit {
+        skip_to(table, buckets, occupied, end);
         0
     } else {
-        wait_until(table, buckets, occupied, stop - 1);
+        skip_to(table, buckets, occupied, visit - 1);
         next_tick(table, buckets, occupied)
     }
 }
 
-/// The next tick that empties a bucket with a timer, or the one after the end where there is none.
-fn next_stop(table: Table, buckets: &Buckets, occupied: &Occupied, end: u64) -> u64
+/// The next visit of a bucket with a timer, or the tick after the end where no bucket has one.
+fn next_visit(table: Table, buckets: &Buckets, occupied: &Occupied, end: u64) -> u64
     requires hier { IsHier table buckets.now occupied.now }
     requires before_end { buckets.now.tick < end }
     requires end { end ≤ buckets.now.last_tick }
     ensures later { buckets.now.tick < result }
-    ensures not_before { AreNotBefore (radices table) buckets.now.slots buckets.now.tick result buckets.now.links }
+    ensures not_before { AreNotVisitedBefore (radices table) buckets.now.slots buckets.now.tick result buckets.now.links }
 {
-    match first_stop(table, buckets, occupied) {
-        Some(stop) => stop,
+    match first_visit(table, buckets, occupied) {
+        Some(visit) => visit,
         None => end + 1,
     }
 }
 
-/// The next tick that empties a bucket with a timer, or None where no bucket has one.
+/// The next visit of a bucket with a timer, or None where no bucket has one.
 #[inline]
-pub fn first_stop(table: Table, buckets: &Buckets, occupied: &Occupied) -> Option<u64>
+pub fn first_visit(table: Table, buckets: &Buckets, occupied: &Occupied) -> Option<u64>
     requires { IsHier table buckets.now occupied.now }
     ensures quiet { IsQuietUntil result (state_of buckets.now) }
-    ensures not_before { MatchOption result ((stop : ℕ) → AreNotBefore (radices table) buckets.now.slots buckets.now.tick stop buckets.now.links) (λ stop. AreNotBefore (radices table) buckets.now.slots buckets.now.tick stop buckets.now.links) }
+    ensures not_before { IsVisitBound (radices table) buckets.now.slots buckets.now.tick result buckets.now.links }
 {
     match occupied.first() {
-        Some(list) => Some(stop_of(table, list, buckets.tick)),
+        Some(list) => Some(visit_of(table, list, buckets.tick)),
         None => None,
     }
 }
 
-/// Lets the clock go on, where no bucket with a timer is emptied.
-fn wait_until(table: Table, buckets: &mut Buckets, occupied: &Occupied, tick: u64)
+/// Sets the clock to a later tick, where no bucket with a timer is visited up to it.
+fn skip_to(table: Table, buckets: &mut Buckets, occupied: &Occupied, tick: u64)
     requires hier { IsHier table buckets.old occupied.now }
     requires nothing_due { (state_of buckets.old).due ≡ [] }
     requires later { buckets.old.tick ≤ tick }
     requires in_range { tick ≤ buckets.old.last_tick }
-    requires not_before { AreNotBefore (radices table) buckets.old.slots buckets.old.tick (tick + 1) buckets.old.links }
+    requires not_before { AreNotVisitedBefore (radices table) buckets.old.slots buckets.old.tick (tick + 1) buckets.old.links }
     ensures leaps { Leaps (radices table) 0 (state_of buckets.old) (state_of buckets.new) }
     ensures hier { IsHier table buckets.new occupied.now }
     ensures tick { buckets.new.tick ≡ tick }
@@ -110,15 +114,14 @@ fn wait_until(table: Table, buckets: &mut Buckets, occupied: &Occupied, tick: u6
     buckets.tick = tick;
 }
 
-/// How many buckets the ticks behind the first up to the last empty: one at each multiple of the lowest
-/// wheel's slots, and
-/// that of the last tick where something is due then.
+/// How many visits the ticks after the first one up to the last count: one at each multiple of the lowest
+/// wheel's slots, and that of the last tick where something is due then.
 ///
 /// An empty bucket counts without a look at it, since emptying it changes nothing.
 pub fn visits_between(table: Table, first: u64, last: u64, due: bool) -> u64
     requires later { first < last }
     requires range { last ≤ LAST }
-    ensures value { result ≡ visited_between (base (radices table)) first last due }
+    ensures value { result ≡ visited_between (lowest_radix (radices table)) first last due }
     ensures few { result ≤ last - first }
 {
     let slots = lowest_slots(table) as u64;

@@ -4,11 +4,11 @@ ghost use Rattle.std.specs.List.{AllByRecursion};
 ghost use Rattle.timer_base.specs.WheelState.{after_tick};
 ghost use Rattle.timer_links.specs.Lists.{list_at};
 ghost use Rattle.timer_wheels.specs.Buckets.{state_of};
-ghost use Rattle.timer_wheels.specs.Digits.{slots, base};
-ghost use Rattle.timer_wheels.specs.Hier.{IsHier};
+ghost use Rattle.timer_wheels.specs.Digits.{slots, lowest_radix};
+ghost use Rattle.timer_wheels.specs.Hier.{IsHier, potential};
 ghost use Rattle.timer_wheels.specs.Migration.{MayMigrate, IsOfTick, migrated, left_rows, first_deadline};
-ghost use Rattle.timer_wheels.specs.Occupied.{bit_of, Tells, TellsBut};
-ghost use Rattle.timer_wheels.specs.Placement.{hops_of, levels_of};
+ghost use Rattle.timer_wheels.specs.Occupied.{bit_of, AreMarked, AreMarkedBut};
+ghost use Rattle.timer_wheels.specs.Placement.{hops_of};
 ghost use Rattle.timer_wheels.specs.Tables.{radices};
 
 use crate::buckets::Buckets;
@@ -17,7 +17,7 @@ use crate::occupied::Occupied;
 use crate::table::Table;
 use timer_links::Links;
 
-/// Goes to the next tick, and empties the bucket of its lowest digit that isn't zero.
+/// Advances to the next tick, and empties the bucket of its lowest digit that isn't zero.
 ///
 /// Returns how many timers went to a lower wheel. Does not allocate.
 // Always inlined: with a call, a tick at which nothing is due takes two to three times as long.
@@ -29,7 +29,7 @@ pub fn next_tick(table: Table, buckets: &mut Buckets, occupied: &mut Occupied) -
     ensures ticked { state_of buckets.new ≡ after_tick (state_of buckets.old) }
     ensures hier { IsHier table buckets.new occupied.new }
     ensures moves { result ≡ hops_of (radices table) buckets.old.tick 1 (state_of buckets.old).pending }
-    ensures falls { result + levels_of (radices table) buckets.new.tick (state_of buckets.new).pending ≤ levels_of (radices table) buckets.old.tick (state_of buckets.old).pending }
+    ensures falls { result + potential table buckets.new ≤ potential table buckets.old }
 {
     let tick = buckets.tick + 1;
     let list = emptied_at(table, tick);
@@ -39,7 +39,7 @@ pub fn next_tick(table: Table, buckets: &mut Buckets, occupied: &mut Occupied) -
 }
 
 /// Empties a bucket: a timer whose deadline is this tick goes to the back of the list of due timers, and
-/// any other one to the back of its bucket in a lower wheel, each of them in its turn.
+/// any other one to the back of its bucket in a lower wheel, one after the other.
 ///
 /// A bucket of the lowest wheel has only timers of this tick, so it goes as a whole. Returns how
 /// many timers went to a lower wheel. Does not allocate.
@@ -55,11 +55,11 @@ fn empty_bucket(
     requires lists { length links.old ≡ slots (radices table) + 1 }
     requires list { list < slots (radices table) }
     requires rows { AllByRecursion (MayMigrate (radices table) tick list) (list_at list links.old) }
-    requires lowest { list < base (radices table) → AllByRecursion (IsOfTick tick) (list_at list links.old) }
-    requires told { Tells (slots (radices table)) occupied.old links.old }
+    requires lowest { list < lowest_radix (radices table) → AllByRecursion (IsOfTick tick) (list_at list links.old) }
+    requires marked { AreMarked (slots (radices table)) occupied.old links.old }
     ensures migrated { links.new ≡ migrated (radices table) tick list links.old }
     ensures moves { result ≡ length (left_rows tick (list_at list links.old)) }
-    ensures told { Tells (slots (radices table)) occupied.new links.new }
+    ensures marked { AreMarked (slots (radices table)) occupied.new links.new }
 {
     if links.is_empty(list) {
         return 0;
@@ -69,14 +69,14 @@ fn empty_bucket(
         links.append(list, buckets_of(table));
         0
     } else {
-        empty_by_one(table, links, occupied, list, tick)
+        migrate_one_by_one(table, links, occupied, list, tick)
     }
 }
 
 /// Empties a bucket from its front, timer by timer, and returns how many went to a lower wheel.
 // Kept out of line, since a tick seldom needs it.
 #[inline(never)]
-fn empty_by_one(
+fn migrate_one_by_one(
     table: Table,
     links: &mut Links,
     occupied: &mut Occupied,
@@ -87,10 +87,10 @@ fn empty_by_one(
     requires list { list < slots (radices table) }
     requires rows { AllByRecursion (MayMigrate (radices table) tick list) (list_at list links.old) }
     requires clear { bit_of occupied.old list ≡ 0 }
-    requires told { TellsBut (slots (radices table)) list occupied.old links.old }
+    requires marked { AreMarkedBut (slots (radices table)) list occupied.old links.old }
     ensures migrated { links.new ≡ migrated (radices table) tick list links.old }
     ensures moves { result ≡ length (left_rows tick (list_at list links.old)) }
-    ensures told { Tells (slots (radices table)) occupied.new links.new }
+    ensures marked { AreMarked (slots (radices table)) occupied.new links.new }
 {
     let due = buckets_of(table);
     let mut moves = 0;

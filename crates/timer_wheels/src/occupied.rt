@@ -8,15 +8,14 @@
 //! a lower wheel comes before a higher one, and in a wheel the slots come in turn.
 ghost use Rattle.std.specs.Prelude.{◌≡◌, ◌≢◌, ◌<◌, ℕ, List, length, true, false, MatchOption};
 ghost use Rattle.timer_wheels.specs.declared.occupied.TheConstants.{BUCKETS, WORDS};
-ghost use Rattle.timer_wheels.specs.TakenOut.{Clears};
-ghost use Rattle.timer_wheels.specs.Occupied.{bit_of, IsFirstSet, IsLowestSet};
+ghost use Rattle.timer_wheels.specs.Occupied.{bit_of, IsFirstSet, IsLowestSet, Clears};
 
 use std::marker::Model;
 
 /// The most buckets that a table has.
 const BUCKETS: usize = 640;
 
-/// The words that have a bit for each of them.
+/// How many words hold a bit for each of them.
 const WORDS: usize = 10;
 
 /// The bits of a word.
@@ -56,7 +55,7 @@ impl Occupied {
     }
 
     /// Sets a bucket's bit.
-    // Where it is set already the word is left alone: a store would hold back the next start's load of it.
+    // Where it is set already nothing is stored: a store would hold back the next start's load of the word.
     #[inline]
     pub fn insert(&mut self, list: usize)
         requires { list < BUCKETS }

@@ -11,7 +11,7 @@ use crate::occupied::{Occupied, clear_emptied};
 use crate::table::Table;
 use timer_base::{Handle, Timer};
 
-/// Takes away the pending timer with just this handle, and clears its bucket's bit where it was the
+/// Removes the pending timer with just this handle, and clears its bucket's bit where it was the
 /// last one there. Does not allocate.
 #[inline]
 pub fn stop_timer(
@@ -32,7 +32,7 @@ pub fn stop_timer(
     Some(timer)
 }
 
-/// Takes away the pending timer with just this handle, and starts another at its place. Clears the bit of
+/// Removes the pending timer with just this handle, and starts another at its place. Clears the bit of
 /// the bucket that it left empty, if it left one, and sets that of its new bucket. Does not allocate.
 pub fn restart_timer(
     table: Table,

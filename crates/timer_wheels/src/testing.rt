@@ -16,11 +16,11 @@ pub enum Call {
     Stop(u64),
     /// Replaces the timer with this serial, which is pending, by the next one, with this deadline.
     Restart(u64, u64),
-    /// The place of a serial's handle, so many further, names no timer with the other serial.
+    /// The place of a serial's handle plus this offset names no timer with the other serial.
     NoSuch(u64, usize, u64),
     /// The pending timers are listed in this order.
     List(&'static [u64]),
-    /// Drops what is pending.
+    /// Drops the pending timers.
     Clear,
     /// Goes on to the tick. Each pair is a tick and the serial of a timer that expires then.
     Until(u64, &'static [(u64, u64)]),
@@ -94,7 +94,7 @@ pub fn stop<W: Wheel>(rt: &impl Abort, wheel: &mut W, handle: Handle) -> Option<
     wheel.stop(handle)
 }
 
-/// Passes up to so many ticks, and tells how many.
+/// Advances by at most `most` ticks, and returns by how many.
 pub fn advance<W: Wheel>(rt: &impl Abort, wheel: &mut W, most: u64) -> u64 {
     settle(rt, wheel);
     assert!(rt; most > 0);

@@ -1,4 +1,4 @@
-use Rattle.timer_wheels.proofs.ClockLaws.{bucket_second, bucket_minute, bucket_hour, bucket_day}
+use Rattle.timer_wheels.proofs.ClockDigits.{bucket_second, bucket_minute, bucket_hour, bucket_day}
 use Rattle.timer_wheels.proofs.digits.clock_bucket.Goals as goal
 
 pub returns-then-now-minute-clause-value : goal.returns-then-now-minute-clause-value

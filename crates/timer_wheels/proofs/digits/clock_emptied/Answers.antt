@@ -1,4 +1,4 @@
-use Rattle.timer_wheels.proofs.ClockLaws.{emptied_second, emptied_minute, emptied_hour, emptied_day}
+use Rattle.timer_wheels.proofs.ClockDigits.{emptied_second, emptied_minute, emptied_hour, emptied_day}
 use Rattle.timer_wheels.proofs.digits.clock_emptied.Goals as goal
 
 pub returns-then-tick-ne0-clause-value : goal.returns-then-tick-ne0-clause-value

@@ -1,4 +1,4 @@
-use Rattle.timer_wheels.proofs.Wide.{digit_by_shift}
+use Rattle.timer_wheels.proofs.WideDigits.{digit_by_shift}
 use Rattle.timer_wheels.proofs.digits.digit_of.Goals as goal
 
 pub returns-clause-value : goal.returns-clause-value

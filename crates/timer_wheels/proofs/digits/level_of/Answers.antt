@@ -1,5 +1,5 @@
 use Rattle.std.proofs.Common.{sym, ◌<◌, ℕ, subst}
-use Rattle.timer_wheels.proofs.Wide.{level_by_top, zeros_bound, level_below_ten}
+use Rattle.timer_wheels.proofs.WideDigits.{level_by_top, zeros_bound, level_below_ten}
 use Rattle.timer_wheels.proofs.digits.level_of.Goals as goal
 
 pub overflow_sub-result : goal.overflow_sub-result

@@ -1,5 +1,5 @@
 use Rattle.std.proofs.Common.{sym, ◌<◌, ℕ, subst}
-use Rattle.timer_wheels.proofs.Wide.{lowest_by_zeros, lowest_below_ten}
+use Rattle.timer_wheels.proofs.WideDigits.{lowest_by_zeros, lowest_below_ten}
 use Rattle.timer_wheels.proofs.digits.lowest_digit.Goals as goal
 
 pub returns-clause-value : goal.returns-clause-value

@@ -1,4 +1,4 @@
-use Rattle.timer_wheels.proofs.Wide.{list_is_slot}
+use Rattle.timer_wheels.proofs.WideDigits.{list_is_slot}
 use Rattle.timer_wheels.proofs.laws.a_list_is_a_slot_of_a_wheel.Goals as goal
 
 pub returns : goal.returns

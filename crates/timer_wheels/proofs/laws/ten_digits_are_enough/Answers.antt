@@ -1,4 +1,4 @@
-use Rattle.timer_wheels.proofs.Wide.{wide_is_table, in_wide}
+use Rattle.timer_wheels.proofs.WideDigits.{wide_is_table, in_wide}
 use Rattle.timer_wheels.proofs.laws.ten_digits_are_enough.Goals as goal
 
 pub returns-clause-table : goal.returns-clause-table

@@ -1,4 +1,4 @@
-use Rattle.timer_wheels.specs.DigitLaws.{digits_down}
+use Rattle.timer_wheels.proofs.DigitLaws.{digits_down}
 use Rattle.timer_wheels.specs.Digits.{last_of}
 use Rattle.timer_wheels.specs.Tables.{radices}
 use Rattle.timer_wheels.proofs.TableLaws.{of_table}

@@ -1,4 +1,4 @@
-use Rattle.timer_wheels.proofs.StopLaws.{few_multiples, fewer_multiples}
+use Rattle.timer_wheels.proofs.VisitLaws.{few_multiples, fewer_multiples}
 use Rattle.timer_wheels.proofs.leap.visits_between.Goals as goal
 
 pub returns-then-last-slots-ne0-clause-few : goal.returns-then-last-slots-ne0-clause-few

@@ -1,5 +1,5 @@
 use Rattle.std.proofs.Common.{sym, ◌∙◌}
-use Rattle.timer_wheels.proofs.EmptyingLemmas.{front_of, never_none, front_deadline_is}
+use Rattle.timer_wheels.proofs.MigrationLoop.{front_of, never_none, front_deadline_is}
 use Rattle.timer_wheels.proofs.migration.front_deadline.Goals as goal
 
 pub returns-in_err-node : goal.returns-in_err-node

@@ -2,9 +2,9 @@ use Rattle.std.proofs.Common.{◌+◌, ℕ, ap, subst, sym, arith}
 use Rattle.timer_base.specs.WheelState.{WheelState}
 use Rattle.timer_links.specs.Lists.{list_at}
 use Rattle.timer_wheels.specs.Buckets.{state_of}
-use Rattle.timer_wheels.proofs.WheelLemmas.{due_past}
-use Rattle.timer_wheels.specs.Occupied.{Tells}
-use Rattle.timer_wheels.proofs.NextTick.{may_migrate_at, all_of_tick_at, next_at}
+use Rattle.timer_wheels.proofs.BucketLemmas.{due_past}
+use Rattle.timer_wheels.specs.Occupied.{AreMarked}
+use Rattle.timer_wheels.proofs.MigrationTick.{may_migrate_at, all_of_tick_at, next_at}
 use Rattle.timer_wheels.proofs.migration.next_tick.Goals as goal
 
 pub empty_bucket-moves-requires-clause-rows : goal.empty_bucket-moves-requires-clause-rows
@@ -36,12 +36,12 @@ returns-clause-hier c =
     let b = c.args.buckets.now in
     let h = c.requires.hier in
     let n = next_at c.args.table b c.args.occupied.now h c.requires.nothing_due c.requires.before_last c.emptied_at-list.result c.empty_bucket-moves.result c.empty_bucket-moves.new.links c.emptied_at-list.ensures.value c.empty_bucket-moves.ensures.migrated c.empty_bucket-moves.ensures.moves in
-    let P : ℕ → Type 0 = λ k. Tells k c.empty_bucket-moves.new.occupied c.empty_bucket-moves.new.links in
+    let P : ℕ → Type 0 = λ k. AreMarked k c.empty_bucket-moves.new.occupied c.empty_bucket-moves.new.links in
     record {
       has_slots = h.has_slots;
       clock = h.clock;
       placed = n.placed;
-      told = subst P (sym h.has_slots) c.empty_bucket-moves.ensures.told;
+      marked = subst P (sym h.has_slots) c.empty_bucket-moves.ensures.marked;
     }
 
 pub returns-clause-moves : goal.returns-clause-moves

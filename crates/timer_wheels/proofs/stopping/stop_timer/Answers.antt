@@ -2,11 +2,11 @@ use Rattle.std.proofs.Common.{◌≡◌, ℕ, List, sym, ap, ◌∙◌, subst}
 use Rattle.std.specs.Prelude.{Some, map}
 use Rattle.timer_links.specs.declared.node.Node.{Node}
 use Rattle.timer_links.specs.Lists.{without_key}
-use Rattle.timer_wheels.specs.Occupied.{Tells}
-use Rattle.timer_wheels.specs.TakenOut.{taken_timer}
+use Rattle.timer_wheels.specs.Occupied.{AreMarked}
+use Rattle.timer_wheels.specs.Buckets.{taken_timer}
 use Rattle.timer_wheels.specs.Tables.{radices}
 use Rattle.timer_wheels.proofs.HierLemmas.{stopped_placed}
-use Rattle.timer_wheels.proofs.HierStops.{told_after, emptied_in}
+use Rattle.timer_wheels.proofs.StoppingLemmas.{marked_after, emptied_in}
 use Rattle.timer_wheels.proofs.stopping.stop_timer.Goals as goal
 
 pub clear_emptied-requires : goal.clear_emptied-requires
@@ -18,11 +18,11 @@ returns-clause-hier c =
     let h = c.requires.hier in
     let f = c.take.ensures.frame in
     let links : c.take.new.self.links ≡ map (without_key c.args.handle.place) b.links = c.in_ok-timer.ensures.lists in
-    let P : List (List (ℕ × Node)) → Type 0 = Tells b.slots c.clear_emptied.new.occupied in
-    let R : ℕ → Type 0 = λ k. Tells k c.clear_emptied.new.occupied c.take.new.self.links in
+    let P : List (List (ℕ × Node)) → Type 0 = AreMarked b.slots c.clear_emptied.new.occupied in
+    let R : ℕ → Type 0 = λ k. AreMarked k c.clear_emptied.new.occupied c.take.new.self.links in
     record {
       has_slots = f.slots ∙ h.has_slots;
       clock = f.last_tick ∙ h.clock;
       placed = stopped_placed (radices c.args.table) b c.take.new.self c.args.handle.place (Some c.in_ok-timer.timer) links h.placed f;
-      told = subst R (sym f.slots) (subst P (sym links) (told_after c.args.table c.args.buckets.now c.args.occupied.now c.requires.hier c.keys_are_apart.ensures c.args.handle c.in_ok-timer.timer c.in_ok-timer.emptied c.clear_emptied.new.occupied (sym c.take.ensures.timer ∙ ap taken_timer c.in_ok-timer.was) c.in_ok-timer.ensures.emptied c.clear_emptied.ensures));
+      marked = subst R (sym f.slots) (subst P (sym links) (marked_after c.args.table c.args.buckets.now c.args.occupied.now c.requires.hier c.keys_are_apart.ensures c.args.handle c.in_ok-timer.timer c.in_ok-timer.emptied c.clear_emptied.new.occupied (sym c.take.ensures.timer ∙ ap taken_timer c.in_ok-timer.was) c.in_ok-timer.ensures.emptied c.clear_emptied.ensures));
     }

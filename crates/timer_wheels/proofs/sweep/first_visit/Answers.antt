@@ -2,7 +2,7 @@ use Rattle.std.proofs.Common.{◌≡◌, ◌<◌, ◌≤◌, sym, ◌∙◌, ap,
 use Rattle.std.specs.Prelude.{true, false}
 use Rattle.std.specs.Option.{is_some}
 use Rattle.timer_links.specs.Lists.{list_at, first_key}
-use Rattle.timer_wheels.proofs.WakingLemmas.{none_ahead, one_ahead, all_ahead, first_none, first_some, sleeps, wakes_at}
+use Rattle.timer_wheels.proofs.WakeUpLemmas.{none_ahead, one_ahead, all_ahead, first_none, first_some, sleeps, wakes_at}
 use Rattle.timer_wheels.proofs.sweep.first_visit.Goals as goal
 
 pub loop-step-init : goal.loop-step-init

@@ -1,4 +1,4 @@
-use Rattle.timer_wheels.proofs.WakingLemmas.{AreEmptyAhead}
+use Rattle.timer_wheels.proofs.WakeUpLemmas.{AreEmptyAhead}
 use Rattle.timer_wheels.proofs.sweep.first_visit.Given as goal
 
 abbrev pub invariant-loop-step : goal.invariant-loop-step

@@ -3,8 +3,8 @@ use Rattle.timer_links.specs.declared.node.Node.{Node}
 use Rattle.timer_links.specs.Lists.{list_at}
 use Rattle.timer_base.specs.WheelState.{WheelState}
 use Rattle.timer_wheels.specs.Buckets.{state_of}
-use Rattle.timer_wheels.specs.Swept.{swept}
-use Rattle.timer_wheels.proofs.WheelLemmas.{no_rows, due_past}
+use Rattle.timer_wheels.specs.Sweep.{swept}
+use Rattle.timer_wheels.proofs.BucketLemmas.{no_rows, due_past}
 use Rattle.timer_wheels.proofs.HashedTicks.{length-swept, ticked, ticked-pending, ticked-distinct, ticked-in_order, ticked-in_buckets}
 use Rattle.timer_wheels.proofs.sweep.next_tick.Goals as goal
 

@@ -1,6 +1,6 @@
 use Rattle.std.proofs.Common.{◌≡◌, ◌≤◌, arith}
 use Rattle.timer_links.specs.Lists.{row_count}
-use Rattle.timer_wheels.specs.Swept.{due_later}
+use Rattle.timer_wheels.specs.Sweep.{due_later}
 use Rattle.timer_wheels.proofs.SweepLemmas.{begun, next_row, in_use, in_range, standing, passed, ended_count}
 use Rattle.timer_wheels.proofs.sweep.sweep_bucket.Goals as goal
 

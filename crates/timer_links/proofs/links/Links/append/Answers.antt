@@ -1,6 +1,6 @@
 use Rattle.std.proofs.Common.{◌∙◌, sym}
-use Rattle.timer_links.proofs.Linked.{opened, closed, written, lists_are}
-use Rattle.timer_links.proofs.Calls.{read_root}
+use Rattle.timer_links.proofs.UniqueLists.{opened, closed, written, lists_are}
+use Rattle.timer_links.proofs.LinksCalls.{read_root}
 use Rattle.timer_links.proofs.Append.{appended_linked, joins_between, joins_behind}
 use Rattle.timer_links.proofs.links.Links.append.Goals as goal
 

@@ -1,7 +1,7 @@
 use Rattle.std.proofs.Common.{◌≡◌, arith}
 use Rattle.std.proofs.lemmas.Bool.Decides.{nat_tests}
-use Rattle.timer_links.proofs.Linked.{opened}
-use Rattle.timer_links.proofs.Calls.{root_alone}
+use Rattle.timer_links.proofs.UniqueLists.{opened}
+use Rattle.timer_links.proofs.LinksCalls.{root_alone}
 use Rattle.timer_links.proofs.links.Links.is_empty.Goals as goal
 
 pub returns : goal.returns

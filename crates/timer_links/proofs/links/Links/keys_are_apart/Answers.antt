@@ -1,4 +1,4 @@
-use Rattle.timer_links.proofs.Linked.{opened}
+use Rattle.timer_links.proofs.UniqueLists.{opened}
 use Rattle.timer_links.proofs.Rings.{apart}
 use Rattle.timer_links.proofs.links.Links.keys_are_apart.Goals as goal
 

@@ -1,6 +1,6 @@
 use Rattle.std.proofs.Common.{◌∙◌}
-use Rattle.timer_links.proofs.Linked.{opened, closed, written, lists_are}
-use Rattle.timer_links.proofs.Calls.{used, held, read_node, joins_read, back_after, moved, size_last}
+use Rattle.timer_links.proofs.UniqueLists.{opened, closed, written, lists_are}
+use Rattle.timer_links.proofs.LinksCalls.{used, held, read_node, joins_read, back_after, moved, size_last}
 use Rattle.timer_links.proofs.links.Links.move_back.Goals as goal
 
 pub join-requires-clause-front : goal.join-requires-clause-front

@@ -1,7 +1,7 @@
 use Rattle.std.proofs.Common.{◌∙◌, sym}
-use Rattle.timer_links.proofs.Linked.{opened, closed, written, lists_are}
-use Rattle.timer_links.proofs.Calls.{read_node, back_after, moved, size_last}
-use Rattle.timer_links.proofs.Fronts.{front_of, joins_front, moves_front}
+use Rattle.timer_links.proofs.UniqueLists.{opened, closed, written, lists_are}
+use Rattle.timer_links.proofs.LinksCalls.{read_node, back_after, moved, size_last}
+use Rattle.timer_links.proofs.PopFront.{front_of, joins_front, moves_front}
 use Rattle.timer_links.proofs.links.Links.move_front.Goals as goal
 
 pub join-requires-clause-back : goal.join-requires-clause-back

@@ -1,5 +1,5 @@
-use Rattle.timer_links.proofs.Linked.{closed, lists_are}
-use Rattle.timer_links.proofs.Empty.{no_roots, one_more, empty_linked}
+use Rattle.timer_links.proofs.UniqueLists.{closed, lists_are}
+use Rattle.timer_links.proofs.NewLinks.{no_roots, one_more, empty_linked}
 use Rattle.timer_links.proofs.links.Links.new.Goals as goal
 
 pub loop-list-init : goal.loop-list-init

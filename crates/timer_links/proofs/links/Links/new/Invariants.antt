@@ -1,4 +1,4 @@
-use Rattle.timer_links.proofs.Empty.{AreRoots}
+use Rattle.timer_links.proofs.NewLinks.{AreRoots}
 use Rattle.timer_links.proofs.links.Links.new.Given as goal
 
 abbrev pub invariant-loop-list : goal.invariant-loop-list

@@ -1,8 +1,8 @@
 use Rattle.std.proofs.Common.{◌∙◌, ap, refl}
 use Rattle.timer_links.specs.Ring.{key_of}
 use Rattle.timer_links.specs.declared.ring.Sides.{Sides}
-use Rattle.timer_links.proofs.Linked.{opened}
-use Rattle.timer_links.proofs.Calls.{used, next_key, read_node}
+use Rattle.timer_links.proofs.UniqueLists.{opened}
+use Rattle.timer_links.proofs.LinksCalls.{used, next_key, read_node}
 use Rattle.timer_links.proofs.links.Links.next.Goals as goal
 
 pub returns : goal.returns

@@ -1,6 +1,6 @@
-use Rattle.timer_links.proofs.Linked.{opened, closed, lists_are}
-use Rattle.timer_links.proofs.Calls.{seat}
-use Rattle.timer_links.proofs.Nodes.{node_set}
+use Rattle.timer_links.proofs.UniqueLists.{opened, closed, lists_are}
+use Rattle.timer_links.proofs.LinksCalls.{seat}
+use Rattle.timer_links.proofs.SetNode.{node_set}
 use Rattle.timer_links.proofs.links.Links.set_node.Goals as goal
 
 pub invariant_of-self : goal.invariant_of-self

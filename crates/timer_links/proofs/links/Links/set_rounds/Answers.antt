@@ -1,9 +1,9 @@
 use Rattle.std.proofs.Common.{◌∙◌, ◌++◌, ◌∷◌, ap}
 use Rattle.std.specs.Prelude.{slice_set}
 use Rattle.timer_links.specs.declared.node.Node.{Node}
-use Rattle.timer_links.proofs.Linked.{opened, closed, lists_are}
-use Rattle.timer_links.proofs.Calls.{seat}
-use Rattle.timer_links.proofs.Nodes.{node_set, node_was}
+use Rattle.timer_links.proofs.UniqueLists.{opened, closed, lists_are}
+use Rattle.timer_links.proofs.LinksCalls.{seat}
+use Rattle.timer_links.proofs.SetNode.{node_set, node_was}
 use Rattle.timer_links.proofs.links.Links.set_rounds.Goals as goal
 
 pub invariant_of-self : goal.invariant_of-self

@@ -1,9 +1,9 @@
 use Rattle.std.proofs.Common.{ℕ, ◌∙◌, sym, subst}
 use Rattle.std.specs.Prelude.{Option}
-use Rattle.timer_links.specs.Lists.{TellsEmptied}
-use Rattle.timer_links.proofs.Linked.{opened, closed, written, lists_are}
-use Rattle.timer_links.proofs.Calls.{some_is, read_node, joins_read, unlinked}
-use Rattle.timer_links.proofs.Alone.{tells_emptied}
+use Rattle.timer_links.specs.Lists.{IsAloneIn}
+use Rattle.timer_links.proofs.UniqueLists.{opened, closed, written, lists_are}
+use Rattle.timer_links.proofs.LinksCalls.{some_is, read_node, joins_read, unlinked}
+use Rattle.timer_links.proofs.AloneIn.{is_alone_in}
 use Rattle.timer_links.proofs.links.Links.take.Goals as goal
 
 pub join-requires-clause-front : goal.join-requires-clause-front
@@ -36,5 +36,5 @@ pub returns-clause-emptied : goal.returns-clause-emptied
 returns-clause-emptied c =
     let h = opened c.self.inside c.args.self.now c.self.view_is c.self.invariant in
     let r = read_node _ _ _ _ c.args.key _ _ h (some_is _ _ c.remove-node.ensures.value) c.as_mut_slice.ensures.value c.index-sides.ensures in
-    let P : Option ℕ → Type 0 = TellsEmptied c.args.key c.args.self.now in
-    subst P (sym c.only_neighbour.ensures) (tells_emptied _ _ _ _ c.args.key _ h r.is)
+    let P : Option ℕ → Type 0 = IsAloneIn c.args.key c.args.self.now in
+    subst P (sym c.only_neighbour.ensures) (is_alone_in _ _ _ _ c.args.key _ h r.is)

@@ -1,6 +1,6 @@
 use Rattle.std.proofs.Common.{sym}
-use Rattle.timer_links.proofs.Linked.{opened}
-use Rattle.timer_links.proofs.Calls.{unused, is_missing}
+use Rattle.timer_links.proofs.UniqueLists.{opened}
+use Rattle.timer_links.proofs.LinksCalls.{unused, is_missing}
 use Rattle.timer_links.proofs.links.Links.unlink.Goals as goal
 
 pub returns-then-not-contains-clause-node : goal.returns-then-not-contains-clause-node

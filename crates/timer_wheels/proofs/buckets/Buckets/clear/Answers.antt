@@ -1,8 +1,8 @@
 use Rattle.std.proofs.Common.{◌≤◌, ℕ, List, sym, ◌∙◌, subst, arith}
 use Rattle.timer_links.specs.declared.node.Node.{Node}
-use Rattle.timer_wheels.specs.WheelLists.{ArePast}
+use Rattle.timer_wheels.specs.BucketLists.{ArePast}
 use Rattle.timer_wheels.proofs.RowLemmas.{rows_below-none}
-use Rattle.timer_wheels.proofs.WheelLemmas.{cleared, cleared-in_order}
+use Rattle.timer_wheels.proofs.BucketLemmas.{cleared, cleared-in_order}
 use Rattle.timer_wheels.proofs.buckets.Buckets.clear.Goals as goal
 
 not_below : (n : ℕ) → n ≤ n

@@ -3,8 +3,8 @@ use Rattle.std.specs.Prelude.{Option, Some, None}
 use Rattle.timer_links.specs.declared.node.Node.{Node}
 use Rattle.timer_base.specs.Order.{AreDistinct}
 use Rattle.timer_links.specs.Lists.{list_at, PopsFront}
-use Rattle.timer_wheels.specs.WheelLists.{rows_below, timers_in, ArePending, ArePast, AreInOrder}
-use Rattle.timer_wheels.proofs.WheelLemmas.{expired-rows, expired, expired-past, expired-in_order}
+use Rattle.timer_wheels.specs.BucketLists.{rows_below, timers_in, ArePending, ArePast, AreInOrder}
+use Rattle.timer_wheels.proofs.BucketLemmas.{expired-rows, expired, expired-past, expired-in_order}
 use Rattle.timer_wheels.proofs.buckets.Buckets.expire.Goals as goal
 
 -- what removing the first due row leaves unchanged

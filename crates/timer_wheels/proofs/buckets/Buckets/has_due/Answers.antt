@@ -3,7 +3,7 @@ use Rattle.std.specs.Option.{is_some}
 use Rattle.std.proofs.Common.{◌<◌, ℕ, Bool, refl, List, [], ◌∷◌, length, arith, sym, ◌∙◌, ap, subst}
 use Rattle.timer_links.specs.declared.node.Node.{Node}
 use Rattle.timer_links.specs.Lists.{list_at, first_key}
-use Rattle.timer_wheels.specs.WheelLists.{timers_in}
+use Rattle.timer_wheels.specs.BucketLists.{timers_in}
 use Rattle.timer_wheels.proofs.buckets.Buckets.has_due.Goals as goal
 
 has_first : (rows : List (ℕ × Node)) → IsTrue (is_some (first_key rows)) ↔ (0 < length (timers_in rows))

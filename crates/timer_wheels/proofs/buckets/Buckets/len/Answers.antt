@@ -1,7 +1,7 @@
 use Rattle.std.proofs.Common.{◌≡◌, ◌+◌, length, arith}
 use Rattle.timer_links.specs.Lists.{list_at, row_count}
-use Rattle.timer_wheels.specs.WheelLists.{rows_below, pending_in}
-use Rattle.timer_wheels.proofs.WheelLemmas.{row_count-parts, length-pending_in}
+use Rattle.timer_wheels.specs.BucketLists.{rows_below, pending_in}
+use Rattle.timer_wheels.proofs.BucketLemmas.{row_count-parts, length-pending_in}
 use Rattle.timer_wheels.proofs.buckets.Buckets.len.Goals as goal
 
 pub overflow_sub-result : goal.overflow_sub-result

@@ -3,9 +3,9 @@ use Rattle.timer_base.specs.declared.timer.Timer.{Timer}
 use Rattle.timer_base.specs.Order.{in_order, itself}
 use Rattle.timer_base.specs.Pending.{timers_of}
 use Rattle.timer_links.specs.declared.node.Node.{Node}
-use Rattle.timer_wheels.specs.WheelLists.{rows_below, timers_in, pending_in}
+use Rattle.timer_wheels.specs.BucketLists.{rows_below, timers_in, pending_in}
 use Rattle.timer_wheels.proofs.RowLemmas.{timers_below-more}
-use Rattle.timer_wheels.specs.WheelLaws.{timers_of-pending}
+use Rattle.timer_wheels.specs.BucketLaws.{timers_of-pending}
 use Rattle.timer_wheels.proofs.buckets.Buckets.list.Goals as goal
 
 pub loop-bucket-preserved : goal.loop-bucket-preserved

@@ -1,5 +1,5 @@
 use Rattle.std.proofs.Common.{◌≡◌}
-use Rattle.timer_wheels.specs.WheelLists.{timers_in, rows_below}
+use Rattle.timer_wheels.specs.BucketLists.{timers_in, rows_below}
 use Rattle.timer_wheels.proofs.buckets.Buckets.list.Given as goal
 
 abbrev pub invariant-loop-bucket : goal.invariant-loop-bucket

@@ -3,9 +3,9 @@ use Rattle.std.specs.Prelude.{replicate}
 use Rattle.std.proofs.lemmas.List.{length-replicate}
 use Rattle.timer_links.specs.declared.node.Node.{Node}
 use Rattle.timer_links.specs.Lists.{list_at}
-use Rattle.timer_wheels.specs.WheelLists.{rows_below}
+use Rattle.timer_wheels.specs.BucketLists.{rows_below}
 use Rattle.timer_wheels.proofs.RowLemmas.{rows_below-none}
-use Rattle.timer_wheels.proofs.WheelLemmas.{list_at-replicate}
+use Rattle.timer_wheels.proofs.BucketLemmas.{list_at-replicate}
 use Rattle.timer_wheels.proofs.buckets.Buckets.new.Goals as goal
 
 at_new : (n k s : ℕ) (lists : List (List (ℕ × Node))) → lists ≡ replicate k [] → list_at s lists ≡ []

@@ -2,9 +2,9 @@ use Rattle.std.proofs.Common.{◌≡◌, ◌<◌, ◌+◌, ℕ, List, [], ◌∷
 use Rattle.timer_base.specs.WheelState.{IsPending}
 use Rattle.timer_links.specs.declared.node.Node.{Node}
 use Rattle.timer_links.specs.Lists.{list_at, with_row}
-use Rattle.timer_wheels.specs.WheelLists.{timer_in}
+use Rattle.timer_wheels.specs.BucketLists.{timer_in}
 use Rattle.timer_wheels.proofs.RowLemmas.{all-list_at}
-use Rattle.timer_wheels.proofs.WheelLemmas.{started, started-pending, started-distinct, past-with_row, in_order-with_row, AreBelow-pending}
+use Rattle.timer_wheels.proofs.BucketLemmas.{started, started-pending, started-distinct, past-with_row, in_order-with_row, AreBelow-pending}
 use Rattle.timer_wheels.proofs.buckets.Buckets.start.Goals as goal
 
 length-with_row : (l : ℕ) (row : ℕ × Node) (lists : List (List (ℕ × Node))) → length (with_row l row lists) ≡ length lists

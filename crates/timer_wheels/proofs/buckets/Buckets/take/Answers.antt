@@ -2,8 +2,8 @@ use Rattle.std.proofs.Common.{◌+◌, ℕ, List, length, sym, ◌∙◌, ap}
 use Rattle.std.proofs.lemmas.List.{length-map}
 use Rattle.timer_links.specs.declared.node.Node.{Node}
 use Rattle.timer_links.specs.Lists.{without_key}
-use Rattle.timer_wheels.proofs.WheelLemmas.{parted, past-without_key, look-has, stop-found, stopped-pending, stopped-distinct, stopped-in_order}
-use Rattle.timer_wheels.proofs.Stands.{is_used}
+use Rattle.timer_wheels.proofs.BucketLemmas.{separated, past-without_key, look-has, stop-found, stopped-pending, stopped-distinct, stopped-in_order}
+use Rattle.timer_wheels.proofs.ReplaceLemmas.{is_used}
 use Rattle.timer_wheels.proofs.buckets.Buckets.take.Goals as goal
 
 pub invariant_of-self-clause-has_lists : goal.invariant_of-self-clause-has_lists
@@ -34,10 +34,10 @@ invariant_of-self-clause-in_order c =
 pub returns-clause-stopped : goal.returns-clause-stopped
 returns-clause-stopped c =
     let b = c.args.self.now in
-    stop-found b.tick b.slots c.args.handle b.links b.has_lists (parted b.last_tick b.tick b.last_serial b.slots b.links b.pending b.past) c.keys_are_apart.ensures b.last_tick b.last_serial c.in_ok-timer.timer c.take-taken.new.self b.distinct (sym c.look.ensures ∙ c.in_ok-timer.was) c.take-taken.ensures.taken
+    stop-found b.tick b.slots c.args.handle b.links b.has_lists (separated b.last_tick b.tick b.last_serial b.slots b.links b.pending b.past) c.keys_are_apart.ensures b.last_tick b.last_serial c.in_ok-timer.timer c.take-taken.new.self b.distinct (sym c.look.ensures ∙ c.in_ok-timer.was) c.take-taken.ensures.taken
 
 pub take-taken-requires : goal.take-taken-requires
 take-taken-requires c =
     let b = c.args.self.now in
-    let f = look-has b.tick b.slots c.args.handle b.links b.has_lists (parted b.last_tick b.tick b.last_serial b.slots b.links b.pending b.past) c.keys_are_apart.ensures c.in_ok-timer.timer b.distinct (sym c.look.ensures ∙ c.in_ok-timer.was) in
+    let f = look-has b.tick b.slots c.args.handle b.links b.has_lists (separated b.last_tick b.tick b.last_serial b.slots b.links b.pending b.past) c.keys_are_apart.ensures c.in_ok-timer.timer b.distinct (sym c.look.ensures ∙ c.in_ok-timer.was) in
     is_used c.args.handle.place f.node b.links f.at

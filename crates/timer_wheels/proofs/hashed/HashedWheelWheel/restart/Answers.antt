@@ -5,7 +5,7 @@ use Rattle.timer_base.specs.declared.timer.Handle.{Handle}
 use Rattle.timer_links.specs.declared.node.Node.{Node}
 use Rattle.timer_links.specs.Lists.{with_row, without_key}
 use Rattle.timer_wheels.specs.Hashed.{AreInBuckets, IsInBucket, rounds_of}
-use Rattle.timer_wheels.proofs.Restarts.{each_restarted}
+use Rattle.timer_wheels.proofs.RestartLemmas.{each_restarted}
 use Rattle.timer_wheels.proofs.HashedTicks.{same_frame, slot_from}
 use Rattle.timer_wheels.proofs.hashed.HashedWheelWheel.restart.Goals as goal
 

@@ -6,7 +6,7 @@ use Rattle.timer_base.specs.declared.fault.OutOfMemory.{OutOfMemory}
 use Rattle.timer_links.specs.declared.node.Node.{Node}
 use Rattle.timer_links.specs.Lists.{with_row}
 use Rattle.timer_wheels.specs.Hashed.{AreInBuckets, IsInBucket, rounds_of}
-use Rattle.timer_wheels.proofs.WheelLemmas.{each-with_row}
+use Rattle.timer_wheels.proofs.BucketLemmas.{each-with_row}
 use Rattle.timer_wheels.proofs.HashedTicks.{same_frame, slot_from}
 use Rattle.timer_wheels.proofs.hashed.HashedWheelWheel.start.Goals as goal
 

@@ -4,7 +4,7 @@ use Rattle.timer_base.specs.declared.timer.Timer.{Timer}
 use Rattle.timer_links.specs.declared.node.Node.{Node}
 use Rattle.timer_links.specs.Lists.{without_key}
 use Rattle.timer_wheels.specs.Hashed.{AreInBuckets, IsInBucket}
-use Rattle.timer_wheels.proofs.WheelLemmas.{each-without_key}
+use Rattle.timer_wheels.proofs.BucketLemmas.{each-without_key}
 use Rattle.timer_wheels.proofs.HashedTicks.{same_frame}
 use Rattle.timer_wheels.proofs.hashed.HashedWheelWheel.stop.Goals as goal
 

@@ -1,24 +1,24 @@
 use Rattle.std.proofs.Common.{◌≡◌, ◌<◌, ◌≤◌, ◌+◌, ◌-◌, ℕ, ap, ◌∙◌, arith, rules}
 use Rattle.timer_wheels.specs.Buckets.{state_of}
 use Rattle.timer_wheels.specs.HierWheel.{WheelCounts}
-use Rattle.timer_wheels.specs.Digits.{base}
+use Rattle.timer_wheels.specs.Digits.{lowest_radix}
 use Rattle.timer_wheels.specs.Tables.{radices}
 use Rattle.timer_wheels.specs.Placement.{visited_between, hops_of, levels_of}
 use Rattle.timer_wheels.proofs.HierLemmas.{paid_bound, moves_fit}
 use Rattle.timer_wheels.proofs.TableLaws.{of_table}
-use Rattle.timer_wheels.proofs.HierStops.{any_of, advanced_serial, leapt_paid, leapt_moves}
+use Rattle.timer_wheels.proofs.StoppingLemmas.{any_of, advanced_serial, leapt_paid, leapt_moves}
 use Rattle.timer_wheels.proofs.hier.HierWheelWheel.advance.Goals as goal
 
 pub invariant_of-self-clause-few_starts : goal.invariant_of-self-clause-few_starts
 invariant_of-self-clause-few_starts c =
     let b = c.args.self.now.buckets in
-    let n = c.pass_ticks-moves.new.buckets in
-    let e : n.last_serial ≡ b.last_serial = advanced_serial c.args.most (n.tick - b.tick) (state_of b) (state_of n) c.pass_ticks-moves.ensures.advances in
+    let n = c.advance_until_due-moves.new.buckets in
+    let e : n.last_serial ≡ b.last_serial = advanced_serial c.args.most (n.tick - b.tick) (state_of b) (state_of n) c.advance_until_due-moves.ensures.advances in
     let f : c.args.self.now.counts.starts ≤ b.last_serial = c.args.self.now.few_starts in
     omega arith
 
 pub invariant_of-self-clause-paid : goal.invariant_of-self-clause-paid
-invariant_of-self-clause-paid c = leapt_paid (radices c.args.self.now.table) c.args.self.now.counts.starts c.args.self.now.counts.moves c.pass_ticks-moves.result (state_of c.args.self.now.buckets) (state_of c.pass_ticks-moves.new.buckets) c.pass_ticks-moves.ensures.leaps c.args.self.now.paid
+invariant_of-self-clause-paid c = leapt_paid (radices c.args.self.now.table) c.args.self.now.counts.starts c.args.self.now.counts.moves c.advance_until_due-moves.result (state_of c.args.self.now.buckets) (state_of c.advance_until_due-moves.new.buckets) c.advance_until_due-moves.ensures.leaps c.args.self.now.paid
 
 abbrev counts : ℕ → ℕ → ℕ → WheelCounts
 counts s m v = record { starts = s; moves = m; visits = v }
@@ -26,20 +26,20 @@ counts s m v = record { starts = s; moves = m; visits = v }
 pub returns-clause-counted : goal.returns-clause-counted
 returns-clause-counted c =
     let b = c.args.self.now.buckets in
-    let n = c.pass_ticks-moves.new.buckets in
+    let n = c.advance_until_due-moves.new.buckets in
     let k = c.args.self.now.counts in
-    let m = leapt_moves (radices c.args.self.now.table) c.pass_ticks-moves.result (state_of b) (state_of n) c.pass_ticks-moves.ensures.leaps in
+    let m = leapt_moves (radices c.args.self.now.table) c.advance_until_due-moves.result (state_of b) (state_of n) c.advance_until_due-moves.ensures.leaps in
     let d = any_of (state_of n).due c.has_due.result c.has_due.ensures in
-    let v = c.visits_between-visits.ensures.value ∙ ap (visited_between (base (radices c.args.self.now.table)) b.tick n.tick) d in
+    let v = c.visits_between-visits.ensures.value ∙ ap (visited_between (lowest_radix (radices c.args.self.now.table)) b.tick n.tick) d in
     ap (λ (x : ℕ). counts k.starts (k.moves + x) (k.visits + c.visits_between-visits.result)) m
     ∙ ap (λ (x : ℕ). counts k.starts (k.moves + hops_of (radices c.args.self.now.table) b.tick (n.tick - b.tick) (state_of b).pending) (k.visits + x)) v
 
 least : (moves levels n : ℕ) → moves + levels ≤ n → levels ≤ n
 least moves levels n h = omega arith
 
-pub pass_ticks-moves-requires-clause-few : goal.pass_ticks-moves-requires-clause-few
+pub advance_until_due-moves-requires-clause-few : goal.advance_until_due-moves-requires-clause-few
 unfolding Rattle.timer_wheels.specs.Digits.wide
-pass_ticks-moves-requires-clause-few c =
+advance_until_due-moves-requires-clause-few c =
     let w = c.args.self.now in
     let t = radices w.table in
     let p = paid_bound t w.counts.starts w.counts.moves w.buckets.last_serial w.buckets.tick (state_of w.buckets).pending (of_table w.table) w.few_starts w.buckets.serial_in_range w.paid in
@@ -49,8 +49,8 @@ pub overflow_add-counts : goal.overflow_add-counts
 overflow_add-counts c =
     let w = c.args.self.now in
     let t = radices w.table in
-    let n = c.pass_ticks-moves.new.buckets in
+    let n = c.advance_until_due-moves.new.buckets in
     let p = paid_bound t w.counts.starts w.counts.moves w.buckets.last_serial w.buckets.tick (state_of w.buckets).pending (of_table w.table) w.few_starts w.buckets.serial_in_range w.paid in
-    let h : c.args.self.now.counts.moves + c.pass_ticks-moves.result < 18446744073709551616 =
-    moves_fit w.counts.moves c.pass_ticks-moves.result (levels_of t n.tick (state_of n).pending) (levels_of t w.buckets.tick (state_of w.buckets).pending) p c.pass_ticks-moves.ensures.leaps.pays in
+    let h : c.args.self.now.counts.moves + c.advance_until_due-moves.result < 18446744073709551616 =
+    moves_fit w.counts.moves c.advance_until_due-moves.result (levels_of t n.tick (state_of n).pending) (levels_of t w.buckets.tick (state_of w.buckets).pending) p c.advance_until_due-moves.ensures.leaps.pays in
     search rules

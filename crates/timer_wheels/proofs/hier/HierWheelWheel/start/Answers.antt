@@ -1,10 +1,10 @@
 use Rattle.std.proofs.Common.{◌≡◌, ◌<◌, ◌≤◌, ◌+◌, ℕ, List, length, sym, subst, arith}
 use Rattle.timer_links.specs.declared.node.Node.{Node}
 use Rattle.timer_wheels.specs.Digits.{slots, last_of}
-use Rattle.timer_wheels.specs.Occupied.{Tells}
+use Rattle.timer_wheels.specs.Occupied.{AreMarked}
 use Rattle.timer_wheels.specs.Tables.{radices}
 use Rattle.timer_wheels.proofs.HierLemmas.{started_placed, started_paid, started_few}
-use Rattle.timer_wheels.proofs.OccupiedLemmas.{tells_with_row}
+use Rattle.timer_wheels.proofs.OccupiedLemmas.{marked_with_row}
 use Rattle.timer_wheels.proofs.TableLaws.{of_table, at_most, below}
 use Rattle.timer_wheels.proofs.hier.HierWheelWheel.start.Goals as goal
 
@@ -23,16 +23,16 @@ invariant_of-self-2-clause-placed c =
     started_placed (radices w.table) w.buckets c.start.new.self c.bucket_of-list.result c.in_ok-handle.handle.place c.args.timer
     (below c.bucket_of-list.result (slots (radices w.table)) w.buckets.slots (sym w.has_slots) c.bucket_of-list.ensures.in_range) c.bucket_of-list.ensures.value w.placed c.in_ok-handle.ensures.lists c.start.ensures.frame
 
-pub invariant_of-self-2-clause-told : goal.invariant_of-self-2-clause-told
-invariant_of-self-2-clause-told c =
+pub invariant_of-self-2-clause-marked : goal.invariant_of-self-2-clause-marked
+invariant_of-self-2-clause-marked c =
     let w = c.args.self.now in
     let b = w.buckets in
     let l = c.bucket_of-list.result in
     let h = below l (slots (radices w.table)) b.slots (sym w.has_slots) c.bucket_of-list.ensures.in_range in
-    let P : List (List (ℕ × Node)) → Type 0 = Tells b.slots c.insert.new.self in
-    let Q : ℕ → Type 0 = λ k. Tells k c.insert.new.self c.start.new.self.links in
-    subst Q (sym c.start.ensures.frame.slots) (subst P (sym c.in_ok-handle.ensures.lists) (tells_with_row b.slots w.occupied c.insert.new.self l (c.in_ok-handle.handle.place, record { timer = c.args.timer; rounds = 0 }) b.links
-    h (in_lists l (length b.links) b.slots b.has_lists h) c.insert.ensures.here c.insert.ensures.others w.told))
+    let P : List (List (ℕ × Node)) → Type 0 = AreMarked b.slots c.insert.new.self in
+    let Q : ℕ → Type 0 = λ k. AreMarked k c.insert.new.self c.start.new.self.links in
+    subst Q (sym c.start.ensures.frame.slots) (subst P (sym c.in_ok-handle.ensures.lists) (marked_with_row b.slots w.occupied c.insert.new.self l (c.in_ok-handle.handle.place, record { timer = c.args.timer; rounds = 0 }) b.links
+    h (in_lists l (length b.links) b.slots b.has_lists h) c.insert.ensures.here c.insert.ensures.others w.marked))
 
 pub invariant_of-self-2-clause-few_starts : goal.invariant_of-self-2-clause-few_starts
 invariant_of-self-2-clause-few_starts c =

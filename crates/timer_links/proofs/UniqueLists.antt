@@ -1,0 +1,67 @@
+-- The nodes and links represent one value alone: whatever lists satisfy `IsLinked` are `lists_of`.
+use Rattle.std.proofs.Common.{◌≡◌, ◌<◌, ◌≤◌, ◌+◌, ℕ, zero, suc, true, false, List, [], ◌∷◌, ◌++◌, length, refl, sym, ◌∙◌, ap, subst, arith, Vec}
+use Rattle.std.specs.Prelude.{Some, None, nat_lt, ◌-◌}
+use Rattle.std.proofs.lemmas.Bool.Decides.{nat_tests}
+use Rattle.std.proofs.lemmas.List.{ext_get_or, append_assoc, with_items_is}
+use Rattle.std.specs.Vec.{with_items}
+use Rattle.std.proofs.lemmas.List.FromFn.{length-map-range_with_len, get_or-map-range_with_len}
+use Rattle.slab.specs.Slab.{Slab, get, slab_len}
+use Rattle.timer_links.specs.declared.node.Node.{Node}
+use Rattle.timer_links.specs.declared.ring.Sides.{Sides}
+use Rattle.timer_links.specs.declared.links.Links.TheInside.{Inside}
+use Rattle.timer_links.specs.Lists.{list_at, row_count}
+use Rattle.timer_links.specs.Ring.{sides_at, key_of, IsChain}
+use Rattle.timer_links.specs.Links.{places, walk, lists_of, IsLinked}
+use Rattle.timer_links.proofs.Rows.{length_list_at}
+use Rattle.timer_links.proofs.Rings.{node_at-here}
+
+pub root_low : (n l : ℕ) → l < n → key_of n l ≡ None
+root_low n l b = let h : nat_lt l n ≡ true = grind (arith, nat_tests) in rw h refl
+
+pub key_high : (n k : ℕ) → key_of n (n + k) ≡ Some k
+key_high n k =
+    let h : nat_lt (n + k) n ≡ false = grind (arith, nat_tests) in
+    let e : n + k - n ≡ k = omega arith in
+    rw (h, e) refl
+
+-- each row's node stands under its key
+abbrev pub AreHeld : Slab Node → List (ℕ × Node) → Type 0
+AreHeld nodes [] = Unit {0}
+AreHeld nodes (row ∷ rest) = (get nodes row.0 ≡ Some row.1) × AreHeld nodes rest
+
+-- the walk goes along the chain
+walk_is : (m n : ℕ) (nodes : Slab Node) (s : List Sides) (l p : ℕ) (rows : List (ℕ × Node)) → l < n → length rows ≤ m → AreHeld nodes rows → IsChain s p (places n rows ++ l ∷ []) → walk m n nodes s (sides_at s p).after ≡ rows
+walk_is zero n nodes s l p [] b f a c = refl
+walk_is zero n nodes s l p (r ∷ rs) b f a c = absurd (omega arith)
+walk_is (suc m) n nodes s l p [] b f a c = rw (c.0.forth, root_low n l b) refl
+walk_is (suc m) n nodes s l p (r ∷ rs) b f a c = rw (c.0.forth, key_high n r.0, a.0) (ap (λ (x : List (ℕ × Node)). r ∷ x) (walk_is m n nodes s l (n + r.0) rs b (omega arith) a.1 c.1))
+
+module _ (n : ℕ) (nodes : Slab Node) (s : List Sides) (v : List (List (ℕ × Node))) (h : IsLinked n nodes s v) where
+  held_from : (l : ℕ) (rows front : List (ℕ × Node)) → l < n → list_at l v ≡ front ++ rows → AreHeld nodes rows
+  held_from l [] front b e = tt
+  held_from l (r ∷ rs) front b e = (
+    h.held r.0 ∙ node_at-here n s v h.rings r.0 l front r.1 rs b e h.many,
+    held_from l rs (front ++ r ∷ []) b (e ∙ sym (append_assoc front (r ∷ []) rs)),
+  )
+
+  pub lists_are : lists_of n nodes s ≡ v
+  lists_are =
+      let f : ℕ → List (ℕ × Node) = λ root. walk (slab_len nodes) n nodes s (sides_at s root).after in
+      let many : length v ≡ n = h.many in
+      let same : length (lists_of n nodes s) ≡ n = length-map-range_with_len f 0 n in
+      let total : slab_len nodes ≡ row_count v = h.total in
+      ext_get_or [] (lists_of n nodes s) v (same ∙ sym many) (λ l d.
+      let e : length (lists_of n nodes s) ≡ n = same in
+      let b : l < n = omega arith in
+      let k : length (list_at l v) ≤ row_count v = length_list_at v l in
+      get_or-map-range_with_len f 0 n l l [] b (omega arith) ∙ walk_is (slab_len nodes) n nodes s l l (list_at l v) b (omega arith) (held_from l (list_at l v) [] b refl) (h.rings l b))
+
+pub closed : (n : ℕ) (nodes : Slab Node) (s : List Sides) (v : List (List (ℕ × Node))) → IsLinked n nodes s v → IsLinked n nodes s (lists_of n nodes s)
+closed n nodes s v h = let P : List (List (ℕ × Node)) → Type 0 = λ x. IsLinked n nodes s x in subst P (sym (lists_are n nodes s v h)) h
+
+pub opened : (s : Inside) (v : List (List (ℕ × Node))) → lists_of s.lists s.nodes s.sides.items ≡ v → IsLinked s.lists s.nodes s.sides.items (lists_of s.lists s.nodes s.sides.items) → IsLinked s.lists s.nodes s.sides.items v
+opened s v e h = let P : List (List (ℕ × Node)) → Type 0 = λ x. IsLinked s.lists s.nodes s.sides.items x in subst P e h
+
+-- what was written to the slice of a vector is the vector's
+pub written : {Z : Type 0} (n : ℕ) (nodes : Slab Node) (sides : Vec Sides Z) (ws : List Sides) (v : List (List (ℕ × Node))) → length ws ≡ sides.len → IsLinked n nodes ws v → IsLinked n nodes (with_items sides ws).items v
+written n nodes sides ws v e h = let P : List Sides → Type 0 = λ x. IsLinked n nodes x v in subst P (sym (with_items_is sides ws e)) h

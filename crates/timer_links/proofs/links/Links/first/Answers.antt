@@ -1,8 +1,0 @@
-use Rattle.timer_links.proofs.Linked.{opened}
-use Rattle.timer_links.proofs.Fronts.{first_used}
-use Rattle.timer_links.proofs.links.Links.first.Goals as goal
-
-pub returns-clause-used : goal.returns-clause-used
-returns-clause-used c =
-    let h = opened c.self.inside c.args.self.now c.self.view_is c.self.invariant in
-    first_used _ _ _ _ c.args.list _ h c.requires c.front.ensures

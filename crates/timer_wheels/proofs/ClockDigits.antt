@@ -1,0 +1,132 @@
+-- The buckets and visits of `Table::Clock`, by quotients: seconds, minutes, hours and days.
+use Rattle.std.proofs.Common.{◌≡◌, ◌≢◌, ◌<◌, ◌≤◌, ◌+◌, ◌-◌, ◌*◌, ◌/◌, ◌%◌, ℕ, List, [], ◌∷◌, length, refl, sym, ◌∙◌, ap, inl, inr, arith}
+use Rattle.std.specs.Prelude.{nat_lt}
+use Rattle.std.proofs.lemmas.Bool.Decides.{nat_tests}
+use Rattle.timer_base.specs.OrderLaws.{either}
+use Rattle.timer_wheels.specs.Digits.{wide, clock, IsTable, HasDigits, digit, slots, list_of_slot, bucket, emptied, last_of}
+use Rattle.timer_wheels.proofs.DigitLaws.{level_near, level_far, lowest_here, lowest_above}
+use Rattle.timer_wheels.specs.Leap.{list_visit}
+
+pub clock_is : clock ≡ 60 ∷ 60 ∷ 24 ∷ 100 ∷ []
+unfolding clock
+clock_is = refl
+
+pub clock_is_table : IsTable clock
+unfolding clock
+clock_is_table = (omega arith, (omega arith, (omega arith, (omega arith, tt))))
+
+pub slots-clock : slots clock ≡ 244
+unfolding clock
+slots-clock = refl
+
+pub last-clock : last_of clock ≡ 8639999
+unfolding clock
+last-clock = refl
+
+pub length-clock : length clock ≡ 4
+unfolding clock
+length-clock = refl
+
+days_end : (t : ℕ) → t ≤ 8639999 → t / 60 / 60 / 24 / 100 ≡ 0
+days_end t h = omega arith
+
+pub in_clock : (t : ℕ) → t ≤ 8639999 → HasDigits clock t
+unfolding clock
+in_clock t h = days_end t h
+
+-- Buckets of a table with one more wheel.
+
+-- where the quotients are equal the bucket is in the lowest wheel, else in a wheel above
+pub bucket_near : (r : ℕ) (rs : List ℕ) (a d : ℕ) → a / r ≡ d / r → bucket (r ∷ rs) a d ≡ d % r
+bucket_near r rs a d e = ap (λ (v : ℕ). list_of_slot (r ∷ rs) v (digit (r ∷ rs) v d)) (level_near r rs a d e) ∙ omega arith
+
+pub bucket_far : (r : ℕ) (rs : List ℕ) (a d : ℕ) → a / r ≢ d / r → bucket (r ∷ rs) a d ≡ r + bucket rs (a / r) (d / r)
+bucket_far r rs a d e = ap (λ (v : ℕ). list_of_slot (r ∷ rs) v (digit (r ∷ rs) v d)) (level_far r rs a d e) ∙ omega arith
+
+pub emptied_here : (r : ℕ) (rs : List ℕ) (t : ℕ) → t % r ≢ 0 → emptied (r ∷ rs) t ≡ t % r
+emptied_here r rs t e = ap (λ (v : ℕ). list_of_slot (r ∷ rs) v (digit (r ∷ rs) v t)) (lowest_here r rs t e) ∙ omega arith
+
+-- a tick whose lowest digit isn't zero, in the wide table
+pub emptied_low : (t : ℕ) → t % 64 ≢ 0 → t % 64 ≡ emptied wide t
+unfolding wide
+emptied_low t n = sym (emptied_here 64 (64 ∷ 64 ∷ 64 ∷ 64 ∷ 64 ∷ 64 ∷ 64 ∷ 64 ∷ 64 ∷ []) t n)
+
+pub emptied_above : (r : ℕ) (rs : List ℕ) (t : ℕ) → t % r ≡ 0 → emptied (r ∷ rs) t ≡ r + emptied rs (t / r)
+emptied_above r rs t e = ap (λ (v : ℕ). list_of_slot (r ∷ rs) v (digit (r ∷ rs) v t)) (lowest_above r rs t e) ∙ omega arith
+
+pub visit_here : (r : ℕ) (rs : List ℕ) (l now : ℕ) → l < r → list_visit (r ∷ rs) l now ≡ r * (now / r) + l
+visit_here r rs l now h = elim (either (nat_lt l r)) [ inl k ↦ rw k refl | inr k ↦ absurd (grind (arith, nat_tests)) ]
+
+pub visit_above : (r : ℕ) (rs : List ℕ) (l now : ℕ) → r ≤ l → list_visit (r ∷ rs) l now ≡ r * list_visit rs (l - r) (now / r)
+visit_above r rs l now h = elim (either (nat_lt l r)) [ inl k ↦ absurd (grind (arith, nat_tests)) | inr k ↦ rw k refl ]
+
+-- The four wheels.
+
+module _ (a d : ℕ) where
+  pub bucket_second : a / 60 ≡ d / 60 → d % 60 ≡ bucket clock a d
+  bucket_second e = rw clock_is (sym (bucket_near 60 (60 ∷ 24 ∷ 100 ∷ []) a d e))
+
+  pub bucket_minute : a / 60 ≢ d / 60 → a / 60 / 60 ≡ d / 60 / 60 → 60 + d / 60 % 60 ≡ bucket clock a d
+  bucket_minute n e = rw clock_is (sym (bucket_far 60 (60 ∷ 24 ∷ 100 ∷ []) a d n ∙ ap (λ (x : ℕ). 60 + x) (bucket_near 60 (24 ∷ 100 ∷ []) (a / 60) (d / 60) e)))
+
+  pub bucket_hour : a / 60 ≢ d / 60 → a / 60 / 60 ≢ d / 60 / 60 → a / 60 / 60 / 24 ≡ d / 60 / 60 / 24 → 120 + d / 60 / 60 % 24 ≡ bucket clock a d
+  bucket_hour n m e =
+      let x : bucket (60 ∷ 24 ∷ 100 ∷ []) (a / 60) (d / 60) ≡ 60 + d / 60 / 60 % 24 = bucket_far 60 (24 ∷ 100 ∷ []) (a / 60) (d / 60) m ∙ ap (λ (x : ℕ). 60 + x) (bucket_near 24 (100 ∷ []) (a / 60 / 60) (d / 60 / 60) e) in
+      let y : bucket (60 ∷ 60 ∷ 24 ∷ 100 ∷ []) a d ≡ 60 + bucket (60 ∷ 24 ∷ 100 ∷ []) (a / 60) (d / 60) = bucket_far 60 (60 ∷ 24 ∷ 100 ∷ []) a d n in
+      rw clock_is (omega arith)
+
+  pub bucket_day : a < d → d ≤ 8639999 → a / 60 ≢ d / 60 → a / 60 / 60 ≢ d / 60 / 60 → a / 60 / 60 / 24 ≢ d / 60 / 60 / 24 → 144 + d / 60 / 60 / 24 ≡ bucket clock a d
+  bucket_day l r n m k =
+      let e : a / 60 / 60 / 24 / 100 ≡ d / 60 / 60 / 24 / 100 = days_end a (omega arith) ∙ sym (days_end d r) in
+      let z : bucket (100 ∷ []) (a / 60 / 60 / 24) (d / 60 / 60 / 24) ≡ d / 60 / 60 / 24 % 100 = bucket_near 100 [] (a / 60 / 60 / 24) (d / 60 / 60 / 24) e in
+      let w : d / 60 / 60 / 24 / 100 ≡ 0 = days_end d r in
+      let x : bucket (24 ∷ 100 ∷ []) (a / 60 / 60) (d / 60 / 60) ≡ 24 + bucket (100 ∷ []) (a / 60 / 60 / 24) (d / 60 / 60 / 24) = bucket_far 24 (100 ∷ []) (a / 60 / 60) (d / 60 / 60) k in
+      let v : bucket (60 ∷ 24 ∷ 100 ∷ []) (a / 60) (d / 60) ≡ 60 + bucket (24 ∷ 100 ∷ []) (a / 60 / 60) (d / 60 / 60) = bucket_far 60 (24 ∷ 100 ∷ []) (a / 60) (d / 60) m in
+      let y : bucket (60 ∷ 60 ∷ 24 ∷ 100 ∷ []) a d ≡ 60 + bucket (60 ∷ 24 ∷ 100 ∷ []) (a / 60) (d / 60) = bucket_far 60 (60 ∷ 24 ∷ 100 ∷ []) a d n in
+      rw clock_is (omega arith)
+
+module _ (t : ℕ) where
+  pub emptied_second : t % 60 ≢ 0 → t % 60 ≡ emptied clock t
+  emptied_second n = rw clock_is (sym (emptied_here 60 (60 ∷ 24 ∷ 100 ∷ []) t n))
+
+  pub emptied_minute : t % 60 ≡ 0 → t / 60 % 60 ≢ 0 → 60 + t / 60 % 60 ≡ emptied clock t
+  emptied_minute e n = rw clock_is (sym (emptied_above 60 (60 ∷ 24 ∷ 100 ∷ []) t e ∙ ap (λ (x : ℕ). 60 + x) (emptied_here 60 (24 ∷ 100 ∷ []) (t / 60) n)))
+
+  pub emptied_hour : t % 60 ≡ 0 → t / 60 % 60 ≡ 0 → t / 60 / 60 % 24 ≢ 0 → 120 + t / 60 / 60 % 24 ≡ emptied clock t
+  emptied_hour e f n =
+      let x : emptied (60 ∷ 24 ∷ 100 ∷ []) (t / 60) ≡ 60 + t / 60 / 60 % 24 = emptied_above 60 (24 ∷ 100 ∷ []) (t / 60) f ∙ ap (λ (x : ℕ). 60 + x) (emptied_here 24 (100 ∷ []) (t / 60 / 60) n) in
+      let y : emptied (60 ∷ 60 ∷ 24 ∷ 100 ∷ []) t ≡ 60 + emptied (60 ∷ 24 ∷ 100 ∷ []) (t / 60) = emptied_above 60 (60 ∷ 24 ∷ 100 ∷ []) t e in
+      rw clock_is (omega arith)
+
+  pub emptied_day : 0 < t → t ≤ 8639999 → t % 60 ≡ 0 → t / 60 % 60 ≡ 0 → t / 60 / 60 % 24 ≡ 0 → 144 + t / 60 / 60 / 24 ≡ emptied clock t
+  emptied_day p r e f g =
+      let w : t / 60 / 60 / 24 / 100 ≡ 0 = days_end t r in
+      let n : t / 60 / 60 / 24 % 100 ≢ 0 = λ (q : t / 60 / 60 / 24 % 100 ≡ 0). omega arith in
+      let z : emptied (100 ∷ []) (t / 60 / 60 / 24) ≡ t / 60 / 60 / 24 % 100 = emptied_here 100 [] (t / 60 / 60 / 24) n in
+      let x : emptied (24 ∷ 100 ∷ []) (t / 60 / 60) ≡ 24 + emptied (100 ∷ []) (t / 60 / 60 / 24) = emptied_above 24 (100 ∷ []) (t / 60 / 60) g in
+      let v : emptied (60 ∷ 24 ∷ 100 ∷ []) (t / 60) ≡ 60 + emptied (24 ∷ 100 ∷ []) (t / 60 / 60) = emptied_above 60 (24 ∷ 100 ∷ []) (t / 60) f in
+      let y : emptied (60 ∷ 60 ∷ 24 ∷ 100 ∷ []) t ≡ 60 + emptied (60 ∷ 24 ∷ 100 ∷ []) (t / 60) = emptied_above 60 (60 ∷ 24 ∷ 100 ∷ []) t e in
+      rw clock_is (omega arith)
+
+module _ (l now : ℕ) where
+  pub clock_visit_second : l < 60 → 60 * (now / 60) + l ≡ list_visit clock l now
+  clock_visit_second h = rw clock_is (sym (visit_here 60 (60 ∷ 24 ∷ 100 ∷ []) l now h))
+
+  pub clock_visit_minute : 60 ≤ l → l < 120 → 60 * (60 * (now / 60 / 60) + (l - 60)) ≡ list_visit clock l now
+  clock_visit_minute a b = rw clock_is (sym (visit_above 60 (60 ∷ 24 ∷ 100 ∷ []) l now a ∙ ap (λ (x : ℕ). 60 * x) (visit_here 60 (24 ∷ 100 ∷ []) (l - 60) (now / 60) (omega arith))))
+
+  pub clock_visit_hour : 120 ≤ l → l < 144 → 60 * (60 * (24 * (now / 60 / 60 / 24) + (l - 120))) ≡ list_visit clock l now
+  clock_visit_hour a b =
+      let e : l - 60 - 60 ≡ l - 120 = omega arith in
+      rw clock_is (sym (visit_above 60 (60 ∷ 24 ∷ 100 ∷ []) l now (omega arith)
+      ∙ ap (λ (x : ℕ). 60 * x) (visit_above 60 (24 ∷ 100 ∷ []) (l - 60) (now / 60) (omega arith)
+      ∙ ap (λ (x : ℕ). 60 * x) (visit_here 24 (100 ∷ []) (l - 60 - 60) (now / 60 / 60) (omega arith) ∙ ap (λ (x : ℕ). 24 * (now / 60 / 60 / 24) + x) e))))
+
+  pub clock_visit_day : 144 ≤ l → l < 244 → now ≤ 8639999 → 60 * (60 * (24 * (l - 144))) ≡ list_visit clock l now
+  clock_visit_day a b r =
+      let w : now / 60 / 60 / 24 / 100 ≡ 0 = days_end now r in
+      let e : 100 * (now / 60 / 60 / 24 / 100) + (l - 60 - 60 - 24) ≡ l - 144 = omega arith in
+      rw clock_is (sym (visit_above 60 (60 ∷ 24 ∷ 100 ∷ []) l now (omega arith)
+      ∙ ap (λ (x : ℕ). 60 * x) (visit_above 60 (24 ∷ 100 ∷ []) (l - 60) (now / 60) (omega arith)
+      ∙ ap (λ (x : ℕ). 60 * x) (visit_above 24 (100 ∷ []) (l - 60 - 60) (now / 60 / 60) (omega arith)
+      ∙ ap (λ (x : ℕ). 24 * x) (visit_here 100 [] (l - 60 - 60 - 24) (now / 60 / 60 / 24) (omega arith) ∙ e)))))

@@ -1,0 +1,259 @@
+-- Lemmas for `empty_bucket`: the loop invariant of migrating one by one, and a bucket that is due as a whole.
+use Rattle.std.proofs.Common.{◌≡◌, ◌≢◌, ◌<◌, ◌≤◌, ◌+◌, ℕ, zero, suc, List, [], ◌∷◌, ◌++◌, length, refl, sym, ◌∙◌, ap, subst, arith, append_assoc, length-set, get_or-set_same, get_or-set_other}
+use Rattle.std.specs.Prelude.{true, false, slice_set, Some, None}
+use Rattle.std.specs.List.{AllByRecursion}
+use Rattle.std.proofs.lemmas.List.{set-get_or}
+use Rattle.std.proofs.lemmas.Bool.{eq-eqb, ne_eqb}
+use Rattle.timer_base.specs.Pending.{is_due_at}
+use Rattle.timer_links.specs.declared.node.Node.{Node}
+use Rattle.timer_links.specs.Lists.{list_at, with_row, row_count, front_moved, first_row_moved, appended, node_at, first_key, AreApart}
+use Rattle.timer_wheels.specs.Digits.{slots, bucket, last_of}
+use Rattle.timer_wheels.specs.BucketLists.{timer_in}
+use Rattle.timer_wheels.specs.Migration.{target, migrate_rows, migrated, left_rows, first_deadline, MayMigrate, IsOfTick}
+use Rattle.timer_wheels.proofs.MigrationLemmas.{target_due, target_left}
+use Rattle.timer_wheels.proofs.RowLemmas.{append-nil}
+
+-- Lists that are updated twice.
+
+pub set_twice : (v : List (List (ℕ × Node))) (i : ℕ) (a b : List (ℕ × Node)) → slice_set (slice_set v i a) i b ≡ slice_set v i b
+set_twice [] i a b = refl
+set_twice (x ∷ xs) zero a b = refl
+set_twice (x ∷ xs) (suc i) a b = ap (λ (y : List (List (ℕ × Node))). x ∷ y) (set_twice xs i a b)
+
+set_swapped : (v : List (List (ℕ × Node))) (i j : ℕ) (a b : List (ℕ × Node)) → i ≢ j → slice_set (slice_set v i a) j b ≡ slice_set (slice_set v j b) i a
+set_swapped [] i j a b n = refl
+set_swapped (x ∷ xs) zero zero a b n = absurd (n refl)
+set_swapped (x ∷ xs) zero (suc j) a b n = refl
+set_swapped (x ∷ xs) (suc i) zero a b n = refl
+set_swapped (x ∷ xs) (suc i) (suc j) a b n = ap (λ (y : List (List (ℕ × Node))). x ∷ y) (set_swapped xs i j a b (λ (e : i ≡ j). n (ap (λ (k : ℕ). suc k) e)))
+
+pub length_list_at : (lists : List (List (ℕ × Node))) (l : ℕ) → length (list_at l lists) ≤ row_count lists
+length_list_at [] l = omega arith
+length_list_at (x ∷ xs) zero = omega arith
+length_list_at (x ∷ xs) (suc l) = let h : length (list_at l xs) ≤ row_count xs = length_list_at xs l in omega arith
+
+-- some rows of the list have moved, and moving the rest leads to the same lists
+pub record IsEmptying (table : List ℕ) (l tick step moves : ℕ) (old lists : List (List (ℕ × Node))) : Type 0 where
+  pub leads : migrated table tick l lists ≡ migrated table tick l old
+  pub has_lists : length lists ≡ length old
+  pub rows : AllByRecursion (MayMigrate table tick l) (list_at l lists)
+  pub moves_are : moves + length (left_rows tick (list_at l lists)) ≡ length (left_rows tick (list_at l old))
+  pub few : moves ≤ step
+  pub count : step + length (list_at l lists) ≡ length (list_at l old)
+
+pub begun : (table : List ℕ) (l tick : ℕ) (old : List (List (ℕ × Node))) → AllByRecursion (MayMigrate table tick l) (list_at l old) → IsEmptying table l tick 0 0 old old
+begun table l tick old a = record { leads = refl; has_lists = refl; rows = a; moves_are = omega arith; few = omega arith; count = omega arith }
+
+module _ (table : List ℕ) (l tick : ℕ) (lists : List (List (ℕ × Node))) (row : ℕ × Node) (rest : List (ℕ × Node)) (b : l < length lists) (at : list_at l lists ≡ row ∷ rest) (n : target table tick row ≢ l) where
+  abbrev to : ℕ
+  to = target table tick row
+
+  abbrev after : List (List (ℕ × Node))
+  after = with_row (target table tick row) row (slice_set lists l rest)
+
+  moved_is : front_moved l to lists ≡ after
+  moved_is = ap (first_row_moved l to lists) at
+
+  left_at : list_at l after ≡ rest
+  left_at =
+      get_or-set_other (slice_set lists l rest) to l (list_at to (slice_set lists l rest) ++ row ∷ []) [] (λ (e : l ≡ to). n (sym e))
+      ∙ get_or-set_same lists l rest [] b
+
+  to_same : list_at to (slice_set lists l rest) ≡ list_at to (slice_set lists l [])
+  to_same = get_or-set_other lists l to rest [] n ∙ sym (get_or-set_other lists l to [] [] n)
+
+  emptied_is : slice_set after l [] ≡ with_row to row (slice_set lists l [])
+  emptied_is =
+      set_swapped (slice_set lists l rest) to l (list_at to (slice_set lists l rest) ++ row ∷ []) [] n
+      ∙ (ap (λ (y : List (List (ℕ × Node))). slice_set y to (list_at to (slice_set lists l rest) ++ row ∷ [])) (set_twice lists l rest [])
+      ∙ ap (λ (y : List (ℕ × Node)). slice_set (slice_set lists l []) to (y ++ row ∷ [])) to_same)
+
+  leads_same : migrated table tick l after ≡ migrated table tick l lists
+  leads_same =
+      ap (λ (y : List (ℕ × Node)). migrate_rows table tick y (slice_set after l [])) left_at
+      ∙ (ap (migrate_rows table tick rest) emptied_is
+      ∙ ap (λ (y : List (ℕ × Node)). migrate_rows table tick y (slice_set lists l [])) (sym at))
+
+  length_same : length after ≡ length lists
+  length_same = length-set (slice_set lists l rest) to (list_at to (slice_set lists l rest) ++ row ∷ []) ∙ length-set lists l rest
+
+due_more : (tick : ℕ) (row : ℕ × Node) (rest : List (ℕ × Node)) → is_due_at tick (timer_in row) ≡ true → length (left_rows tick (row ∷ rest)) ≡ length (left_rows tick rest)
+due_more tick row rest k = rw k refl
+
+left_more : (tick : ℕ) (row : ℕ × Node) (rest : List (ℕ × Node)) → is_due_at tick (timer_in row) ≡ false → length (left_rows tick (row ∷ rest)) ≡ suc (length (left_rows tick rest))
+left_more tick row rest k = rw k refl
+
+-- the first row, where there is one
+pub record IsFirstRow (table : List ℕ) (l tick d : ℕ) (lists : List (List (ℕ × Node))) : Type 0 where
+  pub row : ℕ × Node
+  pub rest : List (ℕ × Node)
+  pub at : list_at l lists ≡ row ∷ rest
+  pub deadline : (timer_in row).deadline ≡ d
+  pub first : MayMigrate table tick l row
+  pub others : AllByRecursion (MayMigrate table tick l) rest
+
+some_same : (a b : ℕ) → Some a ≡ Some b → a ≡ b
+some_same a b e = cc
+
+some_none : (a : ℕ) → Some a ≡ None → ⊥
+some_none a e = cc
+
+first_in : (table : List ℕ) (l tick d : ℕ) (lists : List (List (ℕ × Node))) (rows : List (ℕ × Node)) → list_at l lists ≡ rows → AllByRecursion (MayMigrate table tick l) rows → first_deadline rows ≡ Some d → IsFirstRow table l tick d lists
+first_in table l tick d lists [] at a e = absurd (some_none d (sym e))
+first_in table l tick d lists (row ∷ rest) at a e = record { row = row; rest = rest; at = at; deadline = some_same (timer_in row).deadline d e; first = a.0; others = a.1 }
+
+pub first_row : (table : List ℕ) (l tick step moves d : ℕ) (old lists : List (List (ℕ × Node))) → IsEmptying table l tick step moves old lists → Some d ≡ first_deadline (list_at l lists) → IsFirstRow table l tick d lists
+first_row table l tick step moves d old lists s e = first_in table l tick d lists (list_at l lists) refl s.rows (sym e)
+
+none_first : (rows : List (ℕ × Node)) → first_deadline rows ≡ None → rows ≡ []
+none_first [] e = refl
+none_first (x ∷ xs) e = absurd (some_none (timer_in x).deadline e)
+
+none_long : (rows : List (ℕ × Node)) → length rows ≤ 0 → rows ≡ []
+none_long [] h = refl
+none_long (x ∷ xs) h = absurd (omega arith)
+
+pub record IsEmptied (table : List ℕ) (l tick moves : ℕ) (old lists : List (List (ℕ × Node))) : Type 0 where
+  pub lists_are : lists ≡ migrated table tick l old
+  pub moves_are : moves ≡ length (left_rows tick (list_at l old))
+  pub emptied : list_at l lists ≡ []
+
+at_end : (table : List ℕ) (l tick step moves : ℕ) (old lists : List (List (ℕ × Node))) → IsEmptying table l tick step moves old lists → list_at l lists ≡ [] → IsEmptied table l tick moves old lists
+at_end table l tick step moves old lists s e =
+    let y : length (left_rows tick (list_at l lists)) ≡ 0 = ap (λ (y : List (ℕ × Node)). length (left_rows tick y)) e in
+    let q : moves + length (left_rows tick (list_at l lists)) ≡ length (left_rows tick (list_at l old)) = s.moves_are in
+    record {
+      lists_are = sym (ap (λ (y : List (ℕ × Node)). migrate_rows table tick y (slice_set lists l [])) e ∙ (ap (slice_set lists l) (sym e) ∙ set-get_or lists l [])) ∙ s.leads;
+      moves_are = omega arith;
+      emptied = e;
+    }
+
+pub ended_none : (table : List ℕ) (l tick step moves : ℕ) (old lists : List (List (ℕ × Node))) → IsEmptying table l tick step moves old lists → None ≡ first_deadline (list_at l lists) → IsEmptied table l tick moves old lists
+ended_none table l tick step moves old lists s e = at_end table l tick step moves old lists s (none_first (list_at l lists) (sym e))
+
+pub ended_count : (table : List ℕ) (l tick step moves : ℕ) (old lists : List (List (ℕ × Node))) → IsEmptying table l tick step moves old lists → row_count old ≤ step → IsEmptied table l tick moves old lists
+ended_count table l tick step moves old lists s h =
+    let a : length (list_at l old) ≤ row_count old = length_list_at old l in
+    let c : step + length (list_at l lists) ≡ length (list_at l old) = s.count in
+    at_end table l tick step moves old lists s (none_long (list_at l lists) (omega arith))
+
+module _ (table : List ℕ) (l tick step moves d : ℕ) (old lists new : List (List (ℕ × Node))) (b : l < length old) (s : IsEmptying table l tick step moves old lists) (f : IsFirstRow table l tick d lists) where
+  b2 : l < length lists
+  b2 = let e : length lists ≡ length old = s.has_lists in omega arith
+
+  count_is : length (list_at l lists) ≡ suc (length f.rest)
+  count_is = ap (λ (y : List (ℕ × Node)). length y) f.at
+
+  new_is : (to : ℕ) → to ≡ target table tick f.row → new ≡ front_moved l to lists → new ≡ with_row (target table tick f.row) f.row (slice_set lists l f.rest)
+  new_is dest q e = e ∙ (ap (λ (v : ℕ). front_moved l v lists) q ∙ moved_is table l tick lists f.row f.rest b2 f.at f.first.elsewhere)
+
+  rest_at : (to : ℕ) → to ≡ target table tick f.row → new ≡ front_moved l to lists → list_at l new ≡ f.rest
+  rest_at to q e = ap (list_at l) (new_is to q e) ∙ left_at table l tick lists f.row f.rest b2 f.at f.first.elsewhere
+
+  next : (to moves2 : ℕ) → to ≡ target table tick f.row → new ≡ front_moved l to lists
+      → moves2 + length (left_rows tick f.rest) ≡ moves + length (left_rows tick (f.row ∷ f.rest))
+      → moves2 ≤ step + 1
+      → IsEmptying table l tick (step + 1) moves2 old new
+  next to moves2 q e h w =
+      let r : list_at l new ≡ f.rest = rest_at to q e in
+      let c : step + length (list_at l lists) ≡ length (list_at l old) = s.count in
+      let k : length (list_at l lists) ≡ suc (length f.rest) = count_is in
+      record {
+        leads = ap (migrated table tick l) (new_is to q e) ∙ (leads_same table l tick lists f.row f.rest b2 f.at f.first.elsewhere ∙ s.leads);
+        has_lists = ap (λ (y : List (List (ℕ × Node))). length y) (new_is to q e) ∙ (length_same table l tick lists f.row f.rest b2 f.at f.first.elsewhere ∙ s.has_lists);
+        rows = subst (AllByRecursion (MayMigrate table tick l)) (sym r) f.others;
+        moves_are = ap (λ (y : List (ℕ × Node)). moves2 + length (left_rows tick y)) r ∙ (h ∙ (ap (λ (y : List (ℕ × Node)). moves + length (left_rows tick y)) (sym f.at) ∙ s.moves_are));
+        few = w;
+        count = ap (λ (y : List (ℕ × Node)). step + 1 + length y) r ∙ omega arith;
+      }
+
+  pub next_due : (to moves2 : ℕ) → to ≡ slots table → d ≡ tick → new ≡ front_moved l to lists → moves2 ≡ moves → IsEmptying table l tick (step + 1) moves2 old new
+  next_due to moves2 q e p y =
+      let w : moves ≤ step = s.few in
+      let k : is_due_at tick (timer_in f.row) ≡ true = eq-eqb (timer_in f.row).deadline tick (f.deadline ∙ e) in
+      let m1 : length (left_rows tick (f.row ∷ f.rest)) ≡ length (left_rows tick f.rest) = due_more tick f.row f.rest k in
+      next to moves2 (q ∙ sym (target_due table tick f.row k)) p (omega arith) (omega arith)
+
+  pub next_left : (to moves2 : ℕ) → to ≡ bucket table tick d → d ≢ tick → new ≡ front_moved l to lists → moves2 ≡ moves + 1 → IsEmptying table l tick (step + 1) moves2 old new
+  next_left to moves2 q n p y =
+      let w : moves ≤ step = s.few in
+      let k : is_due_at tick (timer_in f.row) ≡ false = ne_eqb (timer_in f.row).deadline tick (λ (e : (timer_in f.row).deadline ≡ tick). n (sym f.deadline ∙ e)) in
+      let m1 : length (left_rows tick (f.row ∷ f.rest)) ≡ suc (length (left_rows tick f.rest)) = left_more tick f.row f.rest k in
+      next to moves2 (q ∙ (ap (bucket table tick) (sym f.deadline) ∙ sym (target_left table tick f.row k))) p (omega arith) (omega arith)
+
+  pub goes_elsewhere : (to : ℕ) → to ≡ bucket table tick d → d ≢ tick → to ≢ l
+  goes_elsewhere to q n =
+      let k : is_due_at tick (timer_in f.row) ≡ false = ne_eqb (timer_in f.row).deadline tick (λ (e : (timer_in f.row).deadline ≡ tick). n (sym f.deadline ∙ e)) in
+      let t : to ≡ target table tick f.row = q ∙ (ap (bucket table tick) (sym f.deadline) ∙ sym (target_left table tick f.row k)) in
+      λ (e : to ≡ l). f.first.elsewhere (sym t ∙ e)
+
+  pub later_than : d ≢ tick → tick < d
+  later_than n = let a : tick ≤ (timer_in f.row).deadline = f.first.not_past in let e : (timer_in f.row).deadline ≡ d = f.deadline in omega arith
+
+  pub not_beyond : d ≤ last_of table
+  not_beyond = let a : (timer_in f.row).deadline ≤ last_of table = f.first.in_range in let e : (timer_in f.row).deadline ≡ d = f.deadline in omega arith
+
+-- A bucket whose rows are all due moves as a whole.
+
+migrate_rows_whole : (table : List ℕ) (tick : ℕ) (rows : List (ℕ × Node)) (lists : List (List (ℕ × Node))) → slots table < length lists → AllByRecursion (IsOfTick tick) rows → migrate_rows table tick rows lists ≡ slice_set lists (slots table) (list_at (slots table) lists ++ rows)
+migrate_rows_whole table tick [] lists b a = sym (ap (slice_set lists (slots table)) (append-nil (list_at (slots table) lists)) ∙ set-get_or lists (slots table) [])
+migrate_rows_whole table tick (x ∷ xs) lists b a =
+    let to : target table tick x ≡ slots table = target_due table tick x (eq-eqb (timer_in x).deadline tick a.0) in
+    let had : List (ℕ × Node) = list_at (slots table) lists in
+    let more : List (List (ℕ × Node)) = with_row (slots table) x lists in
+    let b2 : slots table < length more = rw (length-set lists (slots table) (list_at (slots table) lists ++ x ∷ [])) b in
+    ap (λ (k : ℕ). migrate_rows table tick xs (with_row k x lists)) to
+    ∙ (migrate_rows_whole table tick xs more b2 a.1
+    ∙ (ap (λ (y : List (ℕ × Node)). slice_set more (slots table) (y ++ xs)) (get_or-set_same lists (slots table) (had ++ x ∷ []) [] b)
+    ∙ (set_twice lists (slots table) (had ++ x ∷ []) ((had ++ x ∷ []) ++ xs)
+    ∙ ap (slice_set lists (slots table)) (append_assoc had (x ∷ []) xs))))
+
+migrated_whole : (table : List ℕ) (tick l : ℕ) (lists : List (List (ℕ × Node))) → slots table < length lists → slots table ≢ l → AllByRecursion (IsOfTick tick) (list_at l lists) → migrated table tick l lists ≡ appended l (slots table) lists
+migrated_whole table tick l lists b n a =
+    migrate_rows_whole table tick (list_at l lists) (slice_set lists l []) (rw (length-set lists l []) b) a
+    ∙ ap (λ (y : List (ℕ × Node)). slice_set (slice_set lists l []) (slots table) (y ++ list_at l lists)) (get_or-set_other lists l (slots table) [] [] n)
+
+pub append_whole : (table : List ℕ) (k tick l : ℕ) (lists : List (List (ℕ × Node))) → k ≡ slots table → length lists ≡ slots table + 1 → l < slots table → AllByRecursion (IsOfTick tick) (list_at l lists) → appended l k lists ≡ migrated table tick l lists
+append_whole table k tick l lists e b h a =
+    let n : slots table ≢ l = λ (x : slots table ≡ l). omega arith in
+    ap (λ (y : ℕ). appended l y lists) e ∙ sym (migrated_whole table tick l lists (omega arith) n a)
+
+pub none_left_over : (tick : ℕ) (rows : List (ℕ × Node)) → AllByRecursion (IsOfTick tick) rows → left_rows tick rows ≡ []
+none_left_over tick [] a = refl
+none_left_over tick (x ∷ xs) a = rw (eq-eqb (timer_in x).deadline tick a.0) (none_left_over tick xs a.1)
+
+-- The first row by its key.
+
+pub record IsFront (l key : ℕ) (lists : List (List (ℕ × Node))) : Type 0 where
+  pub node : Node
+  pub found : node_at key lists ≡ Some node
+  pub first : first_deadline (list_at l lists) ≡ Some node.timer.deadline
+
+front_in : (l key : ℕ) (lists : List (List (ℕ × Node))) (rows : List (ℕ × Node)) → list_at l lists ≡ rows → AreApart lists → l < length lists → first_key rows ≡ Some key → IsFront l key lists
+front_in l key lists [] at a b e = absurd (some_none key (sym e))
+front_in l key lists (row ∷ rest) at a b e =
+    let k : row.0 ≡ key = some_same row.0 key e in
+    record {
+      node = row.1;
+      found = ap (λ (v : ℕ). node_at v lists) (sym k) ∙ (a l [] row rest b at).0;
+      first = ap first_deadline at;
+    }
+
+pub front_of : (l key : ℕ) (lists : List (List (ℕ × Node))) → AreApart lists → l < length lists → Some key ≡ first_key (list_at l lists) → IsFront l key lists
+front_of l key lists a b e = front_in l key lists (list_at l lists) refl a b (sym e)
+
+pub no_front : (rows : List (ℕ × Node)) → None ≡ first_key rows → None ≡ first_deadline rows
+no_front [] e = refl
+no_front (x ∷ xs) e = absurd (some_none x.0 (sym e))
+
+none_some_node : (n : Node) → None ≡ Some n → ⊥
+none_some_node n e = cc
+
+some_node : (m n : Node) → Some m ≡ Some n → m ≡ n
+some_node m n e = cc
+
+pub never_none : (l key : ℕ) (lists : List (List (ℕ × Node))) → IsFront l key lists → None ≡ node_at key lists → ⊥
+never_none l key lists f e = none_some_node f.node (e ∙ f.found)
+
+pub front_deadline_is : (l key : ℕ) (node : Node) (lists : List (List (ℕ × Node))) → IsFront l key lists → Some node ≡ node_at key lists → Some node.timer.deadline ≡ first_deadline (list_at l lists)
+front_deadline_is l key node lists f e = ap (λ (n : Node). Some n.timer.deadline) (some_node node f.node (e ∙ f.found)) ∙ sym f.first

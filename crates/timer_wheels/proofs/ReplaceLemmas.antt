@@ -1,0 +1,103 @@
+-- Lemmas for `replace_node`: which list a node is in, and the lists once another node is under its key.
+use Rattle.std.proofs.Common.{◌≡◌, ◌⊎◌, ◌<◌, ◌==◌, ℕ, suc, List, [], ◌∷◌, ◌++◌, length, refl, sym, ◌∙◌, ap, inl, inr, arith, length-set, get_or-set_same}
+use Rattle.std.specs.Prelude.{Option, Some, None, IsSome, map, slice_set}
+use Rattle.std.proofs.lemmas.Bool.{eqb-true}
+use Rattle.timer_base.specs.OrderLaws.{either}
+use Rattle.timer_links.specs.declared.node.Node.{Node}
+use Rattle.timer_links.specs.Lists.{list_at, node_in, node_at, first_of, with_row, without_key, AreApart, SetsNode, MovesBack}
+use Rattle.timer_wheels.proofs.MigrationLoop.{set_twice}
+
+-- Where a node stands.
+
+-- the node stands in a list
+pub record StandsIn (key : ℕ) (node : Node) (lists : List (List (ℕ × Node))) : Type 0 where
+  pub l : ℕ
+  pub in_range : l < length lists
+  pub front : List (ℕ × Node)
+  pub rest : List (ℕ × Node)
+  pub at : list_at l lists ≡ front ++ (key, node) ∷ rest
+
+record StandsAmong (key : ℕ) (node : Node) (rows : List (ℕ × Node)) : Type 0 where
+  front : List (ℕ × Node)
+  rest : List (ℕ × Node)
+  at : rows ≡ front ++ (key, node) ∷ rest
+
+some_is : (a b : Node) → Some a ≡ Some b → a ≡ b
+some_is a b e = cc
+
+some_none : (a : Node) → None ≡ Some a → ⊥
+some_none a e = cc
+
+among_here : (key : ℕ) (node : Node) (x : ℕ × Node) (xs : List (ℕ × Node)) → x.0 ≡ key → x.1 ≡ node → StandsAmong key node (x ∷ xs)
+among_here key node x xs k e = record { front = []; rest = xs; at = ap (λ (v : ℕ). (v, x.1) ∷ xs) k ∙ ap (λ (v : Node). (key, v) ∷ xs) e }
+
+among : (key : ℕ) (node : Node) (rows : List (ℕ × Node)) → node_in key rows ≡ Some node → StandsAmong key node rows
+among key node [] e = absurd (some_none node e)
+among key node (x ∷ xs) e = elim (either (x.0 == key)) [
+  | inl k ↦ let f = rw k at e in among_here key node x xs (eqb-true x.0 key k) (some_is x.1 node f)
+  | inr k ↦
+      let f = rw k at e in
+      let s = among key node xs f in
+      record { front = x ∷ s.front; rest = s.rest; at = ap (λ (v : List (ℕ × Node)). x ∷ v) s.at }
+]
+
+first_is : (a b : Option Node) (node : Node) → first_of a b ≡ Some node → (a ≡ Some node) ⊎ (b ≡ Some node)
+first_is None b node e = inr e
+first_is (Some n) b node e = inl e
+
+pub stands_in : (key : ℕ) (node : Node) (lists : List (List (ℕ × Node))) → node_at key lists ≡ Some node → StandsIn key node lists
+stands_in key node [] e = absurd (some_none node e)
+stands_in key node (rows ∷ lists) e = elim (first_is (node_in key rows) (node_at key lists) node e) [
+  | inl f ↦ let s = among key node rows f in record { l = 0; in_range = omega arith; front = s.front; rest = s.rest; at = s.at }
+  | inr f ↦ let s = stands_in key node lists f in record { l = suc s.l; in_range = (let h : s.l < length lists = s.in_range in omega arith); front = s.front; rest = s.rest; at = s.at }
+]
+
+-- Another node under the key, at the back of a list.
+
+-- some node is under the key
+pub record IsUsed (key : ℕ) (lists : List (List (ℕ × Node))) : Type 0 where
+  pub node : Node
+  pub at : node_at key lists ≡ Some node
+
+used_by : (found : Option Node) → IsSome found → (n : Node) × (found ≡ Some n)
+used_by None h = absurd (cc)
+used_by (Some n) h = (n, refl)
+
+pub used : (key : ℕ) (lists : List (List (ℕ × Node))) → IsSome (node_at key lists) → IsUsed key lists
+used key lists h = let u = used_by (node_at key lists) h in record { node = u.0; at = u.1 }
+
+module _ (key list : ℕ) (node : Node) (old mid : List (List (ℕ × Node))) (u : IsUsed key old) (apart : AreApart old) (set : SetsNode key node old mid) (apart2 : AreApart mid) where
+  was : StandsIn key u.node old
+  was = stands_in key u.node old u.at
+
+  mid_is : mid ≡ slice_set old was.l (was.front ++ (key, node) ∷ was.rest)
+  mid_is = set was.l was.front u.node was.rest was.in_range was.at
+
+  mid_length : length mid ≡ length old
+  mid_length = ap (λ (y : List (List (ℕ × Node))). length y) mid_is ∙ length-set old was.l (was.front ++ (key, node) ∷ was.rest)
+
+  mid_at : list_at was.l mid ≡ was.front ++ (key, node) ∷ was.rest
+  mid_at = ap (list_at was.l) mid_is ∙ get_or-set_same old was.l (was.front ++ (key, node) ∷ was.rest) [] was.in_range
+
+  mid_apart : (node_at key mid ≡ Some node) × (map (without_key key) mid ≡ slice_set mid was.l (was.front ++ was.rest))
+  mid_apart = apart2 was.l was.front (key, node) was.rest (let h : was.l < length old = was.in_range in let e : length mid ≡ length old = mid_length in omega arith) mid_at
+
+  pub now_under : node_at key mid ≡ Some node
+  now_under = mid_apart.0
+
+  pub mid_in_range : list < length old → list < length mid
+  mid_in_range h = let e : length mid ≡ length old = mid_length in omega arith
+
+  same_others : map (without_key key) mid ≡ map (without_key key) old
+  same_others =
+      mid_apart.1
+      ∙ (ap (λ (y : List (List (ℕ × Node))). slice_set y was.l (was.front ++ was.rest)) mid_is
+      ∙ (set_twice old was.l (was.front ++ (key, node) ∷ was.rest) (was.front ++ was.rest)
+      ∙ sym (apart was.l was.front (key, u.node) was.rest was.in_range was.at).1))
+
+  pub replaced : (new : List (List (ℕ × Node))) → MovesBack key list mid new → new ≡ with_row list (key, node) (map (without_key key) old)
+  replaced new m = m node now_under ∙ ap (with_row list (key, node)) same_others
+
+-- a node that was found under the key makes it used
+pub is_used : (key : ℕ) (node : Node) (lists : List (List (ℕ × Node))) → node_at key lists ≡ Some node → IsSome (node_at key lists)
+is_used key node lists e = rw e refl

@@ -1,0 +1,27 @@
+use Rattle.std.proofs.Common.{◌≡◌, ◌≤◌, arith}
+use Rattle.timer_wheels.specs.Digits.{last_of}
+use Rattle.timer_wheels.specs.Tables.{radices}
+use Rattle.timer_wheels.proofs.HierLeaps.{none_ahead, first_ahead, first_in_range, first_wakes, none_wakes}
+use Rattle.timer_wheels.proofs.leap.first_visit.Goals as goal
+
+pub visit_of-requires-clause-list : goal.visit_of-requires-clause-list
+visit_of-requires-clause-list c = first_in_range c.args.table c.args.buckets.now c.args.occupied.now c.requires c.in-Some.list c.in-Some.ensures
+
+pub visit_of-requires-clause-now : goal.visit_of-requires-clause-now
+visit_of-requires-clause-now c =
+    let b = c.args.buckets.now in
+    let e : b.last_tick ≡ last_of (radices c.args.table) = c.requires.clock in
+    let r : b.tick ≤ b.last_tick = b.tick_in_range in
+    omega arith
+
+pub returns-in-Some-clause-quiet : goal.returns-in-Some-clause-quiet
+returns-in-Some-clause-quiet c = first_wakes c.args.table c.args.buckets.now c.args.occupied.now c.requires c.in-Some.list c.visit_of.result c.visit_of.ensures c.in-Some.ensures
+
+pub returns-in-Some-clause-not_before : goal.returns-in-Some-clause-not_before
+returns-in-Some-clause-not_before c = first_ahead c.args.table c.args.buckets.now c.args.occupied.now c.requires c.in-Some.list c.visit_of.result c.visit_of.ensures c.in-Some.ensures
+
+pub returns-in-None-clause-quiet : goal.returns-in-None-clause-quiet
+returns-in-None-clause-quiet c = none_wakes c.args.table c.args.buckets.now c.args.occupied.now c.requires c.in-None.ensures
+
+pub returns-in-None-clause-not_before : goal.returns-in-None-clause-not_before
+returns-in-None-clause-not_before c = λ visit. none_ahead c.args.table c.args.buckets.now c.args.occupied.now c.requires visit c.in-None.ensures

@@ -1,9 +1,0 @@
-use Rattle.std.proofs.Common.{◌-◌}
-use Rattle.timer_wheels.proofs.HierLeaps.{IsOnTheWay}
-use Rattle.timer_wheels.proofs.leap.pass_ticks.Given as goal
-
-abbrev pub invariant-loop-buckets : goal.invariant-loop-buckets
-invariant-loop-buckets l = IsOnTheWay l.table l.most l.moves l.initial.buckets l.buckets l.occupied
-
-abbrev pub decreases-loop-buckets : goal.decreases-loop-buckets
-decreases-loop-buckets l = l.end - l.buckets.tick

@@ -1,0 +1,94 @@
+-- The state that the lists of a wheel represent: the first n are its buckets, and the next one has what is due.
+use Rattle.std.specs.Prelude.{ℕ, ◌<◌, ◌≤◌, zero, suc, List, [], ◌∷◌, ◌++◌, map}
+use Rattle.std.specs.List.{AllByRecursion, AllByRecursion-prop}
+use Rattle.std.specs.Coded.{Π_prop, le_prop}
+use Rattle.std.proofs.Props.{props}
+use Rattle.timer_base.specs.declared.timer.Timer.{Timer}
+use Rattle.timer_base.specs.Order.{in_order, AreDistinct, AreRising, IsNotAmong}
+use Rattle.timer_base.specs.OrderLaws.{AreRising-prop}
+use Rattle.timer_base.specs.Pending.{Entry, timer_of}
+use Rattle.timer_base.specs.WheelState.{WheelState, IsPending}
+use Rattle.timer_links.specs.declared.node.Node.{Node}
+use Rattle.timer_links.specs.Lists.{list_at}
+
+-- the timer of a row
+abbrev pub timer_in : ℕ × Node → Timer
+timer_in row = row.1.timer
+
+-- the timers of the rows, in their order
+abbrev pub timers_in : List (ℕ × Node) → List Timer
+timers_in rows = map timer_in rows
+
+-- a row as an entry: a timer's place is the key of its row
+abbrev pub entry_of : ℕ × Node → Entry
+entry_of row = record { place = row.0; timer = row.1.timer }
+
+abbrev pub entries_of : List (ℕ × Node) → List Entry
+entries_of rows = map entry_of rows
+
+-- the rows of the first n lists, list by list
+abbrev pub rows_below : ℕ → List (List (ℕ × Node)) → List (ℕ × Node)
+rows_below zero lists = []
+rows_below (suc n) [] = []
+rows_below (suc n) (rows ∷ lists) = rows ++ rows_below n lists
+
+-- the rows' timers by deadline, and then by serial, each at its place
+abbrev pub pending_in : List (ℕ × Node) → List Entry
+pending_in rows = in_order timer_of (entries_of rows)
+
+-- the state of a wheel with n buckets
+abbrev pub wheel_state : ℕ → ℕ → ℕ → ℕ → List (List (ℕ × Node)) → WheelState
+wheel_state n last_tick now last_serial lists = record {
+  last_tick = last_tick;
+  now = now;
+  pending = pending_in (rows_below n lists);
+  due = timers_in (list_at n lists);
+  last_serial = last_serial;
+}
+
+-- each row is of a pending timer
+abbrev pub ArePending : ℕ → ℕ → ℕ → List (ℕ × Node) → Type 0
+ArePending last_tick now last_serial rows = AllByRecursion (λ row. IsPending last_tick now last_serial (timer_in row)) rows
+
+-- each row of the first n lists is of a pending timer
+abbrev pub ArePendingBelow : ℕ → ℕ → ℕ → ℕ → List (List (ℕ × Node)) → Type 0
+ArePendingBelow n last_tick now last_serial lists = ArePending last_tick now last_serial (rows_below n lists)
+
+-- each of the first n lists has its rows in order of starting
+abbrev pub AreInOrder : ℕ → List (List (ℕ × Node)) → Type 0
+AreInOrder n lists = (s : ℕ) → s < n → AreRising 0 (timers_in (list_at s lists))
+
+-- the deadline of each row is not after the tick: they are due
+abbrev pub ArePast : ℕ → List (ℕ × Node) → Type 0
+ArePast now rows = AllByRecursion (λ row. (timer_in row).deadline ≤ now) rows
+
+-- each row of the first n lists is as the fact says of its list
+abbrev pub EachRow : (ℕ → ℕ × Node → Type 0) → ℕ → List (List (ℕ × Node)) → Type 0
+EachRow fact n lists = (s : ℕ) → s < n → AllByRecursion (fact s) (list_at s lists)
+
+IsPending-prop : (last_tick now last_serial : ℕ) (t : Timer) → IsProp (IsPending last_tick now last_serial t)
+IsPending-prop last_tick now last_serial t = hlevel props
+
+pub ArePendingBelow-prop : (n last_tick now last_serial : ℕ) (lists : List (List (ℕ × Node)))
+    → IsProp (ArePendingBelow n last_tick now last_serial lists)
+ArePendingBelow-prop n last_tick now last_serial lists =
+    AllByRecursion-prop (λ row. IsPending last_tick now last_serial (timer_in row))
+    (λ row. IsPending-prop last_tick now last_serial (timer_in row)) (rows_below n lists)
+
+pub ArePast-prop : (now : ℕ) (rows : List (ℕ × Node)) → IsProp (ArePast now rows)
+ArePast-prop now rows = AllByRecursion-prop (λ row. (timer_in row).deadline ≤ now) (λ row. le_prop) rows
+
+pub AreInOrder-prop : (n : ℕ) (lists : List (List (ℕ × Node))) → IsProp (AreInOrder n lists)
+AreInOrder-prop n lists = Π_prop (λ s. Π_prop (λ b. AreRising-prop 0 (timers_in (list_at s lists))))
+
+pub EachRow-prop : (fact : ℕ → ℕ × Node → Type 0) → ((s : ℕ) (row : ℕ × Node) → IsProp (fact s row))
+    → (n : ℕ) (lists : List (List (ℕ × Node))) → IsProp (EachRow fact n lists)
+EachRow-prop fact prop n lists = Π_prop (λ s. Π_prop (λ b. AllByRecursion-prop (fact s) (prop s) (list_at s lists)))
+
+IsNotAmong-prop : (serial : ℕ) (ts : List Timer) → IsProp (IsNotAmong serial ts)
+IsNotAmong-prop serial [] = hlevel props
+IsNotAmong-prop serial (t ∷ ts) = hlevel (props, IsNotAmong-prop serial ts)
+
+pub AreDistinct-prop : (ts : List Timer) → IsProp (AreDistinct ts)
+AreDistinct-prop [] = hlevel props
+AreDistinct-prop (t ∷ ts) = hlevel (props, IsNotAmong-prop t.serial ts, AreDistinct-prop ts)

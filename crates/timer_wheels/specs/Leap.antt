@@ -1,0 +1,43 @@
+-- The next visit of a bucket in a hierarchy of wheels (the tick that empties it), and leaps of its clock.
+use Rattle.std.specs.Prelude.{◌≡◌, ℕ, ◌+◌, ◌-◌, ◌*◌, ◌/◌, ◌<◌, ◌≤◌, nat_lt, zero, suc, ◌==◌, if◌then◌else◌, List, [], ◌∷◌, Option, MatchOption}
+use Rattle.timer_base.specs.WheelState.{WheelState, after_ticks}
+use Rattle.timer_links.specs.declared.node.Node.{Node}
+use Rattle.timer_wheels.specs.BucketLists.{timer_in, EachRow}
+use Rattle.timer_wheels.specs.Placement.{hops_of, levels_of}
+
+-- the next visit of slot s of wheel k: now with s as its digit k, and zeros below
+abbrev pub slot_visit : List ℕ → ℕ → ℕ → ℕ → ℕ
+slot_visit [] k s now = now
+slot_visit (r ∷ rs) zero s now = r * (now / r) + s
+slot_visit (r ∷ rs) (suc k) s now = r * slot_visit rs k s (now / r)
+
+-- the next visit of the bucket of a pending timer: its deadline, with zeros below its level
+abbrev pub timer_visit : List ℕ → ℕ → ℕ → ℕ
+timer_visit [] now deadline = deadline
+timer_visit (r ∷ rs) now deadline = if (now / r) == (deadline / r) then deadline else r * timer_visit rs (now / r) (deadline / r)
+
+-- the next visit of a list
+abbrev pub list_visit : List ℕ → ℕ → ℕ → ℕ
+list_visit [] l now = now
+list_visit (r ∷ rs) l now = if nat_lt l r then r * (now / r) + l else r * list_visit rs (l - r) (now / r)
+
+-- no bucket with a timer is visited before this tick
+abbrev pub AreNotVisitedBefore : List ℕ → ℕ → ℕ → ℕ → List (List (ℕ × Node)) → Type 0
+AreNotVisitedBefore table n now visit lists = EachRow (λ s row. visit ≤ timer_visit table now (timer_in row).deadline) n lists
+
+-- the same of a tick that is found, and of every tick where none is
+abbrev pub IsVisitBound : List ℕ → ℕ → ℕ → Option ℕ → List (List (ℕ × Node)) → Type 0
+IsVisitBound table n now found lists =
+    MatchOption found ((visit : ℕ) → AreNotVisitedBefore table n now visit lists)
+    (λ visit. AreNotVisitedBefore table n now visit lists)
+
+-- some ticks were passed, with their moves counted, and nothing was due before the last of them
+pub record Leaps (table : List ℕ) (moves : ℕ) (old new : WheelState) : Type 0 where
+  pub passed : ℕ
+  pub now_is : new.now ≡ old.now + passed
+  pub ticked : new ≡ after_ticks passed old
+  pub quiet : (n : ℕ) → n < passed → (after_ticks n old).due ≡ []
+  -- where nothing is due yet, the pending timers are the same
+  pub kept : new.due ≡ [] → new.pending ≡ old.pending
+  pub moves_are : moves ≡ hops_of table old.now passed old.pending
+  pub pays : moves + levels_of table new.now new.pending ≤ levels_of table old.now old.pending
