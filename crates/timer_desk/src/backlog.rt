@@ -9,7 +9,7 @@ use std::marker::Model;
 use timer_base::Wheel;
 use timer_facility::{Facility, a_request_adds_at_most_one};
 
-/// The words that wait for a client, and a request that ran out of memory.
+/// The words waiting for a client, and a request that ran out of memory.
 #[derive(Drop)]
 pub struct Backlog {
     outbox: HeapCircularBuffer<Word>,
