@@ -609,6 +609,10 @@ returned_next {p} a n e o t h =
     let k = a.handed_in_range in
     slice_get_read p.returned n p.handed t e (omega arith) h
 
+-- and it is counted
+pub next_counted : {p : Parts} → AreParts p → (n : ℕ) → n ≡ length p.returned → p.handed ≢ n → (t : Timer) → t ≡ get_or p.returned p.handed t → IsCounted p.clients p.counts t
+next_counted {p} a n e o t h = returned_counted a t (returned_next a n e o t h)
+
 -- Restarts.
 
 -- a restart that is refused uses up the number
