@@ -92,6 +92,14 @@ pub record Tells (p : Parts) (s : FacilityState) : Type 0 where
 pub tells : {p : Parts} {v : FacilityView} → AreParts p → view_of p ≡ v → Tells p v.state
 tells {p} {v} a e = subst (λ (u : FacilityView). Tells p u.state) e (record { last_is = refl; now_is = refl; serial_is = refl; length_is = refl; capacity_is = refl })
 
+-- the wheel's answers on its clock are those of the state
+pub record ReadsClock (s : FacilityState) (last now : ℕ) : Type 0 where
+  pub last_is : s.last ≡ last
+  pub now_is : s.now ≡ now
+
+pub reads_clock : {p : Parts} {v : FacilityView} → AreParts p → view_of p ≡ v → (last now : ℕ) → last ≡ p.wheel.last_tick → now ≡ p.wheel.now → ReadsClock v.state last now
+reads_clock a e last now l n = let t = tells a e in record { last_is = t.last_is ∙ sym l; now_is = t.now_is ∙ sym n }
+
 pub clients_are : {p : Parts} {v : FacilityView} → AreParts p → view_of p ≡ v → length v.state.numbers ≡ p.clients
 clients_are {p} {v} a e =
     let all : length p.numbers ≡ 64 = a.all_numbers in
