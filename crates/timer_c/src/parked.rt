@@ -37,7 +37,7 @@ impl<T: Drop, A: Allocator> Parked<T, A> {
     pub(crate) fn unpark(self) -> Box<T, A>
         ensures { result.value ≡ self.value }
     {
-        // The two words that `park` kept, or that `Slot::take` put together again.
+        // The allocator and the address, as `park` stored them or `Slot::take` put them together again.
         let Parked { alloc, at } = self;
         // The value and the right to free its block are at that address, and go into the box.
         unsafe { Box::from_raw(alloc, at) }

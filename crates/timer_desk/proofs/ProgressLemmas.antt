@@ -1,5 +1,5 @@
 -- How much is left to do, when one client makes progress.
-use Rattle.std.proofs.Common.{◌≡◌, ◌<◌, ◌+◌, ◌++◌, ℕ, zero, suc, List, [], ◌∷◌, length, get_or, take, ap, arith, append-nil, length-append}
+use Rattle.std.proofs.Common.{◌≡◌, ◌<◌, ◌+◌, ◌++◌, ℕ, zero, suc, List, Vec, [], ◌∷◌, length, vec_len, get_or, take, ap, arith, append-nil, length-append}
 use Rattle.std.specs.Prelude.{slice_set}
 use Rattle.std.proofs.lemmas.Grind.{flat_map-append}
 use Rattle.std.proofs.lemmas.List.{take_more}
@@ -8,11 +8,15 @@ use Rattle.timer_desk.specs.declared.report.Done.{Done}
 use Rattle.timer_desk.specs.Driving.{left_for, all_left, HasCounted}
 use Rattle.timer_desk.specs.Report.{asked, asked_in, flushed, flushed_in}
 
-pub all_left-set : (goal : ℕ) (ps : List Progress) (c : ℕ) (x new : Progress) → c < length ps → x ≡ get_or ps c x
+all_left-set : (goal : ℕ) (ps : List Progress) (c : ℕ) (x new : Progress) → c < length ps → x ≡ get_or ps c x
     → all_left goal (slice_set ps c new) + left_for goal x ≡ all_left goal ps + left_for goal new
 all_left-set goal [] c x new l h = absurd (omega arith)
 all_left-set goal (p ∷ ps) zero x new l h = let e : left_for goal x ≡ left_for goal p = ap (left_for goal) h in omega arith
 all_left-set goal (p ∷ ps) (suc c) x new l h = let n = all_left-set goal ps c x new (omega arith) h in omega arith
+
+pub all_left-at : {Z : Type 0} (goal : ℕ) (all : Vec Progress Z) (c : ℕ) (x new : Progress) → c < vec_len all → x ≡ get_or all.items c x
+    → all_left goal (slice_set all.items c new) + left_for goal x ≡ all_left goal all.items + left_for goal new
+all_left-at goal all c x new l h = all_left-set goal all.items c x new (omega (arith, l, all.ok)) h
 
 -- one more member
 

@@ -8,18 +8,17 @@ use Rattle.timer_facility.specs.Facility.{FacilityView}
 use Rattle.timer_desk.specs.declared.word.Numbered.{Numbered}
 use Rattle.timer_desk.specs.declared.word.Word.{Word}
 use Rattle.timer_desk.specs.declared.report.Served.{Served}
-use Rattle.timer_desk.specs.declared.report.Served.TheVariants.{Idle, NoRoom, NoMemory, Did}
+use Rattle.timer_desk.specs.declared.report.Served.TheVariants.{NoMemory}
 use Rattle.timer_desk.specs.declared.report.Done.{Done}
 use Rattle.timer_desk.specs.declared.report.Done.TheVariants as Dones
 use Rattle.timer_desk.specs.Backlog.{BacklogState, notices_for}
 use Rattle.timer_desk.specs.Asking.{RanOutOfMemory}
 use Rattle.timer_desk.specs.Extends.{Extends, Extends-refl}
-use Rattle.timer_desk.specs.Report.{Side, side_of, got_but_held, held_list, is_held, HeldIsLast, left_of, Tells, Runs, asked, asked_in, request_in, words, words_in, word_in, flushed, flushed_in, held_after, held_after_serve, events}
-use Rattle.timer_desk.specs.Right.{AtEach, IsRight, IsRightServe, IsRightMember, IsNeeded, IsRightClose, outbox_after, pending_after}
-use Rattle.timer_desk.specs.Desk.{DeskState, IsDesk, Told, AreInTime}
+use Rattle.timer_desk.specs.Report.{Side, side_of, got_but_held, held_list, is_held, HeldIsLast, left_of, Tells, Runs, asked, asked_in, request_in, words, words_in, word_in, flushed, flushed_in, held_after, held_after_serve}
+use Rattle.timer_desk.specs.Right.{IsRight, IsRightMember, IsNeeded, IsRightClose, outbox_after, pending_after}
+use Rattle.timer_desk.specs.Desk.{IsDesk, Told, AreInTime}
 use Rattle.timer_desk.proofs.ReportJoining.{not_held, moved}
 use Rattle.timer_desk.proofs.HandingLemmas.{desk_of}
-use Rattle.timer_desk.proofs.ReportHeld.{got_but_held_is}
 
 either : (b : Bool) → (b ≡ true) ⊎ (b ≡ false)
 either b = elim b as (λ v. (v ≡ true) ⊎ (v ≡ false)) [ true ↦ inl refl | false ↦ inr refl ]

@@ -9,7 +9,7 @@ use Rattle.timer_desk.specs.declared.word.Word.{Word}
 use Rattle.timer_desk.specs.declared.word.Word.TheVariants as Words
 
 pub record BacklogState : Type 0 where
-  -- the words that wait, in the order in which they are put into the line
+  -- the waiting words, in the order in which they are put into the line
   pub outbox : List Word
   -- how many words the outbox has room for
   pub room : ℕ

@@ -45,11 +45,11 @@ words_ring_of e = ring_of e.finished.end
 abbrev pub words_ring_of_reader : ClientReader → Ring
 words_ring_of_reader r = ring_of r.words.end
 
--- all requests that the client has submitted
+-- all requests submitted by the client
 abbrev pub submitted : ClientEnd → List Numbered
 submitted e = sent e.requests
 
--- all words that the client has received
+-- all words received by the client
 abbrev pub received_by_end : ClientEnd → List Word
 received_by_end e = received e.words
 
@@ -57,7 +57,7 @@ received_by_end e = received e.words
 abbrev pub free_of : ClientEnd → ℕ
 free_of e = known_free e.requests
 
--- the words that the client knows to stand in the line
+-- the words known to the client to stand in the line
 abbrev pub seen_by_end : ClientEnd → List Word
 seen_by_end e = known_items e.words
 
@@ -73,14 +73,14 @@ abbrev pub IsUnsent : Unsent → Request → ℕ → Type 0
 IsUnsent (Spent r) request next = (r ≡ request) × (LAST < next)
 IsUnsent (Full r) request next = (r ≡ request) × (next ≤ LAST)
 
--- all requests that were ever submitted
+-- all requests ever submitted
 abbrev pub all_submitted : RequestsEnded → List Numbered
 all_submitted e = all_sent e.finished
 
 abbrev pub got_of : RingInlet → List Numbered
 got_of i = received i.requests
 
--- the requests that stand in the line, known once it is settled
+-- the requests standing in the line, known once it is settled
 abbrev pub standing_of : RingInlet → List Numbered
 standing_of i = if i.settled then known_items i.requests else []
 
@@ -91,7 +91,7 @@ given_of i = sent i.words
 abbrev pub is_settled : RingInlet → Bool
 is_settled i = i.settled
 
--- the requests that the owner knows to stand in the line
+-- the requests known to the owner to stand in the line
 abbrev pub seen_by_inlet : RingInlet → List Numbered
 seen_by_inlet i = known_items i.requests
 
@@ -118,7 +118,7 @@ SameRingLine-trans a b c p q = record {
   settled = λ h. (let k = p.settled h in ((q.settled (k.0)).0, (q.settled (k.0)).1 ∙ k.1));
 }
 
--- all words that were ever given
+-- all words ever given
 abbrev pub all_given : WordsEnded → List Word
 all_given e = all_sent e.finished
 
@@ -128,10 +128,10 @@ read_by r = received r.words
 abbrev pub is_settled_reader : ClientReader → Bool
 is_settled_reader r = r.settled
 
--- the words that the reader knows to stand in the line
+-- the words known to the reader to stand in the line
 abbrev pub seen_by_reader : ClientReader → List Word
 seen_by_reader r = known_items r.words
 
--- the words that stand in the line, known once it is settled
+-- the words standing in the line, known once it is settled
 abbrev pub unread_by : ClientReader → List Word
 unread_by r = if r.settled then known_items r.words else []

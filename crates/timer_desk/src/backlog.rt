@@ -10,7 +10,7 @@ use timer_base::Wheel;
 use timer_facility::Facility;
 use timer_facility::laws::a_request_adds_at_most_one;
 
-/// The words that wait for a client, and a request that ran out of memory.
+/// The words waiting for a client, and a request that ran out of memory.
 #[derive(Drop)]
 pub struct Backlog {
     outbox: HeapCircularBuffer<Word>,

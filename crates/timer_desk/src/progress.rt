@@ -1,5 +1,5 @@
 //! How far each client has come in a drive.
-ghost use Rattle.std.specs.Prelude.{◌≡◌, ◌≤◌, ◌<◌, ◌+◌, ◌*◌, ℕ, length, get_or, IsTrue, IfOk, replicate, vec_len, ◌↔◌};
+ghost use Rattle.std.specs.Prelude.{◌≡◌, ◌≤◌, ◌<◌, ◌+◌, ◌*◌, ℕ, false, length, get_or, IsTrue, IfOk, replicate, vec_len, ◌↔◌};
 ghost use Rattle.timer_base.specs.declared.limits.TheConstants.{LAST};
 ghost use Rattle.timer_desk.specs.Driving.{IsDone, HasCounted, all_left};
 ghost use Rattle.timer_desk.specs.Report.{asked_in, flushed_in, asked, flushed};
@@ -32,6 +32,7 @@ impl Progress {
         ensures served { self.new.served ≤ self.old.served + 1 }
         ensures flushed { self.new.flushed ≡ self.old.flushed }
         ensures fewer { IsTrue result → left_for goal self.new < left_for goal self.old }
+        ensures same { result ≡ false → left_for goal self.new ≡ left_for goal self.old }
         ensures no_more { left_for goal self.new ≤ left_for goal self.old }
     {
         if self.served >= goal {
@@ -47,6 +48,7 @@ impl Progress {
         ensures served { self.new.served ≡ self.old.served }
         ensures flushed { self.new.flushed ≤ self.old.flushed + count }
         ensures fewer { IsTrue result → left_for goal self.new < left_for goal self.old }
+        ensures same { result ≡ false → left_for goal self.new ≡ left_for goal self.old }
         ensures no_more { left_for goal self.new ≤ left_for goal self.old }
     {
         if count == 0 || self.flushed >= 2 * goal {
@@ -80,7 +82,7 @@ pub fn no_progress(alloc: Global, clients: usize) -> Result<Vec<Progress>, Alloc
 /// Whether each client is done.
 pub fn all_done(all: &[Progress], goal: u64) -> bool
     requires { goal ≤ LAST }
-    ensures { IsTrue result → (c : ℕ) (p : Progress) → c < length all.now → IsDone goal (get_or all.now c p) }
+    ensures { IsTrue result ↔ ((c : ℕ) (p : Progress) → c < length all.now → IsDone goal (get_or all.now c p)) }
 {
     for progress in all {
         if !progress.is_done(goal) {
@@ -97,6 +99,7 @@ fn count_member(all: &mut Vec<Progress>, member: Done, goal: u64) -> bool
         → HasCounted (length (asked_in c member)) (flushed_in c member) (get_or all.old.items c p) (get_or all.new.items c p) }
     ensures len { vec_len all.new ≡ vec_len all.old }
     ensures fewer { IsTrue result → all_left goal all.new.items < all_left goal all.old.items }
+    ensures same { result ≡ false → all_left goal all.new.items ≡ all_left goal all.old.items }
     ensures no_more { all_left goal all.new.items ≤ all_left goal all.old.items }
 {
     match member {
@@ -126,6 +129,7 @@ pub fn count_report(all: &mut Vec<Progress>, report: &[Done], goal: u64) -> bool
         → HasCounted (length (asked c report.now)) (flushed c report.now) (get_or all.old.items c p) (get_or all.new.items c p) }
     ensures len { vec_len all.new ≡ vec_len all.old }
     ensures fewer { IsTrue result → all_left goal all.new.items < all_left goal all.old.items }
+    ensures same { result ≡ false → all_left goal all.new.items ≡ all_left goal all.old.items }
     ensures no_more { all_left goal all.new.items ≤ all_left goal all.old.items }
 {
     let mut passed = false;

@@ -92,6 +92,14 @@ pub record Tells (p : Parts) (s : FacilityState) : Type 0 where
 pub tells : {p : Parts} {v : FacilityView} → AreParts p → view_of p ≡ v → Tells p v.state
 tells {p} {v} a e = subst (λ (u : FacilityView). Tells p u.state) e (record { last_is = refl; now_is = refl; serial_is = refl; length_is = refl; capacity_is = refl })
 
+-- the wheel's answers on its clock are those of the state
+pub record ReadsClock (s : FacilityState) (last now : ℕ) : Type 0 where
+  pub last_is : s.last ≡ last
+  pub now_is : s.now ≡ now
+
+pub reads_clock : {p : Parts} {v : FacilityView} → AreParts p → view_of p ≡ v → (last now : ℕ) → last ≡ p.wheel.last_tick → now ≡ p.wheel.now → ReadsClock v.state last now
+reads_clock a e last now l n = let t = tells a e in record { last_is = t.last_is ∙ sym l; now_is = t.now_is ∙ sym n }
+
 pub clients_are : {p : Parts} {v : FacilityView} → AreParts p → view_of p ≡ v → length v.state.numbers ≡ p.clients
 clients_are {p} {v} a e =
     let all : length p.numbers ≡ 64 = a.all_numbers in
@@ -608,6 +616,10 @@ pub returned_next : {p : Parts} → AreParts p → (n : ℕ) → n ≡ length p.
 returned_next {p} a n e o t h =
     let k = a.handed_in_range in
     slice_get_read p.returned n p.handed t e (omega arith) h
+
+-- and it is counted
+pub next_counted : {p : Parts} → AreParts p → (n : ℕ) → n ≡ length p.returned → p.handed ≢ n → (t : Timer) → t ≡ get_or p.returned p.handed t → IsCounted p.clients p.counts t
+next_counted {p} a n e o t h = returned_counted a t (returned_next a n e o t h)
 
 -- Restarts.
 

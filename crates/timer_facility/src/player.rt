@@ -15,7 +15,7 @@ ghost use Rattle.timer_facility.specs.declared.handles.TheConstants.{SPARE};
 use crate::event::{Event, Out};
 use crate::facility::Facility;
 use crate::handles::Handles;
-use crate::request::{CloseFault, NotTaken, Request};
+use crate::request::{Answer, CloseFault, NotTaken, Request};
 use std::alloc::Global;
 use std::marker::Model;
 use timer_base::{Handle, OutOfMemory, Wheel};
@@ -157,22 +157,14 @@ impl<W: Wheel + Drop> Player<W> {
             Ok(answer) => {
                 self.handles.record(answer);
                 self.handles.forget(&self.facility);
-                outs.push_reserved(Out::Answered {
-                    client,
-                    number,
-                    answer,
-                });
+                push_answer(outs, client, number, answer);
                 Ok(())
             }
             Err(reason) => {
                 if let NotTaken::OutOfMemory = reason {
                     return Err(OutOfMemory);
                 }
-                outs.push_reserved(Out::NotTaken {
-                    client,
-                    number,
-                    reason,
-                });
+                push_reason(outs, client, number, reason);
                 Ok(())
             }
         }
@@ -195,19 +187,11 @@ impl<W: Wheel + Drop> Player<W> {
         match self.facility.take(client, number, Request::Stop(handle)) {
             Ok(answer) => {
                 self.handles.forget(&self.facility);
-                outs.push_reserved(Out::Answered {
-                    client,
-                    number,
-                    answer,
-                });
+                push_answer(outs, client, number, answer);
                 Ok(())
             }
             Err(reason) => {
-                outs.push_reserved(Out::NotTaken {
-                    client,
-                    number,
-                    reason,
-                });
+                push_reason(outs, client, number, reason);
                 Ok(())
             }
         }
@@ -238,19 +222,11 @@ impl<W: Wheel + Drop> Player<W> {
             Ok(answer) => {
                 self.handles.record(answer);
                 self.handles.forget(&self.facility);
-                outs.push_reserved(Out::Answered {
-                    client,
-                    number,
-                    answer,
-                });
+                push_answer(outs, client, number, answer);
                 Ok(())
             }
             Err(reason) => {
-                outs.push_reserved(Out::NotTaken {
-                    client,
-                    number,
-                    reason,
-                });
+                push_reason(outs, client, number, reason);
                 Ok(())
             }
         }
@@ -289,6 +265,30 @@ impl<W: Wheel + Drop> Player<W> {
             Err(CloseFault::OutOfMemory) => Err(OutOfMemory),
         }
     }
+}
+
+/// Appends the answer to a request. Room for it was reserved.
+fn push_answer(outs: &mut Vec<Out>, client: u64, number: u64, answer: Answer)
+    requires { vec_len outs.old < vec_capacity outs.old }
+    ensures { outs.new.items ≡ outs.old.items ++ Out.Answered client number answer ∷ [] }
+{
+    outs.push_reserved(Out::Answered {
+        client,
+        number,
+        answer,
+    });
+}
+
+/// Appends why a request was not taken. Room for it was reserved.
+fn push_reason(outs: &mut Vec<Out>, client: u64, number: u64, reason: NotTaken)
+    requires { vec_len outs.old < vec_capacity outs.old }
+    ensures { outs.new.items ≡ outs.old.items ++ Out.NotTaken client number reason ∷ [] }
+{
+    outs.push_reserved(Out::NotTaken {
+        client,
+        number,
+        reason,
+    });
 }
 
 /// Reserves room for one out and for a notice of each pending timer. Ticks and a close produce no more.

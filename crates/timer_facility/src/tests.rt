@@ -361,93 +361,42 @@ fn a_used_place_does_not_let_an_old_handle_stop(rt: HostRuntime) -> Result<(), F
     Ok(())
 }
 
+/// A configuration, its numbers in the order of the fields.
+fn with_numbers(
+    clients: u64,
+    capacity: u64,
+    first_tick: u64,
+    first_serial: u64,
+    first_number: u64,
+) -> Config {
+    Config {
+        clients,
+        capacity,
+        first_tick,
+        first_serial,
+        first_number,
+    }
+}
+
 #[test]
 fn each_number_of_a_configuration_has_its_range(rt: HostRuntime) -> Result<(), Fail> {
+    let past = LAST + 1;
     let wrong = [
-        (
-            Config {
-                clients: 0,
-                ..CONFIG
-            },
-            ConfigFault::Clients,
-        ),
-        (
-            Config {
-                clients: 65,
-                ..CONFIG
-            },
-            ConfigFault::Clients,
-        ),
-        (
-            Config {
-                capacity: 0,
-                ..CONFIG
-            },
-            ConfigFault::Capacity,
-        ),
-        (
-            Config {
-                capacity: 1048577,
-                ..CONFIG
-            },
-            ConfigFault::Capacity,
-        ),
-        (
-            Config {
-                first_tick: LAST + 1,
-                ..CONFIG
-            },
-            ConfigFault::FirstTick,
-        ),
-        (
-            Config {
-                first_serial: 0,
-                ..CONFIG
-            },
-            ConfigFault::FirstSerial,
-        ),
-        (
-            Config {
-                first_serial: LAST + 1,
-                ..CONFIG
-            },
-            ConfigFault::FirstSerial,
-        ),
-        (
-            Config {
-                first_number: 0,
-                ..CONFIG
-            },
-            ConfigFault::FirstNumber,
-        ),
-        (
-            Config {
-                first_number: LAST + 1,
-                ..CONFIG
-            },
-            ConfigFault::FirstNumber,
-        ),
-        (
-            Config {
-                clients: 0,
-                capacity: 0,
-                first_tick: LAST + 1,
-                first_serial: 0,
-                first_number: 0,
-            },
-            ConfigFault::Clients,
-        ),
+        (with_numbers(0, 1024, 0, 1, 1), ConfigFault::Clients),
+        (with_numbers(65, 1024, 0, 1, 1), ConfigFault::Clients),
+        (with_numbers(2, 0, 0, 1, 1), ConfigFault::Capacity),
+        (with_numbers(2, 1048577, 0, 1, 1), ConfigFault::Capacity),
+        (with_numbers(2, 1024, past, 1, 1), ConfigFault::FirstTick),
+        (with_numbers(2, 1024, 0, 0, 1), ConfigFault::FirstSerial),
+        (with_numbers(2, 1024, 0, past, 1), ConfigFault::FirstSerial),
+        (with_numbers(2, 1024, 0, 1, 0), ConfigFault::FirstNumber),
+        (with_numbers(2, 1024, 0, 1, past), ConfigFault::FirstNumber),
+        (with_numbers(0, 0, past, 0, 0), ConfigFault::Clients),
     ];
     for (config, fault) in wrong {
         assert_eq!(rt; config.check().err(), Some(fault), "at {config:?}");
     }
-    let widest = Config {
-        clients: 64,
-        capacity: 1048576,
-        first_tick: LAST,
-        first_serial: LAST,
-        first_number: LAST,
-    };
+    let widest = with_numbers(64, 1048576, LAST, LAST, LAST);
     for config in [CONFIG, widest] {
         same(&rt, config.check()?.config(), config);
     }

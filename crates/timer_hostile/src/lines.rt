@@ -101,7 +101,7 @@ fn fill(inlet: &mut MemoryInlet) -> Result<(), Fault> {
     same(inlet.put(more), Put::Full(more), "a full line")
 }
 
-/// Goes on only where these are the words that filled a line.
+/// Goes on only where these words filled a line.
 fn see_given(words: &[Word]) -> Result<(), Fault> {
     same(words.len(), ROOM, "how many words were given")?;
     let mut number = 0u64;

@@ -65,8 +65,8 @@ pub record HasEnded (desk : DeskState RingInlet) (outcome : DriveEnd) (all : Lis
   pub good : NoneFailed all
   pub wound : IsWoundUp desk all
 
--- something of this client waits; or nothing of any client does, and it is its line that could not be finished, or its
--- words that were not all read
+-- a request or a word of this client waits; or none of any client does, and its line could not be finished, or its words
+-- were not all read
 abbrev pub IsHeldOf : DeskState RingInlet → List RequestsEnded → ℕ → Type 0
 IsHeldOf desk ended c =
     ((i : RingInlet) (e : RequestsEnded) → IsWaiting (backlog_at desk c) (got_of (get_or desk.inlets c i)) (all_submitted (get_or ended c e)))

@@ -208,7 +208,7 @@ impl<R: Wait> Line for Locked<R> {
 }
 
 /// Sends a start with number 1, and one with number 2 once the timer of the first has expired. Returns
-/// the four words that it received.
+/// the four words it received.
 fn paced<L: Line + Drop>(alloc: Global, line: L) -> Option<Vec<Word>> {
     let mut line = line;
     let mut words = Vec::new(alloc);

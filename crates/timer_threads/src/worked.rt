@@ -10,9 +10,9 @@ pub struct Worked {
     pub reader: ClientReader,
     /// How many requests it sent.
     pub sent: u64,
-    /// How many of them started a timer, as the words that it received tell.
+    /// How many of them started a timer, by the words it received.
     pub started: u64,
-    /// How many timers expired, as they tell.
+    /// How many timers expired, by the same words.
     pub expired: u64,
     /// Whether a check failed, or the work ended before all was sent and received.
     pub failed: bool,

@@ -25,7 +25,7 @@ returns-then-all_done g c =
     Drives-turns g.I.Inlet.got g.I.Inlet.standing g.I.Inlet.given g.I.Inlet.same_line g.I.Inlet.take_may_refuse c.args.goal c.args.desk c.loop-idle.desk c.loop-idle.progress.items DriveEnds.Done c.clients.result (λ placed k. c.notices_are_owed.ensures c.args.desk.facility placed k c.keeps.ensures.sound) c.clients.ensures turns
     (λ is k p l.
     let was = c.loop-idle.invariant in
-    let done = subst (λ (ps : List Progress). (n : ℕ) (q : Progress) → n < length ps → IsDone c.args.goal (get_or ps n q)) c.deref.ensures.value (c.if-all_done.ensures refl) in
+    let done = subst (λ (ps : List Progress). (n : ℕ) (q : Progress) → n < length ps → IsDone c.args.goal (get_or ps n q)) c.deref.ensures.value (c.if-all_done.ensures.0 refl) in
     done k p (omega (arith, was.clients, was.turns.told.clients.same_clients, c.loop-idle.progress.ok)))
 
 pub returns : goal.returns

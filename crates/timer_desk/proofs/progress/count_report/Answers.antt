@@ -13,5 +13,9 @@ loop-member-preserved c =
         | then-count_member w ↦ let f = e.fewer w.if-count_member.true in let m = was.no_more in omega arith
         | else-count_member w ↦ let f = was.fewer (cc) in let m = e.no_more in omega arith
       ];
+      same = λ h. elim c.if-count_member.branch [
+        | then-count_member w ↦ absurd (cc)
+        | else-count_member w ↦ let f = was.same (cc) in let m = e.same w.if-count_member.false in omega arith
+      ];
       no_more = omega (arith, was.no_more, e.no_more);
     }

@@ -1,4 +1,4 @@
-use Rattle.std.proofs.Common.{◌≡◌, ◌<◌, ◌≤◌, ℕ, true, length, get_or, take, vec_len}
+use Rattle.std.proofs.Common.{◌≡◌, ◌<◌, ◌≤◌, ℕ, true, false, length, get_or, take, vec_len}
 use Rattle.timer_desk.specs.declared.progress.Progress.{Progress}
 use Rattle.timer_desk.specs.Driving.{HasCounted, all_left}
 use Rattle.timer_desk.specs.Report.{asked, flushed}
@@ -9,5 +9,6 @@ invariant-loop-member l = record {
   counted : (c : ℕ) (p : Progress) → c < vec_len l.fn.all → HasCounted (length (asked c (take l.member-index l.report))) (flushed c (take l.member-index l.report)) (get_or l.fn.all.items c p) (get_or l.all.items c p);
   len : vec_len l.all ≡ vec_len l.fn.all;
   fewer : l.passed ≡ true → all_left l.goal l.all.items < all_left l.goal l.fn.all.items;
+  same : l.passed ≡ false → all_left l.goal l.all.items ≡ all_left l.goal l.fn.all.items;
   no_more : all_left l.goal l.all.items ≤ all_left l.goal l.fn.all.items;
 }

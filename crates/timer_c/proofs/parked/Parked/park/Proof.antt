@@ -1,4 +1,4 @@
--- `park` calls `into_raw_with_allocator`, and stores the two words that come back.
+-- `park` calls `into_raw_with_allocator`, and stores the address and the allocator that it returns.
 use Rattle.std.proofs.Common.{◌≡◌, List, [], ◌∷◌, ◌++◌, refl, sym, ap, ◌∙◌, subst}
 use mir.Syntax.{a_type, dcons, dnil}
 use mir.Raw.{raw as bare}

@@ -1,7 +1,7 @@
 use Rattle.std.proofs.Common.{◌∙◌, ap, sym, arith}
 use Rattle.timer_facility.specs.Facility.{FacilityView}
 use Rattle.timer_facility.specs.Verdict.{verdict_on_tick}
-use Rattle.timer_facility.proofs.FacilityParts.{nothing_due, is_open, tells, refused_tick, view-tick, parts-tick}
+use Rattle.timer_facility.proofs.FacilityParts.{nothing_due, is_open, reads_clock, refused_tick, view-tick, parts-tick}
 use Rattle.timer_facility.proofs.VerdictLemmas.{tick_refusal-closed, tick_refusal-clock_end, tick_refusal-none}
 use Rattle.timer_facility.proofs.facility.Facility.tick.Goals as goal
 
@@ -13,23 +13,13 @@ returns-then-self-clause-ticked g c = refused_tick c.args.self.now _ c.requires 
 
 pub returns-then-now-last_tick-clause-fault : goal.returns-then-now-last_tick-clause-fault
 returns-then-now-last_tick-clause-fault g c =
-    let t = tells c.self.invariant c.self.view_is in
-    let last = t.last_is in
-    let now = t.now_is in
-    let told_last = c.last_tick.ensures in
-    let told_now = c.now.ensures in
-    let test = c.if-now-last_tick.true in
-    tick_refusal-clock_end c.args.self.now.state (is_open c.self.invariant c.self.view_is c.if-self.false) (omega arith)
+    let r = reads_clock c.self.invariant c.self.view_is c.last_tick.result c.now.result c.last_tick.ensures c.now.ensures in
+    tick_refusal-clock_end c.args.self.now.state (is_open c.self.invariant c.self.view_is c.if-self.false) (omega (arith, r.last_is, r.now_is, c.if-now-last_tick.true))
 
 pub returns-then-now-last_tick-clause-ticked : goal.returns-then-now-last_tick-clause-ticked
 returns-then-now-last_tick-clause-ticked g c =
-    let t = tells c.self.invariant c.self.view_is in
-    let last = t.last_is in
-    let now = t.now_is in
-    let told_last = c.last_tick.ensures in
-    let told_now = c.now.ensures in
-    let test = c.if-now-last_tick.true in
-    refused_tick c.args.self.now _ c.requires (tick_refusal-clock_end c.args.self.now.state (is_open c.self.invariant c.self.view_is c.if-self.false) (omega arith))
+    let r = reads_clock c.self.invariant c.self.view_is c.last_tick.result c.now.result c.last_tick.ensures c.now.ensures in
+    refused_tick c.args.self.now _ c.requires (tick_refusal-clock_end c.args.self.now.state (is_open c.self.invariant c.self.view_is c.if-self.false) (omega (arith, r.last_is, r.now_is, c.if-now-last_tick.true)))
 
 pub per_tick-requires-clause-nothing_due : goal.per_tick-requires-clause-nothing_due
 per_tick-requires-clause-nothing_due g c = nothing_due c.self.invariant c.self.view_is c.requires
@@ -47,13 +37,8 @@ returns-clause-ticked g c =
 
 pub returns-clause-fault : goal.returns-clause-fault
 returns-clause-fault g c =
-    let t = tells c.self.invariant c.self.view_is in
-    let last = t.last_is in
-    let now = t.now_is in
-    let told_last = c.last_tick.ensures in
-    let told_now = c.now.ensures in
-    let test = c.if-now-last_tick.false in
-    tick_refusal-none c.args.self.now.state (is_open c.self.invariant c.self.view_is c.if-self.false) (λ e. test (told_now ∙ sym now ∙ e ∙ last ∙ sym told_last))
+    let r = reads_clock c.self.invariant c.self.view_is c.last_tick.result c.now.result c.last_tick.ensures c.now.ensures in
+    tick_refusal-none c.args.self.now.state (is_open c.self.invariant c.self.view_is c.if-self.false) (λ e. c.if-now-last_tick.false (sym r.now_is ∙ e ∙ r.last_is))
 
 pub returns-then-self-clause-verdict : goal.returns-then-self-clause-verdict
 returns-then-self-clause-verdict g c = ap verdict_on_tick (returns-then-self-clause-fault g c)

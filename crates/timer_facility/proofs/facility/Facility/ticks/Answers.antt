@@ -1,7 +1,7 @@
 use Rattle.std.proofs.Common.{◌≡◌, ◌-◌, ◌∙◌, ap, sym, arith}
 use Rattle.std.specs.Prelude.{min}
 use Rattle.timer_facility.specs.Facility.{FacilityView}
-use Rattle.timer_facility.proofs.FacilityParts.{nothing_due, is_open, tells}
+use Rattle.timer_facility.proofs.FacilityParts.{nothing_due, is_open, reads_clock}
 use Rattle.timer_facility.proofs.TickedLemmas.{parts-advanced, view-advanced}
 use Rattle.timer_facility.proofs.VerdictLemmas.{tick_refusal-closed, tick_refusal-clock_end, tick_refusal-none}
 use Rattle.timer_facility.proofs.facility.Facility.ticks.Goals as goal
@@ -11,14 +11,9 @@ returns-then-self-clause-fault g c = tick_refusal-closed c.args.self.now.state (
 
 pub returns-then-left-eq0-clause-fault : goal.returns-then-left-eq0-clause-fault
 returns-then-left-eq0-clause-fault g c =
-    let t = tells c.self.invariant c.self.view_is in
-    let last = t.last_is in
-    let now = t.now_is in
-    let told_last = c.last_tick.ensures in
-    let told_now = c.now.ensures in
+    let r = reads_clock c.self.invariant c.self.view_is c.last_tick.result c.now.result c.last_tick.ensures c.now.ensures in
     let in_range = (g.met.W.Wheel.well_formed c.self.inside.wheel).now_in_range in
-    let test = c.if-left-eq0.true in
-    tick_refusal-clock_end c.args.self.now.state (is_open c.self.invariant c.self.view_is c.if-self.false) (omega arith)
+    tick_refusal-clock_end c.args.self.now.state (is_open c.self.invariant c.self.view_is c.if-self.false) (omega (arith, r.last_is, r.now_is, c.last_tick.ensures, c.now.ensures, in_range, c.if-left-eq0.true))
 
 pub advance-requires-clause-nothing_due : goal.advance-requires-clause-nothing_due
 advance-requires-clause-nothing_due g c = nothing_due c.self.invariant c.self.view_is c.requires.waiting
@@ -43,10 +38,5 @@ returns-clause-ticked g c =
 
 pub returns-clause-fault : goal.returns-clause-fault
 returns-clause-fault g c =
-    let t = tells c.self.invariant c.self.view_is in
-    let last = t.last_is in
-    let now = t.now_is in
-    let told_last = c.last_tick.ensures in
-    let told_now = c.now.ensures in
-    let test = c.if-left-eq0.false in
-    tick_refusal-none c.args.self.now.state (is_open c.self.invariant c.self.view_is c.if-self.false) (λ e. test (let f = e in omega arith))
+    let r = reads_clock c.self.invariant c.self.view_is c.last_tick.result c.now.result c.last_tick.ensures c.now.ensures in
+    tick_refusal-none c.args.self.now.state (is_open c.self.invariant c.self.view_is c.if-self.false) (λ e. c.if-left-eq0.false (omega (arith, e, r.last_is, r.now_is)))

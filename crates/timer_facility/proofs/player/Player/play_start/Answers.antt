@@ -32,10 +32,10 @@ returns-in-Ok-clause-ok g c =
     let s : FacilityState = c.self.inside.facility.state in
     let before = c.args.outs.now.items in
     let event = Events.Start c.args.client c.args.number c.args.interval c.args.action in
-    let outs : c.push_reserved.new.self.items ≡ before ++ Outs.Answered c.args.client c.args.number c.in-Ok.answer ∷ [] =
-    c.push_reserved.ensures.items ∙ ap (λ os. os ++ Outs.Answered c.args.client c.args.number c.in-Ok.answer ∷ []) c.reserve.ensures.items in
-    subst (λ a. AddsRun a event before c.push_reserved.new.self.items c.take.new.self.state) c.self.view_is
-    (AddsRun-taken s event c.args.client c.args.number (Requests.Start c.args.interval c.args.action) c.in-Ok.answer before c.push_reserved.new.self.items c.take.new.self refl c.in-Ok.ensures.taken outs)
+    let outs : c.push_answer.new.outs.items ≡ before ++ Outs.Answered c.args.client c.args.number c.in-Ok.answer ∷ [] =
+    c.push_answer.ensures ∙ ap (λ os. os ++ Outs.Answered c.args.client c.args.number c.in-Ok.answer ∷ []) c.reserve.ensures.items in
+    subst (λ a. AddsRun a event before c.push_answer.new.outs.items c.take.new.self.state) c.self.view_is
+    (AddsRun-taken s event c.args.client c.args.number (Requests.Start c.args.interval c.args.action) c.in-Ok.answer before c.push_answer.new.outs.items c.take.new.self refl c.in-Ok.ensures.taken outs)
 
 pub returns-in_default : goal.returns-in_default
 returns-in_default g c =
@@ -45,12 +45,12 @@ returns-in_default g c =
     let wanted = Start c.args.interval c.args.action in
     let reason : not_taken s c.args.client c.args.number ≡ Some c.in-Err.reason =
     reason-verdict s c.args.client c.args.number (Requests.Start c.args.interval c.args.action) c.in-Err.reason c.in-Err.ensures.not_taken c.in_default.not-OutOfMemory in
-    let outs : c.push_reserved-in-Err.new.self.items ≡ before ++ Outs.NotTaken c.args.client c.args.number c.in-Err.reason ∷ [] =
-    c.push_reserved-in-Err.ensures.items ∙ ap (λ os. os ++ Outs.NotTaken c.args.client c.args.number c.in-Err.reason ∷ []) c.reserve.ensures.items in
+    let outs : c.push_reason.new.outs.items ≡ before ++ Outs.NotTaken c.args.client c.args.number c.in-Err.reason ∷ [] =
+    c.push_reason.ensures ∙ ap (λ os. os ++ Outs.NotTaken c.args.client c.args.number c.in-Err.reason ∷ []) c.reserve.ensures.items in
     let left : c.take.new.self.state ≡ s = ap (λ (v : FacilityView). v.state) c.in-Err.ensures.err in
     record {
-      ok = subst (λ a. AddsRun a event before c.push_reserved-in-Err.new.self.items c.take.new.self.state) c.self.view_is
-          (AddsRun-not_taken s event c.args.client c.args.number wanted c.in-Err.reason before c.push_reserved-in-Err.new.self.items c.take.new.self.state refl reason outs left);
+      ok = subst (λ a. AddsRun a event before c.push_reason.new.outs.items c.take.new.self.state) c.self.view_is
+          (AddsRun-not_taken s event c.args.client c.args.number wanted c.in-Err.reason before c.push_reason.new.outs.items c.take.new.self.state refl reason outs left);
       state = tt;
       outs = tt;
     }

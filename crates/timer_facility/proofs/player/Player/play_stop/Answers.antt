@@ -28,19 +28,19 @@ returns-in-Ok-clause-ok g c =
     let event = Events.Stop c.args.client c.args.number c.args.serial in
     let handles : HandleList = c.self.inside.handles.list.items in
     let handle : IsHandleOf handles c.args.serial c.handle_of-handle.result = record { same_serial = c.handle_of-handle.ensures.serial; same_place = c.handle_of-handle.ensures.place } in
-    let outs : c.push_reserved.new.self.items ≡ before ++ Outs.Answered c.args.client c.args.number c.in-Ok.answer ∷ [] =
-    c.push_reserved.ensures.items ∙ ap (λ os. os ++ Outs.Answered c.args.client c.args.number c.in-Ok.answer ∷ []) c.reserve.ensures.items in
-    subst (λ a. AddsRun a event before c.push_reserved.new.self.items c.take.new.self.state) c.self.view_is
-    (AddsRun-stopped handles s c.args.client c.args.number c.args.serial c.handle_of-handle.result c.in-Ok.answer before c.push_reserved.new.self.items c.take.new.self c.self.invariant.recorded handle c.in-Ok.ensures.taken outs)
+    let outs : c.push_answer.new.outs.items ≡ before ++ Outs.Answered c.args.client c.args.number c.in-Ok.answer ∷ [] =
+    c.push_answer.ensures ∙ ap (λ os. os ++ Outs.Answered c.args.client c.args.number c.in-Ok.answer ∷ []) c.reserve.ensures.items in
+    subst (λ a. AddsRun a event before c.push_answer.new.outs.items c.take.new.self.state) c.self.view_is
+    (AddsRun-stopped handles s c.args.client c.args.number c.args.serial c.handle_of-handle.result c.in-Ok.answer before c.push_answer.new.outs.items c.take.new.self c.self.invariant.recorded handle c.in-Ok.ensures.taken outs)
 
 pub returns-in-Err-clause-ok : goal.returns-in-Err-clause-ok
 returns-in-Err-clause-ok g c =
     let s : FacilityState = c.self.inside.facility.state in
     let before = c.args.outs.now.items in
     let event = Events.Stop c.args.client c.args.number c.args.serial in
-    let outs : c.push_reserved-in-Err.new.self.items ≡ before ++ Outs.NotTaken c.args.client c.args.number c.in-Err.reason ∷ [] =
-    c.push_reserved-in-Err.ensures.items ∙ ap (λ os. os ++ Outs.NotTaken c.args.client c.args.number c.in-Err.reason ∷ []) c.reserve.ensures.items in
-    subst (λ a. AddsRun a event before c.push_reserved-in-Err.new.self.items c.take.new.self.state) c.self.view_is
-    (AddsRun-not_taken s event c.args.client c.args.number (StopSerial c.args.serial) c.in-Err.reason before c.push_reserved-in-Err.new.self.items c.take.new.self.state refl
+    let outs : c.push_reason.new.outs.items ≡ before ++ Outs.NotTaken c.args.client c.args.number c.in-Err.reason ∷ [] =
+    c.push_reason.ensures ∙ ap (λ os. os ++ Outs.NotTaken c.args.client c.args.number c.in-Err.reason ∷ []) c.reserve.ensures.items in
+    subst (λ a. AddsRun a event before c.push_reason.new.outs.items c.take.new.self.state) c.self.view_is
+    (AddsRun-not_taken s event c.args.client c.args.number (StopSerial c.args.serial) c.in-Err.reason before c.push_reason.new.outs.items c.take.new.self.state refl
     (reason-stop s c.args.client c.args.number c.handle_of-handle.result c.in-Err.reason c.in-Err.ensures.not_taken) outs
     (ap (λ (v : FacilityView). v.state) c.in-Err.ensures.err))
