@@ -11,6 +11,7 @@ use Rattle.timer_program.specs.Asked.{config_of, scheme_last, IsPlayable, IsRefu
 use Rattle.timer_program.specs.Running.{HasRun}
 use Rattle.timer_program.specs.Serving.{HasServed}
 use Rattle.timer_program.specs.Streams.{streams_state}
+use Rattle.timer_program.specs.Showing.{HasShownLines}
 use Rattle.timer_program.specs.declared.requested.Clients.{Clients}
 use Rattle.timer_program.specs.Clients.{HasRunClients}
 
@@ -51,10 +52,11 @@ pub record HasNotPlayed {R S : Type 0} (contents : S → Option (List ℕ)) (rea
   -- 2: nothing was written
   pub refused : status ≡ 2 → writer' ≡ writer
 
--- a script was played as the arguments ask, or lines were answered as they came, or clients ran and nothing was read, or
--- none of these
+-- a script was played as the arguments ask, or lines were answered as they came, or answered and shown, or clients ran and
+-- nothing was read, or none of these
 abbrev pub HasEnded : {R S : Type 0} (remaining : R → Option (List ℕ)) (contents : S → Option (List ℕ)) (reader reader' : Watched R) (writer writer' : Watched S) → ℕ → Type 0
 HasEnded remaining contents reader reader' writer writer' status =
     ((asked : Play) × HasPlayed asked remaining contents reader reader' writer writer' status)
     ⊎ (((asked : Play) × HasServedLines asked remaining contents reader reader' writer writer' status)
-    ⊎ (((asked : Clients) × (reader' ≡ reader) × HasRunClients asked contents writer writer' status) ⊎ HasNotPlayed contents reader reader' writer writer' status))
+    ⊎ (((asked : Play) × HasShownLines asked remaining contents reader reader' writer writer' status)
+    ⊎ (((asked : Clients) × (reader' ≡ reader) × HasRunClients asked contents writer writer' status) ⊎ HasNotPlayed contents reader reader' writer writer' status)))

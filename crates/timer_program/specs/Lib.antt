@@ -13,4 +13,5 @@ pub mod Serving
 pub mod Asked
 pub mod Schemes
 pub mod Clients
+pub mod Showing
 pub mod Command

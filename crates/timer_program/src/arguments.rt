@@ -3,6 +3,7 @@
 //!     timers                        the same as `timers play`
 //!     timers play [OPTIONS]         plays the script on standard input
 //!     timers serve [OPTIONS]        answers the lines of standard input as they come
+//!     timers show [OPTIONS]         does so, and shows after each line where the timers stand
 //!     timers threads [OPTIONS]      runs clients in threads of their own
 //!     timers help, timers --help    what the program is
 //!     timers --version              its name and version
@@ -13,8 +14,8 @@ ghost use Rattle.timer_program.specs.Asked.{name_of};
 
 use crate::asked::{Play, Scheme};
 use crate::help::{
-    ABOUT, NAME, PLAY_ABOUT, SCHEMES, SCRIPTS, SERVE_ABOUT, STREAMS, THREADS, THREADS_ABOUT,
-    VERSION,
+    ABOUT, NAME, PLACEMENTS, PLAY_ABOUT, SCHEMES, SCRIPTS, SERVE_ABOUT, SHOW_ABOUT, STREAMS,
+    THREADS, THREADS_ABOUT, VERSION,
 };
 use crate::requested::Clients;
 use clap::error::ErrorKind;
@@ -29,6 +30,8 @@ pub enum Asked {
     Play(Play),
     /// `serve`: answer the lines of standard input as they come.
     Serve(Play),
+    /// `show`: answer them, and show after each where the timers stand.
+    Show(Play),
     /// `threads`: run clients in threads of their own.
     Threads(Clients),
 }
@@ -146,6 +149,7 @@ fn program<'a>(alloc: Global) -> Result<Command<'a>, AllocError> {
         .no_binary_name(true)
         .subcommand(playing_command(alloc, "play", PLAY_ABOUT, SCHEMES)?)?
         .subcommand(playing_command(alloc, "serve", SERVE_ABOUT, STREAMS)?)?
+        .subcommand(playing_command(alloc, "show", SHOW_ABOUT, PLACEMENTS)?)?
         .subcommand(threads_command(alloc)?)
 }
 
@@ -162,7 +166,7 @@ fn scheme_of(name: &str) -> Option<Scheme>
     }
 }
 
-/// What the options of `play` or `serve` ask for, where each has a value.
+/// What the options of `play`, `serve` or `show` ask for, where each has a value.
 fn play_of(options: &ArgMatches) -> Option<Play> {
     Some(Play {
         scheme: scheme_of(options.get_str("scheme")?)?,
@@ -187,6 +191,7 @@ fn parsed<S: AsStr>(alloc: Global, arguments: &[S]) -> Result<Asked, Error> {
     let asked = match matches.subcommand() {
         Some(("play", options)) => play_of(options).map(Asked::Play),
         Some(("serve", options)) => play_of(options).map(Asked::Serve),
+        Some(("show", options)) => play_of(options).map(Asked::Show),
         Some(("threads", options)) => clients_of(options).map(Asked::Threads),
         _ => None,
     };

@@ -12,6 +12,7 @@ use crate::output::write_text;
 use crate::reporting::report;
 use crate::schemes::play_by_scheme;
 use crate::server::serve_lines;
+use crate::show::show_stream;
 use crate::streams::Streams;
 use crate::watched::Watched;
 use clap::Error;
@@ -23,7 +24,7 @@ use std::thread::Threads;
 
 /// Runs the program on the arguments after its name, and returns its exit status.
 ///
-/// 0: the script was played, or the stream served to its end, or the clients ran to theirs, and the text
+/// 0: the script was played, or the stream served or shown to its end, or the clients ran to theirs, and the text
 /// was written, or help was asked for and written. 1: an error, reported in one line on `faults`. 2: the
 /// arguments are refused, for the reason that `faults` gets; nothing is read or written. An error in
 /// writing to `faults` is ignored. Neither the reader nor the writer may have failed before. Waits where
@@ -48,6 +49,7 @@ pub fn command<T: AllocGlobal + Threads, S: AsStr, R: Read, W: Write, F: Write>(
             faults,
         ),
         Ok(Asked::Serve(asked)) => serve_lines(alloc, asked, streams, faults),
+        Ok(Asked::Show(asked)) => show_stream(alloc, asked, streams, faults),
         Ok(Asked::Threads(asked)) => run_clients(rt, alloc, asked, &mut streams.writer, faults),
         Err(error) => end_unplayed(alloc, &error, &mut streams.writer, faults),
     }

@@ -12,6 +12,7 @@
 //!     runs      input, output, `running`, `answer` (the same in memory), `text`
 //!     streams   `session`, `peer`, `streams`, `serving`
 //!     command   `arguments` (what the user types), `asked`, `requested`, `schemes`, `command`, `server`, `clients`
+//!     show      `show`, `showing`, `placement` (where the timers stand)
 #![tactic(auto)]
 
 mod answer;
@@ -35,6 +36,7 @@ mod output;
 mod peer;
 #[cfg(test)]
 mod piece_tests;
+mod placement;
 mod reporting;
 mod requested;
 #[cfg(test)]
@@ -53,6 +55,10 @@ mod serving_tests;
 mod session;
 #[cfg(test)]
 mod session_tests;
+mod show;
+#[cfg(test)]
+mod show_tests;
+mod showing;
 mod stage;
 #[cfg(test)]
 mod stream_tests;
