@@ -260,10 +260,16 @@ fn each_line_is_answered_and_shown(rt: HostRuntime) {
 /// The text without its indented lines.
 fn without_placement(alloc: Global, text: &[u8]) -> Vec<u8> {
     let mut kept = Vec::new(alloc);
-    for line in text.split_inclusive(|byte| *byte == b'\n') {
-        if !line.starts_with(b" ") {
-            let _ = kept.extend_from_slice(line);
+    let mut begins = true;
+    let mut keeps = true;
+    for byte in text {
+        if begins {
+            keeps = *byte != b' ';
         }
+        if keeps {
+            let _ = kept.push(*byte);
+        }
+        begins = *byte == b'\n';
     }
     kept
 }
@@ -336,14 +342,7 @@ fn lines_before_a_bad_one_are_shown(rt: HostRuntime) {
         for size in [1, 7, 100] {
             let source = Source::of(script.as_bytes()).in_pieces(size);
             let ended = call(&rt, &["show"], source, Sink::new(alloc));
-            has_left(
-                &rt,
-                script,
-                &ended,
-                1,
-                text.as_bytes(),
-                fault.as_bytes(),
-            );
+            has_left(&rt, script, &ended, 1, text.as_bytes(), fault.as_bytes());
         }
     }
 }
@@ -370,14 +369,7 @@ fn a_reader_or_a_writer_that_fails_ends_it(rt: HostRuntime) {
     let shown = "started 0 1 1 5\n  now 0\n  wheel 0 slot 5: 1\n";
     let source = Source::of(script).failing_after(14, ErrorKind::Interrupted);
     let ended = call(&rt, &["show"], source, Sink::new(alloc));
-    has_left(
-        &rt,
-        "read",
-        &ended,
-        1,
-        shown.as_bytes(),
-        b"read failed\n",
-    );
+    has_left(&rt, "read", &ended, 1, shown.as_bytes(), b"read failed\n");
     let faults = [
         Fault::TakesNone,
         Fault::Fails(ErrorKind::Interrupted),

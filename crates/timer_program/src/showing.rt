@@ -7,6 +7,7 @@ ghost use Rattle.timer_program.specs.Session.{IsAnsweredSoFar};
 ghost use Rattle.timer_program.specs.Serving.{AreGood};
 ghost use Rattle.timer_program.specs.Showing.{IsOfLine, HasShown};
 
+use crate::cutting::line_len;
 use crate::fault::ServeFault;
 use crate::input::blank;
 use crate::peer::Peer;
@@ -19,7 +20,7 @@ use timer_facility::Facility;
 
 /// Plays a line, and appends its answer and what is shown after it. Of a line whose line feed has not come
 /// nothing is shown.
-fn play_line<W: Wheel + Placement + Drop>(
+fn answer_line<W: Wheel + Placement + Drop>(
     session: &mut Session<W>,
     line: &[u8],
     text: &mut Vec<u8>,
@@ -59,7 +60,7 @@ fn show_line<P: Peer, W: Wheel + Placement + Drop>(
     ensures fault { IfErr result (λ fault. HasShown (P.state peer.new) (Err fault)) }
 {
     text.clear();
-    let played = play_line(session, line, text);
+    let played = answer_line(session, line, text);
     match send(peer, text) {
         Ok(()) => played,
         Err(fault) => Err(fault),
@@ -79,8 +80,11 @@ fn show_lines<P: Peer, W: Wheel + Placement + Drop>(
     ensures answered { OnOk result (IsAnsweredSoFar session.new) }
     ensures fault { IfErr result (λ fault. HasShown (P.state peer.new) (Err fault)) }
 {
-    for line in bytes.split_inclusive(|byte| *byte == b'\n') {
+    let mut rest = bytes;
+    while !rest.is_empty() {
+        let (line, after) = rest.split_at(line_len(rest, rest.len()));
         show_line(session, peer, line, text)?;
+        rest = after;
     }
     Ok(())
 }
@@ -105,7 +109,7 @@ pub fn show<P: Peer, W: Wheel + Placement + Drop>(
     };
     let mut text = Vec::new(alloc);
     let mut session = Session::open(alloc, facility);
-    for _ in 0..u64::MAX {
+    for turned in 0..u64::MAX {
         let Ok(n) = peer.read(&mut piece) else {
             return Err(ServeFault::Read);
         };
