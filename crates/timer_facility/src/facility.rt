@@ -103,6 +103,15 @@ impl<W: Wheel + Drop> Facility<W> {
         self.wheel.now()
     }
 
+    /// The wheel that it stands on, which has the same clock and the same pending timers. Does not allocate.
+    pub fn wheel(&self) -> &W
+        ensures now { (W.state result.now).now ≡ self.now.state.now }
+        ensures pending { (W.state result.now).pending ≡ self.now.state.pending }
+        ensures last { (W.state result.now).last_tick ≡ self.now.state.last }
+    {
+        &self.wheel
+    }
+
     /// How many timers are pending. Those that wait to be handed out are not counted.
     pub fn pending(&self) -> usize
         ensures pending { result ≡ length self.now.state.pending }

@@ -17,7 +17,9 @@ pub record AreFew (asked : Clients) : Type 0 where
 pub record HasRunClients {S : Type 0} (asked : Clients) (contents : S → Option (List ℕ)) (writer writer' : Watched S) (status : ℕ) : Type 0 where
   pub in_range : status ≤ 2
   -- 0: the whole text was written
-  pub written : status ≡ 0 → AreFew asked × Appends (contents (inner_of writer)) (contents (inner_of writer')) (whole_text asked.clients asked.timers) × (has_failed writer' ≡ false)
+  pub written : status ≡ 0
+      → AreFew asked × Appends (contents (inner_of writer)) (contents (inner_of writer')) (whole_text asked.clients asked.timers)
+      × (has_failed writer' ≡ false)
   -- 1: the writer failed, or nothing was written
   pub failed : status ≡ 1 → AreFew asked × ((has_failed writer' ≡ true) ⊎ (writer' ≡ writer))
   -- 2: what was asked for is out of range, and nothing was written

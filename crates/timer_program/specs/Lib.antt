@@ -1,4 +1,6 @@
 pub mod Asked
+pub mod Arguments
 pub mod Schemes
 pub mod Clients
+pub mod Showing
 pub mod Command

@@ -3,18 +3,20 @@
 //!     timers                        the same as `timers play`
 //!     timers play [OPTIONS]         plays the script on standard input
 //!     timers serve [OPTIONS]        answers the lines of standard input as they come
+//!     timers show [OPTIONS]         does so, and shows after each line where the timers stand
 //!     timers threads [OPTIONS]      runs clients in threads of their own
 //!     timers help, timers --help    what the program is
 //!     timers --version              its name and version
 //!
 //! `clap` reads the arguments, writes the help, and says why arguments are refused.
-ghost use Rattle.std.specs.Prelude.{◌≡◌, IfSome};
+ghost use Rattle.std.specs.Prelude.{◌≡◌, IfSome, IfOk};
+ghost use Rattle.timer_program.specs.Arguments.{named, subcommand_of};
 ghost use Rattle.timer_program.specs.Asked.{name_of};
 
 use crate::asked::{Play, Scheme};
 use crate::help::{
-    ABOUT, NAME, PLAY_ABOUT, SCHEMES, SCRIPTS, SERVE_ABOUT, STREAMS, THREADS, THREADS_ABOUT,
-    VERSION,
+    ABOUT, NAME, PLACEMENTS, PLAY_ABOUT, SCHEMES, SCRIPTS, SERVE_ABOUT, SHOW_ABOUT, STREAMS,
+    THREADS, THREADS_ABOUT, VERSION,
 };
 use crate::requested::Clients;
 use clap::error::ErrorKind;
@@ -29,6 +31,8 @@ pub enum Asked {
     Play(Play),
     /// `serve`: answer the lines of standard input as they come.
     Serve(Play),
+    /// `show`: answer them, and show after each where the timers stand.
+    Show(Play),
     /// `threads`: run clients in threads of their own.
     Threads(Clients),
 }
@@ -146,6 +150,7 @@ fn program<'a>(alloc: Global) -> Result<Command<'a>, AllocError> {
         .no_binary_name(true)
         .subcommand(playing_command(alloc, "play", PLAY_ABOUT, SCHEMES)?)?
         .subcommand(playing_command(alloc, "serve", SERVE_ABOUT, STREAMS)?)?
+        .subcommand(playing_command(alloc, "show", SHOW_ABOUT, PLACEMENTS)?)?
         .subcommand(threads_command(alloc)?)
 }
 
@@ -162,7 +167,7 @@ fn scheme_of(name: &str) -> Option<Scheme>
     }
 }
 
-/// What the options of `play` or `serve` ask for, where each has a value.
+/// What the options of `play`, `serve` or `show` ask for, where each has a value.
 fn play_of(options: &ArgMatches) -> Option<Play> {
     Some(Play {
         scheme: scheme_of(options.get_str("scheme")?)?,
@@ -181,32 +186,44 @@ fn clients_of(options: &ArgMatches) -> Option<Clients> {
     })
 }
 
-/// What some arguments ask for.
-fn parsed<S: AsStr>(alloc: Global, arguments: &[S]) -> Result<Asked, Error> {
-    let matches = program(alloc)?.try_get_matches_from(arguments)?;
-    let asked = match matches.subcommand() {
-        Some(("play", options)) => play_of(options).map(Asked::Play),
-        Some(("serve", options)) => play_of(options).map(Asked::Serve),
-        Some(("threads", options)) => clients_of(options).map(Asked::Threads),
+/// What the options of the subcommand of this name ask for, where each has a value.
+fn asked_of(name: &str, options: &ArgMatches) -> Option<Asked>
+    ensures { IfSome result (λ asked. name.now ≡ subcommand_of asked) }
+{
+    match name {
+        "play" => Some(Asked::Play(play_of(options)?)),
+        "serve" => Some(Asked::Serve(play_of(options)?)),
+        "show" => Some(Asked::Show(play_of(options)?)),
+        "threads" => Some(Asked::Threads(clients_of(options)?)),
         _ => None,
-    };
-    match asked {
-        Some(asked) => Ok(asked),
-        // An option without a value is refused as any other mistake in the arguments.
-        None => Err(program(alloc)?.error(
-            ErrorKind::MissingSubcommand,
-            "a subcommand with a value for each of its options is required",
-        )?),
     }
+}
+
+/// What some arguments ask for, of which the first is this name.
+fn parsed<S: AsStr>(alloc: Global, name: &str, arguments: &[S]) -> Result<Asked, Error>
+    ensures { IfOk result (λ asked. name.now ≡ subcommand_of asked) }
+{
+    let matches = program(alloc)?.try_get_matches_from(arguments)?;
+    if let Some((_, options)) = matches.subcommand()
+        && let Some(asked) = asked_of(name, options)
+    {
+        return Ok(asked);
+    }
+    // An option without a value is refused as any other mistake in the arguments.
+    Err(program(alloc)?.error(
+        ErrorKind::MissingSubcommand,
+        "a subcommand with a value for each of its options is required",
+    )?)
 }
 
 /// What the arguments ask for. No arguments ask for `play`.
 ///
 /// An error is a request for help or for the version, a refusal, or out of memory.
-pub fn read_arguments<S: AsStr>(alloc: Global, arguments: &[S]) -> Result<Asked, Error> {
-    if arguments.is_empty() {
-        parsed(alloc, PLAY.as_slice())
-    } else {
-        parsed(alloc, arguments)
+pub fn read_arguments<S: AsStr>(alloc: Global, arguments: &[S]) -> Result<Asked, Error>
+    ensures { IfOk result (λ asked. named S.text arguments.now ≡ subcommand_of asked) }
+{
+    match arguments.first() {
+        Some(name) => parsed(alloc, name.as_str(), arguments),
+        None => parsed(alloc, "play", PLAY.as_slice()),
     }
 }

@@ -20,7 +20,7 @@ pub enum Scheme {
     Clock,
 }
 
-/// What `play` or `serve` is asked for.
+/// What `play`, `serve` or `show` is asked for.
 #[derive(Clone, Copy, Debug, PartialEq, Eq)]
 pub struct Play {
     pub scheme: Scheme,

@@ -2,6 +2,7 @@
 ghost use Rattle.std.specs.Prelude.{◌≡◌, ◌≢◌, ◌≤◌, ◌⊎◌, ℕ, List, false, true};
 ghost use Rattle.std.specs.Io.KnownBytes.{Appends};
 ghost use Rattle.clap.specs.Values.{kind_of};
+ghost use Rattle.timer_program.specs.Arguments.{named};
 ghost use Rattle.timer_program.specs.Command.{HasPlayed, HasEnded};
 ghost use Rattle.timer_script.specs.Watched.{inner_of, has_failed};
 
@@ -11,6 +12,7 @@ use crate::clients::run_clients;
 use crate::reporting::report;
 use crate::schemes::play_by_scheme;
 use crate::server::serve_lines;
+use crate::show::show_stream;
 use clap::Error;
 use clap::error::ErrorKind;
 use std::alloc::Global;
@@ -21,7 +23,7 @@ use timer_script::{RunFault, Streams, Watched, write_text};
 
 /// Runs the program on the arguments after its name, and returns its exit status.
 ///
-/// 0: the script was played, or the stream served to its end, or the clients ran to theirs, and the text
+/// 0: the script was played, or the stream served or shown to its end, or the clients ran to theirs, and the text
 /// was written, or help was asked for and written. 1: an error, reported in one line on `faults`. 2: the
 /// arguments are refused, for the reason that `faults` gets; nothing is read or written. An error in
 /// writing to `faults` is ignored. Neither the reader nor the writer may have failed before. Waits where
@@ -34,7 +36,8 @@ pub fn command<T: AllocGlobal + Threads, S: AsStr, R: Read, W: Write, F: Write>(
 ) -> u8
     requires reader_good { has_failed streams.old.reader ≡ false }
     requires writer_good { has_failed streams.old.writer ≡ false }
-    ensures { HasEnded R.remaining W.contents streams.old.reader streams.new.reader streams.old.writer streams.new.writer result }
+    ensures { HasEnded (named S.text arguments.now) R.remaining W.contents
+        streams.old.reader streams.new.reader streams.old.writer streams.new.writer result }
 {
     let alloc = rt.alloc();
     match read_arguments(alloc, arguments) {
@@ -46,6 +49,7 @@ pub fn command<T: AllocGlobal + Threads, S: AsStr, R: Read, W: Write, F: Write>(
             faults,
         ),
         Ok(Asked::Serve(asked)) => serve_lines(alloc, asked, streams, faults),
+        Ok(Asked::Show(asked)) => show_stream(alloc, asked, streams, faults),
         Ok(Asked::Threads(asked)) => run_clients(rt, alloc, asked, &mut streams.writer, faults),
         Err(error) => end_unplayed(alloc, &error, &mut streams.writer, faults),
     }

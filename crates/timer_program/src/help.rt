@@ -89,6 +89,37 @@ end and every line was answered, 1 after an error, which is reported in one line
 standard error (`bad line L`, `read failed`, `write failed` or `out of memory`), and 2
 if the arguments are refused. docs/formats.md says what may have been written then.";
 
+pub static SHOW_ABOUT: &str =
+    "Answers lines as `serve` does, and shows after each where the pending timers stand";
+
+/// What stands below the help of `show`.
+pub static PLACEMENTS: &str = "\
+A stream and its answers are those of `timers serve`. After the answers to each line stand
+indented lines: the tick, and one line for each bucket that has timers, with their serials
+from the front.
+
+For example:
+  $ printf 'start 0 1 130 7\\ntick 128\\ntick 2\\n' | timers show
+  started 0 1 1 130
+    now 0
+    wheel 1 slot 2: 1                  timer 1 is in wheel 1
+    now 128
+    wheel 0 slot 2: 1                  it moved to wheel 0
+  expired 130 0 1 7
+    now 130
+  end 130 0
+
+A bucket is shown as
+  plain   pending: 1:130 2:131         all timers by deadline, as serial:deadline
+  hashed  slot 2: 1:16 3:0             serial:rounds
+  hier    wheel 1 slot 2: 1 3
+  clock   minute 15: 1                 or second, hour, day
+Without the lines that begin with a space the output is that of `timers serve`:
+  timers show < script | grep -v '^ '
+
+Errors and exit statuses are those of `timers serve`. docs/walkthroughs.md follows timers
+from bucket to bucket.";
+
 pub static THREADS_ABOUT: &str =
     "Runs clients in threads of their own, beside one facility, and writes a line for each";
 

@@ -4,7 +4,8 @@
 //! What a script is, the text that answers it, and the run between are timer_script's. Here is the program
 //! around them: `arguments` (what the user types), `asked` and `requested` (the ranges of it), `schemes`
 //! (the wheel), and `command`, over arguments, input and outputs, up to the exit status, with `server` and
-//! `clients` for two of its subcommands. A module's words are in the file of its name in `specs/`.
+//! `clients` for two of its subcommands, and `show`, `showing` and `placement` for the one that draws where
+//! the timers stand. A module's words are in the file of its name in `specs/`.
 #![tactic(auto)]
 
 #[cfg(test)]
@@ -20,6 +21,7 @@ mod handle_tests;
 mod help;
 #[cfg(test)]
 mod piece_tests;
+mod placement;
 mod reporting;
 mod requested;
 #[cfg(test)]
@@ -30,6 +32,10 @@ mod script_tests;
 mod server;
 #[cfg(test)]
 mod server_tests;
+mod show;
+#[cfg(test)]
+mod show_tests;
+mod showing;
 #[cfg(test)]
 mod stream_tests;
 #[cfg(test)]

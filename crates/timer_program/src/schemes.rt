@@ -1,4 +1,4 @@
-//! Plays a script, or answers lines as they come, over the wheel of a scheme.
+//! Plays a script, answers lines as they come, or shows where their timers stand, over the wheel of a scheme.
 ghost use Rattle.std.specs.Prelude.{◌≡◌, ◌<◌, ◌≤◌, [], false, IfOk};
 ghost use Rattle.timer_base.specs.declared.limits.TheConstants.{LAST};
 ghost use Rattle.timer_base.specs.WheelState.{empty_wheel};
@@ -11,11 +11,14 @@ ghost use Rattle.timer_wheels.specs.Tables.{last_of_table};
 ghost use Rattle.timer_facility.specs.Opened.{opened};
 ghost use Rattle.timer_program.specs.Asked.{scheme_last, config_of, IsPlayable};
 ghost use Rattle.timer_program.specs.Schemes.{IsWheelOf};
+ghost use Rattle.timer_program.specs.Showing.{HasShown};
 ghost use Rattle.timer_script.specs.Running.{HasRun};
 ghost use Rattle.timer_script.specs.Serving.{AreGood, HasServed};
 ghost use Rattle.timer_script.specs.Watched.{has_failed};
 
 use crate::asked::{Play, Scheme};
+use crate::placement::Placement;
+use crate::showing::show;
 use std::alloc::Global;
 use std::io::{Read, Write};
 use timer_base::{MakeFault, OutOfMemory, PlainWheel, Wheel};
@@ -166,4 +169,46 @@ fn serve_on<P: Peer, W: Wheel + Drop>(
 {
     let facility = Facility::open(alloc, checked, wheel);
     serve(alloc, peer, facility)
+}
+
+/// Answers the peer's lines as they come and shows where the timers stand, over a new wheel of the scheme
+/// that is asked for, as `show` does.
+///
+/// Nothing is read before the wheel is made.
+pub fn show_by_scheme<P: Peer>(
+    alloc: Global,
+    asked: Play,
+    checked: Checked,
+    peer: &mut P,
+) -> Result<(), ServeFault>
+    requires playable { IsPlayable asked }
+    requires config { checked ≡ config_of asked }
+    requires good { AreGood (P.state peer.old) }
+    ensures { HasShown (P.state peer.new) result }
+{
+    match wheel_of(alloc, asked) {
+        Ok(SchemeWheel::Plain(wheel)) => show_on(alloc, wheel, checked, peer),
+        Ok(SchemeWheel::Hashed(wheel)) => show_on(alloc, wheel, checked, peer),
+        Ok(SchemeWheel::Hier(wheel)) => show_on(alloc, wheel, checked, peer),
+        Err(OutOfMemory) => Err(ServeFault::OutOfMemory),
+    }
+}
+
+/// Answers the peer's lines as they come and shows where the timers stand, over a new wheel, which stands
+/// at the first tick.
+fn show_on<P: Peer, W: Wheel + Placement + Drop>(
+    alloc: Global,
+    wheel: W,
+    checked: Checked,
+    peer: &mut P,
+) -> Result<(), ServeFault>
+    requires good { AreGood (P.state peer.old) }
+    requires pending { (W.state wheel).pending ≡ [] }
+    requires due { (W.state wheel).due ≡ [] }
+    requires now { (W.state wheel).now ≡ checked.first_tick }
+    requires serial { (W.state wheel).last_serial < checked.first_serial }
+    ensures { HasShown (P.state peer.new) result }
+{
+    let facility = Facility::open(alloc, checked, wheel);
+    show(alloc, peer, facility)
 }

@@ -26,7 +26,7 @@ pub enum Ending {
 
 /// How many bytes at the front belong to one line: all up to the first line feed, but not more than
 /// the room.
-fn line_len(bytes: &[u8], room: usize) -> usize
+pub fn line_len(bytes: &[u8], room: usize) -> usize
     requires some { 0 < length bytes.now }
     requires room { 0 < room }
     ensures some { 0 < result }

@@ -31,14 +31,15 @@ mod text;
 mod watched;
 
 pub use answer::answer_of;
+pub use cutting::line_len;
 pub use fault::{RunFault, ScriptFault, ServeFault, SessionFault};
-pub use input::MOST_BYTES;
+pub use input::{MOST_BYTES, blank};
 pub use lines::MOST_TICKS;
 pub use output::write_text;
 pub use peer::Peer;
 pub use running::run;
 pub use script::parse_script;
-pub use serving::{PIECE, serve};
+pub use serving::{PIECE, fault_of, finish, send, serve};
 pub use session::{FeedStop, Session};
 pub use stage::Stage;
 pub use streams::Streams;

@@ -20,7 +20,7 @@ pub const PIECE: usize = 65536;
 
 /// Writes the text and nothing else, and flushes. Fails where a write or the flush fails, or a write
 /// takes no byte.
-fn send<P: Peer>(peer: &mut P, text: &[u8]) -> Result<(), ServeFault>
+pub fn send<P: Peer>(peer: &mut P, text: &[u8]) -> Result<(), ServeFault>
     requires { (P.state peer.old).write_failed ≡ false }
     ensures ok { OnOk result (HasSent (P.state peer.old) text.now (P.state peer.new)) }
     ensures fault { IfErr result (λ fault. fault ≡ ServeFault.Write) }
@@ -43,7 +43,7 @@ fn send<P: Peer>(peer: &mut P, text: &[u8]) -> Result<(), ServeFault>
 }
 
 /// The fault of a session that was not ended before.
-fn fault_of(fault: SessionFault) -> ServeFault
+pub fn fault_of(fault: SessionFault) -> ServeFault
     requires { fault ≢ SessionFault.Ended }
     ensures { result ≡ serve_fault fault }
 {
@@ -86,7 +86,7 @@ fn turn<P: Peer, W: Wheel + Drop>(
 }
 
 /// Writes and flushes the end line, where no line is held in part.
-fn finish<P: Peer, W: Wheel + Drop>(
+pub fn finish<P: Peer, W: Wheel + Drop>(
     session: &mut Session<W>,
     peer: &mut P,
     line: &mut Vec<u8>,

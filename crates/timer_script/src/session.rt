@@ -81,6 +81,14 @@ impl<W: Wheel + Drop> Session<W> {
         self.stage
     }
 
+    /// The facility. Nothing waits in it. Does not allocate.
+    pub fn facility(&self) -> &Facility<W>
+        ensures state { result.now.state ≡ self.now.state }
+        ensures waiting { result.now.waiting ≡ [] }
+    {
+        self.player.facility()
+    }
+
     /// Plays each line that these bytes complete, and appends its answer to the text.
     ///
     /// `Bad` names the first bad line, counted from 1 over the whole session (2^64 - 1 for every later

@@ -1,0 +1,13 @@
+use Rattle.std.proofs.Common.{length}
+use Rattle.timer_script.specs.Session.{IsAnsweredSoFar}
+use Rattle.timer_script.specs.Serving.{AreGood}
+use Rattle.timer_program.proofs.showing.show_lines.Given as goal
+
+abbrev pub invariant-loop-rest : goal.invariant-loop-rest
+invariant-loop-rest g l = record {
+  good : AreGood (g.P.Peer.state l.peer);
+  answered : IsAnsweredSoFar l.session;
+}
+
+abbrev pub decreases-loop-rest : goal.decreases-loop-rest
+decreases-loop-rest g l = length l.rest
