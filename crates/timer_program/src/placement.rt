@@ -14,6 +14,16 @@ use timer_base::{OutOfMemory, PlainWheel, Wheel};
 use timer_links::Links;
 use timer_wheels::{HashedWheel, HierWheel, LAST_OF_CLOCK};
 
+/// The slots of each wheel of the hierarchy.
+const WHEEL_SLOTS: u64 = 64;
+
+/// The lists of the clock's slots come second by second, then minute by minute, and so on.
+const FIRST_MINUTE: u64 = 60;
+
+const FIRST_HOUR: u64 = 120;
+
+const FIRST_DAY: u64 = 144;
+
 /// A wheel that shows where its timers stand.
 pub trait Placement {
     /// Appends a line for each bucket that has a timer, in the order of the buckets. The only error is out
@@ -59,7 +69,7 @@ impl Placement for HierWheel {
 enum Naming {
     /// By their slots alone. Each timer is shown with its rounds.
     Slots,
-    /// By wheel and slot, of 64 slots a wheel.
+    /// By wheel and slot.
     Wheels,
     /// By the hands of the clock.
     Clock,
@@ -109,20 +119,23 @@ fn push_name(text: &mut Vec<u8>, list: u64, naming: Naming) -> Result<(), OutOfM
     match naming {
         Naming::Slots => push_number(text, b"  slot ", list),
         Naming::Wheels => {
-            push_number(text, b"  wheel ", list / 64)?;
-            push_number(text, b" slot ", list % 64)
+            push_number(text, b"  wheel ", list / WHEEL_SLOTS)?;
+            push_number(text, b" slot ", list % WHEEL_SLOTS)
         }
-        Naming::Clock => {
-            if list < 60 {
-                push_number(text, b"  second ", list)
-            } else if list < 120 {
-                push_number(text, b"  minute ", list - 60)
-            } else if list < 144 {
-                push_number(text, b"  hour ", list - 120)
-            } else {
-                push_number(text, b"  day ", list - 144)
-            }
-        }
+        Naming::Clock => push_hand(text, list),
+    }
+}
+
+/// Appends the hand of the clock, and its slot, whose bucket is this list.
+fn push_hand(text: &mut Vec<u8>, list: u64) -> Result<(), OutOfMemory> {
+    if list < FIRST_MINUTE {
+        push_number(text, b"  second ", list)
+    } else if list < FIRST_HOUR {
+        push_number(text, b"  minute ", list - FIRST_MINUTE)
+    } else if list < FIRST_DAY {
+        push_number(text, b"  hour ", list - FIRST_HOUR)
+    } else {
+        push_number(text, b"  day ", list - FIRST_DAY)
     }
 }
 
