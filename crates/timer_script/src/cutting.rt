@@ -2,7 +2,7 @@
 //!
 //! The bytes of a line whose line feed has not come yet are held. No line has more than `MOST_LINE`
 //! bytes, so what is held is bounded: that many bytes without a line feed are a bad line at once.
-ghost use Rattle.std.specs.Prelude.{◌≡◌, ◌<◌, ◌≤◌, ◌-◌, ℕ, length, take, IfOk, OnErr};
+ghost use Rattle.std.specs.Prelude.{◌≡◌, ◌<◌, ◌≤◌, ◌-◌, ℕ, length, take, slice_index, IfOk, OnErr};
 ghost use Rattle.timer_script.specs.Cutting.{HasNoFeed, IsPartial, EndsAsLine, HasHeld};
 
 use crate::lines::read_line;
@@ -33,6 +33,7 @@ pub fn line_len(bytes: &[u8], room: usize) -> usize
     ensures within { result ≤ length bytes.now }
     ensures room { result ≤ room }
     ensures no_feed { HasNoFeed (take (result - 1) bytes.now) }
+    ensures whole { result < length bytes.now → result < room → slice_index bytes.now (result - 1) ≡ 10 }
 {
     let most = bytes.len().min(room);
     for i in 0..most - 1 {
