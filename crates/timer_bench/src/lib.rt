@@ -1,8 +1,8 @@
 //! Replays a benchmark's trace of operations over a wheel, for a driver in C.
 //!
 //! The driver hands over a whole trace in one call, so that no call crosses a language border inside
-//! the measured loop. `bench/bench.h` says what an operation is, and what the eight sums are. It is
-//! no part of the program.
+//! the measured loop. `bench/bench.h` says what an operation is, and what the eight sums are. This
+//! crate is not part of the program.
 #![tactic(auto)]
 
 mod costs;

@@ -5,7 +5,7 @@
 //! memory. Its calls are single steps, or a `turn` of many, whose report says which requests were taken
 //! and which words each client gets. The layer above knows a desk by `specs/Desk.antt`, and a report by
 //! `specs/Report.antt`. Read `inlet` first, which is what every line does, then `desk` and `turn`. `ring`
-//! and `locked` are the lines between threads, `memory` is a line for one thread.
+//! and `locked` are the lines between threads, `memory` is a line within one thread.
 #![tactic(auto)]
 
 mod asking;

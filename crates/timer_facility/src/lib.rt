@@ -5,7 +5,7 @@
 //! `specs/Verdict.antt` (which events are accepted) and `specs/Step.antt` (the outs of an event and the
 //! state after it), then `facility`, which implements them, and `player`, which plays whole lists of
 //! events. What a history of requests and answers must have handed out is `owed`, in `specs/Owed.antt`;
-//! the lemma `notices_are_owed` in `laws` states that it was.
+//! the lemma `notices_are_owed` in `laws` states that it has.
 #![tactic(auto)]
 
 mod config;

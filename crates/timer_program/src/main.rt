@@ -1,11 +1,11 @@
 //! The program `timers`: it reads a script of starts, stops, restarts, ticks and closes, plays it on a timer
 //! facility, and writes one line per result; or it answers such lines as they come.
 //!
-//! What a script is, the text that answers it, and the run between are timer_script's. Here is the program
-//! around them: `arguments` (what the user types), `asked` and `requested` (the ranges of it), `schemes`
+//! What a script is, the text that answers it, and the run between are in timer_script. Here is the program
+//! around them: `arguments` (what the user types), `asked` and `requested` (its ranges), `schemes`
 //! (the wheel), and `command`, over arguments, input and outputs, up to the exit status, with `server` and
 //! `clients` for two of its subcommands, and `show`, `showing` and `placement` for the one that draws where
-//! the timers stand. A module's words are in the file of its name in `specs/`.
+//! the timers stand. A module's definitions are in the file of its name in `specs/`.
 #![tactic(auto)]
 
 #[cfg(test)]

@@ -6,7 +6,7 @@
 //! `script` and `text` first, with `specs/Script.antt` and `specs/Text.antt`: which bytes are a script,
 //! and which text answers it.
 //!
-//! A module's words are in the file of its name in `specs/`, and their lemmas in `proofs/`:
+//! A module's definitions are in the file of its name in `specs/`, and their lemmas in `proofs/`:
 //!
 //!     bytes     digits and lines (`lines`), scripts (`script`), a stream cut into lines (`cutting`)
 //!     runs      input, output, `running`, `answer` (the same in memory), `text`
