@@ -92,8 +92,10 @@ fn end_unplayed<W: Write, F: Write>(
     ensures in_range { result ≤ 2 }
     ensures out_of_memory { kind_of error.now ≡ ErrorKind.OutOfMemory → result ≡ 1 }
     ensures help { ((kind_of error.now ≡ ErrorKind.DisplayHelp) ⊎ (kind_of error.now ≡ ErrorKind.DisplayVersion)) → result ≤ 1 }
-    ensures refused { kind_of error.now ≢ ErrorKind.OutOfMemory → kind_of error.now ≢ ErrorKind.DisplayHelp → kind_of error.now ≢ ErrorKind.DisplayVersion → result ≡ 2 }
-    ensures written { result ≡ 0 → ((text : List ℕ) × Appends (W.contents (inner_of writer.old)) (W.contents (inner_of writer.new)) text) × (has_failed writer.new ≡ false) }
+    ensures refused { kind_of error.now ≢ ErrorKind.OutOfMemory → kind_of error.now ≢ ErrorKind.DisplayHelp
+        → kind_of error.now ≢ ErrorKind.DisplayVersion → result ≡ 2 }
+    ensures written { result ≡ 0 → ((text : List ℕ) × Appends (W.contents (inner_of writer.old)) (W.contents (inner_of writer.new)) text)
+        × (has_failed writer.new ≡ false) }
     ensures failed { result ≡ 1 → (has_failed writer.new ≡ true) ⊎ (writer.new ≡ writer.old) }
     ensures unwritten { result ≡ 2 → writer.new ≡ writer.old }
 {

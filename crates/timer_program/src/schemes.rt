@@ -74,9 +74,12 @@ fn plain_wheel(alloc: Global, first_tick: u64) -> PlainWheel
 fn wheel_of(alloc: Global, asked: Play) -> Result<SchemeWheel, OutOfMemory>
     requires { IsPlayable asked }
     ensures scheme { IfOk result (λ wheel. IsWheelOf asked wheel) }
-    ensures plain { (wheel : PlainWheel) → result ≡ Ok (SchemeWheel.Plain wheel) → ⟦<PlainWheel as Wheel>⟧.state wheel ≡ empty_wheel (scheme_last asked.scheme) asked.first_tick }
-    ensures hashed { (wheel : HashedWheel) → result ≡ Ok (SchemeWheel.Hashed wheel) → ⟦<HashedWheel as Wheel>⟧.state wheel ≡ empty_wheel (scheme_last asked.scheme) asked.first_tick }
-    ensures hier { (wheel : HierWheel) → result ≡ Ok (SchemeWheel.Hier wheel) → ⟦<HierWheel as Wheel>⟧.state wheel ≡ empty_wheel (scheme_last asked.scheme) asked.first_tick }
+    ensures plain { (wheel : PlainWheel) → result ≡ Ok (SchemeWheel.Plain wheel)
+        → ⟦<PlainWheel as Wheel>⟧.state wheel ≡ empty_wheel (scheme_last asked.scheme) asked.first_tick }
+    ensures hashed { (wheel : HashedWheel) → result ≡ Ok (SchemeWheel.Hashed wheel)
+        → ⟦<HashedWheel as Wheel>⟧.state wheel ≡ empty_wheel (scheme_last asked.scheme) asked.first_tick }
+    ensures hier { (wheel : HierWheel) → result ≡ Ok (SchemeWheel.Hier wheel)
+        → ⟦<HierWheel as Wheel>⟧.state wheel ≡ empty_wheel (scheme_last asked.scheme) asked.first_tick }
 {
     let first_tick = asked.first_tick;
     let wheel = match asked.scheme {
