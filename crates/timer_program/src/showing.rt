@@ -1,7 +1,7 @@
 //! A session with a peer that is shown, after each line, where the pending timers stand.
 //!
-//! A line has the answer that `serve` gives it. Behind the answer stand the clock and the placement, which
-//! `placement` draws; both are written and flushed before the next line is played.
+//! A line has the answer that `serve` gives it. After the answer come the clock and the placement, which
+//! `placement` draws; all of it is written and flushed before the next line is played.
 ghost use Rattle.std.specs.Prelude.{◌≡◌, [], Err, IfErr, OnOk};
 ghost use Rattle.timer_script.specs.Session.{IsAnsweredSoFar};
 ghost use Rattle.timer_script.specs.Serving.{AreGood};
