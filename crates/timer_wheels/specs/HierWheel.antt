@@ -1,5 +1,5 @@
 -- The names in the public clauses of `HierWheel`.
-use Rattle.std.specs.Prelude.{◌≡◌, ◌⊎◌, ℕ, ◌+◌, ◌<◌, ◌≤◌}
+use Rattle.std.specs.Prelude.{◌≡◌, ◌⊎◌, ℕ, ◌+◌, ◌-◌, ◌<◌, ◌≤◌}
 use Rattle.timer_base.specs.declared.fault.MakeFault.{MakeFault}
 use Rattle.timer_base.specs.declared.fault.MakeFault.TheVariants.{FirstTick, OutOfMemory}
 use Rattle.timer_base.specs.WheelState.{WheelState}
@@ -32,17 +32,18 @@ pub record WheelCounts : Type 0 where
   -- buckets that were visited, counting those that were known to be empty
   pub visits : ℕ
 
+-- each tick since it was made visited a bucket, except for those that it skipped
+abbrev pub visits_of : HierWheel → ℕ
+visits_of wheel = wheel.buckets.tick - wheel.counts.skipped
+
 abbrev pub counts_of : HierWheel → WheelCounts
-counts_of wheel = record { starts = wheel.counts.starts; moves = wheel.counts.moves; visits = wheel.counts.visits }
+counts_of wheel = record { starts = wheel.counts.starts; moves = wheel.counts.moves; visits = visits_of wheel }
 
 abbrev pub starts_of : HierWheel → ℕ
 starts_of wheel = wheel.counts.starts
 
 abbrev pub moves_of : HierWheel → ℕ
 moves_of wheel = wheel.counts.moves
-
-abbrev pub visits_of : HierWheel → ℕ
-visits_of wheel = wheel.counts.visits
 
 -- the counts after one more start or restart
 abbrev pub with_start : WheelCounts → WheelCounts

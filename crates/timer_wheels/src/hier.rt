@@ -76,8 +76,9 @@ struct Counts {
     starts: u64,
     /// Timers that were put into a lower wheel.
     moves: u64,
-    /// Buckets that were emptied. Those known to be empty are counted without a look.
-    visits: u64,
+    /// Ticks up to now that visited no bucket: those before the wheel was made, and those that `advance`
+    /// skipped. A single tick visits one, so it has no visit to count.
+    skipped: u64,
 }
 
 impl Counts {
@@ -111,7 +112,7 @@ pub struct HierWheel {
     ghost placed: { ArePlaced table buckets } by { ArePlaced-prop table buckets },
     ghost marked: { AreMarked buckets.slots occupied buckets.links } by { AreMarked-prop buckets.slots occupied buckets.links },
     ghost few_starts: { counts.starts ≤ buckets.last_serial },
-    ghost few_visits: { counts.visits ≤ buckets.tick },
+    ghost few_skipped: { counts.skipped ≤ buckets.tick },
     // A start allows nine moves and each move lowers a level, so what is left to move is counted too.
     ghost paid: { IsPaid (radices table) counts.starts counts.moves buckets.tick (state_of buckets).pending },
 }
@@ -153,7 +154,7 @@ impl HierWheel {
         let counts = Counts {
             starts: 0,
             moves: 0,
-            visits: 0,
+            skipped: first_tick,
         };
         Ok(HierWheel {
             table,
@@ -198,7 +199,7 @@ impl HierWheel {
     pub fn visits(&self) -> u64
         ensures { result ≡ visits_of self.now }
     {
-        self.counts.visits
+        self.buckets.tick - self.counts.skipped
     }
 }
 
@@ -295,7 +296,6 @@ impl Wheel for HierWheel {
         let moves = next_tick(self.table, &mut self.buckets, &mut self.occupied);
         let counts = &mut self.counts;
         counts.add_moves(moves);
-        counts.visits += 1;
     }
 
     fn advance(&mut self, most: u64) -> u64
@@ -309,11 +309,12 @@ impl Wheel for HierWheel {
         let first = self.buckets.tick;
         let moves = advance_until_due(self.table, &mut self.buckets, &mut self.occupied, most);
         let last = self.buckets.tick;
+        let passed = last - first;
         let visits = visits_between(self.table, first, last, self.buckets.has_due());
         let counts = &mut self.counts;
         counts.moves += moves;
-        counts.visits += visits;
-        last - first
+        counts.skipped += passed - visits;
+        passed
     }
 
     /// The next tick at which a bucket with a timer is emptied: a timer is due then, or moves to a lower wheel.

@@ -20,6 +20,9 @@ invariant_of-self-clause-few_starts c =
 pub invariant_of-self-clause-paid : goal.invariant_of-self-clause-paid
 invariant_of-self-clause-paid c = leapt_paid (radices c.args.self.now.table) c.args.self.now.counts.starts c.args.self.now.counts.moves c.advance_until_due-moves.result (state_of c.args.self.now.buckets) (state_of c.advance_until_due-moves.new.buckets) c.advance_until_due-moves.ensures.leaps c.args.self.now.paid
 
+visits_add : (first last skipped visits : ℕ) → skipped ≤ first → 0 < last - first → visits ≤ last - first → last - (skipped + (last - first - visits)) ≡ first - skipped + visits
+visits_add first last skipped visits s l v = omega arith
+
 abbrev counts : ℕ → ℕ → ℕ → WheelCounts
 counts s m v = record { starts = s; moves = m; visits = v }
 
@@ -31,8 +34,10 @@ returns-clause-counted c =
     let m = leapt_moves (radices c.args.self.now.table) c.advance_until_due-moves.result (state_of b) (state_of n) c.advance_until_due-moves.ensures.leaps in
     let d = any_of (state_of n).due c.has_due.result c.has_due.ensures in
     let v = c.visits_between-visits.ensures.value ∙ ap (visited_between (lowest_radix (radices c.args.self.now.table)) b.tick n.tick) d in
-    ap (λ (x : ℕ). counts k.starts (k.moves + x) (k.visits + c.visits_between-visits.result)) m
-    ∙ ap (λ (x : ℕ). counts k.starts (k.moves + hops_of (radices c.args.self.now.table) b.tick (n.tick - b.tick) (state_of b).pending) (k.visits + x)) v
+    let w = visits_add b.tick n.tick k.skipped c.visits_between-visits.result c.args.self.now.few_skipped c.advance_until_due-moves.ensures.advances.some c.visits_between-visits.ensures.few in
+    ap (counts k.starts (k.moves + c.advance_until_due-moves.result)) w
+    ∙ ap (λ (x : ℕ). counts k.starts (k.moves + x) (b.tick - k.skipped + c.visits_between-visits.result)) m
+    ∙ ap (λ (x : ℕ). counts k.starts (k.moves + hops_of (radices c.args.self.now.table) b.tick (n.tick - b.tick) (state_of b).pending) (b.tick - k.skipped + x)) v
 
 least : (moves levels n : ℕ) → moves + levels ≤ n → levels ≤ n
 least moves levels n h = omega arith
