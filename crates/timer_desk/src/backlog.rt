@@ -1,4 +1,6 @@
 //! The backlog of one client at the desk: its outbox, and a request that ran out of memory.
+ghost use Rattle.std.specs.Prelude.{◌≡◌, ◌<◌, ◌≤◌, ◌⊎◌, ◌++◌, take, length, true};
+
 use crate::asking::ask;
 use crate::inlet::{Inlet, Put, Taken};
 use crate::report::{Done, Served};
@@ -26,11 +28,12 @@ impl Model for Backlog {
 }
 
 impl Backlog {
-    ghost use Rattle.std.specs.Prelude.{◌≡◌, ◌+◌, ◌<◌, ◌≤◌, [], ◌∷◌, ◌++◌, length, Some, None, IfOk, ℕ, true};
+    ghost use Rattle.std.specs.Prelude.{◌≡◌, ◌+◌, ◌<◌, ◌≤◌, ◌⊎◌, [], ◌∷◌, ◌++◌, length, Some, None, IfOk, ℕ, true};
     ghost use Rattle.timer_desk.specs.Backlog.{empty_backlog, with_word};
     ghost use Rattle.timer_facility.specs.State.{pending_of};
     ghost use Rattle.timer_facility.specs.HandedOver.{AddsAtMostOne};
     ghost use Rattle.timer_desk.specs.Asking.{RanOutOfMemory};
+    ghost use Rattle.timer_desk.specs.Inlet.{taken_of};
     ghost use Rattle.timer_desk.specs.Report.{held_list, side_of, HeldIsLast, left_of, Tells, Runs};
     ghost use Rattle.timer_desk.specs.Right.{IsRightServe};
     ghost use Rattle.timer_desk.specs.declared.word.Numbered.{Numbered};
@@ -81,28 +84,21 @@ impl Backlog {
         let _ = self.outbox.try_push_back(word);
     }
 
-    /// Returns the held request, or takes the next one of the line and holds it.
-    pub fn fetch<I: Inlet>(&mut self, inlet: &mut I) -> Taken
+    /// Returns the held request, or takes the next one of the line.
+    fn fetch<I: Inlet>(&self, inlet: &mut I) -> Taken
         ensures line { I.same_line inlet.old inlet.new }
-        ensures others { self.new ≡ record self.old { held = self.new.held } }
-        ensures held { (n : Numbered) → result ≡ Taken.Got n → self.new.held ≡ Some n }
-        ensures was_held { (n : Numbered) → self.old.held ≡ Some n → (self.new.held ≡ Some n) × (I.got inlet.new ≡ I.got inlet.old) }
-        ensures was_not_held { self.old.held ≡ None → I.got inlet.new ≡ I.got inlet.old ++ held_list self.new.held }
-        ensures idle { result ≡ Taken.Empty → (self.new ≡ self.old) × (self.old.held ≡ None)
-            × (I.got inlet.new ≡ I.got inlet.old) × (I.standing inlet.old ≡ []) }
-        ensures memory { result ≡ Taken.NoMemory → (self.new.held ≡ None) × (I.take_may_refuse ≡ true) }
+        ensures held { (n : Numbered) → self.now.held ≡ Some n → (result ≡ Taken.Got n) × (inlet.new ≡ inlet.old) }
+        ensures got { self.now.held ≡ None → I.got inlet.new ≡ I.got inlet.old ++ taken_of result }
+        ensures idle { result ≡ Taken.Empty → (self.now.held ≡ None) × (I.got inlet.new ≡ I.got inlet.old) × (I.standing inlet.old ≡ []) }
+        ensures memory { result ≡ Taken.NoMemory → (self.now.held ≡ None) × (I.take_may_refuse ≡ true) }
         ensures given { I.given inlet.new ≡ I.given inlet.old }
-        ensures left { length (held_list self.old.held) + length (I.standing inlet.old)
-            ≤ length (held_list self.new.held) + length (I.standing inlet.new) }
+        ensures left { length (held_list self.now.held) + length (I.standing inlet.old)
+            ≤ length (taken_of result) + length (I.standing inlet.new) }
     {
-        if let Some(numbered) = self.held {
-            return Taken::Got(numbered);
+        match self.held {
+            Some(numbered) => Taken::Got(numbered),
+            None => inlet.take(),
         }
-        let taken = inlet.take();
-        if let Taken::Got(numbered) = taken {
-            self.held = Some(numbered);
-        }
-        taken
     }
 
     /// Moves words into the line until none is left or the line does not take one, and returns how many.
@@ -113,17 +109,16 @@ impl Backlog {
         ensures words { I.given inlet.new ++ self.new.outbox ≡ I.given inlet.old ++ self.old.outbox }
         ensures fewer { length self.new.outbox ≤ length self.old.outbox }
         ensures count { length (I.given inlet.new) ≡ length (I.given inlet.old) + result }
+        ensures stopped { (self.new.outbox ≡ []) ⊎ (I.is_full inlet.new ⊎ (I.put_may_refuse ≡ true)) }
     {
-        let mut count = 0usize;
-        for _ in 0..self.outbox.len() {
-            let Some(&word) = self.outbox.front() else {
-                break;
-            };
-            if !matches!(inlet.put(word), Put::Done) {
-                break;
-            }
-            self.outbox.pop_front();
-            count += 1;
+        let count = put_words(&self.outbox, inlet);
+        let left = self.outbox.len() - count;
+        if left == 0 {
+            // Unlike a pop, this leaves the front where it is: an outbox that is emptied each time stays in
+            // the cache.
+            self.outbox.clear();
+        } else {
+            self.outbox.truncate_front(left);
         }
         count
     }
@@ -163,11 +158,48 @@ impl Backlog {
             Taken::Got(numbered) => numbered,
         };
         match ask(facility, client as u64, numbered) {
-            None => Served::NoMemory,
+            None => {
+                self.held = Some(numbered);
+                Served::NoMemory
+            }
             Some(word) => {
                 self.answer(word);
                 Served::Did { numbered, word }
             }
         }
     }
+}
+
+/// Puts the words of an outbox into the line until it does not take one, and returns how many it took.
+fn put_words<I: Inlet>(outbox: &HeapCircularBuffer<Word>, inlet: &mut I) -> usize
+    ensures line { I.same_line inlet.old inlet.new }
+    ensures got { (I.got inlet.new ≡ I.got inlet.old) × (I.standing inlet.new ≡ I.standing inlet.old) }
+    ensures given { I.given inlet.new ≡ I.given inlet.old ++ take result outbox.now.items }
+    ensures count { result ≤ length outbox.now.items }
+    ensures stopped { result < length outbox.now.items → I.is_full inlet.new ⊎ (I.put_may_refuse ≡ true) }
+{
+    let (first, rest) = outbox.as_slices();
+    let count = put_run(first, inlet);
+    if count < first.len() {
+        return count;
+    }
+    count + put_run(rest, inlet)
+}
+
+/// `put_words` for words that stand in one piece.
+fn put_run<I: Inlet>(words: &[Word], inlet: &mut I) -> usize
+    ensures line { I.same_line inlet.old inlet.new }
+    ensures got { (I.got inlet.new ≡ I.got inlet.old) × (I.standing inlet.new ≡ I.standing inlet.old) }
+    ensures given { I.given inlet.new ≡ I.given inlet.old ++ take result words.now }
+    ensures count { result ≤ length words.now }
+    ensures stopped { result < length words.now → I.is_full inlet.new ⊎ (I.put_may_refuse ≡ true) }
+{
+    let mut count = 0;
+    for word in words {
+        if !matches!(inlet.put(*word), Put::Done) {
+            return count;
+        }
+        count += 1;
+    }
+    count
 }

@@ -1,5 +1,5 @@
 //! The owner's desk: one facility, and for each client its line and its backlog.
-ghost use Rattle.std.specs.Prelude.{◌≡◌, ◌<◌, ◌≤◌, ◌+◌, ◌++◌, [], ◌∷◌, length, map, IfOk, IfErr, OnErr, replicate, vec_len, vec_capacity, ℕ};
+ghost use Rattle.std.specs.Prelude.{◌≡◌, ◌<◌, ◌≤◌, ◌+◌, ◌⊎◌, ◌++◌, [], ◌∷◌, length, get_or, true, map, IfOk, IfErr, OnErr, replicate, vec_len, vec_capacity, ℕ};
 ghost use Rattle.timer_facility.specs.State.{FacilityState, IsSound};
 ghost use Rattle.timer_facility.specs.Facility.{with_nothing_waiting};
 ghost use Rattle.timer_desk.specs.Asking.{RanOutOfMemory};
@@ -102,6 +102,8 @@ impl<W: Wheel + Drop, I: Inlet + Drop> Desk<W, I> {
         requires { c < clients_of self.old }
         ensures told { Told I.got I.standing I.given I.same_line I.take_may_refuse (Done.Flushed c result ∷ []) self.old self.new }
         ensures facility { self.new.facility ≡ self.old.facility }
+        ensures stopped { (i : I) → ((backlog_at self.new c).outbox ≡ [])
+            ⊎ (I.is_full (get_or self.new.inlets c i) ⊎ (I.put_may_refuse ≡ true)) }
     {
         self.backlogs[c].flush(&mut self.inlets[c])
     }

@@ -3,6 +3,7 @@
 //!     got          the requests taken from the line, in order
 //!     standing     the requests that are known to stand in it, in order
 //!     given        the words put into it, in order
+//!     is_full      no room for another word is known
 //!     same_line    a later state of the same line
 ghost use Rattle.std.specs.Prelude.{◌≡◌, List, [], ◌++◌, Bool, true};
 ghost use Rattle.timer_desk.specs.Inlet.{taken_of, put_of, HandsBack};
@@ -44,6 +45,9 @@ pub trait Inlet {
     /// The words put.
     ghost given: { Self → List Word };
 
+    /// The owner knows of no room for another word.
+    ghost is_full: { Self → Type 0 };
+
     /// `same_line a b`: the state b is of the line of a, at the same moment or later.
     ghost same_line: { Self → Self → Type 0 };
 
@@ -68,6 +72,7 @@ pub trait Inlet {
         ensures line { same_line self.old self.new }
         ensures given { given self.new ≡ given self.old ++ put_of result word }
         ensures back { HandsBack put_may_refuse result word }
+        ensures full { result ≡ Put.Full word → is_full self.new }
         ensures got { got self.new ≡ got self.old }
         ensures standing { standing self.new ≡ standing self.old };
 

@@ -71,6 +71,9 @@ impl<R: Wait> Inlet for LockedInlet<R> {
 
     ghost given = { given_by_locked };
 
+    // The client may have made room as soon as the lock is free.
+    ghost is_full = { λ _. Unit {0} };
+
     ghost same_line = { SameLockedLine };
 
     ghost take_may_refuse = { true };

@@ -54,6 +54,8 @@ impl Inlet for MemoryInlet {
 
     ghost given = { given_of };
 
+    ghost is_full = { λ inlet. room_of inlet ≤ length (given_of inlet) };
+
     ghost same_line = { SameMemoryLine };
 
     ghost take_may_refuse = { false };
@@ -78,7 +80,8 @@ impl Inlet for MemoryInlet {
         ensures line { SameMemoryLine self.old self.new }
         ensures given { given_of self.new ≡ given_of self.old ++ put_of result word }
         ensures back { HandsBack true result word }
-        ensures full { result ≡ Put.Full word ↔ (room_of self.old ≤ length (given_of self.old)) }
+        ensures full { result ≡ Put.Full word → room_of self.new ≤ length (given_of self.new) }
+        ensures only_full { result ≡ Put.Full word ↔ (room_of self.old ≤ length (given_of self.old)) }
         ensures got { got_of self.new ≡ got_of self.old }
         ensures standing { standing_of self.new ≡ standing_of self.old }
     {

@@ -146,6 +146,8 @@ impl Inlet for RingInlet {
 
     ghost given = { given_of };
 
+    ghost is_full = { λ inlet. free_of_inlet inlet ≡ 0 };
+
     ghost same_line = { SameRingLine };
 
     ghost take_may_refuse = { false };
@@ -187,11 +189,11 @@ impl Inlet for RingInlet {
         ensures line { SameRingLine self.old self.new }
         ensures given { given_of self.new ≡ given_of self.old ++ put_of result word }
         ensures back { HandsBack false result word }
+        ensures full { result ≡ Put.Full word → free_of_inlet self.new ≡ 0 }
         ensures got { got_of self.new ≡ got_of self.old }
         ensures standing { standing_of self.new ≡ standing_of self.old }
 
-        // `Full` only where the end knows of no free slot; with one known to be free the word is put.
-        ensures full { result ≡ Put.Full word → free_of_inlet self.new ≡ 0 }
+        // With a slot known to be free the word is put.
         ensures succeeds { 0 < free_of_inlet self.old → result ≡ Put.Done }
         ensures free { result ≡ Put.Done → free_of_inlet self.old ≤ free_of_inlet self.new + 1 }
         ensures settled { is_settled self.new ≡ is_settled self.old }
