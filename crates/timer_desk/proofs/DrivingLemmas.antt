@@ -1,13 +1,16 @@
 -- A drive is one report.
-use Rattle.std.proofs.Common.{◌≡◌, ◌<◌, ◌≤◌, ◌+◌, ◌*◌, ◌++◌, ℕ, Bool, false, List, [], ◌∷◌, length, get_or, sym, subst, ◌∙◌, ap, arith, length-append}
-use Rattle.std.specs.Prelude.{All, replicate}
+use Rattle.std.proofs.Common.{◌≡◌, ◌≢◌, ◌<◌, ◌≤◌, ◌+◌, ◌*◌, ◌++◌, ℕ, zero, suc, Bool, false, List, [], ◌∷◌, length, get_or, refl, sym, subst, ◌∙◌, ap, arith, inl, inr, ⊎_elim, length-append}
+use Rattle.std.specs.Prelude.{min, All, replicate}
+use Rattle.std.proofs.lemmas.Bool.{cases_lt}
 use Rattle.std.proofs.lemmas.Grind.{flat_map-append}
 use Rattle.std.proofs.lemmas.List.{get_or-replicate, length-replicate}
 use Rattle.std.proofs.lemmas.List.Elements.{All-append}
 use Rattle.timer_desk.specs.declared.progress.Progress.{Progress}
 use Rattle.timer_desk.specs.declared.word.Numbered.{Numbered}
 use Rattle.timer_desk.specs.declared.word.Word.{Word}
+use Rattle.timer_desk.specs.declared.report.Served.TheVariants.{NoMemory}
 use Rattle.timer_desk.specs.declared.report.Done.{Done}
+use Rattle.timer_desk.specs.declared.report.Done.TheVariants as Dones
 use Rattle.timer_desk.specs.declared.report.Step.{Step}
 use Rattle.timer_desk.specs.declared.report.Step.TheVariants as Steps
 use Rattle.timer_desk.specs.declared.driving.DriveEnd.{DriveEnd}
@@ -15,7 +18,7 @@ use Rattle.timer_desk.specs.declared.driving.DriveEnd.TheVariants as DriveEnds
 use Rattle.timer_desk.specs.Backlog.{BacklogState}
 use Rattle.timer_desk.specs.Report.{HeldIsLast, asked, asked_in, flushed}
 use Rattle.timer_desk.specs.Desk.{DeskState, clients_of, side_at, steps_of, step_in, AreBehind, Told, InRange}
-use Rattle.timer_desk.specs.Driving.{IsFit, IsDone, HasCounted, Turns, Drives}
+use Rattle.timer_desk.specs.Driving.{left_for, all_left, IsFit, IsDone, IsShort, HasCounted, NoneRanOut, Turns, Drives}
 use Rattle.timer_desk.proofs.ReportJoining.{Told-joined, Told-nothing, AreBehind-joined, IsLaw, AreOwed-in_time}
 
 flushed_joined : (c : ℕ) (r q : List Done) → flushed c (r ++ q) ≡ flushed c r + flushed c q
@@ -31,38 +34,64 @@ fit_in_range n (Steps.Flush c) h = h
 pub All-in_range : (n : ℕ) (steps : List Step) → All (IsFit n) steps → All (InRange n) steps
 All-in_range n steps h = λ k d l. fit_in_range n (get_or steps k d) (h k d l)
 
+-- a client for which something is left to do
+record OneLeft (goal : ℕ) (ps : List Progress) (p : Progress) : Type 0 where
+  client : ℕ
+  among : client < length ps
+  left : 0 < left_for goal (get_or ps client p)
+
+one_left : (goal : ℕ) (ps : List Progress) (d : Progress) → 0 < all_left goal ps → OneLeft goal ps d
+one_left goal [] d h = absurd (omega arith)
+one_left goal (p ∷ ps) d h = ⊎_elim
+    (λ a. record { client = 0; among = omega arith; left = a })
+    (λ a. let k = one_left goal ps d (omega arith) in let l = k.among in record { client = suc k.client; among = omega arith; left = k.left })
+    (cases_lt 0 (left_for goal p))
+
+nothing_left : (goal : ℕ) (ps : List Progress) → all_left goal ps ≡ 0 → (c : ℕ) (d : Progress) → c < length ps → IsDone goal (get_or ps c d)
+nothing_left goal [] h c d l = absurd (omega arith)
+nothing_left goal (p ∷ ps) h zero d l = record { served = omega arith; flushed = omega arith }
+nothing_left goal (p ∷ ps) h (suc c) d l = nothing_left goal ps (omega arith) c d (omega arith)
+
+pub some_left : (goal : ℕ) (ps : List Progress) → ¬ ((c : ℕ) (d : Progress) → c < length ps → IsDone goal (get_or ps c d)) → 0 < all_left goal ps
+some_left goal ps h = ⊎_elim (λ a. a) (λ a. absurd (h (nothing_left goal ps (omega arith)))) (cases_lt 0 (all_left goal ps))
+
 module _ {I : Type 0} (got standing : I → List Numbered) (given : I → List Word) (same : I → I → Type 0) (refuses : Bool) where
-  pub Turns-nothing : ((a : I) → same a a) → (x : DeskState I) (ps : List Progress)
-      → ((c : ℕ) (i : I) (b : BacklogState) → c < clients_of x → HeldIsLast (side_at got standing given x c i b)) → Turns got standing given same refuses x x ps ps
-  Turns-nothing reflexive x ps held = record {
+  pub Turns-nothing : ((a : I) → same a a) → (goal : ℕ) (refused : Bool) (x : DeskState I) (ps : List Progress)
+      → ((c : ℕ) (i : I) (b : BacklogState) → c < clients_of x → HeldIsLast (side_at got standing given x c i b)) → Turns got standing given same refuses goal refused x x ps ps
+  Turns-nothing reflexive goal refused x ps held = record {
     report = [];
     told = Told-nothing got standing given same refuses reflexive x held;
     fit = λ k d l. absurd (omega arith);
     behind = tt;
+    memory = λ e k d l. absurd (omega arith);
     counted = λ c p l. record { served = omega arith; flushed = omega arith };
   }
 
-  pub Turns-one : (x y : DeskState I) (ps qs : List Progress) (report : List Done) (steps : List Step) (n : ℕ) → n ≡ clients_of x → Told got standing given same refuses report x y
+  pub Turns-one : (goal : ℕ) (refused : Bool) (x y : DeskState I) (ps qs : List Progress) (report : List Done) (steps : List Step) (n : ℕ) → n ≡ clients_of x → Told got standing given same refuses report x y
       → steps_of report ≡ steps → All (IsFit n) steps → AreBehind false report
-      → ((c : ℕ) (p : Progress) → c < length ps → HasCounted (length (asked c report)) (flushed c report) (get_or ps c p) (get_or qs c p))
-      → Turns got standing given same refuses x y ps qs
-  Turns-one x y ps qs report steps n e told is fit behind counted = record {
+      → (refused ≡ false → NoneRanOut report)
+      → ((c : ℕ) (p : Progress) → c < length ps → HasCounted goal (length (asked c report)) (flushed c report) (get_or ps c p) (get_or qs c p))
+      → Turns got standing given same refuses goal refused x y ps qs
+  Turns-one goal refused x y ps qs report steps n e told is fit behind memory counted = record {
     report = report;
     told = told;
     fit = subst (λ m. All (IsFit m) (steps_of report)) e (subst (All (IsFit n)) (sym is) fit);
     behind = behind;
+    memory = memory;
     counted = counted;
   }
 
-  pub Turns-joined : ((a b c : I) → same a b → same b c → same a c) → (x y z : DeskState I) (ps qs rs : List Progress) → length qs ≡ length ps
-      → Turns got standing given same refuses x y ps qs → Turns got standing given same refuses y z qs rs → Turns got standing given same refuses x z ps rs
-  Turns-joined trans x y z ps qs rs len f g = record {
+  pub Turns-joined : ((a b c : I) → same a b → same b c → same a c) → (goal : ℕ) (refused : Bool) (x y z : DeskState I) (ps qs rs : List Progress) → length qs ≡ length ps
+      → Turns got standing given same refuses goal false x y ps qs → Turns got standing given same refuses goal refused y z qs rs
+      → Turns got standing given same refuses goal refused x z ps rs
+  Turns-joined trans goal refused x y z ps qs rs len f g = record {
     report = f.report ++ g.report;
     told = Told-joined got standing given same refuses trans f.report g.report x y z f.told g.told;
     fit =
         subst (All (IsFit (clients_of x))) (sym (flat_map-append step_in f.report g.report))
         (All-append (IsFit (clients_of x)) (steps_of f.report) (steps_of g.report) f.fit (subst (λ n. All (IsFit n) (steps_of g.report)) f.told.clients.same_clients g.fit));
     behind = AreBehind-joined false f.report g.report f.behind g.behind;
+    memory = λ e. All-append (λ done. (c : ℕ) → done ≢ Dones.Served c NoMemory) f.report g.report (f.memory refl) (g.memory e);
     counted = λ c p l.
         let a = ap (λ xs. length xs) (flat_map-append (asked_in c) f.report g.report) ∙ length-append (asked c f.report) (asked c g.report) in
         let b = flushed_joined c f.report g.report in
@@ -75,37 +104,65 @@ module _ {I : Type 0} (got standing : I → List Numbered) (given : I → List W
         record { served = omega arith; flushed = omega arith };
   }
 
-  pub Drives-turns : (goal : ℕ) (x y : DeskState I) (qs : List Progress) (outcome : DriveEnd) (n : ℕ) → IsLaw x.facility → n ≡ clients_of x
-      → Turns got standing given same refuses x y (replicate n (record { served = 0; flushed = 0 })) qs
+  pub Drives-turns : (goal limit : ℕ) (refused : Bool) (x y : DeskState I) (qs : List Progress) (outcome : DriveEnd) (n : ℕ) → IsLaw x.facility → n ≡ clients_of x
+      → length qs ≡ n → Turns got standing given same refuses goal refused x y (replicate n (record { served = 0; flushed = 0 })) qs
       → (outcome ≡ DriveEnds.Done → (c : ℕ) (p : Progress) → c < clients_of x → IsDone goal (get_or qs c p))
-      → Drives got standing given same refuses goal x y outcome
-  Drives-turns goal x y qs outcome n law e t done = record {
+      → (outcome ≡ DriveEnds.Limit → 0 < limit → 0 < all_left goal qs)
+      → (¬ (outcome ≡ DriveEnds.OutOfMemory) → refused ≡ false)
+      → Drives got standing given same refuses goal limit x y outcome
+  Drives-turns goal limit refused x y qs outcome n law e len t done left memory = record {
     report = t.report;
     told = t.told;
     fit = t.fit;
     behind = t.behind;
     owed = AreOwed-in_time x.facility law [] t.report t.told.in_time;
-    served = λ is c l. (both is c l).0;
-    given_words = λ is c l. (both is c l).1;
+    served = λ is c l. (reached is c l).0;
+    given_words = λ is c l. (reached is c l).1;
+    memory = λ is. t.memory (memory is);
+    short = λ is some. short (left is some);
   }
     where
       none : Progress
       none = record { served = 0; flushed = 0 }
 
-      long : (m : ℕ) (p : Progress) → length (replicate m p) ≡ m
-      long m p = length-replicate m p
+      start : List Progress
+      start = replicate n none
 
-      both : outcome ≡ DriveEnds.Done → (c : ℕ) → c < clients_of x → (goal ≤ length (asked c t.report)) × (2 * goal ≤ flushed c t.report)
-      both is c l =
-          let start : Progress = record { served = 0; flushed = 0 } in
-          let zero_there : get_or (replicate n start) c start ≡ start = get_or-replicate n c start start (omega arith) in
-          let len = long n start in
-          let k = t.counted c start (omega arith) in
-          let d = done is c start l in
-          let a : (get_or (replicate n start) c start).served ≡ 0 = ap (λ (p : Progress). p.served) zero_there in
-          let b : (get_or (replicate n start) c start).flushed ≡ 0 = ap (λ (p : Progress). p.flushed) zero_there in
+      as_long : (m : ℕ) (p : Progress) → length (replicate m p) ≡ m
+      as_long m p = length-replicate m p
+
+      -- from nothing, what was done is counted up to the goal
+      counts : (c : ℕ) → c < clients_of x
+          → ((get_or qs c none).served ≡ min (length (asked c t.report)) goal) × ((get_or qs c none).flushed ≡ min (flushed c t.report) (2 * goal))
+      counts c l =
+          let there : get_or start c none ≡ none = get_or-replicate n c none none (omega arith) in
+          let long = as_long n none in
+          let k = t.counted c none (omega arith) in
+          let a : (get_or start c none).served ≡ 0 = ap (λ (p : Progress). p.served) there in
+          let b : (get_or start c none).flushed ≡ 0 = ap (λ (p : Progress). p.flushed) there in
           let k0 = k.served in
           let k1 = k.flushed in
+          (omega arith, omega arith)
+
+      reached : outcome ≡ DriveEnds.Done → (c : ℕ) → c < clients_of x → (goal ≤ length (asked c t.report)) × (2 * goal ≤ flushed c t.report)
+      reached is c l =
+          let k = counts c l in
+          let k0 = k.0 in
+          let k1 = k.1 in
+          let d = done is c none l in
           let d0 = d.served in
           let d1 = d.flushed in
           (omega arith, omega arith)
+
+      short : 0 < all_left goal qs → IsShort goal (clients_of x) t.report
+      short some =
+          let one = one_left goal qs none some in
+          let among : one.client < clients_of x = let h = one.among in omega arith in
+          let k = counts one.client among in
+          let k0 = k.0 in
+          let k1 = k.1 in
+          let h = one.left in record {
+            client = one.client;
+            among = among;
+            fewer = ⊎_elim (λ a. inl (omega arith)) (λ a. inr (omega arith)) (cases_lt (length (asked one.client t.report)) goal);
+          }

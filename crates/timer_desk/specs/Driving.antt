@@ -1,9 +1,11 @@
 -- Turns of a desk, until each client has reached a goal.
-use Rattle.std.specs.Prelude.{◌≡◌, ◌<◌, ◌≤◌, ◌+◌, ◌-◌, ◌*◌, ℕ, Bool, false, List, [], ◌∷◌, length, get_or, All}
+use Rattle.std.specs.Prelude.{◌≡◌, ◌≢◌, ◌<◌, ◌≤◌, ◌+◌, ◌-◌, ◌*◌, ◌⊎◌, ℕ, min, Bool, true, false, List, [], ◌∷◌, length, get_or, All}
 use Rattle.timer_desk.specs.declared.progress.Progress.{Progress}
 use Rattle.timer_desk.specs.declared.word.Numbered.{Numbered}
 use Rattle.timer_desk.specs.declared.word.Word.{Word}
+use Rattle.timer_desk.specs.declared.report.Served.TheVariants.{NoMemory}
 use Rattle.timer_desk.specs.declared.report.Done.{Done}
+use Rattle.timer_desk.specs.declared.report.Done.TheVariants as Dones
 use Rattle.timer_desk.specs.declared.report.Step.{Step}
 use Rattle.timer_desk.specs.declared.report.Step.TheVariants as Steps
 use Rattle.timer_desk.specs.declared.driving.Turned.{Turned}
@@ -27,10 +29,10 @@ pub record IsDone (goal : ℕ) (p : Progress) : Type 0 where
   pub served : goal ≤ p.served
   pub flushed : 2 * goal ≤ p.flushed
 
--- at most this many more requests and words are counted
-pub record HasCounted (requests words : ℕ) (old new : Progress) : Type 0 where
-  pub served : new.served ≤ old.served + requests
-  pub flushed : new.flushed ≤ old.flushed + words
+-- of these requests and words, as many are counted as were still missing: requests up to the goal, words up to twice the goal
+pub record HasCounted (goal requests words : ℕ) (old new : Progress) : Type 0 where
+  pub served : new.served ≡ old.served + min requests (goal - old.served)
+  pub flushed : new.flushed ≡ old.flushed + min words (2 * goal - old.flushed)
 
 -- the step's client is one of these, and the step is not a close
 abbrev pub IsFit : ℕ → Step → Type 0
@@ -39,25 +41,44 @@ IsFit clients Steps.Tick = Unit {0}
 IsFit clients Steps.Close = ⊥
 IsFit clients (Steps.Flush c) = c < clients
 
--- what is left falls where a turn made progress, and never rises
-abbrev pub IsTurned : ℕ → ℕ → Turned → Type 0
-IsTurned before after Passed = after < before
-IsTurned before after Idle = after ≤ before
-IsTurned before after Refused = after ≤ before
+-- no serve of a report ran out of memory
+abbrev pub NoneRanOut : List Done → Type 0
+NoneRanOut report = All (λ done. (c : ℕ) → done ≢ Dones.Served c NoMemory) report
+
+-- whether a turn ran out of memory
+abbrev pub is_refused : Turned → Bool
+is_refused Passed = false
+is_refused Idle = false
+is_refused Refused = true
+
+-- a turn that passed left less to do, and an idle one changed no count
+abbrev pub IsTurned : ℕ → List Progress → List Progress → Turned → Type 0
+IsTurned goal before after Passed = all_left goal after < all_left goal before
+IsTurned goal before after Idle = after ≡ before
+IsTurned goal before after Refused = Unit {0}
+
+-- one of these clients had fewer than `goal` requests served, or fewer than twice as many words flushed
+pub record IsShort (goal clients : ℕ) (report : List Done) : Type 0 where
+  pub client : ℕ
+  pub among : client < clients
+  pub fewer : (length (asked client report) < goal) ⊎ (flushed client report < 2 * goal)
 
 module _ {I : Type 0} (got standing : I → List Numbered) (given : I → List Word) (same : I → I → Type 0) (refuses : Bool) where
-  -- there is a report without a close that leads from the one desk to the other, and it was counted
-  pub record Turns (old new : DeskState I) (before after : List Progress) : Type 0 where
+  -- there is a report without a close that leads from the one desk to the other, and it was counted; unless a turn was refused,
+  -- no serve ran out of memory
+  pub record Turns (goal : ℕ) (refused : Bool) (old new : DeskState I) (before after : List Progress) : Type 0 where
     pub report : List Done
     pub told : Told got standing given same refuses report old new
     pub fit : All (IsFit (clients_of old)) (steps_of report)
     pub behind : AreBehind false report
+    pub memory : refused ≡ false → NoneRanOut report
     pub counted : (c : ℕ) (p : Progress) → c < length before
-        → HasCounted (length (asked c report)) (flushed c report) (get_or before c p) (get_or after c p)
+        → HasCounted goal (length (asked c report)) (flushed c report) (get_or before c p) (get_or after c p)
 
-  -- there is a report without a close that leads from the one desk to the other; where the drive is done, each client
-  -- had `goal` requests served and twice as many words flushed
-  pub record Drives (goal : ℕ) (old new : DeskState I) (outcome : DriveEnd) : Type 0 where
+  -- There is a report without a close that leads from the one desk to the other. Where the drive is done, each client had
+  -- `goal` requests served and twice as many words flushed; where a limit above 0 ended it, some client had not. Only a drive
+  -- that ended out of memory has a serve that ran out of memory.
+  pub record Drives (goal limit : ℕ) (old new : DeskState I) (outcome : DriveEnd) : Type 0 where
     pub report : List Done
     pub told : Told got standing given same refuses report old new
     pub fit : All (IsFit (clients_of old)) (steps_of report)
@@ -65,3 +86,5 @@ module _ {I : Type 0} (got standing : I → List Numbered) (given : I → List W
     pub owed : AreOwed old.facility [] report
     pub served : outcome ≡ DriveEnds.Done → (c : ℕ) → c < clients_of old → goal ≤ length (asked c report)
     pub given_words : outcome ≡ DriveEnds.Done → (c : ℕ) → c < clients_of old → 2 * goal ≤ flushed c report
+    pub memory : ¬ (outcome ≡ DriveEnds.OutOfMemory) → NoneRanOut report
+    pub short : outcome ≡ DriveEnds.Limit → 0 < limit → IsShort goal (clients_of old) report

@@ -1,8 +1,8 @@
 //! Drives a desk turn by turn until each client has reached a goal.
-ghost use Rattle.std.specs.Prelude.{◌≡◌, ◌≤◌, ◌<◌, ℕ, All, IfOk, OnErr, length, vec_len};
+ghost use Rattle.std.specs.Prelude.{◌≡◌, ◌≤◌, ◌<◌, ◌↔◌, ℕ, false, All, IfOk, OnErr, length, vec_len};
 ghost use Rattle.timer_base.specs.declared.limits.TheConstants.{LAST};
 ghost use Rattle.timer_desk.specs.Desk.{clients_of};
-ghost use Rattle.timer_desk.specs.Driving.{IsFit, all_left, Turns, Drives, IsTurned};
+ghost use Rattle.timer_desk.specs.Driving.{IsFit, NoneRanOut, is_refused, Turns, Drives, IsTurned};
 
 use crate::desk::Desk;
 use crate::inlet::Inlet;
@@ -43,6 +43,9 @@ enum Turned {
 /// of each client, and a tick. It ends when each client has had `goal` requests served and twice as many
 /// words flushed, when `limit` consecutive turns made no progress, or when allocation failed. A turn
 /// without progress yields the processor to another thread.
+///
+/// After `Done` each client has reached the goal. After `Limit`, where the limit is above 0, some client
+/// has not. A drive in which a serve ran out of memory ends as `OutOfMemory`.
 pub fn drive<W: Wheel + Drop, I: Inlet + Drop>(
     alloc: Global,
     desk: Desk<W, I>,
@@ -51,7 +54,7 @@ pub fn drive<W: Wheel + Drop, I: Inlet + Drop>(
 ) -> Driven<W, I>
     requires goal { goal ≤ LAST }
     requires limit { limit ≤ LAST }
-    ensures { Drives I.got I.standing I.given I.same_line I.take_may_refuse goal desk result.desk result.outcome }
+    ensures { Drives I.got I.standing I.given I.same_line I.take_may_refuse goal limit desk result.desk result.outcome }
 {
     let mut desk = desk;
     notices_are_owed();
@@ -99,8 +102,9 @@ fn one_turn<W: Wheel + Drop, I: Inlet + Drop>(
 ) -> Turned
     requires goal { goal ≤ LAST }
     requires clients { vec_len progress.old ≡ clients_of desk.old }
-    ensures turns { Turns I.got I.standing I.given I.same_line I.take_may_refuse desk.old desk.new progress.old.items progress.new.items }
-    ensures left { IsTurned (all_left goal progress.old.items) (all_left goal progress.new.items) result }
+    ensures turns { Turns I.got I.standing I.given I.same_line I.take_may_refuse goal (is_refused result) desk.old desk.new
+        progress.old.items progress.new.items }
+    ensures turned { IsTurned goal progress.old.items progress.new.items result }
     ensures clients { vec_len progress.new ≡ clients_of desk.new }
 {
     desk.keeps();
@@ -135,7 +139,9 @@ fn steps_of_turn(alloc: Global, progress: &[Progress], goal: u64) -> Result<Vec<
 }
 
 /// Whether a serve of this report ran out of memory.
-fn has_refusal(report: &[Done]) -> bool {
+fn has_refusal(report: &[Done]) -> bool
+    ensures { result ≡ false ↔ NoneRanOut report.now }
+{
     for member in report {
         if let Done::Served {
             served: Served::NoMemory,

@@ -1,5 +1,5 @@
 //! How far each client has come in a drive.
-ghost use Rattle.std.specs.Prelude.{◌≡◌, ◌≤◌, ◌<◌, ◌+◌, ◌*◌, ℕ, false, length, get_or, IsTrue, IfOk, replicate, vec_len, ◌↔◌};
+ghost use Rattle.std.specs.Prelude.{◌≡◌, ◌≤◌, ◌<◌, ℕ, false, length, get_or, IsTrue, IfOk, replicate, vec_len, ◌↔◌};
 ghost use Rattle.timer_base.specs.declared.limits.TheConstants.{LAST};
 ghost use Rattle.timer_desk.specs.Driving.{IsDone, HasCounted, all_left};
 ghost use Rattle.timer_desk.specs.Report.{asked_in, flushed_in, asked, flushed};
@@ -29,11 +29,9 @@ impl Progress {
     /// Counts one more request, up to the goal, and returns whether it was counted.
     fn count_request(&mut self, goal: u64) -> bool
         requires { goal ≤ LAST }
-        ensures served { self.new.served ≤ self.old.served + 1 }
-        ensures flushed { self.new.flushed ≡ self.old.flushed }
+        ensures counted { HasCounted goal 1 0 self.old self.new }
         ensures fewer { IsTrue result → left_for goal self.new < left_for goal self.old }
-        ensures same { result ≡ false → left_for goal self.new ≡ left_for goal self.old }
-        ensures no_more { left_for goal self.new ≤ left_for goal self.old }
+        ensures same { result ≡ false → self.new ≡ self.old }
     {
         if self.served >= goal {
             return false;
@@ -45,11 +43,9 @@ impl Progress {
     /// Counts `count` more words, up to twice the goal, and returns whether any was counted.
     fn count_words(&mut self, count: usize, goal: u64) -> bool
         requires { goal ≤ LAST }
-        ensures served { self.new.served ≡ self.old.served }
-        ensures flushed { self.new.flushed ≤ self.old.flushed + count }
+        ensures counted { HasCounted goal 0 count self.old self.new }
         ensures fewer { IsTrue result → left_for goal self.new < left_for goal self.old }
-        ensures same { result ≡ false → left_for goal self.new ≡ left_for goal self.old }
-        ensures no_more { left_for goal self.new ≤ left_for goal self.old }
+        ensures same { result ≡ false → self.new ≡ self.old }
     {
         if count == 0 || self.flushed >= 2 * goal {
             return false;
@@ -96,11 +92,10 @@ pub fn all_done(all: &[Progress], goal: u64) -> bool
 fn count_member(all: &mut Vec<Progress>, member: Done, goal: u64) -> bool
     requires { goal ≤ LAST }
     ensures counted { (c : ℕ) (p : Progress) → c < vec_len all.old
-        → HasCounted (length (asked_in c member)) (flushed_in c member) (get_or all.old.items c p) (get_or all.new.items c p) }
+        → HasCounted goal (length (asked_in c member)) (flushed_in c member) (get_or all.old.items c p) (get_or all.new.items c p) }
     ensures len { vec_len all.new ≡ vec_len all.old }
     ensures fewer { IsTrue result → all_left goal all.new.items < all_left goal all.old.items }
-    ensures same { result ≡ false → all_left goal all.new.items ≡ all_left goal all.old.items }
-    ensures no_more { all_left goal all.new.items ≤ all_left goal all.old.items }
+    ensures same { result ≡ false → all.new.items ≡ all.old.items }
 {
     match member {
         Done::Served {
@@ -126,11 +121,10 @@ fn count_member(all: &mut Vec<Progress>, member: Done, goal: u64) -> bool
 pub fn count_report(all: &mut Vec<Progress>, report: &[Done], goal: u64) -> bool
     requires { goal ≤ LAST }
     ensures counted { (c : ℕ) (p : Progress) → c < vec_len all.old
-        → HasCounted (length (asked c report.now)) (flushed c report.now) (get_or all.old.items c p) (get_or all.new.items c p) }
+        → HasCounted goal (length (asked c report.now)) (flushed c report.now) (get_or all.old.items c p) (get_or all.new.items c p) }
     ensures len { vec_len all.new ≡ vec_len all.old }
     ensures fewer { IsTrue result → all_left goal all.new.items < all_left goal all.old.items }
-    ensures same { result ≡ false → all_left goal all.new.items ≡ all_left goal all.old.items }
-    ensures no_more { all_left goal all.new.items ≤ all_left goal all.old.items }
+    ensures same { result ≡ false → all.new.items ≡ all.old.items }
 {
     let mut passed = false;
     for member in report {

@@ -1,54 +1,63 @@
-use Rattle.std.proofs.Common.{◌≡◌, ◌<◌, ℕ, List, length, get_or, subst, ◌∙◌, ap, refl, arith}
+use Rattle.std.proofs.Common.{◌≡◌, ◌<◌, ℕ, true, false, List, length, get_or, sym, subst, ◌∙◌, ap, refl, arith}
 use Rattle.std.specs.Prelude.{replicate}
 use Rattle.std.proofs.lemmas.List.{length-replicate}
 use Rattle.timer_desk.specs.declared.progress.Progress.{Progress}
 use Rattle.timer_desk.specs.declared.driving.DriveEnd.TheVariants as DriveEnds
-use Rattle.timer_desk.specs.Driving.{IsDone, Turns}
-use Rattle.timer_desk.proofs.DrivingLemmas.{Turns-nothing, Turns-joined, Drives-turns}
+use Rattle.timer_desk.specs.Driving.{IsDone, Turns, all_left}
+use Rattle.timer_desk.proofs.DrivingLemmas.{Turns-nothing, Turns-joined, Drives-turns, some_left}
 use Rattle.timer_desk.proofs.driving.drive.Goals as goal
 
 pub returns-in_default : goal.returns-in_default
 returns-in_default g c =
     let none : List Progress = replicate c.clients.result (record { served = 0; flushed = 0 }) in
-    Drives-turns g.I.Inlet.got g.I.Inlet.standing g.I.Inlet.given g.I.Inlet.same_line g.I.Inlet.take_may_refuse c.args.goal c.args.desk c.args.desk none DriveEnds.OutOfMemory c.clients.result (λ placed k. c.notices_are_owed.ensures c.args.desk.facility placed k c.keeps.ensures.sound) c.clients.ensures
-    (Turns-nothing g.I.Inlet.got g.I.Inlet.standing g.I.Inlet.given g.I.Inlet.same_line g.I.Inlet.take_may_refuse g.met.I.Inlet.reflexive c.args.desk none c.keeps.ensures.held) (λ is. absurd (cc))
+    Drives-turns g.I.Inlet.got g.I.Inlet.standing g.I.Inlet.given g.I.Inlet.same_line g.I.Inlet.take_may_refuse c.args.goal c.args.limit false c.args.desk c.args.desk none DriveEnds.OutOfMemory c.clients.result (λ placed k. c.notices_are_owed.ensures c.args.desk.facility placed k c.keeps.ensures.sound) c.clients.ensures (length-replicate c.clients.result (record { served = 0; flushed = 0 }))
+    (Turns-nothing g.I.Inlet.got g.I.Inlet.standing g.I.Inlet.given g.I.Inlet.same_line g.I.Inlet.take_may_refuse g.met.I.Inlet.reflexive c.args.goal false c.args.desk none c.keeps.ensures.held) (λ is. absurd (cc)) (λ is. absurd (cc)) (λ _. refl)
 
 pub loop-idle-init : goal.loop-idle-init
 loop-idle-init g c = record {
-  turns = Turns-nothing g.I.Inlet.got g.I.Inlet.standing g.I.Inlet.given g.I.Inlet.same_line g.I.Inlet.take_may_refuse g.met.I.Inlet.reflexive c.args.desk c.in-Ok.progress.items c.keeps.ensures.held;
+  turns = Turns-nothing g.I.Inlet.got g.I.Inlet.standing g.I.Inlet.given g.I.Inlet.same_line g.I.Inlet.take_may_refuse g.met.I.Inlet.reflexive c.args.goal false c.args.desk c.in-Ok.progress.items c.keeps.ensures.held;
   clients = let n = ap (λ ps. length ps) c.in-Ok.ensures ∙ length-replicate c.clients.result (record { served = 0; flushed = 0 }) in omega (arith, n, c.clients.ensures, c.in-Ok.progress.ok);
+  left = λ l. absurd (omega arith);
 }
 
 pub returns-then-all_done : goal.returns-then-all_done
 returns-then-all_done g c =
-    let turns = subst (λ ps. Turns g.I.Inlet.got g.I.Inlet.standing g.I.Inlet.given g.I.Inlet.same_line g.I.Inlet.take_may_refuse c.args.desk c.loop-idle.desk ps c.loop-idle.progress.items) c.in-Ok.ensures c.loop-idle.invariant.turns in
-    Drives-turns g.I.Inlet.got g.I.Inlet.standing g.I.Inlet.given g.I.Inlet.same_line g.I.Inlet.take_may_refuse c.args.goal c.args.desk c.loop-idle.desk c.loop-idle.progress.items DriveEnds.Done c.clients.result (λ placed k. c.notices_are_owed.ensures c.args.desk.facility placed k c.keeps.ensures.sound) c.clients.ensures turns
-    (λ is k p l.
     let was = c.loop-idle.invariant in
+    let turns = subst (λ ps. Turns g.I.Inlet.got g.I.Inlet.standing g.I.Inlet.given g.I.Inlet.same_line g.I.Inlet.take_may_refuse c.args.goal false c.args.desk c.loop-idle.desk ps c.loop-idle.progress.items) c.in-Ok.ensures was.turns in
+    let len : length c.loop-idle.progress.items ≡ c.clients.result = omega (arith, was.clients, was.turns.told.clients.same_clients, c.clients.ensures, c.loop-idle.progress.ok) in
+    Drives-turns g.I.Inlet.got g.I.Inlet.standing g.I.Inlet.given g.I.Inlet.same_line g.I.Inlet.take_may_refuse c.args.goal c.args.limit false c.args.desk c.loop-idle.desk c.loop-idle.progress.items DriveEnds.Done c.clients.result (λ placed k. c.notices_are_owed.ensures c.args.desk.facility placed k c.keeps.ensures.sound) c.clients.ensures len turns
+    (λ is k p l.
     let done = subst (λ (ps : List Progress). (n : ℕ) (q : Progress) → n < length ps → IsDone c.args.goal (get_or ps n q)) c.deref.ensures.value (c.if-all_done.ensures.0 refl) in
-    done k p (omega (arith, was.clients, was.turns.told.clients.same_clients, c.loop-idle.progress.ok)))
+    done k p (omega (arith, was.clients, was.turns.told.clients.same_clients, c.loop-idle.progress.ok))) (λ is. absurd (cc)) (λ _. refl)
 
 pub returns : goal.returns
 returns g c =
-    let turns = subst (λ ps. Turns g.I.Inlet.got g.I.Inlet.standing g.I.Inlet.given g.I.Inlet.same_line g.I.Inlet.take_may_refuse c.args.desk c.loop-idle.desk ps c.loop-idle.progress.items) c.in-Ok.ensures c.loop-idle.invariant.turns in
-    Drives-turns g.I.Inlet.got g.I.Inlet.standing g.I.Inlet.given g.I.Inlet.same_line g.I.Inlet.take_may_refuse c.args.goal c.args.desk c.loop-idle.desk c.loop-idle.progress.items DriveEnds.Limit c.clients.result (λ placed k. c.notices_are_owed.ensures c.args.desk.facility placed k c.keeps.ensures.sound) c.clients.ensures turns (λ is. absurd (cc))
+    let was = c.loop-idle.invariant in
+    let turns = subst (λ ps. Turns g.I.Inlet.got g.I.Inlet.standing g.I.Inlet.given g.I.Inlet.same_line g.I.Inlet.take_may_refuse c.args.goal false c.args.desk c.loop-idle.desk ps c.loop-idle.progress.items) c.in-Ok.ensures was.turns in
+    let len : length c.loop-idle.progress.items ≡ c.clients.result = omega (arith, was.clients, was.turns.told.clients.same_clients, c.clients.ensures, c.loop-idle.progress.ok) in
+    Drives-turns g.I.Inlet.got g.I.Inlet.standing g.I.Inlet.given g.I.Inlet.same_line g.I.Inlet.take_may_refuse c.args.goal c.args.limit false c.args.desk c.loop-idle.desk c.loop-idle.progress.items DriveEnds.Limit c.clients.result (λ placed k. c.notices_are_owed.ensures c.args.desk.facility placed k c.keeps.ensures.sound) c.clients.ensures len turns (λ is. absurd (cc)) (λ is some. was.left (omega (arith, some, c.loop-idle-test.false))) (λ _. refl)
 
 pub loop-idle-preserved-in-Passed : goal.loop-idle-preserved-in-Passed
 loop-idle-preserved-in-Passed g c =
     let start = ap (λ ps. length ps) c.in-Ok.ensures ∙ length-replicate c.clients.result (record { served = 0; flushed = 0 }) in
     let was = c.loop-idle.invariant in
     let len : length c.loop-idle.progress.items ≡ length c.in-Ok.progress.items = omega (arith, start, c.clients.ensures, was.clients, was.turns.told.clients.same_clients, c.loop-idle.progress.ok) in record {
-      turns = Turns-joined g.I.Inlet.got g.I.Inlet.standing g.I.Inlet.given g.I.Inlet.same_line g.I.Inlet.take_may_refuse g.met.I.Inlet.transitive c.args.desk c.loop-idle.desk c.one_turn.new.desk c.in-Ok.progress.items c.loop-idle.progress.items c.one_turn.new.progress.items len was.turns c.one_turn.ensures.turns;
-      clients = c.one_turn.ensures.clients;
+      turns = Turns-joined g.I.Inlet.got g.I.Inlet.standing g.I.Inlet.given g.I.Inlet.same_line g.I.Inlet.take_may_refuse g.met.I.Inlet.transitive c.args.goal false c.args.desk c.loop-idle.desk c.one_turn.new.desk c.in-Ok.progress.items c.loop-idle.progress.items c.one_turn.new.progress.items len was.turns c.in-Passed.ensures.turns;
+      clients = c.in-Passed.ensures.clients;
+      left = λ l. absurd (omega arith);
     }
 
 pub loop-idle-preserved : goal.loop-idle-preserved
 loop-idle-preserved g c =
+    let not_done : ¬ ((n : ℕ) (q : Progress) → n < length c.loop-idle.progress.items → IsDone c.args.goal (get_or c.loop-idle.progress.items n q)) = λ all.
+    let done = c.if-all_done.ensures.1 (subst (λ (ps : List Progress). (n : ℕ) (q : Progress) → n < length ps → IsDone c.args.goal (get_or ps n q)) (sym c.deref.ensures.value) all) in
+    absurd (cc) in
     let start = ap (λ ps. length ps) c.in-Ok.ensures ∙ length-replicate c.clients.result (record { served = 0; flushed = 0 }) in
     let was = c.loop-idle.invariant in
     let len : length c.loop-idle.progress.items ≡ length c.in-Ok.progress.items = omega (arith, start, c.clients.ensures, was.clients, was.turns.told.clients.same_clients, c.loop-idle.progress.ok) in record {
-      turns = Turns-joined g.I.Inlet.got g.I.Inlet.standing g.I.Inlet.given g.I.Inlet.same_line g.I.Inlet.take_may_refuse g.met.I.Inlet.transitive c.args.desk c.loop-idle.desk c.one_turn.new.desk c.in-Ok.progress.items c.loop-idle.progress.items c.one_turn.new.progress.items len was.turns c.one_turn.ensures.turns;
-      clients = c.one_turn.ensures.clients;
+      turns = Turns-joined g.I.Inlet.got g.I.Inlet.standing g.I.Inlet.given g.I.Inlet.same_line g.I.Inlet.take_may_refuse g.met.I.Inlet.transitive c.args.goal false c.args.desk c.loop-idle.desk c.one_turn.new.desk c.in-Ok.progress.items c.loop-idle.progress.items c.one_turn.new.progress.items len was.turns c.in-Idle.ensures.turns;
+      clients = c.in-Idle.ensures.clients;
+      left = λ l. subst (λ ps. 0 < all_left c.args.goal ps) (sym c.in-Idle.ensures.turned) (some_left c.args.goal c.loop-idle.progress.items not_done);
     }
 
 pub returns-in-Refused : goal.returns-in-Refused
@@ -56,6 +65,6 @@ returns-in-Refused g c =
     let start = ap (λ ps. length ps) c.in-Ok.ensures ∙ length-replicate c.clients.result (record { served = 0; flushed = 0 }) in
     let was = c.loop-idle.invariant in
     let len : length c.loop-idle.progress.items ≡ length c.in-Ok.progress.items = omega (arith, start, c.clients.ensures, was.clients, was.turns.told.clients.same_clients, c.loop-idle.progress.ok) in
-    let turns = Turns-joined g.I.Inlet.got g.I.Inlet.standing g.I.Inlet.given g.I.Inlet.same_line g.I.Inlet.take_may_refuse g.met.I.Inlet.transitive c.args.desk c.loop-idle.desk c.one_turn.new.desk c.in-Ok.progress.items c.loop-idle.progress.items c.one_turn.new.progress.items len was.turns c.one_turn.ensures.turns in
-    Drives-turns g.I.Inlet.got g.I.Inlet.standing g.I.Inlet.given g.I.Inlet.same_line g.I.Inlet.take_may_refuse c.args.goal c.args.desk c.one_turn.new.desk c.one_turn.new.progress.items DriveEnds.OutOfMemory c.clients.result (λ placed k. c.notices_are_owed.ensures c.args.desk.facility placed k c.keeps.ensures.sound) c.clients.ensures
-    (subst (λ ps. Turns g.I.Inlet.got g.I.Inlet.standing g.I.Inlet.given g.I.Inlet.same_line g.I.Inlet.take_may_refuse c.args.desk c.one_turn.new.desk ps c.one_turn.new.progress.items) c.in-Ok.ensures turns) (λ is. absurd (cc))
+    let turns = Turns-joined g.I.Inlet.got g.I.Inlet.standing g.I.Inlet.given g.I.Inlet.same_line g.I.Inlet.take_may_refuse g.met.I.Inlet.transitive c.args.goal true c.args.desk c.loop-idle.desk c.one_turn.new.desk c.in-Ok.progress.items c.loop-idle.progress.items c.one_turn.new.progress.items len was.turns c.in-Refused.ensures.turns in
+    Drives-turns g.I.Inlet.got g.I.Inlet.standing g.I.Inlet.given g.I.Inlet.same_line g.I.Inlet.take_may_refuse c.args.goal c.args.limit true c.args.desk c.one_turn.new.desk c.one_turn.new.progress.items DriveEnds.OutOfMemory c.clients.result (λ placed k. c.notices_are_owed.ensures c.args.desk.facility placed k c.keeps.ensures.sound) c.clients.ensures (omega (arith, c.in-Refused.ensures.clients, c.in-Refused.ensures.turns.told.clients.same_clients, was.turns.told.clients.same_clients, c.clients.ensures, c.one_turn.new.progress.ok))
+    (subst (λ ps. Turns g.I.Inlet.got g.I.Inlet.standing g.I.Inlet.given g.I.Inlet.same_line g.I.Inlet.take_may_refuse c.args.goal true c.args.desk c.one_turn.new.desk ps c.one_turn.new.progress.items) c.in-Ok.ensures turns) (λ is. absurd (cc)) (λ is. absurd (cc)) (λ is. absurd (is refl))
