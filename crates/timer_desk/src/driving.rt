@@ -125,16 +125,16 @@ fn one_turn<W: Wheel + Drop, I: Inlet + Drop>(
 fn steps_of_turn(alloc: Global, progress: &[Progress], goal: u64) -> Result<Vec<Step>, AllocError>
     ensures { IfOk result (λ steps. All (IsFit (length progress.now)) steps.items) }
 {
-    let mut steps = Vec::new(alloc);
+    let mut steps = Vec::with_capacity(alloc, 2 * progress.len() + 1)?;
     for (client, come) in progress.iter().enumerate() {
         if come.served < goal {
-            steps.push(Step::Serve(client))?;
+            steps.push_reserved(Step::Serve(client));
         }
     }
     for client in 0..progress.len() {
-        steps.push(Step::Flush(client))?;
+        steps.push_reserved(Step::Flush(client));
     }
-    steps.push(Step::Tick)?;
+    steps.push_reserved(Step::Tick);
     Ok(steps)
 }
 
