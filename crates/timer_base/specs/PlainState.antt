@@ -68,6 +68,9 @@ timers_of-at_first_place (t ∷ ts) = ap (λ r. t ∷ r) (timers_of-at_first_pla
 kept_is_pending : (now last_serial : ℕ) (t : Timer) → is_after now t ≡ true → IsKept now last_serial t → IsPending LAST now last_serial t
 kept_is_pending now last_serial t h k = record { later = grind (arith, nat_tests); in_range = k.in_range; serial = k.serial }
 
+kept_is_due : (now last_serial : ℕ) (t : Timer) → is_due_at now t ≡ true → IsKept now last_serial t → t.deadline ≡ now
+kept_is_due now last_serial t h k = grind (arith, nat_tests)
+
 pub plain_state-well_formed : (now last_serial : ℕ) (ts : List Timer) → now ≤ LAST → last_serial ≤ LAST → AreRising 0 ts
     → AllByRecursion (IsKept now last_serial) ts → IsWellFormed (plain_state now last_serial ts)
 plain_state-well_formed now last_serial ts n l r k =
@@ -86,5 +89,6 @@ plain_state-well_formed now last_serial ts n l r k =
       distinct = rw same distinct;
       each = rw same (All-in_order itself (IsPending LAST now last_serial) pending
           (All-filter (IsKept now last_serial) (IsPending LAST now last_serial) (is_after now) ts (kept_is_pending now last_serial) k));
+      due_now = All-filter (IsKept now last_serial) (λ t. t.deadline ≡ now) (is_due_at now) ts (kept_is_due now last_serial) k;
       due_rising = AreRising-filter (is_due_at now) 0 ts r;
     }

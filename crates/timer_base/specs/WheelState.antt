@@ -92,4 +92,5 @@ pub record IsWellFormed (w : WheelState) : Type 0 where
   pub ordered : IsOrdered (timers_of w.pending)
   pub distinct : AreDistinct (timers_of w.pending)
   pub each : AllByRecursion (IsPending w.last_tick w.now w.last_serial) (timers_of w.pending)
+  pub due_now : AllByRecursion (λ t. t.deadline ≡ w.now) w.due
   pub due_rising : AreRising 0 w.due

@@ -12,7 +12,7 @@ use Rattle.timer_base.specs.WheelState.{WheelState, IsPending, after_start, afte
 use Rattle.timer_links.specs.declared.node.Node.{Node}
 use Rattle.timer_links.specs.Lists.{list_at, node_in, node_at, first_of, with_row, without_key, row_count, AreApart}
 use Rattle.timer_wheels.specs.BucketLaws.{timers_of-entries}
-use Rattle.timer_wheels.specs.BucketLists.{timer_in, timers_in, entry_of, entries_of, rows_below, pending_in, wheel_state, ArePending, ArePast, AreInOrder, EachRow}
+use Rattle.timer_wheels.specs.BucketLists.{timer_in, timers_in, entry_of, entries_of, rows_below, pending_in, wheel_state, ArePending, AreDue, AreInOrder, EachRow}
 use Rattle.timer_wheels.proofs.RowLemmas.{all-append, all-front, all-rest, all-rows_below, rows_below-above, rows_below-none, IsInserted, rows_below-with_row, rows_below-without_key, list_at-without_key, timers-append, entries-append, filter-entries, AreBelow-timers, IsNotAmong-front, IsNotAmong-below, AreDistinct-inserted, AreDistinct-taken, IsNotAmong-others}
 
 -- A row is inserted.
@@ -237,9 +237,9 @@ AreLater now rows = AllByRecursion (λ row. now < (timer_in row).deadline) rows
 -- the rows of the first n lists are after the tick, and those of the next list are not
 pub record IsSeparated (now n : ℕ) (lists : List (List (ℕ × Node))) : Type 0 where
   pub later : AreLater now (rows_below n lists)
-  pub past : ArePast now (list_at n lists)
+  pub past : AreDue now (list_at n lists)
 
-pub separated : (last_tick now last n : ℕ) (lists : List (List (ℕ × Node))) → ArePending last_tick now last (rows_below n lists) → ArePast now (list_at n lists) → IsSeparated now n lists
+pub separated : (last_tick now last n : ℕ) (lists : List (List (ℕ × Node))) → ArePending last_tick now last (rows_below n lists) → AreDue now (list_at n lists) → IsSeparated now n lists
 separated last_tick now last n lists p q = record {
   later = All-weaken (λ row. IsPending last_tick now last (timer_in row)) (λ row. now < (timer_in row).deadline) (rows_below n lists) (λ row r. r.later) p;
   past = q;
@@ -252,18 +252,18 @@ no_node : (a : Node) → None ≡ Some a → ⊥
 no_node a e = cc
 
 -- a node whose timer is not due stands in no list of due ones
-not_past : (now key : ℕ) (node : Node) (rows : List (ℕ × Node)) → ArePast now rows → now < node.timer.deadline → node_in key rows ≡ Some node → ⊥
+not_past : (now key : ℕ) (node : Node) (rows : List (ℕ × Node)) → AreDue now rows → now < node.timer.deadline → node_in key rows ≡ Some node → ⊥
 not_past now key node [] a h e = no_node node e
 not_past now key node (x ∷ xs) a h e = elim (either (x.0 == key)) [
   | inl k ↦ (
       let f : Some x.1 ≡ Some node = rw k at e in
       let q : x.1.timer.deadline ≡ node.timer.deadline = ap (λ (y : Node). y.timer.deadline) (same_node x.1 node f) in
-      let b : x.1.timer.deadline ≤ now = a.0 in
+      let b : x.1.timer.deadline ≡ now = a.0 in
       omega arith)
   | inr k ↦ not_past now key node xs a.1 h (rw k at e)
 ]
 
-pending_part : (now key : ℕ) (node : Node) (found : Option Node) (due : List (ℕ × Node)) → ArePast now due → now < node.timer.deadline → first_of found (node_in key due) ≡ Some node → found ≡ Some node
+pending_part : (now key : ℕ) (node : Node) (found : Option Node) (due : List (ℕ × Node)) → AreDue now due → now < node.timer.deadline → first_of found (node_in key due) ≡ Some node → found ≡ Some node
 pending_part now key node None due a h e = absurd (not_past now key node due a h e)
 pending_part now key node (Some n) due a h e = e
 
@@ -272,12 +272,12 @@ pending_there : (now n key : ℕ) (node : Node) (lists : List (List (ℕ × Node
 pending_there now n key node lists len p h e = pending_part now key node (node_in key (rows_below n lists)) (list_at n lists) p.past h (sym (node_at-parts n key lists len) ∙ e)
 
 -- so none of the due ones goes with it
-due_without : (now key : ℕ) (node : Node) (rows : List (ℕ × Node)) → ArePast now rows → now < node.timer.deadline → AllByRecursion (HasNode key (Some node)) rows → without_key key rows ≡ rows
+due_without : (now key : ℕ) (node : Node) (rows : List (ℕ × Node)) → AreDue now rows → now < node.timer.deadline → AllByRecursion (HasNode key (Some node)) rows → without_key key rows ≡ rows
 due_without now key node [] a h b = refl
 due_without now key node (x ∷ xs) a h b =
     let k : x.0 ≢ key = λ (k : x.0 ≡ key). (
     let q : x.1.timer.deadline ≡ node.timer.deadline = ap (λ (y : Node). y.timer.deadline) (same_node x.1 node (b.0 k)) in
-    let d : x.1.timer.deadline ≤ now = a.0 in
+    let d : x.1.timer.deadline ≡ now = a.0 in
     omega arith) in
     rw (ne_eqb x.0 key k) (ap (λ (r : List (ℕ × Node)). x ∷ r) (due_without now key node xs a.1 h b.1))
 
@@ -485,31 +485,31 @@ module _ (now n : ℕ) (handle : Handle) (lists : List (List (ℕ × Node))) (le
 
 -- What is due stays due.
 
-pub past-with_row : (now n bucket : ℕ) (row : ℕ × Node) (lists : List (List (ℕ × Node))) → bucket < n → ArePast now (list_at n lists) → ArePast now (list_at n (with_row bucket row lists))
+pub past-with_row : (now n bucket : ℕ) (row : ℕ × Node) (lists : List (List (ℕ × Node))) → bucket < n → AreDue now (list_at n lists) → AreDue now (list_at n (with_row bucket row lists))
 past-with_row now n bucket row lists h a =
     let m : n ≢ bucket = omega arith in
-    subst (ArePast now) (sym (get_or-set_other lists bucket n (list_at bucket lists ++ row ∷ []) [] m)) a
+    subst (AreDue now) (sym (get_or-set_other lists bucket n (list_at bucket lists ++ row ∷ []) [] m)) a
 
-pub past-without_key : (now n key : ℕ) (lists : List (List (ℕ × Node))) → ArePast now (list_at n lists) → ArePast now (list_at n (map (without_key key) lists))
+pub past-without_key : (now n key : ℕ) (lists : List (List (ℕ × Node))) → AreDue now (list_at n lists) → AreDue now (list_at n (map (without_key key) lists))
 past-without_key now n key lists a = rw (list_at-without_key n key lists)
-    (All-filter (λ (row : ℕ × Node). (timer_in row).deadline ≤ now) (λ (row : ℕ × Node). (timer_in row).deadline ≤ now) (λ (r : ℕ × Node). not (r.0 == key)) (list_at n lists) (λ r e f. f) a)
+    (All-filter (λ (row : ℕ × Node). (timer_in row).deadline ≡ now) (λ (row : ℕ × Node). (timer_in row).deadline ≡ now) (λ (r : ℕ × Node). not (r.0 == key)) (list_at n lists) (λ r e f. f) a)
 
-timers_past : (now : ℕ) (es : List Entry) → AllByRecursion (λ t. t.deadline ≤ now) (timers_of (entries_due now es))
+timers_past : (now : ℕ) (es : List Entry) → AllByRecursion (λ t. t.deadline ≡ now) (timers_of (entries_due now es))
 timers_past now [] = tt
 timers_past now (e ∷ es) = elim (either (is_due_at now e.timer)) [
-  | inl k ↦ rw k (let d : e.timer.deadline ≡ now = eqb-true e.timer.deadline now k in omega arith, timers_past now es)
+  | inl k ↦ rw k (eqb-true e.timer.deadline now k, timers_past now es)
   | inr k ↦ rw k (timers_past now es)
 ]
 
-rows_past : (now : ℕ) (rows : List (ℕ × Node)) → AllByRecursion (λ t. t.deadline ≤ now) (timers_in rows) → ArePast now rows
+rows_past : (now : ℕ) (rows : List (ℕ × Node)) → AllByRecursion (λ t. t.deadline ≡ now) (timers_in rows) → AreDue now rows
 rows_past now [] a = tt
 rows_past now (x ∷ xs) a = (a.0, rows_past now xs a.1)
 
 -- what became due at a tick has it as its deadline
-pub due_past : (now : ℕ) (es : List Entry) (rows : List (ℕ × Node)) → timers_in rows ≡ timers_of (entries_due now es) → ArePast now rows
-due_past now es rows e = rows_past now rows (let P : List Timer → Type 0 = AllByRecursion (λ t. t.deadline ≤ now) in subst P (sym e) (timers_past now es))
+pub due_past : (now : ℕ) (es : List Entry) (rows : List (ℕ × Node)) → timers_in rows ≡ timers_of (entries_due now es) → AreDue now rows
+due_past now es rows e = rows_past now rows (let P : List Timer → Type 0 = AllByRecursion (λ t. t.deadline ≡ now) in subst P (sym e) (timers_past now es))
 
-pub none_past : (now : ℕ) (rows : List (ℕ × Node)) → timers_in rows ≡ [] → ArePast now rows
+pub none_past : (now : ℕ) (rows : List (ℕ × Node)) → timers_in rows ≡ [] → AreDue now rows
 none_past now [] e = tt
 none_past now (x ∷ xs) e = absurd (cc)
 
@@ -528,8 +528,8 @@ module _ (n : ℕ) (row : ℕ × Node) (rest : List (ℕ × Node)) (lists : List
   pub expired-first : Some (timer_in row) ≡ slice_get (timers_in (list_at n lists)) 0
   expired-first = rw e refl
 
-  pub expired-past : (now : ℕ) → ArePast now (list_at n lists) → ArePast now (list_at n (slice_set lists n rest))
-  expired-past now a = subst (ArePast now) (sym expired-due) (subst (ArePast now) e a).1
+  pub expired-past : (now : ℕ) → AreDue now (list_at n lists) → AreDue now (list_at n (slice_set lists n rest))
+  expired-past now a = subst (AreDue now) (sym expired-due) (subst (AreDue now) e a).1
 
   pub expired-in_order : AreInOrder (n + 1) lists → AreInOrder (n + 1) (slice_set lists n rest)
   expired-in_order o s h = elim (cases_eq s n) [

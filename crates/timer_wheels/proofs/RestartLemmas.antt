@@ -10,7 +10,7 @@ use Rattle.timer_links.specs.declared.node.Node.{Node}
 use Rattle.timer_links.specs.Lists.{list_at, node_at, with_row, without_key, AreApart}
 use Rattle.timer_wheels.specs.declared.buckets.Buckets.{Buckets}
 use Rattle.timer_wheels.specs.Buckets.{state_of}
-use Rattle.timer_wheels.specs.BucketLists.{timer_in, timers_in, rows_below, wheel_state, ArePending, ArePast, AreInOrder, EachRow}
+use Rattle.timer_wheels.specs.BucketLists.{timer_in, timers_in, rows_below, wheel_state, ArePending, AreDue, AreInOrder, EachRow}
 use Rattle.timer_wheels.proofs.RowLemmas.{all-list_at}
 use Rattle.timer_wheels.proofs.ReplaceLemmas.{is_used}
 use Rattle.timer_wheels.proofs.BucketLemmas.{IsSeparated, separated, look-has, past-with_row, past-without_key, stop-found, stopped-pending, stopped-distinct, stopped-in_order, started, started-pending, started-distinct, in_order-with_row, AreBelow-pending, each-with_row, each-without_key}
@@ -29,7 +29,7 @@ module _ (b : Buckets) (handle : Handle) (bucket rounds : ℕ) (timer : Timer) (
   node = record { timer = timer; rounds = rounds }
 
   parts : IsSeparated b.tick b.slots b.links
-  parts = separated b.last_tick b.tick b.last_serial b.slots b.links b.pending b.past
+  parts = separated b.last_tick b.tick b.last_serial b.slots b.links b.pending b.due
 
   rest_length : length rest ≡ b.slots + 1
   rest_length = length-map b.links (without_key handle.place) ∙ b.has_lists
@@ -52,8 +52,8 @@ module _ (b : Buckets) (handle : Handle) (bucket rounds : ℕ) (timer : Timer) (
   pub restart_distinct : AreDistinct (timers_in (rows_below b.slots (with_row bucket (handle.place, node) rest)))
   restart_distinct = started-distinct b.slots b.last_tick b.tick b.last_serial bucket handle.place node rest m.in_slots in_rest m.fresh rest_pending (stopped-distinct b.slots handle.place b.links b.distinct)
 
-  pub restart_past : ArePast b.tick (list_at b.slots (with_row bucket (handle.place, node) rest))
-  restart_past = past-with_row b.tick b.slots bucket (handle.place, node) rest m.in_slots (past-without_key b.tick b.slots handle.place b.links b.past)
+  pub restart_past : AreDue b.tick (list_at b.slots (with_row bucket (handle.place, node) rest))
+  restart_past = past-with_row b.tick b.slots bucket (handle.place, node) rest m.in_slots (past-without_key b.tick b.slots handle.place b.links b.due)
 
   pub restart_in_order : AreInOrder (b.slots + 1) (with_row bucket (handle.place, node) rest)
   restart_in_order =

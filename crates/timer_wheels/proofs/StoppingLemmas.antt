@@ -19,7 +19,7 @@ use Rattle.timer_wheels.specs.Hier.{IsHier}
 use Rattle.timer_wheels.specs.Leap.{Leaps}
 use Rattle.timer_wheels.specs.Occupied.{bit_of, filled, AreMarked, Clears}
 use Rattle.timer_wheels.specs.Placement.{IsPaid, hops_of, levels_of, has_any, most_moves}
-use Rattle.timer_wheels.specs.BucketLists.{timer_in, ArePast}
+use Rattle.timer_wheels.specs.BucketLists.{timer_in, AreDue}
 use Rattle.timer_wheels.proofs.RowLemmas.{all-rest}
 use Rattle.timer_wheels.proofs.BucketLemmas.{IsSeparated, separated, look-has}
 
@@ -54,16 +54,16 @@ list_if_alone_in_range l (x ∷ xs) rest h = tt
 
 module _ (t : Table) (b : Buckets) (words : List ℕ) (h : IsHier t b words) (apart : AreApart b.links) where
   parts : IsSeparated b.tick b.slots b.links
-  parts = separated b.last_tick b.tick b.last_serial b.slots b.links b.pending b.past
+  parts = separated b.last_tick b.tick b.last_serial b.slots b.links b.pending b.due
 
   was_in_slots : (key : ℕ) (node : Node) → b.tick < node.timer.deadline → (s : StandsIn key node b.links) → s.l < b.slots
   was_in_slots key node later s =
       let len : length b.links ≡ b.slots + 1 = b.has_lists in
       let r : s.l < length b.links = s.in_range in
       let n : s.l ≢ b.slots = λ (e : s.l ≡ b.slots). (
-      let P : List (ℕ × Node) → Type 0 = ArePast b.tick in
+      let P : List (ℕ × Node) → Type 0 = AreDue b.tick in
       let at : list_at b.slots b.links ≡ s.front ++ (key, node) ∷ s.rest = ap (λ (v : ℕ). list_at v b.links) (sym e) ∙ s.at in
-      let d : node.timer.deadline ≤ b.tick = (all-rest (λ row. (timer_in row).deadline ≤ b.tick) s.front ((key, node) ∷ s.rest) (subst P at b.past)).0 in
+      let d : node.timer.deadline ≡ b.tick = (all-rest (λ row. (timer_in row).deadline ≡ b.tick) s.front ((key, node) ∷ s.rest) (subst P at b.due)).0 in
       omega arith) in
       omega arith
 

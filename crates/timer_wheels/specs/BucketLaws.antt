@@ -9,7 +9,8 @@ use Rattle.timer_base.specs.OrderLaws.{map-in_order, All-in_order, IsOrdered-in_
 use Rattle.timer_base.specs.Pending.{timer_of, timers_of}
 use Rattle.timer_base.specs.WheelState.{IsPending, IsWellFormed}
 use Rattle.timer_links.specs.declared.node.Node.{Node}
-use Rattle.timer_wheels.specs.BucketLists.{timer_in, timers_in, entries_of, rows_below, pending_in, wheel_state, ArePending, AreInOrder}
+use Rattle.timer_links.specs.Lists.{list_at}
+use Rattle.timer_wheels.specs.BucketLists.{timer_in, timers_in, entries_of, rows_below, pending_in, wheel_state, ArePending, AreDue, AreInOrder}
 
 pub timers_of-entries : (rows : List (ℕ × Node)) → map timer_of (entries_of rows) ≡ timers_in rows
 timers_of-entries [] = refl
@@ -27,8 +28,8 @@ all-timers P (x ∷ xs) a = (a.0, all-timers P xs a.1)
 pub wheel_state-well_formed : (n last_tick now last : ℕ) (lists : List (List (ℕ × Node)))
     → last_tick ≤ LAST → now ≤ last_tick → last ≤ LAST
     → ArePending last_tick now last (rows_below n lists) → AreDistinct (timers_in (rows_below n lists))
-    → AreInOrder (n + 1) lists → IsWellFormed (wheel_state n last_tick now last lists)
-wheel_state-well_formed n last_tick now last lists a b c p d o =
+    → AreDue now (list_at n lists) → AreInOrder (n + 1) lists → IsWellFormed (wheel_state n last_tick now last lists)
+wheel_state-well_formed n last_tick now last lists a b c p d q o =
     let rows : List (ℕ × Node) = rows_below n lists in
     record {
       last_in_range = a;
@@ -38,5 +39,6 @@ wheel_state-well_formed n last_tick now last lists a b c p d o =
       distinct = AreDistinct-in_order timer_of (entries_of rows) (rw (timers_of-entries rows) d);
       each = rw (timers_of-pending rows)
           (All-in_order itself (IsPending last_tick now last) (timers_in rows) (all-timers (IsPending last_tick now last) rows p));
+      due_now = all-timers (λ t. t.deadline ≡ now) (list_at n lists) q;
       due_rising = o n (omega arith);
     }

@@ -1,7 +1,8 @@
 -- The state that the lists of a wheel represent: the first n are its buckets, and the next one has what is due.
-use Rattle.std.specs.Prelude.{ℕ, ◌<◌, ◌≤◌, zero, suc, List, [], ◌∷◌, ◌++◌, map}
+use Rattle.std.specs.Prelude.{◌≡◌, ℕ, ◌<◌, zero, suc, List, [], ◌∷◌, ◌++◌, map}
 use Rattle.std.specs.List.{AllByRecursion, AllByRecursion-prop}
-use Rattle.std.specs.Coded.{Π_prop, le_prop}
+use Rattle.std.specs.Coded.{Π_prop}
+use Rattle.std.proofs.Math.Nat.{ℕ_set}
 use Rattle.std.proofs.Props.{props}
 use Rattle.timer_base.specs.declared.timer.Timer.{Timer}
 use Rattle.timer_base.specs.Order.{in_order, AreDistinct, AreRising, IsNotAmong}
@@ -58,9 +59,9 @@ ArePendingBelow n last_tick now last_serial lists = ArePending last_tick now las
 abbrev pub AreInOrder : ℕ → List (List (ℕ × Node)) → Type 0
 AreInOrder n lists = (s : ℕ) → s < n → AreRising 0 (timers_in (list_at s lists))
 
--- the deadline of each row is not after the tick: they are due
-abbrev pub ArePast : ℕ → List (ℕ × Node) → Type 0
-ArePast now rows = AllByRecursion (λ row. (timer_in row).deadline ≤ now) rows
+-- the deadline of each row is the tick
+abbrev pub AreDue : ℕ → List (ℕ × Node) → Type 0
+AreDue now rows = AllByRecursion (λ row. (timer_in row).deadline ≡ now) rows
 
 -- each row of the first n lists is as the fact says of its list
 abbrev pub EachRow : (ℕ → ℕ × Node → Type 0) → ℕ → List (List (ℕ × Node)) → Type 0
@@ -75,8 +76,8 @@ ArePendingBelow-prop n last_tick now last_serial lists =
     AllByRecursion-prop (λ row. IsPending last_tick now last_serial (timer_in row))
     (λ row. IsPending-prop last_tick now last_serial (timer_in row)) (rows_below n lists)
 
-pub ArePast-prop : (now : ℕ) (rows : List (ℕ × Node)) → IsProp (ArePast now rows)
-ArePast-prop now rows = AllByRecursion-prop (λ row. (timer_in row).deadline ≤ now) (λ row. le_prop) rows
+pub AreDue-prop : (now : ℕ) (rows : List (ℕ × Node)) → IsProp (AreDue now rows)
+AreDue-prop now rows = AllByRecursion-prop (λ row. (timer_in row).deadline ≡ now) (λ row. ℕ_set _ _) rows
 
 pub AreInOrder-prop : (n : ℕ) (lists : List (List (ℕ × Node))) → IsProp (AreInOrder n lists)
 AreInOrder-prop n lists = Π_prop (λ s. Π_prop (λ b. AreRising-prop 0 (timers_in (list_at s lists))))

@@ -40,4 +40,4 @@ ReplacesRow found l row old new = MatchOption found (new ≡ old) (λ r. new ≡
 pub state_of-well_formed : (buckets : Buckets) → IsWellFormed (state_of buckets)
 state_of-well_formed buckets =
     wheel_state-well_formed buckets.slots buckets.last_tick buckets.tick buckets.last_serial buckets.links
-    buckets.last_in_range buckets.tick_in_range buckets.serial_in_range buckets.pending buckets.distinct buckets.in_order
+    buckets.last_in_range buckets.tick_in_range buckets.serial_in_range buckets.pending buckets.distinct buckets.due buckets.in_order

@@ -24,7 +24,7 @@ invariant_of-buckets c =
       has_lists = n.has_lists;
       pending = n.pending;
       distinct = n.distinct;
-      past = due_past (b.tick + 1) (state_of b).pending (list_at b.slots c.empty_bucket-moves.new.links) (ap (λ (w : WheelState). w.due) n.ticked);
+      due = due_past (b.tick + 1) (state_of b).pending (list_at b.slots c.empty_bucket-moves.new.links) (ap (λ (w : WheelState). w.due) n.ticked);
       in_order = n.in_order;
     }
 

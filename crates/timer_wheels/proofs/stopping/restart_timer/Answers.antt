@@ -19,7 +19,7 @@ use Rattle.timer_wheels.proofs.stopping.restart_timer.Goals as goal
 pub alone_in-emptied-requires : goal.alone_in-emptied-requires
 alone_in-emptied-requires c =
     let b = c.args.buckets.now in
-    let f = look-has b.tick b.slots c.args.handle b.links b.has_lists (separated b.last_tick b.tick b.last_serial b.slots b.links b.pending b.past) c.keys_are_apart.ensures c.in_ok-look.field-0 b.distinct (sym c.look.ensures ∙ c.in_ok-look.was) in
+    let f = look-has b.tick b.slots c.args.handle b.links b.has_lists (separated b.last_tick b.tick b.last_serial b.slots b.links b.pending b.due) c.keys_are_apart.ensures c.in_ok-look.field-0 b.distinct (sym c.look.ensures ∙ c.in_ok-look.was) in
     is_used c.args.handle.place f.node b.links f.at
 
 in_word : (l n : ℕ) → l < n → n ≤ 640 → l < 640

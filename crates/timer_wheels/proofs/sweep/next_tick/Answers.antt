@@ -35,8 +35,8 @@ invariant_of-buckets-clause-in_order c =
     rw (gone_through b.slots b.tick c.args.slot b.links c.sweep_bucket.new.links c.sweep_bucket.ensures c.requires.slot)
     (ticked-in_order b.slots b.last_tick b.tick b.last_serial b.links c.requires.has_slots b.has_lists b.pending c.requires.in_buckets (no_rows (list_at b.slots b.links) c.requires.nothing_due) b.in_order)
 
-pub invariant_of-buckets-clause-past : goal.invariant_of-buckets-clause-past
-invariant_of-buckets-clause-past c =
+pub invariant_of-buckets-clause-due : goal.invariant_of-buckets-clause-due
+invariant_of-buckets-clause-due c =
     let b = c.args.buckets.now in
     rw (gone_through b.slots b.tick c.args.slot b.links c.sweep_bucket.new.links c.sweep_bucket.ensures c.requires.slot)
     (due_past (b.tick + 1) (state_of b).pending (list_at b.slots (swept ((b.tick + 1) % b.slots) b.slots b.links))

@@ -1,6 +1,6 @@
 use Rattle.std.proofs.Common.{◌≤◌, ℕ, List, sym, ◌∙◌, subst, arith}
 use Rattle.timer_links.specs.declared.node.Node.{Node}
-use Rattle.timer_wheels.specs.BucketLists.{ArePast}
+use Rattle.timer_wheels.specs.BucketLists.{AreDue}
 use Rattle.timer_wheels.proofs.RowLemmas.{rows_below-none}
 use Rattle.timer_wheels.proofs.BucketLemmas.{cleared, cleared-in_order}
 use Rattle.timer_wheels.proofs.buckets.Buckets.clear.Goals as goal
@@ -17,11 +17,11 @@ invariant_of-self-clause-pending c = rw (rows_below-none c.args.self.now.slots c
 pub invariant_of-self-clause-distinct : goal.invariant_of-self-clause-distinct
 invariant_of-self-clause-distinct c = rw (rows_below-none c.args.self.now.slots c.empty_lists.new.links c.empty_lists.ensures.emptied) tt
 
-pub invariant_of-self-clause-past : goal.invariant_of-self-clause-past
-invariant_of-self-clause-past c =
+pub invariant_of-self-clause-due : goal.invariant_of-self-clause-due
+invariant_of-self-clause-due c =
     let b = c.args.self.now in
-    let P : List (ℕ × Node) → Type 0 = ArePast b.tick in
-    subst P (sym (c.empty_lists.ensures.others b.slots (not_below b.slots))) b.past
+    let P : List (ℕ × Node) → Type 0 = AreDue b.tick in
+    subst P (sym (c.empty_lists.ensures.others b.slots (not_below b.slots))) b.due
 
 pub invariant_of-self-clause-in_order : goal.invariant_of-self-clause-in_order
 invariant_of-self-clause-in_order c =

@@ -23,8 +23,8 @@ invariant_of-result-clause-pending c = rw (rows_new c.args.slots (c.args.slots +
 pub invariant_of-result-clause-distinct : goal.invariant_of-result-clause-distinct
 invariant_of-result-clause-distinct c = rw (rows_new c.args.slots (c.args.slots + 1) c.in_ok-new.field-0 c.in_ok-new.ensures) tt
 
-pub invariant_of-result-clause-past : goal.invariant_of-result-clause-past
-invariant_of-result-clause-past c = rw (at_new c.args.slots (c.args.slots + 1) c.args.slots c.in_ok-new.field-0 c.in_ok-new.ensures) tt
+pub invariant_of-result-clause-due : goal.invariant_of-result-clause-due
+invariant_of-result-clause-due c = rw (at_new c.args.slots (c.args.slots + 1) c.args.slots c.in_ok-new.field-0 c.in_ok-new.ensures) tt
 
 pub invariant_of-result-clause-in_order : goal.invariant_of-result-clause-in_order
 invariant_of-result-clause-in_order c = λ s h. rw (at_new c.args.slots (c.args.slots + 1) s c.in_ok-new.field-0 c.in_ok-new.ensures) tt

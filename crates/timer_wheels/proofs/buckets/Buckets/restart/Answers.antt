@@ -4,7 +4,7 @@ use Rattle.timer_base.specs.WheelState.{after_start, after_stop}
 use Rattle.timer_links.specs.declared.node.Node.{Node}
 use Rattle.timer_links.specs.Lists.{list_at}
 use Rattle.timer_wheels.specs.Buckets.{state_of}
-use Rattle.timer_wheels.specs.BucketLists.{timers_in, rows_below, wheel_state, ArePending, ArePast, AreInOrder}
+use Rattle.timer_wheels.specs.BucketLists.{timers_in, rows_below, wheel_state, ArePending, AreDue, AreInOrder}
 use Rattle.timer_wheels.proofs.RestartLemmas.{restart_used, restart_length, restart_pending, restart_distinct, restart_past, restart_in_order, restart_state}
 use Rattle.timer_wheels.proofs.buckets.Buckets.restart.Goals as goal
 
@@ -29,10 +29,10 @@ invariant_of-self-clause-distinct c =
     let P : List (List (ℕ × Node)) → Type 0 = λ lists. AreDistinct (timers_in (rows_below b.slots lists)) in
     subst P (sym c.replace_node.ensures) (restart_distinct c.args.self.now c.args.handle c.args.bucket c.args.rounds c.args.timer (record { in_slots = c.requires.bucket; later = c.requires.later; in_range = c.requires.deadline; fresh = c.requires.fresh }) c.keys_are_apart.ensures c.in_ok-old.old (sym c.look.ensures ∙ c.in_ok-old.was))
 
-pub invariant_of-self-clause-past : goal.invariant_of-self-clause-past
-invariant_of-self-clause-past c =
+pub invariant_of-self-clause-due : goal.invariant_of-self-clause-due
+invariant_of-self-clause-due c =
     let b = c.args.self.now in
-    let P : List (List (ℕ × Node)) → Type 0 = λ lists. ArePast b.tick (list_at b.slots lists) in
+    let P : List (List (ℕ × Node)) → Type 0 = λ lists. AreDue b.tick (list_at b.slots lists) in
     subst P (sym c.replace_node.ensures) (restart_past c.args.self.now c.args.handle c.args.bucket c.args.rounds c.args.timer (record { in_slots = c.requires.bucket; later = c.requires.later; in_range = c.requires.deadline; fresh = c.requires.fresh }) c.keys_are_apart.ensures c.in_ok-old.old (sym c.look.ensures ∙ c.in_ok-old.was))
 
 pub invariant_of-self-clause-in_order : goal.invariant_of-self-clause-in_order

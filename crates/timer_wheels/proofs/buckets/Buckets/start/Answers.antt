@@ -28,10 +28,10 @@ invariant_of-self-2-clause-distinct c =
     let b = c.args.self.now in
     rw c.in-Ok.ensures.pushed (started-distinct b.slots b.last_tick b.tick b.last_serial c.args.bucket c.in-Ok.place (record { timer = c.args.timer; rounds = c.args.rounds }) b.links c.requires.bucket (in_range b.slots c.args.bucket b.links c.requires.bucket b.has_lists) c.requires.fresh b.pending b.distinct)
 
-pub invariant_of-self-2-clause-past : goal.invariant_of-self-2-clause-past
-invariant_of-self-2-clause-past c =
+pub invariant_of-self-2-clause-due : goal.invariant_of-self-2-clause-due
+invariant_of-self-2-clause-due c =
     let b = c.args.self.now in
-    rw c.in-Ok.ensures.pushed (past-with_row b.tick b.slots c.args.bucket (c.in-Ok.place, record { timer = c.args.timer; rounds = c.args.rounds }) b.links c.requires.bucket b.past)
+    rw c.in-Ok.ensures.pushed (past-with_row b.tick b.slots c.args.bucket (c.in-Ok.place, record { timer = c.args.timer; rounds = c.args.rounds }) b.links c.requires.bucket b.due)
 
 pub invariant_of-self-2-clause-in_order : goal.invariant_of-self-2-clause-in_order
 invariant_of-self-2-clause-in_order c =

@@ -21,10 +21,10 @@ invariant_of-self-clause-distinct c =
     let b = c.args.self.now in
     rw c.take-taken.ensures.taken (stopped-distinct b.slots c.args.handle.place b.links b.distinct)
 
-pub invariant_of-self-clause-past : goal.invariant_of-self-clause-past
-invariant_of-self-clause-past c =
+pub invariant_of-self-clause-due : goal.invariant_of-self-clause-due
+invariant_of-self-clause-due c =
     let b = c.args.self.now in
-    rw c.take-taken.ensures.taken (past-without_key b.tick b.slots c.args.handle.place b.links b.past)
+    rw c.take-taken.ensures.taken (past-without_key b.tick b.slots c.args.handle.place b.links b.due)
 
 pub invariant_of-self-clause-in_order : goal.invariant_of-self-clause-in_order
 invariant_of-self-clause-in_order c =
@@ -34,10 +34,10 @@ invariant_of-self-clause-in_order c =
 pub returns-clause-stopped : goal.returns-clause-stopped
 returns-clause-stopped c =
     let b = c.args.self.now in
-    stop-found b.tick b.slots c.args.handle b.links b.has_lists (separated b.last_tick b.tick b.last_serial b.slots b.links b.pending b.past) c.keys_are_apart.ensures b.last_tick b.last_serial c.in_ok-timer.timer c.take-taken.new.self b.distinct (sym c.look.ensures ∙ c.in_ok-timer.was) c.take-taken.ensures.taken
+    stop-found b.tick b.slots c.args.handle b.links b.has_lists (separated b.last_tick b.tick b.last_serial b.slots b.links b.pending b.due) c.keys_are_apart.ensures b.last_tick b.last_serial c.in_ok-timer.timer c.take-taken.new.self b.distinct (sym c.look.ensures ∙ c.in_ok-timer.was) c.take-taken.ensures.taken
 
 pub take-taken-requires : goal.take-taken-requires
 take-taken-requires c =
     let b = c.args.self.now in
-    let f = look-has b.tick b.slots c.args.handle b.links b.has_lists (separated b.last_tick b.tick b.last_serial b.slots b.links b.pending b.past) c.keys_are_apart.ensures c.in_ok-timer.timer b.distinct (sym c.look.ensures ∙ c.in_ok-timer.was) in
+    let f = look-has b.tick b.slots c.args.handle b.links b.has_lists (separated b.last_tick b.tick b.last_serial b.slots b.links b.pending b.due) c.keys_are_apart.ensures c.in_ok-timer.timer b.distinct (sym c.look.ensures ∙ c.in_ok-timer.was) in
     is_used c.args.handle.place f.node b.links f.at
