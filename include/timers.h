@@ -20,9 +20,10 @@
  *     While expired timers wait, others may be started, restarted and stopped, for instance by the work
  *     that the first of them triggers; only the clock stands still until all of them are taken (TIMERS_DUE).
  *
- *     Start, restart, stop and expire take constant time; a tick takes time for the timers that expire at
- *     it and those that move to a lower wheel, and timers_advance skips stretches in which nothing happens.
- *     Only timers_new and timers_start allocate.
+ *     Restart, stop and expire take constant time. So does a start, amortised: the timers are in tables that
+ *     grow, and a start that finds them full moves all timers to larger ones. A tick takes time for the timers
+ *     that expire at it and those that move to a lower wheel, and timers_advance skips stretches in which
+ *     nothing happens. Only timers_new and timers_start allocate.
  *
  *     The library is proved: each function meets the contract stated in crates/timer_c/src/exports.rt, for
  *     every call that keeps the rules below. Nothing checks that a caller keeps them.
@@ -159,7 +160,8 @@ bool timers_has_due(struct timers *t);
 /* The present tick. 0 where it holds none. */
 uint64_t timers_now(struct timers *t);
 
-/* How many timers are pending. Expired timers are not counted. 0 where it holds none. */
+/* How many timers are pending. Expired timers are not counted. 0 where it holds none. While expired timers
+ * wait, it takes time for each of them: timers_has_due says in constant time whether any wait. */
 size_t timers_len(struct timers *t);
 
 /* The tick until which the caller may sleep: the present one where an expired timer waits to be taken,

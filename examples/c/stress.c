@@ -1,4 +1,5 @@
-/* Random calls against a sorted list. The first difference ends it with status 1.
+/* Random calls against a sorted list. The first difference ends it with status 1, and so does a status that should
+ * have occurred and never did.
  *     stress [CALLS] [SEED]
  * With -DREFUSE -Wl,--wrap=malloc,--wrap=realloc every third allocation of the library is refused. */
 #include <inttypes.h>
@@ -198,9 +199,9 @@ static void do_tick(struct timers *t)
 	}
 }
 
-static void do_advance(struct timers *t)
+static void advance_by(struct timers *t, uint64_t most)
 {
-	uint64_t most = below(8) ? below(200) : next_random() >> below(64), passed = 14, wanted = most;
+	uint64_t passed = 14, wanted = most;
 	enum timers_status status = timers_advance(t, most, &passed);
 	WANT("advance", status, due ? TIMERS_DUE : now == last_tick ? TIMERS_CLOCK_END : TIMERS_OK);
 	seen(status);
@@ -217,6 +218,11 @@ static void do_advance(struct timers *t)
 	ticks += wanted;
 	if (wanted > 0)
 		count_due();
+}
+
+static void do_advance(struct timers *t)
+{
+	advance_by(t, below(8) ? below(200) : next_random() >> below(64));
 }
 
 static void want_first(const struct timer_expired *e)
@@ -301,6 +307,37 @@ static void open_anew(struct timers *t)
 	WANT("new, open", timers_new(t, TIMERS_WIDE, 0), TIMERS_OPEN);
 }
 
+/* Goes to the last tick: all that is pending expires on the way, and then the clock is at its end. */
+static void go_to_the_end(struct timers *t)
+{
+	while (now < last_tick || due > 0) {
+		while (due > 0)
+			do_expire(t);
+		advance_by(t, UINT64_MAX);
+		look(t);
+	}
+	WANT("pending at the last tick", timers_len(t), 0);
+	do_tick(t);
+	do_advance(t);
+	do_start(t);
+	look(t);
+}
+
+/* The text of a status that should have occurred and never did, or NULL. */
+static const char *missing(void)
+{
+	static const enum timers_status wanted[] = {
+		TIMERS_OK, TIMERS_DUE, TIMERS_NOT_PENDING, TIMERS_ZERO_INTERVAL, TIMERS_TOO_LATE, TIMERS_CLOCK_END,
+#ifdef REFUSE
+		TIMERS_NO_MEMORY,
+#endif
+	};
+	for (size_t i = 0; i < sizeof wanted / sizeof *wanted; i++)
+		if (statuses[wanted[i]] == 0)
+			return timers_message(wanted[i]);
+	return NULL;
+}
+
 int main(int argc, char **argv)
 {
 	uint64_t calls = argc > 1 ? strtoull(argv[1], NULL, 10) : 1000000;
@@ -327,6 +364,7 @@ int main(int argc, char **argv)
 			open_anew(&t);
 		}
 	}
+	go_to_the_end(&t);
 	timers_free(&t);
 	free(list);
 	printf("%" PRIu64 " calls agree: %" PRIu64 " starts, %" PRIu64 " restarts, %" PRIu64 " stops, %" PRIu64 " ticks, %" PRIu64 " expiries, %" PRIu64
@@ -335,5 +373,8 @@ int main(int argc, char **argv)
 	for (size_t i = 0; i < sizeof statuses / sizeof *statuses; i++)
 		printf(" %" PRIu64, statuses[i]);
 	printf("\n");
-	return 0;
+	const char *never = missing();
+	if (never)
+		printf("this status never occurred: %s\n", never);
+	return never != NULL;
 }

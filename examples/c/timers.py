@@ -6,7 +6,7 @@
         for deadline, serial, action in timers.advance(100):
             ...
 
-`python3 timers.py libtimers.so` compares random calls with a dictionary.
+`python3 timers.py libtimers.so` compares random calls with a dictionary, and goes to the end of the clock.
 """
 import ctypes
 import random
@@ -29,6 +29,11 @@ class TimersError(Exception):
     def __init__(self, status):
         super().__init__(MESSAGES[status])
         self.status = status
+
+
+def check(status):
+    if status != OK:
+        raise TimersError(status)
 
 
 class Held(Structure):
@@ -74,9 +79,7 @@ class Timers:
         self._do("new", table, first_tick)
 
     def _do(self, name, *arguments):
-        status = self._call[name](self._held, *arguments)
-        if status != OK:
-            raise TimersError(status)
+        check(self._call[name](self._held, *arguments))
 
     def close(self):
         self._call["free"](self._held)
@@ -106,18 +109,23 @@ class Timers:
         return action.value
 
     def expired(self):
-        """Takes what expired: a tuple of deadline, serial and action for each."""
-        out = (Expired * 64)()
-        while count := self._call["expire_batch"](self._held, out, len(out)):
-            for e in out[:count]:
-                yield e.deadline, e.serial, e.action
+        """Takes what expired, and returns it as a list of (deadline, serial, action)."""
+        taken, batch = [], (Expired * 64)()
+        while count := self._call["expire_batch"](self._held, batch, len(batch)):
+            taken.extend((e.deadline, e.serial, e.action) for e in batch[:count])
+        return taken
 
     def advance(self, most):
-        """Passes so many ticks, and returns what expired on the way as a list of (deadline, serial, action)."""
-        out = list(self.expired())
+        """Passes so many ticks, and returns what expired on the way as a list of (deadline, serial, action).
+
+        It passes fewer where the clock comes to its last tick. There it is refused (CLOCK_END) if nothing was left to take."""
+        first_tick, out, passed = self.now(), self.expired(), c_uint64()
         while most > 0:
-            passed = c_uint64()
-            self._do("advance", most, byref(passed))
+            status = self._call["advance"](self._held, most, byref(passed))
+            # What was taken is taken: an error would lose it.
+            if status == CLOCK_END and (out or self.now() > first_tick):
+                break
+            check(status)
             most -= passed.value
             out.extend(self.expired())
         return out
@@ -180,5 +188,26 @@ def compare(library, calls=20000):
     print(f"{calls} calls from Python agree; tick {now}")
 
 
+def come_to_the_last_tick(library):
+    """Nothing that expired is lost at the end of the clock, and what is refused there has taken nothing."""
+    last = 8639999
+    with Timers(library, CLOCK, last - 9) as timers:
+        first, second = timers.start(5, 7), timers.start(9, 8)
+        assert refused(timers.start, 10, 9) == TOO_LATE
+        assert timers.advance(100) == [(last - 4, first.serial, 7), (last, second.serial, 8)]
+        assert timers.now() == last and refused(timers.advance, 1) == CLOCK_END
+        assert timers.advance(0) == [] and timers.now() == last
+    with Timers(library, CLOCK, last - 9) as timers:
+        assert timers.advance(100) == [] and timers.now() == last
+        assert refused(timers.advance, 100) == CLOCK_END
+    with Timers(library, CLOCK, last - 1) as timers:
+        handle = timers.start(1, 6)
+        assert timers._call["tick"](timers._held) == OK
+        assert timers.advance(1) == [(last, handle.serial, 6)]
+        assert refused(timers.advance, 1) == CLOCK_END
+
+
 if __name__ == "__main__":
-    compare(sys.argv[1] if len(sys.argv) > 1 else "libtimers.so")
+    library = sys.argv[1] if len(sys.argv) > 1 else "libtimers.so"
+    compare(library)
+    come_to_the_last_tick(library)

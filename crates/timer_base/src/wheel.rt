@@ -35,6 +35,9 @@ pub trait Wheel {
         ensures { result ≡ (state self.now).now };
 
     /// How many timers are pending. Those that are due are not counted.
+    ///
+    /// A wheel may have to count those that are due, to leave them out: while some wait, it takes time for each of
+    /// them. `has_due` says whether there are any.
     fn len(&self) -> usize
         ensures { result ≡ length (state self.now).pending };
 
