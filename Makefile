@@ -2,7 +2,7 @@
 # make run         builds it and plays a script of examples/
 # make test        the whole gate; its last line is 'N passed, 0 failed'
 # make lib         builds libtimers.a and libtimers.so into build/lib
-# make install     installs program, libraries, header, pkg-config file and man pages under PREFIX
+# make install     installs program, libraries, header, pkg-config file, man pages and docs under PREFIX
 # make uninstall   removes what it installed
 # make bench       measures the wheels against others (bench/README.md)
 # make bench-lines measures the owner's desk, ring lines and clients in threads against others

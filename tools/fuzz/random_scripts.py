@@ -1,9 +1,9 @@
 #!/usr/bin/env python3
-"""random_scripts.py COMPARE PROGRAM SECONDS [SEED]   random scripts against the model
+"""random_scripts.py COMPARE PROGRAM FOLDER SECONDS [SEED]   random scripts against the model
 
 Most lines are such as a client would send, so that timers start, move, expire and are restarted; one in ten
 is wrong in some way. Each script goes to COMPARE, which plays it with every scheme. A script at which they
-differ is kept in the present folder, and the run ends with status 1. The last line is 'N scripts, M lines'.
+differ is kept in FOLDER, and the run ends with status 1. The last line is 'N scripts, M lines'.
 """
 import random
 import subprocess
@@ -86,14 +86,14 @@ class Script:
 
 
 def main():
-    compare, program, seconds = sys.argv[1], sys.argv[2], float(sys.argv[3])
-    seed = int(sys.argv[4]) if len(sys.argv) > 4 else 1
+    compare, program, folder, seconds = sys.argv[1], sys.argv[2], sys.argv[3], float(sys.argv[4])
+    seed = int(sys.argv[5]) if len(sys.argv) > 5 else 1
     end, scripts, lines = time.monotonic() + seconds, 0, 0
     while time.monotonic() < end:
         text = Script(seed + scripts).text()
         ran = subprocess.run([compare, program], input=text, stderr=subprocess.PIPE)
         if ran.returncode:
-            kept = f"script-{seed + scripts}"
+            kept = f"{folder}/script-{seed + scripts}"
             with open(kept, "wb") as file:
                 file.write(text)
             sys.stderr.write(f"{kept}: {ran.stderr.decode(errors='replace')}")

@@ -204,8 +204,8 @@ fn help_and_version_are_written_where_they_are_asked_for(rt: HostRuntime) {
             ["help", "serve"].as_slice(),
             b"Answers each line of standard input".as_slice(),
         ),
-        (["--version"].as_slice(), b"timers 0.1.0\n".as_slice()),
-        (["-V"].as_slice(), b"timers 0.1.0\n".as_slice()),
+        (["--version"].as_slice(), b"timers 1.0.0\n".as_slice()),
+        (["-V"].as_slice(), b"timers 1.0.0\n".as_slice()),
     ];
     for (arguments, front) in rows {
         let ended = call(&rt, arguments, Source::of(b"x"), Sink::new(rt.alloc()));

@@ -3,8 +3,8 @@
 /// The name of the program.
 pub static NAME: &str = "timers";
 
-/// The version of the program: the only place that states it.
-pub static VERSION: &str = "0.1.0";
+/// The version of the program: that of tools/install/version, to which tools/gate compares it.
+pub static VERSION: &str = "1.0.0";
 
 pub static ABOUT: &str =
     "Plays a script of timers: clients start, restart and stop them, and ticks let them expire";
@@ -42,7 +42,7 @@ For example:
 Nothing is written before the whole script has been played. The exit status is 0 if
 it was, 1 after an error, which is reported in one line on standard error, and 2 if
 the arguments are refused. `timers serve` answers each line as it comes instead.
-docs/formats.md lists every line of scripts and output.";
+`man timers` and docs/formats.md list every line of scripts and output.";
 
 /// What stands below the help of `play`.
 pub static SCHEMES: &str = "\
@@ -62,7 +62,8 @@ For example, with two clients, a stop and a close:
   returned 1 2 9 6                     client, serial, deadline, action
   end 0 0                              tick, pending timers
 
-`timers help` describes the lines of a script; docs/formats.md has all of it.";
+`timers help` describes the lines of a script; `man timers` and docs/formats.md have
+all of it.";
 
 pub static SERVE_ABOUT: &str =
     "Answers each line of standard input as soon as it is complete, until the input ends";
@@ -87,7 +88,8 @@ For example, another program writes to the input and reads the output of `timers
 The schemes are those of `timers play`. The exit status is 0 if the input came to its
 end and every line was answered, 1 after an error, which is reported in one line on
 standard error (`bad line L`, `read failed`, `write failed` or `out of memory`), and 2
-if the arguments are refused. docs/formats.md says what may have been written then.";
+if the arguments are refused. `man timers` and docs/formats.md say what may have been
+written then.";
 
 pub static SHOW_ABOUT: &str =
     "Answers lines as `serve` does, and shows after each where the pending timers stand";
@@ -132,6 +134,7 @@ one thread owns the facility and serves all of them. For example, with two clien
   client 1 sent 100 started 100 expired 100
   end
 
-The exit status is 0 if each client came to its end, and 1 after an error, which is
-reported in one line on standard error: `client C failed`, `desk failed`,
-`out of memory` or `write failed`. Nothing is read from standard input.";
+The exit status is 0 if each client came to its end, 1 after an error, which is
+reported in one line on standard error (`client C failed`, `desk failed`,
+`out of memory` or `write failed`), and 2 if the arguments are refused. Nothing is read
+from standard input.";

@@ -19,8 +19,6 @@ mod command;
 #[cfg(test)]
 mod handle_tests;
 mod help;
-#[cfg(test)]
-mod piece_tests;
 mod placement;
 mod reporting;
 mod requested;

@@ -1,5 +1,5 @@
 //! The worked examples: scripts and the texts that answer them, with each scheme.
-use crate::testing::{Sink, Source, call, has_left, same, same_in};
+use crate::testing::{MIGRATION, MIGRATION_TEXT, Sink, Source, call, has_left, same, same_in};
 use std::alloc::Global;
 use std::process::Abort;
 use std::thread::Threads;
@@ -49,11 +49,7 @@ fn expiring_rows() -> [Row; 8] {
             "start 0 1 4096 1\ntick 4090\nstart 1 1 6 2\ntick 5\nstart 0 2 1 3\ntick 1\n",
             "started 0 1 1 4096\nstarted 1 1 2 4096\nstarted 0 2 3 4096\nexpired 4096 0 1 1\nexpired 4096 1 2 2\nexpired 4096 0 3 3\nend 4096 0\n",
         ),
-        usual_row(
-            "migration",
-            "start 0 1 130 1\ntick 128\nstart 1 1 2 2\ntick 2\n",
-            "started 0 1 1 130\nstarted 1 1 2 130\nexpired 130 0 1 1\nexpired 130 1 2 2\nend 130 0\n",
-        ),
+        usual_row("migration", MIGRATION, MIGRATION_TEXT),
         usual_row(
             "rounds",
             "start 0 1 1 11\nstart 0 2 8 12\nstart 0 3 9 13\nstart 0 4 16 14\nstart 0 5 8 15\ntick 16\n",

@@ -1,5 +1,5 @@
 //! Scripts: which bytes are one, and which line is the first bad one.
-use crate::testing::{SCHEMES, Sink, Source, call, has_left, same, same_in};
+use crate::testing::{MIGRATION, SCHEMES, Sink, Source, call, has_left, same, same_in};
 use std::process::Abort;
 use std::thread::Threads;
 
@@ -35,10 +35,7 @@ fn bad_lines_are_named_and_nothing_is_written_with_each_scheme(rt: HostRuntime) 
     }
 }
 
-/// The script of the row `migration`.
-static MIGRATION: &str = "start 0 1 130 1\ntick 128\nstart 1 1 2 2\ntick 2\n";
-
-/// The lengths of its fronts that end at a line, and the last line of the text of each.
+/// The lengths of the fronts of `MIGRATION` that end at a line, and the last line of the text of each.
 static ENDS: [(usize, &str); 5] = [
     (0, "end 0 0\n"),
     (16, "end 0 1\n"),

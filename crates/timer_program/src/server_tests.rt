@@ -1,17 +1,13 @@
 //! Calls of the program with `serve`.
 use crate::arguments::{Asked, read_arguments};
 use crate::asked::{Play, Scheme};
-use crate::testing::{Fault, Sink, Source, call, has_left, same, same_in};
+use crate::testing::{
+    Fault, MIGRATION, MIGRATION_TEXT, SIZES, Sink, Source, call, has_left, same, same_in,
+};
 use std::alloc::Global;
 use std::io::ErrorKind;
 use std::process::Abort;
 use std::thread::Threads;
-
-/// Two timers of one deadline.
-static SCRIPT: &[u8; 46] = b"start 0 1 130 1\ntick 128\nstart 1 1 2 2\ntick 2\n";
-
-static TEXT: &[u8; 82] =
-    b"started 0 1 1 130\nstarted 1 1 2 130\nexpired 130 0 1 1\nexpired 130 1 2 2\nend 130 0\n";
 
 /// Compares how a call with `serve` ended.
 fn check_ended<T: AllocGlobal + Abort + Threads>(
@@ -52,10 +48,10 @@ fn the_options_of_serve_are_those_of_play(rt: HostRuntime) {
 #[test]
 fn a_stream_is_answered_in_pieces_of_any_size(rt: HostRuntime) {
     let alloc = rt.alloc();
-    for size in [1, 2, 3, 5, 8, 13, 21, 34, 55, 82] {
-        let source = Source::of(SCRIPT).in_pieces(size);
+    for size in SIZES {
+        let source = Source::of(MIGRATION.as_bytes()).in_pieces(size);
         let sink = Sink::new(alloc).in_pieces(size);
-        check_ended(&rt, source, sink, 0, TEXT, "");
+        check_ended(&rt, source, sink, 0, MIGRATION_TEXT.as_bytes(), "");
     }
 }
 
@@ -89,41 +85,53 @@ fn a_stream_is_answered_up_to_the_read_that_fails(rt: HostRuntime) {
     // What has come before the read fails: a part of a line, some lines, all of them.
     for (room, answered) in [(3, 0), (16, 18), (40, 36), (46, 72)] {
         for kind in [ErrorKind::Interrupted, ErrorKind::BrokenPipe] {
-            let source = Source::of(SCRIPT).in_pieces(5).failing_after(room, kind);
-            check_ended(
-                &rt,
-                source,
-                Sink::new(alloc),
-                1,
-                &TEXT[..answered],
-                "read failed\n",
-            );
+            let source = Source::of(MIGRATION.as_bytes())
+                .in_pieces(5)
+                .failing_after(room, kind);
+            let (front, _) = MIGRATION_TEXT.as_bytes().split_at(answered);
+            check_ended(&rt, source, Sink::new(alloc), 1, front, "read failed\n");
         }
     }
 }
 
-/// A stream whose writer has this fault after so many bytes.
-fn ends_at_a_write<T: AllocGlobal + Abort + Threads>(rt: &T, room: usize, fault: Fault) {
-    let source = Source::of(SCRIPT).in_pieces(7);
-    let sink = Sink::new(rt.alloc()).with_fault_after(room, fault);
+/// Serves the stream to a writer that fails after this front of the text.
+fn ends_at<T: AllocGlobal + Abort + Threads>(rt: &T, front: &[u8], sink: Sink) {
+    let room = front.len();
+    let source = Source::of(MIGRATION.as_bytes()).in_pieces(7);
     let ended = call(rt, &["serve"], source, sink);
-    same_in(rt, room, ended.status, 1);
-    same_in(rt, room, TEXT.starts_with(ended.output.as_slice()), true);
-    same_in(
-        rt,
-        room,
-        ended.faults.as_slice(),
-        b"write failed\n".as_slice(),
-    );
+    has_left(rt, room, &ended, 1, front, b"write failed\n");
     same_in(rt, room, ended.writer_failed, true);
 }
 
 #[test]
 fn a_stream_ends_at_the_write_that_fails(rt: HostRuntime) {
-    for room in 0..TEXT.len() {
+    let text = MIGRATION_TEXT.as_bytes();
+    for room in 0..text.len() {
         for fault in [Fault::TakesNone, Fault::Fails(ErrorKind::BrokenPipe)] {
-            ends_at_a_write(&rt, room, fault);
+            let sink = Sink::new(rt.alloc()).with_fault_after(room, fault);
+            ends_at(&rt, &text[..room], sink);
         }
+    }
+}
+
+#[test]
+fn a_stream_ends_at_the_flush_that_fails(rt: HostRuntime) {
+    // The bytes after which a flush fails, and those that the flush was for: what had been answered then.
+    let rows = [
+        (0, 0),
+        (1, 18),
+        (18, 18),
+        (19, 36),
+        (36, 36),
+        (37, 72),
+        (72, 72),
+        (73, 82),
+        (82, 82),
+    ];
+    for (len, answered) in rows {
+        let sink = Sink::new(rt.alloc()).failing_to_flush_after(len, ErrorKind::BrokenPipe);
+        let (front, _) = MIGRATION_TEXT.as_bytes().split_at(answered);
+        ends_at(&rt, front, sink);
     }
 }
 

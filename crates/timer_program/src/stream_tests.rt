@@ -1,5 +1,8 @@
-//! Readers and writers that fail once: nothing is tried again, and what went out is a prefix of the text.
-use crate::testing::{Fault, SCHEMES, Sink, Source, call, has_left, same, same_in};
+//! Readers and writers that pass bytes on in pieces of many sizes, and fail once: nothing is tried again, and what
+//! went out is the front of the text that the writer took.
+use crate::testing::{
+    Fault, MIGRATION, MIGRATION_TEXT, SCHEMES, SIZES, Sink, Source, call, has_left, same, same_in,
+};
 use std::io::{ErrorKind, Read, Write};
 use std::process::Abort;
 use std::thread::Threads;
@@ -8,11 +11,6 @@ use timer_script::Watched;
 static ONE_TIMER: &str = "start 0 1 1 7\ntick 1\n";
 
 static ONE_TIMER_TEXT: &str = "started 0 1 1 1\nexpired 1 0 1 7\nend 1 0\n";
-
-static MIGRATION: &str = "start 0 1 130 1\ntick 128\nstart 1 1 2 2\ntick 2\n";
-
-static MIGRATION_TEXT: &str =
-    "started 0 1 1 130\nstarted 1 1 2 130\nexpired 130 0 1 1\nexpired 130 1 2 2\nend 130 0\n";
 
 static KINDS: [ErrorKind; 3] = [
     ErrorKind::Interrupted,
@@ -65,7 +63,7 @@ fn io_faults_end_the_run_with_each_scheme(rt: HostRuntime) {
     }
 }
 
-/// Plays a script to a writer that takes this front of the text, in pieces of this size, and then has this
+/// Plays the script to a writer that takes this front of the text, in pieces of this size, and then has this
 /// fault.
 fn write_fails_after<T: AllocGlobal + Abort + Threads>(
     rt: &T,
@@ -78,16 +76,23 @@ fn write_fails_after<T: AllocGlobal + Abort + Threads>(
         .in_pieces(size)
         .with_fault_after(room, fault);
     let ended = call(rt, &["play"], Source::of(MIGRATION.as_bytes()), sink);
-    has_left(rt, (room, size), &ended, 1, front, b"write failed\n");
-    same_in(rt, (room, size), ended.writer_failed, true);
+    // A fault behind the last byte is never met.
+    let is_whole = room == MIGRATION_TEXT.len();
+    let (status, line) = if is_whole {
+        (0, "")
+    } else {
+        (1, "write failed\n")
+    };
+    has_left(rt, (room, size), &ended, status, front, line.as_bytes());
+    same_in(rt, (room, size), ended.writer_failed, !is_whole);
 }
 
 #[test]
 fn a_writer_that_fails_once_at_any_byte_ends_the_run(rt: HostRuntime) {
     let text = MIGRATION_TEXT.as_bytes();
     same(&rt, text.len(), 82);
-    for room in 0..text.len() {
-        for size in [1, 7, 100] {
+    for room in 0..=text.len() {
+        for size in SIZES {
             for fault in FAULTS {
                 write_fails_after(&rt, &text[..room], size, fault);
             }
@@ -95,7 +100,7 @@ fn a_writer_that_fails_once_at_any_byte_ends_the_run(rt: HostRuntime) {
     }
 }
 
-/// Plays a script from a reader that gives so many bytes, in pieces of this size, and then fails.
+/// Plays the script from a reader that gives so many bytes, in pieces of this size, and then fails.
 fn read_fails_after<T: AllocGlobal + Abort + Threads>(
     rt: &T,
     room: usize,
@@ -114,7 +119,7 @@ fn read_fails_after<T: AllocGlobal + Abort + Threads>(
 fn a_reader_that_fails_once_at_any_byte_ends_the_run(rt: HostRuntime) {
     // After the last byte the reader fails in place of its end.
     for room in 0..=MIGRATION.len() {
-        for size in [1, 7, 100] {
+        for size in SIZES {
             for kind in KINDS {
                 read_fails_after(&rt, room, size, kind);
             }
@@ -123,11 +128,16 @@ fn a_reader_that_fails_once_at_any_byte_ends_the_run(rt: HostRuntime) {
 }
 
 #[test]
-fn single_bytes_change_nothing(rt: HostRuntime) {
-    let source = Source::of(MIGRATION.as_bytes()).in_pieces(1);
-    let ended = call(&rt, &["play"], source, Sink::new(rt.alloc()).in_pieces(1));
-    same(&rt, ended.status, 0);
-    same(&rt, ended.output.as_slice(), MIGRATION_TEXT.as_bytes());
+fn pieces_of_any_size_change_nothing(rt: HostRuntime) {
+    for read in SIZES {
+        for written in SIZES {
+            let source = Source::of(MIGRATION.as_bytes()).in_pieces(read);
+            let sink = Sink::new(rt.alloc()).in_pieces(written);
+            let ended = call(&rt, &["play"], source, sink);
+            let text = MIGRATION_TEXT.as_bytes();
+            has_left(&rt, (read, written), &ended, 0, text, b"");
+        }
+    }
 }
 
 #[test]
@@ -143,7 +153,23 @@ fn a_failure_stays_known_after_later_calls_succeed(rt: HostRuntime) {
 
     let mut writer = Watched::new(Sink::new(alloc).with_fault_after(2, Fault::TakesNone));
     same(&rt, writer.write(b"tick").ok(), Some(2));
+    same(&rt, writer.failed(), false);
+    same(&rt, writer.write(b"ck").ok(), Some(0));
+    same(&rt, writer.failed(), true);
+    same(&rt, writer.write(b"ck").ok(), Some(2));
+    same(&rt, writer.failed(), true);
+    same(
+        &rt,
+        writer.into_inner().bytes.as_slice(),
+        b"tick".as_slice(),
+    );
+}
+
+#[test]
+fn no_byte_taken_of_an_empty_piece_is_no_failure(rt: HostRuntime) {
+    let mut writer = Watched::new(Sink::new(rt.alloc()));
     same(&rt, writer.write(b"").ok(), Some(0));
+    same(&rt, writer.failed(), false);
 }
 
 #[test]
@@ -158,8 +184,10 @@ fn a_flush_reaches_the_writer_and_its_error_is_known(rt: HostRuntime) {
     same(&rt, sink.flushes, 2);
     same(&rt, sink.bytes.as_slice(), b"tick".as_slice());
 
-    let fault = Fault::Fails(ErrorKind::BrokenPipe);
-    let mut writer = Watched::new(Sink::new(alloc).with_fault_after(9, fault));
+    let sink = Sink::new(alloc).failing_to_flush_after(0, ErrorKind::BrokenPipe);
+    let mut writer = Watched::new(sink);
     same(&rt, writer.flush().ok(), None);
+    same(&rt, writer.failed(), true);
+    same(&rt, writer.flush().ok(), Some(()));
     same(&rt, writer.failed(), true);
 }

@@ -23,6 +23,16 @@ pub fn same_in<R: Debug + Drop, T: PartialEq + Debug + Drop>(
     assert_eq!(rt; found, expected, "{row:?}");
 }
 
+/// Two timers of one deadline, started at different ticks: the script of the row `migration`.
+pub static MIGRATION: &str = "start 0 1 130 1\ntick 128\nstart 1 1 2 2\ntick 2\n";
+
+/// What answers it.
+pub static MIGRATION_TEXT: &str =
+    "started 0 1 1 130\nstarted 1 1 2 130\nexpired 130 0 1 1\nexpired 130 1 2 2\nend 130 0\n";
+
+/// Sizes of pieces, from a byte at a time to more than the whole text.
+pub static SIZES: [usize; 12] = [1, 2, 3, 5, 7, 8, 13, 21, 34, 55, 82, 100];
+
 /// The schemes, each as a whole command line.
 pub static SCHEMES: [&[&str]; 4] = [
     &["play", "--scheme", "plain"],
@@ -100,6 +110,8 @@ pub struct Sink {
     size: usize,
     room: usize,
     fault: Fault,
+    /// The error of the first flush at which so many bytes are here.
+    unflushed: Option<(usize, ErrorKind)>,
     pub flushes: u64,
 }
 
@@ -111,6 +123,7 @@ impl Sink {
             size: 5,
             room: usize::MAX,
             fault: Fault::Nothing,
+            unflushed: None,
             flushes: 0,
         }
     }
@@ -123,6 +136,14 @@ impl Sink {
         Sink {
             room,
             fault,
+            ..self
+        }
+    }
+
+    /// Takes all bytes, and fails at the first flush after this many of them.
+    pub fn failing_to_flush_after(self, len: usize, kind: ErrorKind) -> Sink {
+        Sink {
+            unflushed: Some((len, kind)),
             ..self
         }
     }
@@ -146,10 +167,13 @@ impl Write for Sink {
 
     fn flush(&mut self) -> io::Result<()> {
         self.flushes = self.flushes.saturating_add(1);
-        match self.fault {
-            Fault::Fails(kind) => Err(io::Error::from(kind)),
-            _ => Ok(()),
+        if let Some((len, kind)) = self.unflushed
+            && self.bytes.len() >= len
+        {
+            self.unflushed = None;
+            return Err(io::Error::from(kind));
         }
+        Ok(())
     }
 }
 

@@ -98,6 +98,35 @@ fn push_refused(
     Ok(())
 }
 
+/// Writes the answer to a client's request as its line.
+fn push_answer(
+    text: &mut Vec<u8>,
+    client: u64,
+    number: u64,
+    answer: Answer,
+) -> Result<(), OutOfMemory>
+    ensures { OnOk result (text.new.items ≡ text.old.items ++ out_line (Out.Answered client number answer)) }
+{
+    match answer {
+        Answer::Started { handle, deadline } => {
+            push_line(text, b"started", &[client, number, handle.serial, deadline])
+        }
+        Answer::Stopped { serial } => push_line(text, b"stopped", &[client, number, serial]),
+        Answer::Restarted {
+            handle,
+            deadline,
+            old,
+        } => push_line(
+            text,
+            b"restarted",
+            &[client, number, old, handle.serial, deadline],
+        ),
+        Answer::Refused(reason) => {
+            push_refused(text, b"refused", &[client, number], reason_of(reason))
+        }
+    }
+}
+
 /// Writes one out as its line.
 fn push_out(text: &mut Vec<u8>, out: Out) -> Result<(), OutOfMemory>
     ensures { OnOk result (text.new.items ≡ text.old.items ++ out_line out) }
@@ -106,31 +135,8 @@ fn push_out(text: &mut Vec<u8>, out: Out) -> Result<(), OutOfMemory>
         Out::Answered {
             client,
             number,
-            answer: Answer::Started { handle, deadline },
-        } => push_line(text, b"started", &[client, number, handle.serial, deadline]),
-        Out::Answered {
-            client,
-            number,
-            answer: Answer::Stopped { serial },
-        } => push_line(text, b"stopped", &[client, number, serial]),
-        Out::Answered {
-            client,
-            number,
-            answer: Answer::Restarted {
-                handle,
-                deadline,
-                old,
-            },
-        } => push_line(
-            text,
-            b"restarted",
-            &[client, number, old, handle.serial, deadline],
-        ),
-        Out::Answered {
-            client,
-            number,
-            answer: Answer::Refused(reason),
-        } => push_refused(text, b"refused", &[client, number], reason_of(reason)),
+            answer,
+        } => push_answer(text, client, number, answer),
         Out::NotTaken {
             client,
             number,
