@@ -117,12 +117,11 @@ fn bare(out: Out) -> Out {
         Out::Answered {
             client,
             number,
-            answer:
-                Answer::Restarted {
-                    handle,
-                    deadline,
-                    old,
-                },
+            answer: Answer::Restarted {
+                handle,
+                deadline,
+                old,
+            },
         } => restarted(client, number, old, handle.serial, deadline),
         out => out,
     }
