@@ -6,6 +6,7 @@ use Rattle.std.proofs.lemmas.Bool.Decides.{nat_tests}
 use Rattle.std.proofs.Math.Seq.{take-set-lt, drop-cons}
 use Rattle.std.proofs.lemmas.Option.{slice_get_within, slice_get_read, get_or_from_slice_get}
 use Rattle.std.proofs.lemmas.List.{get_or-take, length-take-le, length-set}
+use Rattle.std.proofs.lemmas.List.Elements.{All-from_recursion, recursion_from_All, All-take, All-set, All-replicate}
 use Rattle.timer_base.specs.declared.limits.TheConstants.{LAST}
 use Rattle.timer_base.specs.declared.timer.Timer.{Timer}
 use Rattle.timer_base.specs.declared.timer.Handle.{Handle}
@@ -163,6 +164,21 @@ in_time a e w interval now timely told =
     let last_in_range = w.last_in_range in
     record { later = omega arith; within = omega arith; in_range = omega arith; unspent = omega arith }
 
+-- The request numbers.
+
+numbers-take : (n : ℕ) (numbers : List ℕ) → AllByRecursion (λ k. k ≤ LAST + 1) numbers → AllByRecursion (λ k. k ≤ LAST + 1) (take n numbers)
+numbers-take n numbers h = recursion_from_All (λ k. k ≤ LAST + 1) (take n numbers) (All-take (λ k. k ≤ LAST + 1) n numbers (All-from_recursion (λ k. k ≤ LAST + 1) numbers h))
+
+numbers-used : (numbers : List ℕ) (client number : ℕ) → number ≤ LAST → AllByRecursion (λ k. k ≤ LAST + 1) numbers → AllByRecursion (λ k. k ≤ LAST + 1) (slice_set numbers client (number + 1))
+numbers-used numbers client number l h =
+    recursion_from_All (λ k. k ≤ LAST + 1) (slice_set numbers client (number + 1))
+    (All-set (λ k. k ≤ LAST + 1) numbers client (number + 1) (omega arith) (All-from_recursion (λ k. k ≤ LAST + 1) numbers h))
+
+numbers-first : (first : ℕ) → first ≤ LAST → AllByRecursion (λ k. k ≤ LAST + 1) (replicate 64 first)
+numbers-first first l =
+    let one : first ≤ LAST + 1 = omega arith in
+    recursion_from_All (λ k. k ≤ LAST + 1) (replicate 64 first) (All-replicate (λ k. k ≤ LAST + 1) 64 first one)
+
 -- the state is sound, since the wheel is well formed
 below_next : (last now serial next : ℕ) (ts : List Timer) → AllByRecursion (Wheels.IsPending last now serial) ts → serial < next → AreBelow next ts
 below_next last now serial next [] a h = tt
@@ -180,6 +196,7 @@ sound {p} {v} a e i =
       last_in_range = i.last_in_range;
       now_in_range = i.now_in_range;
       serial_in_range = a.serial_in_range;
+      numbers_in_range = numbers-take p.clients p.numbers a.numbers_in_range;
       few_pending = a.few_pending;
       ordered = i.ordered;
       distinct = i.distinct;
@@ -264,6 +281,7 @@ parts-tick {p} a h w' t =
       few_pending = let n = length-filter (λ x. not (is_due_at (p.wheel.now + 1) x.timer)) p.wheel.pending in let m = a.few_pending in omega arith;
       serial_unused = a.serial_unused;
       serial_in_range = a.serial_in_range;
+      numbers_in_range = a.numbers_in_range;
       handed_in_range = a.handed_in_range;
       counted = counted-as a.counted (kept (record p { wheel = Wheels.after_tick p.wheel })) (kept_after_tick p h);
     } in
@@ -344,14 +362,15 @@ view-start {p} {v} a e client number interval action place l h r now n w' t =
     ≡ with_nothing_waiting (after_taken u.state client number (Start interval action) place))
     e (start_core p client number interval action place l) h r
 
-pub parts-used : {p : Parts} → AreParts p → (client number : ℕ) → AreParts (with_used client number p)
-parts-used {p} a client number = record {
+pub parts-used : {p : Parts} → AreParts p → (client number : ℕ) → number ≤ LAST → AreParts (with_used client number p)
+parts-used {p} a client number in_range = record {
   all_numbers = length-set p.numbers client (number + 1) ∙ a.all_numbers;
   few_clients = a.few_clients;
   capacity_in_range = a.capacity_in_range;
   few_pending = a.few_pending;
   serial_unused = a.serial_unused;
   serial_in_range = a.serial_in_range;
+  numbers_in_range = numbers-used p.numbers client number in_range a.numbers_in_range;
   handed_in_range = a.handed_in_range;
   counted = a.counted;
 }
@@ -382,6 +401,7 @@ parts-start {p} a unspent room place t fresh known w' e =
       few_pending = let n = length-put entry p.wheel.pending in let m = a.few_pending in omega arith;
       serial_unused = omega arith;
       serial_in_range = omega arith;
+      numbers_in_range = a.numbers_in_range;
       handed_in_range = a.handed_in_range;
       counted = counted-more a.counted t (kept (record p { wheel = Wheels.after_start place t p.wheel })) known a.few_clients (kept_after_start p place t);
     } in
@@ -423,6 +443,7 @@ parts-stop {p} a t d m w' e =
       few_pending = let n = length-without (Some t) p.wheel.pending in let k = a.few_pending in omega arith;
       serial_unused = a.serial_unused;
       serial_in_range = a.serial_in_range;
+      numbers_in_range = a.numbers_in_range;
       handed_in_range = a.handed_in_range;
       counted = counted-less a.counted t (kept (record p { wheel = record p.wheel { pending = without_found (Some t) p.wheel.pending } })) (kept_after_stop p t d m);
     } in
@@ -504,6 +525,7 @@ parts-expiry {p} a t h w' e =
       few_pending = a.few_pending;
       serial_unused = a.serial_unused;
       serial_in_range = a.serial_in_range;
+      numbers_in_range = a.numbers_in_range;
       handed_in_range = a.handed_in_range;
       counted = counted-less a.counted t (kept (record p { wheel = Wheels.after_expiry p.wheel })) (kept_after_expiry p t h);
     } in
@@ -521,6 +543,7 @@ parts-returned {p} a t h = record {
   few_pending = a.few_pending;
   serial_unused = a.serial_unused;
   serial_in_range = a.serial_in_range;
+  numbers_in_range = a.numbers_in_range;
   handed_in_range = let l = slice_get_within p.returned p.handed t h in omega arith;
   counted = counted-less a.counted t (kept (record p { handed = p.handed + 1 })) (kept_after_return p t h);
 }
@@ -553,6 +576,7 @@ parts-close {p} {v} a e h list l w' t =
       few_pending = omega arith;
       serial_unused = a.serial_unused;
       serial_in_range = a.serial_in_range;
+      numbers_in_range = a.numbers_in_range;
       handed_in_range = omega arith;
       counted = counted-as a.counted (kept (record p { wheel = Wheels.after_clear p.wheel; is_closed = true; returned = list; handed = 0 }))
           (kept_after_close p list (nothing_due a e h) (unmapped (drop p.handed p.returned) (nothing_returned a e h)) l);
@@ -573,6 +597,7 @@ parts-open w c returned i p d l r =
       few_pending = omega arith;
       serial_unused = l;
       serial_in_range = omega arith;
+      numbers_in_range = numbers-first c.first_number i.number_in_range;
       handed_in_range = omega arith;
       counted = subst (λ ts. AreCounted c.clients (replicate 64 0) ts) (sym none) (counted-none c.clients);
     }
@@ -725,6 +750,7 @@ parts-restart {p} {v} a e i client number handle interval action now old place w
       few_pending = omega arith;
       serial_unused = omega arith;
       serial_in_range = omega arith;
+      numbers_in_range = a.numbers_in_range;
       handed_in_range = a.handed_in_range;
       counted = counted-as a.counted (kept (record p { wheel = Wheels.after_start place t w })) (kept_after_restart p old place t i.distinct among owner);
     } in

@@ -1,5 +1,6 @@
 -- What a caller sees of a facility: its state, and the notices that wait to be handed out. And its fields, the parts.
 use Rattle.std.specs.Prelude.{◌≡◌, ◌<◌, ◌≤◌, ◌⊎◌, ℕ, ◌+◌, Bool, List, [], ◌∷◌, ◌++◌, map, take, drop, length, slice_index, Some, None}
+use Rattle.std.specs.List.{AllByRecursion}
 use Rattle.timer_base.specs.declared.limits.TheConstants.{LAST}
 use Rattle.timer_base.specs.declared.timer.Timer.{Timer}
 use Rattle.timer_base.specs.Pending.{timers_of}
@@ -114,5 +115,6 @@ pub record AreParts (p : Parts) : Type 0 where
   pub few_pending : length p.wheel.pending ≤ p.capacity
   pub serial_unused : p.wheel.last_serial < p.next_serial
   pub serial_in_range : p.next_serial ≤ LAST + 1
+  pub numbers_in_range : AllByRecursion (λ n. n ≤ LAST + 1) p.numbers
   pub handed_in_range : p.handed ≤ length p.returned
   pub counted : AreCounted p.clients p.counts (kept p)

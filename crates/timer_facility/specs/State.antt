@@ -62,6 +62,7 @@ pub record IsSound (s : FacilityState) : Type 0 where
   pub last_in_range : s.last ≤ LAST
   pub now_in_range : s.now ≤ s.last
   pub serial_in_range : s.next_serial ≤ LAST + 1
+  pub numbers_in_range : AllByRecursion (λ n. n ≤ LAST + 1) s.numbers
   pub few_pending : length s.pending ≤ s.capacity
   pub ordered : IsOrdered (timers_of s.pending)
   pub distinct : AreDistinct (timers_of s.pending)

@@ -95,7 +95,7 @@ impl<W: Wheel + Drop> Facility<W> {
         }
     }
 
-    /// The present tick.
+    /// The present tick. Does not allocate.
     pub fn now(&self) -> u64
         ensures now { result ≡ self.now.state.now }
         ensures sound { IsSound self.now.state }
@@ -113,6 +113,9 @@ impl<W: Wheel + Drop> Facility<W> {
     }
 
     /// How many timers are pending. Those that wait to be handed out are not counted.
+    ///
+    /// A wheel may count the expired timers that wait one by one, so this is O(1) only where none waits.
+    /// Does not allocate.
     pub fn pending(&self) -> usize
         ensures pending { result ≡ length self.now.state.pending }
         ensures sound { IsSound self.now.state }
@@ -140,21 +143,22 @@ impl<W: Wheel + Drop> Facility<W> {
         self.wheel.look(handle).is_some()
     }
 
-    /// Whether the facility is closed.
+    /// Whether the facility is closed. Does not allocate.
     pub fn is_closed(&self) -> bool
         ensures { IsTrue result ↔ IsTrue self.now.state.is_closed }
     {
         self.is_closed
     }
 
-    /// Whether a timer waits to be handed out.
+    /// Whether a timer waits to be handed out. Does not allocate.
     pub fn has_out(&self) -> bool
         ensures { IsTrue result ↔ (0 < length self.now.waiting) }
     {
         self.wheel.has_due() || self.handed < self.returned.len()
     }
 
-    /// The serial that the next accepted start gets, or `LAST` + 1 where all are used up.
+    /// The serial that the next accepted start or restart gets, or `LAST` + 1 where all are used up.
+    /// Does not allocate.
     pub fn next_serial(&self) -> u64
         ensures { result ≡ self.now.state.next_serial }
     {
@@ -163,7 +167,7 @@ impl<W: Wheel + Drop> Facility<W> {
 
     /// The client's next request number, or None where there is no such client.
     ///
-    /// It is `LAST` + 1 where the client has used up its numbers.
+    /// It is `LAST` + 1 where the client has used up its numbers. Does not allocate.
     pub fn next_number(&self, client: u64) -> Option<u64>
         ensures { result ≡ slice_get self.now.state.numbers client }
     {

@@ -114,6 +114,15 @@ fn bare(out: Out) -> Out {
             number,
             answer: Answer::Started { handle, deadline },
         } => started(client, number, handle.serial, deadline),
+        Out::Answered {
+            client,
+            number,
+            answer: Answer::Restarted {
+                handle,
+                deadline,
+                old,
+            },
+        } => restarted(client, number, old, handle.serial, deadline),
         out => out,
     }
 }

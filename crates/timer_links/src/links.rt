@@ -20,7 +20,7 @@ use std::marker::Model;
 use timer_base::OutOfMemory;
 
 /// What a walk along a list asks of each node.
-#[derive(Clone, Copy, Drop)]
+#[derive(Clone, Copy, Debug, PartialEq, Eq)]
 pub struct Step {
     /// The node's rounds.
     pub rounds: u64,
@@ -29,7 +29,7 @@ pub struct Step {
 }
 
 /// A node that was removed.
-#[derive(Clone, Copy, Drop)]
+#[derive(Clone, Copy, Debug, PartialEq, Eq)]
 pub struct Taken {
     /// The node.
     pub node: Node,
@@ -58,7 +58,7 @@ impl Model for Links {
 }
 
 impl Links {
-    /// Makes `lists` empty lists, of which there are 1 to 65,537. The only error is out of memory.
+    /// Makes `lists` empty lists, at most 65,537. The only error is out of memory.
     pub fn new(alloc: Global, lists: usize) -> Result<Links, OutOfMemory>
         requires { lists ≤ 65537 }
         ensures { IfOk result (λ links. links ≡ replicate lists []) }
@@ -83,6 +83,7 @@ impl Links {
     pub fn keys_are_apart(&self)
         ensures { AreApart self.now }
     {
+        // Read, so that the prover knows the invariant here.
         let _nodes = &self.nodes;
     }
 
@@ -113,6 +114,7 @@ impl Links {
         ensures key { result ≡ first_key (list_at list self.now) }
         ensures used { IfSome result (λ key. IsSome (node_at key self.now)) }
     {
+        // Read, so that the prover knows the invariant here.
         let _nodes = &self.nodes;
         self.front(list)
     }

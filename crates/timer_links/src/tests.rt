@@ -1,5 +1,5 @@
-//! What no clause says: that each call succeeds while memory is available, what the lists of worked
-//! examples hold after each call, and that a push goes on after one that ran out of memory.
+//! What no clause says: that each call succeeds while memory is available, and what the lists of worked
+//! examples hold after each call. No allocation fails here: `timer_hostile` refuses some, in `linked`.
 
 use crate::{Links, Node, Step, Taken};
 use std::alloc::Global;
@@ -18,6 +18,14 @@ fn node(serial: u64) -> Node {
         },
         rounds: 0,
     }
+}
+
+fn taken(node: Node, emptied: Option<usize>) -> Option<Taken> {
+    Some(Taken { node, emptied })
+}
+
+fn stepped(rounds: u64, next: Option<usize>) -> Option<Step> {
+    Some(Step { rounds, next })
 }
 
 /// The serials of a list from the front, as the digits of a number.
@@ -42,14 +50,6 @@ fn push(links: &mut Links, list: usize, node: Node) -> Option<usize> {
         return None;
     }
     links.push_back(list, node).ok()
-}
-
-/// A push that hands its node back where it runs out of memory.
-fn try_push(links: &mut Links, list: usize, node: Node) -> Result<usize, Node> {
-    if list >= links.lists() {
-        return Err(node);
-    }
-    links.push_back(list, node).map_err(|failed| failed.0)
 }
 
 fn move_back(links: &mut Links, key: usize, list: usize) -> bool {
@@ -82,24 +82,16 @@ fn set_node(links: &mut Links, key: usize, node: Node) -> bool {
     }
 }
 
-/// The two values that a step returns, or None where the key is not in use.
-fn step(links: &Links, key: usize) -> Option<(u64, Option<usize>)> {
+fn step(links: &Links, key: usize) -> Option<Step> {
     match links.get(key) {
-        Some(_) => {
-            let Step { rounds, next } = links.step(key);
-            Some((rounds, next))
-        }
+        Some(_) => Some(links.step(key)),
         None => None,
     }
 }
 
-/// The serial of the node that was taken, and the list that it left empty.
-fn take(links: &mut Links, key: usize) -> Option<(u64, Option<usize>)> {
+fn take(links: &mut Links, key: usize) -> Option<Taken> {
     match links.get(key) {
-        Some(_) => {
-            let Taken { node, emptied } = links.take(key);
-            Some((node.timer.serial, emptied))
-        }
+        Some(_) => Some(links.take(key)),
         None => None,
     }
 }
@@ -230,16 +222,16 @@ fn a_node_tells_the_list_that_it_leaves_empty(rt: HostRuntime) {
     same(&rt, alone_in(&links, b), Some(None));
     same(&rt, alone_in(&links, d), Some(Some(0)));
     // From the middle, from the back, and as the last one of its list.
-    same(&rt, take(&mut links, b), Some((2, None)));
+    same(&rt, take(&mut links, b), taken(node(2), None));
     same(&rt, serials(&links, 2), 13);
-    same(&rt, take(&mut links, c), Some((3, None)));
+    same(&rt, take(&mut links, c), taken(node(3), None));
     same(&rt, serials(&links, 2), 1);
     same(&rt, alone_in(&links, a), Some(Some(2)));
-    same(&rt, take(&mut links, a), Some((1, Some(2))));
+    same(&rt, take(&mut links, a), taken(node(1), Some(2)));
     same(&rt, serials(&links, 2), 0);
     same(&rt, take(&mut links, a), None);
     same(&rt, serials(&links, 0), 4);
-    same(&rt, take(&mut links, d), Some((4, Some(0))));
+    same(&rt, take(&mut links, d), taken(node(4), Some(0)));
     same(&rt, is_empty(&links, 0), Some(true));
     same(&rt, links.len(), 0);
 }
@@ -253,12 +245,16 @@ fn a_step_gives_the_rounds_and_the_key_after(rt: HostRuntime) {
     same(&rt, set_rounds(&mut links, a, 11), true);
     same(&rt, set_rounds(&mut links, b, 12), true);
     same(&rt, set_rounds(&mut links, c, 13), true);
-    same(&rt, step(&links, a), Some((11, Some(b))));
-    same(&rt, step(&links, b), Some((12, Some(c))));
-    same(&rt, step(&links, c), Some((13, None)));
-    same(&rt, take(&mut links, b), Some((2, None)));
+    same(&rt, step(&links, a), stepped(11, Some(b)));
+    same(&rt, step(&links, b), stepped(12, Some(c)));
+    same(&rt, step(&links, c), stepped(13, None));
+    let with_rounds = Node {
+        rounds: 12,
+        ..node(2)
+    };
+    same(&rt, take(&mut links, b), taken(with_rounds, None));
     same(&rt, step(&links, b), None);
-    same(&rt, step(&links, a), Some((11, Some(c))));
+    same(&rt, step(&links, a), stepped(11, Some(c)));
 }
 
 #[test]
@@ -294,20 +290,14 @@ fn lists_move_as_a_whole_and_node_by_node(rt: HostRuntime) {
     same(&rt, is_empty(&links, 1), Some(false));
 }
 
-/// The links of new nodes are made 64 at a time, and those made before keep their order. With an
-/// allocation failing, a push that runs out of memory hands its node back, and the next one succeeds.
+/// The links of new nodes are made 64 at a time, and those made before keep their order.
 #[test]
-fn the_lists_grow_past_a_push_that_runs_out_of_memory(rt: HostRuntime) {
-    let Ok(mut links) = Links::new(rt.alloc(), 3) else {
-        return;
-    };
+fn nodes_keep_their_order_while_the_links_grow(rt: HostRuntime) {
+    let mut links = lists_of(&rt, rt.alloc(), 3);
     for serial in 0..200 {
-        if let Err(back) = try_push(&mut links, 1, node(serial)) {
-            same(&rt, back, node(serial));
-            same(&rt, links.len(), serial as usize);
-            same(&rt, push(&mut links, 1, back).is_some(), true);
-        }
+        put(&rt, &mut links, 1, serial);
     }
+    same(&rt, links.len(), 200);
     append(&mut links, 1, 2);
     for serial in 0..200 {
         let popped = pop(&mut links, 2).map(|row| row.1);

@@ -33,6 +33,12 @@ offset_bounds-self-inside-client-2 g c = let low = in_arrays c.self.invariant c.
 pub bounds-self-inside-client-2 : goal.bounds-self-inside-client-2
 bounds-self-inside-client-2 g c = in_arrays c.self.invariant c.self.view_is c.args.client c.args.number c.requires.taken
 
+pub invariant_of-self : goal.invariant_of-self
+invariant_of-self g c = parts-used c.self.invariant c.args.client c.args.number (next_when c.self.invariant c.self.view_is c.args.client c.args.number c.requires.taken).in_range
+
+pub invariant_of-self-in-Some-interval_refusal : goal.invariant_of-self-in-Some-interval_refusal
+invariant_of-self-in-Some-interval_refusal g c = parts-used c.self.invariant c.args.client c.args.number (next_when c.self.invariant c.self.view_is c.args.client c.args.number c.requires.taken).in_range
+
 pub returns-in_default-clause-left : goal.returns-in_default-clause-left
 returns-in_default-clause-left g c =
     let s : FacilityState = c.args.self.now.state in
@@ -84,7 +90,7 @@ invariant_of-self-2 g c =
       now_is = c.now.ensures;
       there = found_there c.self.invariant c.self.view_is c.args.client c.args.handle c.in-Some.old (sym c.in-Some.ensures);
       restarted = c.in-Some-restart.ensures.restarted;
-    }) (sym c.in-Some.ensures) (omega arith)) c.args.client c.args.number
+    }) (sym c.in-Some.ensures) (omega arith)) c.args.client c.args.number n.in_range
 
 pub returns-clause-left : goal.returns-clause-left
 returns-clause-left g c =

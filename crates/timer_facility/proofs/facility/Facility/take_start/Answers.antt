@@ -13,6 +13,9 @@ offset_bounds-self-inside-client g c = let low = in_arrays c.self.invariant c.se
 pub bounds-self-inside-client : goal.bounds-self-inside-client
 bounds-self-inside-client g c = in_arrays c.self.invariant c.self.view_is c.args.client c.args.number c.requires.taken
 
+pub invariant_of-self : goal.invariant_of-self
+invariant_of-self g c = parts-used c.self.invariant c.args.client c.args.number (next_when c.self.invariant c.self.view_is c.args.client c.args.number c.requires.taken).in_range
+
 pub returns-in-Some-clause-left : goal.returns-in-Some-clause-left
 returns-in-Some-clause-left g c =
     let n = next_when c.self.invariant c.self.view_is c.args.client c.args.number c.requires.taken in
@@ -59,7 +62,7 @@ invariant_of-self-in-Ok g c =
     let length = t.length_is in
     let capacity = t.capacity_is in
     let n = next_when c.self.invariant c.self.view_is c.args.client c.args.number c.requires.taken in
-    parts-used (parts-start c.self.invariant (omega arith) (λ e. room (length ∙ e ∙ sym capacity)) c.in-Ok.handle.place _ refl n.is_client (g.W.Wheel.state c.start.new.self) c.in-Ok.ensures.started) c.args.client c.args.number
+    parts-used (parts-start c.self.invariant (omega arith) (λ e. room (length ∙ e ∙ sym capacity)) c.in-Ok.handle.place _ refl n.is_client (g.W.Wheel.state c.start.new.self) c.in-Ok.ensures.started) c.args.client c.args.number n.in_range
 
 pub returns-in-Ok-clause-answer : goal.returns-in-Ok-clause-answer
 returns-in-Ok-clause-answer g c =

@@ -21,12 +21,16 @@ offset_bounds-self-inside-client-in-Some g c = let low = in_arrays c.self.invari
 pub bounds-self-inside-client-in-Some : goal.bounds-self-inside-client-in-Some
 bounds-self-inside-client-in-Some g c = in_arrays c.self.invariant c.self.view_is c.args.client c.args.number c.requires.taken
 
+pub invariant_of-self : goal.invariant_of-self
+invariant_of-self g c = parts-used c.self.invariant c.args.client c.args.number (next_when c.self.invariant c.self.view_is c.args.client c.args.number c.requires.taken).in_range
+
 pub invariant_of-self-in-Some : goal.invariant_of-self-in-Some
 invariant_of-self-in-Some g c =
+    let n = next_when c.self.invariant c.self.view_is c.args.client c.args.number c.requires.taken in
     let there = found_there c.self.invariant c.self.view_is c.args.client c.args.handle c.in-Some.timer (sym c.in-Some.ensures) in
     let w = g.W.Wheel.state c.self.inside.wheel in
     let stopped = c.stop.ensures.stopped ∙ ap (λ o. record w { pending = without_found o w.pending }) there in
-    parts-used (parts-stopped c.self.invariant c.self.view_is (g.met.W.Wheel.well_formed c.self.inside.wheel) c.args.client c.args.handle c.in-Some.timer (sym c.in-Some.ensures) (g.W.Wheel.state c.stop.new.self) stopped) c.args.client c.args.number
+    parts-used (parts-stopped c.self.invariant c.self.view_is (g.met.W.Wheel.well_formed c.self.inside.wheel) c.args.client c.args.handle c.in-Some.timer (sym c.in-Some.ensures) (g.W.Wheel.state c.stop.new.self) stopped) c.args.client c.args.number n.in_range
 
 pub returns-in-None-clause-left : goal.returns-in-None-clause-left
 returns-in-None-clause-left g c =
