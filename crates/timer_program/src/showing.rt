@@ -2,7 +2,7 @@
 //!
 //! A line has the answer that `serve` gives it. After the answer come the clock and the placement, which
 //! `placement` draws; all of it is written and flushed before the next line is played.
-ghost use Rattle.std.specs.Prelude.{◌≡◌, ◌≤◌, [], length, true, IfErr, OnOk};
+ghost use Rattle.std.specs.Prelude.{◌≡◌, [], true, IfErr, OnOk};
 ghost use Rattle.timer_script.specs.Session.{IsAnsweredSoFar};
 ghost use Rattle.timer_script.specs.Serving.{AreGood};
 ghost use Rattle.timer_program.specs.Showing.{HasAnswered, StopsLine, HasShownPiece, StopsPiece, HasShown};
