@@ -7,7 +7,8 @@
 //!
 //! Each line begins with two spaces. A bucket without a timer has none. What is due is not shown: between
 //! two lines of a script nothing is.
-ghost use Rattle.std.specs.Prelude.{◌<◌, length};
+ghost use Rattle.std.specs.Prelude.{◌≡◌, ◌<◌, ◌++◌, length, decimal, OnOk};
+ghost use Rattle.timer_program.specs.Indented.{HasGrown, HasGrownByIndented, HasGrownByFront};
 
 use itoa::Buffer;
 use timer_base::{OutOfMemory, PlainWheel, Wheel};
@@ -28,7 +29,9 @@ const FIRST_DAY: u64 = 144;
 pub trait Placement {
     /// Appends a line for each bucket that has a timer, in the order of the buckets. The only error is out
     /// of memory.
-    fn push_placement(&self, text: &mut Vec<u8>) -> Result<(), OutOfMemory>;
+    fn push_placement(&self, text: &mut Vec<u8>) -> Result<(), OutOfMemory>
+        ensures indented { OnOk result (HasGrownByIndented text.old.items text.new.items) }
+        ensures kept { HasGrown text.old.items text.new.items };
 }
 
 impl Placement for PlainWheel {
@@ -76,7 +79,10 @@ enum Naming {
 }
 
 /// Appends a line for each list that has a timer.
-fn push_lists(text: &mut Vec<u8>, links: &Links, naming: Naming) -> Result<(), OutOfMemory> {
+fn push_lists(text: &mut Vec<u8>, links: &Links, naming: Naming) -> Result<(), OutOfMemory>
+    ensures indented { OnOk result (HasGrownByIndented text.old.items text.new.items) }
+    ensures kept { HasGrown text.old.items text.new.items }
+{
     for list in 0..links.lists() {
         if !links.is_empty(list) {
             push_list(text, links, list, naming)?;
@@ -93,6 +99,8 @@ fn push_list(
     naming: Naming,
 ) -> Result<(), OutOfMemory>
     requires { list < length links.now }
+    ensures indented { OnOk result (HasGrownByIndented text.old.items text.new.items) }
+    ensures kept { HasGrown text.old.items text.new.items }
 {
     push_name(text, list as u64, naming)?;
     text.push(b':')?;
@@ -115,7 +123,10 @@ fn push_list(
 }
 
 /// Appends the name of the bucket that is this list.
-fn push_name(text: &mut Vec<u8>, list: u64, naming: Naming) -> Result<(), OutOfMemory> {
+fn push_name(text: &mut Vec<u8>, list: u64, naming: Naming) -> Result<(), OutOfMemory>
+    ensures front { OnOk result (HasGrownByFront text.old.items text.new.items) }
+    ensures kept { HasGrown text.old.items text.new.items }
+{
     match naming {
         Naming::Slots => push_number(text, b"  slot ", list),
         Naming::Wheels => {
@@ -127,7 +138,10 @@ fn push_name(text: &mut Vec<u8>, list: u64, naming: Naming) -> Result<(), OutOfM
 }
 
 /// Appends the hand of the clock, and its slot, whose bucket is this list.
-fn push_hand(text: &mut Vec<u8>, list: u64) -> Result<(), OutOfMemory> {
+fn push_hand(text: &mut Vec<u8>, list: u64) -> Result<(), OutOfMemory>
+    ensures front { OnOk result (HasGrownByFront text.old.items text.new.items) }
+    ensures kept { HasGrown text.old.items text.new.items }
+{
     if list < FIRST_MINUTE {
         push_number(text, b"  second ", list)
     } else if list < FIRST_HOUR {
@@ -140,7 +154,10 @@ fn push_hand(text: &mut Vec<u8>, list: u64) -> Result<(), OutOfMemory> {
 }
 
 /// Appends a word and a number.
-fn push_number(text: &mut Vec<u8>, word: &[u8], n: u64) -> Result<(), OutOfMemory> {
+fn push_number(text: &mut Vec<u8>, word: &[u8], n: u64) -> Result<(), OutOfMemory>
+    ensures text { OnOk result (text.new.items ≡ text.old.items ++ word.now ++ decimal n) }
+    ensures kept { HasGrown text.old.items text.new.items }
+{
     let mut buffer = Buffer::new();
     text.extend_from_slice(word)?;
     text.extend_from_slice(buffer.format(n).as_bytes())?;
@@ -148,7 +165,10 @@ fn push_number(text: &mut Vec<u8>, word: &[u8], n: u64) -> Result<(), OutOfMemor
 }
 
 /// Appends the line of the clock, and a line for each bucket that has a timer.
-pub fn push_shown<W: Wheel + Placement>(text: &mut Vec<u8>, wheel: &W) -> Result<(), OutOfMemory> {
+pub fn push_shown<W: Wheel + Placement>(text: &mut Vec<u8>, wheel: &W) -> Result<(), OutOfMemory>
+    ensures indented { OnOk result (HasGrownByIndented text.old.items text.new.items) }
+    ensures kept { HasGrown text.old.items text.new.items }
+{
     push_number(text, b"  now ", wheel.now())?;
     text.push(b'\n')?;
     wheel.push_placement(text)

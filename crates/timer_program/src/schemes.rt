@@ -187,7 +187,7 @@ pub fn show_by_scheme<P: Peer>(
     requires playable { IsPlayable asked }
     requires config { checked ≡ config_of asked }
     requires good { AreGood (P.state peer.old) }
-    ensures { HasShown (P.state peer.new) result }
+    ensures { HasShown (opened (config_of asked) (scheme_last asked.scheme)) (P.state peer.old) (P.state peer.new) result }
 {
     match wheel_of(alloc, asked) {
         Ok(SchemeWheel::Plain(wheel)) => show_on(alloc, wheel, checked, peer),
@@ -210,7 +210,7 @@ fn show_on<P: Peer, W: Wheel + Placement + Drop>(
     requires due { (W.state wheel).due ≡ [] }
     requires now { (W.state wheel).now ≡ checked.first_tick }
     requires serial { (W.state wheel).last_serial < checked.first_serial }
-    ensures { HasShown (P.state peer.new) result }
+    ensures { HasShown (opened checked (W.state wheel).last_tick) (P.state peer.old) (P.state peer.new) result }
 {
     let facility = Facility::open(alloc, checked, wheel);
     show(alloc, peer, facility)

@@ -2,10 +2,10 @@
 //!
 //! A line has the answer that `serve` gives it. After the answer come the clock and the placement, which
 //! `placement` draws; all of it is written and flushed before the next line is played.
-ghost use Rattle.std.specs.Prelude.{◌≡◌, [], Err, IfErr, OnOk};
+ghost use Rattle.std.specs.Prelude.{◌≡◌, [], true, IfErr, OnOk};
 ghost use Rattle.timer_script.specs.Session.{IsAnsweredSoFar};
 ghost use Rattle.timer_script.specs.Serving.{AreGood};
-ghost use Rattle.timer_program.specs.Showing.{IsOfLine, HasShown};
+ghost use Rattle.timer_program.specs.Showing.{HasAnswered, StopsLine, HasShownPiece, StopsPiece, HasShown};
 
 use crate::placement::{Placement, push_shown};
 use std::alloc::Global;
@@ -20,9 +20,11 @@ fn answer_line<W: Wheel + Placement + Drop>(
     line: &[u8],
     text: &mut Vec<u8>,
 ) -> Result<(), ServeFault>
-    requires { IsAnsweredSoFar session.old }
+    requires answered { IsAnsweredSoFar session.old }
+    requires empty { text.old.items ≡ [] }
+    ensures shown { OnOk result (HasAnswered session.old line.now text.new.items session.new []) }
     ensures answered { OnOk result (IsAnsweredSoFar session.new) }
-    ensures fault { IfErr result (λ fault. IsOfLine fault) }
+    ensures fault { IfErr result (λ fault. StopsLine fault session.old line.now text.new.items session.new) }
 {
     if let Err(stop) = session.feed(line, text) {
         return Err(fault_of(stop.fault));
@@ -50,9 +52,10 @@ fn show_line<P: Peer, W: Wheel + Placement + Drop>(
 ) -> Result<(), ServeFault>
     requires good { AreGood (P.state peer.old) }
     requires answered { IsAnsweredSoFar session.old }
+    ensures shown { OnOk result (HasShownPiece session.old line.now (P.state peer.old) (P.state peer.new) session.new [] [] true) }
     ensures good { OnOk result (AreGood (P.state peer.new)) }
     ensures answered { OnOk result (IsAnsweredSoFar session.new) }
-    ensures fault { IfErr result (λ fault. HasShown (P.state peer.new) (Err fault)) }
+    ensures fault { IfErr result (λ fault. StopsPiece fault session.old line.now (P.state peer.old) (P.state peer.new) session.new) }
 {
     text.clear();
     let played = answer_line(session, line, text);
@@ -71,9 +74,10 @@ fn show_lines<P: Peer, W: Wheel + Placement + Drop>(
 ) -> Result<(), ServeFault>
     requires good { AreGood (P.state peer.old) }
     requires answered { IsAnsweredSoFar session.old }
+    ensures shown { OnOk result (HasShownPiece session.old bytes.now (P.state peer.old) (P.state peer.new) session.new [] [] true) }
     ensures good { OnOk result (AreGood (P.state peer.new)) }
     ensures answered { OnOk result (IsAnsweredSoFar session.new) }
-    ensures fault { IfErr result (λ fault. HasShown (P.state peer.new) (Err fault)) }
+    ensures fault { IfErr result (λ fault. StopsPiece fault session.old bytes.now (P.state peer.old) (P.state peer.new) session.new) }
 {
     let mut rest = bytes;
     while !rest.is_empty() {
@@ -97,8 +101,10 @@ pub fn show<P: Peer, W: Wheel + Placement + Drop>(
     requires good { AreGood (P.state peer.old) }
     requires pending { facility.state.pending ≡ [] }
     requires waiting { facility.waiting ≡ [] }
-    ensures { HasShown (P.state peer.new) result }
+    ensures { HasShown facility.state (P.state peer.old) (P.state peer.new) result }
 {
+    // That the state is sound is known from here on.
+    let _now = facility.now();
     let Ok(mut piece) = blank(alloc, PIECE) else {
         return Err(ServeFault::OutOfMemory);
     };

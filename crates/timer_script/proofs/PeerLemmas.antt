@@ -10,7 +10,7 @@ use Rattle.timer_base.specs.OrderLaws.{either}
 use Rattle.timer_script.specs.declared.serving.TheConstants.{PIECE}
 use Rattle.timer_script.specs.Session.{SessionState, HasFed, IsAnsweredSoFar}
 use Rattle.timer_script.specs.Peer.{PeerState, Moment, Came, Went, Flush, Grows, Gives, Takes, Flushes}
-use Rattle.timer_script.specs.Serving.{came_of, gone_of, is_flushed, IsAnsweredBy, IsPrompt, HasTalked, AreWrites, HasWritten, HasSent}
+use Rattle.timer_script.specs.Serving.{came_of, gone_of, is_flushed, IsAnsweredBy, IsPromptBy, IsPrompt, HasTalkedBy, HasTalked, AreWrites, HasWritten, HasSent}
 use Rattle.timer_script.proofs.SessionLemmas.{fed_nothing, fed_join, fed_shift}
 
 -- ---- lists of calls
@@ -44,7 +44,7 @@ flushed_join flushed (Went bytes ∷ xs) ys = flushed_join false xs ys
 flushed_join flushed (Flush ∷ xs) ys = flushed_join true xs ys
 
 -- what is flushed at the end, even if nothing was before, is flushed in any case
-flushed_anyway : (flushed : Bool) (xs : List Moment) → is_flushed false xs ≡ true → is_flushed flushed xs ≡ true
+pub flushed_anyway : (flushed : Bool) (xs : List Moment) → is_flushed false xs ≡ true → is_flushed flushed xs ≡ true
 flushed_anyway flushed [] h = absurd cc
 flushed_anyway flushed (Came bytes ∷ xs) h = flushed_anyway flushed xs h
 flushed_anyway flushed (Went bytes ∷ xs) h = h
@@ -62,20 +62,20 @@ nothing_came (Came bytes ∷ xs) a = absurd a
 nothing_came (Went bytes ∷ xs) a = nothing_came xs a
 nothing_came (Flush ∷ xs) a = nothing_came xs a
 
-writes_prompt : (s : SessionState) (came gone : List ℕ) (flushed : Bool) (xs : List Moment) → AreWrites xs → IsPrompt s came gone flushed xs
-writes_prompt s came gone flushed [] a = tt
-writes_prompt s came gone flushed (Came bytes ∷ xs) a = absurd a
-writes_prompt s came gone flushed (Went bytes ∷ xs) a = writes_prompt s came (gone ++ bytes) false xs a
-writes_prompt s came gone flushed (Flush ∷ xs) a = writes_prompt s came gone true xs a
+writes_prompt : (Answers : List ℕ → List ℕ → Type 0) (came gone : List ℕ) (flushed : Bool) (xs : List Moment) → AreWrites xs → IsPromptBy Answers came gone flushed xs
+writes_prompt Answers came gone flushed [] a = tt
+writes_prompt Answers came gone flushed (Came bytes ∷ xs) a = absurd a
+writes_prompt Answers came gone flushed (Went bytes ∷ xs) a = writes_prompt Answers came (gone ++ bytes) false xs a
+writes_prompt Answers came gone flushed (Flush ∷ xs) a = writes_prompt Answers came gone true xs a
 
-prompt_join : (s : SessionState) (came gone : List ℕ) (flushed : Bool) (xs ys : List Moment) → IsPrompt s came gone flushed xs
-    → IsPrompt s (came ++ came_of xs) (gone ++ gone_of xs) (is_flushed flushed xs) ys → IsPrompt s came gone flushed (xs ++ ys)
-prompt_join s came gone flushed [] ys a b = subst (λ x. IsPrompt s x gone flushed ys) (append-nil came) (subst (λ y. IsPrompt s (came ++ []) y flushed ys) (append-nil gone) b)
-prompt_join s came gone flushed (Came bytes ∷ xs) ys a b =
-    (a.0, a.1, a.2, prompt_join s (came ++ bytes) gone flushed xs ys a.3 (subst (λ x. IsPrompt s x (gone ++ gone_of xs) (is_flushed flushed xs) ys) (sym (append_assoc came bytes (came_of xs))) b))
-prompt_join s came gone flushed (Went bytes ∷ xs) ys a b =
-    prompt_join s came (gone ++ bytes) false xs ys a (subst (λ y. IsPrompt s (came ++ came_of xs) y (is_flushed false xs) ys) (sym (append_assoc gone bytes (gone_of xs))) b)
-prompt_join s came gone flushed (Flush ∷ xs) ys a b = prompt_join s came gone true xs ys a b
+prompt_join : (Answers : List ℕ → List ℕ → Type 0) (came gone : List ℕ) (flushed : Bool) (xs ys : List Moment) → IsPromptBy Answers came gone flushed xs
+    → IsPromptBy Answers (came ++ came_of xs) (gone ++ gone_of xs) (is_flushed flushed xs) ys → IsPromptBy Answers came gone flushed (xs ++ ys)
+prompt_join Answers came gone flushed [] ys a b = subst (λ x. IsPromptBy Answers x gone flushed ys) (append-nil came) (subst (λ y. IsPromptBy Answers (came ++ []) y flushed ys) (append-nil gone) b)
+prompt_join Answers came gone flushed (Came bytes ∷ xs) ys a b =
+    (a.0, a.1, a.2, prompt_join Answers (came ++ bytes) gone flushed xs ys a.3 (subst (λ x. IsPromptBy Answers x (gone ++ gone_of xs) (is_flushed flushed xs) ys) (sym (append_assoc came bytes (came_of xs))) b))
+prompt_join Answers came gone flushed (Went bytes ∷ xs) ys a b =
+    prompt_join Answers came (gone ++ bytes) false xs ys a (subst (λ y. IsPromptBy Answers (came ++ came_of xs) y (is_flushed false xs) ys) (sym (append_assoc gone bytes (gone_of xs))) b)
+prompt_join Answers came gone flushed (Flush ∷ xs) ys a b = prompt_join Answers came gone true xs ys a b
 
 -- what is prompt from a later state of a session is so from an earlier one
 prompt_earlier : (a b : SessionState) (bytes text came gone : List ℕ) (flushed : Bool) (xs : List Moment) → HasFed a bytes [] text b → IsPrompt b came gone flushed xs
@@ -104,6 +104,27 @@ Appends-kept (Some x) (Some y) (Some z) bs p q = q ∙ p
 
 pub written_none : (p : PeerState) → HasWritten p [] p
 written_none p = record { moments = []; grows = grows_none p.moments; writes = tt; gone_is = refl; written = Appends-nil p.contents; remaining = refl; reading = refl }
+
+-- one text after another
+pub written_join : (p q r : PeerState) (text more : List ℕ) → HasWritten p text q → HasWritten q more r → HasWritten p (text ++ more) r
+written_join p q r text more v w = record {
+  moments = v.moments ++ w.moments;
+  grows = grows_join p.moments q.moments r.moments v.moments w.moments v.grows w.grows;
+  writes = writes_join v.moments w.moments v.writes w.writes;
+  gone_is = gone_join v.moments w.moments ∙ ap (λ x. x ++ gone_of w.moments) v.gone_is ∙ ap (λ y. text ++ y) w.gone_is;
+  written = Appends-trans p.contents q.contents r.contents text more v.written w.written;
+  remaining = w.remaining ∙ v.remaining;
+  reading = w.reading ∙ v.reading;
+}
+
+-- whether the texts are flushed
+pub flushed_none : (p : PeerState) → is_flushed true (written_none p).moments ≡ true
+unfolding written_none
+flushed_none p = refl
+
+pub flushed_both : (p q r : PeerState) (text more : List ℕ) (v : HasWritten p text q) (w : HasWritten q more r) → is_flushed true (written_join p q r text more v w).moments ≡ is_flushed (is_flushed true v.moments) w.moments
+unfolding written_join
+flushed_both p q r text more v w = flushed_join true v.moments w.moments
 
 -- one more write that took some of the rest
 pub written_more : {E : Type 0} (p q r : PeerState) (text : List ℕ) (i n : ℕ) → HasWritten p (take i text) q → Takes {E = E} q (Ok n) (take (length text - i) (drop i text)) r → HasWritten p (take (i + n) text) r
@@ -181,8 +202,8 @@ within_more text i n l m =
 
 -- ---- a session and its peer
 
-pub talked_nothing : (s : SessionState) (p : PeerState) → HasTalked s p p [] [] true
-talked_nothing s p = record {
+pub talked_nothing : (Answers : List ℕ → List ℕ → Type 0) (p : PeerState) → HasTalkedBy Answers p p [] [] true
+talked_nothing Answers p = record {
   moments = [];
   grows = grows_none p.moments;
   came_is = refl;
@@ -193,48 +214,65 @@ talked_nothing s p = record {
   written = Appends-nil p.contents;
 }
 
--- a session that has answered all reads
-talked_read : (s : SessionState) (p q : PeerState) (bytes : List ℕ) → length bytes ≤ PIECE → IsAnsweredSoFar s → Grows p.moments q.moments (Came bytes ∷ []) → Consumes p.remaining q.remaining bytes → q.contents ≡ p.contents
-    → HasTalked s p q bytes [] true
-talked_read s p q bytes short answered grows read same = record {
-  moments = Came bytes ∷ [];
-  grows = grows;
-  came_is = append-nil bytes;
-  gone_is = refl;
-  prompt = (refl, record { session = s; fed = fed_nothing s []; answered = answered }, short, tt);
-  flush = refl;
-  read = read;
-  written = subst (λ c. Appends p.contents c []) (sym same) (Appends-nil p.contents);
+-- one more read, before which all was answered
+talked_read : (Answers : List ℕ → List ℕ → Type 0) (p q r : PeerState) (came gone bytes : List ℕ) → HasTalkedBy Answers p q came gone true → Answers came gone → length bytes ≤ PIECE
+    → Grows q.moments r.moments (Came bytes ∷ []) → Consumes q.remaining r.remaining bytes → r.contents ≡ q.contents → HasTalkedBy Answers p r (came ++ bytes) gone true
+talked_read Answers p q r came gone bytes t answered short grows read same = record {
+  moments = t.moments ++ Came bytes ∷ [];
+  grows = grows_join p.moments q.moments r.moments t.moments (Came bytes ∷ []) t.grows grows;
+  came_is = came_join t.moments (Came bytes ∷ []) ∙ ap (λ x. x ++ (bytes ++ [])) t.came_is ∙ ap (λ y. came ++ y) (append-nil bytes);
+  gone_is = gone_join t.moments (Came bytes ∷ []) ∙ append-nil (gone_of t.moments) ∙ t.gone_is;
+  prompt = prompt_join Answers [] [] true t.moments (Came bytes ∷ []) t.prompt
+      (t.flush, subst (λ y. Answers (came_of t.moments) y) (sym t.gone_is) (subst (λ x. Answers x gone) (sym t.came_is) answered), short, tt);
+  flush = flushed_join true t.moments (Came bytes ∷ []) ∙ t.flush;
+  read = Consumes-trans p.remaining q.remaining r.remaining came bytes t.read read;
+  written = subst (λ c. Appends p.contents c gone) (sym same) t.written;
 }
+
+pub came_after : {E : Type 0} (Answers : List ℕ → List ℕ → Type 0) (p q r : PeerState) (came gone : List ℕ) (n : ℕ) (piece : List ℕ) → n ≤ length piece → length piece ≤ PIECE
+    → HasTalkedBy Answers p q came gone true → Answers came gone → Gives {E = E} q (Ok n) piece r → HasTalkedBy Answers p r (came ++ take n piece) gone true
+came_after {E} Answers p q r came gone n piece within short t answered g =
+    let counted : length (take n piece) ≡ n = length-take-le n piece within in
+    let few : length (take n piece) ≤ PIECE = omega arith in
+    talked_read Answers p q r came gone (take n piece) t answered few g.moment g.bytes.0 g.contents
+
+pub failed_after : {E : Type 0} (Answers : List ℕ → List ℕ → Type 0) (p q r : PeerState) (came gone : List ℕ) (e : E) (piece : List ℕ) → HasTalkedBy Answers p q came gone true → Answers came gone
+    → Gives {E = E} q (Err e) piece r → HasTalkedBy Answers p r came gone true
+failed_after {E} Answers p q r came gone e piece t answered g =
+    subst (λ x. HasTalkedBy Answers p r x gone true) (append-nil came)
+    (talked_read Answers p q r came gone [] t answered (omega arith) g.moment (Consumes-kept q.remaining q.remaining r.remaining [] (Consumes-nil q.remaining) g.bytes) g.contents)
+
+-- a session that has answered all is at the start of a conversation
+starts_answered : (s : SessionState) → IsAnsweredSoFar s → IsAnsweredBy s [] []
+starts_answered s answered = record { session = s; fed = fed_nothing s []; answered = answered }
 
 pub talked_came : {E : Type 0} (s : SessionState) (p q : PeerState) (n : ℕ) (piece : List ℕ) → n ≤ length piece → length piece ≤ PIECE → IsAnsweredSoFar s → Gives {E = E} p (Ok n) piece q
     → HasTalked s p q (take n piece) [] true
 talked_came {E} s p q n piece within short answered g =
-    let counted : length (take n piece) ≡ n = length-take-le n piece within in
-    let few : length (take n piece) ≤ PIECE = omega arith in
-    talked_read s p q (take n piece) few answered g.moment g.bytes.0 g.contents
+    came_after (IsAnsweredBy s) p p q [] [] n piece within short (talked_nothing (IsAnsweredBy s) p) (starts_answered s answered) g
 
 pub talked_failed : {E : Type 0} (s : SessionState) (p q : PeerState) (e : E) (piece : List ℕ) → IsAnsweredSoFar s → Gives {E = E} p (Err e) piece q → HasTalked s p q [] [] true
 talked_failed {E} s p q e piece answered g =
-    talked_read s p q [] (omega arith) answered g.moment (Consumes-kept p.remaining p.remaining q.remaining [] (Consumes-nil p.remaining) g.bytes) g.contents
+    failed_after (IsAnsweredBy s) p p q [] [] e piece (talked_nothing (IsAnsweredBy s) p) (starts_answered s answered) g
 
 -- text was written after it
-pub talked_wrote : (s : SessionState) (p q r : PeerState) (came gone text : List ℕ) (flushed : Bool) → HasTalked s p q came gone flushed → (w : HasWritten q text r)
-    → HasTalked s p r came (gone ++ text) (is_flushed flushed w.moments)
-talked_wrote s p q r came gone text flushed t w = record {
+pub talked_wrote : (Answers : List ℕ → List ℕ → Type 0) (p q r : PeerState) (came gone text : List ℕ) (flushed : Bool) → HasTalkedBy Answers p q came gone flushed → (w : HasWritten q text r)
+    → HasTalkedBy Answers p r came (gone ++ text) (is_flushed flushed w.moments)
+talked_wrote Answers p q r came gone text flushed t w = record {
   moments = t.moments ++ w.moments;
   grows = grows_join p.moments q.moments r.moments t.moments w.moments t.grows w.grows;
   came_is = came_join t.moments w.moments ∙ ap (λ x. came_of t.moments ++ x) (nothing_came w.moments w.writes) ∙ append-nil (came_of t.moments) ∙ t.came_is;
   gone_is = gone_join t.moments w.moments ∙ ap (λ x. x ++ gone_of w.moments) t.gone_is ∙ ap (λ y. gone ++ y) w.gone_is;
-  prompt = prompt_join s [] [] true t.moments w.moments t.prompt (writes_prompt s (came_of t.moments) (gone_of t.moments) (is_flushed true t.moments) w.moments w.writes);
+  prompt = prompt_join Answers [] [] true t.moments w.moments t.prompt (writes_prompt Answers (came_of t.moments) (gone_of t.moments) (is_flushed true t.moments) w.moments w.writes);
   flush = flushed_join true t.moments w.moments ∙ ap (λ f. is_flushed f w.moments) t.flush;
   read = subst (λ x. Consumes p.remaining x came) (sym w.remaining) t.read;
   written = Appends-trans p.contents q.contents r.contents gone text t.written w.written;
 }
 
-pub talked_sent : (s : SessionState) (p q r : PeerState) (came gone text : List ℕ) (flushed : Bool) → HasTalked s p q came gone flushed → HasSent q text r → HasTalked s p r came (gone ++ text) true
-talked_sent s p q r came gone text flushed t h =
-    subst (HasTalked s p r came (gone ++ text)) (flushed_anyway flushed h.written.moments h.flushed) (talked_wrote s p q r came gone text flushed t h.written)
+pub talked_sent : (Answers : List ℕ → List ℕ → Type 0) (p q r : PeerState) (came gone text : List ℕ) (flushed : Bool) → HasTalkedBy Answers p q came gone flushed → HasSent q text r
+    → HasTalkedBy Answers p r came (gone ++ text) true
+talked_sent Answers p q r came gone text flushed t h =
+    subst (HasTalkedBy Answers p r came (gone ++ text)) (flushed_anyway flushed h.written.moments h.flushed) (talked_wrote Answers p q r came gone text flushed t h.written)
 
 -- one conversation after another
 pub talked_join : (a b : SessionState) (p q r : PeerState) (x y x' y' : List ℕ) (flushed : Bool) → HasTalked a p q x y true → HasFed a x [] y b → HasTalked b q r x' y' flushed
@@ -250,7 +288,7 @@ talked_join a b p q r x y x' y' flushed t f u =
       grows = grows_join p.moments q.moments r.moments t.moments u.moments t.grows u.grows;
       came_is = came_join t.moments u.moments ∙ ap (λ z. z ++ came_of u.moments) t.came_is ∙ ap (λ z. x ++ z) u.came_is;
       gone_is = gone_join t.moments u.moments ∙ ap (λ z. z ++ gone_of u.moments) t.gone_is ∙ ap (λ z. y ++ z) u.gone_is;
-      prompt = prompt_join a [] [] true t.moments u.moments t.prompt later';
+      prompt = prompt_join (IsAnsweredBy a) [] [] true t.moments u.moments t.prompt later';
       flush = flushed_join true t.moments u.moments ∙ ap (λ z. is_flushed z u.moments) t.flush ∙ u.flush;
       read = Consumes-trans p.remaining q.remaining r.remaining x x' t.read u.read;
       written = Appends-trans p.contents q.contents r.contents y y' t.written u.written;

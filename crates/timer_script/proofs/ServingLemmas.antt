@@ -14,7 +14,7 @@ use Rattle.timer_script.specs.declared.stage.Stage.TheVariants.{Going}
 use Rattle.timer_script.specs.Script.{spelling, BeginsNoLine}
 use Rattle.timer_script.specs.Session.{SessionState, fresh, lines_of, next_line, HasFed, IsAnsweredSoFar, HasFailed, WhyStopped, WhyNotEnded}
 use Rattle.timer_script.specs.Peer.{PeerState}
-use Rattle.timer_script.specs.Serving.{HasTalked, HasPassed, AreGood, HasSent, HasSentPart, is_flushed, HasTurned, serve_fault, StopsTurn, last_line, StopsEnd, HasAnsweredAll, HasServed}
+use Rattle.timer_script.specs.Serving.{IsAnsweredBy, HasTalked, HasPassed, AreGood, HasSent, HasSentPart, is_flushed, HasTurned, serve_fault, StopsTurn, last_line, StopsEnd, HasAnsweredAll, HasServed}
 use Rattle.timer_script.proofs.SessionLemmas.{fed_nothing, fed_join, fed_shift, ended_going, stopped_at, some_more}
 use Rattle.timer_script.proofs.PeerLemmas.{talked_nothing, talked_wrote, talked_sent, talked_join}
 
@@ -26,7 +26,7 @@ passed_sent : (a b : SessionState) (p q r : PeerState) (bytes unfed before txt :
 passed_sent a b p q r bytes unfed before txt none talked fed sent = record {
   bytes = bytes;
   sent = txt;
-  talked = talked_sent a p q r (bytes ++ unfed) [] txt true talked sent;
+  talked = talked_sent (IsAnsweredBy a) p q r (bytes ++ unfed) [] txt true talked sent;
   fed = subst (λ t. HasFed a bytes t (txt ++ []) b) none (subst (λ t. HasFed a bytes before t b) (sym (append-nil txt)) fed);
 }
 
@@ -36,11 +36,11 @@ passed_part : (a b : SessionState) (p q r : PeerState) (bytes unfed before txt :
 passed_part a b p q r bytes unfed before txt none talked fed h = record {
   bytes = bytes;
   sent = take h.count txt;
-  talked = talked_wrote a p q r (bytes ++ unfed) [] (take h.count txt) true talked h.written;
+  talked = talked_wrote (IsAnsweredBy a) p q r (bytes ++ unfed) [] (take h.count txt) true talked h.written;
   fed = subst (λ t. HasFed a bytes t (take h.count txt ++ drop h.count txt) b) none (subst (λ t. HasFed a bytes before t b) (sym (take-append-drop h.count txt)) fed);
 }
 
-sent_good : (q r : PeerState) (txt : List ℕ) → q.read_failed ≡ false → HasSent q txt r → AreGood r
+pub sent_good : (q r : PeerState) (txt : List ℕ) → q.read_failed ≡ false → HasSent q txt r → AreGood r
 sent_good q r txt good h = record { reading = h.written.reading ∙ good; writing = h.good }
 
 -- all that came was fed and answered
@@ -107,7 +107,7 @@ stops_ending sessions.Ended s new p why going = refl
 -- ---- turns one after another
 
 pub passed_none : (s : SessionState) (p : PeerState) → HasPassed s p p s [] [] true
-passed_none s p = record { bytes = []; sent = []; talked = talked_nothing s p; fed = fed_nothing s [] }
+passed_none s p = record { bytes = []; sent = []; talked = talked_nothing (IsAnsweredBy s) p; fed = fed_nothing s [] }
 
 pub passed_join : (a b c : SessionState) (p q r : PeerState) (unfed unsent : List ℕ) (flushed : Bool) → HasPassed a p q b [] [] true → HasPassed b q r c unfed unsent flushed → HasPassed a p r c unfed unsent flushed
 passed_join a b c p q r unfed unsent flushed f g =
@@ -162,7 +162,7 @@ served_turn faults.Write before s new p q r f stops =
 served_turn faults.TooLong before s new p q r f stops = absurd stops
 
 -- what was sent, where no line is held at the end, and the end line, are the answer
-answered_all : (before : FacilityState) (s : SessionState) (p q : PeerState) (bytes sent : List ℕ) → IsSound before → IsAtEnd q.remaining → IsAnsweredSoFar s → s.held ≡ [] → HasFed (fresh before) bytes [] sent s
+pub answered_all : (before : FacilityState) (s : SessionState) (p q : PeerState) (bytes sent : List ℕ) → IsSound before → IsAtEnd q.remaining → IsAnsweredSoFar s → s.held ≡ [] → HasFed (fresh before) bytes [] sent s
     → HasAnsweredAll before p q bytes (sent ++ last_line s)
 answered_all before s p q bytes sent sound at_end answered whole fed =
     let lines : lines_of fed.outs ≡ sent = fed.written ∙ ap (λ u. fed.added ++ lines_of u) answered.written ∙ append-nil fed.added ∙ sym fed.grows in
@@ -184,7 +184,7 @@ plain before s p q f = subst (λ x. HasTalked (fresh before) p q x f.sent true) 
 plain_fed : (before : FacilityState) (s : SessionState) (p q : PeerState) → (f : HasPassed (fresh before) p q s [] [] true) → HasFed (fresh before) f.bytes [] f.sent s
 plain_fed before s p q f = subst (λ t. HasFed (fresh before) f.bytes [] t s) (append-nil f.sent) f.fed
 
-at_end_still : (before : FacilityState) (p q r : PeerState) (bytes answer : List ℕ) → r.remaining ≡ q.remaining → HasAnsweredAll before p q bytes answer → HasAnsweredAll before p r bytes answer
+pub at_end_still : (before : FacilityState) (p q r : PeerState) (bytes answer : List ℕ) → r.remaining ≡ q.remaining → HasAnsweredAll before p q bytes answer → HasAnsweredAll before p r bytes answer
 at_end_still before p q r bytes answer same h = record { events = h.events; at_end = subst IsAtEnd (sym same) h.at_end; script = h.script; answered = h.answered }
 
 served_end : (fault : ServeFault) (before : FacilityState) (s : SessionState) (p q r : PeerState) → IsSound before → IsAtEnd q.remaining → IsAnsweredSoFar s → AreGood q → HasPassed (fresh before) p q s [] [] true
@@ -205,7 +205,7 @@ served_end faults.Write before s p q r sound at_end answered good f stops =
     let h : HasSentPart q (last_line s) r = stops.1 in
     let answer : List ℕ = f.sent ++ last_line s in
     let all : HasAnsweredAll before p q f.bytes answer = answered_all before s p q f.bytes f.sent sound at_end answered stops.0 (plain_fed before s p q f) in
-    let talked : HasTalked (fresh before) p r f.bytes (f.sent ++ take h.count (last_line s)) (is_flushed true h.written.moments) = talked_wrote (fresh before) p q r f.bytes f.sent (take h.count (last_line s)) true (plain before s p q f) h.written in
+    let talked : HasTalked (fresh before) p r f.bytes (f.sent ++ take h.count (last_line s)) (is_flushed true h.written.moments) = talked_wrote (IsAnsweredBy (fresh before)) p q r f.bytes f.sent (take h.count (last_line s)) true (plain before s p q f) h.written in
     let cut : f.sent ++ take h.count (last_line s) ≡ take (length f.sent + h.count) answer = sym (take-append-add f.sent (last_line s) h.count) in
     let long : length answer ≡ length f.sent + length (last_line s) = length-append f.sent (last_line s) in
     let few : h.count ≤ length (last_line s) = h.within in (
@@ -231,7 +231,7 @@ served_finish (Ok u) before s p q r sound at_end answered good f whole sent stop
       f.bytes,
       f.sent ++ last_line s,
       at_end_still before p q r f.bytes (f.sent ++ last_line s) h.written.remaining (answered_all before s p q f.bytes f.sent sound at_end answered whole (plain_fed before s p q f)),
-      talked_sent (fresh before) p q r f.bytes f.sent (last_line s) true (plain before s p q f) h,
+      talked_sent (IsAnsweredBy (fresh before)) p q r f.bytes f.sent (last_line s) true (plain before s p q f) h,
       sent_good q r (last_line s) good.reading h,
     )
 served_finish (Err fault) before s p q r sound at_end answered good f whole sent stops = served_end fault before s p q r sound at_end answered good f stops

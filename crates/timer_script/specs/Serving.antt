@@ -41,25 +41,33 @@ pub record IsAnsweredBy (start : SessionState) (came gone : List ℕ) : Type 0 w
   pub fed : HasFed start came [] gone session
   pub answered : IsAnsweredSoFar session
 
--- before each read all complete lines so far have been answered, and the answers flushed; a read gives few bytes, so all
--- lines are answered but those of the last ones
-abbrev pub IsPrompt : SessionState → (came gone : List ℕ) → Bool → List Moment → Type 0
-IsPrompt start came gone flushed [] = Unit {0}
-IsPrompt start came gone flushed (Came bytes ∷ moments) =
-    (flushed ≡ true) × IsAnsweredBy start came gone × (length bytes ≤ PIECE) × IsPrompt start (came ++ bytes) gone flushed moments
-IsPrompt start came gone flushed (Went bytes ∷ moments) = IsPrompt start came (gone ++ bytes) false moments
-IsPrompt start came gone flushed (Flush ∷ moments) = IsPrompt start came gone true moments
+-- before each read what went so far answers what came so far, and it was flushed; a read gives few bytes, so all lines are
+-- answered but those of the last ones
+abbrev pub IsPromptBy : (List ℕ → List ℕ → Type 0) → (came gone : List ℕ) → Bool → List Moment → Type 0
+IsPromptBy Answers came gone flushed [] = Unit {0}
+IsPromptBy Answers came gone flushed (Came bytes ∷ moments) =
+    (flushed ≡ true) × Answers came gone × (length bytes ≤ PIECE) × IsPromptBy Answers (came ++ bytes) gone flushed moments
+IsPromptBy Answers came gone flushed (Went bytes ∷ moments) = IsPromptBy Answers came (gone ++ bytes) false moments
+IsPromptBy Answers came gone flushed (Flush ∷ moments) = IsPromptBy Answers came gone true moments
 
--- these bytes came from the peer and this text went to it, each complete line answered before more was read
-pub record HasTalked (start : SessionState) (old new : PeerState) (came gone : List ℕ) (flushed : Bool) : Type 0 where
+-- before each read all complete lines so far have been answered as the session does, and the answers flushed
+abbrev pub IsPrompt : SessionState → (came gone : List ℕ) → Bool → List Moment → Type 0
+IsPrompt start = IsPromptBy (IsAnsweredBy start)
+
+-- these bytes came from the peer and this text went to it, and before more was read the text so far was an answer
+pub record HasTalkedBy (Answers : List ℕ → List ℕ → Type 0) (old new : PeerState) (came gone : List ℕ) (flushed : Bool) : Type 0 where
   pub moments : List Moment
   pub grows : Grows old.moments new.moments moments
   pub came_is : came_of moments ≡ came
   pub gone_is : gone_of moments ≡ gone
-  pub prompt : IsPrompt start [] [] true moments
+  pub prompt : IsPromptBy Answers [] [] true moments
   pub flush : is_flushed true moments ≡ flushed
   pub read : Consumes old.remaining new.remaining came
   pub written : Appends old.contents new.contents gone
+
+-- each complete line was answered, as the session does, before more was read
+abbrev pub HasTalked : SessionState → (old new : PeerState) → (came gone : List ℕ) → Bool → Type 0
+HasTalked start = HasTalkedBy (IsAnsweredBy start)
 
 -- what went from the peer through the session and back: the last of the bytes that came were not fed, and the last of the
 -- text of those that were fed has not been sent

@@ -1,10 +1,12 @@
 use Rattle.std.proofs.Common.{length}
 use Rattle.timer_script.specs.Session.{IsAnsweredSoFar}
 use Rattle.timer_script.specs.Serving.{AreGood}
+use Rattle.timer_program.proofs.ShowingLemmas.{HasShownUpTo}
 use Rattle.timer_program.proofs.showing.show_lines.Given as goal
 
 abbrev pub invariant-loop-rest : goal.invariant-loop-rest
 invariant-loop-rest g l = record {
+  shown : HasShownUpTo l.fn.session l.fn.bytes (g.P.Peer.state l.fn.peer) (g.P.Peer.state l.peer) l.session l.rest;
   good : AreGood (g.P.Peer.state l.peer);
   answered : IsAnsweredSoFar l.session;
 }
