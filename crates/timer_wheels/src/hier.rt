@@ -48,10 +48,13 @@
 //! A timer may skip wheels: in Wide one for 4097 moves once, from wheel 2 to wheel 0. Slot 0 of a wheel
 //! stays empty, since at that wheel the deadline's digit is above that of now.
 ghost use Rattle.std.specs.Prelude.{◌≡◌, ◌+◌, ◌-◌, ◌*◌, ◌<◌, ◌≤◌, ◌↔◌, ◌⊎◌, [], length, IsTrue, IfOk, IfErr, OnErr, MatchOption};
+ghost use Rattle.std.specs.Option.{IfSome};
 ghost use Rattle.timer_base.specs.declared.limits.TheConstants.{LAST};
+ghost use Rattle.timer_base.specs.WakeUps.{IsQuietUntil};
 ghost use Rattle.timer_base.specs.WheelState.{empty_wheel, timer_at, first_due, after_start, after_stop, after_tick, after_expiry, after_clear, after_restart, old_timer, Advances};
 ghost use Rattle.timer_wheels.specs.Buckets.{state_of, state_of-well_formed};
 ghost use Rattle.timer_wheels.specs.Digits.{slots, last_of};
+ghost use Rattle.timer_wheels.specs.Leap.{IsNextVisit};
 ghost use Rattle.timer_wheels.specs.Tables.{radices, last_of_table};
 ghost use Rattle.timer_wheels.specs.declared.table.Table.TheVariants.{Wide};
 ghost use Rattle.timer_wheels.specs.Occupied.{AreMarked, AreMarked-prop};
@@ -318,7 +321,10 @@ impl Wheel for HierWheel {
     }
 
     /// The next tick at which a bucket with a timer is emptied: a timer is due then, or moves to a lower wheel.
-    fn quiet_until(&self) -> Option<u64> {
+    fn quiet_until(&self) -> Option<u64>
+        ensures quiet { IsQuietUntil result (hier_state self.now) }
+        ensures next { IfSome result (λ tick. IsNextVisit (radices (table_of self.now)) tick (hier_state self.now)) }
+    {
         first_visit(self.table, &self.buckets, &self.occupied)
     }
 
