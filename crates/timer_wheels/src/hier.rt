@@ -100,7 +100,7 @@ impl Counts {
 /// Wheels with the slots of a table, whose timers go to lower wheels as the clock comes near their deadline.
 ///
 /// A timer moves at most nine times in `Table::Wide` and three times in `Table::Clock`, and keeps its
-/// place in the order of starting. At about 4.29 billion timers, more than which its links cannot name,
+/// place in the order of starting. At about 4.29 billion timers, the most that its links can name,
 /// `start` returns out of memory though no allocation failed.
 #[derive(Drop)]
 pub struct HierWheel {
@@ -116,7 +116,8 @@ pub struct HierWheel {
     ghost marked: { AreMarked buckets.slots occupied buckets.links } by { AreMarked-prop buckets.slots occupied buckets.links },
     ghost few_starts: { counts.starts ≤ buckets.last_serial },
     ghost few_skipped: { counts.skipped ≤ buckets.tick },
-    // A start allows nine moves and each move lowers a level, so what is left to move is counted too.
+    // A start allows one move for each wheel but the highest, and each move lowers a level. So what is left
+    // to move is counted too.
     ghost paid: { IsPaid (radices table) counts.starts counts.moves buckets.tick (state_of buckets).pending },
 }
 
@@ -321,6 +322,7 @@ impl Wheel for HierWheel {
     }
 
     /// The next tick at which a bucket with a timer is emptied: a timer is due then, or moves to a lower wheel.
+    /// None moves before it.
     fn quiet_until(&self) -> Option<u64>
         ensures quiet { IsQuietUntil result (hier_state self.now) }
         ensures next { IfSome result (λ tick. IsNextVisit (radices (table_of self.now)) tick (hier_state self.now)) }
