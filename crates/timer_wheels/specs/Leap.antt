@@ -5,7 +5,7 @@ use Rattle.timer_links.specs.declared.node.Node.{Node}
 use Rattle.timer_wheels.specs.BucketLists.{timer_in, EachRow}
 use Rattle.timer_wheels.specs.Placement.{hops_of, levels_of}
 
--- the next visit of slot s of wheel k: now with s as its digit k, and zeros below
+-- now with s as its digit k, and zeros below: the next visit of slot s of wheel k, where that holds a pending timer
 abbrev pub slot_visit : List ℕ → ℕ → ℕ → ℕ → ℕ
 slot_visit [] k s now = now
 slot_visit (r ∷ rs) zero s now = r * (now / r) + s
@@ -16,7 +16,7 @@ abbrev pub timer_visit : List ℕ → ℕ → ℕ → ℕ
 timer_visit [] now deadline = deadline
 timer_visit (r ∷ rs) now deadline = if (now / r) == (deadline / r) then deadline else r * timer_visit rs (now / r) (deadline / r)
 
--- the next visit of a list
+-- the same of a list: its next visit, where it holds a pending timer
 abbrev pub list_visit : List ℕ → ℕ → ℕ → ℕ
 list_visit [] l now = now
 list_visit (r ∷ rs) l now = if nat_lt l r then r * (now / r) + l else r * list_visit rs (l - r) (now / r)

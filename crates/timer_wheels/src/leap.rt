@@ -17,7 +17,7 @@ ghost use Rattle.timer_wheels.specs.Leap.{AreNotVisitedBefore, IsVisitBound, IsN
 ghost use Rattle.timer_wheels.specs.Hier.{IsHier, potential};
 
 use crate::buckets::Buckets;
-use crate::digits::{lowest_slots, visit_of};
+use crate::digits::{is_rollover, revolutions, visit_of};
 use crate::migration::next_tick;
 use crate::occupied::Occupied;
 use crate::table::Table;
@@ -126,9 +126,8 @@ pub fn visits_between(table: Table, first: u64, last: u64, due: bool) -> u64
     ensures value { result ≡ visited_between (lowest_radix (radices table)) first last due }
     ensures few { result ≤ last - first }
 {
-    let slots = lowest_slots(table) as u64;
-    let multiples = last / slots - first / slots;
-    if due && last % slots != 0 {
+    let multiples = revolutions(table, last) - revolutions(table, first);
+    if due && !is_rollover(table, last) {
         multiples + 1
     } else {
         multiples
