@@ -11,7 +11,7 @@ use Rattle.timer_base.specs.WheelState.{IsPending}
 use Rattle.timer_links.specs.declared.node.Node.{Node}
 use Rattle.timer_links.specs.Lists.{list_at, row_count}
 use Rattle.timer_wheels.specs.Hashed.{slot_of, rounds_of, IsInBucket, AreInBuckets, IsNextSweep}
-use Rattle.timer_wheels.specs.Shown.{entries_at, ShowsBuckets}
+use Rattle.timer_wheels.specs.Shown.{entries_at}
 use Rattle.timer_wheels.specs.BucketLists.{timer_in, entries_of, rows_below, pending_in, wheel_state, ArePending, AreInOrder, EachRow}
 use Rattle.timer_wheels.proofs.ShownLemmas.{shows, some_at, entries_at-pending}
 use Rattle.timer_wheels.proofs.HashedTicks.{remainder_is}
