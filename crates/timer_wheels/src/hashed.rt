@@ -213,8 +213,8 @@ impl Wheel for HashedWheel {
     /// The tick of the first slot ahead that has a timer, due then or a revolution or more later. Each slot
     /// before it is looked at.
     fn quiet_until(&self) -> Option<u64>
-        ensures quiet { IsQuietUntil result (state_of self.now.buckets) }
         ensures next { IfSome result (λ tick. IsNextSweep (slots_of self.now) tick (state_of self.now.buckets)) }
+        ensures quiet { IsQuietUntil result (state_of self.now.buckets) }
     {
         first_visit(&self.buckets, self.slot)
     }

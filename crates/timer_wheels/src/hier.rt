@@ -324,8 +324,8 @@ impl Wheel for HierWheel {
     /// The next tick at which a bucket with a timer is emptied: a timer is due then, or moves to a lower wheel.
     /// None moves before it.
     fn quiet_until(&self) -> Option<u64>
-        ensures quiet { IsQuietUntil result (hier_state self.now) }
         ensures next { IfSome result (λ tick. IsNextVisit (radices (table_of self.now)) tick (hier_state self.now)) }
+        ensures quiet { IsQuietUntil result (hier_state self.now) }
     {
         first_visit(self.table, &self.buckets, &self.occupied)
     }
