@@ -36,7 +36,7 @@ record IsKnown (table : List ℕ) (now s : ℕ) (row : ℕ × Node) : Type 0 whe
   placed : bucket table now (timer_in row).deadline ≡ s
 
 module _ (t : Table) (b : Buckets) (words : List ℕ) (h : IsHier t b words) where
-  last_digits : HasDigits (radices t) b.last_tick
+  pub last_digits : HasDigits (radices t) b.last_tick
   last_digits = let P : ℕ → Type 0 = HasDigits (radices t) in subst P (sym h.clock) (of_table t).digits
 
   slots_fit : b.slots ≤ 640
@@ -59,7 +59,7 @@ module _ (t : Table) (b : Buckets) (words : List ℕ) (h : IsHier t b words) whe
   none_ahead visit f s k = let P : List (ℕ × Node) → Type 0 = AllByRecursion (λ row. visit ≤ timer_visit (radices t) b.tick (timer_in row).deadline) in let r : b.slots ≤ 640 = slots_fit in subst P (sym (none_where s k (f s (omega arith)))) tt
 
   -- a bit that is set is that of a bucket
-  first_in : (l : ℕ) → l < 640 → bit_of words l ≡ 1 → l < b.slots
+  pub first_in : (l : ℕ) → l < 640 → bit_of words l ≡ 1 → l < b.slots
   first_in l f e = elim (cases_lt l b.slots) [
     | inl c ↦ c
     | inr c ↦ absurd (let z : bit_of words l ≡ 0 = h.marked.1 l c f in omega arith)
@@ -93,7 +93,7 @@ module _ (t : Table) (b : Buckets) (words : List ℕ) (h : IsHier t b words) whe
       let x : b.tick < list_visit (radices t) l b.tick = later_by l (list_at l b.links) (sym (h.marked.0 l c) ∙ f.1) (known l c) in
       omega arith
 
-  filled_some : (rows : List (ℕ × Node)) → filled rows ≡ 1 → 0 < length rows
+  pub filled_some : (rows : List (ℕ × Node)) → filled rows ≡ 1 → 0 < length rows
   filled_some [] e = absurd (omega arith)
   filled_some (r ∷ rs) e = omega arith
 

@@ -39,7 +39,7 @@ hops_of-add table p q a c (x ∷ xs) e =
     let ih : hops_of table a (p + q) xs ≡ hops_of table a p xs + hops_of table c q xs = hops_of-add table p q a c xs e in
     omega arith
 
-abbrev hop_at : List ℕ → ℕ → ℕ → ℕ
+abbrev pub hop_at : List ℕ → ℕ → ℕ → ℕ
 hop_at table a d = if nat_lt (a + 1) d && not (level table a d == level table (a + 1) d) then 1 else 0
 
 no_hop : (table : List ℕ) (a d : ℕ) → level table a d ≡ level table (a + 1) d → hop_at table a d ≡ 0
@@ -104,6 +104,10 @@ module _ (table : List ℕ) (last a visit n : ℕ) (i : IsTable table) (h : HasD
   module _ (k last_serial : ℕ) (lists : List (List (ℕ × Node))) (p : ArePending last a last_serial (rows_below k lists)) (q : AreNotVisitedBefore table k a visit lists) where
     pending_wait : AllByRecursion (λ e. Waits table last a visit e.timer.deadline) (pending_in (rows_below k lists))
     pending_wait = All-in_order timer_of (λ e. Waits table last a visit e.timer.deadline) (entries_of (rows_below k lists)) (entries_wait (rows_below k lists) (all-rows_below (λ row. Waits table last a visit (timer_in row).deadline) k lists (all_waiting k last_serial lists p q)))
+
+    -- and none of them moves
+    pub leapt_hops : hops_of table a n (pending_in (rows_below k lists)) ≡ 0
+    leapt_hops = no_hops (pending_in (rows_below k lists)) pending_wait
 
     pub leapt_placed : EachRow (IsPlaced table a) k lists → EachRow (IsPlaced table (a + n)) k lists
     leapt_placed f s b = over (list_at s lists) (all_waiting k last_serial lists p q s b) (f s b) where

@@ -16,6 +16,7 @@ pub mod OccupiedLemmas
 pub mod VisitLaws
 pub mod LeapLemmas
 pub mod WideVisits
+pub mod NextVisitLemmas
 pub mod HierLeaps
 pub mod StoppingLemmas
 pub mod ClockDigits

@@ -3,10 +3,12 @@ use Rattle.std.proofs.Common.{◌≡◌, ◌≢◌, ◌<◌, ◌+◌, ℕ, zero,
 use Rattle.std.specs.Prelude.{Bool, true, false, map, filter}
 use Rattle.std.specs.List.{AllByRecursion}
 use Rattle.std.proofs.lemmas.Bool.{eq-eqb, ne_eqb}
+use Rattle.std.proofs.lemmas.List.{length-map}
 use Rattle.timer_base.specs.declared.timer.Timer.{Timer}
 use Rattle.timer_base.specs.Order.{is_before, insert_in_order, in_order, AreDistinct, AreRising, IsNotAmong}
-use Rattle.timer_base.specs.OrderLaws.{either, insert_in_order-commutes, in_order-same, AllAt, All-weaken, AreDistinct-rising, IsNotAmong-in_order}
+use Rattle.timer_base.specs.OrderLaws.{either, insert_in_order-commutes, in_order-same, AllAt, All-weaken, length-in_order, AreDistinct-rising, IsNotAmong-in_order}
 use Rattle.timer_base.specs.Pending.{Entry, timer_of}
+use Rattle.timer_base.specs.WheelState.{WheelState}
 use Rattle.timer_links.specs.declared.node.Node.{Node}
 use Rattle.timer_links.specs.Lists.{list_at}
 use Rattle.timer_wheels.specs.BucketLists.{timer_in, timers_in, entries_of, rows_below, pending_in, wheel_state, AreInOrder, EachRow}
@@ -117,3 +119,10 @@ module _ (n : ℕ) (bucket_of rounds_of : Timer → ℕ) (lists : List (List (�
         ∙ rows_again bucket_of rounds_of s (list_at s lists) (each s h)));
     due = refl;
   }
+
+-- a list with rows is of a bucket with pending timers
+pub some_at : (n : ℕ) (bucket_of rounds_of : Timer → ℕ) (w : WheelState) (lists : List (List (ℕ × Node))) → ShowsBuckets n bucket_of rounds_of w lists → (s : ℕ) → s < n → 0 < length (list_at s lists) → 0 < length (entries_at bucket_of s w.pending)
+some_at n bucket_of rounds_of w lists h s b k =
+    let entries : List Entry = entries_at bucket_of s w.pending in
+    let x : length (list_at s lists) ≡ length entries = ap length (h.buckets s b) ∙ (length-map (by_serial entries) (row_of rounds_of) ∙ length-in_order without_deadline entries) in
+    omega arith

@@ -12,7 +12,7 @@ quotient_mono r a d z h =
     let e : r * (a / r) + a % r ≡ a = omega arith in
     le-div (a / r) d r z (omega arith)
 
-less_quotient : (r a d : ℕ) → a < d → 0 < r → a / r ≢ d / r → a / r < d / r
+pub less_quotient : (r a d : ℕ) → a < d → 0 < r → a / r ≢ d / r → a / r < d / r
 less_quotient r a d h z n = let x : a / r ≤ d / r = quotient_mono r a d z (omega arith) in omega arith
 
 product_mono : (r x y : ℕ) → x ≤ y → r * x ≤ r * y
@@ -41,10 +41,10 @@ quotient_below r b x z h = elim (cases_lt (b / r) x) [
       absurd (omega arith)
 ]
 
-visit_near : (r : ℕ) (rs : List ℕ) (a d : ℕ) → a / r ≡ d / r → timer_visit (r ∷ rs) a d ≡ d
+pub visit_near : (r : ℕ) (rs : List ℕ) (a d : ℕ) → a / r ≡ d / r → timer_visit (r ∷ rs) a d ≡ d
 visit_near r rs a d e = rw (eq-eqb (a / r) (d / r) e) refl
 
-visit_far : (r : ℕ) (rs : List ℕ) (a d : ℕ) → a / r ≢ d / r → timer_visit (r ∷ rs) a d ≡ r * timer_visit rs (a / r) (d / r)
+pub visit_far : (r : ℕ) (rs : List ℕ) (a d : ℕ) → a / r ≢ d / r → timer_visit (r ∷ rs) a d ≡ r * timer_visit rs (a / r) (d / r)
 visit_far r rs a d e = rw (ne_eqb (a / r) (d / r) e) refl
 
 -- it is after now

@@ -1,8 +1,7 @@
 -- Lemmas for `quiet_until`: a first visit is a tick to wake up at, and the slots ahead of a hashed wheel.
 use Rattle.std.proofs.Common.{◌≡◌, ◌⊎◌, ◌<◌, ◌≤◌, ◌+◌, ◌-◌, ◌%◌, ℕ, List, [], ◌∷◌, length, refl, sym, ◌∙◌, ap, subst, inl, inr, arith}
-use Rattle.std.specs.Prelude.{true, false}
+use Rattle.std.specs.Prelude.{◌↔◌, Bool, true, false, IsTrue}
 use Rattle.std.specs.List.{AllByRecursion}
-use Rattle.std.specs.Option.{is_some}
 use Rattle.std.proofs.lemmas.Bool.{cases_lt}
 use Rattle.std.proofs.Math.Nat.{mod-add-mod}
 use Rattle.timer_base.specs.OrderLaws.{All-in_order}
@@ -10,12 +9,14 @@ use Rattle.timer_base.specs.Pending.{timer_of}
 use Rattle.timer_base.specs.WakeUps.{IsWakeUp}
 use Rattle.timer_base.specs.WheelState.{IsPending}
 use Rattle.timer_links.specs.declared.node.Node.{Node}
-use Rattle.timer_links.specs.Lists.{list_at, first_key}
-use Rattle.timer_wheels.specs.Hashed.{IsInBucket, AreInBuckets}
-use Rattle.timer_wheels.specs.BucketLists.{timer_in, entries_of, rows_below, pending_in, wheel_state, ArePending, EachRow}
+use Rattle.timer_links.specs.Lists.{list_at, row_count}
+use Rattle.timer_wheels.specs.Hashed.{slot_of, rounds_of, IsInBucket, AreInBuckets, IsNextSweep}
+use Rattle.timer_wheels.specs.Shown.{entries_at}
+use Rattle.timer_wheels.specs.BucketLists.{timer_in, entries_of, rows_below, pending_in, wheel_state, ArePending, AreInOrder, EachRow}
+use Rattle.timer_wheels.proofs.ShownLemmas.{shows, some_at, entries_at-pending}
 use Rattle.timer_wheels.proofs.HashedTicks.{remainder_is}
 use Rattle.timer_wheels.proofs.RowLemmas.{all-rows_below, all-list_at, rows_below-none}
-use Rattle.timer_wheels.proofs.BucketLemmas.{length-pending_in}
+use Rattle.timer_wheels.proofs.BucketLemmas.{row_count-parts, length-pending_in}
 
 -- Some timer is pending, or none is.
 
@@ -54,13 +55,20 @@ module _ (n last now last_serial : ℕ) (lists : List (List (ℕ × Node))) wher
 
 -- Slot by slot.
 
-pub first_none : (rows : List (ℕ × Node)) → is_some (first_key rows) ≡ false → rows ≡ []
-first_none [] e = refl
-first_none (r ∷ rs) e = absurd (cc)
+pub seen_filled : (rows : List (ℕ × Node)) (empty : Bool) → IsTrue empty ↔ (rows ≡ []) → empty ≡ false → 0 < length rows
+seen_filled [] empty f e = absurd (let x : empty ≡ true = f.1 refl in cc)
+seen_filled (r ∷ rs) empty f e = omega arith
 
-pub first_some : (rows : List (ℕ × Node)) → is_some (first_key rows) ≡ true → 0 < length rows
-first_some [] e = absurd (cc)
-first_some (r ∷ rs) e = omega arith
+no_length : {X : Type 0} (xs : List X) → length xs ≡ 0 → xs ≡ []
+no_length [] e = refl
+no_length (x ∷ xs) e = absurd (omega arith)
+
+-- where the lists have no row nothing is pending
+pub none_at_all : (n : ℕ) (lists : List (List (ℕ × Node))) → length lists ≡ n + 1 → row_count lists ≡ 0 → pending_in (rows_below n lists) ≡ []
+none_at_all n lists e z =
+    let parts : row_count lists ≡ length (rows_below n lists) + length (list_at n lists) = row_count-parts n lists e in
+    let rows : length (pending_in (rows_below n lists)) ≡ length (rows_below n lists) = length-pending_in (rows_below n lists) in
+    no_length (pending_in (rows_below n lists)) (omega arith)
 
 -- the slots up to some steps ahead have no timer
 abbrev pub AreEmptyAhead : ℕ → ℕ → ℕ → List (List (ℕ × Node)) → Type 0
@@ -116,3 +124,26 @@ module _ (n last now last_serial slot step : ℕ) (lists : List (List (ℕ × No
   -- the first slot ahead that has a timer
   pub wakes_at : (bucket : ℕ) → bucket < n → 0 < length (list_at bucket lists) → ArePending last now last_serial (rows_below n lists) → AreInBuckets n now lists → IsWakeUp (now + (step + 1)) (wheel_state n last now last_serial lists)
   wakes_at bucket b h p q = wakes n last now last_serial lists (now + (step + 1)) bucket b h (omega arith) (lists_in_time p q)
+
+-- The first slot ahead that has a timer.
+
+-- `j` steps ahead of the slot of now
+slot_ahead : (n now slot j t : ℕ) → slot ≡ now % n → t ≡ now + j → (slot + j) % n ≡ t % n
+slot_ahead n now slot j t a e = ap (λ (x : ℕ). (x + j) % n) a ∙ slot_of_deadline n now j t e
+
+module _ (n last now last_serial slot step : ℕ) (lists : List (List (ℕ × Node))) (z : 0 < n) (a : slot ≡ now % n) (f : AreEmptyAhead n slot step lists) (len : length lists ≡ n + 1) (o : AreInOrder (n + 1) lists) (q : AreInBuckets n now lists) where
+  passed_none : (t : ℕ) → now < t → t < now + (step + 1) → entries_at (slot_of n) (t % n) (pending_in (rows_below n lists)) ≡ []
+  passed_none t h k =
+      let s : (slot + (t - now)) % n ≡ t % n = slot_ahead n now slot (t - now) t a (omega arith) in
+      let r : list_at (t % n) lists ≡ [] = ap (λ (x : ℕ). list_at x lists) (sym s) ∙ f (t - now) (omega arith) (omega arith) in
+      entries_at-pending n (slot_of n) (rounds_of n now) lists len q (t % n) (omega arith) ∙ ap pending_in r
+
+  pub sweeps_next : (bucket : ℕ) → bucket ≡ (slot + (step + 1)) % n → step < n → 0 < length (list_at bucket lists) → IsNextSweep n (now + (step + 1)) (wheel_state n last now last_serial lists)
+  sweeps_next bucket e b h =
+      let s : bucket ≡ (now + (step + 1)) % n = e ∙ slot_ahead n now slot (step + 1) (now + (step + 1)) a refl in
+      let r : 0 < length (list_at ((now + (step + 1)) % n) lists) = let P : ℕ → Type 0 = λ x. 0 < length (list_at x lists) in subst P s h in
+      record {
+        in_turn = omega arith;
+        some = some_at n (slot_of n) (rounds_of n now) (wheel_state n last now last_serial lists) lists (shows n (slot_of n) (rounds_of n now) lists len q last now last_serial o) ((now + (step + 1)) % n) (omega arith) r;
+        none_before = passed_none;
+      }

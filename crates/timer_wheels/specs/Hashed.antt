@@ -1,12 +1,12 @@
 -- The slot and the rounds of a timer in a hashed wheel, what its `links` shows, and the invariant of its rows.
-use Rattle.std.specs.Prelude.{◌≡◌, ℕ, ◌-◌, ◌/◌, ◌%◌, List}
+use Rattle.std.specs.Prelude.{◌≡◌, ℕ, ◌+◌, ◌-◌, ◌/◌, ◌%◌, ◌<◌, ◌≤◌, List, [], length}
 use Rattle.std.specs.Coded.{×_prop}
 use Rattle.std.proofs.Props.{props}
 use Rattle.timer_base.specs.declared.timer.Timer.{Timer}
 use Rattle.timer_base.specs.WheelState.{WheelState}
 use Rattle.timer_links.specs.declared.node.Node.{Node}
 use Rattle.timer_wheels.specs.BucketLists.{timer_in, EachRow, EachRow-prop}
-use Rattle.timer_wheels.specs.Shown.{ShowsBuckets}
+use Rattle.timer_wheels.specs.Shown.{entries_at, ShowsBuckets}
 
 -- the slot of a timer
 abbrev pub slot_of : ℕ → Timer → ℕ
@@ -20,6 +20,15 @@ rounds_of n now t = (t.deadline - now - 1) / n
 -- rounds, and list n has what is due
 abbrev pub IsHashed : ℕ → WheelState → List (List (ℕ × Node)) → Type 0
 IsHashed n w lists = ShowsBuckets n (slot_of n) (rounds_of n w.now) w lists
+
+-- the next tick that sweeps a bucket with a timer
+pub record IsNextSweep (n tick : ℕ) (w : WheelState) : Type 0 where
+  -- it is at most one revolution ahead
+  pub in_turn : tick ≤ w.now + n
+  -- a pending timer has its slot
+  pub some : 0 < length (entries_at (slot_of n) (tick % n) w.pending)
+  -- and none has the slot of a tick before it
+  pub none_before : (t : ℕ) → w.now < t → t < tick → entries_at (slot_of n) (t % n) w.pending ≡ []
 
 -- a row of bucket s
 abbrev pub IsInBucket : ℕ → ℕ → ℕ → ℕ × Node → Type 0

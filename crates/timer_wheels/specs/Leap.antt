@@ -1,11 +1,11 @@
 -- The next visit of a bucket in a hierarchy of wheels (the tick that empties it), and leaps of its clock.
-use Rattle.std.specs.Prelude.{◌≡◌, ℕ, ◌+◌, ◌-◌, ◌*◌, ◌/◌, ◌<◌, ◌≤◌, nat_lt, zero, suc, ◌==◌, if◌then◌else◌, List, [], ◌∷◌, Option, MatchOption}
+use Rattle.std.specs.Prelude.{◌≡◌, ℕ, ◌+◌, ◌-◌, ◌*◌, ◌/◌, ◌<◌, ◌≤◌, nat_lt, zero, suc, ◌==◌, ◌⊎◌, if◌then◌else◌, List, [], ◌∷◌, length, Option, MatchOption}
 use Rattle.timer_base.specs.WheelState.{WheelState, after_ticks}
 use Rattle.timer_links.specs.declared.node.Node.{Node}
 use Rattle.timer_wheels.specs.BucketLists.{timer_in, EachRow}
 use Rattle.timer_wheels.specs.Placement.{hops_of, levels_of}
 
--- the next visit of slot s of wheel k: now with s as its digit k, and zeros below
+-- now with s as its digit k, and zeros below: the next visit of slot s of wheel k, where that holds a pending timer
 abbrev pub slot_visit : List ℕ → ℕ → ℕ → ℕ → ℕ
 slot_visit [] k s now = now
 slot_visit (r ∷ rs) zero s now = r * (now / r) + s
@@ -16,7 +16,7 @@ abbrev pub timer_visit : List ℕ → ℕ → ℕ → ℕ
 timer_visit [] now deadline = deadline
 timer_visit (r ∷ rs) now deadline = if (now / r) == (deadline / r) then deadline else r * timer_visit rs (now / r) (deadline / r)
 
--- the next visit of a list
+-- the same of a list: its next visit, where it holds a pending timer
 abbrev pub list_visit : List ℕ → ℕ → ℕ → ℕ
 list_visit [] l now = now
 list_visit (r ∷ rs) l now = if nat_lt l r then r * (now / r) + l else r * list_visit rs (l - r) (now / r)
@@ -30,6 +30,13 @@ abbrev pub IsVisitBound : List ℕ → ℕ → ℕ → Option ℕ → List (List
 IsVisitBound table n now found lists =
     MatchOption found ((visit : ℕ) → AreNotVisitedBefore table n now visit lists)
     (λ visit. AreNotVisitedBefore table n now visit lists)
+
+-- the first tick ahead at which a timer is due or moves to a lower wheel
+pub record IsNextVisit (table : List ℕ) (tick : ℕ) (w : WheelState) : Type 0 where
+  -- none moves before it
+  pub none_before : hops_of table w.now (tick - w.now - 1) w.pending ≡ 0
+  -- and at it one is due or moves
+  pub some : (0 < length (after_ticks (tick - w.now) w).due) ⊎ (0 < hops_of table w.now (tick - w.now) w.pending)
 
 -- some ticks were passed, with their moves counted, and nothing was due before the last of them
 pub record Leaps (table : List ℕ) (moves : ℕ) (old new : WheelState) : Type 0 where

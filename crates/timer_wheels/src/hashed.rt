@@ -18,9 +18,11 @@
 //! counted from the interval less 1, since an interval of N ends when the clock is back at the slot
 //! for the first time.
 ghost use Rattle.std.specs.Prelude.{◌≡◌, ◌⊎◌, ◌<◌, ◌≤◌, ◌+◌, ◌-◌, ◌%◌, [], IfOk, IfErr, OnErr, Some, None, MatchOption};
+ghost use Rattle.std.specs.Option.{IfSome};
 ghost use Rattle.timer_base.specs.declared.limits.TheConstants.{LAST};
+ghost use Rattle.timer_base.specs.WakeUps.{IsQuietUntil};
 ghost use Rattle.timer_base.specs.WheelState.{empty_wheel, first_due, timer_at, after_start, after_stop, after_tick, after_expiry, after_clear, after_restart, old_timer, Advances};
-ghost use Rattle.timer_wheels.specs.Hashed.{IsHashed, AreInBuckets, AreInBuckets-prop};
+ghost use Rattle.timer_wheels.specs.Hashed.{slot_of, rounds_of, IsHashed, AreInBuckets, AreInBuckets-prop, IsNextSweep};
 
 use crate::buckets::Buckets;
 use crate::sweep::{first_visit, next_tick, slot_after};
@@ -33,7 +35,7 @@ pub const MOST_SLOTS: usize = 65536;
 
 /// A table of buckets with a count of rounds (Scheme 6): a clock of 2^60 ticks.
 ///
-/// At about 4.29 billion timers, more than which its links cannot name, `start` returns out of memory though
+/// At about 4.29 billion timers, the most that its links can name, `start` returns out of memory though
 /// no allocation failed.
 #[derive(Drop)]
 pub struct HashedWheel {
@@ -48,6 +50,7 @@ pub struct HashedWheel {
 }
 
 impl HashedWheel {
+    ghost use Rattle.timer_wheels.specs.Buckets.{state_of};
     ghost use Rattle.timer_wheels.specs.HashedWheel.{slots_of, fault_of, IsHashedFault};
 
     /// A wheel with no timer, of 1 to 65,536 slots, at a first tick of at most `LAST`.
@@ -83,11 +86,29 @@ impl HashedWheel {
     /// The buckets, and after them the list of due timers. Does not allocate.
     ///
     /// List s, for s below the number N of slots, holds the pending timers with deadline mod N = s,
-    /// by serial, each under its handle's place. List N holds the due ones, by serial.
+    /// by serial, each under its handle's place with (deadline - now - 1) div N rounds. List N holds
+    /// the due ones, by serial.
     pub fn links(&self) -> &Links
         ensures { IsHashed (slots_of self.now) (⟦<HashedWheel as Wheel>⟧.state self.now) result.now }
     {
         &self.buckets.links
+    }
+
+    /// The bucket and the rounds of a timer that is started now.
+    #[inline(always)]
+    fn bucket_and_rounds(&self, timer: Timer) -> (usize, u64)
+        requires later { (state_of self.now.buckets).now < timer.deadline }
+        ensures bucket { result.0 ≡ slot_of (slots_of self.now) timer }
+        ensures in_range { result.0 < slots_of self.now }
+        ensures rounds { result.1 ≡ rounds_of (slots_of self.now) (state_of self.now.buckets).now timer }
+    {
+        let buckets = &self.buckets;
+        let slots = buckets.slots;
+        // What is left of the interval after the next tick: one division gives its rounds and its slots.
+        let rest = timer.deadline - buckets.tick - 1;
+        let rounds = rest / slots as u64;
+        let steps = (rest % slots as u64) as usize + 1;
+        (slot_after(self.slot, steps, slots), rounds)
     }
 }
 
@@ -131,13 +152,8 @@ impl Wheel for HashedWheel {
         ensures err { OnErr result (state_of self.new.buckets ≡ state_of self.old.buckets) }
         ensures slots { slots_of self.new ≡ slots_of self.old }
     {
-        let buckets = &mut self.buckets;
-        // What is left of the interval after the next tick: one division gives its rounds and its slots.
-        let rest = timer.deadline - buckets.tick - 1;
-        let rounds = rest / buckets.slots as u64;
-        let steps = (rest % buckets.slots as u64) as usize + 1;
-        let bucket = slot_after(self.slot, steps, buckets.slots);
-        buckets.start(bucket, timer, rounds)
+        let (bucket, rounds) = self.bucket_and_rounds(timer);
+        self.buckets.start(bucket, timer, rounds)
     }
 
     fn look(&self, handle: Handle) -> Option<Timer> {
@@ -162,12 +178,8 @@ impl Wheel for HashedWheel {
         ensures restarted { state_of self.new.buckets ≡ after_restart result handle timer (state_of self.old.buckets) }
         ensures slots { slots_of self.new ≡ slots_of self.old }
     {
-        let buckets = &mut self.buckets;
-        let rest = timer.deadline - buckets.tick - 1;
-        let rounds = rest / buckets.slots as u64;
-        let steps = (rest % buckets.slots as u64) as usize + 1;
-        let bucket = slot_after(self.slot, steps, buckets.slots);
-        buckets.restart(handle, bucket, timer, rounds)
+        let (bucket, rounds) = self.bucket_and_rounds(timer);
+        self.buckets.restart(handle, bucket, timer, rounds)
     }
 
     fn per_tick(&mut self)
@@ -198,8 +210,12 @@ impl Wheel for HashedWheel {
         most
     }
 
-    /// The tick of the first slot ahead that has a timer, due then or later. Each slot before it is looked at.
-    fn quiet_until(&self) -> Option<u64> {
+    /// The tick of the first slot ahead that has a timer, due then or a revolution or more later. Each slot
+    /// before it is looked at.
+    fn quiet_until(&self) -> Option<u64>
+        ensures next { IfSome result (λ tick. IsNextSweep (slots_of self.now) tick (state_of self.now.buckets)) }
+        ensures quiet { IsQuietUntil result (state_of self.now.buckets) }
+    {
         first_visit(&self.buckets, self.slot)
     }
 

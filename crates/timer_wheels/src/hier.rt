@@ -48,10 +48,13 @@
 //! A timer may skip wheels: in Wide one for 4097 moves once, from wheel 2 to wheel 0. Slot 0 of a wheel
 //! stays empty, since at that wheel the deadline's digit is above that of now.
 ghost use Rattle.std.specs.Prelude.{◌≡◌, ◌+◌, ◌-◌, ◌*◌, ◌<◌, ◌≤◌, ◌↔◌, ◌⊎◌, [], length, IsTrue, IfOk, IfErr, OnErr, MatchOption};
+ghost use Rattle.std.specs.Option.{IfSome};
 ghost use Rattle.timer_base.specs.declared.limits.TheConstants.{LAST};
+ghost use Rattle.timer_base.specs.WakeUps.{IsQuietUntil};
 ghost use Rattle.timer_base.specs.WheelState.{empty_wheel, timer_at, first_due, after_start, after_stop, after_tick, after_expiry, after_clear, after_restart, old_timer, Advances};
 ghost use Rattle.timer_wheels.specs.Buckets.{state_of, state_of-well_formed};
 ghost use Rattle.timer_wheels.specs.Digits.{slots, last_of};
+ghost use Rattle.timer_wheels.specs.Leap.{IsNextVisit};
 ghost use Rattle.timer_wheels.specs.Tables.{radices, last_of_table};
 ghost use Rattle.timer_wheels.specs.declared.table.Table.TheVariants.{Wide};
 ghost use Rattle.timer_wheels.specs.Occupied.{AreMarked, AreMarked-prop};
@@ -97,7 +100,7 @@ impl Counts {
 /// Wheels with the slots of a table, whose timers go to lower wheels as the clock comes near their deadline.
 ///
 /// A timer moves at most nine times in `Table::Wide` and three times in `Table::Clock`, and keeps its
-/// place in the order of starting. At about 4.29 billion timers, more than which its links cannot name,
+/// place in the order of starting. At about 4.29 billion timers, the most that its links can name,
 /// `start` returns out of memory though no allocation failed.
 #[derive(Drop)]
 pub struct HierWheel {
@@ -113,7 +116,8 @@ pub struct HierWheel {
     ghost marked: { AreMarked buckets.slots occupied buckets.links } by { AreMarked-prop buckets.slots occupied buckets.links },
     ghost few_starts: { counts.starts ≤ buckets.last_serial },
     ghost few_skipped: { counts.skipped ≤ buckets.tick },
-    // A start allows nine moves and each move lowers a level, so what is left to move is counted too.
+    // A start allows one move for each wheel but the highest, and each move lowers a level. So what is left
+    // to move is counted too.
     ghost paid: { IsPaid (radices table) counts.starts counts.moves buckets.tick (state_of buckets).pending },
 }
 
@@ -318,7 +322,11 @@ impl Wheel for HierWheel {
     }
 
     /// The next tick at which a bucket with a timer is emptied: a timer is due then, or moves to a lower wheel.
-    fn quiet_until(&self) -> Option<u64> {
+    /// None moves before it.
+    fn quiet_until(&self) -> Option<u64>
+        ensures next { IfSome result (λ tick. IsNextVisit (radices (table_of self.now)) tick (hier_state self.now)) }
+        ensures quiet { IsQuietUntil result (hier_state self.now) }
+    {
         first_visit(self.table, &self.buckets, &self.occupied)
     }
 

@@ -4,6 +4,7 @@
 //! zeros below it. The first of these ticks is that of the first bucket with a timer. Up to it nothing
 //! moves and nothing is due, so the clock alone advances. Such a tick is the visit of its bucket.
 ghost use Rattle.std.specs.Prelude.{◌≡◌, ◌+◌, ◌-◌, ◌*◌, ◌<◌, ◌≤◌, ℕ, [], MatchOption};
+ghost use Rattle.std.specs.Option.{IfSome};
 ghost use Rattle.timer_base.specs.declared.limits.TheConstants.{LAST};
 ghost use Rattle.timer_base.specs.WakeUps.{IsQuietUntil};
 ghost use Rattle.timer_base.specs.WheelState.{Advances};
@@ -12,11 +13,11 @@ ghost use Rattle.timer_wheels.specs.declared.table.Table.TheVariants.{Wide};
 ghost use Rattle.timer_wheels.specs.Tables.{radices};
 ghost use Rattle.timer_wheels.specs.Placement.{visited_between, most_moves};
 ghost use Rattle.timer_wheels.specs.Buckets.{state_of};
-ghost use Rattle.timer_wheels.specs.Leap.{AreNotVisitedBefore, IsVisitBound, Leaps};
+ghost use Rattle.timer_wheels.specs.Leap.{AreNotVisitedBefore, IsVisitBound, IsNextVisit, Leaps};
 ghost use Rattle.timer_wheels.specs.Hier.{IsHier, potential};
 
 use crate::buckets::Buckets;
-use crate::digits::{lowest_slots, visit_of};
+use crate::digits::{is_rollover, revolutions, visit_of};
 use crate::migration::next_tick;
 use crate::occupied::Occupied;
 use crate::table::Table;
@@ -90,6 +91,7 @@ fn next_visit(table: Table, buckets: &Buckets, occupied: &Occupied, end: u64) ->
 pub fn first_visit(table: Table, buckets: &Buckets, occupied: &Occupied) -> Option<u64>
     requires { IsHier table buckets.now occupied.now }
     ensures quiet { IsQuietUntil result (state_of buckets.now) }
+    ensures next { IfSome result (λ tick. IsNextVisit (radices table) tick (state_of buckets.now)) }
     ensures not_before { IsVisitBound (radices table) buckets.now.slots buckets.now.tick result buckets.now.links }
 {
     match occupied.first() {
@@ -124,9 +126,8 @@ pub fn visits_between(table: Table, first: u64, last: u64, due: bool) -> u64
     ensures value { result ≡ visited_between (lowest_radix (radices table)) first last due }
     ensures few { result ≤ last - first }
 {
-    let slots = lowest_slots(table) as u64;
-    let multiples = last / slots - first / slots;
-    if due && last % slots != 0 {
+    let multiples = revolutions(table, last) - revolutions(table, first);
+    if due && !is_rollover(table, last) {
         multiples + 1
     } else {
         multiples

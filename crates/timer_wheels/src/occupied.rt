@@ -19,7 +19,7 @@ const BUCKETS: usize = 640;
 const WORDS: usize = 10;
 
 /// The bits of a word.
-const BITS: usize = 64;
+const WORD_BITS: usize = 64;
 
 /// A bit for each bucket.
 #[derive(Drop)]
@@ -51,7 +51,7 @@ impl Occupied {
         ensures yes { result ≡ true → bit_of self.now list ≡ 1 }
         ensures no { result ≡ false → bit_of self.now list ≡ 0 }
     {
-        self.words[list / BITS] >> (list % BITS) & 1 == 1
+        self.words[list / WORD_BITS] >> (list % WORD_BITS) & 1 == 1
     }
 
     /// Sets a bucket's bit.
@@ -65,8 +65,8 @@ impl Occupied {
         if self.has(list) {
             return;
         }
-        let word = list / BITS;
-        self.words[word] = self.words[word] | 1 << (list % BITS);
+        let word = list / WORD_BITS;
+        self.words[word] = self.words[word] | 1 << (list % WORD_BITS);
     }
 
     /// Clears a bucket's bit.
@@ -76,8 +76,8 @@ impl Occupied {
         ensures here { bit_of self.new list ≡ 0 }
         ensures others { (s : ℕ) → s ≢ list → bit_of self.new s ≡ bit_of self.old s }
     {
-        let word = list / BITS;
-        self.words[word] = self.words[word] & !(1 << (list % BITS));
+        let word = list / WORD_BITS;
+        self.words[word] = self.words[word] & !(1 << (list % WORD_BITS));
     }
 
     /// The first bucket whose bit is set.
@@ -88,7 +88,7 @@ impl Occupied {
         for k in 0..WORDS {
             let word = self.words[k];
             if word != 0 {
-                return Some(BITS * k + lowest_bit(word));
+                return Some(WORD_BITS * k + lowest_bit(word));
             }
         }
         None

@@ -1,7 +1,7 @@
 //! The table of radices that a hierarchy of wheels reads its digits by.
 
 /// How many slots each wheel has.
-#[derive(Clone, Copy, Drop)]
+#[derive(Clone, Copy, Debug, PartialEq, Eq)]
 pub enum Table {
     /// Ten wheels of 64 slots: a clock of 2^60 ticks.
     Wide,

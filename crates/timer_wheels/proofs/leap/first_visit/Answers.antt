@@ -2,6 +2,7 @@ use Rattle.std.proofs.Common.{◌≡◌, ◌≤◌, arith}
 use Rattle.timer_wheels.specs.Digits.{last_of}
 use Rattle.timer_wheels.specs.Tables.{radices}
 use Rattle.timer_wheels.proofs.HierLeaps.{none_ahead, first_ahead, first_in_range, first_wakes, none_wakes}
+use Rattle.timer_wheels.proofs.NextVisitLemmas.{first_next}
 use Rattle.timer_wheels.proofs.leap.first_visit.Goals as goal
 
 pub visit_of-requires-clause-list : goal.visit_of-requires-clause-list
@@ -16,6 +17,9 @@ visit_of-requires-clause-now c =
 
 pub returns-in-Some-clause-quiet : goal.returns-in-Some-clause-quiet
 returns-in-Some-clause-quiet c = first_wakes c.args.table c.args.buckets.now c.args.occupied.now c.requires c.in-Some.list c.visit_of.result c.visit_of.ensures c.in-Some.ensures
+
+pub returns-in-Some-clause-next : goal.returns-in-Some-clause-next
+returns-in-Some-clause-next c = first_next c.args.table c.args.buckets.now c.args.occupied.now c.requires c.in-Some.list c.visit_of.result c.visit_of.ensures c.in-Some.ensures
 
 pub returns-in-Some-clause-not_before : goal.returns-in-Some-clause-not_before
 returns-in-Some-clause-not_before c = first_ahead c.args.table c.args.buckets.now c.args.occupied.now c.requires c.in-Some.list c.visit_of.result c.visit_of.ensures c.in-Some.ensures

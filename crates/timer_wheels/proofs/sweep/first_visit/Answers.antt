@@ -1,9 +1,12 @@
-use Rattle.std.proofs.Common.{◌≡◌, ◌<◌, ◌≤◌, sym, ◌∙◌, ap, arith}
-use Rattle.std.specs.Prelude.{true, false}
-use Rattle.std.specs.Option.{is_some}
-use Rattle.timer_links.specs.Lists.{list_at, first_key}
-use Rattle.timer_wheels.proofs.WakeUpLemmas.{none_ahead, one_ahead, all_ahead, first_none, first_some, sleeps, wakes_at}
+use Rattle.std.proofs.Common.{◌<◌, ◌≤◌, arith}
+use Rattle.timer_links.specs.Lists.{list_at}
+use Rattle.timer_wheels.proofs.WakeUpLemmas.{none_ahead, one_ahead, all_ahead, seen_filled, none_at_all, sleeps, wakes_at, sweeps_next}
 use Rattle.timer_wheels.proofs.sweep.first_visit.Goals as goal
+
+pub returns-then-len-eq0-clause-quiet : goal.returns-then-len-eq0-clause-quiet
+returns-then-len-eq0-clause-quiet c =
+    let b = c.args.buckets.now in
+    none_at_all b.slots b.links b.has_lists (omega (arith, c.len.ensures, c.if-len-eq0.true))
 
 pub loop-step-init : goal.loop-step-init
 loop-step-init c = none_ahead c.args.buckets.now.slots c.args.slot c.args.buckets.now.links
@@ -11,18 +14,21 @@ loop-step-init c = none_ahead c.args.buckets.now.slots c.args.slot c.args.bucket
 pub loop-step-preserved : goal.loop-step-preserved
 loop-step-preserved c =
     let b = c.args.buckets.now in
-    let z : is_some (first_key (list_at c.slot_after-bucket.result b.links)) ≡ false = sym (c.is_some.ensures ∙ ap is_some c.front.ensures) ∙ c.if-is_some.false in
-    one_ahead b.slots c.args.slot c.loop-step.step c.slot_after-bucket.result b.links c.slot_after-bucket.ensures (first_none (list_at c.slot_after-bucket.result b.links) z) c.loop-step.invariant
+    one_ahead b.slots c.args.slot c.loop-step.step c.slot_after-bucket.result b.links c.slot_after-bucket.ensures (c.is_empty.ensures.0 c.if-not-is_empty.false) c.loop-step.invariant
 
-pub returns-then-is_some : goal.returns-then-is_some
-returns-then-is_some c =
+pub returns-then-not-is_empty-clause-quiet : goal.returns-then-not-is_empty-clause-quiet
+returns-then-not-is_empty-clause-quiet c =
     let b = c.args.buckets.now in
-    let z : is_some (first_key (list_at c.slot_after-bucket.result b.links)) ≡ true = sym (c.is_some.ensures ∙ ap is_some c.front.ensures) ∙ c.if-is_some.true in
     let r : c.slot_after-bucket.result < b.slots = omega (arith, c.slot_after-bucket.ensures, c.requires.has_slots) in
-    wakes_at b.slots b.last_tick b.tick b.last_serial c.args.slot c.loop-step.step b.links c.requires.slot c.loop-step.invariant c.slot_after-bucket.result r (first_some (list_at c.slot_after-bucket.result b.links) z) b.pending c.requires.in_buckets
+    wakes_at b.slots b.last_tick b.tick b.last_serial c.args.slot c.loop-step.step b.links c.requires.slot c.loop-step.invariant c.slot_after-bucket.result r (seen_filled (list_at c.slot_after-bucket.result b.links) c.is_empty.result c.is_empty.ensures c.if-not-is_empty.true) b.pending c.requires.in_buckets
 
-pub returns : goal.returns
-returns c =
+pub returns-then-not-is_empty-clause-next : goal.returns-then-not-is_empty-clause-next
+returns-then-not-is_empty-clause-next c =
+    let b = c.args.buckets.now in
+    sweeps_next b.slots b.last_tick b.tick b.last_serial c.args.slot c.loop-step.step b.links c.requires.has_slots c.requires.slot c.loop-step.invariant b.has_lists b.in_order c.requires.in_buckets c.slot_after-bucket.result c.slot_after-bucket.ensures c.loop-step-test.true (seen_filled (list_at c.slot_after-bucket.result b.links) c.is_empty.result c.is_empty.ensures c.if-not-is_empty.true)
+
+pub returns-clause-quiet : goal.returns-clause-quiet
+returns-clause-quiet c =
     let b = c.args.buckets.now in
     let r : c.args.slot < b.slots = omega (arith, c.requires.slot, c.requires.has_slots) in
     let n : b.slots ≤ c.loop-step.step = c.loop-step-test.false in

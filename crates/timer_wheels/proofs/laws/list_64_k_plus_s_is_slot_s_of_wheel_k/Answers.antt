@@ -1,5 +1,5 @@
 use Rattle.timer_wheels.proofs.WideDigits.{list_is_slot}
-use Rattle.timer_wheels.proofs.laws.a_list_is_a_slot_of_a_wheel.Goals as goal
+use Rattle.timer_wheels.proofs.laws.list_64_k_plus_s_is_slot_s_of_wheel_k.Goals as goal
 
 pub returns : goal.returns
 returns c = list_is_slot
