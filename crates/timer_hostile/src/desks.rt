@@ -28,7 +28,7 @@ pub enum By {
 const ROOM: usize = 4;
 
 /// A desk of so many clients over these lines, at the second try where the first is refused.
-fn open<I: Inlet + Drop>(alloc: Global, inlets: Vec<I>) -> Result<Desk<HierWheel, I>, Fault> {
+pub fn open<I: Inlet + Drop>(alloc: Global, inlets: Vec<I>) -> Result<Desk<HierWheel, I>, Fault> {
     let wheel = hier(alloc, Table::Wide)?;
     let clients = inlets.len();
     let Ok(checked) = numbers(clients as u64, 1024).check() else {
@@ -101,7 +101,7 @@ fn serve<I: Inlet + Drop>(
 }
 
 /// The word for an accepted start, without its place.
-fn started(number: u64, serial: u64, deadline: u64) -> Word {
+pub fn started(number: u64, serial: u64, deadline: u64) -> Word {
     let handle = Handle { place: 0, serial };
     Word::Answered {
         number,
@@ -110,7 +110,7 @@ fn started(number: u64, serial: u64, deadline: u64) -> Word {
 }
 
 /// The word without the place of a handle, which is a free choice of the wheel.
-fn bare(word: Word) -> Word {
+pub fn bare(word: Word) -> Word {
     match word {
         Word::Answered {
             number,
@@ -130,13 +130,18 @@ fn bare_served(served: Served) -> Served {
     }
 }
 
+/// The start under this number.
+pub fn numbered(number: u64, interval: u64, action: u64) -> Numbered {
+    Numbered {
+        number,
+        request: request(interval, action),
+    }
+}
+
 /// The serve of an accepted start.
 fn did(number: u64, interval: u64, action: u64, serial: u64, deadline: u64) -> Served {
     Served::Did {
-        numbered: Numbered {
-            number,
-            request: request(interval, action),
-        },
+        numbered: numbered(number, interval, action),
         word: started(number, serial, deadline),
     }
 }
@@ -205,10 +210,7 @@ fn close_at_desk<I: Inlet + Drop>(desk: &mut Desk<HierWheel, I>, by: By) -> Resu
     same(serve(desk, 1, by)?, other, "the other client's start")?;
     same(close(desk, by)?, 2, "how many are returned")?;
     let closed = Served::Did {
-        numbered: Numbered {
-            number: 2,
-            request: request(1, 3),
-        },
+        numbered: numbered(2, 1, 3),
         word: not_taken(2),
     };
     same(serve(desk, 0, by)?, closed, "a start after the close")?;
@@ -346,10 +348,6 @@ fn close_and_receive_locked<I: Inlet + Drop>(
 
 /// A close over lines in memory.
 pub fn close_in_memory(alloc: Global, by: By) -> Result<(), Fault> {
-    let numbered = |number, interval, action| Numbered {
-        number,
-        request: request(interval, action),
-    };
     let zero = vec![in alloc; numbered(1, 5, 1), numbered(2, 1, 3)]?;
     let one = vec![in alloc; numbered(1, 3, 2)]?;
     let inlets = vec![in alloc;

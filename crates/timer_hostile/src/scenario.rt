@@ -1,5 +1,6 @@
 //! The scenarios under their names.
 use crate::desks::{By, close_in_memory, close_over_locks, close_over_rings, hold_over_tick};
+use crate::driven::drive_two;
 use crate::facilities::start_and_close;
 use crate::fault::Fault;
 use crate::handles::use_strange_handles;
@@ -37,6 +38,7 @@ pub enum Scenario {
     DeskOverLocks(By),
     DeskOverRings(By),
     HeldOverTick(By),
+    Drive,
     Handles(Kind),
 }
 
@@ -47,7 +49,7 @@ const WIDE: Kind = Kind::Hier(Table::Wide);
 const CLOCK: Kind = Kind::Hier(Table::Clock);
 
 /// Each scenario with its name.
-pub const SCENARIOS: [(&str, Scenario); 35] = [
+pub const SCENARIOS: [(&str, Scenario); 36] = [
     ("pushes-9", Scenario::Pushes(9)),
     ("pushes-257", Scenario::Pushes(257)),
     ("pushes-641", Scenario::Pushes(641)),
@@ -79,6 +81,7 @@ pub const SCENARIOS: [(&str, Scenario); 35] = [
     ("rings-by-turns", Scenario::DeskOverRings(By::Turn)),
     ("held-over-tick", Scenario::HeldOverTick(By::Call)),
     ("held-by-turns", Scenario::HeldOverTick(By::Turn)),
+    ("drive", Scenario::Drive),
     ("handles-plain", Scenario::Handles(Kind::Plain)),
     ("handles-hashed", Scenario::Handles(EIGHT)),
     ("handles-hier", Scenario::Handles(WIDE)),
@@ -103,6 +106,7 @@ pub fn play<R: AllocGlobal + Wait>(rt: &R, scenario: Scenario) -> Result<bool, F
         Scenario::DeskOverLocks(by) => close_over_locks(rt, alloc, by)?,
         Scenario::DeskOverRings(by) => close_over_rings(alloc, by)?,
         Scenario::HeldOverTick(by) => return hold_over_tick(alloc, by),
+        Scenario::Drive => return drive_two(alloc),
         Scenario::Handles(kind) => handles(alloc, kind)?,
     }
     Ok(false)

@@ -7,14 +7,14 @@ use Rattle.timer_desk.specs.declared.ring.RequestsEnded.{RequestsEnded}
 use Rattle.timer_desk.specs.declared.ring.ClientReader.{ClientReader}
 use Rattle.timer_desk.specs.Ring.{line_of_inlet, got_of, given_of, all_submitted, read_by, unread_by, requests_ring_of, words_ring_of_reader}
 use Rattle.timer_desk.specs.Desk.{DeskState, AllIdle, backlog_at}
-use Rattle.timer_desk.specs.Winding.{AreEndsOf, AreReadersOf, AllGot, AllReadOut, IsWaiting}
+use Rattle.timer_desk.specs.Winding.{AreEndsOf, AreReadersOf, AllGot, AllReadOut, IsWaiting, IsBlamed}
 use Rattle.timer_desk.specs.declared.driving.DriveEnd.{DriveEnd}
 use Rattle.timer_desk.specs.declared.driving.DriveEnd.TheVariants as DriveEnds
 use Rattle.timer_threads.specs.declared.fault.ThreadsFault.{ThreadsFault}
 use Rattle.timer_threads.specs.declared.worked.Worked.{Worked}
-use Rattle.timer_threads.specs.Parted.{has_failed, NoneFailed, IsFirstFailed, lower_of, AreParted}
-use Rattle.timer_threads.specs.Threads.{AreOfLines, AllRead, NoneUnread, IsWoundUp, IsHeldOf, IsHeldBack, IsFirstClient, IsFirstFault, fault_of}
-use Rattle.timer_threads.proofs.PartedLemmas.{parted_lengths, parted_at, ended_at, reader_at}
+use Rattle.timer_threads.specs.Parted.{has_failed, NoneFailed, AllEnded, IsFirstFailed, lower_of, AreParted}
+use Rattle.timer_threads.specs.Threads.{AreOfLines, AllRead, NoneUnread, IsServed, AllServed, IsWoundUp, IsHeldBack, IsFirstClient, IsFirstFault, fault_of}
+use Rattle.timer_threads.proofs.PartedLemmas.{parted_lengths, parted_at, ended_at, reader_at, all_ended}
 
 pub ends_of : (inlets : List RingInlet) (ws : List Worked) (es : List RequestsEnded) (rs : List ClientReader) → AreParted ws es rs → AreOfLines inlets ws → AreEndsOf inlets es
 ends_of inlets ws es rs p a =
@@ -66,14 +66,18 @@ readers_of inlets ws es rs p a =
         let at = parted_at ws es rs p k w e r (omega arith) in
         ap words_ring_of_reader (sym at.1) ∙ (a.each k i w l).reader
 
+pub all_served : (desk : DeskState RingInlet) (ws : List Worked) (es : List RequestsEnded) (rs : List ClientReader) → AreParted ws es rs → AreOfLines desk.inlets ws
+    → AllIdle desk → AllGot desk.inlets es → AllServed desk ws
+all_served desk ws es rs p a idle got c l =
+    let m : length ws ≡ length desk.inlets = a.as_many in
+    let low : c < length desk.inlets = omega (arith, l, m) in record {
+      idle = idle c low;
+      got = λ i w e is. ap all_submitted (sym (ended_at ws es rs p c w e e l is)) ∙ got c i e low;
+    }
+
 pub wound_up : (desk : DeskState RingInlet) (ws : List Worked) (es : List RequestsEnded) (rs : List ClientReader) → AreParted ws es rs → AreOfLines desk.inlets ws
     → AllIdle desk → AllGot desk.inlets es → AllRead desk.inlets rs → IsWoundUp desk ws
-wound_up desk ws es rs p a idle got read =
-    let m : length ws ≡ length desk.inlets = a.as_many in record {
-      idle = idle;
-      read = λ c i w l. read_all c i w l rs p read;
-      got = λ c i w e l is. ap all_submitted (sym (ended_at ws es rs p c w e e l is)) ∙ got c i e (omega (arith, l, m));
-    }
+wound_up desk ws es rs p a idle got read = record { served = all_served desk ws es rs p a idle got; read = λ c i w l. read_all c i w l rs p read }
   where
     some_reader : (ys : List ClientReader) → (j : ℕ) → j < length ys → ClientReader
     some_reader [] j l = absurd (omega arith)
@@ -112,45 +116,68 @@ some_or a (Some x) = x
 some_is : (a b : ℕ) → Some a ≡ Some b → a ≡ b
 some_is a b h = ap (λ o. some_or a o) h
 
--- the client that is held back, by the ends that the clients left, is held back by what they left
+-- this client is held back, and each before it is served
+pub record IsFirstHeld (desk : DeskState RingInlet) (all : List Worked) (c : ℕ) : Type 0 where
+  pub client : c < length all
+  pub back : IsHeldBack desk all c
+  pub before : (k : ℕ) → k < c → IsServed desk all k
+
+-- the client that is blamed, by the ends that the clients left, is held back by what they left
 pub held_back_by : {X : Type 0} (es : X → List RequestsEnded) (rs : X → List ClientReader) (desk : DeskState RingInlet) (all : List Worked) (parts : Option X) (held : Option ℕ)
     → AreOfLines desk.inlets all → IfSome parts (λ p. AreParted all (es p) (rs p)) → (IsNone parts → IsNone held)
-    → IfSome held (λ c. (c < length desk.inlets) × IfSome parts (λ p. IsHeldOf desk (es p) c)) → IfSome held (λ c. (c < length all) × IsHeldBack desk all c)
+    → IfSome held (λ c. IfSome parts (λ p. IsBlamed desk (es p) c)) → IfSome held (λ c. IsFirstHeld desk all c)
 held_back_by es rs desk all parts None lines parted missing told = tt
 held_back_by es rs desk all None (Some c) lines parted missing told = let none = missing refl in absurd (cc)
-held_back_by es rs desk all (Some p) (Some c) lines parted missing told =
-    let low : c < length all = let m = lines.as_many in let l = told.0 in omega (arith, l, m) in
-    (low, reason low (told.1))
+held_back_by es rs desk all (Some p) (Some c) lines parted missing told = record {
+  client = low;
+  back = reason told.waiting;
+  before = before;
+}
   where
-    reason : c < length all → IsHeldOf desk (es p) c → IsHeldBack desk all c
-    reason low (inl waits) = inl (λ i w e is. subst (λ x. IsWaiting (backlog_at desk c) (got_of (get_or desk.inlets c i)) (all_submitted x)) (ended_at all (es p) (rs p) parted c w e e low is) (waits i e))
-    reason low (inr idle) = inr idle
+    low : c < length all
+    low = let m = lines.as_many in let l = told.client in omega (arith, l, m)
+
+    reason : (((i : RingInlet) (e : RequestsEnded) → IsWaiting (backlog_at desk c) (got_of (get_or desk.inlets c i)) (all_submitted (get_or (es p) c e)))
+        ⊎ (AllIdle desk × AllGot desk.inlets (es p))) → IsHeldBack desk all c
+    reason (inl waits) = inl (λ i w e is. subst (λ x. IsWaiting (backlog_at desk c) (got_of (get_or desk.inlets c i)) (all_submitted x)) (ended_at all (es p) (rs p) parted c w e e low is) (waits i e))
+    reason (inr done) = inr (all_served desk all (es p) (rs p) parted lines done.0 done.1)
+
+    before : (k : ℕ) → k < c → IsServed desk all k
+    before k l = record {
+      idle = told.idle_before k l;
+      got = λ i w e is. ap all_submitted (sym (ended_at all (es p) (rs p) parted k w e e (let z = low in omega (arith, z, l)) is)) ∙ told.got_before k i e l;
+    }
 
 pub first_client : (desk : DeskState RingInlet) (all : List Worked) (failed held : Option ℕ) (c : ℕ) → lower_of failed held ≡ Some c
-    → IfSome failed (λ k. IsFirstFailed all k) → (IsNone failed → NoneFailed all) → IfSome held (λ k. (k < length all) × IsHeldBack desk all k) → IsFirstClient desk all c
-first_client desk all None None c is some none back = absurd (cc)
-first_client desk all None (Some b) c is some none back =
+    → IfSome failed (λ k. IsFirstFailed all k) → (IsNone failed → NoneFailed all) → IfSome held (λ k. IsFirstHeld desk all k)
+    → (IsNone held → AllEnded all → IsWoundUp desk all) → IsFirstClient desk all c
+first_client desk all None None c is some none back wound = absurd (cc)
+first_client desk all None (Some b) c is some none back wound =
     let at : b ≡ c = some_is b c is in record {
-      client = let low = back.0 in omega (arith, low, at);
-      reason = inr (subst (λ k. IsHeldBack desk all k) at (back.1));
-      others = λ k w l. none refl k w (let low = back.0 in omega (arith, low, at, l));
+      client = let low = back.client in omega (arith, low, at);
+      reason = inr (subst (λ k. IsHeldBack desk all k) at back.back);
+      others = λ k w l. none refl k w (let low = back.client in omega (arith, low, at, l));
+      served = λ _ k l. back.before k (omega (arith, at, l));
     }
-first_client desk all (Some a) None c is some none back =
-    let at : a ≡ c = some_is a c is in record {
-      client = let h = some.client in omega (arith, h, at);
+first_client desk all (Some a) None c is some none back wound =
+    let at : a ≡ c = some_is a c is in
+    let low = some.client in record {
+      client = omega (arith, low, at);
       reason = inl (λ w. subst (λ k. has_failed (get_or all k w) ≡ true) at (some.failed w));
       others = λ k w l. some.others k w (omega (arith, at, l));
+      served = λ ended k l. (wound refl ended).served k (omega (arith, low, at, l));
     }
-first_client desk all (Some a) (Some b) c is some none back =
+first_client desk all (Some a) (Some b) c is some none back wound =
     let at : min a b ≡ c = some_is (min a b) c is in record {
-      client = let h = some.client in let low = back.0 in omega (arith, h, low, at);
+      client = let h = some.client in let low = back.client in omega (arith, h, low, at);
       reason = why (cases_lt b a);
       others = λ k w l. some.others k w (omega (arith, at, l));
+      served = λ _ k l. back.before k (omega (arith, at, l));
     }
   where
     why : ((b < a) ⊎ (a ≤ b)) → ((w : Worked) → has_failed (get_or all c w) ≡ true) ⊎ IsHeldBack desk all c
     why (inr l) = let at : a ≡ c = let m = some_is (min a b) c is in omega (arith, m, l) in inl (λ w. subst (λ k. has_failed (get_or all k w) ≡ true) at (some.failed w))
-    why (inl l) = let at : b ≡ c = let m = some_is (min a b) c is in omega (arith, m, l) in inr (subst (λ k. IsHeldBack desk all k) at (back.1))
+    why (inl l) = let at : b ≡ c = let m = some_is (min a b) c is in omega (arith, m, l) in inr (subst (λ k. IsHeldBack desk all k) at back.back)
 
 abbrev fault_or : ThreadsFault → Option ThreadsFault → ThreadsFault
 fault_or fault None = fault
@@ -158,18 +185,19 @@ fault_or fault (Some other) = other
 
 pub first_fault_is : (desk : DeskState RingInlet) (outcome : DriveEnd) (all : List Worked) (failed held : Option ℕ) (fault : ThreadsFault)
     → Some fault ≡ fault_of outcome (lower_of failed held) → ¬ (outcome ≡ DriveEnds.OutOfMemory)
-    → IfSome failed (λ k. IsFirstFailed all k) → (IsNone failed → NoneFailed all) → IfSome held (λ k. (k < length all) × IsHeldBack desk all k)
-    → (failed ≡ None → held ≡ None → IsWoundUp desk all) → IsFirstFault desk outcome all fault
+    → IfSome failed (λ k. IsFirstFailed all k) → (IsNone failed → NoneFailed all) → IfSome held (λ k. IsFirstHeld desk all k)
+    → (IsNone held → AllEnded all → IsWoundUp desk all) → IsFirstFault desk outcome all fault
 first_fault_is desk outcome all failed held fault is memory some none low wound = go outcome (lower_of failed held) refl is memory
   where
     go : (end : DriveEnd) (o : Option ℕ) → lower_of failed held ≡ o → Some fault ≡ fault_of end o → ¬ (end ≡ DriveEnds.OutOfMemory) → IsFirstFault desk end all fault
-    go DriveEnds.Done (Some c) e h m = subst (λ f. IsFirstFault desk DriveEnds.Done all f) (sym (ap (λ o. fault_or fault o) h)) (m, first_client desk all failed held c e some none low)
-    go DriveEnds.Limit (Some c) e h m = subst (λ f. IsFirstFault desk DriveEnds.Limit all f) (sym (ap (λ o. fault_or fault o) h)) (m, first_client desk all failed held c e some none low)
+    go DriveEnds.Done (Some c) e h m = subst (λ f. IsFirstFault desk DriveEnds.Done all f) (sym (ap (λ o. fault_or fault o) h)) (m, first_client desk all failed held c e some none low wound)
+    go DriveEnds.Limit (Some c) e h m = subst (λ f. IsFirstFault desk DriveEnds.Limit all f) (sym (ap (λ o. fault_or fault o) h)) (m, first_client desk all failed held c e some none low wound)
     go DriveEnds.OutOfMemory (Some c) e h m = absurd (m refl)
     go DriveEnds.Done None e h m = absurd (cc)
     go DriveEnds.Limit None e h m =
         let both = lower_none failed held e in
-        subst (λ f. IsFirstFault desk DriveEnds.Limit all f) (sym (ap (λ o. fault_or fault o) h)) (refl, none (subst (λ o. IsNone o) (sym both.0) refl), wound both.0 both.1)
+        let good : NoneFailed all = none (subst (λ o. IsNone o) (sym both.0) refl) in
+        subst (λ f. IsFirstFault desk DriveEnds.Limit all f) (sym (ap (λ o. fault_or fault o) h)) (refl, good, wound (subst (λ o. IsNone o) (sym both.1) refl) (all_ended all good))
     go DriveEnds.OutOfMemory None e h m = absurd (m refl)
 
 -- where there is no fault, no client failed or is held back, and the drive is done
@@ -184,9 +212,9 @@ no_fault outcome failed held is = go outcome (lower_of failed held) refl is
     go DriveEnds.Limit None e h = absurd (cc)
     go DriveEnds.OutOfMemory None e h = absurd (cc)
 
--- the desk was wound up, where no client failed and none is held back
+-- the desk was wound up, where the requests of each client could be ended and none is held back
 pub wound_by : {X : Type 0} (es : X → List RequestsEnded) (rs : X → List ClientReader) (desk : DeskState RingInlet) (all : List Worked) (parts : Option X)
-    → AreOfLines desk.inlets all → (IsNone parts → ¬ (NoneFailed all)) → IfSome parts (λ p. AreParted all (es p) (rs p))
-    → IfSome parts (λ p. AllIdle desk × AllGot desk.inlets (es p) × AllRead desk.inlets (rs p)) → NoneFailed all → IsWoundUp desk all
-wound_by es rs desk all None lines missing parted told good = absurd (missing refl good)
-wound_by es rs desk all (Some p) lines missing parted told good = wound_up desk all (es p) (rs p) parted lines told.0 told.1 told.2
+    → AreOfLines desk.inlets all → (IsNone parts → ¬ (AllEnded all)) → IfSome parts (λ p. AreParted all (es p) (rs p))
+    → IfSome parts (λ p. AllIdle desk × AllGot desk.inlets (es p) × AllRead desk.inlets (rs p)) → AllEnded all → IsWoundUp desk all
+wound_by es rs desk all None lines missing parted told ended = absurd (missing refl ended)
+wound_by es rs desk all (Some p) lines missing parted told ended = wound_up desk all (es p) (rs p) parted lines told.0 told.1 told.2

@@ -4,7 +4,7 @@ use Rattle.std.specs.Prelude.{Option, Some, None, is_none}
 use Rattle.timer_desk.specs.declared.ring.RequestsEnded.{RequestsEnded}
 use Rattle.timer_desk.specs.declared.ring.ClientReader.{ClientReader}
 use Rattle.timer_threads.specs.declared.worked.Worked.{Worked}
-use Rattle.timer_threads.specs.Parted.{has_failed, NoneFailed, AreParted}
+use Rattle.timer_threads.specs.Parted.{NoneFailed, AllEnded, AreParted}
 
 pub AreParted-more : (ws : List Worked) (es : List RequestsEnded) (rs : List ClientReader) (w : Worked) (e : RequestsEnded) (r : ClientReader)
     → AreParted ws es rs → w.ended ≡ Some e → w.reader ≡ r → AreParted (ws ++ w ∷ []) (es ++ e ∷ []) (rs ++ r ∷ [])
@@ -65,17 +65,20 @@ reader_at (v ∷ ws) (x ∷ xs) (y ∷ ys) h (suc k) w r l = reader_at ws xs ys 
 
 -- a client whose requests could not be ended has failed
 
-or_true : (a : Bool) → a || true ≡ true
-or_true true = refl
-or_true false = refl
+or_false : (a b : Bool) → a || b ≡ false → b ≡ false
+or_false false b h = h
+or_false true b h = absurd (cc)
 
-pub missing_is_failed : (ws more all : List Worked) (w : Worked) → ws ++ w ∷ more ≡ all → w.ended ≡ None → ¬ (NoneFailed all)
-missing_is_failed ws more all w is none good =
+pub all_ended : (all : List Worked) → NoneFailed all → AllEnded all
+all_ended all good k w l = or_false (get_or all k w).failed (is_none (get_or all k w).ended) (good k w l)
+
+pub missing_is_not_ended : (ws more all : List Worked) (w : Worked) → ws ++ w ∷ more ≡ all → w.ended ≡ None → ¬ (AllEnded all)
+missing_is_not_ended ws more all w is none ended =
     let at : get_or all (length ws) w ≡ w = ap (λ xs. get_or xs (length ws) w) (sym is) ∙ at_end ws in
-    let failed : has_failed w ≡ true = ap (λ o. w.failed || is_none o) none ∙ or_true w.failed in
+    let missing : is_none w.ended ≡ true = ap is_none none in
     let low : length ws < length all = subst (λ xs. length ws < length xs) is (shorter ws) in
-    let was : has_failed w ≡ false = ap has_failed (sym at) ∙ good (length ws) w low in
-    absurd (let clash : true ≡ false = sym failed ∙ was in cc)
+    let was : is_none w.ended ≡ false = ap (λ v. is_none v.ended) (sym at) ∙ ended (length ws) w low in
+    absurd (let clash : true ≡ false = sym missing ∙ was in cc)
   where
     at_end : (xs : List Worked) → get_or (xs ++ w ∷ more) (length xs) w ≡ w
     at_end [] = refl

@@ -12,6 +12,10 @@ has_failed w = w.failed || is_none w.ended
 abbrev pub NoneFailed : List Worked → Type 0
 NoneFailed all = (k : ℕ) (w : Worked) → k < length all → has_failed (get_or all k w) ≡ false
 
+-- the requests of each could be ended
+abbrev pub AllEnded : List Worked → Type 0
+AllEnded all = (k : ℕ) (w : Worked) → k < length all → is_none (get_or all k w).ended ≡ false
+
 -- this one failed, and none before it
 pub record IsFirstFailed (all : List Worked) (c : ℕ) : Type 0 where
   pub client : c < length all

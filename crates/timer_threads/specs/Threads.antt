@@ -6,7 +6,7 @@ use Rattle.timer_desk.specs.declared.ring.RequestsEnded.{RequestsEnded}
 use Rattle.timer_desk.specs.declared.ring.ClientReader.{ClientReader}
 use Rattle.timer_desk.specs.declared.driving.DriveEnd.{DriveEnd}
 use Rattle.timer_desk.specs.declared.driving.DriveEnd.TheVariants as DriveEnds
-use Rattle.timer_desk.specs.Desk.{DeskState, AllIdle, backlog_at}
+use Rattle.timer_desk.specs.Desk.{DeskState, IsIdle, backlog_at}
 use Rattle.timer_desk.specs.Winding.{IsWaiting}
 use Rattle.timer_desk.specs.Ring.{line_of_end, line_of_inlet, got_of, given_of, all_submitted, read_by, unread_by}
 use Rattle.timer_threads.specs.declared.promise.Finishes.{Finishes}
@@ -14,7 +14,7 @@ use Rattle.timer_threads.specs.declared.fault.ThreadsFault.{ThreadsFault}
 use Rattle.timer_threads.specs.declared.fault.ThreadsFault.TheVariants as Faults
 use Rattle.timer_threads.specs.declared.worked.Worked.{Worked}
 use Rattle.timer_threads.specs.Working.{IsOfLine, IsWhole}
-use Rattle.timer_threads.specs.Parted.{has_failed, NoneFailed}
+use Rattle.timer_threads.specs.Parted.{has_failed, NoneFailed, AllEnded}
 
 -- the thread at each index was started with the end of the line at that index, and with this many requests to send
 pub record AreTied (count : ℕ) (inlets : List RingInlet) (children : List (PromisedHandle Worked Finishes)) : Type 0 where
@@ -52,12 +52,19 @@ AllRead inlets readers = (c : ℕ) (i : RingInlet) (r : ClientReader) → c < le
 abbrev pub NoneUnread : List ClientReader → Type 0
 NoneUnread readers = (c : ℕ) (r : ClientReader) → c < length readers → unread_by (get_or readers c r) ≡ []
 
--- nothing is held or in an outbox, all that each client submitted was got, and each has read all that it was given
+-- no request of this client is held, all that it submitted was got, and its outbox is empty
+pub record IsServed (desk : DeskState RingInlet) (all : List Worked) (c : ℕ) : Type 0 where
+  pub idle : IsIdle (backlog_at desk c)
+  pub got : (i : RingInlet) (w : Worked) (e : RequestsEnded) → (get_or all c w).ended ≡ Some e → all_submitted e ≡ got_of (get_or desk.inlets c i)
+
+-- so for each client
+abbrev pub AllServed : DeskState RingInlet → List Worked → Type 0
+AllServed desk all = (c : ℕ) → c < length all → IsServed desk all c
+
+-- each client is served, and has read all that it was given
 pub record IsWoundUp (desk : DeskState RingInlet) (all : List Worked) : Type 0 where
-  pub idle : AllIdle desk
+  pub served : AllServed desk all
   pub read : (c : ℕ) (i : RingInlet) (w : Worked) → c < length all → read_by (get_or all c w).reader ≡ given_of (get_or desk.inlets c i)
-  pub got : (c : ℕ) (i : RingInlet) (w : Worked) (e : RequestsEnded) → c < length all → (get_or all c w).ended ≡ Some e
-      → all_submitted e ≡ got_of (get_or desk.inlets c i)
 
 -- the desk reached its goal, no client failed, and the desk was wound up
 pub record HasEnded (desk : DeskState RingInlet) (outcome : DriveEnd) (all : List Worked) : Type 0 where
@@ -65,25 +72,20 @@ pub record HasEnded (desk : DeskState RingInlet) (outcome : DriveEnd) (all : Lis
   pub good : NoneFailed all
   pub wound : IsWoundUp desk all
 
--- a request or a word of this client waits; or none of any client does, and its line could not be finished, or its words
--- were not all read
-abbrev pub IsHeldOf : DeskState RingInlet → List RequestsEnded → ℕ → Type 0
-IsHeldOf desk ended c =
-    ((i : RingInlet) (e : RequestsEnded) → IsWaiting (backlog_at desk c) (got_of (get_or desk.inlets c i)) (all_submitted (get_or ended c e)))
-    ⊎ AllIdle desk
-
--- the same, of what the clients left
+-- a request or a word of this client waits; or none of any client does
 abbrev pub IsHeldBack : DeskState RingInlet → List Worked → ℕ → Type 0
 IsHeldBack desk all c =
     ((i : RingInlet) (w : Worked) (e : RequestsEnded) → (get_or all c w).ended ≡ Some e
     → IsWaiting (backlog_at desk c) (got_of (get_or desk.inlets c i)) (all_submitted e))
-    ⊎ AllIdle desk
+    ⊎ AllServed desk all
 
--- this client failed or is held back, and none before it failed
+-- this client failed or is held back. None before it failed; and where the requests of each client could be ended, each
+-- before it is served.
 pub record IsFirstClient (desk : DeskState RingInlet) (all : List Worked) (c : ℕ) : Type 0 where
   pub client : c < length all
   pub reason : ((w : Worked) → has_failed (get_or all c w) ≡ true) ⊎ IsHeldBack desk all c
   pub others : (k : ℕ) (w : Worked) → k < c → has_failed (get_or all k w) ≡ false
+  pub served : AllEnded all → (k : ℕ) → k < c → IsServed desk all k
 
 -- the first error of the desk and of the clients: memory, then clients, then the desk
 abbrev pub IsFirstFault : DeskState RingInlet → DriveEnd → List Worked → ThreadsFault → Type 0

@@ -2,8 +2,8 @@
 ghost use Rattle.std.specs.Prelude.{◌≡◌, ◌<◌, [], length, IfOk, IfErr, IfSome, IsNone, IsTrue, vec_len};
 ghost use Rattle.timer_desk.specs.Desk.{AllIdle};
 ghost use Rattle.timer_desk.specs.Ring.{unread_by};
-ghost use Rattle.timer_desk.specs.Winding.{AreEndsOf, AreReadersOf, AllGot};
-ghost use Rattle.timer_threads.specs.Threads.{AreOfLines, AllWhole, AllRead, NoneUnread, HasEnded, IsHeldOf, IsFirstFault, fault_of, whole_text};
+ghost use Rattle.timer_desk.specs.Winding.{AreEndsOf, AreReadersOf, AllGot, IsBlamed};
+ghost use Rattle.timer_threads.specs.Threads.{AreOfLines, AllWhole, AllRead, NoneUnread, HasEnded, IsFirstFault, fault_of, whole_text};
 ghost use Rattle.timer_threads.specs.Parted.{lower_of};
 
 use crate::fault::ThreadsFault;
@@ -17,8 +17,11 @@ use timer_wheels::HierWheel;
 /// Winds the desk up once its clients have finished, and returns the text or the first fault: the end of
 /// `threads_run`.
 ///
-/// Out of memory comes before a client, the first client that failed or is held back before any other,
-/// and the desk's limit last.
+/// Out of memory comes before a client, and the desk's limit last. The client failed, or something of it is
+/// left: a held request, a request in its line or a word in its outbox; or, where nothing is left of any
+/// client, its line could not be finished or its words were not all read. No client before it failed, and
+/// nothing of one before it is left. Where the requests of a client could not be ended, the desk is not
+/// wound up, and it is the first client that failed.
 pub fn end_all(
     alloc: Global,
     desk: Desk<HierWheel, RingInlet>,
@@ -68,14 +71,15 @@ fn first_fault(
 }
 
 /// Winds the desk up where all that it takes is there, and returns the client for whose sake that
-/// failed: one of whom something is held, waits or stands, or for whom a word is left.
+/// failed: the first of whom something is held, waits or stands; or, where there is none, one whose line
+/// could not be finished, or the first for whom a word is left.
 fn held_back(
     desk: Desk<HierWheel, RingInlet>,
     parts: Option<(Vec<RequestsEnded>, Vec<ClientReader>)>,
 ) -> Option<usize>
     requires ends { IfSome parts (λ p. AreEndsOf desk.inlets p.0.items) }
     requires readers { IfSome parts (λ p. AreReadersOf desk.inlets p.1.items) }
-    ensures some { IfSome result (λ c. (c < length desk.inlets) × IfSome parts (λ p. IsHeldOf desk p.0.items c)) }
+    ensures some { IfSome result (λ c. IfSome parts (λ p. IsBlamed desk p.0.items c)) }
     ensures no_parts { IsNone parts → IsNone result }
     ensures none { IsNone result → IfSome parts (λ p. AllIdle desk × AllGot desk.inlets p.0.items × AllRead desk.inlets p.1.items) }
 {

@@ -5,7 +5,7 @@
 pub enum ThreadsFault {
     /// Allocation failed, or a thread could not be started.
     OutOfMemory,
-    /// A check of this client failed, it came to its limit, or its line could not be settled.
+    /// A check of this client failed, it came to its limit, or something of it was left.
     Client(usize),
     /// The desk came to its limit.
     Desk,

@@ -1,6 +1,6 @@
 //! What clients left is taken apart, and who of them failed is found.
 ghost use Rattle.std.specs.Prelude.{◌≡◌, IfOk, IfSome, IsNone};
-ghost use Rattle.timer_threads.specs.Parted.{NoneFailed, IsFirstFailed, lower_of, AreParted};
+ghost use Rattle.timer_threads.specs.Parted.{NoneFailed, AllEnded, IsFirstFailed, lower_of, AreParted};
 
 use crate::worked::Worked;
 use std::alloc::Global;
@@ -38,7 +38,7 @@ pub fn parted(
     all: Vec<Worked>,
 ) -> Result<Option<(Vec<RequestsEnded>, Vec<ClientReader>)>, OutOfMemory>
     ensures some { IfOk result (λ parts. IfSome parts (λ p. AreParted all.items p.0.items p.1.items)) }
-    ensures none { IfOk result (λ parts. IsNone parts → ¬ (NoneFailed all.items)) }
+    ensures none { IfOk result (λ parts. IsNone parts → ¬ (AllEnded all.items)) }
 {
     let Ok(mut ends) = Vec::with_capacity(alloc, all.len()) else {
         return Err(OutOfMemory);

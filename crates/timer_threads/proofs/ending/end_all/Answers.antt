@@ -3,6 +3,7 @@ use Rattle.std.specs.Prelude.{IsNone, IfSome}
 use Rattle.timer_threads.specs.Parted.{NoneFailed, IsFirstFailed}
 use Rattle.timer_threads.specs.Threads.{clients_text, whole_lines}
 use Rattle.timer_threads.proofs.ThreadLemmas.{clients_text-whole}
+use Rattle.timer_threads.proofs.PartedLemmas.{all_ended}
 use Rattle.timer_threads.proofs.EndedLines.{ends_of, readers_of, IfSome-map, held_back_by, first_fault_is, no_fault, wound_by}
 use Rattle.timer_threads.proofs.ending.end_all.Goals as goal
 
@@ -30,8 +31,8 @@ returns-in-Some c =
           (subst (λ ws. IfSome c.first_failed-failed.result (λ k. IsFirstFailed ws k)) at c.first_failed-failed.ensures.some)
           none
           (held_back_by (λ p. p.0.items) (λ p. p.1.items) c.args.desk all c.in-Ok-parted.parts c.held_back-held.result c.requires.lines c.in-Ok-parted.ensures.some held.no_parts held.some)
-          (λ f h. wound_by (λ p. p.0.items) (λ p. p.1.items) c.args.desk all c.in-Ok-parted.parts c.requires.lines c.in-Ok-parted.ensures.none c.in-Ok-parted.ensures.some
-          (held.none (subst (λ o. IsNone o) (sym h) refl)) (none (subst (λ o. IsNone o) (sym f) refl)));
+          (λ h. wound_by (λ p. p.0.items) (λ p. p.1.items) c.args.desk all c.in-Ok-parted.parts c.requires.lines c.in-Ok-parted.ensures.none c.in-Ok-parted.ensures.some
+          (held.none h));
     }
 
 pub returns-in-None : goal.returns-in-None
@@ -49,7 +50,7 @@ returns-in-None c =
         done = no.2;
         good = good;
         wound = wound_by (λ p. p.0.items) (λ p. p.1.items) c.args.desk all c.in-Ok-parted.parts c.requires.lines c.in-Ok-parted.ensures.none c.in-Ok-parted.ensures.some
-            (c.held_back-held.ensures.none (subst (λ o. IsNone o) (sym no.1) refl)) good;
+            (c.held_back-held.ensures.none (subst (λ o. IsNone o) (sym no.1) refl)) (all_ended all good);
       };
       fault = tt;
     }
