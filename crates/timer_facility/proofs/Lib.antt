@@ -7,6 +7,7 @@ pub mod HandlesSwept
 pub mod HandlesFound
 pub mod FacilityCounts
 pub mod HandedOverLemmas
+pub mod ClockLemmas
 pub mod TimerLists
 pub mod VerdictLemmas
 pub mod OwedReading

@@ -122,7 +122,7 @@ closing-map : (f : Timer → Notice) (ts : List Timer) → any_out is_closing (m
 closing-map f [] = refl
 closing-map f (t ∷ ts) = closing-map f ts
 
-refusal-map : (f : Timer → Notice) (ts : List Timer) → any_out is_tick_refusal (map (λ t. Outs.Notice (f t)) ts) ≡ false
+pub refusal-map : (f : Timer → Notice) (ts : List Timer) → any_out is_tick_refusal (map (λ t. Outs.Notice (f t)) ts) ≡ false
 refusal-map f [] = refl
 refusal-map f (t ∷ ts) = refusal-map f ts
 

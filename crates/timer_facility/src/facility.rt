@@ -3,7 +3,7 @@
 //! A tick or a close leaves timers that wait to be handed out; the owner takes them by `next_out` until
 //! none waits, and only then makes the next call. Expired timers stay in the wheel, which hands them out
 //! by serial. What a close returns is a list of its own, and the wheel is empty then.
-ghost use Rattle.std.specs.Prelude.{◌≡◌, false, ℕ, ◌+◌, ◌<◌, ◌↔◌, [], length, drop, slice_get, slice_index, IsTrue, IfSome, IfOk, IfErr, OnErr, OnOk, MatchResult, if◌then◌else◌, nat_lt};
+ghost use Rattle.std.specs.Prelude.{◌≡◌, false, ℕ, ◌+◌, ◌<◌, ◌≤◌, ◌↔◌, [], length, drop, slice_get, slice_index, IsTrue, IfSome, IfOk, IfErr, OnErr, OnOk, MatchResult, if◌then◌else◌, nat_lt};
 ghost use Rattle.timer_base.specs.Pending.{timers_of};
 ghost use Rattle.timer_base.specs.WheelState.{after_clear};
 ghost use Rattle.timer_facility.specs.State.{FacilityState, IsSound, Tick, Close, Start, Stop, Restart, number_of, pending_of};
@@ -128,7 +128,8 @@ impl<W: Wheel + Drop> Facility<W> {
     /// No timer may wait to be handed out. Does not allocate.
     pub fn pending_of(&self, client: u64) -> usize
         requires { self.now.waiting ≡ [] }
-        ensures { result ≡ pending_of self.now.state client }
+        ensures value { result ≡ pending_of self.now.state client }
+        ensures none { length self.now.state.numbers ≤ client → result ≡ 0 }
     {
         if client >= self.clients {
             return 0;

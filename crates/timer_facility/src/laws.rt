@@ -1,13 +1,14 @@
 //! Lemmas about every run of a facility, whatever the events are and whichever wheel it runs on.
 //! Each of these functions does nothing: its contract is the lemma.
-ghost use Rattle.std.specs.Prelude.{◌≡◌, List, [], ℕ, ◌+◌, take, map, true, Some};
+ghost use Rattle.std.specs.Prelude.{◌≡◌, ◌≤◌, List, [], ℕ, ◌+◌, length, take, map, true, Some};
 ghost use Rattle.std.specs.List.{AllByRecursion};
 ghost use Rattle.timer_facility.specs.declared.limits.TheConstants.{MOST_CLIENTS, MOST_PENDING};
-ghost use Rattle.timer_facility.specs.State.{FacilityState, IsSound, SingleEvent, Asked, Tick, Close, Wanted};
+ghost use Rattle.timer_facility.specs.declared.handles.TheConstants.{SPARE};
+ghost use Rattle.timer_facility.specs.State.{FacilityState, IsSound, SingleEvent, Asked, Tick, Close, Wanted, pending_of};
 ghost use Rattle.timer_facility.specs.Verdict.{Refusal, verdict, closed_refusal};
 ghost use Rattle.timer_facility.specs.Refused.{refusals_in, refusals_of};
 ghost use Rattle.timer_facility.specs.Step.{step, refused};
-ghost use Rattle.timer_facility.specs.Run.{Placed, history, run, notices, notices_in, bare_outs, bare_state, NamesBySerial, AreSameButForPlaces};
+ghost use Rattle.timer_facility.specs.Run.{Placed, history, state_after, run, notices, notices_in, bare_outs, bare_state, NamesBySerial, AreSameButForPlaces};
 ghost use Rattle.timer_facility.specs.HandedOver.{AddsAtMostOne, HandsOver};
 ghost use Rattle.timer_facility.specs.Owed.{owed, left_after, accepted_ticks, others, AreHandedOutOnce, AreAllHandedOut};
 ghost use Rattle.timer_facility.specs.Played.{IsRun};
@@ -88,8 +89,21 @@ pub fn what_is_handed_out_was_pending()
     ensures close { (s : FacilityState) → HandsOver s (step s Close 0) }
 {}
 
-/// The limits in numbers: at most 64 clients, and at most 1,048,576 timers pending.
+/// After a run, now is the start's now and one more for each accepted tick.
+pub fn now_counts_the_accepted_ticks()
+    ensures { (s : FacilityState) (placed : List Placed) → (state_after s placed).now ≡ s.now + accepted_ticks (history s placed) }
+{}
+
+/// A client that does not exist has no pending timer after a run, where it had none before.
+pub fn no_timer_is_of_no_client()
+    ensures { (s : FacilityState) (placed : List Placed) (client : ℕ) → length s.numbers ≤ client
+        → pending_of s client ≡ 0 → pending_of (state_after s placed) client ≡ 0 }
+{}
+
+/// The limits in numbers: at most 64 clients, at most 1,048,576 timers pending, and 64 handles more than two
+/// for each of them.
 pub fn the_limits_of_a_facility()
     ensures clients { MOST_CLIENTS ≡ 64 }
     ensures pending { MOST_PENDING ≡ 1048576 }
+    ensures spare { SPARE ≡ 64 }
 {}

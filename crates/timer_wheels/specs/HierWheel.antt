@@ -40,10 +40,10 @@ abbrev pub counts_of : HierWheel → WheelCounts
 counts_of wheel = record { starts = wheel.counts.starts; moves = wheel.counts.moves; visits = visits_of wheel }
 
 abbrev pub starts_of : HierWheel → ℕ
-starts_of wheel = wheel.counts.starts
+starts_of wheel = (counts_of wheel).starts
 
 abbrev pub moves_of : HierWheel → ℕ
-moves_of wheel = wheel.counts.moves
+moves_of wheel = (counts_of wheel).moves
 
 -- the counts after one more start or restart
 abbrev pub with_start : WheelCounts → WheelCounts
