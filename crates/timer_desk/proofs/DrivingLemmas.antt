@@ -1,5 +1,5 @@
 -- A drive is one report.
-use Rattle.std.proofs.Common.{◌≡◌, ◌≢◌, ◌<◌, ◌≤◌, ◌+◌, ◌*◌, ◌++◌, ℕ, zero, suc, Bool, false, List, [], ◌∷◌, length, get_or, refl, sym, subst, ◌∙◌, ap, arith, inl, inr, ⊎_elim, length-append}
+use Rattle.std.proofs.Common.{◌≡◌, ◌≢◌, ◌<◌, ◌≤◌, ◌+◌, ◌*◌, ◌++◌, ℕ, zero, suc, Bool, false, List, [], ◌∷◌, length, get_or, refl, sym, subst, ◌∙◌, ap, arith, inl, inr, ⊎_elim, append-nil, length-append}
 use Rattle.std.specs.Prelude.{min, All, replicate}
 use Rattle.std.proofs.lemmas.Bool.{cases_lt}
 use Rattle.std.proofs.lemmas.Grind.{flat_map-append}
@@ -18,7 +18,7 @@ use Rattle.timer_desk.specs.declared.driving.DriveEnd.TheVariants as DriveEnds
 use Rattle.timer_desk.specs.Backlog.{BacklogState}
 use Rattle.timer_desk.specs.Report.{HeldIsLast, asked, asked_in, flushed}
 use Rattle.timer_desk.specs.Desk.{DeskState, clients_of, side_at, steps_of, step_in, AreBehind, Told, InRange}
-use Rattle.timer_desk.specs.Driving.{left_for, all_left, IsFit, IsDone, IsShort, HasCounted, NoneRanOut, Turns, Drives}
+use Rattle.timer_desk.specs.Driving.{left_for, all_left, IsFit, IsOfClient, IsDone, IsShort, HasCounted, NoneRanOut, tick_in, ticks_in, turns_in, EndsIdle, Turns, TurnsOnce, Drives}
 use Rattle.timer_desk.proofs.ReportJoining.{Told-joined, Told-nothing, AreBehind-joined, IsLaw, AreOwed-in_time}
 
 flushed_joined : (c : ℕ) (r q : List Done) → flushed c (r ++ q) ≡ flushed c r + flushed c q
@@ -30,6 +30,40 @@ fit_in_range n (Steps.Serve c) h = h
 fit_in_range n Steps.Tick h = tt
 fit_in_range n Steps.Close h = tt
 fit_in_range n (Steps.Flush c) h = h
+
+fit_of_client : (n : ℕ) (step : Step) → IsOfClient n step → IsFit n step
+fit_of_client n (Steps.Serve c) h = h
+fit_of_client n Steps.Tick h = absurd h
+fit_of_client n Steps.Close h = absurd h
+fit_of_client n (Steps.Flush c) h = h
+
+tick_none : (n : ℕ) (step : Step) → IsOfClient n step → tick_in step ≡ 0
+tick_none n (Steps.Serve c) h = refl
+tick_none n Steps.Tick h = absurd h
+tick_none n Steps.Close h = absurd h
+tick_none n (Steps.Flush c) h = refl
+
+fit_tick : (n : ℕ) → All (IsFit n) (Steps.Tick ∷ [])
+fit_tick n zero d l = tt
+fit_tick n (suc k) d l = absurd (omega arith)
+
+-- a turn serves and flushes clients, and then ticks
+pub All-fit : (n : ℕ) (steps : List Step) → All (IsOfClient n) steps → All (IsFit n) (steps ++ Steps.Tick ∷ [])
+All-fit n steps h = All-append (IsFit n) steps (Steps.Tick ∷ []) (λ k d l. fit_of_client n (get_or steps k d) (h k d l)) (fit_tick n)
+
+pub ticks_in-one : (n : ℕ) (steps : List Step) → All (IsOfClient n) steps → ticks_in (steps ++ Steps.Tick ∷ []) ≡ 1
+ticks_in-one n [] h = refl
+ticks_in-one n (step ∷ steps) h =
+    let here : tick_in step ≡ 0 = tick_none n step (h 0 step (omega arith)) in
+    let rest : ticks_in (steps ++ Steps.Tick ∷ []) ≡ 1 = ticks_in-one n steps (λ k d l. h (suc k) d (omega arith)) in
+    omega arith
+
+ticks_in-append : (xs ys : List Step) → ticks_in (xs ++ ys) ≡ ticks_in xs + ticks_in ys
+ticks_in-append [] ys = omega arith
+ticks_in-append (x ∷ xs) ys = let n = ticks_in-append xs ys in omega arith
+
+turns_in-append : (r q : List Done) → turns_in (r ++ q) ≡ turns_in r + turns_in q
+turns_in-append r q = ap ticks_in (flat_map-append step_in r q) ∙ ticks_in-append (steps_of r) (steps_of q)
 
 pub All-in_range : (n : ℕ) (steps : List Step) → All (IsFit n) steps → All (InRange n) steps
 All-in_range n steps h = λ k d l. fit_in_range n (get_or steps k d) (h k d l)
@@ -81,6 +115,17 @@ module _ {I : Type 0} (got standing : I → List Numbered) (given : I → List W
     counted = counted;
   }
 
+  pub TurnsOnce-one : (goal : ℕ) (refused : Bool) (x y : DeskState I) (ps qs : List Progress) (report : List Done) (steps : List Step) (n : ℕ) → n ≡ clients_of x → Told got standing given same refuses report x y
+      → steps_of report ≡ steps → All (IsFit n) steps → ticks_in steps ≡ 1 → AreBehind false report
+      → (refused ≡ false → NoneRanOut report)
+      → ((c : ℕ) (p : Progress) → c < length ps → HasCounted goal (length (asked c report)) (flushed c report) (get_or ps c p) (get_or qs c p))
+      → TurnsOnce got standing given same refuses goal refused x y ps qs
+  unfolding Turns-one
+  TurnsOnce-one goal refused x y ps qs report steps n e told is fit one behind memory counted = record {
+    turns = Turns-one goal refused x y ps qs report steps n e told is fit behind memory counted;
+    once = λ _. ap ticks_in is ∙ one;
+  }
+
   pub Turns-joined : ((a b c : I) → same a b → same b c → same a c) → (goal : ℕ) (refused : Bool) (x y z : DeskState I) (ps qs rs : List Progress) → length qs ≡ length ps
       → Turns got standing given same refuses goal false x y ps qs → Turns got standing given same refuses goal refused y z qs rs
       → Turns got standing given same refuses goal refused x z ps rs
@@ -104,13 +149,82 @@ module _ {I : Type 0} (got standing : I → List Numbered) (given : I → List W
         record { served = omega arith; flushed = omega arith };
   }
 
+  -- nothing was counted yet
+  abbrev pub nothing : Progress
+  nothing = record { served = 0; flushed = 0 }
+
+  -- from nothing, what was done is counted up to the goal
+  counted_up : (goal : ℕ) (refused : Bool) (x y : DeskState I) (qs : List Progress) (n : ℕ) → n ≡ clients_of x → (t : Turns got standing given same refuses goal refused x y (replicate n nothing) qs)
+      → (c : ℕ) → c < clients_of x
+      → ((get_or qs c nothing).served ≡ min (length (asked c t.report)) goal) × ((get_or qs c nothing).flushed ≡ min (flushed c t.report) (2 * goal))
+  counted_up goal refused x y qs n e t c l =
+      let there : get_or (replicate n nothing) c nothing ≡ nothing = get_or-replicate n c nothing nothing (omega arith) in
+      let long : length (replicate n nothing) ≡ n = length-replicate n nothing in
+      let k = t.counted c nothing (omega arith) in
+      let a : (get_or (replicate n nothing) c nothing).served ≡ 0 = ap (λ (p : Progress). p.served) there in
+      let b : (get_or (replicate n nothing) c nothing).flushed ≡ 0 = ap (λ (p : Progress). p.flushed) there in
+      let k0 = k.served in
+      let k1 = k.flushed in
+      (omega arith, omega arith)
+
+  -- turns, and after them so many that changed no count
+  pub record IdleSince (goal idle : ℕ) (x y : DeskState I) (ps qs : List Progress) : Type 0 where
+    pub was : DeskState I
+    pub passed : Turns got standing given same refuses goal false x was ps qs
+    pub since : Turns got standing given same refuses goal false was y qs qs
+    pub many : turns_in since.report ≡ idle
+
+  -- all of them together
+  pub idle_whole : ((a b c : I) → same a b → same b c → same a c) → (goal idle : ℕ) (x y : DeskState I) (ps qs : List Progress) → length qs ≡ length ps → IdleSince goal idle x y ps qs
+      → Turns got standing given same refuses goal false x y ps qs
+  idle_whole trans goal idle x y ps qs len h = Turns-joined trans goal false x h.was y ps qs qs len h.passed h.since
+
+  pub idle_first : (goal : ℕ) (x y z : DeskState I) (ps qs : List Progress) → Turns got standing given same refuses goal false x y ps qs → (t : Turns got standing given same refuses goal false y z qs qs) → turns_in t.report ≡ 1
+      → IdleSince goal 1 x z ps qs
+  idle_first goal x y z ps qs f t one = record { was = y; passed = f; since = t; many = one }
+
+  pub idle_more : ((a b c : I) → same a b → same b c → same a c) → (goal idle : ℕ) (x y z : DeskState I) (ps qs : List Progress) → IdleSince goal idle x y ps qs
+      → (t : Turns got standing given same refuses goal false y z qs qs) → turns_in t.report ≡ 1 → IdleSince goal (idle + 1) x z ps qs
+  unfolding Turns-joined
+  idle_more trans goal idle x y z ps qs h t one = record {
+    was = h.was;
+    passed = h.passed;
+    since = Turns-joined trans goal false h.was y z qs qs qs refl h.since t;
+    many = turns_in-append h.since.report t.report ∙ ap (λ n. n + turns_in t.report) h.many ∙ ap (λ n. idle + n) one;
+  }
+
+  pub ends_idle : (trans : (a b c : I) → same a b → same b c → same a c) (goal idle : ℕ) (x y : DeskState I) (qs : List Progress) (n : ℕ) → n ≡ clients_of x → (len : length qs ≡ length (replicate n nothing))
+      → (h : IdleSince goal idle x y (replicate n nothing) qs) → EndsIdle goal idle (clients_of x) (idle_whole trans goal idle x y (replicate n nothing) qs len h).report
+  unfolding Turns-joined idle_whole
+  ends_idle trans goal idle x y qs n e len h =
+      let all = counted_up goal false x y qs n e (idle_whole trans goal idle x y (replicate n nothing) qs len h) in
+      let first = counted_up goal false x h.was qs n e h.passed in record {
+        before = h.passed.report;
+        after = h.since.report;
+        parts = refl;
+        turns = h.many;
+        none_served = λ c l. sym (all c l).0 ∙ (first c l).0;
+        none_flushed = λ c l. sym (all c l).1 ∙ (first c l).1;
+      }
+
+  pub ends_at_once : (goal n : ℕ) (report : List Done) → EndsIdle goal 0 n report
+  ends_at_once goal n report = record {
+    before = report;
+    after = [];
+    parts = sym (append-nil report);
+    turns = refl;
+    none_served = λ c l. refl;
+    none_flushed = λ c l. refl;
+  }
+
   pub Drives-turns : (goal limit : ℕ) (refused : Bool) (x y : DeskState I) (qs : List Progress) (outcome : DriveEnd) (n : ℕ) → IsLaw x.facility → n ≡ clients_of x
-      → length qs ≡ n → Turns got standing given same refuses goal refused x y (replicate n (record { served = 0; flushed = 0 })) qs
+      → length qs ≡ n → (t : Turns got standing given same refuses goal refused x y (replicate n (record { served = 0; flushed = 0 })) qs)
       → (outcome ≡ DriveEnds.Done → (c : ℕ) (p : Progress) → c < clients_of x → IsDone goal (get_or qs c p))
       → (outcome ≡ DriveEnds.Limit → 0 < limit → 0 < all_left goal qs)
       → (¬ (outcome ≡ DriveEnds.OutOfMemory) → refused ≡ false)
+      → (outcome ≡ DriveEnds.Limit → EndsIdle goal limit (clients_of x) t.report)
       → Drives got standing given same refuses goal limit x y outcome
-  Drives-turns goal limit refused x y qs outcome n law e len t done left memory = record {
+  Drives-turns goal limit refused x y qs outcome n law e len t done left memory idle = record {
     report = t.report;
     told = t.told;
     fit = t.fit;
@@ -120,29 +234,15 @@ module _ {I : Type 0} (got standing : I → List Numbered) (given : I → List W
     given_words = λ is c l. (reached is c l).1;
     memory = λ is. t.memory (memory is);
     short = λ is some. short (left is some);
+    idle = idle;
   }
     where
       none : Progress
-      none = record { served = 0; flushed = 0 }
+      none = nothing
 
-      start : List Progress
-      start = replicate n none
-
-      as_long : (m : ℕ) (p : Progress) → length (replicate m p) ≡ m
-      as_long m p = length-replicate m p
-
-      -- from nothing, what was done is counted up to the goal
       counts : (c : ℕ) → c < clients_of x
           → ((get_or qs c none).served ≡ min (length (asked c t.report)) goal) × ((get_or qs c none).flushed ≡ min (flushed c t.report) (2 * goal))
-      counts c l =
-          let there : get_or start c none ≡ none = get_or-replicate n c none none (omega arith) in
-          let long = as_long n none in
-          let k = t.counted c none (omega arith) in
-          let a : (get_or start c none).served ≡ 0 = ap (λ (p : Progress). p.served) there in
-          let b : (get_or start c none).flushed ≡ 0 = ap (λ (p : Progress). p.flushed) there in
-          let k0 = k.served in
-          let k1 = k.flushed in
-          (omega arith, omega arith)
+      counts = counted_up goal refused x y qs n e t
 
       reached : outcome ≡ DriveEnds.Done → (c : ℕ) → c < clients_of x → (goal ≤ length (asked c t.report)) × (2 * goal ≤ flushed c t.report)
       reached is c l =

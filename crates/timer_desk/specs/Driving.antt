@@ -1,5 +1,5 @@
 -- Turns of a desk, until each client has reached a goal.
-use Rattle.std.specs.Prelude.{◌≡◌, ◌≢◌, ◌<◌, ◌≤◌, ◌+◌, ◌-◌, ◌*◌, ◌⊎◌, ℕ, min, Bool, true, false, List, [], ◌∷◌, length, get_or, All}
+use Rattle.std.specs.Prelude.{◌≡◌, ◌≢◌, ◌<◌, ◌≤◌, ◌+◌, ◌-◌, ◌*◌, ◌⊎◌, ℕ, min, Bool, true, false, List, [], ◌∷◌, ◌++◌, length, get_or, All}
 use Rattle.timer_desk.specs.declared.progress.Progress.{Progress}
 use Rattle.timer_desk.specs.declared.word.Numbered.{Numbered}
 use Rattle.timer_desk.specs.declared.word.Word.{Word}
@@ -41,6 +41,13 @@ IsFit clients Steps.Tick = Unit {0}
 IsFit clients Steps.Close = ⊥
 IsFit clients (Steps.Flush c) = c < clients
 
+-- the step is a serve or a flush of one of these
+abbrev pub IsOfClient : ℕ → Step → Type 0
+IsOfClient clients (Steps.Serve c) = c < clients
+IsOfClient clients Steps.Tick = ⊥
+IsOfClient clients Steps.Close = ⊥
+IsOfClient clients (Steps.Flush c) = c < clients
+
 -- no serve of a report ran out of memory
 abbrev pub NoneRanOut : List Done → Type 0
 NoneRanOut report = All (λ done. (c : ℕ) → done ≢ Dones.Served c NoMemory) report
@@ -63,6 +70,32 @@ pub record IsShort (goal clients : ℕ) (report : List Done) : Type 0 where
   pub among : client < clients
   pub fewer : (length (asked client report) < goal) ⊎ (flushed client report < 2 * goal)
 
+-- 1 where the step is a tick
+abbrev pub tick_in : Step → ℕ
+tick_in (Steps.Serve c) = 0
+tick_in Steps.Tick = 1
+tick_in Steps.Close = 0
+tick_in (Steps.Flush c) = 0
+
+-- how many of the steps are ticks
+abbrev pub ticks_in : List Step → ℕ
+ticks_in [] = 0
+ticks_in (step ∷ steps) = tick_in step + ticks_in steps
+
+-- how many turns of a drive a report is of: each ends in a tick, its only one
+abbrev pub turns_in : List Done → ℕ
+turns_in report = ticks_in (steps_of report)
+
+-- the last turns of the report, `limit` of them, passed nothing on: of each client as many requests up to the goal were
+-- served before them as after them, and as many words up to twice the goal flushed
+pub record EndsIdle (goal limit clients : ℕ) (report : List Done) : Type 0 where
+  pub before : List Done
+  pub after : List Done
+  pub parts : report ≡ before ++ after
+  pub turns : turns_in after ≡ limit
+  pub none_served : (c : ℕ) → c < clients → min (length (asked c report)) goal ≡ min (length (asked c before)) goal
+  pub none_flushed : (c : ℕ) → c < clients → min (flushed c report) (2 * goal) ≡ min (flushed c before) (2 * goal)
+
 module _ {I : Type 0} (got standing : I → List Numbered) (given : I → List Word) (same : I → I → Type 0) (refuses : Bool) where
   -- there is a report without a close that leads from the one desk to the other, and it was counted; unless a turn was refused,
   -- no serve ran out of memory
@@ -75,9 +108,14 @@ module _ {I : Type 0} (got standing : I → List Numbered) (given : I → List W
     pub counted : (c : ℕ) (p : Progress) → c < length before
         → HasCounted goal (length (asked c report)) (flushed c report) (get_or before c p) (get_or after c p)
 
+  -- so for one turn: unless it was refused, it has one tick
+  pub record TurnsOnce (goal : ℕ) (refused : Bool) (old new : DeskState I) (before after : List Progress) : Type 0 where
+    pub turns : Turns goal refused old new before after
+    pub once : refused ≡ false → turns_in turns.report ≡ 1
+
   -- There is a report without a close that leads from the one desk to the other. Where the drive is done, each client had
-  -- `goal` requests served and twice as many words flushed; where a limit above 0 ended it, some client had not. Only a drive
-  -- that ended out of memory has a serve that ran out of memory.
+  -- `goal` requests served and twice as many words flushed; where a limit above 0 ended it, some client had not, and the last
+  -- `limit` turns passed nothing on. Only a drive that ended out of memory has a serve that ran out of memory.
   pub record Drives (goal limit : ℕ) (old new : DeskState I) (outcome : DriveEnd) : Type 0 where
     pub report : List Done
     pub told : Told got standing given same refuses report old new
@@ -88,3 +126,4 @@ module _ {I : Type 0} (got standing : I → List Numbered) (given : I → List W
     pub given_words : outcome ≡ DriveEnds.Done → (c : ℕ) → c < clients_of old → 2 * goal ≤ flushed c report
     pub memory : ¬ (outcome ≡ DriveEnds.OutOfMemory) → NoneRanOut report
     pub short : outcome ≡ DriveEnds.Limit → 0 < limit → IsShort goal (clients_of old) report
+    pub idle : outcome ≡ DriveEnds.Limit → EndsIdle goal limit (clients_of old) report

@@ -2,7 +2,7 @@
 ghost use Rattle.std.specs.Prelude.{◌≡◌, ◌≤◌, ◌<◌, ◌↔◌, ℕ, false, All, IfOk, OnErr, length, vec_len};
 ghost use Rattle.timer_base.specs.declared.limits.TheConstants.{LAST};
 ghost use Rattle.timer_desk.specs.Desk.{clients_of};
-ghost use Rattle.timer_desk.specs.Driving.{IsFit, NoneRanOut, is_refused, Turns, Drives, IsTurned};
+ghost use Rattle.timer_desk.specs.Driving.{IsFit, NoneRanOut, is_refused, ticks_in, TurnsOnce, Drives, IsTurned};
 
 use crate::desk::Desk;
 use crate::inlet::Inlet;
@@ -44,8 +44,8 @@ enum Turned {
 /// words flushed, when `limit` consecutive turns made no progress, or when allocation failed. A turn
 /// without progress yields the processor to another thread.
 ///
-/// After `Done` each client has reached the goal. After `Limit`, where the limit is above 0, some client
-/// has not. A drive in which a serve ran out of memory ends as `OutOfMemory`.
+/// After `Done` each client has reached the goal. After `Limit` the last `limit` turns made no progress, and
+/// where the limit is above 0 some client has not reached the goal. A drive in which a serve ran out of memory ends as `OutOfMemory`.
 pub fn drive<W: Wheel + Drop, I: Inlet + Drop>(
     alloc: Global,
     desk: Desk<W, I>,
@@ -102,7 +102,7 @@ fn one_turn<W: Wheel + Drop, I: Inlet + Drop>(
 ) -> Turned
     requires goal { goal ≤ LAST }
     requires clients { vec_len progress.old ≡ clients_of desk.old }
-    ensures turns { Turns I.got I.standing I.given I.same_line I.take_may_refuse goal (is_refused result) desk.old desk.new
+    ensures turns { TurnsOnce I.got I.standing I.given I.same_line I.take_may_refuse goal (is_refused result) desk.old desk.new
         progress.old.items progress.new.items }
     ensures turned { IsTurned goal progress.old.items progress.new.items result }
     ensures clients { vec_len progress.new ≡ clients_of desk.new }
@@ -123,7 +123,8 @@ fn one_turn<W: Wheel + Drop, I: Inlet + Drop>(
 
 /// The steps of one turn.
 fn steps_of_turn(alloc: Global, progress: &[Progress], goal: u64) -> Result<Vec<Step>, AllocError>
-    ensures { IfOk result (λ steps. All (IsFit (length progress.now)) steps.items) }
+    ensures fit { IfOk result (λ steps. All (IsFit (length progress.now)) steps.items) }
+    ensures once { IfOk result (λ steps. ticks_in steps.items ≡ 1) }
 {
     let mut steps = Vec::with_capacity(alloc, 2 * progress.len() + 1)?;
     for (client, come) in progress.iter().enumerate() {
