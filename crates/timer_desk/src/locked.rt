@@ -84,32 +84,12 @@ impl<R: Wait> Inlet for LockedInlet<R> {
 
     ghost transitive = { SameLockedLine-trans };
 
-    // An empty line, and in `put` a full one, is reported before out of memory.
+    // All that the owner does with the queues is one call under the lock, and its contract is that of `Queues`.
     fn take(&mut self) -> Taken {
-        if self.got.reserve(1).is_err() {
-            return self.queues.lock(&self.rt).refuse_to_take();
-        }
-        let next = self.queues.lock(&self.rt).pop_request();
-        match next {
-            Some(numbered) => {
-                self.got.push_reserved(numbered);
-                Taken::Got(numbered)
-            }
-            None => Taken::Empty,
-        }
+        self.queues.lock(&self.rt).take_into(&mut self.got)
     }
 
     fn put(&mut self, word: Word) -> Put {
-        if self.given.reserve(1).is_err() {
-            return self.queues.lock(&self.rt).refuse_to_put(word);
-        }
-        let pushed = self.queues.lock(&self.rt).push_word(word);
-        match pushed {
-            Ok(()) => {
-                self.given.push_reserved(word);
-                Put::Done
-            }
-            Err(back) => Put::Full(back),
-        }
+        self.queues.lock(&self.rt).put_into(&mut self.given, word)
     }
 }

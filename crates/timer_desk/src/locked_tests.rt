@@ -42,3 +42,25 @@ fn a_full_locked_line_hands_the_request_back(rt: HostRuntime) -> Result<(), Fail
     same(&rt, end.submit(&rt, request), Ok(2));
     Ok(())
 }
+
+#[test]
+fn two_requests_in_a_locked_line_are_taken_one_after_the_other(rt: HostRuntime) -> Result<(), Fail> {
+    let alloc = rt.alloc();
+    let (mut end, mut inlet) = locked_line(&rt, alloc, 2, 1)?;
+    let request = Request::Start {
+        interval: 1,
+        action: 7,
+    };
+    same(&rt, end.submit(&rt, request), Ok(1));
+    same(&rt, end.submit(&rt, request), Ok(2));
+    same(&rt, inlet.take(), Taken::Got(start(1, 1, 7)));
+    same(&rt, inlet.take(), Taken::Got(start(2, 1, 7)));
+    same(&rt, inlet.take(), Taken::Empty);
+
+    same(&rt, inlet.put(started(1, 1, 1)), Put::Done);
+    same(&rt, inlet.put(started(2, 2, 1)), Put::Done);
+    same(&rt, end.receive(&rt), Some(started(1, 1, 1)));
+    same(&rt, end.receive(&rt), Some(started(2, 2, 1)));
+    same(&rt, end.receive(&rt), None);
+    Ok(())
+}

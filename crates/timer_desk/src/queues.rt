@@ -17,7 +17,8 @@ pub struct Queues {
 }
 
 impl Queues {
-    ghost use Rattle.std.specs.Prelude.{◌≡◌, ◌≢◌, ◌≤◌, ◌<◌, [], ◌∷◌, ◌++◌, length, drop, slice_get, IfOk, IfErr, OnOk, OnErr, IsOk, ◌↔◌};
+    ghost use Rattle.std.specs.Prelude.{◌≡◌, ◌≢◌, ◌≤◌, ◌<◌, [], ◌∷◌, ◌++◌, length, drop, slice_get, IfOk, IfErr, OnOk, OnErr, IsOk, ◌↔◌, true};
+    ghost use Rattle.timer_desk.specs.Inlet.{taken_of, put_of, HandsBack};
     ghost use Rattle.timer_desk.specs.Queues.{requests_in, words_in, capacity_of};
 
     /// Two empty queues.
@@ -50,27 +51,50 @@ impl Queues {
         self.requests.pop_front()
     }
 
-    /// What `take` of the line returns where its record cannot grow.
-    pub fn refuse_to_take(&self) -> Taken
-        ensures empty { requests_in self.now ≡ [] → result ≡ Taken.Empty }
-        ensures standing { requests_in self.now ≢ [] → result ≡ Taken.NoMemory }
+    /// Takes the first request, and records it in `got`. An empty queue is reported before out of memory.
+    pub fn take_into(&mut self, got: &mut Vec<Numbered>) -> Taken
+        ensures got { got.new.items ≡ got.old.items ++ taken_of result }
+        ensures requests { requests_in self.old ≡ taken_of result ++ requests_in self.new }
+        ensures empty { result ≡ Taken.Empty → requests_in self.old ≡ [] }
+        ensures memory { result ≡ Taken.NoMemory → requests_in self.old ≢ [] }
+        ensures others { (words_in self.new ≡ words_in self.old) × (capacity_of self.new ≡ capacity_of self.old) }
     {
         if self.requests.is_empty() {
-            Taken::Empty
-        } else {
-            Taken::NoMemory
+            return Taken::Empty;
+        }
+        let Ok(()) = got.reserve(1) else {
+            return Taken::NoMemory;
+        };
+        match self.pop_request() {
+            Some(numbered) => {
+                got.push_reserved(numbered);
+                Taken::Got(numbered)
+            }
+            None => Taken::Empty,
         }
     }
 
-    /// What `put` of the line returns where its record cannot grow.
-    pub fn refuse_to_put(&self, word: Word) -> Put
-        ensures full { length (words_in self.now) ≡ capacity_of self.now → result ≡ Put.Full word }
-        ensures room { length (words_in self.now) < capacity_of self.now → result ≡ Put.NoMemory word }
+    /// Puts a word, and records it in `given`. A full queue is reported before out of memory.
+    pub fn put_into(&mut self, given: &mut Vec<Word>, word: Word) -> Put
+        ensures given { given.new.items ≡ given.old.items ++ put_of result word }
+        ensures words { words_in self.new ≡ words_in self.old ++ put_of result word }
+        ensures back { HandsBack true result word }
+        ensures full { result ≡ Put.Full word → length (words_in self.old) ≡ capacity_of self.old }
+        ensures memory { result ≡ Put.NoMemory word → length (words_in self.old) < capacity_of self.old }
+        ensures others { (requests_in self.new ≡ requests_in self.old) × (capacity_of self.new ≡ capacity_of self.old) }
     {
         if self.words.len() == self.capacity {
-            Put::Full(word)
-        } else {
-            Put::NoMemory(word)
+            return Put::Full(word);
+        }
+        let Ok(()) = given.reserve(1) else {
+            return Put::NoMemory(word);
+        };
+        match self.push_word(word) {
+            Ok(()) => {
+                given.push_reserved(word);
+                Put::Done
+            }
+            Err(back) => Put::Full(back),
         }
     }
 
