@@ -55,3 +55,5 @@ mod session_tests;
 mod testing;
 #[cfg(test)]
 mod text_tests;
+#[cfg(test)]
+mod watched_tests;

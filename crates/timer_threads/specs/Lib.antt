@@ -1,4 +1,5 @@
 pub mod Working
+pub mod Children
 pub mod Client
 pub mod Parted
 pub mod Threads

@@ -5,6 +5,7 @@
 //! desk up once each client has finished. A `Gate` holds a client back, for tests.
 #![tactic(auto)]
 
+mod children;
 mod client;
 #[cfg(test)]
 mod client_tests;

@@ -8,8 +8,10 @@
 ghost use Rattle.std.specs.Prelude.{◌≡◌, ◌<◌, ◌≤◌, [], length, true, IfOk, IfErr, vec_len};
 ghost use Rattle.timer_base.specs.declared.limits.TheConstants.{LAST};
 ghost use Rattle.timer_desk.specs.Ring.{line_of_end};
+ghost use Rattle.timer_threads.specs.Children.{handles_of};
 ghost use Rattle.timer_threads.specs.Threads.{AreTied, IsAmong, whole_text};
 
+use crate::children::{Children, join_handles};
 use crate::ending::end_all;
 use crate::fault::ThreadsFault;
 use crate::gate::Gate;
@@ -37,7 +39,7 @@ const CAPACITY: u64 = 65536;
 /// The threads that were started, and the owner's ends of their lines.
 struct Clients {
     inlets: Vec<RingInlet>,
-    children: Vec<PromisedHandle<Worked, Finishes>>,
+    children: Children,
     // Whether a thread was started for each client.
     all: bool,
 }
@@ -97,13 +99,13 @@ fn start_all<G: Gate + Drop + Send + 'static>(
 ) -> Result<Clients, OutOfMemory>
     requires count { count ≤ LAST }
     requires limit { limit ≤ LAST }
-    ensures tied { IfOk result (λ c. AreTied count c.inlets.items c.children.items) }
+    ensures tied { IfOk result (λ c. AreTied count c.inlets.items (handles_of c.children)) }
     ensures all { IfOk result (λ c. c.all ≡ true → vec_len c.inlets ≡ vec_len gates) }
 {
     let Ok(mut inlets) = Vec::with_capacity(alloc, gates.len()) else {
         return Err(OutOfMemory);
     };
-    let Ok(mut children) = Vec::with_capacity(alloc, gates.len()) else {
+    let Ok(mut children) = Children::with_capacity(alloc, gates.len()) else {
         return Err(OutOfMemory);
     };
     for gate in gates {
@@ -129,13 +131,6 @@ fn start_all<G: Gate + Drop + Send + 'static>(
         children,
         all: true,
     })
-}
-
-/// Waits for the end of threads whose results are of no use.
-fn join_all(rt: &impl Threads, children: Vec<PromisedHandle<Worked, Finishes>>) {
-    for child in children {
-        child.join(rt);
-    }
 }
 
 /// Runs a client for each gate in a thread of its own, with so many timers, beside a desk that is
@@ -168,7 +163,7 @@ pub fn threads_run<G: Gate + Drop + Send + 'static>(
         all,
     } = clients;
     if !all {
-        join_all(rt, children);
+        children.join_all(rt);
         return Err(ThreadsFault::OutOfMemory);
     }
     drive_beside(rt, alloc, facility, inlets, children, timers, limit)
@@ -180,28 +175,28 @@ fn drive_beside(
     alloc: Global,
     facility: Facility<HierWheel>,
     inlets: Vec<RingInlet>,
-    children: Vec<PromisedHandle<Worked, Finishes>>,
+    children: Children,
     timers: u64,
     limit: u64,
 ) -> Result<Vec<u8>, ThreadsFault>
     requires clients { vec_len inlets ≡ length facility.state.numbers }
     requires pending { facility.state.pending ≡ [] }
     requires waiting { facility.waiting ≡ [] }
-    requires tied { AreTied timers inlets.items children.items }
+    requires tied { AreTied timers inlets.items (handles_of children) }
     requires timers { timers ≤ LAST }
     requires limit { limit ≤ LAST }
     ensures text { IfOk result (λ text. text.items ≡ whole_text (vec_len inlets) timers) }
     ensures client { IfErr result (λ fault. IsAmong (vec_len inlets) fault) }
 {
     let Ok(desk) = Desk::open(alloc, facility, inlets, ROOM) else {
-        join_all(rt, children);
+        children.join_all(rt);
         return Err(ThreadsFault::OutOfMemory);
     };
     let Driven { desk, outcome } = drive(alloc, desk, timers, limit);
-    match thread::join_promised(rt, children) {
+    match thread::join_promised(rt, children.into_handles()) {
         Ok(all) => end_all(alloc, desk, outcome, all, timers),
         Err(failed) => {
-            join_all(rt, failed.value);
+            join_handles(rt, failed.value);
             Err(ThreadsFault::OutOfMemory)
         }
     }
