@@ -69,13 +69,40 @@ fn empty_bucket(
         links.append(list, buckets_of(table));
         0
     } else {
-        migrate_one_by_one(table, links, occupied, list, tick)
+        migrate(table, links, occupied, list, tick)
+    }
+}
+
+/// Empties a bucket of a higher wheel.
+///
+/// There is one loop for each table, and in it all that depends on the table is constant.
+// Kept out of line, since a tick seldom needs it.
+#[inline(never)]
+fn migrate(
+    table: Table,
+    links: &mut Links,
+    occupied: &mut Occupied,
+    list: usize,
+    tick: u64,
+) -> u64
+    requires lists { length links.old ≡ slots (radices table) + 1 }
+    requires list { list < slots (radices table) }
+    requires rows { AllByRecursion (MayMigrate (radices table) tick list) (list_at list links.old) }
+    requires clear { bit_of occupied.old list ≡ 0 }
+    requires marked { AreMarkedBut (slots (radices table)) list occupied.old links.old }
+    ensures migrated { links.new ≡ migrated (radices table) tick list links.old }
+    ensures moves { result ≡ length (left_rows tick (list_at list links.old)) }
+    ensures marked { AreMarked (slots (radices table)) occupied.new links.new }
+{
+    match table {
+        Table::Wide => migrate_one_by_one(Table::Wide, links, occupied, list, tick),
+        Table::Clock => migrate_one_by_one(Table::Clock, links, occupied, list, tick),
     }
 }
 
 /// Empties a bucket from its front, timer by timer, and returns how many went to a lower wheel.
-// Kept out of line, since a tick seldom needs it.
-#[inline(never)]
+// Inlined where the table is a constant.
+#[inline(always)]
 fn migrate_one_by_one(
     table: Table,
     links: &mut Links,
