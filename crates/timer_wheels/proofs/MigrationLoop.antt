@@ -1,15 +1,15 @@
 -- Lemmas for `empty_bucket`: the loop invariant of migrating one by one, and a bucket that is due as a whole.
 use Rattle.std.proofs.Common.{◌≡◌, ◌≢◌, ◌<◌, ◌≤◌, ◌+◌, ℕ, zero, suc, List, [], ◌∷◌, ◌++◌, length, refl, sym, ◌∙◌, ap, subst, arith, append_assoc, length-set, get_or-set_same, get_or-set_other}
-use Rattle.std.specs.Prelude.{true, false, slice_set, Some, None}
+use Rattle.std.specs.Prelude.{true, false, slice_set, Option, Some, None, IsSome}
 use Rattle.std.specs.List.{AllByRecursion}
 use Rattle.std.proofs.lemmas.List.{set-get_or}
 use Rattle.std.proofs.lemmas.Bool.{eq-eqb, ne_eqb}
 use Rattle.timer_base.specs.Pending.{is_due_at}
 use Rattle.timer_links.specs.declared.node.Node.{Node}
-use Rattle.timer_links.specs.Lists.{list_at, with_row, row_count, front_moved, first_row_moved, appended, node_at, first_key, AreApart}
+use Rattle.timer_links.specs.Lists.{list_at, with_row, row_count, front_moved, first_row_moved, appended, node_at, first_key, AreApart, IsNext}
 use Rattle.timer_wheels.specs.Digits.{slots, bucket, last_of}
 use Rattle.timer_wheels.specs.BucketLists.{timer_in}
-use Rattle.timer_wheels.specs.Migration.{target, migrate_rows, migrated, left_rows, first_deadline, MayMigrate, IsOfTick}
+use Rattle.timer_wheels.specs.Migration.{target, migrate_rows, migrated, left_rows, first_deadline, second_deadline, MayMigrate, IsOfTick}
 use Rattle.timer_wheels.proofs.MigrationLemmas.{target_due, target_left}
 use Rattle.timer_wheels.proofs.RowLemmas.{append-nil}
 
@@ -181,6 +181,19 @@ module _ (table : List ℕ) (l tick step moves d : ℕ) (old lists new : List (L
       let m1 : length (left_rows tick (f.row ∷ f.rest)) ≡ suc (length (left_rows tick f.rest)) = left_more tick f.row f.rest k in
       next to moves2 (q ∙ (ap (bucket table tick) (sym f.deadline) ∙ sym (target_left table tick f.row k))) p (omega arith) (omega arith)
 
+  ahead_after : (to : ℕ) (o : Option ℕ) → to ≡ target table tick f.row → new ≡ front_moved l to lists → o ≡ second_deadline (list_at l lists) → o ≡ first_deadline (list_at l new)
+  ahead_after to o q p h = h ∙ (ap second_deadline f.at ∙ ap first_deadline (sym (rest_at to q p)))
+
+  pub ahead_due : (to : ℕ) (o : Option ℕ) → to ≡ slots table → d ≡ tick → new ≡ front_moved l to lists → o ≡ second_deadline (list_at l lists) → o ≡ first_deadline (list_at l new)
+  ahead_due to o q e p h =
+      let k : is_due_at tick (timer_in f.row) ≡ true = eq-eqb (timer_in f.row).deadline tick (f.deadline ∙ e) in
+      ahead_after to o (q ∙ sym (target_due table tick f.row k)) p h
+
+  pub ahead_left : (to : ℕ) (o : Option ℕ) → to ≡ bucket table tick d → d ≢ tick → new ≡ front_moved l to lists → o ≡ second_deadline (list_at l lists) → o ≡ first_deadline (list_at l new)
+  ahead_left to o q n p h =
+      let k : is_due_at tick (timer_in f.row) ≡ false = ne_eqb (timer_in f.row).deadline tick (λ (e : (timer_in f.row).deadline ≡ tick). n (sym f.deadline ∙ e)) in
+      ahead_after to o (q ∙ (ap (bucket table tick) (sym f.deadline) ∙ sym (target_left table tick f.row k))) p h
+
   pub goes_elsewhere : (to : ℕ) → to ≡ bucket table tick d → d ≢ tick → to ≢ l
   goes_elsewhere to q n =
       let k : is_due_at tick (timer_in f.row) ≡ false = ne_eqb (timer_in f.row).deadline tick (λ (e : (timer_in f.row).deadline ≡ tick). n (sym f.deadline ∙ e)) in
@@ -257,3 +270,53 @@ never_none l key lists f e = none_some_node f.node (e ∙ f.found)
 
 pub front_deadline_is : (l key : ℕ) (node : Node) (lists : List (List (ℕ × Node))) → IsFront l key lists → Some node ≡ node_at key lists → Some node.timer.deadline ≡ first_deadline (list_at l lists)
 front_deadline_is l key node lists f e = ap (λ (n : Node). Some n.timer.deadline) (some_node node f.node (e ∙ f.found)) ∙ sym f.first
+
+pub front_in_use : (l key : ℕ) (lists : List (List (ℕ × Node))) → IsFront l key lists → IsSome (node_at key lists)
+front_in_use l key lists f = rw f.found refl
+
+-- The second row, which is read ahead.
+
+pub record IsSecond (l key : ℕ) (lists : List (List (ℕ × Node))) : Type 0 where
+  pub node : Node
+  pub found : node_at key lists ≡ Some node
+  pub second : second_deadline (list_at l lists) ≡ Some node.timer.deadline
+
+-- the row behind the first one, under this key
+second_in : (l first : ℕ) (next : Option ℕ) (lists : List (List (ℕ × Node))) (rows : List (ℕ × Node)) → list_at l lists ≡ rows → AreApart lists → l < length lists → first_key rows ≡ Some first → IsNext first lists next
+    → (key : ℕ) → next ≡ Some key → IsSecond l key lists
+second_in l first next lists [] at a b e n key w = absurd (some_none first (sym e))
+second_in l first next lists (row ∷ []) at a b e n key w =
+    let k : row.0 ≡ first = some_same row.0 first e in
+    absurd (some_none key (sym w ∙ n l [] row.1 [] b (at ∙ ap (λ (x : ℕ). (x, row.1) ∷ []) k)))
+second_in l first next lists (row ∷ other ∷ rest) at a b e n key w =
+    let k : row.0 ≡ first = some_same row.0 first e in
+    let m : other.0 ≡ key = some_same other.0 key (sym (n l [] row.1 (other ∷ rest) b (at ∙ ap (λ (x : ℕ). (x, row.1) ∷ other ∷ rest) k)) ∙ w) in
+    record {
+      node = other.1;
+      found = ap (λ (v : ℕ). node_at v lists) (sym m) ∙ (a l (row ∷ []) other rest b at).0;
+      second = ap second_deadline at;
+    }
+
+pub second_of : (l first key : ℕ) (next : Option ℕ) (lists : List (List (ℕ × Node))) → AreApart lists → l < length lists → Some first ≡ first_key (list_at l lists) → IsNext first lists next → next ≡ Some key → IsSecond l key lists
+second_of l first key next lists a b e n w = second_in l first next lists (list_at l lists) refl a b (sym e) n key w
+
+-- no row is behind the first one
+none_second : (l first : ℕ) (next : Option ℕ) (lists : List (List (ℕ × Node))) (rows : List (ℕ × Node)) → list_at l lists ≡ rows → l < length lists → first_key rows ≡ Some first → IsNext first lists next → next ≡ None → None ≡ second_deadline rows
+none_second l first next lists [] at b e n w = refl
+none_second l first next lists (row ∷ []) at b e n w = refl
+none_second l first next lists (row ∷ other ∷ rest) at b e n w =
+    let k : row.0 ≡ first = some_same row.0 first e in
+    absurd (some_none other.0 (sym (n l [] row.1 (other ∷ rest) b (at ∙ ap (λ (x : ℕ). (x, row.1) ∷ other ∷ rest) k)) ∙ w))
+
+pub no_second : (l first : ℕ) (next : Option ℕ) (lists : List (List (ℕ × Node))) → l < length lists → Some first ≡ first_key (list_at l lists) → IsNext first lists next → next ≡ None → None ≡ second_deadline (list_at l lists)
+no_second l first next lists b e n w = none_second l first next lists (list_at l lists) refl b (sym e) n w
+
+pub no_row : (rows : List (ℕ × Node)) → None ≡ first_key rows → None ≡ second_deadline rows
+no_row [] e = refl
+no_row (x ∷ xs) e = absurd (some_none x.0 (sym e))
+
+pub second_there : (l key : ℕ) (lists : List (List (ℕ × Node))) → IsSecond l key lists → None ≡ node_at key lists → ⊥
+second_there l key lists f e = none_some_node f.node (e ∙ f.found)
+
+pub next_deadline_is : (l key : ℕ) (node : Node) (lists : List (List (ℕ × Node))) → IsSecond l key lists → Some node ≡ node_at key lists → Some node.timer.deadline ≡ second_deadline (list_at l lists)
+next_deadline_is l key node lists f e = ap (λ (n : Node). Some n.timer.deadline) (some_node node f.node (e ∙ f.found)) ∙ sym f.second

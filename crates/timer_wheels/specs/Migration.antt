@@ -36,6 +36,11 @@ abbrev pub first_deadline : List (ℕ × Node) → Option ℕ
 first_deadline [] = None
 first_deadline (row ∷ rows) = Some (timer_in row).deadline
 
+-- the deadline of the second row
+abbrev pub second_deadline : List (ℕ × Node) → Option ℕ
+second_deadline [] = None
+second_deadline (row ∷ rest) = first_deadline rest
+
 -- a row of a list that is emptied at this tick: it moves to another list
 pub record MayMigrate (table : List ℕ) (tick l : ℕ) (row : ℕ × Node) : Type 0 where
   pub elsewhere : target table tick row ≢ l

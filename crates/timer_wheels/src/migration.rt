@@ -6,7 +6,7 @@ ghost use Rattle.timer_links.specs.Lists.{list_at};
 ghost use Rattle.timer_wheels.specs.Buckets.{state_of};
 ghost use Rattle.timer_wheels.specs.Digits.{slots, lowest_radix};
 ghost use Rattle.timer_wheels.specs.Hier.{IsHier, potential};
-ghost use Rattle.timer_wheels.specs.Migration.{MayMigrate, IsOfTick, migrated, left_rows, first_deadline};
+ghost use Rattle.timer_wheels.specs.Migration.{MayMigrate, IsOfTick, migrated, left_rows, first_deadline, second_deadline};
 ghost use Rattle.timer_wheels.specs.Occupied.{bit_of, AreMarked, AreMarkedBut};
 ghost use Rattle.timer_wheels.specs.Placement.{hops_of};
 ghost use Rattle.timer_wheels.specs.Tables.{radices};
@@ -121,10 +121,13 @@ fn migrate_one_by_one(
 {
     let due = buckets_of(table);
     let mut moves = 0;
+    let mut ahead = front_deadline(links, list);
     for step in 0..links.len() {
-        let Some(deadline) = front_deadline(links, list) else {
+        let Some(deadline) = ahead else {
             break;
         };
+        // Read before this timer moves: its node is on its way from memory by then.
+        ahead = next_deadline(links, list);
         if deadline == tick {
             links.move_front(list, due);
         } else {
@@ -144,6 +147,19 @@ fn front_deadline(links: &Links, list: usize) -> Option<u64>
 {
     links.keys_are_apart();
     let key = links.front(list)?;
+    let node = links.get(key)?;
+    Some(node.timer.deadline)
+}
+
+/// The deadline of the second timer of a list.
+#[inline(always)]
+fn next_deadline(links: &Links, list: usize) -> Option<u64>
+    requires { list < length links.now }
+    ensures { result ≡ second_deadline (list_at list links.now) }
+{
+    links.keys_are_apart();
+    let first = links.front(list)?;
+    let key = links.next(first)?;
     let node = links.get(key)?;
     Some(node.timer.deadline)
 }

@@ -4,7 +4,7 @@ use Rattle.timer_links.specs.Lists.{row_count}
 use Rattle.timer_wheels.specs.Digits.{slots}
 use Rattle.timer_wheels.specs.Occupied.{bit_of, filled, AreMarkedBut}
 use Rattle.timer_wheels.specs.Tables.{radices}
-use Rattle.timer_wheels.proofs.MigrationLoop.{IsEmptying, IsEmptied, first_row, next_due, next_left, goes_elsewhere, ended_none, ended_count}
+use Rattle.timer_wheels.proofs.MigrationLoop.{IsEmptying, IsEmptied, first_row, next_due, next_left, goes_elsewhere, ahead_due, ahead_left, ended_none, ended_count}
 use Rattle.timer_wheels.proofs.OccupiedLemmas.{marked_due, marked_left, marked_all}
 use Rattle.timer_wheels.proofs.migration.migrate_one_by_one.Goals as goal
 use Rattle.timer_wheels.proofs.migration.migrate_one_by_one.Goals.{then-deadline-tick, else-deadline-tick}
@@ -21,15 +21,17 @@ loop-step-preserved c =
     let n = slots (radices c.args.table) in
     let i = c.loop-step.invariant in
     let b = in_lists c.args.list n c.args.links.now c.requires.lists c.requires.list in
-    let f = first_row t c.args.list c.args.tick c.loop-step.step c.loop-step.moves c.in-Some.deadline c.args.links.now c.loop-step.links i.emptying c.in-Some.ensures in
+    let f = first_row t c.args.list c.args.tick c.loop-step.step c.loop-step.moves c.in-Some.deadline c.args.links.now c.loop-step.links i.emptying (sym c.in-Some.is ∙ i.ahead) in
     elim c.if-deadline-tick.branch [
       | then-deadline-tick w ↦ record {
         emptying = next_due t c.args.list c.args.tick c.loop-step.step c.loop-step.moves c.in-Some.deadline c.args.links.now c.loop-step.links c.if-deadline-tick.links b i.emptying f c.buckets_of-due.result c.if-deadline-tick.moves c.buckets_of-due.ensures.value w.if-deadline-tick.true (w.links-is ∙ w.move_front.ensures) w.moves-is;
+        ahead = ahead_due t c.args.list c.args.tick c.loop-step.step c.loop-step.moves c.in-Some.deadline c.args.links.now c.loop-step.links c.if-deadline-tick.links b i.emptying f c.buckets_of-due.result c.next_deadline-ahead.result c.buckets_of-due.ensures.value w.if-deadline-tick.true (w.links-is ∙ w.move_front.ensures) c.next_deadline-ahead.ensures;
         clear = ap (λ (o : List ℕ). bit_of o c.args.list) w.occupied-is ∙ i.clear;
         marked = let P : List ℕ → Type 0 = λ o. AreMarkedBut n c.args.list o c.if-deadline-tick.links in subst P (sym w.occupied-is) (marked_due n c.loop-step.occupied c.args.list c.buckets_of-due.result c.loop-step.links c.if-deadline-tick.links c.buckets_of-due.ensures.value (w.links-is ∙ w.move_front.ensures) i.marked);
       }
       | else-deadline-tick w ↦ record {
         emptying = next_left t c.args.list c.args.tick c.loop-step.step c.loop-step.moves c.in-Some.deadline c.args.links.now c.loop-step.links c.if-deadline-tick.links b i.emptying f w.bucket_of-to.result c.if-deadline-tick.moves w.bucket_of-to.ensures.value w.if-deadline-tick.false (w.links-is ∙ w.move_front-else-deadline-tick.ensures) w.moves-is;
+        ahead = ahead_left t c.args.list c.args.tick c.loop-step.step c.loop-step.moves c.in-Some.deadline c.args.links.now c.loop-step.links c.if-deadline-tick.links b i.emptying f w.bucket_of-to.result c.next_deadline-ahead.result w.bucket_of-to.ensures.value w.if-deadline-tick.false (w.links-is ∙ w.move_front-else-deadline-tick.ensures) c.next_deadline-ahead.ensures;
         clear =
             let n = goes_elsewhere t c.args.list c.args.tick c.loop-step.step c.loop-step.moves c.in-Some.deadline c.args.links.now c.loop-step.links c.if-deadline-tick.links b i.emptying f w.bucket_of-to.result w.bucket_of-to.ensures.value w.if-deadline-tick.false in
             ap (λ (o : List ℕ). bit_of o c.args.list) w.occupied-is ∙ (w.insert.ensures.others c.args.list (λ e. n (sym e)) ∙ i.clear);
@@ -57,5 +59,5 @@ returns-after-loop-step-clause-marked c =
 pub returns-in_default-clause-marked : goal.returns-in_default-clause-marked
 returns-in_default-clause-marked c =
     let i = c.loop-step.invariant in
-    let z = (ended_none (radices c.args.table) c.args.list c.args.tick c.loop-step.step c.loop-step.moves c.args.links.now c.loop-step.links i.emptying c.in_default.ensures).emptied in
+    let z = (ended_none (radices c.args.table) c.args.list c.args.tick c.loop-step.step c.loop-step.moves c.args.links.now c.loop-step.links i.emptying (sym c.in_default.is ∙ i.ahead)).emptied in
     marked_all (slots (radices c.args.table)) c.loop-step.occupied c.args.list c.loop-step.links (i.clear ∙ sym (ap filled z)) i.marked

@@ -2,12 +2,15 @@ use Rattle.std.proofs.Common.{◌≡◌}
 use Rattle.timer_wheels.specs.Digits.{slots}
 use Rattle.timer_wheels.specs.Tables.{radices}
 use Rattle.timer_wheels.specs.Occupied.{bit_of, AreMarkedBut}
+use Rattle.timer_links.specs.Lists.{list_at}
+use Rattle.timer_wheels.specs.Migration.{first_deadline}
 use Rattle.timer_wheels.proofs.MigrationLoop.{IsEmptying}
 use Rattle.timer_wheels.proofs.migration.migrate_one_by_one.Given as goal
 
 abbrev pub invariant-loop-step : goal.invariant-loop-step
 invariant-loop-step l = record {
   emptying : IsEmptying (radices l.table) l.list l.tick l.step l.moves l.initial.links l.links;
+  ahead : l.ahead ≡ first_deadline (list_at l.list l.links);
   clear : bit_of l.occupied l.list ≡ 0;
   marked : AreMarkedBut (slots (radices l.table)) l.list l.occupied l.links;
 }
