@@ -7,3 +7,4 @@ pub mod PlainSteps
 pub mod SortedTimers
 pub mod PlainRestarts
 pub mod PlainWakeUps
+pub mod PlainWithdrawals

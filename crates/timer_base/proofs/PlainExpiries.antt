@@ -6,8 +6,8 @@ use Rattle.timer_base.specs.declared.timer.Timer.{Timer}
 use Rattle.timer_base.specs.Order.{in_order, itself, AreRising}
 use Rattle.timer_base.specs.OrderLaws.{either}
 use Rattle.timer_base.specs.Pending.{is_due_at, has_serial}
-use Rattle.timer_base.specs.WheelState.{after_expiry}
-use Rattle.timer_base.specs.PlainState.{is_after, due_count, at_first_place, plain_state}
+use Rattle.timer_base.specs.WheelState.{first_due, after_expiry}
+use Rattle.timer_base.specs.PlainState.{is_after, due_count, at_first_place, plain_state, timers_of-at_first_place}
 use Rattle.timer_base.proofs.PlainSteps.{state_is}
 
 pub find-filter : (p : Timer → Bool) (ts : List Timer) → find p ts ≡ slice_get (filter p ts) 0
@@ -94,14 +94,22 @@ others_stay p q low f (t ∷ ts) x e r = stay_step p q low t f ts x (others_stay
 due_not_after : (now : ℕ) (t : Timer) → is_due_at now t ≡ true → is_after now t ≡ false
 due_not_after now t h = grind (arith, nat_tests)
 
+drop-at_first_place : (ts : List Timer) → map at_first_place (drop 1 ts) ≡ drop 1 (map at_first_place ts)
+drop-at_first_place [] = refl
+drop-at_first_place (t ∷ ts) = refl
+
+-- the first due timer
+pub first_is_due : (now last : ℕ) (ts : List Timer) → find (is_due_at now) ts ≡ first_due (plain_state now last ts)
+first_is_due now last ts = find-filter (is_due_at now) ts ∙ ap (λ us. slice_get us 0) (sym (timers_of-at_first_place (filter (is_due_at now) ts)))
+
 pub plain_state-after_expiry : (now last : ℕ) (ts : List Timer) (f : Timer) → find (is_due_at now) ts ≡ Some f → AreRising 0 ts
     → plain_state now last (filter (λ t. not (has_serial f.serial t)) ts) ≡ after_expiry (plain_state now last ts)
 plain_state-after_expiry now last ts f e r =
-    state_is now last (ap (λ us. map at_first_place (in_order itself us)) (others_stay (is_due_at now) (is_after now) 0 f ts (due_not_after now) e r)) (taken_out (is_due_at now) 0 f ts e r)
+    state_is now last (ap (λ us. map at_first_place (in_order itself us)) (others_stay (is_due_at now) (is_after now) 0 f ts (due_not_after now) e r)) (ap (map at_first_place) (taken_out (is_due_at now) 0 f ts e r) ∙ drop-at_first_place (filter (is_due_at now) ts))
 
 pub plain_state-none_due : (now last : ℕ) (ts : List Timer) → find (is_due_at now) ts ≡ None → plain_state now last ts ≡ after_expiry (plain_state now last ts)
 plain_state-none_due now last ts e =
-    let none : filter (is_due_at now) ts ≡ [] = find_none (is_due_at now) ts e in
+    let none : map at_first_place (filter (is_due_at now) ts) ≡ [] = ap (map at_first_place) (find_none (is_due_at now) ts e) in
     state_is now last refl (none ∙ ap (drop 1) (sym none))
 
 -- The count of the due timers.

@@ -24,11 +24,11 @@ no_place h (t ∷ ts) n = rw (not_zero h.place n) (no_place h ts n)
 is_zero : (n : ℕ) → n ≡ 0 → (0 == n) ≡ true
 is_zero n h = grind (arith, nat_tests)
 
-at_place : (h : Handle) (ts : List Timer) → h.place ≡ 0 → first_timer (has_handle h) (map at_first_place ts) ≡ find (has_serial h.serial) ts
+pub at_place : (h : Handle) (ts : List Timer) → h.place ≡ 0 → first_timer (has_handle h) (map at_first_place ts) ≡ find (has_serial h.serial) ts
 at_place h [] z = refl
 at_place h (t ∷ ts) z = rw (is_zero h.place z) (ap (λ o. if has_serial h.serial t then Some t else o) (at_place h ts z))
 
-filter-filter_same : (p q : Timer → Bool) (ts : List Timer) → filter p (filter q ts) ≡ filter q (filter p ts)
+pub filter-filter_same : (p q : Timer → Bool) (ts : List Timer) → filter p (filter q ts) ≡ filter q (filter p ts)
 filter-filter_same p q [] = refl
 filter-filter_same p q (t ∷ ts) = elim (either (p t)) [
   | inl h ↦ elim (either (q t)) [ inl k ↦ simp (h, k) (ap (λ us. t ∷ us) (filter-filter_same p q ts)) | inr k ↦ simp (h, k) (filter-filter_same p q ts) ]
@@ -45,7 +45,7 @@ no_serial k low (t ∷ ts) l r =
     other : (a b : ℕ) → b < a → (a == b) ≡ false
     other a b h = grind (arith, nat_tests)
 
-eq_is : (a b : ℕ) → (a == b) ≡ true → a ≡ b
+pub eq_is : (a b : ℕ) → (a == b) ≡ true → a ≡ b
 eq_is a b h = grind (arith, nat_tests)
 
 one_serial : (k low : ℕ) (ts : List Timer) → AreRising low ts → in_order itself (filter (has_serial k) ts) ≡ filter (has_serial k) ts
@@ -62,7 +62,7 @@ find_in_order k ts r = find-filter (has_serial k) (in_order itself ts)
     ∙ ap (λ us. slice_get us 0) (filter-in_order itself (has_serial k) ts ∙ one_serial k 0 ts r)
     ∙ sym (find-filter (has_serial k) ts)
 
-find-both : (p q : Timer → Bool) (ts : List Timer) → find (λ t. p t && q t) ts ≡ find p (filter q ts)
+pub find-both : (p q : Timer → Bool) (ts : List Timer) → find (λ t. p t && q t) ts ≡ find p (filter q ts)
 find-both p q [] = refl
 find-both p q (t ∷ ts) = elim (either (p t)) [
   | inl h ↦ elim (either (q t)) [ inl k ↦ simp (h, k) refl | inr k ↦ simp (h, k) (find-both p q ts) ]
@@ -75,22 +75,22 @@ look_here now last ts h r z =
     find-both (has_serial h.serial) (is_after now) ts
     ∙ sym (at_place h (in_order itself after) z ∙ find_in_order h.serial after (AreRising-filter (is_after now) 0 ts r))
 
-passes : (p : Timer → Bool) (f : Timer) (ts : List Timer) → find p ts ≡ Some f → p f ≡ true
+pub passes : (p : Timer → Bool) (f : Timer) (ts : List Timer) → find p ts ≡ Some f → p f ≡ true
 passes p f [] e = absurd (cc)
 passes p f (t ∷ ts) e = elim (either (p t)) [
   | inl h ↦ let g = rw h at e in ap p (sym (same_some t f g)) ∙ h
   | inr h ↦ passes p f ts (rw h at e)
 ]
 
-both_first : (a b : Bool) → (a && b) ≡ true → a ≡ true
+pub both_first : (a b : Bool) → (a && b) ≡ true → a ≡ true
 both_first true b e = refl
 both_first false b e = e
 
-both_second : (a b : Bool) → (a && b) ≡ true → b ≡ true
+pub both_second : (a b : Bool) → (a && b) ≡ true → b ≡ true
 both_second true b e = e
 both_second false b e = absurd (cc)
 
-no_timer : (t : Timer) → None ≡ Some t → ⊥
+pub no_timer : (t : Timer) → None ≡ Some t → ⊥
 no_timer t e = cc
 
 -- a timer that a look finds is also found by its own serial
@@ -123,5 +123,5 @@ plain_state-after_stop now last ts h t r f =
     (ap (λ us. map at_first_place (in_order itself us)) (filter-filter_same (is_after now) (λ u. not (has_serial t.serial u)) ts)
     ∙ ap (map at_first_place) (sym (filter-in_order itself (λ u. not (has_serial t.serial u)) (filter (is_after now) ts)))
     ∙ sym (filter-map (λ u. not (has_serial t.serial u)) (in_order itself (filter (is_after now) ts))))
-    (still_due now last ts h t r f)
+    (ap (map at_first_place) (still_due now last ts h t r f))
     ∙ ap (λ o. record (plain_state now last ts) { pending = without_found o (plain_state now last ts).pending }) (sym f)

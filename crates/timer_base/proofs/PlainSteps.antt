@@ -8,9 +8,9 @@ use Rattle.timer_base.specs.declared.limits.TheConstants.{LAST}
 use Rattle.timer_base.specs.Order.{in_order, itself, insert_by_deadline, AreRising, AreBelow}
 use Rattle.timer_base.specs.OrderLaws.{either, in_order-newest, filter-in_order, in_order-same, AllAt-filter, AreRising-filter, length-in_order}
 use Rattle.timer_base.specs.OneOrder.{map-itself}
-use Rattle.timer_base.specs.Pending.{Entry, timers_of, put, is_due_at}
+use Rattle.timer_base.specs.Pending.{Entry, put, is_due_at}
 use Rattle.timer_base.specs.WheelState.{WheelState, after_start, after_tick}
-use Rattle.timer_base.specs.PlainState.{IsKept, is_after, due_count, at_first_place, plain_state, timers_of-at_first_place}
+use Rattle.timer_base.specs.PlainState.{IsKept, is_after, due_count, at_first_place, plain_state}
 
 -- with nothing due, each is after the tick
 abbrev pub AreAfter : ℕ → List Timer → Type 0
@@ -47,7 +47,7 @@ filter-map p (t ∷ ts) = elim (either (p t)) [
   | inr h ↦ rw h (filter-map p ts)
 ]
 
-pub state_is : (n : ℕ) {p q : List Entry} {d e : List Timer} (l : ℕ) → p ≡ q → d ≡ e
+pub state_is : (n : ℕ) {p q d e : List Entry} (l : ℕ) → p ≡ q → d ≡ e
     → let a : WheelState = record { last_tick = LAST; now = n; pending = p; due = d; last_serial = l } in
     let b : WheelState = record { last_tick = LAST; now = n; pending = q; due = e; last_serial = l } in a ≡ b
 state_is n l h k = cc
@@ -75,12 +75,18 @@ plain_state-after_tick now last ts k r d =
     let left : filter (λ entry. not (is_due_at (now + 1) entry.timer)) (map at_first_place (in_order itself ts)) ≡ map at_first_place (in_order itself (filter (is_after (now + 1)) ts)) =
     filter-map (λ t. not (is_due_at (now + 1) t)) (in_order itself ts)
     ∙ ap (map at_first_place) (filter-in_order itself (λ t. not (is_due_at (now + 1) t)) ts ∙ ap (in_order itself) (sym (filter_agree now ts a))) in
-    let due : timers_of (filter (λ entry. is_due_at (now + 1) entry.timer) (map at_first_place (in_order itself ts))) ≡ filter (is_due_at (now + 1)) ts =
-    ap timers_of (filter-map (is_due_at (now + 1)) (in_order itself ts))
-    ∙ timers_of-at_first_place (filter (is_due_at (now + 1)) (in_order itself ts))
-    ∙ filter-in_order itself (is_due_at (now + 1)) ts
-    ∙ due_in_order (now + 1) ts r in
+    let due : filter (λ entry. is_due_at (now + 1) entry.timer) (map at_first_place (in_order itself ts)) ≡ map at_first_place (filter (is_due_at (now + 1)) ts) =
+    filter-map (is_due_at (now + 1)) (in_order itself ts)
+    ∙ ap (map at_first_place) (filter-in_order itself (is_due_at (now + 1)) ts ∙ due_in_order (now + 1) ts r) in
     rw all (state_is (now + 1) last (sym left) (sym due))
+
+nothing : (ts : List Timer) → map at_first_place ts ≡ [] → ts ≡ []
+nothing [] h = refl
+nothing (t ∷ ts) h = absurd (cc)
+
+-- no timer of the list is due
+pub none_of_them : (now last : ℕ) (ts : List Timer) → (plain_state now last ts).due ≡ [] → filter (is_due_at now) ts ≡ []
+none_of_them now last ts h = nothing (filter (is_due_at now) ts) h
 
 -- A start.
 
@@ -133,7 +139,7 @@ plain_state-after_start now last ts t k h l =
     (ap (λ r. map at_first_place (in_order itself r)) (filter-append_yes (is_after now) ts t (after_is now t l))
     ∙ ap (map at_first_place) (newest_last t (filter (is_after now) ts) b)
     ∙ map-insert_by_deadline t (in_order itself (filter (is_after now) ts)))
-    (filter-append_no (is_due_at now) ts t (not_due_yet now t l))
+    (ap (map at_first_place) (filter-append_no (is_due_at now) ts t (not_due_yet now t l)))
 
 kept_one : (now last new : ℕ) (t : Timer) → last < new → IsKept now last t → IsKept now new t
 kept_one now last new t h k = record { not_before = k.not_before; in_range = k.in_range; serial = let s : t.serial ≤ last = k.serial in omega arith }
@@ -171,6 +177,9 @@ all_counted now last (t ∷ ts) k = elim (either (is_due_at now t)) [
   | inl h ↦ let rest = all_counted now last ts k.1 in rw (due_not_after now t h, h) (omega arith)
   | inr h ↦ let rest = all_counted now last ts k.1 in rw (after_is now t (after_one now t k.0.not_before h), h) (omega arith)
 ]
+
+pub due_count_is : (now last : ℕ) (ts : List Timer) → length (plain_state now last ts).due ≡ due_count now ts
+due_count_is now last ts = length-map (filter (is_due_at now) ts)
 
 pub due_count-le : (now last : ℕ) (ts : List Timer) → AllByRecursion (IsKept now last) ts → due_count now ts ≤ length ts
 due_count-le now last ts k = let all = all_counted now last ts k in omega arith

@@ -50,7 +50,7 @@ none_sooner : (t : Timer) (es : List Entry) → IsFirst t (timers_of es) → All
 none_sooner t [] f = tt
 none_sooner t (e ∷ es) f = (not_sooner t e.timer f.0, none_sooner t es f.1)
 
-quiet_next : (last_tick now last : ℕ) (es : List Entry) (ds : List Timer) → IsOrdered (timers_of es) → AllByRecursion (IsPending last_tick now last) (timers_of es)
+quiet_next : (last_tick now last : ℕ) (es ds : List Entry) → IsOrdered (timers_of es) → AllByRecursion (IsPending last_tick now last) (timers_of es)
     → IsQuietUntil (next_deadline es) (record { last_tick = last_tick; now = now; pending = es; due = ds; last_serial = last })
 quiet_next last_tick now last [] ds o a = refl
 quiet_next last_tick now last (e ∷ es) ds o a = record { some = omega arith; later = a.0.later; in_time = (omega arith, none_sooner e.timer es o.0) }

@@ -20,6 +20,10 @@ is_after tick t = nat_lt tick t.deadline
 abbrev pub is_pending_with : ℕ → ℕ → Timer → Bool
 is_pending_with tick serial t = has_serial serial t && is_after tick t
 
+-- the timer has this serial, and its deadline is the tick
+abbrev pub is_due_with : ℕ → ℕ → Timer → Bool
+is_due_with tick serial t = has_serial serial t && is_due_at tick t
+
 -- every timer has place 0
 abbrev pub at_first_place : Timer → Entry
 at_first_place t = record { place = 0; timer = t }
@@ -30,7 +34,7 @@ plain_state now last_serial timers = record {
   last_tick = LAST;
   now = now;
   pending = map at_first_place (in_order itself (filter (is_after now) timers));
-  due = filter (is_due_at now) timers;
+  due = map at_first_place (filter (is_due_at now) timers);
   last_serial = last_serial;
 }
 
@@ -89,6 +93,6 @@ plain_state-well_formed now last_serial ts n l r k =
       distinct = rw same distinct;
       each = rw same (All-in_order itself (IsPending LAST now last_serial) pending
           (All-filter (IsKept now last_serial) (IsPending LAST now last_serial) (is_after now) ts (kept_is_pending now last_serial) k));
-      due_now = All-filter (IsKept now last_serial) (λ t. t.deadline ≡ now) (is_due_at now) ts (kept_is_due now last_serial) k;
-      due_rising = AreRising-filter (is_due_at now) 0 ts r;
+      due_now = rw (timers_of-at_first_place (filter (is_due_at now) ts)) (All-filter (IsKept now last_serial) (λ t. t.deadline ≡ now) (is_due_at now) ts (kept_is_due now last_serial) k);
+      due_rising = rw (timers_of-at_first_place (filter (is_due_at now) ts)) (AreRising-filter (is_due_at now) 0 ts r);
     }

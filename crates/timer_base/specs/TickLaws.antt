@@ -4,7 +4,7 @@ use Rattle.std.specs.Prelude.{Bool, true, false}
 use Rattle.std.specs.List.{AllByRecursion}
 use Rattle.std.proofs.lemmas.Bool.{cases_lt, ne_eqb}
 use Rattle.timer_base.specs.OrderLaws.{either}
-use Rattle.timer_base.specs.Pending.{Entry, timers_of, is_due_at, entries_due, entries_left}
+use Rattle.timer_base.specs.Pending.{Entry, is_due_at, entries_due, entries_left}
 use Rattle.timer_base.specs.declared.timer.Timer.{Timer}
 use Rattle.timer_base.specs.WakeUps.{IsWakeUp}
 use Rattle.timer_base.specs.WheelState.{WheelState, after_tick, after_ticks, Advances}
@@ -60,11 +60,11 @@ passing_more passed old now new p e z =
       quiet = λ n h. at_last passed n old now p (which passed n h) (sym (ap (λ (w : WheelState). w.due) t) ∙ z);
     }
 
-none_of : (due : List Timer) → (0 < length due → ⊥) → due ≡ []
+none_of : (due : List Entry) → (0 < length due → ⊥) → due ≡ []
 none_of [] f = refl
 none_of (t ∷ ts) f = absurd (f (omega arith))
 
-pub not_due : (due : List Timer) (has : Bool) → ((has ≡ true → 0 < length due) × (0 < length due → has ≡ true)) → has ≡ false → due ≡ []
+pub not_due : (due : List Entry) (has : Bool) → ((has ≡ true → 0 < length due) × (0 < length due → has ≡ true)) → has ≡ false → due ≡ []
 not_due due has f e = none_of due (λ h. let k : has ≡ true = f.1 h in absurd (cc))
 
 -- something is due at the last of them
@@ -107,7 +107,7 @@ pub left_all : (tick : ℕ) (entries : List Entry) → AreAfter tick entries →
 left_all tick [] f = refl
 left_all tick (e ∷ es) f = rw (not_at tick e.timer f.0) (ap (λ (r : List Entry). e ∷ r) (left_all tick es f.1))
 
-pub due_none : (tick : ℕ) (entries : List Entry) → AreAfter tick entries → timers_of (entries_due tick entries) ≡ []
+pub due_none : (tick : ℕ) (entries : List Entry) → AreAfter tick entries → entries_due tick entries ≡ []
 due_none tick [] f = refl
 due_none tick (e ∷ es) f = rw (not_at tick e.timer f.0) (due_none tick es f.1)
 
@@ -122,8 +122,8 @@ one_more n w x z f e =
     let t1 : x.now + 1 ≡ w.now + suc n = omega arith in
     let g : AreAfter (x.now + 1) w.pending = let P : ℕ → Type 0 = λ k. AreAfter k w.pending in subst P (sym t1) f in
     let left : entries_left (x.now + 1) x.pending ≡ w.pending = ap (entries_left (x.now + 1)) p ∙ left_all (x.now + 1) w.pending g in
-    let due : timers_of (entries_due (x.now + 1) x.pending) ≡ [] =
-    ap (λ (y : List Entry). timers_of (entries_due (x.now + 1) y)) p ∙ due_none (x.now + 1) w.pending g in
+    let due : entries_due (x.now + 1) x.pending ≡ [] =
+    ap (λ (y : List Entry). entries_due (x.now + 1) y) p ∙ due_none (x.now + 1) w.pending g in
     cc
 
 -- only the clock advances
@@ -147,7 +147,7 @@ after_ticks-add n (suc m) w =
     ap (λ (k : ℕ). after_ticks k w) e ∙ ap after_tick (after_ticks-add n m w)
 
 -- where nothing became due, every timer is still pending
-pub none_left_out : (tick : ℕ) (entries : List Entry) → timers_of (entries_due tick entries) ≡ [] → entries_left tick entries ≡ entries
+pub none_left_out : (tick : ℕ) (entries : List Entry) → entries_due tick entries ≡ [] → entries_left tick entries ≡ entries
 none_left_out tick [] e = refl
 none_left_out tick (x ∷ xs) e = elim (either (is_due_at tick x.timer)) [
   | inl k ↦ absurd (let f = rw k at e in (cc))

@@ -14,8 +14,8 @@ pub record WheelState : Type 0 where
   pub now : ℕ
   -- by deadline, and then by serial
   pub pending : List Entry
-  -- by serial
-  pub due : List Timer
+  -- by serial, each at the place where it was pending
+  pub due : List Entry
   -- 0 where none was started
   pub last_serial : ℕ
 
@@ -40,7 +40,7 @@ abbrev pub after_tick : WheelState → WheelState
 after_tick w = record w {
   now = w.now + 1;
   pending = entries_left (w.now + 1) w.pending;
-  due = timers_of (entries_due (w.now + 1) w.pending);
+  due = entries_due (w.now + 1) w.pending;
 }
 
 -- that many ticks, one after another
@@ -58,11 +58,19 @@ pub record Advances (most passed : ℕ) (old new : WheelState) : Type 0 where
   pub early : passed < most → 0 < length new.due
 
 abbrev pub first_due : WheelState → Option Timer
-first_due w = slice_get w.due 0
+first_due w = slice_get (timers_of w.due) 0
 
 -- the first due timer is removed, if there is one
 abbrev pub after_expiry : WheelState → WheelState
 after_expiry w = record w { due = drop 1 w.due }
+
+-- the due timer with exactly this handle
+abbrev pub due_at : Handle → WheelState → Option Timer
+due_at handle w = first_timer (has_handle handle) w.due
+
+-- the due timer with this handle is removed, if there is one
+abbrev pub after_withdrawal : Handle → WheelState → WheelState
+after_withdrawal handle w = record w { due = without_found (due_at handle w) w.due }
 
 -- the old timer, where a restart found one
 abbrev pub old_timer : Option (Handle × Timer) → Option Timer
@@ -73,6 +81,11 @@ old_timer (Some r) = Some r.1
 abbrev pub after_restart : Option (Handle × Timer) → Handle → Timer → WheelState → WheelState
 after_restart None handle timer w = w
 after_restart (Some r) handle timer w = after_start r.0.place timer (after_stop handle w)
+
+-- a revival that found its timer removes it, and starts the new one at the place that it returns
+abbrev pub after_revival : Option (Handle × Timer) → Handle → Timer → WheelState → WheelState
+after_revival None handle timer w = w
+after_revival (Some r) handle timer w = after_start r.0.place timer (after_withdrawal handle w)
 
 -- nothing is pending
 abbrev pub after_clear : WheelState → WheelState
@@ -92,5 +105,5 @@ pub record IsWellFormed (w : WheelState) : Type 0 where
   pub ordered : IsOrdered (timers_of w.pending)
   pub distinct : AreDistinct (timers_of w.pending)
   pub each : AllByRecursion (IsPending w.last_tick w.now w.last_serial) (timers_of w.pending)
-  pub due_now : AllByRecursion (λ t. t.deadline ≡ w.now) w.due
-  pub due_rising : AreRising 0 w.due
+  pub due_now : AllByRecursion (λ t. t.deadline ≡ w.now) (timers_of w.due)
+  pub due_rising : AreRising 0 (timers_of w.due)

@@ -14,16 +14,16 @@
 //!       5   1:5 3:5                               1:5 3:5
 //!
 //! Each handle has place 0: the serial alone identifies the timer.
-ghost use Rattle.std.specs.Prelude.{◌≡◌, ◌≤◌, ◌<◌, ◌↔◌, IfOk, IfErr, IsErr, Some, length, filter, find, not, vec_len, vec_capacity};
+ghost use Rattle.std.specs.Prelude.{◌≡◌, ◌≤◌, ◌<◌, ◌↔◌, ◌++◌, ◌∷◌, [], IfOk, IfErr, IsErr, Some, length, filter, find, not, vec_len, vec_capacity};
 ghost use Rattle.std.proofs.Math.Nat.{ℕ_set};
 ghost use Rattle.std.specs.List.{AllByRecursion};
 ghost use Rattle.timer_base.specs.declared.limits.TheConstants.{LAST};
 ghost use Rattle.timer_base.specs.Order.{AreRising};
 ghost use Rattle.timer_base.specs.OrderLaws.{AreRising-prop};
 ghost use Rattle.timer_base.specs.Pending.{has_serial, is_due_at};
-ghost use Rattle.timer_base.specs.PlainState.{IsKept, IsKept-prop, is_after, is_pending_with, due_count, earliest, first_after, plain_state, plain_state-well_formed};
+ghost use Rattle.timer_base.specs.PlainState.{IsKept, IsKept-prop, is_after, is_pending_with, is_due_with, due_count, earliest, first_after, plain_state, plain_state-well_formed};
 ghost use Rattle.timer_base.specs.WakeUps.{IsQuietUntil, next_deadline};
-ghost use Rattle.timer_base.specs.WheelState.{empty_wheel};
+ghost use Rattle.timer_base.specs.WheelState.{empty_wheel, due_at};
 
 use crate::fault::{MakeFault, OutOfMemory};
 use crate::limits::LAST;
@@ -65,6 +65,16 @@ impl PlainWheel {
             timers: Vec::new(alloc),
             due: 0,
         })
+    }
+
+    /// The due timer with just this handle.
+    fn look_due(&self, handle: Handle) -> Option<Timer>
+        ensures { result ≡ due_at handle (⟦<PlainWheel as Wheel>⟧.state self.entry.now) }
+    {
+        if handle.place > 0 {
+            return None;
+        }
+        find_waiting(self.timers.as_slice(), handle.serial, self.now)
     }
 }
 
@@ -148,6 +158,26 @@ impl Wheel for PlainWheel {
         Some(first)
     }
 
+    fn withdraw(&mut self, handle: Handle) -> Option<Timer> {
+        let withdrawn = self.look_due(handle)?;
+        drop_serial(&mut self.timers, withdrawn.serial);
+        self.due = count_due(self.timers.as_slice(), self.now);
+        Some(withdrawn)
+    }
+
+    fn revive(&mut self, handle: Handle, timer: Timer) -> Option<(Handle, Timer)> {
+        let old = self.look_due(handle)?;
+        drop_serial(&mut self.timers, old.serial);
+        push_in_room(&mut self.timers, timer);
+        self.due = count_due(self.timers.as_slice(), self.now);
+        self.last_serial = timer.serial;
+        let handle = Handle {
+            place: 0,
+            serial: timer.serial,
+        };
+        Some((handle, old))
+    }
+
     fn list(&self) -> Result<Vec<Timer>, OutOfMemory> {
         let mut timers = Vec::from_slice(*self.timers.allocator(), self.timers.as_slice())?;
         keep_pending(&mut timers, self.now);
@@ -207,12 +237,30 @@ fn find_pending(timers: &[Timer], serial: u64, tick: u64) -> Option<Timer>
         .find(|t| t.serial == serial && t.deadline > tick)
 }
 
+/// The first of the timers with the serial that is due at the tick.
+fn find_waiting(timers: &[Timer], serial: u64, tick: u64) -> Option<Timer>
+    ensures { result ≡ find (is_due_with tick serial) timers.now }
+{
+    timers
+        .iter()
+        .copied()
+        .find(|t| t.serial == serial && t.deadline == tick)
+}
+
 /// Removes the timer with the serial, and keeps the order of the others.
 fn drop_serial(timers: &mut Vec<Timer>, serial: u64)
     ensures items { timers.new.items ≡ filter (λ t. not (has_serial serial t)) timers.old.items }
     ensures room { length timers.new.items < length timers.old.items → vec_len timers.new < vec_capacity timers.new }
 {
     timers.retain(|t| t.serial != serial);
+}
+
+/// Pushes a timer where a removed one left room.
+fn push_in_room(timers: &mut Vec<Timer>, timer: Timer)
+    requires { vec_len timers.old < vec_capacity timers.old }
+    ensures { timers.new.items ≡ timers.old.items ++ timer ∷ [] }
+{
+    timers.push_reserved(timer);
 }
 
 /// Keeps the timers that are due after the tick, in their order.

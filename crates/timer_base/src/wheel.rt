@@ -5,7 +5,7 @@
 //!     last_tick     the last tick of its clock, which never changes
 //!     now           the present tick
 //!     pending       the timers that wait for their deadline, by deadline and then serial, each with its place
-//!     due           the timers whose deadline is now, by serial, until they are taken
+//!     due           the timers whose deadline is now, by serial, each with its place, until they are taken or withdrawn
 //!     last_serial   the serial of the last start, 0 where there was none
 //!
 //! Each call that changes a wheel is one equation on this record. The four routines of G. Varghese
@@ -16,7 +16,7 @@ ghost use Rattle.std.specs.Prelude.{◌≡◌, ◌<◌, ◌≤◌, ◌-◌, ◌�
 ghost use Rattle.timer_base.specs.declared.limits.TheConstants.{LAST};
 ghost use Rattle.timer_base.specs.Pending.{timers_of};
 ghost use Rattle.timer_base.specs.WakeUps.{IsQuietUntil};
-ghost use Rattle.timer_base.specs.WheelState.{WheelState, IsWellFormed, timer_at, first_due, after_start, after_stop, after_tick, after_expiry, after_clear, after_restart, old_timer, Advances};
+ghost use Rattle.timer_base.specs.WheelState.{WheelState, IsWellFormed, timer_at, first_due, after_start, after_stop, after_tick, after_expiry, after_clear, after_restart, old_timer, due_at, after_withdrawal, after_revival, Advances};
 
 use crate::fault::OutOfMemory;
 use crate::timer::{Handle, Timer};
@@ -53,7 +53,7 @@ pub trait Wheel {
     ///
     /// The only error is out of memory, and then nothing changes. A wheel with a limited number of places
     /// returns it at its limit too, though no allocation failed. The place is a free choice of the wheel.
-    /// Due timers may be waiting, here and in `look`, `stop`, `restart`, `list` and `clear`.
+    /// Due timers may be waiting, here and in `look`, `stop`, `restart`, `withdraw`, `revive`, `list` and `clear`.
     fn start(&mut self, timer: Timer) -> Result<Handle, OutOfMemory>
         requires later { (state self.old).now < timer.deadline }
         requires deadline { timer.deadline ≤ (state self.old).last_tick }
@@ -127,6 +127,28 @@ pub trait Wheel {
     fn expire(&mut self) -> Option<Timer>
         ensures first { result ≡ first_due (state self.old) }
         ensures rest { state self.new ≡ after_expiry (state self.old) };
+
+    /// Removes the due timer with exactly this handle, place and serial, and returns it, or None where there is
+    /// none: for one that was due before its client could stop it. A timer that becomes due keeps its handle until
+    /// it is taken.
+    ///
+    /// Where there is none, nothing changes. Does not allocate.
+    fn withdraw(&mut self, handle: Handle) -> Option<Timer>
+        ensures timer { result ≡ due_at handle (state self.old) }
+        ensures withdrawn { state self.new ≡ after_withdrawal handle (state self.old) };
+
+    /// Removes the due timer with exactly this handle and starts another in its place, and returns the new
+    /// handle and the old timer: the restart of a timer that became due first.
+    ///
+    /// Where there is none, nothing changes. Does not allocate. The place is a free choice of the wheel.
+    fn revive(&mut self, handle: Handle, timer: Timer) -> Option<(Handle, Timer)>
+        requires later { (state self.old).now < timer.deadline }
+        requires deadline { timer.deadline ≤ (state self.old).last_tick }
+        requires fresh { (state self.old).last_serial < timer.serial }
+        requires serial { timer.serial ≤ LAST }
+        ensures old { old_timer result ≡ due_at handle (state self.old) }
+        ensures named { MatchOption result (Unit {0}) (λ r. r.0.serial ≡ timer.serial) }
+        ensures revived { state self.new ≡ after_revival result handle timer (state self.old) };
 
     /// The pending timers, by deadline and then serial. The only error is out of memory.
     fn list(&self) -> Result<Vec<Timer>, OutOfMemory>

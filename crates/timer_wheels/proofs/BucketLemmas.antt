@@ -11,6 +11,7 @@ use Rattle.timer_base.specs.Pending.{Entry, timer_of, timers_of, is_due_at, entr
 use Rattle.timer_base.specs.WheelState.{WheelState, IsPending, after_start, after_stop, after_expiry, after_clear}
 use Rattle.timer_links.specs.declared.node.Node.{Node}
 use Rattle.timer_links.specs.Lists.{list_at, node_in, node_at, first_of, with_row, without_key, row_count, AreApart}
+use Rattle.timer_wheels.specs.Buckets.{AddsRow}
 use Rattle.timer_wheels.specs.BucketLaws.{timers_of-entries}
 use Rattle.timer_wheels.specs.BucketLists.{timer_in, timers_in, entry_of, entries_of, rows_below, pending_in, wheel_state, ArePending, AreDue, AreInOrder, EachRow}
 use Rattle.timer_wheels.proofs.RowLemmas.{all-append, all-front, all-rest, all-rows_below, rows_below-above, rows_below-none, IsInserted, rows_below-with_row, rows_below-without_key, list_at-without_key, timers-append, entries-append, filter-entries, AreBelow-timers, IsNotAmong-front, IsNotAmong-below, AreDistinct-inserted, AreDistinct-taken, IsNotAmong-others}
@@ -151,6 +152,12 @@ each-with_row fact n l row lists b f a s h = elim (cases_eq s l) [
   | inr x ↦ rw (get_or-set_other lists l s (list_at l lists ++ row ∷ []) [] x) (a s h)
 ]
 
+pub each-added : (fact : ℕ → ℕ × Node → Type 0) (n l : ℕ) (row : ℕ × Node) (old new : List (List (ℕ × Node))) → AddsRow n l row old new → fact l row → EachRow fact n old → EachRow fact n new
+each-added fact n l row old new d f a s h = elim (cases_eq s l) [
+  | inl e ↦ rw (e, d.here) (all-append (fact l) (list_at l old) (row ∷ []) (a l (rw (← e) h)) (f, tt))
+  | inr x ↦ rw (d.others s h x) (a s h)
+]
+
 pub each-without_key : (fact : ℕ → ℕ × Node → Type 0) (n key : ℕ) (lists : List (List (ℕ × Node))) → EachRow fact n lists → EachRow fact n (map (without_key key) lists)
 each-without_key fact n key lists a s h = rw (list_at-without_key s key lists) (All-filter (fact s) (fact s) (λ r. not (r.0 == key)) (list_at s lists) (λ r e f. f) (a s h))
 
@@ -164,7 +171,7 @@ pub each-weaken : (fact goal : ℕ → ℕ × Node → Type 0) (n : ℕ) (lists 
 each-weaken fact goal n lists f a s h = All-weaken (fact s) (goal s) (list_at s lists) (f s) (a s h)
 
 -- No timers, no rows.
-pub no_rows : (rows : List (ℕ × Node)) → timers_in rows ≡ [] → rows ≡ []
+pub no_rows : (rows : List (ℕ × Node)) → entries_of rows ≡ [] → rows ≡ []
 no_rows [] e = refl
 no_rows (x ∷ xs) e = absurd (cc)
 
@@ -204,7 +211,7 @@ first_of-assoc None b c = refl
 first_of-assoc (Some n) b c = refl
 
 -- each key is that of a pending timer or of one that is due
-node_at-parts : (n key : ℕ) (lists : List (List (ℕ × Node))) → length lists ≡ n + 1 → node_at key lists ≡ first_of (node_in key (rows_below n lists)) (node_in key (list_at n lists))
+pub node_at-parts : (n key : ℕ) (lists : List (List (ℕ × Node))) → length lists ≡ n + 1 → node_at key lists ≡ first_of (node_in key (rows_below n lists)) (node_in key (list_at n lists))
 node_at-parts zero key [] l = absurd (omega arith)
 node_at-parts zero key (x ∷ []) l = first_of-none (node_in key x)
 node_at-parts zero key (x ∷ y ∷ ys) l = absurd (omega arith)
@@ -218,7 +225,7 @@ node_at-parts (suc n) key (x ∷ xs) l =
 abbrev pub HasNode : ℕ → Option Node → ℕ × Node → Type 0
 HasNode key found row = row.0 ≡ key → Some row.1 ≡ found
 
-apart_from : (lists : List (List (ℕ × Node))) (l key : ℕ) (front rows : List (ℕ × Node)) → AreApart lists → l < length lists → list_at l lists ≡ front ++ rows → AllByRecursion (HasNode key (node_at key lists)) rows
+pub apart_from : (lists : List (List (ℕ × Node))) (l key : ℕ) (front rows : List (ℕ × Node)) → AreApart lists → l < length lists → list_at l lists ≡ front ++ rows → AllByRecursion (HasNode key (node_at key lists)) rows
 apart_from lists l key front [] a b e = tt
 apart_from lists l key front (x ∷ xs) a b e = (
   (λ (k : x.0 ≡ key). sym (ap (λ (y : ℕ). node_at y lists) (sym k) ∙ (a l front x xs b e).0)),
@@ -298,16 +305,16 @@ first_timer-filter p (e ∷ es) = elim (either (p e)) [
 first_timer-pending_in : (p : Entry → Bool) (rows : List (ℕ × Node)) → first_timer p (pending_in rows) ≡ first_of_entries (in_order timer_of (filter p (entries_of rows)))
 first_timer-pending_in p rows = first_timer-filter p (pending_in rows) ∙ ap first_of_entries (filter-in_order timer_of p (entries_of rows))
 
-other_place : (handle : Handle) (e : Entry) → e.place ≢ handle.place → has_handle handle e ≡ false
+pub other_place : (handle : Handle) (e : Entry) → e.place ≢ handle.place → has_handle handle e ≡ false
 other_place handle e n = rw (ne_eqb e.place handle.place n) refl
 
-other_serial : (handle : Handle) (e : Entry) → e.timer.serial ≢ handle.serial → has_handle handle e ≡ false
+pub other_serial : (handle : Handle) (e : Entry) → e.timer.serial ≢ handle.serial → has_handle handle e ≡ false
 other_serial handle e n = elim (either (e.place == handle.place)) [
   | inl k ↦ rw (k, ne_eqb e.timer.serial handle.serial n) refl
   | inr k ↦ rw k refl
 ]
 
-this_handle : (handle : Handle) (e : Entry) → e.place ≡ handle.place → e.timer.serial ≡ handle.serial → has_handle handle e ≡ true
+pub this_handle : (handle : Handle) (e : Entry) → e.place ≡ handle.place → e.timer.serial ≡ handle.serial → has_handle handle e ≡ true
 this_handle handle e p s = rw (eq-eqb e.place handle.place p, eq-eqb e.timer.serial handle.serial s) refl
 
 some_is : (a b : Node) → Some a ≡ Some b → a ≡ b
@@ -351,10 +358,10 @@ one_step handle node x xs k e s n =
     let q : x.1.timer.serial ≡ handle.serial = ap (λ (y : Node). y.timer.serial) e ∙ s in
     rw (this_handle handle (entry_of x) k q, none_with handle xs (subst (λ (y : ℕ). IsNotAmong y (timers_in xs)) q n)) (ap (λ (y : Node). Some y.timer) e)
 
-node_in-here : (key : ℕ) (x : ℕ × Node) (xs : List (ℕ × Node)) → x.0 ≡ key → node_in key (x ∷ xs) ≡ Some x.1
+pub node_in-here : (key : ℕ) (x : ℕ × Node) (xs : List (ℕ × Node)) → x.0 ≡ key → node_in key (x ∷ xs) ≡ Some x.1
 node_in-here key x xs k = rw (eq-eqb x.0 key k) refl
 
-node_in-there : (key : ℕ) (x : ℕ × Node) (xs : List (ℕ × Node)) → x.0 ≢ key → node_in key (x ∷ xs) ≡ node_in key xs
+pub node_in-there : (key : ℕ) (x : ℕ × Node) (xs : List (ℕ × Node)) → x.0 ≢ key → node_in key (x ∷ xs) ≡ node_in key xs
 node_in-there key x xs k = rw (ne_eqb x.0 key k) refl
 
 one_has : (handle : Handle) (node : Node) (rows : List (ℕ × Node)) → node.timer.serial ≡ handle.serial → node_in handle.place rows ≡ Some node → AreDistinct (timers_in rows) → first_of_entries (in_order timer_of (filter (has_handle handle) (entries_of rows))) ≡ Some node.timer
@@ -506,10 +513,10 @@ rows_past now [] a = tt
 rows_past now (x ∷ xs) a = (a.0, rows_past now xs a.1)
 
 -- what became due at a tick has it as its deadline
-pub due_past : (now : ℕ) (es : List Entry) (rows : List (ℕ × Node)) → timers_in rows ≡ timers_of (entries_due now es) → AreDue now rows
-due_past now es rows e = rows_past now rows (let P : List Timer → Type 0 = AllByRecursion (λ t. t.deadline ≡ now) in subst P (sym e) (timers_past now es))
+pub due_past : (now : ℕ) (es : List Entry) (rows : List (ℕ × Node)) → entries_of rows ≡ entries_due now es → AreDue now rows
+due_past now es rows e = rows_past now rows (let P : List Timer → Type 0 = AllByRecursion (λ t. t.deadline ≡ now) in subst P (sym (ap timers_of e) ∙ timers_of-entries rows) (timers_past now es))
 
-pub none_past : (now : ℕ) (rows : List (ℕ × Node)) → timers_in rows ≡ [] → AreDue now rows
+pub none_past : (now : ℕ) (rows : List (ℕ × Node)) → entries_of rows ≡ [] → AreDue now rows
 none_past now [] e = tt
 none_past now (x ∷ xs) e = absurd (cc)
 
@@ -525,7 +532,7 @@ module _ (n : ℕ) (row : ℕ × Node) (rest : List (ℕ × Node)) (lists : List
   pub expired : (last_tick now last : ℕ) → wheel_state n last_tick now last (slice_set lists n rest) ≡ after_expiry (wheel_state n last_tick now last lists)
   expired last_tick now last = rw (expired-rows, expired-due, e) refl
 
-  pub expired-first : Some (timer_in row) ≡ slice_get (timers_in (list_at n lists)) 0
+  pub expired-first : Some (timer_in row) ≡ slice_get (timers_of (entries_of (list_at n lists))) 0
   expired-first = rw e refl
 
   pub expired-past : (now : ℕ) → AreDue now (list_at n lists) → AreDue now (list_at n (slice_set lists n rest))

@@ -272,14 +272,12 @@ module _ (n last_tick now last : ℕ) (lists : List (List (ℕ × Node))) (z : 0
       (AreDistinct-part (λ (row : ℕ × Node). not (is_due_at (now + 1) (timer_in row))) (rows_below n lists) d)
 
   -- what became due
-  due_rows : AreInOrder (n + 1) lists → timers_of (entries_due (now + 1) (pending_in (rows_below n lists))) ≡ timers_in (due_now (list_at ((now + 1) % n) lists))
+  due_rows : AreInOrder (n + 1) lists → entries_due (now + 1) (pending_in (rows_below n lists)) ≡ entries_of (due_now (list_at ((now + 1) % n) lists))
   due_rows o =
-      ap timers_of (
       filter-pending_in (λ (entry : Entry). is_due_at (now + 1) entry.timer) (rows_below n lists)
       ∙ (ap pending_in (filter-one_list (λ (row : ℕ × Node). is_due_at (now + 1) (timer_in row)) n ((now + 1) % n) lists below (omega (arith, below)) none_other)
       ∙ (ap (in_order timer_of) (sym (filter-entries (λ (entry : Entry). is_due_at (now + 1) entry.timer) (list_at ((now + 1) % n) lists)) ∙ sym (entries-now n now (list_at ((now + 1) % n) lists) swept_rows))
-      ∙ in_order-same timer_of (now + 1) 0 (entries_of (due_now (list_at ((now + 1) % n) lists))) (all-due n now (list_at ((now + 1) % n) lists) swept_rows) (rw (timers_of-entries (due_now (list_at ((now + 1) % n) lists))) (rising-now 0 (list_at ((now + 1) % n) lists) (o ((now + 1) % n) (omega (arith, below))))))))
-      ∙ timers_of-entries (due_now (list_at ((now + 1) % n) lists))
+      ∙ in_order-same timer_of (now + 1) 0 (entries_of (due_now (list_at ((now + 1) % n) lists))) (all-due n now (list_at ((now + 1) % n) lists) swept_rows) (rw (timers_of-entries (due_now (list_at ((now + 1) % n) lists))) (rising-now 0 (list_at ((now + 1) % n) lists) (o ((now + 1) % n) (omega (arith, below)))))))
 
   pub ticked : AreInOrder (n + 1) lists → wheel_state n last_tick (now + 1) last (swept ((now + 1) % n) n lists) ≡ after_tick (wheel_state n last_tick now last lists)
   ticked o =

@@ -6,7 +6,7 @@ use Rattle.timer_base.specs.declared.timer.Handle.{Handle}
 use Rattle.timer_base.specs.declared.limits.TheConstants.{LAST}
 use Rattle.timer_base.specs.OrderLaws.{either}
 use Rattle.timer_base.specs.Pending.{Entry, put, without_found}
-use Rattle.timer_base.specs.WheelState.{WheelState, empty_wheel, after_start, after_stop, timer_at}
+use Rattle.timer_base.specs.WheelState.{WheelState, empty_wheel, after_start, after_stop, timer_at, after_withdrawal}
 use Rattle.timer_links.specs.declared.node.Node.{Node}
 use Rattle.timer_links.specs.Lists.{list_at, with_row, without_key}
 use Rattle.timer_wheels.specs.declared.buckets.Buckets.{Buckets}
@@ -132,6 +132,19 @@ restarted_paid table old new handle place starts moves t k p later range e f =
 
 pub restarted_few : (old new : Buckets) (handle : Handle) (place starts : ℕ) (t : Timer) → starts ≤ old.last_serial → old.last_serial < t.serial → state_of new ≡ after_start place t (after_stop handle (state_of old)) → starts + 1 ≤ new.last_serial
 restarted_few old new handle place starts t h k e = let x : new.last_serial ≡ t.serial = ap (λ (w : WheelState). w.last_serial) e in omega arith
+
+-- A revival: a withdrawal, which leaves the pending timers as they are, and then a start.
+
+pub revived_paid : (table : List ℕ) (old new : Buckets) (handle : Handle) (place starts moves : ℕ) (t : Timer) → IsClock table → IsPaid table starts moves old.tick (state_of old).pending → old.tick < t.deadline → t.deadline ≤ last_of table
+    → state_of new ≡ after_start place t (after_withdrawal handle (state_of old)) → IsSameFrame old new → IsPaid table (starts + 1) moves new.tick (state_of new).pending
+revived_paid table old new handle place starts moves t k p later range e f =
+    let x : levels_of table new.tick (state_of new).pending ≡ level table old.tick t.deadline + levels_of table old.tick (state_of old).pending =
+    ap (λ (k : ℕ). levels_of table k (state_of new).pending) f.tick ∙ (ap (λ (w : WheelState). levels_of table old.tick w.pending) e ∙ levels-after_start table old.tick place t (after_withdrawal handle (state_of old))) in
+    let b : level table old.tick t.deadline < length table = level_in_table table old.tick t.deadline k.is_table (digits_down table t.deadline (last_of table) k.is_table range k.digits) later in
+    paid_more moves (levels_of table new.tick (state_of new).pending) (level table old.tick t.deadline) (levels_of table old.tick (state_of old).pending) (most_moves table) starts x (omega arith) p
+
+pub revived_few : (old new : Buckets) (handle : Handle) (place starts : ℕ) (t : Timer) → starts ≤ old.last_serial → old.last_serial < t.serial → state_of new ≡ after_start place t (after_withdrawal handle (state_of old)) → starts + 1 ≤ new.last_serial
+revived_few old new handle place starts t h k e = let x : new.last_serial ≡ t.serial = ap (λ (w : WheelState). w.last_serial) e in omega arith
 
 -- What the buckets show.
 

@@ -403,13 +403,12 @@ module _ (table : List ℕ) (last_tick a last_serial : ℕ) (lists : List (List 
   due_ordered : in_order timer_in (due_rows (a + 1) rows_l) ≡ due_rows (a + 1) rows_l
   due_ordered = in_order-same timer_in (a + 1) 0 (due_rows (a + 1) rows_l) (all_due_at (a + 1) rows_l) (AreRising-part (λ row. is_due_at (a + 1) (timer_in row)) 0 rows_l rising_l)
 
-  pub after-due : timers_in (list_at (slots table) after) ≡ timers_of (entries_due (a + 1) (pending_in (rows_below (slots table) lists)))
+  pub after-due : entries_of (list_at (slots table) after) ≡ entries_due (a + 1) (pending_in (rows_below (slots table) lists))
   after-due =
-      ap timers_in (due_list ∙ sym due_ordered)
-      ∙ (sym (timers_of-entries (in_order timer_in (due_rows (a + 1) rows_l)))
-      ∙ (ap timers_of (ap entries_of (ap (in_order timer_in) (sym due_parts))
+      ap entries_of (due_list ∙ sym due_ordered)
+      ∙ (ap entries_of (ap (in_order timer_in) (sym due_parts))
       ∙ (sym (pending_in-rows (due_rows (a + 1) (rows_below (slots table) lists)))
-      ∙ sym (filter-pending_in (λ entry. is_due_at (a + 1) entry.timer) (rows_below (slots table) lists))))))
+      ∙ sym (filter-pending_in (λ entry. is_due_at (a + 1) entry.timer) (rows_below (slots table) lists))))
 
   -- How many timers move.
 
@@ -498,7 +497,7 @@ all_fall table last_tick a last_serial rows i h p =
 
 -- A hierarchical wheel with n buckets after a tick.
 
-abbrev state : ℕ → ℕ → ℕ → List Entry → List Timer → WheelState
+abbrev state : ℕ → ℕ → ℕ → List Entry → List Entry → WheelState
 state last_tick tick last_serial pending due = record { last_tick = last_tick; now = tick; pending = pending; due = due; last_serial = last_serial }
 
 pub record IsNext (table : List ℕ) (n last_tick a last_serial moves : ℕ) (lists new : List (List (ℕ × Node))) : Type 0 where
@@ -511,7 +510,7 @@ pub record IsNext (table : List ℕ) (n last_tick a last_serial moves : ℕ) (li
   pub moves_are : moves ≡ hops_of table a 1 (pending_in (rows_below n lists))
   pub pays : moves + levels_of table (a + 1) (pending_in (rows_below n new)) ≤ levels_of table a (pending_in (rows_below n lists))
 
-same_state : (last_tick tick last_serial : ℕ) (p q : List Entry) (d e : List Timer) → p ≡ q → d ≡ e → state last_tick tick last_serial p d ≡ state last_tick tick last_serial q e
+same_state : (last_tick tick last_serial : ℕ) (p q d e : List Entry) → p ≡ q → d ≡ e → state last_tick tick last_serial p d ≡ state last_tick tick last_serial q e
 same_state last_tick tick last_serial p q d e h k = cc
 
 next_here : (table : List ℕ) (last_tick a last_serial moves : ℕ) (lists new : List (List (ℕ × Node))) → IsBefore table last_tick a last_serial lists
@@ -520,7 +519,7 @@ next_here : (table : List ℕ) (last_tick a last_serial moves : ℕ) (lists new 
 next_here table last_tick a last_serial moves lists new b e g =
     let hops : moves ≡ hops_of table a 1 (pending_in (rows_below (slots table) lists)) = g ∙ after-moves table last_tick a last_serial lists b in
     let left : pending_in (rows_below (slots table) new) ≡ entries_left (a + 1) (pending_in (rows_below (slots table) lists)) = ap (λ (y : List (List (ℕ × Node))). pending_in (rows_below (slots table) y)) e ∙ after-left table last_tick a last_serial lists b in
-    let due_is : timers_in (list_at (slots table) new) ≡ timers_of (entries_due (a + 1) (pending_in (rows_below (slots table) lists))) = ap (λ (y : List (List (ℕ × Node))). timers_in (list_at (slots table) y)) e ∙ after-due table last_tick a last_serial lists b in
+    let due_is : entries_of (list_at (slots table) new) ≡ entries_due (a + 1) (pending_in (rows_below (slots table) lists)) = ap (λ (y : List (List (ℕ × Node))). entries_of (list_at (slots table) y)) e ∙ after-due table last_tick a last_serial lists b in
     let levels : levels_of table (a + 1) (pending_in (rows_below (slots table) new)) ≡ levels_of table (a + 1) (entries_left (a + 1) (pending_in (rows_below (slots table) lists))) = ap (levels_of table (a + 1)) left in
     let pay : hops_of table a 1 (pending_in (rows_below (slots table) lists)) + levels_of table (a + 1) (entries_left (a + 1) (pending_in (rows_below (slots table) lists))) ≤ levels_of table a (pending_in (rows_below (slots table) lists))
     = levels_pay table a (pending_in (rows_below (slots table) lists)) (all_fall table last_tick a last_serial (rows_below (slots table) lists) b.is_table b.digits b.pending) in
@@ -530,7 +529,7 @@ next_here table last_tick a last_serial moves lists new b e g =
       distinct = (let P : List (List (ℕ × Node)) → Type 0 = λ y. AreDistinct (timers_in (rows_below (slots table) y)) in subst P (sym e) (after-distinct table last_tick a last_serial lists b));
       in_order = (let P : List (List (ℕ × Node)) → Type 0 = AreInOrder (slots table + 1) in subst P (sym e) (after-in_order table last_tick a last_serial lists b));
       placed = (let P : List (List (ℕ × Node)) → Type 0 = EachRow (IsPlaced table (a + 1)) (slots table) in subst P (sym e) (after-placed table last_tick a last_serial lists b));
-      ticked = same_state last_tick (a + 1) last_serial (pending_in (rows_below (slots table) new)) (entries_left (a + 1) (pending_in (rows_below (slots table) lists))) (timers_in (list_at (slots table) new)) (timers_of (entries_due (a + 1) (pending_in (rows_below (slots table) lists)))) left due_is;
+      ticked = same_state last_tick (a + 1) last_serial (pending_in (rows_below (slots table) new)) (entries_left (a + 1) (pending_in (rows_below (slots table) lists))) (entries_of (list_at (slots table) new)) (entries_due (a + 1) (pending_in (rows_below (slots table) lists))) left due_is;
       moves_are = hops;
       pays = omega arith;
     }
@@ -542,12 +541,12 @@ next_of table n last_tick a last_serial moves lists new s b e g =
     let P : ℕ → Type 0 = λ k. IsNext table k last_tick a last_serial moves lists new in
     subst P (sym s) (next_here table last_tick a last_serial moves lists new b e g)
 
-no_rows : (rows : List (ℕ × Node)) → timers_in rows ≡ [] → rows ≡ []
+no_rows : (rows : List (ℕ × Node)) → entries_of rows ≡ [] → rows ≡ []
 no_rows [] e = refl
 no_rows (x ∷ xs) e = cc
 
 pub before_of : (table : List ℕ) (n last_tick a last_serial : ℕ) (lists : List (List (ℕ × Node))) → n ≡ slots table → IsTable table → HasDigits table last_tick → a < last_tick
-    → length lists ≡ n + 1 → EachRow (IsPlaced table a) n lists → ArePending last_tick a last_serial (rows_below n lists) → AreDistinct (timers_in (rows_below n lists)) → AreInOrder (n + 1) lists → timers_in (list_at n lists) ≡ []
+    → length lists ≡ n + 1 → EachRow (IsPlaced table a) n lists → ArePending last_tick a last_serial (rows_below n lists) → AreDistinct (timers_in (rows_below n lists)) → AreInOrder (n + 1) lists → entries_of (list_at n lists) ≡ []
     → IsBefore table last_tick a last_serial lists
 before_of table n last_tick a last_serial lists s i h l len p q d o z = record {
   is_table = i;

@@ -25,3 +25,4 @@ pub mod ReplaceLemmas
 pub mod RestartLemmas
 pub mod WakeUpLemmas
 pub mod SlotLaws
+pub mod WithdrawLemmas

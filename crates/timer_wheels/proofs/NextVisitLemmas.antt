@@ -85,7 +85,7 @@ module _ (table : List ℕ) (now visit l n : ℕ) (t : IsTable table) (after : v
       moved table n now visit d after (omega arith) (omega arith)
 
   pub some_move : (entries : List Entry) → AllByRecursion (MayMove table now) entries → 0 < length (filter (λ entry. bucket table now entry.timer.deadline == l) entries)
-      → (0 < length (timers_of (entries_due visit entries))) ⊎ (0 < hops_of table now n entries)
+      → (0 < length (entries_due visit entries)) ⊎ (0 < hops_of table now n entries)
   some_move [] a h = absurd (omega arith)
   some_move (e ∷ es) a h = elim (cases_eq e.timer.deadline visit) [
     | inl d ↦ inl (rw (eq-eqb e.timer.deadline visit d) (omega arith))
@@ -110,7 +110,7 @@ same_pending (suc n) w f =
     let g : AreAfter (x.now + 1) w.pending = let P : ℕ → Type 0 = λ k. AreAfter k w.pending in subst P u (f n (omega arith)) in
     ap (λ (y : List Entry). entries_left (x.now + 1) y) p ∙ left_all (x.now + 1) w.pending g
 
-pub due_then : (n visit : ℕ) (w : WheelState) → visit ≡ w.now + (n + 1) → ((k : ℕ) → k < n → AreAfter (w.now + k + 1) w.pending) → (after_ticks (n + 1) w).due ≡ timers_of (entries_due visit w.pending)
+pub due_then : (n visit : ℕ) (w : WheelState) → visit ≡ w.now + (n + 1) → ((k : ℕ) → k < n → AreAfter (w.now + k + 1) w.pending) → (after_ticks (n + 1) w).due ≡ entries_due visit w.pending
 due_then n visit w e f =
     let x : WheelState = after_ticks n w in
     let p : x.pending ≡ w.pending = same_pending n w f in
@@ -118,7 +118,7 @@ due_then n visit w e f =
     let u : x.now + 1 ≡ visit = omega arith in
     let s : n + 1 ≡ suc n = omega arith in
     ap (λ (k : ℕ). (after_ticks k w).due) s
-    ∙ (ap (λ (k : ℕ). timers_of (entries_due k x.pending)) u ∙ ap (λ (y : List Entry). timers_of (entries_due visit y)) p)
+    ∙ (ap (λ (k : ℕ). entries_due k x.pending) u ∙ ap (λ (y : List Entry). entries_due visit y) p)
 
 -- The first bucket with a timer.
 
@@ -134,7 +134,7 @@ module _ (t : Table) (b : Buckets) (words : List ℕ) (h : IsHier t b words) (l 
       let r : 0 < length (list_at l b.links) = filled_some t b words h (list_at l b.links) (sym (h.marked.0 l c) ∙ f.1) in
       some_at (slots (radices t)) (bucket_at (radices t) b.tick) no_rounds (state_of b) b.links (shown (radices t) b h.has_slots h.placed) l s r
 
-  first_moves : (n : ℕ) → visit ≡ b.tick + n → (0 < length (timers_of (entries_due visit (state_of b).pending))) ⊎ (0 < hops_of (radices t) b.tick n (state_of b).pending)
+  first_moves : (n : ℕ) → visit ≡ b.tick + n → (0 < length (entries_due visit (state_of b).pending)) ⊎ (0 < hops_of (radices t) b.tick n (state_of b).pending)
   first_moves n g =
       some_move (radices t) b.tick visit l n (of_table t).is_table g
       (λ d k p q. e ∙ (ap (λ (x : ℕ). list_visit (radices t) x b.tick) (sym q) ∙ list_is (radices t) b.tick d (of_table t).is_table k p))
@@ -147,7 +147,7 @@ module _ (t : Table) (b : Buckets) (words : List ℕ) (h : IsHier t b words) (l 
 
   next_by : (n : ℕ) → visit ≡ b.tick + (n + 1) → (0 < length (after_ticks (n + 1) (state_of b)).due) ⊎ (0 < hops_of (radices t) b.tick (n + 1) (state_of b).pending)
   next_by n g = elim (first_moves (n + 1) g) [
-    | inl k ↦ inl (let d : (after_ticks (n + 1) (state_of b)).due ≡ timers_of (entries_due visit (state_of b).pending) = due_then n visit (state_of b) g (λ m r. after_later m n r g) in let y : length (after_ticks (n + 1) (state_of b)).due ≡ length (timers_of (entries_due visit (state_of b).pending)) = ap length d in omega arith)
+    | inl k ↦ inl (let d : (after_ticks (n + 1) (state_of b)).due ≡ entries_due visit (state_of b).pending = due_then n visit (state_of b) g (λ m r. after_later m n r g) in let y : length (after_ticks (n + 1) (state_of b)).due ≡ length (entries_due visit (state_of b).pending) = ap length d in omega arith)
     | inr k ↦ inr k
   ] where
     after_later : (m n : ℕ) → m < n → visit ≡ b.tick + (n + 1) → AreAfter (b.tick + m + 1) (state_of b).pending

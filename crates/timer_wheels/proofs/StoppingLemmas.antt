@@ -3,6 +3,7 @@ use Rattle.std.proofs.Common.{◌≡◌, ◌≢◌, ◌<◌, ◌≤◌, ◌+◌,
 use Rattle.std.specs.Prelude.{Bool, true, false, Option, Some, None, MatchOption, map, slice_set}
 use Rattle.std.proofs.lemmas.Bool.{cases_eq}
 use Rattle.timer_base.specs.declared.timer.Timer.{Timer}
+use Rattle.timer_base.specs.Pending.{Entry}
 use Rattle.timer_base.specs.declared.timer.Handle.{Handle}
 use Rattle.timer_base.specs.TickLaws.{after_ticks-serial}
 use Rattle.timer_base.specs.WheelState.{WheelState, timer_at, Advances}
@@ -91,7 +92,7 @@ module _ (t : Table) (b : Buckets) (words : List ℕ) (h : IsHier t b words) (ap
 
 -- Many ticks.
 
-pub any_of : (due : List Timer) (has : Bool) → ((has ≡ true → 0 < length due) × (0 < length due → has ≡ true)) → has ≡ has_any due
+pub any_of : (due : List Entry) (has : Bool) → ((has ≡ true → 0 < length due) × (0 < length due → has ≡ true)) → has ≡ has_any due
 any_of [] true f = absurd (let h : 0 < 0 = f.0 refl in omega arith)
 any_of [] false f = refl
 any_of (t ∷ ts) has f = f.1 (omega arith)

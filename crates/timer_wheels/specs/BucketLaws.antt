@@ -39,6 +39,6 @@ wheel_state-well_formed n last_tick now last lists a b c p d q o =
       distinct = AreDistinct-in_order timer_of (entries_of rows) (rw (timers_of-entries rows) d);
       each = rw (timers_of-pending rows)
           (All-in_order itself (IsPending last_tick now last) (timers_in rows) (all-timers (IsPending last_tick now last) rows p));
-      due_now = all-timers (λ t. t.deadline ≡ now) (list_at n lists) q;
-      due_rising = o n (omega arith);
+      due_now = rw (timers_of-entries (list_at n lists)) (all-timers (λ t. t.deadline ≡ now) (list_at n lists) q);
+      due_rising = rw (timers_of-entries (list_at n lists)) (o n (omega arith));
     }

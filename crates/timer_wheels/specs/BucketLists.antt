@@ -43,7 +43,7 @@ wheel_state n last_tick now last_serial lists = record {
   last_tick = last_tick;
   now = now;
   pending = pending_in (rows_below n lists);
-  due = timers_in (list_at n lists);
+  due = entries_of (list_at n lists);
   last_serial = last_serial;
 }
 

@@ -50,9 +50,9 @@ abbrev pub IsPaid : List ℕ → ℕ → ℕ → ℕ → List Entry → Type 0
 IsPaid table starts moves now pending = moves + levels_of table now pending ≤ most_moves table * starts
 
 -- whether there is one
-abbrev pub has_any : List Timer → Bool
+abbrev pub has_any : List Entry → Bool
 has_any [] = false
-has_any (t ∷ ts) = true
+has_any (entry ∷ entries) = true
 
 -- how many buckets are visited from tick a to b: one at each multiple of the lowest radix, and that of b where something
 -- is due there

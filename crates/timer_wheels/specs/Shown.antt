@@ -6,7 +6,7 @@ use Rattle.timer_base.specs.Pending.{Entry}
 use Rattle.timer_base.specs.WheelState.{WheelState}
 use Rattle.timer_links.specs.declared.node.Node.{Node}
 use Rattle.timer_links.specs.Lists.{list_at}
-use Rattle.timer_wheels.specs.BucketLists.{timers_in}
+use Rattle.timer_wheels.specs.BucketLists.{entries_of}
 
 -- the timer, were its deadline 0
 abbrev pub without_deadline : Entry → Timer
@@ -29,4 +29,4 @@ entries_at bucket_of s entries = filter (λ entry. bucket_of entry.timer == s) e
 pub record ShowsBuckets (n : ℕ) (bucket_of rounds_of : Timer → ℕ) (w : WheelState) (lists : List (List (ℕ × Node))) : Type 0 where
   pub count : length lists ≡ n + 1
   pub buckets : (s : ℕ) → s < n → list_at s lists ≡ map (row_of rounds_of) (by_serial (entries_at bucket_of s w.pending))
-  pub due : timers_in (list_at n lists) ≡ w.due
+  pub due : entries_of (list_at n lists) ≡ w.due

@@ -21,7 +21,7 @@ ghost use Rattle.std.specs.Prelude.{◌≡◌, ◌⊎◌, ◌<◌, ◌≤◌, �
 ghost use Rattle.std.specs.Option.{IfSome};
 ghost use Rattle.timer_base.specs.declared.limits.TheConstants.{LAST};
 ghost use Rattle.timer_base.specs.WakeUps.{IsQuietUntil};
-ghost use Rattle.timer_base.specs.WheelState.{empty_wheel, first_due, timer_at, after_start, after_stop, after_tick, after_expiry, after_clear, after_restart, old_timer, Advances};
+ghost use Rattle.timer_base.specs.WheelState.{empty_wheel, first_due, timer_at, after_start, after_stop, after_tick, after_expiry, after_clear, after_restart, after_withdrawal, after_revival, due_at, old_timer, Advances};
 ghost use Rattle.timer_wheels.specs.Hashed.{slot_of, rounds_of, IsHashed, AreInBuckets, AreInBuckets-prop, IsNextSweep};
 
 use crate::buckets::Buckets;
@@ -225,6 +225,28 @@ impl Wheel for HashedWheel {
         ensures slots { slots_of self.new ≡ slots_of self.old }
     {
         self.buckets.expire()
+    }
+
+    fn withdraw(&mut self, handle: Handle) -> Option<Timer>
+        ensures timer { result ≡ due_at handle (state_of self.old.buckets) }
+        ensures withdrawn { state_of self.new.buckets ≡ after_withdrawal handle (state_of self.old.buckets) }
+        ensures slots { slots_of self.new ≡ slots_of self.old }
+    {
+        self.buckets.withdraw(handle)
+    }
+
+    fn revive(&mut self, handle: Handle, timer: Timer) -> Option<(Handle, Timer)>
+        requires later { (state_of self.old.buckets).now < timer.deadline }
+        requires deadline { timer.deadline ≤ (state_of self.old.buckets).last_tick }
+        requires fresh { (state_of self.old.buckets).last_serial < timer.serial }
+        requires serial { timer.serial ≤ LAST }
+        ensures old { old_timer result ≡ due_at handle (state_of self.old.buckets) }
+        ensures named { MatchOption result (Unit {0}) (λ r. r.0.serial ≡ timer.serial) }
+        ensures revived { state_of self.new.buckets ≡ after_revival result handle timer (state_of self.old.buckets) }
+        ensures slots { slots_of self.new ≡ slots_of self.old }
+    {
+        let (bucket, rounds) = self.bucket_and_rounds(timer);
+        self.buckets.revive(handle, bucket, timer, rounds)
     }
 
     fn list(&self) -> Result<Vec<Timer>, OutOfMemory> {

@@ -51,7 +51,7 @@ ghost use Rattle.std.specs.Prelude.{◌≡◌, ◌+◌, ◌-◌, ◌*◌, ◌<�
 ghost use Rattle.std.specs.Option.{IfSome};
 ghost use Rattle.timer_base.specs.declared.limits.TheConstants.{LAST};
 ghost use Rattle.timer_base.specs.WakeUps.{IsQuietUntil};
-ghost use Rattle.timer_base.specs.WheelState.{empty_wheel, timer_at, first_due, after_start, after_stop, after_tick, after_expiry, after_clear, after_restart, old_timer, Advances};
+ghost use Rattle.timer_base.specs.WheelState.{empty_wheel, timer_at, first_due, after_start, after_stop, after_tick, after_expiry, after_clear, after_restart, after_withdrawal, after_revival, due_at, old_timer, Advances};
 ghost use Rattle.timer_wheels.specs.Buckets.{state_of, state_of-well_formed};
 ghost use Rattle.timer_wheels.specs.Digits.{slots, last_of};
 ghost use Rattle.timer_wheels.specs.Leap.{IsNextVisit};
@@ -66,7 +66,7 @@ use crate::digits::{bucket_of, buckets_of, last_tick_of};
 use crate::leap::{advance_until_due, first_visit, visits_between};
 use crate::migration::next_tick;
 use crate::occupied::Occupied;
-use crate::stopping::{restart_timer, stop_timer};
+use crate::stopping::{restart_timer, revive_timer, stop_timer};
 use crate::table::Table;
 use std::alloc::Global;
 use timer_base::{Handle, LAST, MakeFault, OutOfMemory, Timer, Wheel};
@@ -337,6 +337,38 @@ impl Wheel for HierWheel {
         ensures table { table_of self.new ≡ table_of self.old }
     {
         self.buckets.expire()
+    }
+
+    fn withdraw(&mut self, handle: Handle) -> Option<Timer>
+        ensures timer { result ≡ due_at handle (hier_state self.old) }
+        ensures withdrawn { hier_state self.new ≡ after_withdrawal handle (hier_state self.old) }
+        ensures counts { counts_of self.new ≡ counts_of self.old }
+        ensures table { table_of self.new ≡ table_of self.old }
+    {
+        self.buckets.withdraw(handle)
+    }
+
+    fn revive(&mut self, handle: Handle, timer: Timer) -> Option<(Handle, Timer)>
+        requires later { (hier_state self.old).now < timer.deadline }
+        requires deadline { timer.deadline ≤ (hier_state self.old).last_tick }
+        requires fresh { (hier_state self.old).last_serial < timer.serial }
+        requires serial { timer.serial ≤ LAST }
+        ensures old { old_timer result ≡ due_at handle (hier_state self.old) }
+        ensures named { MatchOption result (Unit {0}) (λ r. r.0.serial ≡ timer.serial) }
+        ensures revived { hier_state self.new ≡ after_revival result handle timer (hier_state self.old) }
+        ensures counted { MatchOption result (counts_of self.new ≡ counts_of self.old) (λ r. counts_of self.new ≡ with_start (counts_of self.old)) }
+        ensures table { table_of self.new ≡ table_of self.old }
+    {
+        let revived = revive_timer(
+            self.table,
+            &mut self.buckets,
+            &mut self.occupied,
+            handle,
+            timer,
+        )?;
+        let counts = &mut self.counts;
+        counts.starts += 1;
+        Some(revived)
     }
 
     fn list(&self) -> Result<Vec<Timer>, OutOfMemory> {

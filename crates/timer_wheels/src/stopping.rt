@@ -1,7 +1,7 @@
 //! A stop and a restart in a hierarchy of wheels.
 ghost use Rattle.std.specs.Prelude.{◌≡◌, ◌<◌, ◌≤◌, [], MatchOption};
 ghost use Rattle.timer_base.specs.declared.limits.TheConstants.{LAST};
-ghost use Rattle.timer_base.specs.WheelState.{after_stop, after_restart, old_timer, timer_at};
+ghost use Rattle.timer_base.specs.WheelState.{after_stop, after_restart, after_revival, old_timer, timer_at, due_at};
 ghost use Rattle.timer_wheels.specs.Buckets.{state_of, IsSameFrame};
 ghost use Rattle.timer_wheels.specs.Hier.{IsHier};
 
@@ -60,4 +60,30 @@ pub fn restart_timer(
     clear_emptied(occupied, emptied);
     occupied.insert(list);
     Some(restarted)
+}
+
+/// Removes the due timer with just this handle, and starts another at its place. Sets the bit of its
+/// bucket. Does not allocate.
+pub fn revive_timer(
+    table: Table,
+    buckets: &mut Buckets,
+    occupied: &mut Occupied,
+    handle: Handle,
+    timer: Timer,
+) -> Option<(Handle, Timer)>
+    requires hier { IsHier table buckets.old occupied.old }
+    requires later { buckets.old.tick < timer.deadline }
+    requires deadline { timer.deadline ≤ buckets.old.last_tick }
+    requires fresh { buckets.old.last_serial < timer.serial }
+    requires serial { timer.serial ≤ LAST }
+    ensures old { old_timer result ≡ due_at handle (state_of buckets.old) }
+    ensures named { MatchOption result (Unit {0}) (λ r. r.0.serial ≡ timer.serial) }
+    ensures revived { state_of buckets.new ≡ after_revival result handle timer (state_of buckets.old) }
+    ensures hier { IsHier table buckets.new occupied.new }
+    ensures frame { IsSameFrame buckets.old buckets.new }
+{
+    let bucket = bucket_of(table, buckets.tick, timer.deadline);
+    let revived = buckets.revive(handle, bucket, timer, 0)?;
+    occupied.insert(bucket);
+    Some(revived)
 }

@@ -3,14 +3,14 @@ use Rattle.std.specs.Prelude.{find}
 use Rattle.timer_base.specs.OrderLaws.{AreRising-filter, All-filter}
 use Rattle.timer_base.specs.Pending.{is_due_at}
 use Rattle.timer_base.specs.PlainState.{IsKept, due_count}
-use Rattle.timer_base.proofs.PlainExpiries.{find-filter, plain_state-after_expiry, plain_state-none_due, some_due, due_count-after_expiry}
+use Rattle.timer_base.proofs.PlainExpiries.{first_is_due, plain_state-after_expiry, plain_state-none_due, some_due, due_count-after_expiry}
 use Rattle.timer_base.proofs.plain.PlainWheelWheel.expire.Goals as goal
 
 pub returns-in_err-first-clause-first : goal.returns-in_err-first-clause-first
 returns-in_err-first-clause-first c =
     let s = c.args.self.now in
     let seen : c.find_due.result ≡ find (is_due_at s.now) s.timers.items = c.find_due.ensures ∙ ap (find (is_due_at s.now)) c.as_slice.ensures.value in
-    c.from_residual.ensures ∙ sym c.in_err-first.was ∙ seen ∙ find-filter (is_due_at s.now) s.timers.items
+    c.from_residual.ensures ∙ sym c.in_err-first.was ∙ seen ∙ first_is_due s.now s.last_serial s.timers.items
 
 pub returns-in_err-first-clause-rest : goal.returns-in_err-first-clause-rest
 returns-in_err-first-clause-rest c =
@@ -46,7 +46,7 @@ pub returns-clause-first : goal.returns-clause-first
 returns-clause-first c =
     let s = c.args.self.now in
     let seen : c.find_due.result ≡ find (is_due_at s.now) s.timers.items = c.find_due.ensures ∙ ap (find (is_due_at s.now)) c.as_slice.ensures.value in
-    sym c.in_ok-first.was ∙ seen ∙ find-filter (is_due_at s.now) s.timers.items
+    sym c.in_ok-first.was ∙ seen ∙ first_is_due s.now s.last_serial s.timers.items
 
 pub returns-clause-rest : goal.returns-clause-rest
 returns-clause-rest c =
