@@ -23,7 +23,7 @@ ghost use Rattle.timer_base.specs.OrderLaws.{AreRising-prop};
 ghost use Rattle.timer_base.specs.Pending.{has_serial, is_due_at};
 ghost use Rattle.timer_base.specs.PlainState.{IsKept, IsKept-prop, is_after, is_pending_with, is_due_with, due_count, earliest, first_after, plain_state, plain_state-well_formed};
 ghost use Rattle.timer_base.specs.WakeUps.{IsQuietUntil, next_deadline};
-ghost use Rattle.timer_base.specs.WheelState.{empty_wheel, due_at};
+ghost use Rattle.timer_base.specs.WheelState.{empty_wheel};
 
 use crate::fault::{MakeFault, OutOfMemory};
 use crate::limits::LAST;
@@ -65,16 +65,6 @@ impl PlainWheel {
             timers: Vec::new(alloc),
             due: 0,
         })
-    }
-
-    /// The due timer with just this handle.
-    fn look_due(&self, handle: Handle) -> Option<Timer>
-        ensures { result ≡ due_at handle (⟦<PlainWheel as Wheel>⟧.state self.entry.now) }
-    {
-        if handle.place > 0 {
-            return None;
-        }
-        find_waiting(self.timers.as_slice(), handle.serial, self.now)
     }
 }
 
@@ -156,6 +146,13 @@ impl Wheel for PlainWheel {
         drop_serial(&mut self.timers, first.serial);
         self.due -= 1;
         Some(first)
+    }
+
+    fn look_due(&self, handle: Handle) -> Option<Timer> {
+        if handle.place > 0 {
+            return None;
+        }
+        find_waiting(self.timers.as_slice(), handle.serial, self.now)
     }
 
     fn withdraw(&mut self, handle: Handle) -> Option<Timer> {

@@ -128,9 +128,12 @@ pub trait Wheel {
         ensures first { result ≡ first_due (state self.old) }
         ensures rest { state self.new ≡ after_expiry (state self.old) };
 
-    /// Removes the due timer with exactly this handle, place and serial, and returns it, or None where there is
-    /// none: for one that was due before its client could stop it. A timer that becomes due keeps its handle until
-    /// it is taken.
+    /// Returns the due timer with exactly this handle, place and serial, or None where there is none. A timer
+    /// that becomes due keeps its handle until it is taken. Does not allocate.
+    fn look_due(&self, handle: Handle) -> Option<Timer>
+        ensures { result ≡ due_at handle (state self.now) };
+
+    /// Removes the due timer with exactly this handle, and returns it: the stop of a timer that became due first.
     ///
     /// Where there is none, nothing changes. Does not allocate.
     fn withdraw(&mut self, handle: Handle) -> Option<Timer>

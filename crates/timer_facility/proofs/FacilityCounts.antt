@@ -14,10 +14,10 @@ pub count-append : (client : ℕ) (xs ys : List Timer) → count_of client (xs +
 count-append client [] ys = omega arith
 count-append client (x ∷ xs) ys = let n = count-append client xs ys in omega arith
 
-pub count-kept : (client : ℕ) (p : Parts) → count_of client (kept p) ≡ count_of client (timers_of p.wheel.pending) + (count_of client p.wheel.due + count_of client (drop p.handed p.returned))
+pub count-kept : (client : ℕ) (p : Parts) → count_of client (kept p) ≡ count_of client (timers_of p.wheel.pending) + (count_of client (timers_of p.wheel.due) + count_of client (drop p.handed p.returned))
 count-kept client p =
-    let outer = count-append client (timers_of p.wheel.pending) (p.wheel.due ++ drop p.handed p.returned) in
-    let inner = count-append client p.wheel.due (drop p.handed p.returned) in
+    let outer = count-append client (timers_of p.wheel.pending) (timers_of p.wheel.due ++ drop p.handed p.returned) in
+    let inner = count-append client (timers_of p.wheel.due) (drop p.handed p.returned) in
     outer ∙ ap (λ n. count_of client (timers_of p.wheel.pending) + n) inner
 
 -- Pending timers.

@@ -69,15 +69,19 @@ no_back : (xs : List Notice) (ys : List Notice) → xs ++ ys ≡ [] → ys ≡ [
 no_back [] ys h = h
 no_back (x ∷ xs) ys h = absurd (cc)
 
+no_entries : (es : List Entry) → timers_of es ≡ [] → es ≡ []
+no_entries [] h = refl
+no_entries (e ∷ es) h = absurd (cc)
+
 -- where nothing waits, nothing is due
 pub nothing_due : {p : Parts} {v : FacilityView} → AreParts p → view_of p ≡ v → v.waiting ≡ [] → p.wheel.due ≡ []
 nothing_due {p} {v} a e h =
     let x : (view_of p).waiting ≡ [] = ap (λ (u : FacilityView). u.waiting) e ∙ h in
-    no_front p.wheel.due (map (λ t. Returned t) (drop p.handed p.returned)) x
+    no_entries p.wheel.due (no_front (timers_of p.wheel.due) (map (λ t. Returned t) (drop p.handed p.returned)) x)
 
 pub nothing_returned : {p : Parts} {v : FacilityView} → AreParts p → view_of p ≡ v → v.waiting ≡ [] → map (λ t. Returned t) (drop p.handed p.returned) ≡ []
 nothing_returned {p} {v} a e h =
-    no_back (map (λ t. Expired t) p.wheel.due) (map (λ t. Returned t) (drop p.handed p.returned)) (ap (λ (u : FacilityView). u.waiting) e ∙ h)
+    no_back (map (λ t. Expired t) (timers_of p.wheel.due)) (map (λ t. Returned t) (drop p.handed p.returned)) (ap (λ (u : FacilityView). u.waiting) e ∙ h)
 
 pub is_open : {p : Parts} {v : FacilityView} → AreParts p → view_of p ≡ v → p.is_closed ≡ false → v.state.is_closed ≡ false
 is_open {p} {v} a e h = subst (λ (u : FacilityView). u.state.is_closed ≡ false) e h
@@ -237,8 +241,8 @@ pub view-open : (w : Wheels.WheelState) (c : Config) (returned : List Timer) →
     → view_of (first_parts w c returned) ≡ with_nothing_waiting (opened c w.last_tick)
 view-open w c returned p d n few r =
     opened_is c.capacity w.last_tick c.first_serial w.now c.first_tick w.pending [] (take c.clients (replicate 64 c.first_number)) (replicate c.clients c.first_number)
-    (map (λ t. Expired t) w.due ++ map (λ t. Returned t) (drop 0 returned)) [] n p (take-replicate c.clients 64 c.first_number few)
-    (ap (λ ds. map (λ t. Expired t) ds ++ map (λ t. Returned t) (drop 0 returned)) d ∙ ap (map (λ t. Returned t)) r)
+    (map (λ t. Expired t) (timers_of w.due) ++ map (λ t. Returned t) (drop 0 returned)) [] n p (take-replicate c.clients 64 c.first_number few)
+    (ap (λ ds. map (λ t. Expired t) (timers_of ds) ++ map (λ t. Returned t) (drop 0 returned)) d ∙ ap (map (λ t. Returned t)) r)
 
 -- Ticks.
 
@@ -266,7 +270,7 @@ view-tick {p} {v} a e h c n w' t =
 
 kept_after_tick : (p : Parts) → p.wheel.due ≡ [] → (client : ℕ) → count_of client (kept (record p { wheel = Wheels.after_tick p.wheel })) ≡ count_of client (kept p)
 kept_after_tick p h client =
-    let due : count_of client p.wheel.due ≡ 0 = ap (count_of client) h in
+    let due : count_of client (timers_of p.wheel.due) ≡ 0 = ap (λ es. count_of client (timers_of es)) h in
     let before = count-kept client p in
     let after = count-kept client (record p { wheel = Wheels.after_tick p.wheel }) in
     let cut = count-tick client (p.wheel.now + 1) p.wheel.pending in
@@ -297,11 +301,11 @@ close_core : (p : Parts) (list : List Timer) → p.is_closed ≡ false → p.whe
     → view_of (record p { wheel = Wheels.after_clear p.wheel; is_closed = true; returned = list; handed = 0 }) ≡ view_after (step (view_of p).state Close 0)
 close_core p list c d l =
     let s : FacilityState = (view_of p).state in
-    let waits : map (λ t. Expired t) p.wheel.due ++ map (λ t. Returned t) (drop 0 list) ≡ notices_in (step_of_close s false).outs =
-    ap (λ xs. map (λ t. Expired t) xs ++ map (λ t. Returned t) (drop 0 list)) d
+    let waits : map (λ t. Expired t) (timers_of p.wheel.due) ++ map (λ t. Returned t) (drop 0 list) ≡ notices_in (step_of_close s false).outs =
+    ap (λ xs. map (λ t. Expired t) (timers_of xs) ++ map (λ t. Returned t) (drop 0 list)) d
     ∙ ap (map (λ t. Returned t)) l
     ∙ sym (notices_in-map (λ t. Returned t) (timers_of p.wheel.pending)) in
-    view_by_waiting (step_of_close s false).state (map (λ t. Expired t) p.wheel.due ++ map (λ t. Returned t) (drop 0 list)) (notices_in (step_of_close s false).outs) waits
+    view_by_waiting (step_of_close s false).state (map (λ t. Expired t) (timers_of p.wheel.due) ++ map (λ t. Returned t) (drop 0 list)) (notices_in (step_of_close s false).outs) waits
     ∙ ap (λ b. view_after (step_of_close s b)) (sym c)
 
 pub view-close : {p : Parts} {v : FacilityView} → AreParts p → view_of p ≡ v → v.waiting ≡ [] → p.is_closed ≡ false → (list : List Timer) → list ≡ timers_of p.wheel.pending
@@ -478,14 +482,18 @@ drop_at i ts t h =
     let g : get_or ts i t ≡ t = get_or_from_slice_get ts i t t h in
     rw (add-one) (drop-cons ts i t l ∙ ap (λ u. u ∷ drop (suc i) ts) g)
 
-none_at : (ts : List Timer) → slice_get ts 0 ≡ None → drop 1 ts ≡ ts
+none_at : (es : List Entry) → slice_get (timers_of es) 0 ≡ None → drop 1 es ≡ es
 none_at [] h = refl
-none_at (t ∷ ts) h = absurd (cc)
+none_at (e ∷ es) h = absurd (cc)
+
+pub timers_of-drop : (es : List Entry) → timers_of (drop 1 es) ≡ drop 1 (timers_of es)
+timers_of-drop [] = refl
+timers_of-drop (e ∷ es) = refl
 
 -- the counts, in a state in which nothing waits
 pub pending_is : {p : Parts} {v : FacilityView} → AreParts p → view_of p ≡ v → v.waiting ≡ [] → (client : ℕ) → slice_index p.counts client ≡ pending_of v.state client
 pending_is {p} {v} a e h client =
-    let due : count_of client p.wheel.due ≡ 0 = ap (count_of client) (nothing_due a e h) in
+    let due : count_of client (timers_of p.wheel.due) ≡ 0 = ap (λ es. count_of client (timers_of es)) (nothing_due a e h) in
     let back : count_of client (drop p.handed p.returned) ≡ 0 = ap (count_of client) (unmapped (drop p.handed p.returned) (nothing_returned a e h)) in
     let all = count-kept client p in
     let each : slice_index p.counts client ≡ count_of client (kept p) = a.counted.each client in
@@ -500,7 +508,8 @@ kept_after_expiry : (p : Parts) (t : Timer) → Wheels.first_due p.wheel ≡ Som
 kept_after_expiry p t h client =
     let before = count-kept client p in
     let after = count-kept client (record p { wheel = Wheels.after_expiry p.wheel }) in
-    let less = count-front client t p.wheel.due h in
+    let less = count-front client t (timers_of p.wheel.due) h in
+    let rest : count_of client (timers_of (drop 1 p.wheel.due)) ≡ count_of client (drop 1 (timers_of p.wheel.due)) = ap (count_of client) (timers_of-drop p.wheel.due) in
     omega arith
 
 kept_after_return : (p : Parts) (t : Timer) → slice_get p.returned p.handed ≡ Some t → (client : ℕ)
@@ -559,7 +568,7 @@ returned_counted {p} a t h = is_counted a.counted t (kept (record p { handed = p
 kept_after_close : (p : Parts) (list : List Timer) → p.wheel.due ≡ [] → drop p.handed p.returned ≡ [] → list ≡ timers_of p.wheel.pending → (client : ℕ)
     → count_of client (kept (record p { wheel = Wheels.after_clear p.wheel; is_closed = true; returned = list; handed = 0 })) ≡ count_of client (kept p)
 kept_after_close p list d b l client =
-    let due : count_of client p.wheel.due ≡ 0 = ap (count_of client) d in
+    let due : count_of client (timers_of p.wheel.due) ≡ 0 = ap (λ es. count_of client (timers_of es)) d in
     let back : count_of client (drop p.handed p.returned) ≡ 0 = ap (count_of client) b in
     let moved : count_of client list ≡ count_of client (timers_of p.wheel.pending) = ap (count_of client) l in
     let before = count-kept client p in
@@ -586,7 +595,7 @@ parts-close {p} {v} a e h list l w' t =
 -- a new facility
 pub parts-open : (w : Wheels.WheelState) (c : Config) (returned : List Timer) → IsInRange c → w.pending ≡ [] → w.due ≡ [] → w.last_serial < c.first_serial → returned ≡ [] → AreParts (first_parts w c returned)
 parts-open w c returned i p d l r =
-    let none : kept (first_parts w c returned) ≡ [] = ap (λ es. timers_of es ++ (w.due ++ drop 0 returned)) p ∙ ap (λ ts. ts ++ drop 0 returned) d ∙ r in
+    let none : kept (first_parts w c returned) ≡ [] = ap (λ es. timers_of es ++ (timers_of w.due ++ drop 0 returned)) p ∙ ap (λ ds. timers_of ds ++ drop 0 returned) d ∙ r in
     let few : c.clients ≤ 64 = i.few_clients in
     let serial : c.first_serial ≤ LAST = i.serial_in_range in
     let empty : length w.pending ≡ 0 = ap (λ es. length es) p in

@@ -2,6 +2,7 @@
 use Rattle.std.proofs.Common.{◌≡◌, ◌≢◌, ◌<◌, ◌≤◌, ◌+◌, ◌-◌, ℕ, zero, suc, false, List, [], ◌∷◌, ◌++◌, length, refl, sym, ◌∙◌, ap, subst, arith}
 use Rattle.std.specs.Prelude.{map, drop, min, None}
 use Rattle.timer_base.specs.declared.timer.Timer.{Timer}
+use Rattle.timer_base.specs.Pending.{Entry, timers_of}
 use Rattle.timer_base.specs.TickLaws.{after_ticks-now, after_ticks-last}
 use Rattle.timer_base.specs.WheelState as Wheels
 use Rattle.timer_facility.specs.declared.request.Notice.{Notice}
@@ -49,7 +50,7 @@ between : (p : Parts) (n : ℕ) → IsStretch p n → map (λ t. Returned t) (dr
     → (Wheels.after_ticks n p.wheel).due ≡ [] → IsBetween p n
 between p n i r c l d =
     let q : Parts = after n p in
-    let none : (view_of q).waiting ≡ [] = ap (λ ds. map (λ t. Expired t) ds ++ map (λ t. Returned t) (drop p.handed p.returned)) d ∙ r in
+    let none : (view_of q).waiting ≡ [] = ap (λ ds. map (λ t. Expired t) (timers_of ds) ++ map (λ t. Returned t) (drop p.handed p.returned)) d ∙ r in
     let now : q.wheel.now ≡ p.wheel.now + n = after_ticks-now n p.wheel in
     let last : q.wheel.last_tick ≡ p.wheel.last_tick = after_ticks-last n p.wheel in
     let differ : q.wheel.now ≢ q.wheel.last_tick = λ e. absurd (omega (arith, now, last, e, l)) in
@@ -74,7 +75,7 @@ stretch p (suc n) a w r c l d =
           ∙ view-more (view_of p).state n b.quiet;
     }
 
-some_wait : (xs : List Timer) (ys : List Notice) → 0 < length xs → 0 < length (map (λ t. Expired t) xs ++ ys)
+some_wait : (xs : List Entry) (ys : List Notice) → 0 < length xs → 0 < length (map (λ t. Expired t) (timers_of xs) ++ ys)
 some_wait [] ys h = absurd (omega arith)
 some_wait (x ∷ xs) ys h = omega arith
 

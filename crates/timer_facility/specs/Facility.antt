@@ -94,12 +94,12 @@ view_of p = record {
     numbers = take p.clients p.numbers;
     is_closed = p.is_closed;
   };
-  waiting = map (λ t. Expired t) p.wheel.due ++ map (λ t. Returned t) (drop p.handed p.returned);
+  waiting = map (λ t. Expired t) (timers_of p.wheel.due) ++ map (λ t. Returned t) (drop p.handed p.returned);
 }
 
 -- the timers that a facility keeps: those that are pending, and those that wait to be handed out
 abbrev pub kept : Parts → List Timer
-kept p = timers_of p.wheel.pending ++ (p.wheel.due ++ drop p.handed p.returned)
+kept p = timers_of p.wheel.pending ++ (timers_of p.wheel.due ++ drop p.handed p.returned)
 
 -- the counts are those of these timers, all of clients below `clients`
 pub record AreCounted (clients : ℕ) (counts : List ℕ) (ts : List Timer) : Type 0 where

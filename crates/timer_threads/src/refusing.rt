@@ -51,6 +51,18 @@ impl<W: Wheel> Wheel for Refusing<W> {
         self.wheel.restart(handle, timer)
     }
 
+    fn look_due(&self, handle: Handle) -> Option<Timer> {
+        self.wheel.look_due(handle)
+    }
+
+    fn withdraw(&mut self, handle: Handle) -> Option<Timer> {
+        self.wheel.withdraw(handle)
+    }
+
+    fn revive(&mut self, handle: Handle, timer: Timer) -> Option<(Handle, Timer)> {
+        self.wheel.revive(handle, timer)
+    }
+
     fn quiet_until(&self) -> Option<u64> {
         self.wheel.quiet_until()
     }

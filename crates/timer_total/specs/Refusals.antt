@@ -1,9 +1,9 @@
 -- Why a call is refused, and the timer that a start adds where it is not.
-use Rattle.std.specs.Prelude.{ℕ, ◌≡◌, ◌+◌, ◌<◌, ◌≤◌, ◌⊎◌, [], length, None, IsSome}
+use Rattle.std.specs.Prelude.{ℕ, ◌≡◌, ◌+◌, ◌-◌, ◌<◌, ◌≤◌, ◌⊎◌, [], length, Option, Some, None, IsSome}
 use Rattle.timer_base.specs.declared.limits.TheConstants.{LAST}
 use Rattle.timer_base.specs.declared.timer.Timer.{Timer}
 use Rattle.timer_base.specs.declared.timer.Handle.{Handle}
-use Rattle.timer_base.specs.WheelState.{WheelState, timer_at}
+use Rattle.timer_base.specs.WheelState.{WheelState, timer_at, due_at, after_stop, after_withdrawal}
 use Rattle.timer_total.specs.declared.fault.StartFault.{StartFault}
 use Rattle.timer_total.specs.declared.fault.StartFault.TheVariants as start
 use Rattle.timer_total.specs.declared.fault.RestartFault.{RestartFault}
@@ -14,6 +14,14 @@ use Rattle.timer_total.specs.declared.fault.TickFault.TheVariants as tick
 -- the timer that a start adds: the next serial, and the action under the client 0 and the number 0
 abbrev pub next_timer : ℕ → ℕ → WheelState → Timer
 next_timer interval action w = record { serial = w.last_serial + 1; client = 0; number = 0; deadline = w.now + interval; action = action }
+
+-- how many ticks are left until this one, 0 where it is not after now
+abbrev pub left_until : ℕ → WheelState → ℕ
+left_until deadline w = deadline - w.now
+
+-- the timer that a start for this tick adds
+abbrev pub timer_due : ℕ → ℕ → WheelState → Timer
+timer_due deadline action w = record { serial = w.last_serial + 1; client = 0; number = 0; deadline = deadline; action = action }
 
 -- a timer with this interval may be started where memory is available
 abbrev pub IsStartable : ℕ → WheelState → Type 0
@@ -26,14 +34,31 @@ WhyNotStarted interval w fault =
     ⊎ ((fault ≡ start.TooLate) × (0 < interval) × (w.last_tick < w.now + interval))
     ⊎ ((fault ≡ start.SerialsSpent) × (0 < interval) × (w.now + interval ≤ w.last_tick) × (LAST ≤ w.last_serial))
 
--- a pending timer has this handle
+-- a pending timer, or where there is none a due one
+abbrev pub first_found : Option Timer → Option Timer → Option Timer
+first_found None due = due
+first_found (Some t) due = Some t
+
+-- the timer that waits under this handle, for its deadline or to be taken
+abbrev pub held_at : Handle → WheelState → Option Timer
+held_at handle w = first_found (timer_at handle w) (due_at handle w)
+
+abbrev pub removed_from : Option Timer → Handle → WheelState → WheelState
+removed_from None handle w = after_withdrawal handle w
+removed_from (Some t) handle w = after_stop handle w
+
+-- the timer that waits under this handle is removed, if there is one
+abbrev pub after_removal : Handle → WheelState → WheelState
+after_removal handle w = removed_from (timer_at handle w) handle w
+
+-- a timer waits under this handle
 abbrev pub IsAt : Handle → WheelState → Type 0
-IsAt handle w = IsSome (timer_at handle w)
+IsAt handle w = IsSome (held_at handle w)
 
 -- why a restart is refused: the first test that holds, the handle before the interval
 abbrev pub WhyNotRestarted : Handle → ℕ → WheelState → RestartFault → Type 0
 WhyNotRestarted handle interval w fault =
-    ((fault ≡ restart.NotPending) × (timer_at handle w ≡ None))
+    ((fault ≡ restart.NotPending) × (held_at handle w ≡ None))
     ⊎ ((fault ≡ restart.ZeroInterval) × IsAt handle w × (interval ≡ 0))
     ⊎ ((fault ≡ restart.TooLate) × IsAt handle w × (0 < interval) × (w.last_tick < w.now + interval))
     ⊎ ((fault ≡ restart.SerialsSpent) × IsAt handle w × (0 < interval) × (w.now + interval ≤ w.last_tick) × (LAST ≤ w.last_serial))

@@ -2,8 +2,8 @@
 ghost use Rattle.std.specs.Prelude.{◌≡◌, ◌+◌, ◌<◌, ◌≤◌, ◌↔◌, ◌⊎◌, ℕ, [], length, IsTrue, IfOk, IfErr, OnErr, None, Some};
 ghost use Rattle.timer_base.specs.declared.limits.TheConstants.{LAST};
 ghost use Rattle.timer_base.specs.WakeUps.{IsQuietUntil};
-ghost use Rattle.timer_base.specs.WheelState.{WheelState, timer_at, first_due, after_start, after_stop, after_tick, after_expiry};
-ghost use Rattle.timer_total.specs.Refusals.{next_timer, IsStartable, IsAt, WhyNotStarted, WhyNotRestarted, WhyNotTicked};
+ghost use Rattle.timer_base.specs.WheelState.{WheelState, first_due, after_start, after_tick, after_expiry};
+ghost use Rattle.timer_total.specs.Refusals.{next_timer, timer_due, left_until, held_at, after_removal, IsStartable, IsAt, WhyNotStarted, WhyNotRestarted, WhyNotTicked};
 ghost use Rattle.timer_total.specs.Ticks.{Passes, numbered};
 
 use crate::fault::{RestartFault, StartFault, TickFault};
@@ -126,17 +126,51 @@ impl<W: Wheel + Drop> Timers<W> {
         }
     }
 
-    /// Removes the pending timer with exactly this handle, and returns it. Where there is none, nothing
-    /// changes. Does not allocate.
-    pub fn stop(&mut self, handle: Handle) -> Option<Timer>
-        ensures timer { result ≡ timer_at handle self.old }
-        ensures stopped { self.new ≡ after_stop handle self.old }
+    /// Starts a timer that expires at this tick, which is after the present one, under the next serial: as a
+    /// start with what is left until then, and so ZeroInterval for a tick that isn't.
+    pub fn start_at(&mut self, deadline: u64, action: u64) -> Result<Handle, StartFault>
+        ensures started { IfOk result (λ handle. self.new ≡ after_start handle.place (timer_due deadline action self.old) self.old) }
+        ensures named { IfOk result (λ handle. handle.serial ≡ self.old.last_serial + 1) }
+        ensures in_order { IfOk result (λ _. IsStartable (left_until deadline self.old) self.old) }
+        ensures fault { IfErr result (λ fault. WhyNotStarted (left_until deadline self.old) self.old fault
+            ⊎ ((fault ≡ StartFault.OutOfMemory) × IsStartable (left_until deadline self.old) self.old)) }
+        ensures err { OnErr result (self.new ≡ self.old) }
     {
-        self.wheel.stop(handle)
+        let interval = self.until(deadline);
+        self.start(interval, action)
     }
 
-    /// Removes the pending timer with exactly this handle and starts another in its place, under the next
-    /// serial. Does not allocate.
+    /// How many ticks are left until this one, 0 where it is not after the present one.
+    fn until(&self, deadline: u64) -> u64
+        ensures { result ≡ left_until deadline self.now }
+    {
+        deadline.saturating_sub(self.wheel.now())
+    }
+
+    /// The timer with exactly this handle: pending, or expired and not yet taken.
+    pub fn look(&self, handle: Handle) -> Option<Timer>
+        ensures { result ≡ held_at handle self.now }
+    {
+        match self.wheel.look(handle) {
+            Some(timer) => Some(timer),
+            None => self.wheel.look_due(handle),
+        }
+    }
+
+    /// Removes the timer with exactly this handle, pending or expired and not yet taken, and returns it. Where
+    /// there is none, nothing changes. Does not allocate.
+    pub fn stop(&mut self, handle: Handle) -> Option<Timer>
+        ensures timer { result ≡ held_at handle self.old }
+        ensures stopped { self.new ≡ after_removal handle self.old }
+    {
+        match self.wheel.stop(handle) {
+            Some(timer) => Some(timer),
+            None => self.wheel.withdraw(handle),
+        }
+    }
+
+    /// Removes the timer with exactly this handle, pending or expired and not yet taken, and starts another in
+    /// its place, under the next serial. Does not allocate.
     pub fn restart(
         &mut self,
         handle: Handle,
@@ -144,7 +178,7 @@ impl<W: Wheel + Drop> Timers<W> {
         action: u64,
     ) -> Result<Handle, RestartFault>
         ensures restarted { IfOk result (λ made.
-            self.new ≡ after_start made.place (next_timer interval action self.old) (after_stop handle self.old)) }
+            self.new ≡ after_start made.place (next_timer interval action self.old) (after_removal handle self.old)) }
         ensures named { IfOk result (λ made. made.serial ≡ self.old.last_serial + 1) }
         ensures in_order { IfOk result (λ _. IsAt handle self.old × IsStartable interval self.old) }
         ensures fault { IfErr result (WhyNotRestarted handle interval self.old) }
@@ -152,7 +186,11 @@ impl<W: Wheel + Drop> Timers<W> {
     {
         self.admit_again(handle, interval)?;
         let timer = self.next(interval, action);
-        match self.wheel.restart(handle, timer) {
+        if let Some((made, _)) = self.wheel.restart(handle, timer) {
+            self.last_serial = timer.serial;
+            return Ok(made);
+        }
+        match self.wheel.revive(handle, timer) {
             Some((made, _)) => {
                 self.last_serial = timer.serial;
                 Ok(made)
@@ -161,12 +199,30 @@ impl<W: Wheel + Drop> Timers<W> {
         }
     }
 
+    /// As a restart with what is left until this tick: ZeroInterval for a tick that isn't after the present one.
+    pub fn restart_at(
+        &mut self,
+        handle: Handle,
+        deadline: u64,
+        action: u64,
+    ) -> Result<Handle, RestartFault>
+        ensures restarted { IfOk result (λ made.
+            self.new ≡ after_start made.place (timer_due deadline action self.old) (after_removal handle self.old)) }
+        ensures named { IfOk result (λ made. made.serial ≡ self.old.last_serial + 1) }
+        ensures in_order { IfOk result (λ _. IsAt handle self.old × IsStartable (left_until deadline self.old) self.old) }
+        ensures fault { IfErr result (WhyNotRestarted handle (left_until deadline self.old) self.old) }
+        ensures err { OnErr result (self.new ≡ self.old) }
+    {
+        let interval = self.until(deadline);
+        self.restart(handle, interval, action)
+    }
+
     /// Whether a restart of the timer with this handle is accepted.
     fn admit_again(&self, handle: Handle, interval: u64) -> Result<(), RestartFault>
         ensures in_order { IfOk result (λ _. IsAt handle self.now × IsStartable interval self.now) }
         ensures fault { IfErr result (WhyNotRestarted handle interval self.now) }
     {
-        if self.wheel.look(handle).is_none() {
+        if self.look(handle).is_none() {
             return Err(RestartFault::NotPending);
         }
         if interval == 0 {

@@ -227,6 +227,10 @@ impl Wheel for HashedWheel {
         self.buckets.expire()
     }
 
+    fn look_due(&self, handle: Handle) -> Option<Timer> {
+        self.buckets.look_due(handle)
+    }
+
     fn withdraw(&mut self, handle: Handle) -> Option<Timer>
         ensures timer { result ≡ due_at handle (state_of self.old.buckets) }
         ensures withdrawn { state_of self.new.buckets ≡ after_withdrawal handle (state_of self.old.buckets) }

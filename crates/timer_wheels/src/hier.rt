@@ -339,6 +339,10 @@ impl Wheel for HierWheel {
         self.buckets.expire()
     }
 
+    fn look_due(&self, handle: Handle) -> Option<Timer> {
+        self.buckets.look_due(handle)
+    }
+
     fn withdraw(&mut self, handle: Handle) -> Option<Timer>
         ensures timer { result ≡ due_at handle (hier_state self.old) }
         ensures withdrawn { hier_state self.new ≡ after_withdrawal handle (hier_state self.old) }

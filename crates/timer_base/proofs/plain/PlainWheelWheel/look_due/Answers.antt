@@ -2,7 +2,7 @@ use Rattle.std.proofs.Common.{◌≡◌, ◌≢◌, sym, ◌∙◌, ap, arith}
 use Rattle.std.specs.Prelude.{find}
 use Rattle.timer_base.specs.PlainState.{is_due_with}
 use Rattle.timer_base.proofs.PlainWithdrawals.{due_nowhere, due_here}
-use Rattle.timer_base.proofs.plain.PlainWheel.look_due.Goals as goal
+use Rattle.timer_base.proofs.plain.PlainWheelWheel.look_due.Goals as goal
 
 pub returns-then-handle-gt0 : goal.returns-then-handle-gt0
 returns-then-handle-gt0 c =
