@@ -3,8 +3,10 @@
  * NAME
  *     timers_new, timers_free - make and free timers
  *     timers_start, timers_restart, timers_stop - START_TIMER, RESTART, STOP_TIMER
+ *     timers_start_at, timers_restart_at - the same, for a tick in place of an interval
  *     timers_tick, timers_advance - pass ticks
  *     timers_expire, timers_expire_batch - take expired timers
+ *     timers_look - read a timer
  *     timers_now, timers_len, timers_has_due, timers_wakeup - read the state
  *
  * SYNOPSIS
@@ -19,11 +21,21 @@
  *     Timers expire in the order of their deadlines, and those of one deadline in the order of their starts.
  *     While expired timers wait, others may be started, restarted and stopped, for instance by the work
  *     that the first of them triggers; only the clock stands still until all of them are taken (TIMERS_DUE).
+ *     An expired timer that was not yet taken can be stopped and restarted too: where timers_stop returns
+ *     TIMERS_OK, timers_expire does not hand the timer out. So where the work of one timer frees what the
+ *     action of another points to, it stops the other, whether that has expired or not. Of timers that
+ *     timers_expire_batch has written to an array this holds no more: they are taken.
  *
- *     Restart, stop and expire take constant time. So does a start, amortised: the timers are in tables that
+ *     An interval counts from the present tick, the one up to which the clock was advanced last. Where the clock
+ *     is behind the real time, as it is while input is handled, the timer expires that much too early: advance
+ *     the clock first, or give timers_start_at the tick that is meant. A caller that rounds the real time down to a
+ *     tick starts a timer somewhere within that tick, so that an interval of n ticks lasts more than n - 1 and at
+ *     most n: add 1 where it must last no less than n.
+ *
+ *     Restart, stop, look and expire take constant time. So does a start, amortised: the timers are in tables that
  *     grow, and a start that finds them full moves all timers to larger ones. A tick takes time for the timers
  *     that expire at it and those that move to a lower wheel, and timers_advance skips stretches in which
- *     nothing happens. Only timers_new and timers_start allocate.
+ *     nothing happens. Only timers_new, timers_start and timers_start_at allocate.
  *
  *     The library is proved: each function meets the contract stated in crates/timer_c/src/exports.rt, for
  *     every call that keeps the rules below. Nothing checks that a caller keeps them.
@@ -38,7 +50,7 @@
  *     3. Where an argument is only written (handle, restarted, action, passed, out), the object may be
  *        uninitialised: it has only integers, so that any bits are a value, and no function reads it.
  *        It is written exactly where the function says so, and otherwise unchanged.
- *     4. Calls on one `struct timers` come one at a time. It may be handed from thread to thread, by a
+ *     4. Calls on one `struct timers` come one at a time, those that take a const one too. It may be handed from thread to thread, by a
  *        lock or by a thread's start or join. Calls on two of them are independent.
  *     5. malloc, realloc and free are one allocator, and align as C requires. Link with no other definition of
  *        rattle_alloc, rattle_dealloc and rattle_realloc than the library's.
@@ -48,9 +60,24 @@
  *     returns a status and changes nothing.
  *
  * HANDLES
- *     A handle names a timer of the `struct timers` that returned it, and of no other. It is dead once its
- *     timer was stopped, restarted or has expired, and never names another timer: serials continue
- *     after timers_free and timers_new. (Setting a struct to TIMERS_INIT again resets them.)
+ *     A handle names a timer of the `struct timers` that returned it. It is dead once its timer was stopped,
+ *     restarted or taken, and never names another timer of that struct: serials continue after timers_free and
+ *     timers_new. (Setting a struct to TIMERS_INIT again resets them.) It must be used with that struct alone:
+ *     each struct counts serials from 1, so that in another one it may name a timer that is there.
+ *
+ * ACTIONS
+ *     An action is any 64 bits. For a pointer give (uint64_t)(uintptr_t)p, and read it as
+ *     (void *)(uintptr_t)action. The timers never follow it: whoever frees what it points to stops the timer first.
+ *     timers_free drops what it holds without a word. To take all of it out before, in the order of the deadlines:
+ *
+ *         struct timer_expired out;
+ *         uint64_t passed;
+ *         do {
+ *             while (timers_expire(&t, &out))
+ *                 release((void *)(uintptr_t)out.action);
+ *         } while (timers_advance(&t, UINT64_MAX, &passed) == TIMERS_OK);
+ *
+ *     It ends with the clock at its last tick, where no timer is left.
  *
  * STATUS
  *     Each call that can fail returns one: the first that applies, in the order of the function's comment.
@@ -74,8 +101,8 @@ enum timers_status {
 	TIMERS_NO_TABLE = 3,       /* the table is none of enum timers_table */
 	TIMERS_NO_MEMORY = 4,      /* malloc or realloc returned NULL, or it has about 4.29 billion timers */
 	TIMERS_DUE = 5,            /* an expired timer was not yet taken: call timers_expire */
-	TIMERS_NOT_PENDING = 6,    /* no pending timer has this handle */
-	TIMERS_ZERO_INTERVAL = 7,  /* the interval is 0 */
+	TIMERS_NOT_PENDING = 6,    /* no timer has this handle: it was stopped, restarted or taken */
+	TIMERS_ZERO_INTERVAL = 7,  /* the interval is 0, or the tick is not after the present one */
 	TIMERS_TOO_LATE = 8,       /* the deadline, or the first tick, is after the last tick */
 	TIMERS_SERIALS_SPENT = 9,  /* this struct has started 2^60 - 1 timers */
 	TIMERS_CLOCK_END = 10      /* the clock is at its last tick */
@@ -106,7 +133,7 @@ struct timer_handle {
 };
 
 struct timer_expired {
-	uint64_t deadline;   /* the tick at which it expired */
+	uint64_t deadline;   /* the tick at which it expired; of timers_look, at which it expires */
 	uint64_t serial;     /* that of its handle */
 	uint64_t action;     /* the action that its start or restart was given */
 };
@@ -125,16 +152,31 @@ void timers_free(struct timers *t);
  * TIMERS_NOT_OPEN, TIMERS_ZERO_INTERVAL, TIMERS_TOO_LATE, TIMERS_SERIALS_SPENT, TIMERS_NO_MEMORY. */
 enum timers_status timers_start(struct timers *t, uint64_t interval, uint64_t action, struct timer_handle *handle);
 
-/* Stops the pending timer with this handle and starts another in its place, as timers_start. On failure
- * the old one stays pending. Writes `*restarted`, the new handle, at TIMERS_OK: `handle` is dead then. Does
+/* Starts a timer that expires at the tick `deadline`, which is after the present one, as timers_start. Returns
+ * TIMERS_ZERO_INTERVAL for a tick that is not. The other statuses are those of timers_start. */
+enum timers_status timers_start_at(struct timers *t, uint64_t deadline, uint64_t action, struct timer_handle *handle);
+
+/* Stops the timer with this handle, as timers_stop, and starts another in its place, as timers_start. On failure
+ * the old one stays as it is. Writes `*restarted`, the new handle, at TIMERS_OK: `handle` is dead then. Does
  * not allocate.
  * TIMERS_NOT_OPEN, TIMERS_NOT_PENDING, TIMERS_ZERO_INTERVAL, TIMERS_TOO_LATE, TIMERS_SERIALS_SPENT. */
 enum timers_status timers_restart(struct timers *t, struct timer_handle handle, uint64_t interval, uint64_t action,
                                   struct timer_handle *restarted);
 
-/* Stops the pending timer with this handle. Writes `*action`, its action, at TIMERS_OK.
+/* Stops the timer with this handle and starts one that expires at the tick `deadline`: timers_restart, with a
+ * tick as timers_start_at. The statuses are those of timers_restart. */
+enum timers_status timers_restart_at(struct timers *t, struct timer_handle handle, uint64_t deadline, uint64_t action,
+                                     struct timer_handle *restarted);
+
+/* Stops the timer with this handle, which is pending, or has expired and was not yet taken: it is not handed out
+ * any more. Writes `*action`, its action, at TIMERS_OK.
  * TIMERS_NOT_OPEN, TIMERS_NOT_PENDING. */
 enum timers_status timers_stop(struct timers *t, struct timer_handle handle, uint64_t *action);
+
+/* Writes `*out`, the timer with this handle, at TIMERS_OK. It is pending where its deadline is after timers_now,
+ * by as many ticks as it has left; where that is timers_now, it has expired and was not yet taken.
+ * TIMERS_NOT_OPEN, TIMERS_NOT_PENDING. */
+enum timers_status timers_look(const struct timers *t, struct timer_handle handle, struct timer_expired *out);
 
 /* Advances the clock by one tick. The timers with that deadline expire, and wait for timers_expire.
  * TIMERS_NOT_OPEN, TIMERS_DUE, TIMERS_CLOCK_END. */
@@ -155,20 +197,20 @@ bool timers_expire(struct timers *t, struct timer_expired *out);
 size_t timers_expire_batch(struct timers *t, struct timer_expired *out, size_t room);
 
 /* Whether an expired timer was not yet taken. false where it holds none. */
-bool timers_has_due(struct timers *t);
+bool timers_has_due(const struct timers *t);
 
 /* The present tick. 0 where it holds none. */
-uint64_t timers_now(struct timers *t);
+uint64_t timers_now(const struct timers *t);
 
 /* How many timers are pending. Expired timers are not counted. 0 where it holds none. While expired timers
  * wait, it takes time for each of them: timers_has_due says in constant time whether any wait. */
-size_t timers_len(struct timers *t);
+size_t timers_len(const struct timers *t);
 
 /* The tick until which the caller may sleep: the present one where an expired timer waits to be taken,
  * TIMERS_NEVER where nothing is pending (or it holds none), and otherwise a tick after the present one, at
  * most the first deadline, before which nothing expires. Call it again once the clock is there: it may be
  * before the first deadline, as the wheels don't search for that. */
-uint64_t timers_wakeup(struct timers *t);
+uint64_t timers_wakeup(const struct timers *t);
 
 /* The text of a status, for messages. */
 static inline const char *timers_message(enum timers_status status)
@@ -180,8 +222,8 @@ static inline const char *timers_message(enum timers_status status)
 	case TIMERS_NO_TABLE: return "no such table";
 	case TIMERS_NO_MEMORY: return "out of memory";
 	case TIMERS_DUE: return "an expired timer was not yet taken";
-	case TIMERS_NOT_PENDING: return "no pending timer has this handle";
-	case TIMERS_ZERO_INTERVAL: return "the interval is 0";
+	case TIMERS_NOT_PENDING: return "no timer has this handle";
+	case TIMERS_ZERO_INTERVAL: return "nothing is left of the interval";
 	case TIMERS_TOO_LATE: return "after the last tick";
 	case TIMERS_SERIALS_SPENT: return "every serial was used";
 	case TIMERS_CLOCK_END: return "the clock is at its last tick";

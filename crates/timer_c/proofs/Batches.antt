@@ -2,6 +2,7 @@
 use Rattle.std.proofs.Common.{ℕ, zero, suc, ◌≡◌, ◌+◌, ◌<◌, ◌≤◌, List, [], ◌∷◌, ◌++◌, length, refl, ap, ◌∙◌, sym, subst, arith, add-one}
 use Rattle.std.specs.Prelude.{Option, Some, None, map, take, drop, slice_get, slice_set}
 use Rattle.timer_base.specs.declared.timer.Timer.{Timer}
+use Rattle.timer_base.specs.Pending.{Entry, timers_of}
 use Rattle.timer_base.specs.WheelState.{WheelState, first_due, after_expiry}
 use Rattle.timer_c.specs.declared.shapes.Expired.{Expired}
 use Rattle.timer_c.specs.Outcomes.{tell, after_expiries}
@@ -9,7 +10,7 @@ use Rattle.timer_c.specs.Outcomes.{tell, after_expiries}
 -- this many were taken, and are written over the front of the array
 pub record IsTaken (count : ℕ) (out : List Expired) (old : WheelState) (out' : List Expired) (new : WheelState) : Type 0 where
   pub some : count ≤ length old.due
-  pub told : out' ≡ map tell (take count old.due) ++ drop count out
+  pub told : out' ≡ map tell (take count (timers_of old.due)) ++ drop count out
   pub rest : new ≡ after_expiries count old
 
 abbrev no_timer : Option Timer
@@ -22,26 +23,26 @@ same : (x t : Timer) → Some x ≡ Some t → x ≡ t
 same x t e = cc
 
 -- the next one that is due is written after those before it
-next : (n : ℕ) (due : List Timer) (out : List Expired) (t : Timer) → slice_get (drop n due) 0 ≡ Some t → n < length out
-    → slice_set (map tell (take n due) ++ drop n out) n (tell t) ≡ map tell (take (suc n) due) ++ drop (suc n) out
+next : (n : ℕ) (due : List Entry) (out : List Expired) (t : Timer) → slice_get (timers_of (drop n due)) 0 ≡ Some t → n < length out
+    → slice_set (map tell (take n (timers_of due)) ++ drop n out) n (tell t) ≡ map tell (take (suc n) (timers_of due)) ++ drop (suc n) out
 next zero [] out t e h = absurd (none_some t e)
 next (suc n) [] out t e h = absurd (none_some t e)
 next n (x ∷ due) [] t e h = absurd (omega arith)
-next zero (x ∷ due) (y ∷ out) t e h = ap (λ (u : Timer). tell u ∷ out) (sym (same x t e))
-next (suc n) (x ∷ due) (y ∷ out) t e h = ap (λ (r : List Expired). tell x ∷ r) (next n due out t e (omega arith))
+next zero (x ∷ due) (y ∷ out) t e h = ap (λ (u : Timer). tell u ∷ out) (sym (same x.timer t e))
+next (suc n) (x ∷ due) (y ∷ out) t e h = ap (λ (r : List Expired). tell x.timer ∷ r) (next n due out t e (omega arith))
 
-drop_next : (n : ℕ) (due : List Timer) → drop 1 (drop n due) ≡ drop (suc n) due
+drop_next : (n : ℕ) (due : List Entry) → drop 1 (drop n due) ≡ drop (suc n) due
 drop_next zero due = refl
 drop_next (suc n) [] = refl
 drop_next (suc n) (x ∷ due) = drop_next n due
 
-is_there : (n : ℕ) (due : List Timer) (t : Timer) → slice_get (drop n due) 0 ≡ Some t → n < length due
+is_there : (n : ℕ) (due : List Entry) (t : Timer) → slice_get (timers_of (drop n due)) 0 ≡ Some t → n < length due
 is_there zero [] t e = absurd (none_some t e)
 is_there (suc n) [] t e = absurd (none_some t e)
 is_there zero (x ∷ due) t e = omega arith
 is_there (suc n) (x ∷ due) t e = let h : n < length due = is_there n due t e in omega arith
 
-with_due : (w : WheelState) (xs ys : List Timer) → xs ≡ ys → (let a : WheelState = record w { due = xs } in let b : WheelState = record w { due = ys } in a ≡ b)
+with_due : (w : WheelState) (xs ys : List Entry) → xs ≡ ys → (let a : WheelState = record w { due = xs } in let b : WheelState = record w { due = ys } in a ≡ b)
 with_due w xs ys e = cc
 
 pub taken_none : (out : List Expired) (w : WheelState) → IsTaken 0 out w out w
@@ -51,14 +52,14 @@ taken_none out w = record { some = omega arith; told = refl; rest = refl }
 pub taken_next : (n : ℕ) (out out' : List Expired) (old here new : WheelState) (t : Timer) → IsTaken n out old out' here → first_due here ≡ Some t → n < length out
     → new ≡ after_expiry here → IsTaken (n + 1) out old (slice_set out' n (tell t)) new
 taken_next n out out' old here new t taken first room e =
-    let at : slice_get (drop n old.due) 0 ≡ Some t = sym (ap (λ (w : WheelState). slice_get w.due 0) taken.rest) ∙ first in
+    let at : slice_get (timers_of (drop n old.due)) 0 ≡ Some t = sym (ap (λ (w : WheelState). slice_get (timers_of w.due) 0) taken.rest) ∙ first in
     let below : n < length old.due = is_there n old.due t at in
-    let written : slice_set out' n (tell t) ≡ map tell (take (suc n) old.due) ++ drop (suc n) out =
+    let written : slice_set out' n (tell t) ≡ map tell (take (suc n) (timers_of old.due)) ++ drop (suc n) out =
     ap (λ (o : List Expired). slice_set o n (tell t)) taken.told ∙ next n old.due out t at room in
     let left : new ≡ after_expiries (suc n) old = e ∙ ap after_expiry taken.rest ∙ with_due old (drop 1 (drop n old.due)) (drop (suc n) old.due) (drop_next n old.due) in
     let one : suc n ≡ n + 1 = sym (add-one n) in
     record {
       some = omega arith;
-      told = written ∙ ap (λ (k : ℕ). map tell (take k old.due) ++ drop k out) one;
+      told = written ∙ ap (λ (k : ℕ). map tell (take k (timers_of old.due)) ++ drop k out) one;
       rest = left ∙ ap (λ (k : ℕ). after_expiries k old) one;
     }

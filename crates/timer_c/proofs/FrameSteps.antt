@@ -2,6 +2,7 @@
 use Rattle.std.proofs.Common.{◌≡◌, List, [], ◌∷◌, refl, ap, ◌∙◌}
 use Rattle.std.specs.Prelude.{Option, Some, None}
 use Rattle.timer_base.specs.declared.timer.Timer.{Timer}
+use Rattle.timer_base.specs.Pending.{Entry}
 use Rattle.timer_base.specs.WheelState.{WheelState, first_due, after_expiry}
 use Rattle.timer_c.specs.declared.held.Held.{Held}
 use Rattle.timer_c.specs.declared.slot.Slot.{Slot}
@@ -19,12 +20,12 @@ looked t slot e = ap (λ (s : Slot). holding t (with_state s slot.state)) e
 pub kept : (t : Held) (slot : Slot) (state : WheelState) → slot ≡ t.slot → state ≡ slot.state → holding t (with_state slot state) ≡ t
 kept t slot state e f = ap (λ (w : WheelState). holding t (with_state slot w)) f ∙ ap (holding t) e
 
-none_of : (t : Timer) (due : List Timer) → (Some t ≡ None) → ⊥
-none_of t due e = cc
+none_of : (t : Timer) → (Some t ≡ None) → ⊥
+none_of t e = cc
 
-nothing_left : (w : WheelState) (due : List Timer) → first_due (record w { due = due }) ≡ None → (let a : WheelState = after_expiry (record w { due = due }) in let b : WheelState = record w { due = due } in a ≡ b)
+nothing_left : (w : WheelState) (due : List Entry) → first_due (record w { due = due }) ≡ None → (let a : WheelState = after_expiry (record w { due = due }) in let b : WheelState = record w { due = due } in a ≡ b)
 nothing_left w [] e = refl
-nothing_left w (t ∷ due) e = absurd (none_of t due e)
+nothing_left w (t ∷ due) e = absurd (none_of t.timer e)
 
 -- where no timer is due, nothing changes
 pub none_taken : (w : WheelState) → first_due w ≡ None → after_expiry w ≡ w

@@ -4,9 +4,9 @@ use Rattle.timer_base.specs.declared.limits.TheConstants.{LAST}
 use Rattle.timer_base.specs.declared.timer.Timer.{Timer}
 use Rattle.timer_base.specs.declared.timer.Handle as base
 use Rattle.timer_base.specs.WakeUps.{IsWakeUp}
-use Rattle.timer_base.specs.WheelState.{WheelState, empty_wheel, timer_at, after_start, after_stop, after_tick}
+use Rattle.timer_base.specs.WheelState.{WheelState, empty_wheel, after_start, after_tick}
 use Rattle.timer_wheels.specs.declared.table.TheConstants.{LAST_OF_CLOCK}
-use Rattle.timer_total.specs.Refusals.{next_timer, IsStartable, IsAt}
+use Rattle.timer_total.specs.Refusals.{next_timer, timer_due, left_until, held_at, after_removal, IsStartable, IsAt}
 use Rattle.timer_total.specs.Ticks.{Passes, numbered}
 use Rattle.timer_c.specs.declared.shapes.Handle.{Handle}
 use Rattle.timer_c.specs.declared.shapes.Expired.{Expired}
@@ -45,15 +45,26 @@ WhyNotStarted interval old status =
 abbrev pub named : Handle → base.Handle
 named handle = record { place = handle.place; serial = handle.serial }
 
+-- a start for this tick was done
+abbrev pub IsStartedAt : ℕ → ℕ → WheelState → WheelState → Handle → Type 0
+IsStartedAt deadline action old new handle =
+    IsStartable (left_until deadline old) old × (handle.serial ≡ old.last_serial + 1) × (new ≡ after_start handle.place (timer_due deadline action old) old)
+
 -- a restart was done: the old timer is removed, and the new one started under the next serial
 abbrev pub IsRestarted : Handle → ℕ → ℕ → WheelState → WheelState → Handle → Type 0
 IsRestarted handle interval action old new restarted =
     IsAt (named handle) old × IsStartable interval old × (restarted.serial ≡ old.last_serial + 1)
-    × (new ≡ after_start restarted.place (next_timer interval action old) (after_stop (named handle) old))
+    × (new ≡ after_start restarted.place (next_timer interval action old) (after_removal (named handle) old))
+
+-- a restart for this tick was done
+abbrev pub IsRestartedAt : Handle → ℕ → ℕ → WheelState → WheelState → Handle → Type 0
+IsRestartedAt handle deadline action old new restarted =
+    IsAt (named handle) old × IsStartable (left_until deadline old) old × (restarted.serial ≡ old.last_serial + 1)
+    × (new ≡ after_start restarted.place (timer_due deadline action old) (after_removal (named handle) old))
 
 abbrev pub WhyNotRestarted : Handle → ℕ → WheelState → ℕ → Type 0
 WhyNotRestarted handle interval old status =
-    ((status ≡ NOT_PENDING) × (timer_at (named handle) old ≡ None))
+    ((status ≡ NOT_PENDING) × (held_at (named handle) old ≡ None))
     ⊎ ((status ≡ ZERO_INTERVAL) × IsAt (named handle) old × (interval ≡ 0))
     ⊎ ((status ≡ TOO_LATE) × IsAt (named handle) old × (0 < interval) × (old.last_tick < old.now + interval))
     ⊎ ((status ≡ SERIALS_SPENT) × IsAt (named handle) old × (0 < interval) × (old.now + interval ≤ old.last_tick) × (LAST ≤ old.last_serial))
@@ -66,11 +77,11 @@ action_of (Some t) = Some t.action
 -- a stop was done
 abbrev pub IsStopped : Handle → WheelState → WheelState → ℕ → Type 0
 IsStopped handle old new action =
-    (new ≡ after_stop (named handle) old) × (action_of (timer_at (named handle) old) ≡ Some action)
+    (new ≡ after_removal (named handle) old) × (action_of (held_at (named handle) old) ≡ Some action)
 
 abbrev pub WhyNotStopped : Handle → WheelState → ℕ → Type 0
 WhyNotStopped handle old status =
-    (status ≡ NOT_PENDING) × (timer_at (named handle) old ≡ None)
+    (status ≡ NOT_PENDING) × (held_at (named handle) old ≡ None)
 
 -- a tick was done
 abbrev pub IsTicked : WheelState → WheelState → Type 0
@@ -80,11 +91,11 @@ IsTicked old new = (old.due ≡ []) × (new ≡ after_tick old)
 abbrev pub IsAdvanced : ℕ → ℕ → WheelState → WheelState → Type 0
 IsAdvanced most passed old new = (old.due ≡ []) × Passes most passed old new
 
--- why the clock does not advance
+-- why the clock does not advance; at its end nothing is left, neither due nor pending
 abbrev pub WhyNotTicked : WheelState → ℕ → Type 0
 WhyNotTicked old status =
     ((status ≡ DUE) × (0 < length old.due))
-    ⊎ ((status ≡ CLOCK_END) × (old.due ≡ []) × (old.now ≡ old.last_tick))
+    ⊎ ((status ≡ CLOCK_END) × (old.due ≡ []) × (old.now ≡ old.last_tick) × (old.pending ≡ []))
 
 -- a timer as C's struct
 abbrev pub tell : Timer → Expired
@@ -93,6 +104,10 @@ tell t = record { deadline = t.deadline; serial = t.serial; action = t.action }
 abbrev pub told : Option Timer → Option Expired
 told None = None
 told (Some t) = Some (tell t)
+
+-- the timer with this handle, pending or expired and not yet taken
+abbrev pub IsSeen : Handle → WheelState → Expired → Type 0
+IsSeen handle w out = told (held_at (named handle) w) ≡ Some out
 
 -- this many of the due timers were taken
 abbrev pub after_expiries : ℕ → WheelState → WheelState

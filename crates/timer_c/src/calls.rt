@@ -1,7 +1,9 @@
 //! The calls on timers that are held, over any wheel, with C's statuses and structs.
 ghost use Rattle.std.specs.Prelude.{◌≡◌, ◌<◌, ◌++◌, ◌↔◌, true, false, Some, None, [], map, take, drop, length, min};
+ghost use Rattle.timer_base.specs.Pending.{timers_of};
 ghost use Rattle.timer_base.specs.WheelState.{first_due, after_tick, after_expiry};
-ghost use Rattle.timer_c.specs.Outcomes.{IsStarted, WhyNotStarted, IsRestarted, WhyNotRestarted, IsStopped, WhyNotStopped, IsTicked, IsAdvanced, WhyNotTicked, IsNextCall, told, tell, after_expiries};
+ghost use Rattle.timer_c.specs.Outcomes.{IsStarted, IsStartedAt, WhyNotStarted, IsRestarted, IsRestartedAt, WhyNotRestarted, IsSeen, IsStopped, WhyNotStopped, IsTicked, IsAdvanced, WhyNotTicked, IsNextCall, told, tell, after_expiries};
+ghost use Rattle.timer_total.specs.Refusals.{left_until};
 ghost use Rattle.timer_c.specs.declared.status.TheConstants.{OK};
 
 use crate::shapes::{Expired, Handle};
@@ -33,6 +35,20 @@ pub(crate) fn start<W: Wheel + Drop>(
     }
 }
 
+pub(crate) fn start_at<W: Wheel + Drop>(
+    timers: &mut Timers<W>,
+    deadline: u64,
+    action: u64,
+    handle: &mut Handle,
+) -> u32
+    ensures started { result ≡ OK → IsStartedAt deadline action timers.old timers.new handle.new }
+    ensures refused { 0 < result → WhyNotStarted (left_until deadline timers.old) timers.old result }
+    ensures kept { 0 < result → (timers.new ≡ timers.old) × (handle.new ≡ handle.old) }
+{
+    let interval = timers.until(deadline);
+    start(timers, interval, action, handle)
+}
+
 pub(crate) fn restart<W: Wheel + Drop>(
     timers: &mut Timers<W>,
     handle: Handle,
@@ -53,6 +69,36 @@ pub(crate) fn restart<W: Wheel + Drop>(
         Err(RestartFault::ZeroInterval) => ZERO_INTERVAL,
         Err(RestartFault::TooLate) => TOO_LATE,
         Err(RestartFault::SerialsSpent) => SERIALS_SPENT,
+    }
+}
+
+pub(crate) fn restart_at<W: Wheel + Drop>(
+    timers: &mut Timers<W>,
+    handle: Handle,
+    deadline: u64,
+    action: u64,
+    restarted: &mut Handle,
+) -> u32
+    ensures restarted { result ≡ OK → IsRestartedAt handle deadline action timers.old timers.new restarted.new }
+    ensures refused { 0 < result → WhyNotRestarted handle (left_until deadline timers.old) timers.old result }
+    ensures kept { 0 < result → (timers.new ≡ timers.old) × (restarted.new ≡ restarted.old) }
+{
+    let interval = timers.until(deadline);
+    restart(timers, handle, interval, action, restarted)
+}
+
+/// Writes the timer with this handle, pending or expired and not yet taken.
+pub(crate) fn look<W: Wheel + Drop>(timers: &Timers<W>, handle: Handle, out: &mut Expired) -> u32
+    ensures seen { result ≡ OK → IsSeen handle timers.now out.new }
+    ensures refused { 0 < result → WhyNotStopped handle timers.now result }
+    ensures kept { 0 < result → out.new ≡ out.old }
+{
+    match timers.look(named(handle)) {
+        Some(timer) => {
+            *out = expired(timer);
+            OK
+        }
+        None => NOT_PENDING,
     }
 }
 
@@ -114,7 +160,7 @@ pub(crate) fn expire<W: Wheel + Drop>(timers: &mut Timers<W>, out: &mut Expired)
 /// Takes as many expired timers as there are, or as fit into `out`.
 pub(crate) fn expire_batch<W: Wheel + Drop>(timers: &mut Timers<W>, out: &mut [Expired]) -> usize
     ensures count { result ≡ min (length out.old) (length timers.old.due) }
-    ensures told { out.new ≡ map tell (take result timers.old.due) ++ drop result out.old }
+    ensures told { out.new ≡ map tell (take result (timers_of timers.old.due)) ++ drop result out.old }
     ensures rest { timers.new ≡ after_expiries result timers.old }
 {
     let room = out.len();

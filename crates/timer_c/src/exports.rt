@@ -4,10 +4,12 @@
 //! where it returns another status; that nothing changed then; and that nothing but the state of the timers
 //! ever changes in what C holds.
 ghost use Rattle.std.specs.Prelude.{◌≡◌, ◌<◌, ◌≤◌, ◌⊎◌, ◌↔◌, ◌++◌, true, false, Some, None, [], map, take, drop, length, min, IsTrue};
+ghost use Rattle.timer_base.specs.Pending.{timers_of};
 ghost use Rattle.timer_base.specs.WheelState.{first_due, after_expiry};
 ghost use Rattle.timer_c.specs.Frames.{IsOpen, IsShut, with_timers};
-ghost use Rattle.timer_c.specs.Outcomes.{IsEmptyAt, IsOpenable, WhyNoWheel, IsStarted, WhyNotStarted, IsRestarted, WhyNotRestarted, IsStopped, WhyNotStopped, IsTicked, IsAdvanced, WhyNotTicked, IsNextCall, told, tell, after_expiries};
+ghost use Rattle.timer_c.specs.Outcomes.{IsEmptyAt, IsOpenable, WhyNoWheel, IsStarted, IsStartedAt, WhyNotStarted, IsRestarted, IsRestartedAt, WhyNotRestarted, IsSeen, IsStopped, WhyNotStopped, IsTicked, IsAdvanced, WhyNotTicked, IsNextCall, told, tell, after_expiries};
 ghost use Rattle.timer_c.specs.declared.status.TheConstants.{OK, NOT_OPEN, OPEN, NEVER};
+ghost use Rattle.timer_total.specs.Refusals.{left_until};
 
 use crate::calls;
 use crate::held::Held;
@@ -70,7 +72,23 @@ pub extern "C" fn timers_start(t: &mut Held, interval: u64, action: u64, handle:
     calls::start(t.slot.timers(), interval, action, handle)
 }
 
-/// Stops the pending timer with exactly this handle and starts another in its place, and writes its handle.
+/// Starts a timer that expires at this tick, and writes its handle.
+#[unsafe(no_mangle)]
+pub extern "C" fn timers_start_at(t: &mut Held, deadline: u64, action: u64, handle: &mut Handle) -> u32
+    ensures started { result ≡ OK → IsOpen t.old × IsStartedAt deadline action t.old.slot.state t.new.slot.state handle.new }
+    ensures refused { 0 < result → ((result ≡ NOT_OPEN) × IsShut t.old)
+        ⊎ (IsOpen t.old × WhyNotStarted (left_until deadline t.old.slot.state) t.old.slot.state result) }
+    ensures kept { 0 < result → (t.new ≡ t.old) × (handle.new ≡ handle.old) }
+    ensures only { t.new ≡ with_timers t.old t.new.slot.state }
+{
+    if !t.slot.holds() {
+        return NOT_OPEN;
+    }
+    calls::start_at(t.slot.timers(), deadline, action, handle)
+}
+
+/// Stops the timer with exactly this handle, pending or expired and not yet taken, and starts another in its
+/// place, and writes its handle.
 #[unsafe(no_mangle)]
 pub extern "C" fn timers_restart(
     t: &mut Held,
@@ -91,7 +109,42 @@ pub extern "C" fn timers_restart(
     calls::restart(t.slot.timers(), handle, interval, action, restarted)
 }
 
-/// Stops the pending timer with exactly this handle, and writes its action.
+/// Stops the timer with exactly this handle as `timers_restart`, and starts one that expires at this tick.
+#[unsafe(no_mangle)]
+pub extern "C" fn timers_restart_at(
+    t: &mut Held,
+    handle: Handle,
+    deadline: u64,
+    action: u64,
+    restarted: &mut Handle,
+) -> u32
+    ensures restarted { result ≡ OK → IsOpen t.old × IsRestartedAt handle deadline action t.old.slot.state t.new.slot.state restarted.new }
+    ensures refused { 0 < result → ((result ≡ NOT_OPEN) × IsShut t.old)
+        ⊎ (IsOpen t.old × WhyNotRestarted handle (left_until deadline t.old.slot.state) t.old.slot.state result) }
+    ensures kept { 0 < result → (t.new ≡ t.old) × (restarted.new ≡ restarted.old) }
+    ensures only { t.new ≡ with_timers t.old t.new.slot.state }
+{
+    if !t.slot.holds() {
+        return NOT_OPEN;
+    }
+    calls::restart_at(t.slot.timers(), handle, deadline, action, restarted)
+}
+
+/// Writes the timer with exactly this handle, pending or expired and not yet taken, and changes nothing.
+#[unsafe(no_mangle)]
+pub extern "C" fn timers_look(t: &mut Held, handle: Handle, out: &mut Expired) -> u32
+    ensures seen { result ≡ OK → IsOpen t.old × IsSeen handle t.old.slot.state out.new }
+    ensures refused { 0 < result → ((result ≡ NOT_OPEN) × IsShut t.old) ⊎ (IsOpen t.old × WhyNotStopped handle t.old.slot.state result) }
+    ensures kept { 0 < result → out.new ≡ out.old }
+    ensures same { t.new ≡ t.old }
+{
+    if !t.slot.holds() {
+        return NOT_OPEN;
+    }
+    calls::look(t.slot.timers(), handle, out)
+}
+
+/// Stops the timer with exactly this handle, pending or expired and not yet taken, and writes its action.
 #[unsafe(no_mangle)]
 pub extern "C" fn timers_stop(t: &mut Held, handle: Handle, action: &mut u64) -> u32
     ensures stopped { result ≡ OK → IsOpen t.old × IsStopped handle t.old.slot.state t.new.slot.state action.new }
@@ -153,7 +206,7 @@ pub extern "C" fn timers_expire(t: &mut Held, out: &mut Expired) -> bool
 #[unsafe(no_mangle)]
 pub extern "C" fn timers_expire_batch(t: &mut Held, out: &mut [Expired]) -> usize
     ensures count { IsOpen t.old → result ≡ min (length out.old) (length t.old.slot.state.due) }
-    ensures told { IsOpen t.old → out.new ≡ map tell (take result t.old.slot.state.due) ++ drop result out.old }
+    ensures told { IsOpen t.old → out.new ≡ map tell (take result (timers_of t.old.slot.state.due)) ++ drop result out.old }
     ensures rest { IsOpen t.old → t.new.slot.state ≡ after_expiries result t.old.slot.state }
     ensures not_open { IsShut t.old → (result ≡ 0) × (t.new ≡ t.old) × (out.new ≡ out.old) }
     ensures only { t.new ≡ with_timers t.old t.new.slot.state }

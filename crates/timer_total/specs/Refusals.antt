@@ -63,8 +63,8 @@ WhyNotRestarted handle interval w fault =
     ⊎ ((fault ≡ restart.TooLate) × IsAt handle w × (0 < interval) × (w.last_tick < w.now + interval))
     ⊎ ((fault ≡ restart.SerialsSpent) × IsAt handle w × (0 < interval) × (w.now + interval ≤ w.last_tick) × (LAST ≤ w.last_serial))
 
--- why the clock does not advance
+-- why the clock does not advance; at its end nothing is left, neither due nor pending
 abbrev pub WhyNotTicked : WheelState → TickFault → Type 0
 WhyNotTicked w fault =
     ((fault ≡ tick.Due) × (0 < length w.due))
-    ⊎ ((fault ≡ tick.ClockEnd) × (w.due ≡ []) × (w.now ≡ w.last_tick))
+    ⊎ ((fault ≡ tick.ClockEnd) × (w.due ≡ []) × (w.now ≡ w.last_tick) × (w.pending ≡ []))

@@ -1,9 +1,11 @@
 -- Several ticks at once, where the last serial is counted beside the wheel.
-use Rattle.std.proofs.Common.{ℕ, zero, suc, ◌≡◌, ◌+◌, ◌-◌, ◌<◌, ◌≤◌, ◌⊎◌, inl, inr, [], length, refl, ap, ◌∙◌, sym, subst, arith}
+use Rattle.std.proofs.Common.{ℕ, zero, suc, ◌≡◌, ◌+◌, ◌-◌, ◌<◌, ◌≤◌, ◌⊎◌, inl, inr, List, [], ◌∷◌, length, refl, ap, ◌∙◌, sym, subst, arith}
 use Rattle.std.specs.Prelude.{min}
+use Rattle.std.specs.List.{AllByRecursion}
 use Rattle.std.proofs.lemmas.Bool.{cases_lt}
+use Rattle.timer_base.specs.Pending.{Entry, timers_of}
 use Rattle.timer_base.specs.TickLaws.{after_ticks-now, after_ticks-last, after_ticks-serial}
-use Rattle.timer_base.specs.WheelState.{WheelState, after_tick, after_ticks, Advances}
+use Rattle.timer_base.specs.WheelState.{WheelState, IsPending, IsWellFormed, after_tick, after_ticks, Advances}
 
 -- the same wheel, with another last serial
 abbrev pub numbered : ℕ → WheelState → WheelState
@@ -69,3 +71,12 @@ still_counted asked passed serial old new a h =
 -- nothing is due
 pub none_due : (serial : ℕ) (w v : WheelState) → numbered serial w ≡ v → w.due ≡ [] → v.due ≡ []
 none_due serial w v e d = sym (ap (λ (u : WheelState). u.due) e) ∙ d
+
+-- at the last tick nothing is pending
+
+none_later : (last_tick now last_serial : ℕ) (entries : List Entry) → AllByRecursion (IsPending last_tick now last_serial) (timers_of entries) → now ≡ last_tick → entries ≡ []
+none_later last_tick now last_serial [] a e = refl
+none_later last_tick now last_serial (x ∷ xs) a e = absurd (let l : now < x.timer.deadline = a.0.later in let r : x.timer.deadline ≤ last_tick = a.0.in_range in omega arith)
+
+pub none_pending : (serial : ℕ) (w v : WheelState) → numbered serial w ≡ v → IsWellFormed w → w.now ≡ w.last_tick → v.pending ≡ []
+none_pending serial w v e f h = sym (ap (λ (u : WheelState). u.pending) e) ∙ none_later w.last_tick w.now w.last_serial w.pending f.each h

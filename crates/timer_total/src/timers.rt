@@ -141,7 +141,7 @@ impl<W: Wheel + Drop> Timers<W> {
     }
 
     /// How many ticks are left until this one, 0 where it is not after the present one.
-    fn until(&self, deadline: u64) -> u64
+    pub fn until(&self, deadline: u64) -> u64
         ensures { result ≡ left_until deadline self.now }
     {
         deadline.saturating_sub(self.wheel.now())

@@ -2,6 +2,7 @@ use Rattle.std.proofs.Common.{◌≡◌, ◌-◌, ◌<◌, [], arith}
 use Rattle.std.specs.Prelude.{min}
 use Rattle.timer_base.specs.TickLaws.{not_due}
 use Rattle.timer_total.specs.Ticks.{advanced, still_counted, none_due}
+use Rattle.timer_total.proofs.ClockEnds.{at_end}
 use Rattle.timer_total.proofs.timers.Timers.advance.Goals as goal
 
 pub invariant_of-self : goal.invariant_of-self
@@ -25,3 +26,14 @@ returns-clause-passed g c =
       none_due serial w c.args.self.now c.self.view_is none,
       advanced c.args.most c.min.result c.advance.result serial w w' c.args.self.now c.self.view_is asked some in_range c.advance.ensures,
     )
+
+pub returns-then-left-eq0-clause-fault : goal.returns-then-left-eq0-clause-fault
+returns-then-left-eq0-clause-fault g c =
+    let w = g.W.Wheel.state c.self.inside.wheel in
+    let f = g.met.W.Wheel.well_formed c.self.inside.wheel in
+    let in_range = f.now_in_range in
+    let left = c.if-left-eq0.true in
+    let told_last = c.last_tick.ensures in
+    let told_now = c.now.ensures in
+    let ends : w.now ≡ w.last_tick = omega arith in
+    at_end c.self.inside.last_serial w c.args.self.now c.self.view_is f (not_due w.due c.has_due.result c.has_due.ensures c.if-has_due.false) ends
