@@ -63,6 +63,7 @@ static void insert(struct entry e)
 
 static void take_out(size_t i)
 {
+	due -= i < due;
 	memmove(list + i, list + i + 1, (count - i - 1) * sizeof *list);
 	count--;
 }
@@ -97,11 +98,11 @@ static uint64_t random_interval(void)
 	}
 }
 
-/* A handle, mostly of a pending timer; its index in the list, or `count` where it names none. */
+/* A handle, mostly of a timer that is pending or due; its index in the list, or `count` where it names none. */
 static size_t random_handle(struct timer_handle *handle)
 {
-	if (count > due && below(4)) {
-		size_t at = due + below(count - due);
+	if (count > 0 && below(4)) {
+		size_t at = due > 0 && below(2) ? below(due) : below(count);
 		*handle = (struct timer_handle){ list[at].place, list[at].serial };
 		if (below(8))
 			return at;
@@ -112,13 +113,13 @@ static size_t random_handle(struct timer_handle *handle)
 	} else {
 		*handle = (struct timer_handle){ (size_t)next_random(), below(last_serial + 2) };
 	}
-	for (size_t i = due; i < count; i++)
+	for (size_t i = 0; i < count; i++)
 		if (list[i].place == handle->place && list[i].serial == handle->serial)
 			return i;
 	return count;
 }
 
-static uint64_t statuses[11], starts, restarts, stops, expiries, ticks, refused_while_due, most_pending;
+static uint64_t statuses[11], starts, restarts, stops, revivals, withdrawals, expiries, ticks, refused_while_due, most_pending;
 
 static void seen(enum timers_status status)
 {
@@ -135,7 +136,10 @@ static void do_start(struct timers *t)
 {
 	uint64_t interval = random_interval(), action = next_random();
 	struct timer_handle handle = { 11, 12 };
-	enum timers_status wanted = wanted_for(interval), status = WITH_REFUSALS(timers_start(t, interval, action, &handle));
+	bool at_tick = below(2) && interval <= UINT64_MAX - now;
+	enum timers_status wanted = wanted_for(interval);
+	enum timers_status status = at_tick ? WITH_REFUSALS(timers_start_at(t, now + interval, action, &handle))
+	                                    : WITH_REFUSALS(timers_start(t, interval, action, &handle));
 	if (wanted == TIMERS_OK && refused > refused_before)
 		wanted = TIMERS_NO_MEMORY;
 	WANT("start", status, wanted);
@@ -156,11 +160,14 @@ static void do_restart(struct timers *t)
 	struct timer_handle handle, restarted = { 11, 12 };
 	size_t at = random_handle(&handle);
 	enum timers_status wanted = at == count ? TIMERS_NOT_PENDING : wanted_for(interval);
-	enum timers_status status = WITH_REFUSALS(timers_restart(t, handle, interval, action, &restarted));
+	bool at_tick = below(2) && interval <= UINT64_MAX - now;
+	enum timers_status status = at_tick ? WITH_REFUSALS(timers_restart_at(t, handle, now + interval, action, &restarted))
+	                                    : WITH_REFUSALS(timers_restart(t, handle, interval, action, &restarted));
 	WANT("restart", status, wanted);
 	seen(status);
 	if (status == TIMERS_OK) {
 		WANT("serial of the restarted", restarted.serial, ++last_serial);
+		revivals += at < due;
 		take_out(at);
 		insert((struct entry){ now + interval, restarted.serial, action, restarted.place });
 		WANT("the old handle", timers_stop(t, handle, &action), TIMERS_NOT_PENDING);
@@ -180,10 +187,28 @@ static void do_stop(struct timers *t)
 	seen(status);
 	if (status == TIMERS_OK) {
 		WANT("action of the stopped", action, list[at].action);
+		withdrawals += at < due;
 		take_out(at);
 		stops++;
 	} else {
 		WANT("action kept", action, 13);
+	}
+}
+
+static void do_look(struct timers *t)
+{
+	struct timer_expired seen_now = { 31, 32, 33 };
+	struct timer_handle handle;
+	size_t at = random_handle(&handle);
+	enum timers_status status = timers_look(t, handle, &seen_now);
+	WANT("look", status, at == count ? TIMERS_NOT_PENDING : TIMERS_OK);
+	if (status == TIMERS_OK) {
+		WANT("deadline seen", seen_now.deadline, list[at].deadline);
+		WANT("serial seen", seen_now.serial, handle.serial);
+		WANT("action seen", seen_now.action, list[at].action);
+		WANT("due, as seen", seen_now.deadline == now, at < due);
+	} else {
+		WANT("out of the look kept", seen_now.deadline == 31 && seen_now.serial == 32 && seen_now.action == 33, 1);
 	}
 }
 
@@ -231,7 +256,6 @@ static void want_first(const struct timer_expired *e)
 	WANT("serial of the expired", e->serial, list[0].serial);
 	WANT("action of the expired", e->action, list[0].action);
 	take_out(0);
-	due--;
 	expiries++;
 }
 
@@ -279,6 +303,9 @@ static void want_closed(struct timers *t)
 	uint64_t word = 7;
 	WANT("start, not open", timers_start(t, 1, 1, &handle), TIMERS_NOT_OPEN);
 	WANT("restart, not open", timers_restart(t, handle, 1, 1, &handle), TIMERS_NOT_OPEN);
+	WANT("start at, not open", timers_start_at(t, 1, 1, &handle), TIMERS_NOT_OPEN);
+	WANT("restart at, not open", timers_restart_at(t, handle, 1, 1, &handle), TIMERS_NOT_OPEN);
+	WANT("look, not open", timers_look(t, handle, &e), TIMERS_NOT_OPEN);
 	WANT("stop, not open", timers_stop(t, handle, &word), TIMERS_NOT_OPEN);
 	WANT("tick, not open", timers_tick(t), TIMERS_NOT_OPEN);
 	WANT("advance, not open", timers_advance(t, 5, &word), TIMERS_NOT_OPEN);
@@ -349,7 +376,8 @@ int main(int argc, char **argv)
 		switch (below(20)) {
 		case 0: case 1: case 2: case 3: case 4: case 5: do_start(&t); break;
 		case 6: case 7: do_restart(&t); break;
-		case 8: case 9: do_stop(&t); break;
+		case 8: do_stop(&t); break;
+		case 9: below(2) ? do_stop(&t) : do_look(&t); break;
 		case 10: case 11: case 12: do_tick(&t); break;
 		case 13: do_advance(&t); break;
 		case 14: case 15: do_expire_batch(&t); break;
@@ -373,6 +401,11 @@ int main(int argc, char **argv)
 	for (size_t i = 0; i < sizeof statuses / sizeof *statuses; i++)
 		printf(" %" PRIu64, statuses[i]);
 	printf("\n");
+	printf("of these, restarts of expired timers %" PRIu64 ", stops of expired timers %" PRIu64 "\n", revivals, withdrawals);
+	if (revivals == 0 || withdrawals == 0) {
+		printf("no expired timer was restarted, or none was stopped\n");
+		return 1;
+	}
 	const char *never = missing();
 	if (never)
 		printf("this status never occurred: %s\n", never);

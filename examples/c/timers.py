@@ -18,7 +18,7 @@ WIDE, CLOCK = 0, 1
 NEVER = 2**64 - 1
 MESSAGES = [
     "done", "no timers are held", "timers are held already", "no such table", "out of memory",
-    "an expired timer was not yet taken", "no pending timer has this handle", "the interval is 0",
+    "an expired timer was not yet taken", "no timer has this handle", "nothing is left of the interval",
     "after the last tick", "every serial was used", "the clock is at its last tick",
 ]
 
