@@ -30,6 +30,10 @@ fn starts_restarts_stops_and_expires(rt: HostRuntime) -> Result<(), Fail> {
     assert!(rt; timers.restart(third, 0, 1) == Err(RestartFault::NotPending));
     assert!(rt; timers.restart(fourth, 0, 1) == Err(RestartFault::ZeroInterval));
     assert!(rt; timers.restart(fourth, LAST, 1) == Err(RestartFault::TooLate));
+    let fifth = timers.start_at(103, 66)?;
+    let sixth = timers.start(3, 77)?;
+    assert!(rt; timers.start_at(100, 1) == Err(StartFault::ZeroInterval));
+    assert!(rt; timers.start_at(LAST + 1, 1) == Err(StartFault::TooLate));
     assert!(rt; timers.quiet_until() == Some(103));
     timers.tick()?;
     assert!(rt; timers.advance(0)? == 0);
@@ -39,8 +43,16 @@ fn starts_restarts_stops_and_expires(rt: HostRuntime) -> Result<(), Fail> {
     assert!(rt; timers.advance(10) == Err(TickFault::Due));
     assert!(rt; timers.tick() == Err(TickFault::Due));
     let beside = timers.start(9, 55)?;
-    assert!(rt; timers.stop(first).is_none());
-    assert!(rt; timers.restart(first, 1, 1) == Err(RestartFault::NotPending));
+    assert!(rt; action_of(timers.look(first)) == Some(11));
+    assert!(rt; action_of(timers.look(fifth)) == Some(66));
+    assert!(rt; action_of(timers.stop(fifth)) == Some(66));
+    assert!(rt; timers.look(fifth).is_none());
+    assert!(rt; timers.stop(fifth).is_none());
+    assert!(rt; timers.restart_at(sixth, 103, 1) == Err(RestartFault::ZeroInterval));
+    let again = timers.restart_at(sixth, 111, 88)?;
+    assert!(rt; timers.restart(sixth, 1, 1) == Err(RestartFault::NotPending));
+    assert!(rt; action_of(timers.look(again)) == Some(88));
+    assert!(rt; action_of(timers.stop(again)) == Some(88));
     assert!(rt; action_of(timers.stop(beside)) == Some(55));
     match timers.expire() {
         Some(timer) => {
