@@ -21,6 +21,12 @@ pub record AddsLines (before : FacilityState) (events : List Event) (old new : L
   pub runs : IsRun before events outs after
   pub lines : new ≡ old ++ flat_map out_line outs
 
+-- the bytes are the script of some events, which were played, and the line of each of their outs was added
+pub record HasPlayedLines (before : FacilityState) (bytes old new : List ℕ) (after : FacilityState) : Type 0 where
+  pub events : List Event
+  pub script : IsScript events bytes
+  pub adds : AddsLines before events old new after
+
 -- the answer to these events from a state: the lines of their outs, and the end line
 pub record IsAnswer (before : FacilityState) (events : List Event) (answer : List ℕ) : Type 0 where
   pub outs : List Out

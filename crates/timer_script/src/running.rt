@@ -1,21 +1,21 @@
 //! The whole run: a script is read to its end and played, and the text that answers it is written.
 //!
-//!     reader --read--> bytes --parse--> events --play--> outs --text--> bytes --write--> writer
+//!     reader --read--> bytes --parse--> event --play--> outs --text--> bytes --write--> writer
 //!
-//! Events are played in chunks, and the outs of a chunk are text before the next one is played: an out
-//! is much longer than its line, and so the outs of a whole script never stand in memory together.
-//! Nothing is written before the last event was played, so a script with a bad line is rejected as a
-//! whole, and what is written is the whole answer or a prefix of it.
-ghost use Rattle.std.specs.Prelude.{◌≡◌, ◌↔◌, ℕ, List, [], false, IsTrue, IfOk, IfErr, OnOk, IsErrOf};
+//! Each event is played as soon as its line is parsed, and its outs are text before the next line is: an
+//! event and an out are much longer than their lines, and so those of a whole script never stand in
+//! memory together. Nothing is written before the last line was played, so a script with a bad line is
+//! rejected as a whole, and what is written is the whole answer or a prefix of it.
+ghost use Rattle.std.specs.Prelude.{◌≡◌, ◌↔◌, ◌∷◌, ℕ, List, [], false, IsTrue, IfOk, IfErr, OnOk, IsErrOf};
 ghost use Rattle.timer_facility.specs.declared.event.Event.{Event};
 ghost use Rattle.timer_script.specs.Script.{IsScript};
-ghost use Rattle.timer_script.specs.Running.{AddsLines, IsAnswer, GivesNoAnswer, HasRun};
+ghost use Rattle.timer_script.specs.Running.{AddsLines, HasPlayedLines, IsAnswer, GivesNoAnswer, HasRun};
 ghost use Rattle.timer_script.specs.Watched.{has_failed};
 
 use crate::fault::RunFault;
 use crate::input::read_script;
+use crate::lines::read_line;
 use crate::output::write_text;
-use crate::script::parse_script;
 use crate::text::{push_end, push_outs};
 use crate::watched::Watched;
 use std::alloc::Global;
@@ -23,39 +23,43 @@ use std::io::{Read, Write};
 use timer_base::{OutOfMemory, Wheel};
 use timer_facility::{Event, Facility, Out, Player};
 
-/// How many events are played before their outs become text.
-const CHUNK: usize = 1024;
+/// An answer of this many times the bytes of its script fits in the room that is made for it at first. It may grow past
+/// that. Room that is not used takes no memory where the system gives it out by pages.
+const GROWTH: usize = 4;
 
-/// Plays the events, and adds the line of each out to the text. `outs` is used up, for its memory alone.
-fn play_chunk<W: Wheel + Drop>(
+/// Plays an event, and adds the line of each of its outs to the text. `outs` is used up, for its memory alone.
+fn play_event<W: Wheel + Drop>(
     player: &mut Player<W>,
-    events: &[Event],
+    event: Event,
     outs: &mut Vec<Out>,
     text: &mut Vec<u8>,
 ) -> Result<(), OutOfMemory>
-    ensures { OnOk result (AddsLines player.old events.now text.old.items text.new.items player.new) }
+    ensures { OnOk result (AddsLines player.old (event ∷ []) text.old.items text.new.items player.new) }
 {
     outs.clear();
-    for event in events {
-        player.play_one(*event, outs)?;
-    }
+    player.play_one(event, outs)?;
     push_outs(text, outs)
 }
 
-/// Plays the events in chunks, and adds the line of each out to the text.
+/// Plays each line of a script, and adds the line of each out to the text.
 fn play_lines<W: Wheel + Drop>(
     alloc: Global,
     player: &mut Player<W>,
-    events: &[Event],
+    script: &[u8],
     text: &mut Vec<u8>,
-) -> Result<(), OutOfMemory>
-    ensures { OnOk result (AddsLines player.old events.now text.old.items text.new.items player.new) }
+) -> Result<(), RunFault>
+    ensures ok { OnOk result (HasPlayedLines player.old script.now text.old.items text.new.items player.new) }
+    ensures fault { IfErr result (λ fault. GivesNoAnswer fault script.now) }
 {
     let mut outs = Vec::new(alloc);
-    let mut rest = events;
+    let mut lines = 0u64;
+    let mut rest = script;
     while !rest.is_empty() {
-        let (chunk, after) = rest.split_at(CHUNK.min(rest.len()));
-        play_chunk(player, chunk, &mut outs, text)?;
+        let Some((event, after)) = read_line(rest) else {
+            return Err(RunFault::Bad { line: lines + 1 });
+        };
+        play_event(player, event, &mut outs, text)?;
+        lines += 1;
         rest = after;
     }
     Ok(())
@@ -74,10 +78,11 @@ pub fn answer_to<W: Wheel + Drop>(
 {
     // What `owed` rests on is known of the state from here on.
     let _now = facility.now();
-    let events = parse_script(alloc, script)?;
     let mut player = Player::open(alloc, facility);
-    let mut answer = Vec::new(alloc);
-    play_lines(alloc, &mut player, &events, &mut answer)?;
+    let Ok(mut answer) = Vec::with_capacity(alloc, script.len().saturating_mul(GROWTH)) else {
+        return Err(RunFault::OutOfMemory);
+    };
+    play_lines(alloc, &mut player, script, &mut answer)?;
     let now = player.facility().now();
     let pending = player.facility().pending() as u64;
     push_end(&mut answer, now, pending)?;
