@@ -1,6 +1,17 @@
-use Rattle.std.proofs.Common.{◌≡◌, ◌++◌, take}
+use Rattle.std.proofs.Common.{◌≡◌, ◌+◌, ◌*◌, ◌≤◌, length, drop}
 use Rattle.timer_script.specs.Text.{numbers}
+use Rattle.timer_script.specs.declared.text.TheConstants.{ROOM, MOST_DIGITS}
 use Rattle.timer_script.proofs.text.push_numbers.Given as goal
 
-abbrev pub invariant-loop-n : goal.invariant-loop-n
-invariant-loop-n l = l.out.items ≡ l.fn.out.items ++ numbers (take l.n-index l.all)
+-- the numbers from i on stand at the end of the buffer, and there is room for those before
+abbrev pub invariant-loop-i : goal.invariant-loop-i
+invariant-loop-i l = record {
+  written : drop l.at l.buffer ≡ numbers (drop l.i l.all);
+  room : MOST_DIGITS * l.i ≤ l.at;
+  within : l.at ≤ ROOM;
+  size : length l.buffer ≡ ROOM;
+  left : l.i ≤ length l.all;
+}
+
+abbrev pub decreases-loop-i : goal.decreases-loop-i
+decreases-loop-i l = l.i
