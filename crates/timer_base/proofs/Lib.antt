@@ -2,6 +2,7 @@
 pub mod PendingLaws
 pub mod PlainExpiries
 pub mod PlainClears
+pub mod PlainJumps
 pub mod PlainLooks
 pub mod PlainSteps
 pub mod SortedTimers

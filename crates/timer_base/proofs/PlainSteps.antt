@@ -10,16 +10,13 @@ use Rattle.timer_base.specs.OrderLaws.{either, in_order-newest, filter-in_order,
 use Rattle.timer_base.specs.OneOrder.{map-itself}
 use Rattle.timer_base.specs.Pending.{Entry, put, is_due_at}
 use Rattle.timer_base.specs.WheelState.{WheelState, after_start, after_tick}
-use Rattle.timer_base.specs.PlainState.{IsKept, is_after, due_count, at_first_place, plain_state}
-
--- with nothing due, each is after the tick
-abbrev pub AreAfter : ℕ → List Timer → Type 0
-AreAfter now ts = AllByRecursion (λ t. now < t.deadline) ts
+use Rattle.timer_base.specs.PlainState.{IsKept, AreDueAfter, is_after, due_count, at_first_place, plain_state}
 
 after_one : (now : ℕ) (t : Timer) → now ≤ t.deadline → is_due_at now t ≡ false → now < t.deadline
 after_one now t h k = grind (arith, nat_tests)
 
-pub all_after : (now last : ℕ) (ts : List Timer) → AllByRecursion (IsKept now last) ts → filter (is_due_at now) ts ≡ [] → AreAfter now ts
+-- with nothing due, each is after the tick
+pub all_after : (now last : ℕ) (ts : List Timer) → AllByRecursion (IsKept now last) ts → filter (is_due_at now) ts ≡ [] → AreDueAfter now ts
 all_after now last [] k d = tt
 all_after now last (t ∷ ts) k d = elim (either (is_due_at now t)) [
   | inl h ↦ let e = rw h at d in absurd (cc)
@@ -29,14 +26,14 @@ all_after now last (t ∷ ts) k d = elim (either (is_due_at now t)) [
 after_is : (now : ℕ) (t : Timer) → now < t.deadline → is_after now t ≡ true
 after_is now t h = grind (arith, nat_tests)
 
-pub filter_after : (now : ℕ) (ts : List Timer) → AreAfter now ts → filter (is_after now) ts ≡ ts
+pub filter_after : (now : ℕ) (ts : List Timer) → AreDueAfter now ts → filter (is_after now) ts ≡ ts
 filter_after now [] a = refl
 filter_after now (t ∷ ts) a = rw (after_is now t a.0) (ap (λ r. t ∷ r) (filter_after now ts a.1))
 
 next_agree : (now : ℕ) (t : Timer) → now < t.deadline → is_after (now + 1) t ≡ not (is_due_at (now + 1) t)
 next_agree now t h = grind (arith, nat_tests)
 
-filter_agree : (now : ℕ) (ts : List Timer) → AreAfter now ts → filter (is_after (now + 1)) ts ≡ filter (λ t. not (is_due_at (now + 1) t)) ts
+filter_agree : (now : ℕ) (ts : List Timer) → AreDueAfter now ts → filter (is_after (now + 1)) ts ≡ filter (λ t. not (is_due_at (now + 1) t)) ts
 filter_agree now [] a = refl
 filter_agree now (t ∷ ts) a = rw (next_agree now t a.0) (ap (λ r. if not (is_due_at (now + 1) t) then t ∷ r else r) (filter_agree now ts a.1))
 
@@ -54,7 +51,7 @@ state_is n l h k = cc
 
 -- A tick.
 
-kept_next : (now last : ℕ) (ts : List Timer) → AllByRecursion (IsKept now last) ts → AreAfter now ts → AllByRecursion (IsKept (now + 1) last) ts
+kept_next : (now last : ℕ) (ts : List Timer) → AllByRecursion (IsKept now last) ts → AreDueAfter now ts → AllByRecursion (IsKept (now + 1) last) ts
 kept_next now last [] k a = tt
 kept_next now last (t ∷ ts) k a =
     (record { not_before = let h : now < t.deadline = a.0 in omega arith; in_range = k.0.in_range; serial = k.0.serial }, kept_next now last ts k.1 a.1)
@@ -70,7 +67,7 @@ due_in_order tick ts r =
 pub plain_state-after_tick : (now last : ℕ) (ts : List Timer) → AllByRecursion (IsKept now last) ts → AreRising 0 ts → filter (is_due_at now) ts ≡ []
     → plain_state (now + 1) last ts ≡ after_tick (plain_state now last ts)
 plain_state-after_tick now last ts k r d =
-    let a : AreAfter now ts = all_after now last ts k d in
+    let a : AreDueAfter now ts = all_after now last ts k d in
     let all : filter (is_after now) ts ≡ ts = filter_after now ts a in
     let left : filter (λ entry. not (is_due_at (now + 1) entry.timer)) (map at_first_place (in_order itself ts)) ≡ map at_first_place (in_order itself (filter (is_after (now + 1)) ts)) =
     filter-map (λ t. not (is_due_at (now + 1) t)) (in_order itself ts)

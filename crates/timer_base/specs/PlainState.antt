@@ -1,5 +1,5 @@
 -- The wheel state of a list of timers in order of starting: those after now are pending, and those at now are due.
-use Rattle.std.specs.Prelude.{◌≡◌, ◌≤◌, ℕ, Bool, true, ◌&&◌, nat_lt, min, if◌then◌else◌, List, [], ◌∷◌, Option, Some, None, map, filter, length, refl}
+use Rattle.std.specs.Prelude.{◌≡◌, ◌<◌, ◌≤◌, ◌+◌, ◌-◌, ℕ, Bool, true, ◌&&◌, nat_lt, min, if◌then◌else◌, List, [], ◌∷◌, Option, Some, None, map, filter, length, refl}
 use Rattle.std.specs.List.{AllByRecursion, AllByRecursion-prop}
 use Rattle.std.specs.Coded.{le_prop}
 use Rattle.std.proofs.Common.{ap, arith}
@@ -38,6 +38,10 @@ plain_state now last_serial timers = record {
   last_serial = last_serial;
 }
 
+-- each deadline is after the tick
+abbrev pub AreDueAfter : ℕ → List Timer → Type 0
+AreDueAfter tick timers = AllByRecursion (λ t. tick < t.deadline) timers
+
 -- how many of the timers are due
 abbrev pub due_count : ℕ → List Timer → ℕ
 due_count now timers = length (filter (is_due_at now) timers)
@@ -61,6 +65,13 @@ pub record IsKept (now last_serial : ℕ) (t : Timer) : Type 0 where
 
 IsKept-one : (now last_serial : ℕ) (t : Timer) → IsProp (IsKept now last_serial t)
 IsKept-one now last_serial t = hlevel le_prop
+
+-- the clock jumps by this many ticks, at most by `most`: to the first deadline, or over ticks at which nothing is due
+pub record IsJump (now most passed : ℕ) (ts : List Timer) : Type 0 where
+  pub some : 0 < passed
+  pub at_most : passed ≤ most
+  pub quiet : AreDueAfter (now + (passed - 1)) ts
+  pub early : passed < most → 0 < length (filter (is_due_at (now + passed)) ts)
 
 pub IsKept-prop : (now last_serial : ℕ) (ts : List Timer) → IsProp (AllByRecursion (IsKept now last_serial) ts)
 IsKept-prop now last_serial ts = AllByRecursion-prop (IsKept now last_serial) (IsKept-one now last_serial) ts

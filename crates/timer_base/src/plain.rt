@@ -1,9 +1,9 @@
 //! The plain wheel: Scheme 1 of G. Varghese and T. Lauck, "Hashed and Hierarchical Timing Wheels",
 //! SOSP 1987.
 //!
-//! One `Vec` of timers in order of starting, and no slots at all: each tick scans all of them. A timer
-//! whose deadline is the present tick is due, and stays in the `Vec` until it is taken. It is slow, and
-//! the shortest implementation of a wheel.
+//! One `Vec` of timers in order of starting, and no slots at all: each tick scans all of them, and so does
+//! a jump to the next deadline. A timer whose deadline is the present tick is due, and stays in the `Vec`
+//! until it is taken. It is slow, and the shortest implementation of a wheel.
 //!
 //! Three timers, started at tick 0 for the deadlines 5, 3 and 5 (written serial:deadline):
 //!
@@ -14,14 +14,14 @@
 //!       5   1:5 3:5                               1:5 3:5
 //!
 //! Each handle has place 0: the serial alone identifies the timer.
-ghost use Rattle.std.specs.Prelude.{◌≡◌, ◌≤◌, ◌<◌, ◌↔◌, ◌++◌, ◌∷◌, [], IfOk, IfErr, IsErr, Some, length, filter, find, not, vec_len, vec_capacity};
+ghost use Rattle.std.specs.Prelude.{◌≡◌, ◌≤◌, ◌<◌, ◌+◌, ◌↔◌, ◌++◌, ◌∷◌, [], IfOk, IfErr, IsErr, Some, length, filter, find, not, vec_len, vec_capacity};
 ghost use Rattle.std.proofs.Math.Nat.{ℕ_set};
 ghost use Rattle.std.specs.List.{AllByRecursion};
 ghost use Rattle.timer_base.specs.declared.limits.TheConstants.{LAST};
 ghost use Rattle.timer_base.specs.Order.{AreRising};
 ghost use Rattle.timer_base.specs.OrderLaws.{AreRising-prop};
 ghost use Rattle.timer_base.specs.Pending.{has_serial, is_due_at};
-ghost use Rattle.timer_base.specs.PlainState.{IsKept, IsKept-prop, is_after, is_pending_with, is_due_with, due_count, earliest, first_after, plain_state, plain_state-well_formed};
+ghost use Rattle.timer_base.specs.PlainState.{IsKept, IsKept-prop, AreDueAfter, IsJump, is_after, is_pending_with, is_due_with, due_count, earliest, first_after, plain_state, plain_state-well_formed};
 ghost use Rattle.timer_base.specs.WakeUps.{IsQuietUntil, next_deadline};
 ghost use Rattle.timer_base.specs.WheelState.{empty_wheel};
 
@@ -65,6 +65,30 @@ impl PlainWheel {
             timers: Vec::new(alloc),
             due: 0,
         })
+    }
+
+    /// How far the clock can jump: to the first pending deadline, or by `most` ticks if that is nearer.
+    fn ticks_ahead(&self, most: u64) -> u64
+        requires nothing_due { (plain_state self.now.now self.now.last_serial self.now.timers.items).due ≡ [] }
+        requires some { 0 < most }
+        ensures { IsJump self.entry.now.now most result self.entry.now.timers.items }
+    {
+        match self.quiet_until() {
+            Some(deadline) => most.min(deadline - self.now),
+            None => most,
+        }
+    }
+
+    /// Sets the clock forward over ticks at which nothing is due.
+    fn skip(&mut self, ticks: u64)
+        requires nothing_due { (plain_state self.old.now self.old.last_serial self.old.timers.items).due ≡ [] }
+        requires quiet { AreDueAfter (self.old.now + ticks) self.old.timers.items }
+        requires in_range { self.old.now + ticks ≤ LAST }
+        ensures timers { self.new.timers.items ≡ self.old.timers.items }
+        ensures now { self.new.now ≡ self.old.now + ticks }
+        ensures last_serial { self.new.last_serial ≡ self.old.last_serial }
+    {
+        self.now += ticks;
     }
 }
 
@@ -131,6 +155,15 @@ impl Wheel for PlainWheel {
     fn per_tick(&mut self) {
         self.now += 1;
         self.due = count_due(self.timers.as_slice(), self.now);
+    }
+
+    /// Jumps to the first pending deadline, or by `most` ticks if that is nearer: two scans of all timers,
+    /// however long the jump is.
+    fn advance(&mut self, most: u64) -> u64 {
+        let passed = self.ticks_ahead(most);
+        self.skip(passed - 1);
+        self.per_tick();
+        passed
     }
 
     /// Exactly the first pending deadline, found by a scan of all timers.

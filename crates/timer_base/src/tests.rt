@@ -88,3 +88,77 @@ fn a_first_tick_past_the_last_one_is_refused(rt: HostRuntime) -> Result<(), Fail
     assert_eq!(rt; (wheel.now(), wheel.last_tick()), (LAST, LAST));
     Ok(())
 }
+
+/// Goes on to the tick, at which something is due.
+fn reach<W: Wheel>(rt: &impl Abort, wheel: &mut W, tick: u64) {
+    settle(rt, wheel);
+    let now = wheel.now();
+    assert!(rt; now < tick && tick <= wheel.last_tick());
+    assert_eq!(rt; wheel.advance(tick - now), tick - now);
+    assert!(rt; wheel.has_due());
+}
+
+/// Revives a due timer as the next one.
+fn revive<W: Wheel>(
+    rt: &impl Abort,
+    wheel: &mut W,
+    handle: Handle,
+    deadline: u64,
+) -> Option<(Handle, Timer)> {
+    assert!(rt; wheel.now() < deadline);
+    assert!(rt; deadline <= wheel.last_tick());
+    assert!(rt; wheel.last_serial() < LAST);
+    let serial = wheel.last_serial() + 1;
+    wheel.revive(handle, timer(serial, deadline))
+}
+
+#[test]
+fn a_due_timer_is_withdrawn_or_revived_by_its_handle(rt: HostRuntime) -> Result<(), Fail> {
+    let mut wheel = PlainWheel::new(rt.alloc(), 0)?;
+    let first = start(&rt, &mut wheel, 3)?;
+    let second = start(&rt, &mut wheel, 3)?;
+    let third = start(&rt, &mut wheel, 3)?;
+    let later = start(&rt, &mut wheel, 9)?;
+    assert_eq!(rt; wheel.look_due(first), None);
+    assert_eq!(rt; wheel.withdraw(first), None);
+    reach(&rt, &mut wheel, 3);
+
+    assert_eq!(rt; wheel.look_due(second), Some(timer(2, 3)));
+    assert_eq!(rt; wheel.withdraw(second), Some(timer(2, 3)));
+    assert_eq!(rt; wheel.withdraw(second), None);
+    assert_eq!(rt; wheel.withdraw(later), None);
+    assert_eq!(rt; revive(&rt, &mut wheel, later, 7), None);
+    let Some((again, old)) = revive(&rt, &mut wheel, first, 9) else {
+        panic!(rt; "the first timer is not due");
+    };
+    assert_eq!(rt; old, timer(1, 3));
+    assert_eq!(rt;
+        (wheel.look_due(again), wheel.look(again)),
+        (None, Some(timer(5, 9)))
+    );
+    assert_eq!(rt; (wheel.len(), wheel.last_serial()), (2, 5));
+    assert_eq!(rt; wheel.expire(), Some(timer(3, 3)));
+    assert_eq!(rt; wheel.look_due(third), None);
+    assert_eq!(rt; wheel.expire(), None);
+
+    reach(&rt, &mut wheel, 9);
+    assert_eq!(rt; wheel.expire(), Some(timer(4, 9)));
+    assert_eq!(rt; wheel.expire(), Some(timer(5, 9)));
+    Ok(())
+}
+
+#[test]
+fn the_clock_jumps_to_the_next_deadline_and_no_farther(rt: HostRuntime) -> Result<(), Fail> {
+    let mut wheel = PlainWheel::new(rt.alloc(), 0)?;
+    start(&rt, &mut wheel, 1000000000000)?;
+    start(&rt, &mut wheel, LAST)?;
+    settle(&rt, &wheel);
+    assert!(rt; wheel.now() <= wheel.last_tick());
+    assert!(rt; 999999999999 <= wheel.last_tick() - wheel.now());
+    assert_eq!(rt; wheel.advance(999999999999), 999999999999);
+    reach(&rt, &mut wheel, 1000000000000);
+    assert_eq!(rt; wheel.expire(), Some(timer(1, 1000000000000)));
+    reach(&rt, &mut wheel, LAST);
+    assert_eq!(rt; wheel.expire(), Some(timer(2, LAST)));
+    Ok(())
+}

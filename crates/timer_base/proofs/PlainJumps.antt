@@ -1,0 +1,173 @@
+-- Lemmas for `advance` of a `PlainWheel`: nothing is due before the first pending deadline, and something is due at it.
+use Rattle.std.proofs.Common.{◌≡◌, ◌<◌, ◌≤◌, ◌+◌, ◌-◌, ℕ, suc, true, false, List, [], ◌∷◌, length, refl, sym, ◌∙◌, ap, subst, inl, inr, arith}
+use Rattle.std.specs.Prelude.{filter, map, min, Option, Some, None}
+use Rattle.std.specs.List.{AllByRecursion}
+use Rattle.std.proofs.lemmas.Bool.{cases_lt}
+use Rattle.std.proofs.lemmas.Bool.Decides.{nat_tests}
+use Rattle.timer_base.specs.declared.timer.Timer.{Timer}
+use Rattle.timer_base.specs.declared.limits.TheConstants.{LAST}
+use Rattle.std.proofs.lemmas.List.{length-map}
+use Rattle.timer_base.specs.Order.{in_order, itself, AreRising}
+use Rattle.timer_base.specs.OrderLaws.{either, All-weaken, All-in_order, All-filter}
+use Rattle.timer_base.specs.Pending.{is_due_at}
+use Rattle.timer_base.specs.PlainState.{IsKept, AreDueAfter, IsJump, is_after, earliest, first_after, at_first_place, plain_state}
+use Rattle.timer_base.specs.TickLaws.{AreAfter, IsPassing, passing_quiet}
+use Rattle.timer_base.proofs.PlainSteps.{filter_after, state_is, plain_state-after_tick}
+use Rattle.timer_base.specs.WheelState.{WheelState, after_tick, after_ticks, Advances}
+
+same_tick : (a b : ℕ) → Some a ≡ Some b → a ≡ b
+same_tick a b e = cc
+
+not_none : (a : ℕ) (r : Option ℕ) → earliest (Some a) r ≡ None → ⊥
+not_none a None e = cc
+not_none a (Some b) e = cc
+
+after_is : (tick : ℕ) (t : Timer) → tick < t.deadline → is_after tick t ≡ true
+after_is tick t h = grind (arith, nat_tests)
+
+due_is : (tick : ℕ) (t : Timer) → t.deadline ≡ tick → is_due_at tick t ≡ true
+due_is tick t h = grind (arith, nat_tests)
+
+-- without a first deadline there is no timer
+pub no_timers : (tick : ℕ) (ts : List Timer) → AreDueAfter tick ts → first_after tick ts ≡ None → ts ≡ []
+no_timers tick [] a e = refl
+no_timers tick (t ∷ ts) a e = absurd (not_none t.deadline (first_after tick ts) (rw (after_is tick t a.0) at e))
+
+-- each deadline is at least this one
+abbrev AreFrom : ℕ → List Timer → Type 0
+AreFrom tick ts = AllByRecursion (λ t. tick ≤ t.deadline) ts
+
+from_step : (d : ℕ) (t : Timer) (ts : List Timer) (rest : Option ℕ) → (rest ≡ None → ts ≡ []) → ((m : ℕ) → rest ≡ Some m → AreFrom m ts)
+    → earliest (Some t.deadline) rest ≡ Some d → (d ≤ t.deadline) × AreFrom d ts
+from_step d t ts None none some e =
+    let same : t.deadline ≡ d = same_tick t.deadline d e in
+    (omega arith, rw (none refl) tt)
+from_step d t ts (Some m) none some e =
+    let same : min t.deadline m ≡ d = same_tick (min t.deadline m) d e in
+    (omega arith, All-weaken (λ u. m ≤ u.deadline) (λ u. d ≤ u.deadline) ts (λ u h. omega arith) (some m refl))
+
+pub first_from : (tick d : ℕ) (ts : List Timer) → AreDueAfter tick ts → first_after tick ts ≡ Some d → AreFrom d ts
+first_from tick d [] a e = tt
+first_from tick d (t ∷ ts) a e =
+    from_step d t ts (first_after tick ts) (no_timers tick ts a.1) (λ m f. first_from tick m ts a.1 f) (rw (after_is tick t a.0) at e)
+
+-- some timer has the first deadline
+there_step : (d : ℕ) (t : Timer) (ts : List Timer) (rest : Option ℕ) → ((m : ℕ) → rest ≡ Some m → 0 < length (filter (is_due_at m) ts))
+    → earliest (Some t.deadline) rest ≡ Some d → 0 < length (filter (is_due_at d) (t ∷ ts))
+there_step d t ts None some e = rw (due_is d t (same_tick t.deadline d e)) (omega arith)
+there_step d t ts (Some m) some e = elim (either (is_due_at d t)) [
+  | inl h ↦ rw h (omega arith)
+  | inr h ↦
+      let same : min t.deadline m ≡ d = same_tick (min t.deadline m) d e in
+      let at : m ≡ d = other d m t h same in
+      rw h (let P : ℕ → Type 0 = λ k. 0 < length (filter (is_due_at k) ts) in subst P at (some m refl))
+] where
+  other : (d m : ℕ) (t : Timer) → is_due_at d t ≡ false → min t.deadline m ≡ d → m ≡ d
+  other d m t h e = elim (cases_lt t.deadline m) [
+    | inl k ↦ absurd (let f : t.deadline ≡ d = omega arith in let g = due_is d t f in cc)
+    | inr k ↦ omega arith
+  ]
+
+pub first_there : (tick d : ℕ) (ts : List Timer) → AreDueAfter tick ts → first_after tick ts ≡ Some d → 0 < length (filter (is_due_at d) ts)
+first_there tick d [] a e = absurd (cc)
+first_there tick d (t ∷ ts) a e =
+    there_step d t ts (first_after tick ts) (λ m f. first_there tick m ts a.1 f) (rw (after_is tick t a.0) at e)
+
+-- some quiet ticks, and one at which something may be due
+pub jumps : (n most passed : ℕ) (old mid new : WheelState) → IsPassing n old mid → passed ≡ n + 1 → passed ≤ most → new ≡ after_tick mid
+    → (passed < most → 0 < length new.due) → Advances most passed old new
+jumps n most passed old mid new p e h t d = record {
+  some = omega arith;
+  at_most = h;
+  ticked = t ∙ (ap after_tick p.ticked ∙ ap (λ (k : ℕ). after_ticks k old) (let s : suc n ≡ passed = omega arith in s));
+  quiet = λ k b. p.quiet k (omega arith);
+  early = d;
+}
+
+-- The fields after a skip.
+
+pub kept-skipped : (now last ticks : ℕ) (ts : List Timer) → AreDueAfter (now + ticks) ts → AllByRecursion (IsKept now last) ts
+    → AllByRecursion (IsKept (now + ticks) last) ts
+kept-skipped now last ticks [] a k = tt
+kept-skipped now last ticks (t ∷ ts) a k = (
+  record { not_before = let h : now + ticks < t.deadline = a.0 in omega arith; in_range = k.0.in_range; serial = k.0.serial },
+  kept-skipped now last ticks ts a.1 k.1,
+)
+
+pub none_due_after : (tick : ℕ) (ts : List Timer) → AreDueAfter tick ts → filter (is_due_at tick) ts ≡ []
+none_due_after tick [] a = refl
+none_due_after tick (t ∷ ts) a = rw (not_due tick t a.0) (none_due_after tick ts a.1) where
+  not_due : (tick : ℕ) (t : Timer) → tick < t.deadline → is_due_at tick t ≡ false
+  not_due tick t h = grind (arith, nat_tests)
+
+pub plain_state-skipped : (now last ticks : ℕ) (ts : List Timer) → AreDueAfter (now + ticks) ts → filter (is_due_at now) ts ≡ []
+    → plain_state (now + ticks) last ts ≡ record (plain_state now last ts) { now = now + ticks }
+plain_state-skipped now last ticks ts a d =
+    let none : filter (is_due_at (now + ticks)) ts ≡ filter (is_due_at now) ts = none_due_after (now + ticks) ts a ∙ sym d in
+    let before : AreDueAfter now ts = All-weaken (λ t. now + ticks < t.deadline) (λ t. now < t.deadline) ts (λ t h. omega arith) a in
+    let all : filter (is_after (now + ticks)) ts ≡ filter (is_after now) ts = filter_after (now + ticks) ts a ∙ sym (filter_after now ts before) in
+    state_is (now + ticks) last (ap (λ us. map at_first_place (in_order itself us)) all) (ap (map at_first_place) none)
+
+all-placed : (tick : ℕ) (ts : List Timer) → AreDueAfter tick ts → AreAfter tick (map at_first_place ts)
+all-placed tick [] a = tt
+all-placed tick (t ∷ ts) a = (a.0, all-placed tick ts a.1)
+
+pub pending_after : (tick now : ℕ) (ts : List Timer) → AreDueAfter tick ts → AreAfter tick (map at_first_place (in_order itself (filter (is_after now) ts)))
+pending_after tick now ts a =
+    let P : Timer → Type 0 = λ t. tick < t.deadline in
+    all-placed tick (in_order itself (filter (is_after now) ts))
+    (All-in_order itself P (filter (is_after now) ts) (All-filter P P (is_after now) ts (λ t e h. h) a))
+
+-- The jump.
+
+pub jump-none : (now most : ℕ) (ts : List Timer) → 0 < most → AreDueAfter now ts → first_after now ts ≡ None → IsJump now most most ts
+jump-none now most ts h a e = record {
+  some = h;
+  at_most = omega arith;
+  quiet = rw (no_timers now ts a e) tt;
+  early = λ l. absurd (omega arith);
+}
+
+pub jump-some : (now most passed d : ℕ) (ts : List Timer) → 0 < most → AreDueAfter now ts → first_after now ts ≡ Some d → now < d → passed ≡ min most (d - now)
+    → IsJump now most passed ts
+jump-some now most passed d ts h a e l p = record {
+  some = omega arith;
+  at_most = omega arith;
+  quiet = All-weaken (λ t. d ≤ t.deadline) (λ t. now + (passed - 1) < t.deadline) ts (λ t k. omega arith) (first_from now d ts a e);
+  early = λ k.
+      let at : d ≡ now + passed = omega arith in
+      let P : ℕ → Type 0 = λ tick. 0 < length (filter (is_due_at tick) ts) in
+      subst P at (first_there now d ts a e);
+}
+
+pub jumped : (now last most passed : ℕ) (ts : List Timer) (new : WheelState) → IsJump now most passed ts → filter (is_due_at now) ts ≡ []
+    → AllByRecursion (IsKept now last) ts → AreRising 0 ts → new ≡ after_tick (plain_state (now + (passed - 1)) last ts)
+    → Advances most passed (plain_state now last ts) new
+jumped now last most passed ts new j d k r e =
+    let n : ℕ = passed - 1 in
+    let old : WheelState = plain_state now last ts in
+    let mid : WheelState = plain_state (now + n) last ts in
+    let skipped : mid ≡ record old { now = now + n } = plain_state-skipped now last n ts j.quiet d in
+    let quiet : IsPassing n old (record old { now = now + n }) =
+    passing_quiet n old (ap (map at_first_place) d) (pending_after (now + n) now ts j.quiet) in
+    let passing : IsPassing n old mid = let P : WheelState → Type 0 = λ w. IsPassing n old w in subst P (sym skipped) quiet in
+    let ticked : new ≡ plain_state (now + n + 1) last ts =
+    e ∙ sym (plain_state-after_tick (now + n) last ts (kept-skipped now last n ts j.quiet k) r (none_due_after (now + n) ts j.quiet)) in
+    let due : length new.due ≡ length (filter (is_due_at (now + n + 1)) ts) =
+    ap (λ (w : WheelState). length w.due) ticked ∙ length-map (filter (is_due_at (now + n + 1)) ts) at_first_place in
+    let at : now + passed ≡ now + n + 1 = (let s : 0 < passed = j.some in omega arith) in
+    let same : length (filter (is_due_at (now + passed)) ts) ≡ length (filter (is_due_at (now + n + 1)) ts) =
+    ap (λ (tick : ℕ). length (filter (is_due_at tick) ts)) at in
+    jumps n most passed old mid new passing (let s : 0 < passed = j.some in omega arith) j.at_most e
+    (λ h. let f : 0 < length (filter (is_due_at (now + passed)) ts) = j.early h in omega arith)
+
+-- The state that a skip leaves.
+
+pub state_skipped : (now next ticks last serial : ℕ) (ts us : List Timer) → next ≡ now + ticks → serial ≡ last → us ≡ ts
+    → plain_state next serial us ≡ plain_state (now + ticks) last ts
+state_skipped now next ticks last serial ts us n l t = cc
+
+pub due_skipped : (now next ticks last serial : ℕ) (ts us : List Timer) → next ≡ now + ticks → us ≡ ts → AreDueAfter (now + ticks) ts
+    → (plain_state next serial us).due ≡ []
+due_skipped now next ticks last serial ts us n t a =
+    rw (n, t) (ap (map at_first_place) (none_due_after (now + ticks) ts a))
