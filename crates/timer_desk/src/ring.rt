@@ -138,25 +138,9 @@ impl ClientEnd {
 impl Inlet for RingInlet {
     ghost use Rattle.std.specs.Prelude.{◌≡◌, ◌+◌, ◌<◌, ◌≤◌, [], ◌++◌, true, false};
     ghost use Rattle.timer_desk.specs.Inlet.{taken_of, put_of, HandsBack};
-    ghost use Rattle.timer_desk.specs.Ring.{got_of, standing_of, given_of, is_settled, seen_by_inlet, free_of_inlet, SameRingLine, SameRingLine-refl, SameRingLine-trans};
+    ghost use Rattle.timer_desk.specs.Ring.{got_of, standing_of, given_of, is_settled, seen_by_inlet, free_of_inlet, SameRingLine, ring_lines};
 
-    ghost got = { got_of };
-
-    ghost standing = { standing_of };
-
-    ghost given = { given_of };
-
-    ghost is_full = { λ inlet. free_of_inlet inlet ≡ 0 };
-
-    ghost same_line = { SameRingLine };
-
-    ghost take_may_refuse = { false };
-
-    ghost put_may_refuse = { false };
-
-    ghost reflexive = { SameRingLine-refl };
-
-    ghost transitive = { SameRingLine-trans };
+    ghost kind = { ring_lines };
 
     /// Takes the next request.
     fn take(&mut self) -> Taken
