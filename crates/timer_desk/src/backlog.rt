@@ -2,7 +2,7 @@
 ghost use Rattle.std.specs.Prelude.{◌≡◌, ◌<◌, ◌≤◌, ◌⊎◌, ◌++◌, take, length, true};
 
 use crate::asking::ask;
-use crate::inlet::{Inlet, Put, Taken};
+use crate::inlet::{Inlet, Taken};
 use crate::report::{Done, Served};
 use crate::word::{Numbered, Word};
 use circular_buffer::HeapCircularBuffer;
@@ -179,27 +179,9 @@ fn put_words<I: Inlet>(outbox: &HeapCircularBuffer<Word>, inlet: &mut I) -> usiz
     ensures stopped { result < length outbox.now.items → I.kind.is_full inlet.new ⊎ (I.kind.put_may_refuse ≡ true) }
 {
     let (first, rest) = outbox.as_slices();
-    let count = put_run(first, inlet);
+    let count = inlet.put_slice(first);
     if count < first.len() {
         return count;
     }
-    count + put_run(rest, inlet)
-}
-
-/// `put_words` for words that stand in one piece.
-fn put_run<I: Inlet>(words: &[Word], inlet: &mut I) -> usize
-    ensures line { I.kind.same inlet.old inlet.new }
-    ensures got { ((I.kind.state inlet.new).got ≡ (I.kind.state inlet.old).got) × ((I.kind.state inlet.new).standing ≡ (I.kind.state inlet.old).standing) }
-    ensures given { (I.kind.state inlet.new).given ≡ (I.kind.state inlet.old).given ++ take result words.now }
-    ensures count { result ≤ length words.now }
-    ensures stopped { result < length words.now → I.kind.is_full inlet.new ⊎ (I.kind.put_may_refuse ≡ true) }
-{
-    let mut count = 0;
-    for word in words {
-        if !matches!(inlet.put(*word), Put::Done) {
-            return count;
-        }
-        count += 1;
-    }
-    count
+    count + inlet.put_slice(rest)
 }

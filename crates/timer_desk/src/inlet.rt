@@ -1,5 +1,5 @@
 //! One client's line as the owner of the desk sees it.
-ghost use Rattle.std.specs.Prelude.{◌≡◌, [], ◌++◌, true};
+ghost use Rattle.std.specs.Prelude.{◌≡◌, ◌<◌, ◌≤◌, ◌⊎◌, [], ◌++◌, true, length, take};
 ghost use Rattle.timer_desk.specs.Inlet.{LineKind, taken_of, put_of, HandsBack};
 
 use crate::word::{Numbered, Word};
@@ -48,4 +48,25 @@ pub trait Inlet {
         ensures full { result ≡ Put.Full word → kind.is_full self.new }
         ensures got { (kind.state self.new).got ≡ (kind.state self.old).got }
         ensures standing { (kind.state self.new).standing ≡ (kind.state self.old).standing };
+
+    /// Puts words into the line, in order, until it does not take one, and returns how many it took.
+    ///
+    /// A line may show them to its client all at once.
+    fn put_slice(&mut self, words: &[Word]) -> usize
+        ensures line { kind.same self.old self.new }
+        ensures given { (kind.state self.new).given ≡ (kind.state self.old).given ++ take result words.now }
+        ensures count { result ≤ length words.now }
+        ensures stopped { result < length words.now → kind.is_full self.new ⊎ (kind.put_may_refuse ≡ true) }
+        ensures got { (kind.state self.new).got ≡ (kind.state self.old).got }
+        ensures standing { (kind.state self.new).standing ≡ (kind.state self.old).standing }
+    {
+        let mut count = 0;
+        for word in words {
+            if !matches!(self.put(*word), Put::Done) {
+                return count;
+            }
+            count += 1;
+        }
+        count
+    }
 }
