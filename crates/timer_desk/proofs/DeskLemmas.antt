@@ -5,9 +5,8 @@ use Rattle.std.proofs.lemmas.Bool.Decides.{nat_tests}
 use Rattle.std.proofs.lemmas.List.{get_or-set_same, get_or-set_other, length-set}
 use Rattle.timer_facility.specs.State.{pending_of}
 use Rattle.timer_facility.specs.Facility.{FacilityView}
-use Rattle.timer_desk.specs.declared.word.Numbered.{Numbered}
-use Rattle.timer_desk.specs.declared.word.Word.{Word}
 use Rattle.timer_desk.specs.declared.report.Done.{Done}
+use Rattle.timer_desk.specs.Inlet.{LineKind}
 use Rattle.timer_desk.specs.Backlog.{BacklogState, notices_for}
 use Rattle.timer_desk.specs.Report.{Side, side_of, got_but_held, HeldIsLast, Tells, asked}
 use Rattle.timer_desk.specs.Desk.{IsDesk}
@@ -30,14 +29,14 @@ Tells-held c report a b t = held_last b (got_but_held a ++ asked c report) t.ask
 none_for : (f : FacilityView) (c : ℕ) → f.waiting ≡ [] → notices_for c f.waiting ≡ 0
 none_for f c h = ap (notices_for c) h
 
-module _ {I : Type 0} (got standing : I → List Numbered) (given : I → List Word) (same : I → I → Type 0) (refuses : Bool) where
+module _ {I : Type 0} (kind : LineKind I) where
   pub IsDesk-one : (f f' : FacilityView) (inlets : List I) (backlogs : List BacklogState) (c : ℕ) (i' : I) (b' : BacklogState)
-      → IsDesk got standing given f inlets backlogs → c < length inlets
+      → IsDesk kind f inlets backlogs → c < length inlets
       → f'.waiting ≡ [] → length f'.state.numbers ≡ length f.state.numbers
       → length b'.outbox + pending_of f'.state c ≤ b'.room
       → ((k : ℕ) → pending_of f'.state k ≤ pending_of f.state k + (if c == k then 1 else 0))
-      → HeldIsLast (side_of got standing given i' b')
-      → IsDesk got standing given f' (slice_set inlets c i') (slice_set backlogs c b')
+      → HeldIsLast (side_of kind i' b')
+      → IsDesk kind f' (slice_set inlets c i') (slice_set backlogs c b')
   IsDesk-one f f' inlets backlogs c i' b' d low quiet numbers room adds held = record {
     nothing_waits = quiet;
     as_many = length-set backlogs c b' ∙ d.as_many ∙ sym (length-set inlets c i');
@@ -69,16 +68,16 @@ module _ {I : Type 0} (got standing : I → List Numbered) (given : I → List W
           ap_le p q = subst (λ (b : Bool). pending_of f'.state k ≤ pending_of f.state k + (if b then 1 else 0)) q p
 
       by_client_held : (k : ℕ) (i : I) (e : BacklogState) → k < length (slice_set inlets c i') → (c == k) ≡ true ⊎ (c == k) ≡ false
-          → HeldIsLast (side_of got standing given (get_or (slice_set inlets c i') k i) (get_or (slice_set backlogs c b') k e))
+          → HeldIsLast (side_of kind (get_or (slice_set inlets c i') k i) (get_or (slice_set backlogs c b') k e))
       by_client_held k i e l (inl h) =
           let is : k ≡ c = is_equal c k h in
           let inlet : get_or (slice_set inlets c i') k i ≡ i' = ap (λ n. get_or (slice_set inlets c i') n i) is ∙ get_or-set_same inlets c i' i low in
           let backlog : get_or (slice_set backlogs c b') k e ≡ b' = ap (λ n. get_or (slice_set backlogs c b') n e) is ∙ get_or-set_same backlogs c b' e (let m = as_many in omega arith) in
-          subst (λ j. HeldIsLast (side_of got standing given j (get_or (slice_set backlogs c b') k e))) (sym inlet)
-          (subst (λ b. HeldIsLast (side_of got standing given i' b)) (sym backlog) held)
+          subst (λ j. HeldIsLast (side_of kind j (get_or (slice_set backlogs c b') k e))) (sym inlet)
+          (subst (λ b. HeldIsLast (side_of kind i' b)) (sym backlog) held)
       by_client_held k i e l (inr h) =
           let inlet : get_or (slice_set inlets c i') k i ≡ get_or inlets k i = get_or-set_other inlets c k i' i (is_other c k h) in
           let backlog : get_or (slice_set backlogs c b') k e ≡ get_or backlogs k e = get_or-set_other backlogs c k b' e (is_other c k h) in
           let within : k < length inlets = let m : length (slice_set inlets c i') ≡ length inlets = length-set inlets c i' in omega arith in
-          subst (λ j. HeldIsLast (side_of got standing given j (get_or (slice_set backlogs c b') k e))) (sym inlet)
-          (subst (λ b. HeldIsLast (side_of got standing given (get_or inlets k i) b)) (sym backlog) (d.held k i e within))
+          subst (λ j. HeldIsLast (side_of kind j (get_or (slice_set backlogs c b') k e))) (sym inlet)
+          (subst (λ b. HeldIsLast (side_of kind (get_or inlets k i) b)) (sym backlog) (d.held k i e within))

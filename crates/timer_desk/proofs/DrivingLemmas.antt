@@ -6,8 +6,6 @@ use Rattle.std.proofs.lemmas.Grind.{flat_map-append}
 use Rattle.std.proofs.lemmas.List.{get_or-replicate, length-replicate}
 use Rattle.std.proofs.lemmas.List.Elements.{All-append}
 use Rattle.timer_desk.specs.declared.progress.Progress.{Progress}
-use Rattle.timer_desk.specs.declared.word.Numbered.{Numbered}
-use Rattle.timer_desk.specs.declared.word.Word.{Word}
 use Rattle.timer_desk.specs.declared.report.Served.TheVariants.{NoMemory}
 use Rattle.timer_desk.specs.declared.report.Done.{Done}
 use Rattle.timer_desk.specs.declared.report.Done.TheVariants as Dones
@@ -15,6 +13,7 @@ use Rattle.timer_desk.specs.declared.report.Step.{Step}
 use Rattle.timer_desk.specs.declared.report.Step.TheVariants as Steps
 use Rattle.timer_desk.specs.declared.driving.DriveEnd.{DriveEnd}
 use Rattle.timer_desk.specs.declared.driving.DriveEnd.TheVariants as DriveEnds
+use Rattle.timer_desk.specs.Inlet.{LineKind}
 use Rattle.timer_desk.specs.Backlog.{BacklogState}
 use Rattle.timer_desk.specs.Report.{HeldIsLast, asked, asked_in, flushed}
 use Rattle.timer_desk.specs.Desk.{DeskState, clients_of, side_at, steps_of, step_in, AreBehind, Told, InRange}
@@ -89,23 +88,23 @@ nothing_left goal (p ∷ ps) h (suc c) d l = nothing_left goal ps (omega arith) 
 pub some_left : (goal : ℕ) (ps : List Progress) → ¬ ((c : ℕ) (d : Progress) → c < length ps → IsDone goal (get_or ps c d)) → 0 < all_left goal ps
 some_left goal ps h = ⊎_elim (λ a. a) (λ a. absurd (h (nothing_left goal ps (omega arith)))) (cases_lt 0 (all_left goal ps))
 
-module _ {I : Type 0} (got standing : I → List Numbered) (given : I → List Word) (same : I → I → Type 0) (refuses : Bool) where
-  pub Turns-nothing : ((a : I) → same a a) → (goal : ℕ) (refused : Bool) (x : DeskState I) (ps : List Progress)
-      → ((c : ℕ) (i : I) (b : BacklogState) → c < clients_of x → HeldIsLast (side_at got standing given x c i b)) → Turns got standing given same refuses goal refused x x ps ps
-  Turns-nothing reflexive goal refused x ps held = record {
+module _ {I : Type 0} (kind : LineKind I) where
+  pub Turns-nothing : (goal : ℕ) (refused : Bool) (x : DeskState I) (ps : List Progress)
+      → ((c : ℕ) (i : I) (b : BacklogState) → c < clients_of x → HeldIsLast (side_at kind x c i b)) → Turns kind goal refused x x ps ps
+  Turns-nothing goal refused x ps held = record {
     report = [];
-    told = Told-nothing got standing given same refuses reflexive x held;
+    told = Told-nothing kind x held;
     fit = λ k d l. absurd (omega arith);
     behind = tt;
     memory = λ e k d l. absurd (omega arith);
     counted = λ c p l. record { served = omega arith; flushed = omega arith };
   }
 
-  pub Turns-one : (goal : ℕ) (refused : Bool) (x y : DeskState I) (ps qs : List Progress) (report : List Done) (steps : List Step) (n : ℕ) → n ≡ clients_of x → Told got standing given same refuses report x y
+  pub Turns-one : (goal : ℕ) (refused : Bool) (x y : DeskState I) (ps qs : List Progress) (report : List Done) (steps : List Step) (n : ℕ) → n ≡ clients_of x → Told kind report x y
       → steps_of report ≡ steps → All (IsFit n) steps → AreBehind false report
       → (refused ≡ false → NoneRanOut report)
       → ((c : ℕ) (p : Progress) → c < length ps → HasCounted goal (length (asked c report)) (flushed c report) (get_or ps c p) (get_or qs c p))
-      → Turns got standing given same refuses goal refused x y ps qs
+      → Turns kind goal refused x y ps qs
   Turns-one goal refused x y ps qs report steps n e told is fit behind memory counted = record {
     report = report;
     told = told;
@@ -115,23 +114,23 @@ module _ {I : Type 0} (got standing : I → List Numbered) (given : I → List W
     counted = counted;
   }
 
-  pub TurnsOnce-one : (goal : ℕ) (refused : Bool) (x y : DeskState I) (ps qs : List Progress) (report : List Done) (steps : List Step) (n : ℕ) → n ≡ clients_of x → Told got standing given same refuses report x y
+  pub TurnsOnce-one : (goal : ℕ) (refused : Bool) (x y : DeskState I) (ps qs : List Progress) (report : List Done) (steps : List Step) (n : ℕ) → n ≡ clients_of x → Told kind report x y
       → steps_of report ≡ steps → All (IsFit n) steps → ticks_in steps ≡ 1 → AreBehind false report
       → (refused ≡ false → NoneRanOut report)
       → ((c : ℕ) (p : Progress) → c < length ps → HasCounted goal (length (asked c report)) (flushed c report) (get_or ps c p) (get_or qs c p))
-      → TurnsOnce got standing given same refuses goal refused x y ps qs
+      → TurnsOnce kind goal refused x y ps qs
   unfolding Turns-one
   TurnsOnce-one goal refused x y ps qs report steps n e told is fit one behind memory counted = record {
     turns = Turns-one goal refused x y ps qs report steps n e told is fit behind memory counted;
     once = λ _. ap ticks_in is ∙ one;
   }
 
-  pub Turns-joined : ((a b c : I) → same a b → same b c → same a c) → (goal : ℕ) (refused : Bool) (x y z : DeskState I) (ps qs rs : List Progress) → length qs ≡ length ps
-      → Turns got standing given same refuses goal false x y ps qs → Turns got standing given same refuses goal refused y z qs rs
-      → Turns got standing given same refuses goal refused x z ps rs
-  Turns-joined trans goal refused x y z ps qs rs len f g = record {
+  pub Turns-joined : (goal : ℕ) (refused : Bool) (x y z : DeskState I) (ps qs rs : List Progress) → length qs ≡ length ps
+      → Turns kind goal false x y ps qs → Turns kind goal refused y z qs rs
+      → Turns kind goal refused x z ps rs
+  Turns-joined goal refused x y z ps qs rs len f g = record {
     report = f.report ++ g.report;
-    told = Told-joined got standing given same refuses trans f.report g.report x y z f.told g.told;
+    told = Told-joined kind f.report g.report x y z f.told g.told;
     fit =
         subst (All (IsFit (clients_of x))) (sym (flat_map-append step_in f.report g.report))
         (All-append (IsFit (clients_of x)) (steps_of f.report) (steps_of g.report) f.fit (subst (λ n. All (IsFit n) (steps_of g.report)) f.told.clients.same_clients g.fit));
@@ -154,7 +153,7 @@ module _ {I : Type 0} (got standing : I → List Numbered) (given : I → List W
   nothing = record { served = 0; flushed = 0 }
 
   -- from nothing, what was done is counted up to the goal
-  counted_up : (goal : ℕ) (refused : Bool) (x y : DeskState I) (qs : List Progress) (n : ℕ) → n ≡ clients_of x → (t : Turns got standing given same refuses goal refused x y (replicate n nothing) qs)
+  counted_up : (goal : ℕ) (refused : Bool) (x y : DeskState I) (qs : List Progress) (n : ℕ) → n ≡ clients_of x → (t : Turns kind goal refused x y (replicate n nothing) qs)
       → (c : ℕ) → c < clients_of x
       → ((get_or qs c nothing).served ≡ min (length (asked c t.report)) goal) × ((get_or qs c nothing).flushed ≡ min (flushed c t.report) (2 * goal))
   counted_up goal refused x y qs n e t c l =
@@ -170,34 +169,34 @@ module _ {I : Type 0} (got standing : I → List Numbered) (given : I → List W
   -- turns, and after them so many that changed no count
   pub record IdleSince (goal idle : ℕ) (x y : DeskState I) (ps qs : List Progress) : Type 0 where
     pub was : DeskState I
-    pub passed : Turns got standing given same refuses goal false x was ps qs
-    pub since : Turns got standing given same refuses goal false was y qs qs
+    pub passed : Turns kind goal false x was ps qs
+    pub since : Turns kind goal false was y qs qs
     pub many : turns_in since.report ≡ idle
 
   -- all of them together
-  pub idle_whole : ((a b c : I) → same a b → same b c → same a c) → (goal idle : ℕ) (x y : DeskState I) (ps qs : List Progress) → length qs ≡ length ps → IdleSince goal idle x y ps qs
-      → Turns got standing given same refuses goal false x y ps qs
-  idle_whole trans goal idle x y ps qs len h = Turns-joined trans goal false x h.was y ps qs qs len h.passed h.since
+  pub idle_whole : (goal idle : ℕ) (x y : DeskState I) (ps qs : List Progress) → length qs ≡ length ps → IdleSince goal idle x y ps qs
+      → Turns kind goal false x y ps qs
+  idle_whole goal idle x y ps qs len h = Turns-joined goal false x h.was y ps qs qs len h.passed h.since
 
-  pub idle_first : (goal : ℕ) (x y z : DeskState I) (ps qs : List Progress) → Turns got standing given same refuses goal false x y ps qs → (t : Turns got standing given same refuses goal false y z qs qs) → turns_in t.report ≡ 1
+  pub idle_first : (goal : ℕ) (x y z : DeskState I) (ps qs : List Progress) → Turns kind goal false x y ps qs → (t : Turns kind goal false y z qs qs) → turns_in t.report ≡ 1
       → IdleSince goal 1 x z ps qs
   idle_first goal x y z ps qs f t one = record { was = y; passed = f; since = t; many = one }
 
-  pub idle_more : ((a b c : I) → same a b → same b c → same a c) → (goal idle : ℕ) (x y z : DeskState I) (ps qs : List Progress) → IdleSince goal idle x y ps qs
-      → (t : Turns got standing given same refuses goal false y z qs qs) → turns_in t.report ≡ 1 → IdleSince goal (idle + 1) x z ps qs
+  pub idle_more : (goal idle : ℕ) (x y z : DeskState I) (ps qs : List Progress) → IdleSince goal idle x y ps qs
+      → (t : Turns kind goal false y z qs qs) → turns_in t.report ≡ 1 → IdleSince goal (idle + 1) x z ps qs
   unfolding Turns-joined
-  idle_more trans goal idle x y z ps qs h t one = record {
+  idle_more goal idle x y z ps qs h t one = record {
     was = h.was;
     passed = h.passed;
-    since = Turns-joined trans goal false h.was y z qs qs qs refl h.since t;
+    since = Turns-joined goal false h.was y z qs qs qs refl h.since t;
     many = turns_in-append h.since.report t.report ∙ ap (λ n. n + turns_in t.report) h.many ∙ ap (λ n. idle + n) one;
   }
 
-  pub ends_idle : (trans : (a b c : I) → same a b → same b c → same a c) (goal idle : ℕ) (x y : DeskState I) (qs : List Progress) (n : ℕ) → n ≡ clients_of x → (len : length qs ≡ length (replicate n nothing))
-      → (h : IdleSince goal idle x y (replicate n nothing) qs) → EndsIdle goal idle (clients_of x) (idle_whole trans goal idle x y (replicate n nothing) qs len h).report
+  pub ends_idle : (goal idle : ℕ) (x y : DeskState I) (qs : List Progress) (n : ℕ) → n ≡ clients_of x → (len : length qs ≡ length (replicate n nothing))
+      → (h : IdleSince goal idle x y (replicate n nothing) qs) → EndsIdle goal idle (clients_of x) (idle_whole goal idle x y (replicate n nothing) qs len h).report
   unfolding Turns-joined idle_whole
-  ends_idle trans goal idle x y qs n e len h =
-      let all = counted_up goal false x y qs n e (idle_whole trans goal idle x y (replicate n nothing) qs len h) in
+  ends_idle goal idle x y qs n e len h =
+      let all = counted_up goal false x y qs n e (idle_whole goal idle x y (replicate n nothing) qs len h) in
       let first = counted_up goal false x h.was qs n e h.passed in record {
         before = h.passed.report;
         after = h.since.report;
@@ -218,12 +217,12 @@ module _ {I : Type 0} (got standing : I → List Numbered) (given : I → List W
   }
 
   pub Drives-turns : (goal limit : ℕ) (refused : Bool) (x y : DeskState I) (qs : List Progress) (outcome : DriveEnd) (n : ℕ) → IsLaw x.facility → n ≡ clients_of x
-      → length qs ≡ n → (t : Turns got standing given same refuses goal refused x y (replicate n (record { served = 0; flushed = 0 })) qs)
+      → length qs ≡ n → (t : Turns kind goal refused x y (replicate n (record { served = 0; flushed = 0 })) qs)
       → (outcome ≡ DriveEnds.Done → (c : ℕ) (p : Progress) → c < clients_of x → IsDone goal (get_or qs c p))
       → (outcome ≡ DriveEnds.Limit → 0 < limit → 0 < all_left goal qs)
       → (¬ (outcome ≡ DriveEnds.OutOfMemory) → refused ≡ false)
       → (outcome ≡ DriveEnds.Limit → EndsIdle goal limit (clients_of x) t.report)
-      → Drives got standing given same refuses goal limit x y outcome
+      → Drives kind goal limit x y outcome
   Drives-turns goal limit refused x y qs outcome n law e len t done left memory idle = record {
     report = t.report;
     told = t.told;

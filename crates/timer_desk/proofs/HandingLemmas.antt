@@ -20,12 +20,12 @@ use Rattle.timer_facility.specs.Run.{run, notices_in}
 use Rattle.timer_facility.specs.Facility.{FacilityView, view_after, with_nothing_waiting}
 use Rattle.timer_facility.specs.HandedOver.{HandsOver, timers_handed}
 use Rattle.timer_facility.specs.Owed.{timer_handed}
-use Rattle.timer_desk.specs.declared.word.Numbered.{Numbered}
 use Rattle.timer_desk.specs.declared.word.Word.{Word}
 use Rattle.timer_desk.specs.declared.word.Word.TheVariants as Words
 use Rattle.timer_desk.specs.declared.report.Done.{Done}
 use Rattle.timer_desk.specs.declared.report.Done.TheVariants as Dones
 use Rattle.timer_desk.specs.declared.report.Step.TheVariants as Steps
+use Rattle.timer_desk.specs.Inlet.{LineKind}
 use Rattle.timer_desk.specs.Backlog.{BacklogState, empty_backlog, with_word, with_words, client_of, with_notice, with_notices, notices_for, HasRoom}
 use Rattle.timer_desk.specs.declared.report.Served.TheVariants.{NoMemory}
 use Rattle.timer_desk.specs.Extends.{Extends, Extends-refl}
@@ -173,18 +173,18 @@ Tells-noted c first ns a o last =
       same_room = refl;
     }
 
-module _ {I : Type 0} (got standing : I → List Numbered) (given : I → List Word) (same : I → I → Type 0) (refuses : Bool) where
+module _ {I : Type 0} (kind : LineKind I) where
   -- a tick or a close, and its notices
-  pub Told-noted : ((a : I) → same a a) → (first : Done) (ns : List Notice) (f f' : FacilityView) (inlets : List I) (bs bs' : List BacklogState) → IsOwners first
-      → IsDesk got standing given f inlets bs → bs' ≡ with_notices ns bs → HasRoom bs' f' → Runs (first ∷ map Dones.Noticed ns) f.state f'.state
+  pub Told-noted : (first : Done) (ns : List Notice) (f f' : FacilityView) (inlets : List I) (bs bs' : List BacklogState) → IsOwners first
+      → IsDesk kind f inlets bs → bs' ≡ with_notices ns bs → HasRoom bs' f' → Runs (first ∷ map Dones.Noticed ns) f.state f'.state
       → IsRightClose f.state [] first []
       → let old : DeskState I = record { facility = f.state; inlets = inlets; backlogs = bs } in
       let new : DeskState I = record { facility = f'.state; inlets = inlets; backlogs = bs' } in
-      Told got standing given same refuses (first ∷ map Dones.Noticed ns) old new
-  Told-noted reflexive first ns f f' inlets bs bs' o d e room runs closes = record {
+      Told kind (first ∷ map Dones.Noticed ns) old new
+  Told-noted first ns f f' inlets bs bs' o d e room runs closes = record {
     clients = record {
       same_clients = refl;
-      lines = λ c i l. reflexive (get_or inlets c i);
+      lines = λ c i l. kind.reflexive (get_or inlets c i);
       sides = λ c i b l. told_side c i b l;
     };
     facility = runs;
@@ -194,10 +194,10 @@ module _ {I : Type 0} (got standing : I → List Numbered) (given : I → List W
   }
     where
       right_side : (c : ℕ) (i : I) (b : BacklogState) → c < length inlets
-          → AtEach (IsRight refuses c f.state (side_of got standing given (get_or inlets c i) (get_or bs c b)) (side_of got standing given (get_or inlets c i) (get_or bs' c b))) [] (first ∷ map Dones.Noticed ns)
+          → AtEach (IsRight kind.take_may_refuse c f.state (side_of kind (get_or inlets c i) (get_or bs c b)) (side_of kind (get_or inlets c i) (get_or bs' c b))) [] (first ∷ map Dones.Noticed ns)
       right_side c i b l =
-          let a : Side = side_of got standing given (get_or inlets c i) (get_or bs c b) in
-          let z : Side = side_of got standing given (get_or inlets c i) (get_or bs' c b) in
+          let a : Side = side_of kind (get_or inlets c i) (get_or bs c b) in
+          let z : Side = side_of kind (get_or inlets c i) (get_or bs' c b) in
           let within : c < length bs = let m = d.as_many in omega arith in
           let long : length bs' ≡ length bs = ap (λ xs. length xs) e ∙ length-notices ns bs in
           let there : get_or bs' c b ≡ with_words (words c (map Dones.Noticed ns)) (get_or bs c b) = ap (λ xs. get_or xs c b) e ∙ with_notices-at ns bs c b within in
@@ -210,21 +210,21 @@ module _ {I : Type 0} (got standing : I → List Numbered) (given : I → List W
           let no_words : length (words c (first ∷ [])) ≡ 0 = ap (λ xs. length (xs ++ [])) (o.no_word c) in
           let none : flushed c (first ∷ []) ≡ 0 = let f0 = o.none_flushed c in omega arith in (
             record { served = o.is_right c _ _ _ _; needed = λ is. absurd (o.no_serve c is); room = omega arith },
-            right-notices refuses c f.state a z (first ∷ []) ns none (omega arith),
+            right-notices kind.take_may_refuse c f.state a z (first ∷ []) ns none (omega arith),
           )
 
       told_side : (c : ℕ) (i : I) (b : BacklogState) → c < length inlets
-          → Tells c (first ∷ map Dones.Noticed ns) (side_of got standing given (get_or inlets c i) (get_or bs c b)) (side_of got standing given (get_or inlets c i) (get_or bs' c b))
+          → Tells c (first ∷ map Dones.Noticed ns) (side_of kind (get_or inlets c i) (get_or bs c b)) (side_of kind (get_or inlets c i) (get_or bs' c b))
       told_side c i b l =
-          let a : Side = side_of got standing given (get_or inlets c i) (get_or bs c b) in
+          let a : Side = side_of kind (get_or inlets c i) (get_or bs c b) in
           let within : c < length bs = let m = d.as_many in omega arith in
           let there : get_or bs' c b ≡ with_words (words c (map Dones.Noticed ns)) (get_or bs c b) = ap (λ xs. get_or xs c b) e ∙ with_notices-at ns bs c b within in
-          subst (λ x. Tells c (first ∷ map Dones.Noticed ns) a (side_of got standing given (get_or inlets c i) x)) (sym there) (Tells-noted c first ns a o (d.held c i b l))
+          subst (λ x. Tells c (first ∷ map Dones.Noticed ns) a (side_of kind (get_or inlets c i) x)) (sym there) (Tells-noted c first ns a o (d.held c i b l))
 
   -- the invariant of a desk, after a tick or a close and its notices
   pub IsDesk-noted : (ns : List Notice) (f f' : FacilityView) (inlets : List I) (bs bs' : List BacklogState)
-      → IsDesk got standing given f inlets bs → bs' ≡ with_notices ns bs → f'.waiting ≡ [] → length f'.state.numbers ≡ length f.state.numbers → HasRoom bs' f'
-      → IsDesk got standing given f' inlets bs'
+      → IsDesk kind f inlets bs → bs' ≡ with_notices ns bs → f'.waiting ≡ [] → length f'.state.numbers ≡ length f.state.numbers → HasRoom bs' f'
+      → IsDesk kind f' inlets bs'
   IsDesk-noted ns f f' inlets bs bs' d e quiet numbers room = record {
     nothing_waits = quiet;
     as_many = ap (λ xs. length xs) e ∙ length-notices ns bs ∙ d.as_many;
@@ -233,7 +233,7 @@ module _ {I : Type 0} (got standing : I → List Numbered) (given : I → List W
     held = λ c i b l.
         let within : c < length bs = let m = d.as_many in omega arith in
         let there : get_or bs' c b ≡ with_words (words c (map Dones.Noticed ns)) (get_or bs c b) = ap (λ xs. get_or xs c b) e ∙ with_notices-at ns bs c b within in
-        subst (λ x. HeldIsLast (side_of got standing given (get_or inlets c i) x)) (sym there) (d.held c i b l);
+        subst (λ x. HeldIsLast (side_of kind (get_or inlets c i) x)) (sym there) (d.held c i b l);
   }
 
 -- The facility.
@@ -381,42 +381,42 @@ fewer_ticked f f' hands e =
 abbrev pub desk_of : {I : Type 0} → FacilityView → List I → List BacklogState → DeskState I
 desk_of f inlets bs = record { facility = f.state; inlets = inlets; backlogs = bs }
 
-module _ {I : Type 0} (got standing : I → List Numbered) (given : I → List Word) (same : I → I → Type 0) (refuses : Bool) where
-  pub Told-tick : ((a : I) → same a a) → (f g f' : FacilityView) (r : Result (Unit {0}) TickFault) (inlets : List I) (bs bs' : List BacklogState)
-      → IsDesk got standing given f inlets bs → g ≡ view_after (step f.state Tick 0)
+module _ {I : Type 0} (kind : LineKind I) where
+  pub Told-tick : (f g f' : FacilityView) (r : Result (Unit {0}) TickFault) (inlets : List I) (bs bs' : List BacklogState)
+      → IsDesk kind f inlets bs → g ≡ view_after (step f.state Tick 0)
       → MatchResult r (λ done. tick_refusal f.state ≡ None) (λ fault. tick_refusal f.state ≡ Some fault)
       → f' ≡ with_nothing_waiting g.state → bs' ≡ with_notices g.waiting bs → HasRoom bs' f'
-      → Told got standing given same refuses (Dones.Ticked r ∷ map Dones.Noticed (tick_notices f.state)) (desk_of f inlets bs) (desk_of f' inlets bs')
-  Told-tick reflexive f g f' r inlets bs bs' d e h left noted room =
+      → Told kind (Dones.Ticked r ∷ map Dones.Noticed (tick_notices f.state)) (desk_of f inlets bs) (desk_of f' inlets bs')
+  Told-tick f g f' r inlets bs bs' d e h left noted room =
       let waits : g.waiting ≡ tick_notices f.state = ap (λ (v : FacilityView). v.waiting) e in
       let runs : Runs (Dones.Ticked r ∷ map Dones.Noticed (tick_notices f.state)) f.state f'.state =
       subst (Runs (Dones.Ticked r ∷ map Dones.Noticed (tick_notices f.state)) f.state) (sym (ap (λ (v : FacilityView). v.state) left)) (Runs-ticked f g r e h) in
-      Told-noted got standing given same refuses reflexive (Dones.Ticked r) (tick_notices f.state) f f' inlets bs bs' (of_tick r) d (noted ∙ ap (λ ns. with_notices ns bs) waits) room runs (λ is. absurd (cc))
+      Told-noted kind (Dones.Ticked r) (tick_notices f.state) f f' inlets bs bs' (of_tick r) d (noted ∙ ap (λ ns. with_notices ns bs) waits) room runs (λ is. absurd (cc))
 
   pub IsDesk-tick : (f g f' : FacilityView) (inlets : List I) (bs bs' : List BacklogState)
-      → IsDesk got standing given f inlets bs → g ≡ view_after (step f.state Tick 0)
+      → IsDesk kind f inlets bs → g ≡ view_after (step f.state Tick 0)
       → f' ≡ with_nothing_waiting g.state → bs' ≡ with_notices g.waiting bs → HasRoom bs' f'
-      → IsDesk got standing given f' inlets bs'
+      → IsDesk kind f' inlets bs'
   IsDesk-tick f g f' inlets bs bs' d e left noted room =
-      IsDesk-noted got standing given same refuses g.waiting f f' inlets bs bs' d noted (ap (λ (v : FacilityView). v.waiting) left)
+      IsDesk-noted kind g.waiting f f' inlets bs bs' d noted (ap (λ (v : FacilityView). v.waiting) left)
       (ap (λ (v : FacilityView). length v.state.numbers) left ∙ ap (λ (v : FacilityView). length v.state.numbers) e ∙ numbers_tick f.state) room
 
-  pub Told-close : ((a : I) → same a a) → (f g f' : FacilityView) (r : Result ℕ CloseFault) (inlets : List I) (bs bs' : List BacklogState)
-      → IsDesk got standing given f inlets bs → HasClosed f g r
+  pub Told-close : (f g f' : FacilityView) (r : Result ℕ CloseFault) (inlets : List I) (bs bs' : List BacklogState)
+      → IsDesk kind f inlets bs → HasClosed f g r
       → f' ≡ with_nothing_waiting g.state → bs' ≡ with_notices g.waiting bs → HasRoom bs' f'
-      → Told got standing given same refuses (Dones.Closed r ∷ map Dones.Noticed (close_notices f.state r)) (desk_of f inlets bs) (desk_of f' inlets bs')
-  Told-close reflexive f g f' r inlets bs bs' d h left noted room =
+      → Told kind (Dones.Closed r ∷ map Dones.Noticed (close_notices f.state r)) (desk_of f inlets bs) (desk_of f' inlets bs')
+  Told-close f g f' r inlets bs bs' d h left noted room =
       let waits : g.waiting ≡ close_notices f.state r = waiting_close f g r h d.nothing_waits in
       let runs : Runs (Dones.Closed r ∷ map Dones.Noticed (close_notices f.state r)) f.state f'.state =
       subst (Runs (Dones.Closed r ∷ map Dones.Noticed (close_notices f.state r)) f.state) (sym (ap (λ (v : FacilityView). v.state) left)) (Runs-closed f g r h) in
-      Told-noted got standing given same refuses reflexive (Dones.Closed r) (close_notices f.state r) f f' inlets bs bs' (of_close r) d (noted ∙ ap (λ ns. with_notices ns bs) waits) room runs (right_close f g r h)
+      Told-noted kind (Dones.Closed r) (close_notices f.state r) f f' inlets bs bs' (of_close r) d (noted ∙ ap (λ ns. with_notices ns bs) waits) room runs (right_close f g r h)
 
   pub IsDesk-close : (f g f' : FacilityView) (r : Result ℕ CloseFault) (inlets : List I) (bs bs' : List BacklogState)
-      → IsDesk got standing given f inlets bs → HasClosed f g r
+      → IsDesk kind f inlets bs → HasClosed f g r
       → f' ≡ with_nothing_waiting g.state → bs' ≡ with_notices g.waiting bs → HasRoom bs' f'
-      → IsDesk got standing given f' inlets bs'
+      → IsDesk kind f' inlets bs'
   IsDesk-close f g f' r inlets bs bs' d h left noted room =
-      IsDesk-noted got standing given same refuses g.waiting f f' inlets bs bs' d noted (ap (λ (v : FacilityView). v.waiting) left)
+      IsDesk-noted kind g.waiting f f' inlets bs bs' d noted (ap (λ (v : FacilityView). v.waiting) left)
       (ap (λ (v : FacilityView). length v.state.numbers) left ∙ numbers_close f g r h) room
 
   -- the members that a tick or a close appends
@@ -424,29 +424,29 @@ module _ {I : Type 0} (got standing : I → List Numbered) (given : I → List W
       → after ≡ before ++ (first ∷ map Dones.Noticed ns)
   added_are before after first g ns waits e = e ∙ ap (λ xs. (before ++ first ∷ []) ++ map Dones.Noticed xs) waits ∙ append_assoc before (first ∷ []) (map Dones.Noticed ns)
 
-  pub AddsStep-tick : ((a : I) → same a a) → (before after : List Done) (f g f' : FacilityView) (r : Result (Unit {0}) TickFault) (inlets : List I) (bs bs' : List BacklogState)
-      → IsDesk got standing given f inlets bs → g ≡ view_after (step f.state Tick 0)
+  pub AddsStep-tick : (before after : List Done) (f g f' : FacilityView) (r : Result (Unit {0}) TickFault) (inlets : List I) (bs bs' : List BacklogState)
+      → IsDesk kind f inlets bs → g ≡ view_after (step f.state Tick 0)
       → MatchResult r (λ done. tick_refusal f.state ≡ None) (λ fault. tick_refusal f.state ≡ Some fault)
       → f' ≡ with_nothing_waiting g.state → bs' ≡ with_notices g.waiting bs → HasRoom bs' f'
       → after ≡ (before ++ Dones.Ticked r ∷ []) ++ map Dones.Noticed g.waiting
-      → AddsStep got standing given same refuses Steps.Tick before after (desk_of f inlets bs) (desk_of f' inlets bs')
-  AddsStep-tick reflexive before after f g f' r inlets bs bs' d e h left noted room added = record {
+      → AddsStep kind Steps.Tick before after (desk_of f inlets bs) (desk_of f' inlets bs')
+  AddsStep-tick before after f g f' r inlets bs bs' d e h left noted room added = record {
     more = Dones.Ticked r ∷ map Dones.Noticed (tick_notices f.state);
     added = added_are before after (Dones.Ticked r) g (tick_notices f.state) (ap (λ (v : FacilityView). v.waiting) e) added;
     step = ap (λ xs. Steps.Tick ∷ xs) (steps-notices (tick_notices f.state));
     behind = behind-notices (tick_notices f.state);
-    told = Told-tick reflexive f g f' r inlets bs bs' d e h left noted room;
+    told = Told-tick f g f' r inlets bs bs' d e h left noted room;
   }
 
-  pub AddsStep-close : ((a : I) → same a a) → (before after : List Done) (f g f' : FacilityView) (r : Result ℕ CloseFault) (inlets : List I) (bs bs' : List BacklogState)
-      → IsDesk got standing given f inlets bs → HasClosed f g r
+  pub AddsStep-close : (before after : List Done) (f g f' : FacilityView) (r : Result ℕ CloseFault) (inlets : List I) (bs bs' : List BacklogState)
+      → IsDesk kind f inlets bs → HasClosed f g r
       → f' ≡ with_nothing_waiting g.state → bs' ≡ with_notices g.waiting bs → HasRoom bs' f'
       → after ≡ (before ++ Dones.Closed r ∷ []) ++ map Dones.Noticed g.waiting
-      → AddsStep got standing given same refuses Steps.Close before after (desk_of f inlets bs) (desk_of f' inlets bs')
-  AddsStep-close reflexive before after f g f' r inlets bs bs' d h left noted room added = record {
+      → AddsStep kind Steps.Close before after (desk_of f inlets bs) (desk_of f' inlets bs')
+  AddsStep-close before after f g f' r inlets bs bs' d h left noted room added = record {
     more = Dones.Closed r ∷ map Dones.Noticed (close_notices f.state r);
     added = added_are before after (Dones.Closed r) g (close_notices f.state r) (waiting_close f g r h d.nothing_waits) added;
     step = ap (λ xs. Steps.Close ∷ xs) (steps-notices (close_notices f.state r));
     behind = behind-notices (close_notices f.state r);
-    told = Told-close reflexive f g f' r inlets bs bs' d h left noted room;
+    told = Told-close f g f' r inlets bs bs' d h left noted room;
   }

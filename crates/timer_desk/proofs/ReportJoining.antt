@@ -7,11 +7,11 @@ use Rattle.timer_facility.specs.Step.{Step, step}
 use Rattle.timer_facility.specs.Run.{Placed, Happened, run, history, state_after, outs_of, notices, notices_in}
 use Rattle.timer_facility.specs.Owed.{owed}
 use Rattle.timer_desk.specs.declared.word.Numbered.{Numbered}
-use Rattle.timer_desk.specs.declared.word.Word.{Word}
 use Rattle.timer_desk.specs.declared.report.Served.{Served}
 use Rattle.timer_desk.specs.declared.report.Served.TheVariants.{Idle, NoRoom, NoMemory, Did}
 use Rattle.timer_desk.specs.declared.report.Done.{Done}
 use Rattle.timer_desk.specs.declared.report.Done.TheVariants as Dones
+use Rattle.timer_desk.specs.Inlet.{LineKind}
 use Rattle.timer_desk.specs.Backlog.{BacklogState}
 use Rattle.timer_facility.specs.Facility.{NeedsMemory}
 use Rattle.timer_desk.specs.Extends.{Extends, Extends-refl, Extends-front, Extends-is, Extends-trans}
@@ -250,22 +250,22 @@ in_time-joined s t r q runs h k = in_time-append s [] r q h (subst (λ p. AreInT
 
 -- The desk.
 
-module _ {I : Type 0} (got standing : I → List Numbered) (given : I → List Word) (same : I → I → Type 0) (refuses : Bool) (trans : (a b c : I) → same a b → same b c → same a c) where
-  pub ToldSides-joined : (r q : List Done) (x y z : DeskState I) → ToldSides got standing given same refuses r x y → ToldSides got standing given same refuses q y z → ToldSides got standing given same refuses (r ++ q) x z
+module _ {I : Type 0} (kind : LineKind I) where
+  pub ToldSides-joined : (r q : List Done) (x y z : DeskState I) → ToldSides kind r x y → ToldSides kind q y z → ToldSides kind (r ++ q) x z
   ToldSides-joined r q x y z f g = record {
     same_clients = g.same_clients ∙ f.same_clients;
-    lines = λ c i low. trans (get_or x.inlets c i) (get_or y.inlets c i) (get_or z.inlets c i) (f.lines c i low) (let e = f.same_clients in g.lines c i (omega arith));
+    lines = λ c i low. kind.transitive (get_or x.inlets c i) (get_or y.inlets c i) (get_or z.inlets c i) (f.lines c i low) (let e = f.same_clients in g.lines c i (omega arith));
     sides = λ c i b low. Tells-joined c r q _ _ _ (f.sides c i b low) (let e = f.same_clients in g.sides c i b (omega arith));
   }
 
-  pub Told-joined : (r q : List Done) (x y z : DeskState I) → Told got standing given same refuses r x y → Told got standing given same refuses q y z → Told got standing given same refuses (r ++ q) x z
+  pub Told-joined : (r q : List Done) (x y z : DeskState I) → Told kind r x y → Told kind q y z → Told kind (r ++ q) x z
   Told-joined r q x y z f g = record {
     clients = ToldSides-joined r q x y z f.clients g.clients;
     facility = Runs-joined r q x.facility y.facility z.facility f.facility g.facility;
     in_time = in_time-joined x.facility y.facility r q f.facility f.in_time g.in_time;
     right = λ c i b low.
         let within : c < clients_of y = let e = f.clients.same_clients in omega arith in
-        Right-joined refuses c r q (side_at got standing given x c i b) (side_at got standing given y c i b) (side_at got standing given z c i b) x.facility y.facility
+        Right-joined kind.take_may_refuse c r q (side_at kind x c i b) (side_at kind y c i b) (side_at kind z c i b) x.facility y.facility
         (f.clients.sides c i b low) (g.clients.sides c i b within) f.facility.state_is (f.right c i b low) (g.right c i b within);
     closes = closes-joined r q x.facility y.facility f.facility.state_is f.closes g.closes;
   }
@@ -287,14 +287,14 @@ Tells-nothing c x last = record {
   same_room = refl;
 }
 
-module _ {I : Type 0} (got standing : I → List Numbered) (given : I → List Word) (same : I → I → Type 0) (refuses : Bool) where
-  pub Told-nothing : ((a : I) → same a a) → (x : DeskState I)
-      → ((c : ℕ) (i : I) (b : BacklogState) → c < clients_of x → HeldIsLast (side_at got standing given x c i b)) → Told got standing given same refuses [] x x
-  Told-nothing reflexive x last = record {
+module _ {I : Type 0} (kind : LineKind I) where
+  pub Told-nothing : (x : DeskState I)
+      → ((c : ℕ) (i : I) (b : BacklogState) → c < clients_of x → HeldIsLast (side_at kind x c i b)) → Told kind [] x x
+  Told-nothing x last = record {
     clients = record {
       same_clients = refl;
-      lines = λ c i low. reflexive (get_or x.inlets c i);
-      sides = λ c i b low. Tells-nothing c (side_at got standing given x c i b) (last c i b low);
+      lines = λ c i low. kind.reflexive (get_or x.inlets c i);
+      sides = λ c i b low. Tells-nothing c (side_at kind x c i b) (last c i b low);
     };
     facility = record { outs_are = refl; state_is = refl };
     in_time = refl;

@@ -6,11 +6,11 @@ use Rattle.std.proofs.lemmas.List.{get_or-set_same, get_or-set_other, get_or_def
 use Rattle.timer_facility.specs.State.{FacilityState, pending_of}
 use Rattle.timer_facility.specs.Facility.{FacilityView}
 use Rattle.timer_desk.specs.declared.word.Numbered.{Numbered}
-use Rattle.timer_desk.specs.declared.word.Word.{Word}
 use Rattle.timer_desk.specs.declared.report.Served.{Served}
 use Rattle.timer_desk.specs.declared.report.Served.TheVariants.{NoMemory}
 use Rattle.timer_desk.specs.declared.report.Done.{Done}
 use Rattle.timer_desk.specs.declared.report.Done.TheVariants as Dones
+use Rattle.timer_desk.specs.Inlet.{LineKind}
 use Rattle.timer_desk.specs.Backlog.{BacklogState, notices_for}
 use Rattle.timer_desk.specs.Asking.{RanOutOfMemory}
 use Rattle.timer_desk.specs.Extends.{Extends, Extends-refl}
@@ -104,18 +104,18 @@ needed_first refuses c s None h = h
 pub same_served : (c : ℕ) (x y : Served) → Dones.Served c x ≡ Dones.Served c y → x ≡ y
 same_served c x y h = cc
 
-module _ {I : Type 0} (got standing : I → List Numbered) (given : I → List Word) (same : I → I → Type 0) (refuses : Bool) where
+module _ {I : Type 0} (kind : LineKind I) where
   -- the report of a desk whose client c alone was served or had its words flushed
-  pub Told-one : ((a : I) → same a a) → (c : ℕ) (done : Done) (f f' : FacilityView) (inlets : List I) (backlogs : List BacklogState) (i i' : I) (b b' : BacklogState)
-      → IsOf c done → IsDesk got standing given f inlets backlogs → c < length inlets
+  pub Told-one : (c : ℕ) (done : Done) (f f' : FacilityView) (inlets : List I) (backlogs : List BacklogState) (i i' : I) (b b' : BacklogState)
+      → IsOf c done → IsDesk kind f inlets backlogs → c < length inlets
       → i ≡ get_or inlets c i → b ≡ get_or backlogs c b
-      → same i i' → Tells c (done ∷ []) (side_of got standing given i b) (side_of got standing given i' b') → Runs (done ∷ []) f.state f'.state
-      → IsRightMember c b.room (length b.outbox) (left_of (side_of got standing given i b)) (pending_of f.state c) done
-      → (done ≡ Dones.Served c NoMemory → RanOutOfMemory refuses c f.state b'.held)
+      → kind.same i i' → Tells c (done ∷ []) (side_of kind i b) (side_of kind i' b') → Runs (done ∷ []) f.state f'.state
+      → IsRightMember c b.room (length b.outbox) (left_of (side_of kind i b)) (pending_of f.state c) done
+      → (done ≡ Dones.Served c NoMemory → RanOutOfMemory kind.take_may_refuse c f.state b'.held)
       → length b'.outbox + pending_of f'.state c ≤ b'.room
       → ((k : ℕ) → pending_of f'.state k ≤ pending_of f.state k + (if c == k then 1 else 0))
-      → Told got standing given same refuses (done ∷ []) (desk_of f inlets backlogs) (desk_of f' (slice_set inlets c i') (slice_set backlogs c b'))
-  Told-one reflexive c done f f' inlets backlogs i i' b b' o d low is_i is_b line tells runs right wants fits adds = record {
+      → Told kind (done ∷ []) (desk_of f inlets backlogs) (desk_of f' (slice_set inlets c i') (slice_set backlogs c b'))
+  Told-one c done f f' inlets backlogs i i' b b' o d low is_i is_b line tells runs right wants fits adds = record {
     clients = record {
       same_clients = length-set inlets c i';
       lines = λ k j l. line_at k j l (either (c == k));
@@ -142,46 +142,46 @@ module _ {I : Type 0} (got standing : I → List Numbered) (given : I → List W
       backlog_was : (k : ℕ) (e : BacklogState) → k ≡ c → get_or backlogs k e ≡ b
       backlog_was k e is = ap (λ n. get_or backlogs n e) is ∙ get_or_default backlogs c e b (let m = as_many in omega arith) ∙ sym is_b
 
-      line_at : (k : ℕ) (j : I) → k < length inlets → (c == k) ≡ true ⊎ (c == k) ≡ false → same (get_or inlets k j) (get_or (slice_set inlets c i') k j)
+      line_at : (k : ℕ) (j : I) → k < length inlets → (c == k) ≡ true ⊎ (c == k) ≡ false → kind.same (get_or inlets k j) (get_or (slice_set inlets c i') k j)
       line_at k j l (inl h) =
           let is : k ≡ c = is_equal c k h in
-          subst (same (get_or inlets k j)) (sym (inlet_here k j is)) (subst (λ x. same x i') (sym (inlet_was k j is)) line)
-      line_at k j l (inr h) = subst (same (get_or inlets k j)) (sym (get_or-set_other inlets c k i' j (is_other c k h))) (reflexive (get_or inlets k j))
+          subst (kind.same (get_or inlets k j)) (sym (inlet_here k j is)) (subst (λ x. kind.same x i') (sym (inlet_was k j is)) line)
+      line_at k j l (inr h) = subst (kind.same (get_or inlets k j)) (sym (get_or-set_other inlets c k i' j (is_other c k h))) (kind.reflexive (get_or inlets k j))
 
       side_told : (k : ℕ) (j : I) (e : BacklogState) → k < length inlets → (c == k) ≡ true ⊎ (c == k) ≡ false
-          → Tells k (done ∷ []) (side_of got standing given (get_or inlets k j) (get_or backlogs k e)) (side_of got standing given (get_or (slice_set inlets c i') k j) (get_or (slice_set backlogs c b') k e))
+          → Tells k (done ∷ []) (side_of kind (get_or inlets k j) (get_or backlogs k e)) (side_of kind (get_or (slice_set inlets c i') k j) (get_or (slice_set backlogs c b') k e))
       side_told k j e l (inl h) =
           let is : k ≡ c = is_equal c k h in
-          subst (λ x. Tells k (done ∷ []) (side_of got standing given x (get_or backlogs k e)) (side_of got standing given (get_or (slice_set inlets c i') k j) (get_or (slice_set backlogs c b') k e))) (sym (inlet_was k j is))
-          (subst (λ y. Tells k (done ∷ []) (side_of got standing given i y) (side_of got standing given (get_or (slice_set inlets c i') k j) (get_or (slice_set backlogs c b') k e))) (sym (backlog_was k e is))
-          (subst (λ x. Tells k (done ∷ []) (side_of got standing given i b) (side_of got standing given x (get_or (slice_set backlogs c b') k e))) (sym (inlet_here k j is))
-          (subst (λ y. Tells k (done ∷ []) (side_of got standing given i b) (side_of got standing given i' y)) (sym (backlog_here k e is))
-          (subst (λ n. Tells n (done ∷ []) (side_of got standing given i b) (side_of got standing given i' b')) (sym is) tells))))
+          subst (λ x. Tells k (done ∷ []) (side_of kind x (get_or backlogs k e)) (side_of kind (get_or (slice_set inlets c i') k j) (get_or (slice_set backlogs c b') k e))) (sym (inlet_was k j is))
+          (subst (λ y. Tells k (done ∷ []) (side_of kind i y) (side_of kind (get_or (slice_set inlets c i') k j) (get_or (slice_set backlogs c b') k e))) (sym (backlog_was k e is))
+          (subst (λ x. Tells k (done ∷ []) (side_of kind i b) (side_of kind x (get_or (slice_set backlogs c b') k e))) (sym (inlet_here k j is))
+          (subst (λ y. Tells k (done ∷ []) (side_of kind i b) (side_of kind i' y)) (sym (backlog_here k e is))
+          (subst (λ n. Tells n (done ∷ []) (side_of kind i b) (side_of kind i' b')) (sym is) tells))))
       side_told k j e l (inr h) =
           let other : k ≢ c = is_other c k h in
-          subst (λ x. Tells k (done ∷ []) (side_of got standing given (get_or inlets k j) (get_or backlogs k e)) (side_of got standing given x (get_or (slice_set backlogs c b') k e))) (sym (get_or-set_other inlets c k i' j other))
-          (subst (λ y. Tells k (done ∷ []) (side_of got standing given (get_or inlets k j) (get_or backlogs k e)) (side_of got standing given (get_or inlets k j) y)) (sym (get_or-set_other backlogs c k b' e other))
-          (Tells-other c k done (side_of got standing given (get_or inlets k j) (get_or backlogs k e)) o other (d.held k j e l)))
+          subst (λ x. Tells k (done ∷ []) (side_of kind (get_or inlets k j) (get_or backlogs k e)) (side_of kind x (get_or (slice_set backlogs c b') k e))) (sym (get_or-set_other inlets c k i' j other))
+          (subst (λ y. Tells k (done ∷ []) (side_of kind (get_or inlets k j) (get_or backlogs k e)) (side_of kind (get_or inlets k j) y)) (sym (get_or-set_other backlogs c k b' e other))
+          (Tells-other c k done (side_of kind (get_or inlets k j) (get_or backlogs k e)) o other (d.held k j e l)))
 
       state_after : (k : ℕ) → pending_after k f.state (done ∷ []) ≡ pending_of f'.state k
       state_after k = ap (λ v. pending_of v k) (sym runs.state_is)
 
       right_at : (k : ℕ) (j : I) (e : BacklogState) → k < length inlets → (c == k) ≡ true ⊎ (c == k) ≡ false
-          → IsRight refuses k f.state (side_of got standing given (get_or inlets k j) (get_or backlogs k e)) (side_of got standing given (get_or (slice_set inlets c i') k j) (get_or (slice_set backlogs c b') k e)) [] done []
+          → IsRight kind.take_may_refuse k f.state (side_of kind (get_or inlets k j) (get_or backlogs k e)) (side_of kind (get_or (slice_set inlets c i') k j) (get_or (slice_set backlogs c b') k e)) [] done []
       right_at k j e l (inl h) =
           let is : k ≡ c = is_equal c k h in
-          subst (λ x. IsRight refuses k f.state (side_of got standing given x (get_or backlogs k e)) (side_of got standing given (get_or (slice_set inlets c i') k j) (get_or (slice_set backlogs c b') k e)) [] done []) (sym (inlet_was k j is))
-          (subst (λ y. IsRight refuses k f.state (side_of got standing given i y) (side_of got standing given (get_or (slice_set inlets c i') k j) (get_or (slice_set backlogs c b') k e)) [] done []) (sym (backlog_was k e is))
-          (subst (λ x. IsRight refuses k f.state (side_of got standing given i b) (side_of got standing given x (get_or (slice_set backlogs c b') k e)) [] done []) (sym (inlet_here k j is))
-          (subst (λ y. IsRight refuses k f.state (side_of got standing given i b) (side_of got standing given i' y) [] done []) (sym (backlog_here k e is))
-          (subst (λ n. IsRight refuses n f.state (side_of got standing given i b) (side_of got standing given i' b') [] done []) (sym is) right_here))))
+          subst (λ x. IsRight kind.take_may_refuse k f.state (side_of kind x (get_or backlogs k e)) (side_of kind (get_or (slice_set inlets c i') k j) (get_or (slice_set backlogs c b') k e)) [] done []) (sym (inlet_was k j is))
+          (subst (λ y. IsRight kind.take_may_refuse k f.state (side_of kind i y) (side_of kind (get_or (slice_set inlets c i') k j) (get_or (slice_set backlogs c b') k e)) [] done []) (sym (backlog_was k e is))
+          (subst (λ x. IsRight kind.take_may_refuse k f.state (side_of kind i b) (side_of kind x (get_or (slice_set backlogs c b') k e)) [] done []) (sym (inlet_here k j is))
+          (subst (λ y. IsRight kind.take_may_refuse k f.state (side_of kind i b) (side_of kind i' y) [] done []) (sym (backlog_here k e is))
+          (subst (λ n. IsRight kind.take_may_refuse n f.state (side_of kind i b) (side_of kind i' b') [] done []) (sym is) right_here))))
         where
-          right_here : IsRight refuses c f.state (side_of got standing given i b) (side_of got standing given i' b') [] done []
+          right_here : IsRight kind.take_may_refuse c f.state (side_of kind i b) (side_of kind i' b') [] done []
           right_here = record {
             served = moved c b.room b.room _ _ _ _ _ _ done refl (omega arith) (omega arith) refl right;
-            needed = λ is. needed_first refuses c f.state b'.held (wants is);
+            needed = λ is. needed_first kind.take_may_refuse c f.state b'.held (wants is);
             room =
-                let told = outbox-told c (done ∷ []) (side_of got standing given i b) (side_of got standing given i' b') tells in
+                let told = outbox-told c (done ∷ []) (side_of kind i b) (side_of kind i' b') tells in
                 let n = state_after c in
                 let r = tells.same_room in
                 let p = fits in
@@ -198,15 +198,18 @@ module _ {I : Type 0} (got standing : I → List Numbered) (given : I → List W
           let none_went : flushed k (done ∷ []) ≡ 0 = let f0 = o.none_flushed k other in omega arith in
           record { served = o.is_right k _ _ _ _ other; needed = λ is. absurd (o.no_serve k other is); room = omega arith }
 
+  abbrev got_by : I → List Numbered
+  got_by i = (kind.state i).got
+
   -- where the line of client c has got nothing more, no line has
-  pub got-one : (c : ℕ) (inlets : List I) (i i' : I) → c < length inlets → i ≡ get_or inlets c i → got i' ≡ got i → (k : ℕ) (j : I) → got (get_or (slice_set inlets c i') k j) ≡ got (get_or inlets k j)
+  pub got-one : (c : ℕ) (inlets : List I) (i i' : I) → c < length inlets → i ≡ get_or inlets c i → got_by i' ≡ got_by i → (k : ℕ) (j : I) → got_by (get_or (slice_set inlets c i') k j) ≡ got_by (get_or inlets k j)
   got-one c inlets i i' low is_i e k j = at (either (c == k))
     where
-      at : (c == k) ≡ true ⊎ (c == k) ≡ false → got (get_or (slice_set inlets c i') k j) ≡ got (get_or inlets k j)
+      at : (c == k) ≡ true ⊎ (c == k) ≡ false → got_by (get_or (slice_set inlets c i') k j) ≡ got_by (get_or inlets k j)
       at (inl h) =
           let is : k ≡ c = is_equal c k h in
-          ap (λ n. got (get_or (slice_set inlets c i') n j)) is ∙ ap got (get_or-set_same inlets c i' j low) ∙ e ∙ ap got (is_i ∙ get_or_default inlets c i j low) ∙ ap (λ n. got (get_or inlets n j)) (sym is)
-      at (inr h) = ap got (get_or-set_other inlets c k i' j (is_other c k h))
+          ap (λ n. got_by (get_or (slice_set inlets c i') n j)) is ∙ ap got_by (get_or-set_same inlets c i' j low) ∙ e ∙ ap got_by (is_i ∙ get_or_default inlets c i j low) ∙ ap (λ n. got_by (get_or inlets n j)) (sym is)
+      at (inr h) = ap got_by (get_or-set_other inlets c k i' j (is_other c k h))
 
   -- writing an element back changes nothing
   pub set-back : {X : Type 0} (xs : List X) (c : ℕ) (x x' : X) → x ≡ get_or xs c x → x' ≡ x → slice_set xs c x' ≡ xs

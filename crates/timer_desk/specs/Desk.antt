@@ -8,12 +8,11 @@ use Rattle.timer_facility.specs.Facility.{FacilityView}
 use Rattle.timer_facility.specs.Step.{step}
 use Rattle.timer_facility.specs.Run.{notices_in, history, run}
 use Rattle.timer_facility.specs.Owed.{owed}
-use Rattle.timer_desk.specs.declared.word.Numbered.{Numbered}
-use Rattle.timer_desk.specs.declared.word.Word.{Word}
 use Rattle.timer_desk.specs.declared.report.Done.{Done}
 use Rattle.timer_desk.specs.declared.report.Done.TheVariants as Dones
 use Rattle.timer_desk.specs.declared.report.Step.{Step}
 use Rattle.timer_desk.specs.declared.report.Step.TheVariants as Steps
+use Rattle.timer_desk.specs.Inlet.{LineKind}
 use Rattle.timer_desk.specs.Backlog.{BacklogState, empty_backlog, HasRoom}
 use Rattle.timer_desk.specs.Report.{Side, side_of, HeldIsLast, Tells, Runs, events, outs}
 use Rattle.timer_desk.specs.Right.{AtEach, IsRight, IsRightClose}
@@ -97,10 +96,10 @@ abbrev pub close_notices : FacilityState → Result ℕ CloseFault → List Noti
 close_notices s (Ok count) = notices_in (step s Close 0).outs
 close_notices s (Err fault) = []
 
-module _ {I : Type 0} (got standing : I → List Numbered) (given : I → List Word) where
+module _ {I : Type 0} (kind : LineKind I) where
   -- the side of client c; i and b are the defaults where there is no such client
   abbrev pub side_at : DeskState I → ℕ → I → BacklogState → Side
-  side_at d c i b = side_of got standing given (get_or d.inlets c i) (get_or d.backlogs c b)
+  side_at d c i b = side_of kind (get_or d.inlets c i) (get_or d.backlogs c b)
 
   -- the invariant of a desk: of the facility with its waiting notices, the lines, and the backlogs
   pub record IsDesk (f : FacilityView) (inlets : List I) (backlogs : List BacklogState) : Type 0 where
@@ -109,23 +108,21 @@ module _ {I : Type 0} (got standing : I → List Numbered) (given : I → List W
     pub clients : length inlets ≡ length f.state.numbers
     pub room : HasRoom backlogs f
     pub held : (c : ℕ) (i : I) (b : BacklogState) → c < length inlets
-        → HeldIsLast (side_of got standing given (get_or inlets c i) (get_or backlogs c b))
+        → HeldIsLast (side_of kind (get_or inlets c i) (get_or backlogs c b))
 
 -- nothing was taken from a line, and all else is unchanged
-pub record TakesNothing {I : Type 0} (got : I → List Numbered) (old new : DeskState I) : Type 0 where
+pub record TakesNothing {I : Type 0} (kind : LineKind I) (old new : DeskState I) : Type 0 where
   pub same_facility : new.facility ≡ old.facility
   pub same_backlogs : new.backlogs ≡ old.backlogs
-  pub same_got : (c : ℕ) (i : I) → got (get_or new.inlets c i) ≡ got (get_or old.inlets c i)
+  pub same_got : (c : ℕ) (i : I) → (kind.state (get_or new.inlets c i)).got ≡ (kind.state (get_or old.inlets c i)).got
 
--- Here `same` is the relation that a line is the same one, and `refuses` whether taking a request from a line may run out
--- of memory.
-module _ {I : Type 0} (got standing : I → List Numbered) (given : I → List Word) (same : I → I → Type 0) (refuses : Bool) where
+module _ {I : Type 0} (kind : LineKind I) where
   -- each client before and after the report
   pub record ToldSides (report : List Done) (old new : DeskState I) : Type 0 where
     pub same_clients : clients_of new ≡ clients_of old
-    pub lines : (c : ℕ) (i : I) → c < clients_of old → same (get_or old.inlets c i) (get_or new.inlets c i)
+    pub lines : (c : ℕ) (i : I) → c < clients_of old → kind.same (get_or old.inlets c i) (get_or new.inlets c i)
     pub sides : (c : ℕ) (i : I) (b : BacklogState) → c < clients_of old
-        → Tells c report (side_at got standing given old c i b) (side_at got standing given new c i b)
+        → Tells c report (side_at kind old c i b) (side_at kind new c i b)
 
   -- the desk before and after the report
   pub record Told (report : List Done) (old new : DeskState I) : Type 0 where
@@ -133,7 +130,7 @@ module _ {I : Type 0} (got standing : I → List Numbered) (given : I → List W
     pub facility : Runs report old.facility new.facility
     pub in_time : AreInTime old.facility [] report
     pub right : (c : ℕ) (i : I) (b : BacklogState) → c < clients_of old
-        → AtEach (IsRight refuses c old.facility (side_at got standing given old c i b) (side_at got standing given new c i b)) [] report
+        → AtEach (IsRight kind.take_may_refuse c old.facility (side_at kind old c i b) (side_at kind new c i b)) [] report
     pub closes : AtEach (IsRightClose old.facility) [] report
 
   -- a step, and what it appends to the report

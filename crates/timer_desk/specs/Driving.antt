@@ -1,8 +1,6 @@
 -- Turns of a desk, until each client has reached a goal.
 use Rattle.std.specs.Prelude.{◌≡◌, ◌≢◌, ◌<◌, ◌≤◌, ◌+◌, ◌-◌, ◌*◌, ◌⊎◌, ℕ, min, Bool, true, false, List, [], ◌∷◌, ◌++◌, length, get_or, All}
 use Rattle.timer_desk.specs.declared.progress.Progress.{Progress}
-use Rattle.timer_desk.specs.declared.word.Numbered.{Numbered}
-use Rattle.timer_desk.specs.declared.word.Word.{Word}
 use Rattle.timer_desk.specs.declared.report.Served.TheVariants.{NoMemory}
 use Rattle.timer_desk.specs.declared.report.Done.{Done}
 use Rattle.timer_desk.specs.declared.report.Done.TheVariants as Dones
@@ -12,6 +10,7 @@ use Rattle.timer_desk.specs.declared.driving.Turned.{Turned}
 use Rattle.timer_desk.specs.declared.driving.Turned.TheVariants.{Passed, Idle, Refused}
 use Rattle.timer_desk.specs.declared.driving.DriveEnd.{DriveEnd}
 use Rattle.timer_desk.specs.declared.driving.DriveEnd.TheVariants as DriveEnds
+use Rattle.timer_desk.specs.Inlet.{LineKind}
 use Rattle.timer_desk.specs.Report.{asked, flushed}
 use Rattle.timer_desk.specs.Desk.{DeskState, clients_of, steps_of, AreBehind, AreOwed, Told}
 
@@ -96,12 +95,12 @@ pub record EndsIdle (goal limit clients : ℕ) (report : List Done) : Type 0 whe
   pub none_served : (c : ℕ) → c < clients → min (length (asked c report)) goal ≡ min (length (asked c before)) goal
   pub none_flushed : (c : ℕ) → c < clients → min (flushed c report) (2 * goal) ≡ min (flushed c before) (2 * goal)
 
-module _ {I : Type 0} (got standing : I → List Numbered) (given : I → List Word) (same : I → I → Type 0) (refuses : Bool) where
+module _ {I : Type 0} (kind : LineKind I) where
   -- there is a report without a close that leads from the one desk to the other, and it was counted; unless a turn was refused,
   -- no serve ran out of memory
   pub record Turns (goal : ℕ) (refused : Bool) (old new : DeskState I) (before after : List Progress) : Type 0 where
     pub report : List Done
-    pub told : Told got standing given same refuses report old new
+    pub told : Told kind report old new
     pub fit : All (IsFit (clients_of old)) (steps_of report)
     pub behind : AreBehind false report
     pub memory : refused ≡ false → NoneRanOut report
@@ -118,7 +117,7 @@ module _ {I : Type 0} (got standing : I → List Numbered) (given : I → List W
   -- `limit` turns passed nothing on. Only a drive that ended out of memory has a serve that ran out of memory.
   pub record Drives (goal limit : ℕ) (old new : DeskState I) (outcome : DriveEnd) : Type 0 where
     pub report : List Done
-    pub told : Told got standing given same refuses report old new
+    pub told : Told kind report old new
     pub fit : All (IsFit (clients_of old)) (steps_of report)
     pub behind : AreBehind false report
     pub owed : AreOwed old.facility [] report

@@ -1,10 +1,11 @@
 -- What clauses see of the ends of a locked line.
-use Rattle.std.specs.Prelude.{◌≡◌, ℕ, List}
+use Rattle.std.specs.Prelude.{◌≡◌, ℕ, true, List, []}
 use Rattle.std.proofs.Common.{◌∙◌, refl}
 use Rattle.timer_desk.specs.declared.word.Numbered.{Numbered}
 use Rattle.timer_desk.specs.declared.word.Word.{Word}
 use Rattle.timer_desk.specs.declared.locked.LockedEnd.{LockedEnd}
 use Rattle.timer_desk.specs.declared.locked.LockedInlet.{LockedInlet}
+use Rattle.timer_desk.specs.Inlet.{LineKind}
 use Rattle.timer_desk.specs.Extends.{Extends, Extends-refl, Extends-trans}
 
 abbrev pub next_of_locked : LockedEnd → ℕ
@@ -31,4 +32,16 @@ module _ {R : Type 0} where
     queues = p.queues ∙ q.queues;
     got_grows = Extends-trans (got_by_locked a) (got_by_locked b) (got_by_locked c) p.got_grows q.got_grows;
     given_grows = Extends-trans (given_by_locked a) (given_by_locked b) (given_by_locked c) p.given_grows q.given_grows;
+  }
+
+  -- locked lines as a kind of line
+  abbrev pub locked_lines : LineKind (LockedInlet R)
+  locked_lines = record {
+    state = λ i. record { got = got_by_locked i; standing = []; given = given_by_locked i };
+    same = SameLockedLine;
+    is_full = λ _. Unit {0};
+    take_may_refuse = true;
+    put_may_refuse = true;
+    reflexive = SameLockedLine-refl;
+    transitive = SameLockedLine-trans;
   }

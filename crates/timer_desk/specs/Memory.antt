@@ -1,9 +1,10 @@
 -- The lists of a `MemoryInlet`.
-use Rattle.std.specs.Prelude.{◌≡◌, ℕ, List, take, drop}
+use Rattle.std.specs.Prelude.{◌≡◌, ◌≤◌, ℕ, true, false, List, length, take, drop}
 use Rattle.std.proofs.Common.{◌∙◌, refl}
 use Rattle.timer_desk.specs.declared.word.Numbered.{Numbered}
 use Rattle.timer_desk.specs.declared.word.Word.{Word}
 use Rattle.timer_desk.specs.declared.memory.MemoryInlet.{MemoryInlet}
+use Rattle.timer_desk.specs.Inlet.{LineKind}
 use Rattle.timer_desk.specs.Extends.{Extends, Extends-refl, Extends-trans}
 
 abbrev pub got_of : MemoryInlet → List Numbered
@@ -34,4 +35,16 @@ SameMemoryLine-trans a b c p q = record {
   same_room = p.same_room ∙ q.same_room;
   got_grows = Extends-trans (got_of a) (got_of b) (got_of c) p.got_grows q.got_grows;
   given_grows = Extends-trans (given_of a) (given_of b) (given_of c) p.given_grows q.given_grows;
+}
+
+-- lines in memory as a kind of line
+abbrev pub memory_lines : LineKind MemoryInlet
+memory_lines = record {
+  state = λ m. record { got = got_of m; standing = standing_of m; given = given_of m };
+  same = SameMemoryLine;
+  is_full = λ m. room_of m ≤ length (given_of m);
+  take_may_refuse = false;
+  put_may_refuse = true;
+  reflexive = SameMemoryLine-refl;
+  transitive = SameMemoryLine-trans;
 }

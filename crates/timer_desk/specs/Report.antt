@@ -17,6 +17,7 @@ use Rattle.timer_desk.specs.declared.report.Served.TheVariants.{Idle, NoRoom, No
 use Rattle.timer_desk.specs.declared.report.Done.{Done}
 use Rattle.timer_desk.specs.declared.report.Done.TheVariants as Dones
 use Rattle.timer_desk.specs.Backlog.{BacklogState, client_of}
+use Rattle.timer_desk.specs.Inlet.{LineKind}
 use Rattle.timer_desk.specs.Extends.{Extends}
 
 -- One member of a report.
@@ -178,9 +179,9 @@ pub record Side : Type 0 where
   pub given : List Word
   pub backlog : BacklogState
 
--- the side of a client with line i, by its lists, and backlog b
-abbrev pub side_of : {I : Type 0} → (I → List Numbered) → (I → List Numbered) → (I → List Word) → I → BacklogState → Side
-side_of got standing given i b = record { got = got i; standing = standing i; given = given i; backlog = b }
+-- the side of a client with line i and backlog b
+abbrev pub side_of : {I : Type 0} → LineKind I → I → BacklogState → Side
+side_of kind i b = record { got = (kind.state i).got; standing = (kind.state i).standing; given = (kind.state i).given; backlog = b }
 
 -- the requests that were got, without the held one
 abbrev pub got_but_held : Side → List Numbered

@@ -1,5 +1,5 @@
 -- The abstract state of the ends of a ring line, as clauses name it.
-use Rattle.std.specs.Prelude.{◌≡◌, ◌<◌, ◌≤◌, [], ℕ, Bool, true, List, ◌++◌, if◌then◌else◌}
+use Rattle.std.specs.Prelude.{◌≡◌, ◌<◌, ◌≤◌, [], ℕ, Bool, true, false, List, ◌++◌, if◌then◌else◌}
 use Rattle.std.proofs.Common.{◌∙◌, refl}
 use denote.RawPtr.{Ptr}
 use Rattle.rtrb.specs.Shared.{Names}
@@ -17,6 +17,7 @@ use Rattle.timer_desk.specs.declared.ring.WordsEnded.{WordsEnded}
 use Rattle.timer_desk.specs.declared.ring.ClientReader.{ClientReader}
 use Rattle.timer_desk.specs.declared.ring.Unsent.{Unsent}
 use Rattle.timer_desk.specs.declared.ring.Unsent.TheVariants.{Spent, Full}
+use Rattle.timer_desk.specs.Inlet.{LineKind}
 use Rattle.timer_desk.specs.Extends.{Extends, Extends-refl, Extends-trans}
 
 -- the identity of a ring
@@ -116,6 +117,18 @@ SameRingLine-trans a b c p q = record {
   got_grows = Extends-trans (got_of a) (got_of b) (got_of c) p.got_grows q.got_grows;
   given_grows = Extends-trans (given_of a) (given_of b) (given_of c) p.given_grows q.given_grows;
   settled = λ h. (let k = p.settled h in ((q.settled (k.0)).0, (q.settled (k.0)).1 ∙ k.1));
+}
+
+-- ring lines as a kind of line
+abbrev pub ring_lines : LineKind RingInlet
+ring_lines = record {
+  state = λ i. record { got = got_of i; standing = standing_of i; given = given_of i };
+  same = SameRingLine;
+  is_full = λ i. free_of_inlet i ≡ 0;
+  take_may_refuse = false;
+  put_may_refuse = false;
+  reflexive = SameRingLine-refl;
+  transitive = SameRingLine-trans;
 }
 
 -- all words ever given

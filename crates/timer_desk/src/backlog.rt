@@ -2,7 +2,7 @@
 ghost use Rattle.std.specs.Prelude.{◌≡◌, ◌<◌, ◌≤◌, ◌⊎◌, ◌++◌, take, length, true};
 
 use crate::asking::ask;
-use crate::inlet::{Inlet, Put, Taken};
+use crate::inlet::{Inlet, Taken};
 use crate::report::{Done, Served};
 use crate::word::{Numbered, Word};
 use circular_buffer::HeapCircularBuffer;
@@ -86,14 +86,14 @@ impl Backlog {
 
     /// Returns the held request, or takes the next one of the line.
     fn fetch<I: Inlet>(&self, inlet: &mut I) -> Taken
-        ensures line { I.same_line inlet.old inlet.new }
+        ensures line { I.kind.same inlet.old inlet.new }
         ensures held { (n : Numbered) → self.now.held ≡ Some n → (result ≡ Taken.Got n) × (inlet.new ≡ inlet.old) }
-        ensures got { self.now.held ≡ None → I.got inlet.new ≡ I.got inlet.old ++ taken_of result }
-        ensures idle { result ≡ Taken.Empty → (self.now.held ≡ None) × (I.got inlet.new ≡ I.got inlet.old) × (I.standing inlet.old ≡ []) }
-        ensures memory { result ≡ Taken.NoMemory → (self.now.held ≡ None) × (I.take_may_refuse ≡ true) }
-        ensures given { I.given inlet.new ≡ I.given inlet.old }
-        ensures left { length (held_list self.now.held) + length (I.standing inlet.old)
-            ≤ length (taken_of result) + length (I.standing inlet.new) }
+        ensures got { self.now.held ≡ None → (I.kind.state inlet.new).got ≡ (I.kind.state inlet.old).got ++ taken_of result }
+        ensures idle { result ≡ Taken.Empty → (self.now.held ≡ None) × ((I.kind.state inlet.new).got ≡ (I.kind.state inlet.old).got) × ((I.kind.state inlet.old).standing ≡ []) }
+        ensures memory { result ≡ Taken.NoMemory → (self.now.held ≡ None) × (I.kind.take_may_refuse ≡ true) }
+        ensures given { (I.kind.state inlet.new).given ≡ (I.kind.state inlet.old).given }
+        ensures left { length (held_list self.now.held) + length (I.kind.state inlet.old).standing
+            ≤ length (taken_of result) + length (I.kind.state inlet.new).standing }
     {
         match self.held {
             Some(numbered) => Taken::Got(numbered),
@@ -103,13 +103,13 @@ impl Backlog {
 
     /// Moves words into the line until none is left or the line does not take one, and returns how many.
     pub fn flush<I: Inlet>(&mut self, inlet: &mut I) -> usize
-        ensures line { I.same_line inlet.old inlet.new }
+        ensures line { I.kind.same inlet.old inlet.new }
         ensures others { self.new ≡ record self.old { outbox = self.new.outbox } }
-        ensures got { (I.got inlet.new ≡ I.got inlet.old) × (I.standing inlet.new ≡ I.standing inlet.old) }
-        ensures words { I.given inlet.new ++ self.new.outbox ≡ I.given inlet.old ++ self.old.outbox }
+        ensures got { ((I.kind.state inlet.new).got ≡ (I.kind.state inlet.old).got) × ((I.kind.state inlet.new).standing ≡ (I.kind.state inlet.old).standing) }
+        ensures words { (I.kind.state inlet.new).given ++ self.new.outbox ≡ (I.kind.state inlet.old).given ++ self.old.outbox }
         ensures fewer { length self.new.outbox ≤ length self.old.outbox }
-        ensures count { length (I.given inlet.new) ≡ length (I.given inlet.old) + result }
-        ensures stopped { (self.new.outbox ≡ []) ⊎ (I.is_full inlet.new ⊎ (I.put_may_refuse ≡ true)) }
+        ensures count { length (I.kind.state inlet.new).given ≡ length (I.kind.state inlet.old).given + result }
+        ensures stopped { (self.new.outbox ≡ []) ⊎ (I.kind.is_full inlet.new ⊎ (I.kind.put_may_refuse ≡ true)) }
     {
         let count = put_words(&self.outbox, inlet);
         let left = self.outbox.len() - count;
@@ -132,17 +132,17 @@ impl Backlog {
     ) -> Served
         requires quiet { facility.old.waiting ≡ [] }
         requires room { length self.old.outbox + pending_of facility.old.state client ≤ self.old.room }
-        requires held { HeldIsLast (side_of I.got I.standing I.given inlet.old self.old) }
-        ensures line { I.same_line inlet.old inlet.new }
+        requires held { HeldIsLast (side_of I.kind inlet.old self.old) }
+        ensures line { I.kind.same inlet.old inlet.new }
         ensures tells { Tells client (Done.Served client result ∷ [])
-            (side_of I.got I.standing I.given inlet.old self.old) (side_of I.got I.standing I.given inlet.new self.new) }
+            (side_of I.kind inlet.old self.old) (side_of I.kind inlet.new self.new) }
         ensures runs { Runs (Done.Served client result ∷ []) facility.old.state facility.new.state }
         ensures right { IsRightServe self.old.room (length self.old.outbox)
-            (left_of (side_of I.got I.standing I.given inlet.old self.old)) (pending_of facility.old.state client) result }
-        ensures memory { result ≡ Served.NoMemory → RanOutOfMemory I.take_may_refuse client facility.old.state self.new.held }
+            (left_of (side_of I.kind inlet.old self.old)) (pending_of facility.old.state client) result }
+        ensures memory { result ≡ Served.NoMemory → RanOutOfMemory I.kind.take_may_refuse client facility.old.state self.new.held }
         ensures no_room { result ≡ Served.NoRoom → (inlet.new ≡ inlet.old) × (self.new ≡ self.old) × (facility.new ≡ facility.old) }
         ensures idle { result ≡ Served.Idle
-            → (I.got inlet.new ≡ I.got inlet.old) × (self.new ≡ self.old) × (facility.new ≡ facility.old) }
+            → ((I.kind.state inlet.new).got ≡ (I.kind.state inlet.old).got) × (self.new ≡ self.old) × (facility.new ≡ facility.old) }
         ensures adds { AddsAtMostOne client facility.old.state facility.new.state }
         ensures room { length self.new.outbox + pending_of facility.new.state client ≤ self.new.room }
         ensures quiet { facility.new.waiting ≡ [] }
@@ -172,34 +172,16 @@ impl Backlog {
 
 /// Puts the words of an outbox into the line until it does not take one, and returns how many it took.
 fn put_words<I: Inlet>(outbox: &HeapCircularBuffer<Word>, inlet: &mut I) -> usize
-    ensures line { I.same_line inlet.old inlet.new }
-    ensures got { (I.got inlet.new ≡ I.got inlet.old) × (I.standing inlet.new ≡ I.standing inlet.old) }
-    ensures given { I.given inlet.new ≡ I.given inlet.old ++ take result outbox.now.items }
+    ensures line { I.kind.same inlet.old inlet.new }
+    ensures got { ((I.kind.state inlet.new).got ≡ (I.kind.state inlet.old).got) × ((I.kind.state inlet.new).standing ≡ (I.kind.state inlet.old).standing) }
+    ensures given { (I.kind.state inlet.new).given ≡ (I.kind.state inlet.old).given ++ take result outbox.now.items }
     ensures count { result ≤ length outbox.now.items }
-    ensures stopped { result < length outbox.now.items → I.is_full inlet.new ⊎ (I.put_may_refuse ≡ true) }
+    ensures stopped { result < length outbox.now.items → I.kind.is_full inlet.new ⊎ (I.kind.put_may_refuse ≡ true) }
 {
     let (first, rest) = outbox.as_slices();
-    let count = put_run(first, inlet);
+    let count = inlet.put_slice(first);
     if count < first.len() {
         return count;
     }
-    count + put_run(rest, inlet)
-}
-
-/// `put_words` for words that stand in one piece.
-fn put_run<I: Inlet>(words: &[Word], inlet: &mut I) -> usize
-    ensures line { I.same_line inlet.old inlet.new }
-    ensures got { (I.got inlet.new ≡ I.got inlet.old) × (I.standing inlet.new ≡ I.standing inlet.old) }
-    ensures given { I.given inlet.new ≡ I.given inlet.old ++ take result words.now }
-    ensures count { result ≤ length words.now }
-    ensures stopped { result < length words.now → I.is_full inlet.new ⊎ (I.put_may_refuse ≡ true) }
-{
-    let mut count = 0;
-    for word in words {
-        if !matches!(inlet.put(*word), Put::Done) {
-            return count;
-        }
-        count += 1;
-    }
-    count
+    count + inlet.put_slice(rest)
 }

@@ -35,7 +35,7 @@ impl<W: Wheel + Drop, I: Inlet + Drop> Model for Desk<W, I> {
 
     ghost view = { λ d. record { facility = d.facility.state; inlets = d.inlets.items; backlogs = d.backlogs.items } };
 
-    ghost invariant = { λ d. IsDesk I.got I.standing I.given d.facility d.inlets.items d.backlogs.items };
+    ghost invariant = { λ d. IsDesk I.kind d.facility d.inlets.items d.backlogs.items };
 }
 
 impl<W: Wheel + Drop, I: Inlet + Drop> Desk<W, I> {
@@ -51,7 +51,7 @@ impl<W: Wheel + Drop, I: Inlet + Drop> Desk<W, I> {
     pub fn keeps(&self)
         ensures room { HasRoom self.now.backlogs (with_nothing_waiting self.now.facility) }
         ensures held { (c : ℕ) (i : I) (b : BacklogState) → c < clients_of self.now
-            → HeldIsLast (side_at I.got I.standing I.given self.now c i b) }
+            → HeldIsLast (side_at I.kind self.now c i b) }
         ensures sound { IsSound self.now.facility }
     {
         let _ = self.facility.pending();
@@ -87,11 +87,11 @@ impl<W: Wheel + Drop, I: Inlet + Drop> Desk<W, I> {
     /// that it accepts.
     pub fn serve(&mut self, c: usize) -> Served
         requires { c < clients_of self.old }
-        ensures told { Told I.got I.standing I.given I.same_line I.take_may_refuse (Done.Served c result ∷ []) self.old self.new }
+        ensures told { Told I.kind (Done.Served c result ∷ []) self.old self.new }
         ensures pending { length self.new.facility.pending ≤ length self.old.facility.pending + 1 }
         ensures no_room { result ≡ Served.NoRoom → self.new ≡ self.old }
-        ensures idle { result ≡ Served.Idle → TakesNothing I.got self.old self.new }
-        ensures memory { result ≡ Served.NoMemory → RanOutOfMemory I.take_may_refuse c self.old.facility (backlog_at self.new c).held }
+        ensures idle { result ≡ Served.Idle → TakesNothing I.kind self.old self.new }
+        ensures memory { result ≡ Served.NoMemory → RanOutOfMemory I.kind.take_may_refuse c self.old.facility (backlog_at self.new c).held }
     {
         self.backlogs[c].serve(&mut self.inlets[c], &mut self.facility, c)
     }
@@ -100,10 +100,10 @@ impl<W: Wheel + Drop, I: Inlet + Drop> Desk<W, I> {
     /// and returns how many it moved. Does not allocate unless the line does.
     pub fn flush(&mut self, c: usize) -> usize
         requires { c < clients_of self.old }
-        ensures told { Told I.got I.standing I.given I.same_line I.take_may_refuse (Done.Flushed c result ∷ []) self.old self.new }
+        ensures told { Told I.kind (Done.Flushed c result ∷ []) self.old self.new }
         ensures facility { self.new.facility ≡ self.old.facility }
         ensures stopped { (i : I) → ((backlog_at self.new c).outbox ≡ [])
-            ⊎ (I.is_full (get_or self.new.inlets c i) ⊎ (I.put_may_refuse ≡ true)) }
+            ⊎ (I.kind.is_full (get_or self.new.inlets c i) ⊎ (I.kind.put_may_refuse ≡ true)) }
     {
         self.backlogs[c].flush(&mut self.inlets[c])
     }
@@ -112,7 +112,7 @@ impl<W: Wheel + Drop, I: Inlet + Drop> Desk<W, I> {
     /// not allocate.
     pub fn tick(&mut self) -> Result<(), TickFault>
         ensures { let report = Done.Ticked result ∷ map Done.Noticed (tick_notices self.old.facility) in
-            Told I.got I.standing I.given I.same_line I.take_may_refuse report self.old self.new }
+            Told I.kind report self.old self.new }
     {
         what_is_handed_out_was_pending();
         let result = self.facility.tick();
@@ -126,7 +126,7 @@ impl<W: Wheel + Drop, I: Inlet + Drop> Desk<W, I> {
     /// After `OutOfMemory`, which a closed facility never returns, nothing has changed.
     pub fn close(&mut self) -> Result<u64, CloseFault>
         ensures { let report = Done.Closed result ∷ map Done.Noticed (close_notices self.old.facility result) in
-            Told I.got I.standing I.given I.same_line I.take_may_refuse report self.old self.new }
+            Told I.kind report self.old self.new }
     {
         what_is_handed_out_was_pending();
         let result = self.facility.close();

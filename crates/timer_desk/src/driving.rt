@@ -54,7 +54,7 @@ pub fn drive<W: Wheel + Drop, I: Inlet + Drop>(
 ) -> Driven<W, I>
     requires goal { goal ≤ LAST }
     requires limit { limit ≤ LAST }
-    ensures { Drives I.got I.standing I.given I.same_line I.take_may_refuse goal limit desk result.desk result.outcome }
+    ensures { Drives I.kind goal limit desk result.desk result.outcome }
 {
     let mut desk = desk;
     notices_are_owed();
@@ -102,7 +102,7 @@ fn one_turn<W: Wheel + Drop, I: Inlet + Drop>(
 ) -> Turned
     requires goal { goal ≤ LAST }
     requires clients { vec_len progress.old ≡ clients_of desk.old }
-    ensures turns { TurnsOnce I.got I.standing I.given I.same_line I.take_may_refuse goal (is_refused result) desk.old desk.new
+    ensures turns { TurnsOnce I.kind goal (is_refused result) desk.old desk.new
         progress.old.items progress.new.items }
     ensures turned { IsTurned goal progress.old.items progress.new.items result }
     ensures clients { vec_len progress.new ≡ clients_of desk.new }

@@ -1,12 +1,6 @@
 //! One client's line as the owner of the desk sees it.
-//!
-//!     got          the requests taken from the line, in order
-//!     standing     the requests that are known to stand in it, in order
-//!     given        the words put into it, in order
-//!     is_full      no room for another word is known
-//!     same_line    a later state of the same line
-ghost use Rattle.std.specs.Prelude.{◌≡◌, List, [], ◌++◌, Bool, true};
-ghost use Rattle.timer_desk.specs.Inlet.{taken_of, put_of, HandsBack};
+ghost use Rattle.std.specs.Prelude.{◌≡◌, ◌<◌, ◌≤◌, ◌⊎◌, [], ◌++◌, true, length, take};
+ghost use Rattle.timer_desk.specs.Inlet.{LineKind, taken_of, put_of, HandsBack};
 
 use crate::word::{Numbered, Word};
 
@@ -33,50 +27,46 @@ pub enum Put {
 
 /// One client's line as the owner sees it.
 pub trait Inlet {
-    ghost use Rattle.timer_desk.specs.declared.word.Numbered.{Numbered};
-    ghost use Rattle.timer_desk.specs.declared.word.Word.{Word};
-
-    /// The requests taken.
-    ghost got: { Self → List Numbered };
-
-    /// The requests known to stand in the line.
-    ghost standing: { Self → List Numbered };
-
-    /// The words put.
-    ghost given: { Self → List Word };
-
-    /// The owner knows of no room for another word.
-    ghost is_full: { Self → Type 0 };
-
-    /// `same_line a b`: the state b is of the line of a, at the same moment or later.
-    ghost same_line: { Self → Self → Type 0 };
-
-    /// Whether `take` may run out of memory.
-    ghost take_may_refuse: { Bool };
-
-    /// Whether `put` may run out of memory.
-    ghost put_may_refuse: { Bool };
+    /// What the owner knows of each line, and what a call may do.
+    ghost kind: { LineKind Self };
 
     /// Takes the next request from the line.
     fn take(&mut self) -> Taken
-        ensures line { same_line self.old self.new }
-        ensures got { got self.new ≡ got self.old ++ taken_of result }
-        ensures standing { ¬ (standing self.old ≡ []) → standing self.old ≡ taken_of result ++ standing self.new }
-        ensures nothing_stands { standing self.old ≡ [] → standing self.new ≡ [] }
-        ensures empty { result ≡ Taken.Empty → standing self.old ≡ [] }
-        ensures memory { result ≡ Taken.NoMemory → take_may_refuse ≡ true }
-        ensures given { given self.new ≡ given self.old };
+        ensures line { kind.same self.old self.new }
+        ensures got { (kind.state self.new).got ≡ (kind.state self.old).got ++ taken_of result }
+        ensures standing { ¬ ((kind.state self.old).standing ≡ []) → (kind.state self.old).standing ≡ taken_of result ++ (kind.state self.new).standing }
+        ensures nothing_stands { (kind.state self.old).standing ≡ [] → (kind.state self.new).standing ≡ [] }
+        ensures empty { result ≡ Taken.Empty → (kind.state self.old).standing ≡ [] }
+        ensures memory { result ≡ Taken.NoMemory → kind.take_may_refuse ≡ true }
+        ensures given { (kind.state self.new).given ≡ (kind.state self.old).given };
 
     /// Puts a word into the line, or hands it back.
     fn put(&mut self, word: Word) -> Put
-        ensures line { same_line self.old self.new }
-        ensures given { given self.new ≡ given self.old ++ put_of result word }
-        ensures back { HandsBack put_may_refuse result word }
-        ensures full { result ≡ Put.Full word → is_full self.new }
-        ensures got { got self.new ≡ got self.old }
-        ensures standing { standing self.new ≡ standing self.old };
+        ensures line { kind.same self.old self.new }
+        ensures given { (kind.state self.new).given ≡ (kind.state self.old).given ++ put_of result word }
+        ensures back { HandsBack kind.put_may_refuse result word }
+        ensures full { result ≡ Put.Full word → kind.is_full self.new }
+        ensures got { (kind.state self.new).got ≡ (kind.state self.old).got }
+        ensures standing { (kind.state self.new).standing ≡ (kind.state self.old).standing };
 
-    ghost reflexive: { (a : Self) → same_line a a };
-
-    ghost transitive: { (a b c : Self) → same_line a b → same_line b c → same_line a c };
+    /// Puts words into the line, in order, until it does not take one, and returns how many it took.
+    ///
+    /// A line may show them to its client all at once.
+    fn put_slice(&mut self, words: &[Word]) -> usize
+        ensures line { kind.same self.old self.new }
+        ensures given { (kind.state self.new).given ≡ (kind.state self.old).given ++ take result words.now }
+        ensures count { result ≤ length words.now }
+        ensures stopped { result < length words.now → kind.is_full self.new ⊎ (kind.put_may_refuse ≡ true) }
+        ensures got { (kind.state self.new).got ≡ (kind.state self.old).got }
+        ensures standing { (kind.state self.new).standing ≡ (kind.state self.old).standing }
+    {
+        let mut count = 0;
+        for word in words {
+            if !matches!(self.put(*word), Put::Done) {
+                return count;
+            }
+            count += 1;
+        }
+        count
+    }
 }

@@ -8,7 +8,7 @@ use crate::inlet::Inlet;
 /// The reports of two consecutive turns, joined, are one report.
 pub fn reports_join<I: Inlet>()
     ensures { (report next : List Done) (first second third : DeskState I)
-        → Told I.got I.standing I.given I.same_line I.take_may_refuse report first second
-        → Told I.got I.standing I.given I.same_line I.take_may_refuse next second third
-        → Told I.got I.standing I.given I.same_line I.take_may_refuse (report ++ next) first third }
+        → Told I.kind report first second
+        → Told I.kind next second third
+        → Told I.kind (report ++ next) first third }
 {}

@@ -63,26 +63,9 @@ impl LockedEnd {
 impl<R: Wait> Inlet for LockedInlet<R> {
     ghost use Rattle.std.specs.Prelude.{◌≡◌, [], ◌++◌, true};
     ghost use Rattle.timer_desk.specs.Inlet.{taken_of, put_of, HandsBack};
-    ghost use Rattle.timer_desk.specs.Locked.{got_by_locked, given_by_locked, SameLockedLine, SameLockedLine-refl, SameLockedLine-trans};
+    ghost use Rattle.timer_desk.specs.Locked.{got_by_locked, given_by_locked, SameLockedLine, locked_lines};
 
-    ghost got = { got_by_locked };
-
-    ghost standing = { λ _. [] };
-
-    ghost given = { given_by_locked };
-
-    // The client may have made room as soon as the lock is free.
-    ghost is_full = { λ _. Unit {0} };
-
-    ghost same_line = { SameLockedLine };
-
-    ghost take_may_refuse = { true };
-
-    ghost put_may_refuse = { true };
-
-    ghost reflexive = { SameLockedLine-refl };
-
-    ghost transitive = { SameLockedLine-trans };
+    ghost kind = { locked_lines };
 
     // All that the owner does with the queues is one call under the lock, and its contract is that of `Queues`.
     fn take(&mut self) -> Taken {

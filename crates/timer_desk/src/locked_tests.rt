@@ -44,7 +44,9 @@ fn a_full_locked_line_hands_the_request_back(rt: HostRuntime) -> Result<(), Fail
 }
 
 #[test]
-fn two_requests_in_a_locked_line_are_taken_one_after_the_other(rt: HostRuntime) -> Result<(), Fail> {
+fn two_requests_in_a_locked_line_are_taken_one_after_the_other(
+    rt: HostRuntime,
+) -> Result<(), Fail> {
     let alloc = rt.alloc();
     let (mut end, mut inlet) = locked_line(&rt, alloc, 2, 1)?;
     let request = Request::Start {

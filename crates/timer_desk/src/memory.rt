@@ -45,26 +45,10 @@ impl MemoryInlet {
 
 impl Inlet for MemoryInlet {
     ghost use Rattle.std.specs.Prelude.{◌≡◌, [], ◌++◌, ◌≤◌, length, true, false, ◌↔◌};
-    ghost use Rattle.timer_desk.specs.Memory.{got_of, standing_of, given_of, room_of, SameMemoryLine, SameMemoryLine-refl, SameMemoryLine-trans};
+    ghost use Rattle.timer_desk.specs.Memory.{got_of, standing_of, given_of, room_of, SameMemoryLine, memory_lines};
     ghost use Rattle.timer_desk.specs.Inlet.{taken_of, put_of, HandsBack};
 
-    ghost got = { got_of };
-
-    ghost standing = { standing_of };
-
-    ghost given = { given_of };
-
-    ghost is_full = { λ inlet. room_of inlet ≤ length (given_of inlet) };
-
-    ghost same_line = { SameMemoryLine };
-
-    ghost take_may_refuse = { false };
-
-    ghost put_may_refuse = { true };
-
-    ghost reflexive = { SameMemoryLine-refl };
-
-    ghost transitive = { SameMemoryLine-trans };
+    ghost kind = { memory_lines };
 
     fn take(&mut self) -> Taken {
         if self.next < self.requests.len() {

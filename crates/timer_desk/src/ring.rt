@@ -136,27 +136,11 @@ impl ClientEnd {
 }
 
 impl Inlet for RingInlet {
-    ghost use Rattle.std.specs.Prelude.{◌≡◌, ◌+◌, ◌<◌, ◌≤◌, [], ◌++◌, true, false};
+    ghost use Rattle.std.specs.Prelude.{◌≡◌, ◌+◌, ◌<◌, ◌≤◌, ◌⊎◌, [], ◌++◌, true, false, length, take};
     ghost use Rattle.timer_desk.specs.Inlet.{taken_of, put_of, HandsBack};
-    ghost use Rattle.timer_desk.specs.Ring.{got_of, standing_of, given_of, is_settled, seen_by_inlet, free_of_inlet, SameRingLine, SameRingLine-refl, SameRingLine-trans};
+    ghost use Rattle.timer_desk.specs.Ring.{got_of, standing_of, given_of, is_settled, seen_by_inlet, free_of_inlet, SameRingLine, ring_lines};
 
-    ghost got = { got_of };
-
-    ghost standing = { standing_of };
-
-    ghost given = { given_of };
-
-    ghost is_full = { λ inlet. free_of_inlet inlet ≡ 0 };
-
-    ghost same_line = { SameRingLine };
-
-    ghost take_may_refuse = { false };
-
-    ghost put_may_refuse = { false };
-
-    ghost reflexive = { SameRingLine-refl };
-
-    ghost transitive = { SameRingLine-trans };
+    ghost kind = { ring_lines };
 
     /// Takes the next request.
     fn take(&mut self) -> Taken
@@ -202,6 +186,23 @@ impl Inlet for RingInlet {
             Ok(()) => Put::Done,
             Err(PushError::Full(back)) => Put::Full(back),
         }
+    }
+
+    /// Puts words, and shows them to the client with one store.
+    fn put_slice(&mut self, words: &[Word]) -> usize
+        ensures line { SameRingLine self.old self.new }
+        ensures given { given_of self.new ≡ given_of self.old ++ take result words.now }
+        ensures count { result ≤ length words.now }
+        ensures stopped { result < length words.now → (free_of_inlet self.new ≡ 0) ⊎ (false ≡ true) }
+        ensures got { got_of self.new ≡ got_of self.old }
+        ensures standing { standing_of self.new ≡ standing_of self.old }
+
+        // As many words as there are slots known to be free are put.
+        ensures free { free_of_inlet self.old ≤ free_of_inlet self.new + result }
+        ensures settled { is_settled self.new ≡ is_settled self.old }
+    {
+        let (pushed, _) = self.words.push_partial_slice(words);
+        pushed.len()
     }
 }
 

@@ -20,7 +20,7 @@ impl<W: Wheel + Drop, I: Inlet + Drop> Desk<W, I> {
     /// where that fails, nothing has changed.
     pub fn turn(&mut self, steps: &[Step]) -> Result<Vec<Done>, OutOfMemory>
         requires { All (InRange (clients_of self.old)) steps.now }
-        ensures told { IfOk result (λ report. Told I.got I.standing I.given I.same_line I.take_may_refuse report.items self.old self.new) }
+        ensures told { IfOk result (λ report. Told I.kind report.items self.old self.new) }
         ensures steps { IfOk result (λ report. steps_of report.items ≡ steps.now) }
         ensures behind { IfOk result (λ report. AreBehind false report.items) }
         ensures owed { IfOk result (λ report. AreOwed self.old.facility [] report.items) }
@@ -46,7 +46,7 @@ impl<W: Wheel + Drop, I: Inlet + Drop> Desk<W, I> {
     fn step(&mut self, step: Step, report: &mut Vec<Done>)
         requires client { InRange (clients_of self.old) step }
         requires room { vec_len report.old + 1 + length self.old.facility.pending ≤ vec_capacity report.old }
-        ensures adds { AddsStep I.got I.standing I.given I.same_line I.take_may_refuse step report.old.items report.new.items self.old self.new }
+        ensures adds { AddsStep I.kind step report.old.items report.new.items self.old self.new }
         ensures capacity { vec_capacity report.new ≡ vec_capacity report.old }
         ensures room { vec_len report.new + length self.new.facility.pending ≤ vec_len report.old + length self.old.facility.pending + 2 }
     {
@@ -67,7 +67,7 @@ impl<W: Wheel + Drop, I: Inlet + Drop> Desk<W, I> {
     /// `tick`, which appends its result and its notices to the report.
     fn tick_into(&mut self, report: &mut Vec<Done>)
         requires { vec_len report.old + 1 + length self.old.facility.pending ≤ vec_capacity report.old }
-        ensures adds { AddsStep I.got I.standing I.given I.same_line I.take_may_refuse Step.Tick report.old.items report.new.items self.old self.new }
+        ensures adds { AddsStep I.kind Step.Tick report.old.items report.new.items self.old self.new }
         ensures capacity { vec_capacity report.new ≡ vec_capacity report.old }
         ensures room { vec_len report.new + length self.new.facility.pending ≤ vec_len report.old + length self.old.facility.pending + 1 }
     {
@@ -80,7 +80,7 @@ impl<W: Wheel + Drop, I: Inlet + Drop> Desk<W, I> {
     /// `close`, which appends its result and its notices to the report.
     fn close_into(&mut self, report: &mut Vec<Done>)
         requires { vec_len report.old + 1 + length self.old.facility.pending ≤ vec_capacity report.old }
-        ensures adds { AddsStep I.got I.standing I.given I.same_line I.take_may_refuse Step.Close
+        ensures adds { AddsStep I.kind Step.Close
             report.old.items report.new.items self.old self.new }
         ensures capacity { vec_capacity report.new ≡ vec_capacity report.old }
         ensures room { vec_len report.new + length self.new.facility.pending ≤ vec_len report.old + length self.old.facility.pending + 1 }

@@ -14,5 +14,5 @@ both_runs old one both first rest items n m i up down a b =
 pub returns-clause-given : goal.returns-clause-given
 returns-clause-given g c =
     let f = c.as_slices.result.0.now in
-    let short : length f ≤ c.put_run-count.result = omega (arith, c.if-count-first.false) in
-    both_runs (g.I.Inlet.given c.args.inlet.now) (g.I.Inlet.given c.put_run-count.new.inlet) (g.I.Inlet.given c.put_run.new.inlet) f c.as_slices.result.1.now c.args.outbox.now.items c.put_run-count.result c.put_run.result c.as_slices.ensures c.put_run-count.ensures.count short c.put_run-count.ensures.given c.put_run.ensures.given
+    let short : length f ≤ c.put_slice-count.result = omega (arith, c.if-count-first.false) in
+    both_runs (g.I.Inlet.kind.state c.args.inlet.now).given (g.I.Inlet.kind.state c.put_slice-count.new.self).given (g.I.Inlet.kind.state c.put_slice.new.self).given f c.as_slices.result.1.now c.args.outbox.now.items c.put_slice-count.result c.put_slice.result c.as_slices.ensures c.put_slice-count.ensures.count short c.put_slice-count.ensures.given c.put_slice.ensures.given

@@ -8,10 +8,10 @@ use Rattle.timer_desk.proofs.driving.drive.Given as goal
 -- without progress there is something left to do, since the drive would have ended before it
 abbrev pub invariant-loop-idle : goal.invariant-loop-idle
 invariant-loop-idle g l = record {
-  turns : Turns g.I.Inlet.got g.I.Inlet.standing g.I.Inlet.given g.I.Inlet.same_line g.I.Inlet.take_may_refuse l.goal false l.fn.desk l.desk l.initial.progress.items l.progress.items;
+  turns : Turns g.I.Inlet.kind l.goal false l.fn.desk l.desk l.initial.progress.items l.progress.items;
   clients : vec_len l.progress ≡ clients_of l.desk;
   within : l.idle ≤ l.limit;
-  since : 0 < l.idle → IdleSince g.I.Inlet.got g.I.Inlet.standing g.I.Inlet.given g.I.Inlet.same_line g.I.Inlet.take_may_refuse l.goal l.idle l.fn.desk l.desk l.initial.progress.items l.progress.items;
+  since : 0 < l.idle → IdleSince g.I.Inlet.kind l.goal l.idle l.fn.desk l.desk l.initial.progress.items l.progress.items;
   left : 0 < l.idle → 0 < all_left l.goal l.progress.items;
 }
 

@@ -7,7 +7,7 @@ use Rattle.timer_desk.proofs.driving.one_turn.Goals as goal
 
 pub returns-in_default-clause-turns : goal.returns-in_default-clause-turns
 returns-in_default-clause-turns g c = record {
-  turns = Turns-nothing g.I.Inlet.got g.I.Inlet.standing g.I.Inlet.given g.I.Inlet.same_line g.I.Inlet.take_may_refuse g.met.I.Inlet.reflexive c.args.goal true c.args.desk.now c.args.progress.now.items c.keeps.ensures.held;
+  turns = Turns-nothing g.I.Inlet.kind c.args.goal true c.args.desk.now c.args.progress.now.items c.keeps.ensures.held;
   once = λ is. absurd (cc);
 }
 
@@ -19,7 +19,7 @@ returns-then-passed-clause-turns g c =
     let is : steps_of report ≡ c.in-Ok.steps.items = c.in-Ok-turn.ensures.steps ∙ c.deref-2.ensures.value in
     let as_many = ap (λ ps. length ps) c.deref.ensures.value in
     let n : length c.deref.result.now ≡ clients_of c.args.desk.now = omega (arith, as_many, c.requires.clients, c.args.progress.now.ok) in
-    TurnsOnce-one g.I.Inlet.got g.I.Inlet.standing g.I.Inlet.given g.I.Inlet.same_line g.I.Inlet.take_may_refuse c.args.goal false c.args.desk.now c.turn.new.self before after report c.in-Ok.steps.items (length c.deref.result.now) n c.in-Ok-turn.ensures.told is
+    TurnsOnce-one g.I.Inlet.kind c.args.goal false c.args.desk.now c.turn.new.self before after report c.in-Ok.steps.items (length c.deref.result.now) n c.in-Ok-turn.ensures.told is
     c.in-Ok.ensures.fit c.in-Ok.ensures.once c.in-Ok-turn.ensures.behind (λ _. subst NoneRanOut c.deref-4.ensures.value (c.if-has_refusal.ensures.0 refl))
     (λ k p l. subst (λ r. HasCounted c.args.goal (length (asked k r)) (flushed k r) (get_or before k p) (get_or after k p)) c.deref-3.ensures.value (c.if-passed.ensures.counted k p (omega (arith, l, c.args.progress.now.ok))))
 
@@ -31,6 +31,6 @@ returns-clause-turns g c =
     let is : steps_of report ≡ c.in-Ok.steps.items = c.in-Ok-turn.ensures.steps ∙ c.deref-2.ensures.value in
     let as_many = ap (λ ps. length ps) c.deref.ensures.value in
     let n : length c.deref.result.now ≡ clients_of c.args.desk.now = omega (arith, as_many, c.requires.clients, c.args.progress.now.ok) in
-    TurnsOnce-one g.I.Inlet.got g.I.Inlet.standing g.I.Inlet.given g.I.Inlet.same_line g.I.Inlet.take_may_refuse c.args.goal false c.args.desk.now c.turn.new.self before after report c.in-Ok.steps.items (length c.deref.result.now) n c.in-Ok-turn.ensures.told is
+    TurnsOnce-one g.I.Inlet.kind c.args.goal false c.args.desk.now c.turn.new.self before after report c.in-Ok.steps.items (length c.deref.result.now) n c.in-Ok-turn.ensures.told is
     c.in-Ok.ensures.fit c.in-Ok.ensures.once c.in-Ok-turn.ensures.behind (λ _. subst NoneRanOut c.deref-4.ensures.value (c.if-has_refusal.ensures.0 refl))
     (λ k p l. subst (λ r. HasCounted c.args.goal (length (asked k r)) (flushed k r) (get_or before k p) (get_or after k p)) c.deref-3.ensures.value (c.if-passed.ensures.counted k p (omega (arith, l, c.args.progress.now.ok))))

@@ -10,8 +10,8 @@ loop-step-preserved g c =
     let was = c.loop-step.invariant in
     let adds = c.step.ensures.adds in
     let split = flat_map-append step_in c.loop-step.report.items adds.more in record {
-      told = subst (λ report. Told g.I.Inlet.got g.I.Inlet.standing g.I.Inlet.given g.I.Inlet.same_line g.I.Inlet.take_may_refuse report c.args.self.now c.step.new.self) (sym adds.added)
-          (Told-joined g.I.Inlet.got g.I.Inlet.standing g.I.Inlet.given g.I.Inlet.same_line g.I.Inlet.take_may_refuse g.met.I.Inlet.transitive c.loop-step.report.items adds.more _ _ _ was.told adds.told);
+      told = subst (λ report. Told g.I.Inlet.kind report c.args.self.now c.step.new.self) (sym adds.added)
+          (Told-joined g.I.Inlet.kind c.loop-step.report.items adds.more _ _ _ was.told adds.told);
       steps = grind (arith, common_steps, split, was.steps, adds.added, adds.step);
       behind = subst (AreBehind false) (sym adds.added) (AreBehind-joined false c.loop-step.report.items adds.more was.behind adds.behind);
       fits = omega (arith, was.fits, c.step.ensures.room, c.step.ensures.capacity);
