@@ -43,6 +43,7 @@ pub use serving::{PIECE, fault_of, finish, send, serve};
 pub use session::{FeedStop, Session};
 pub use stage::Stage;
 pub use streams::Streams;
+pub use text::text_of;
 pub use watched::Watched;
 
 #[cfg(test)]

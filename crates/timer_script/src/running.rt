@@ -23,8 +23,8 @@ use std::io::{Read, Write};
 use timer_base::{OutOfMemory, Wheel};
 use timer_facility::{Event, Facility, Out, Player};
 
-/// An answer of this many times the bytes of its script fits in the room that is made for it at first. It may grow past
-/// that. Room that is not used takes no memory where the system gives it out by pages.
+/// How many times the bytes of its script an answer has room for at first. Most answers fit in that, and are
+/// never copied; a longer one grows. Room that is not used costs an address range, and no pages.
 const GROWTH: usize = 4;
 
 /// Plays an event, and adds the line of each of its outs to the text. `outs` is used up, for its memory alone.

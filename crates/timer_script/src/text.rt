@@ -83,7 +83,8 @@ fn put_number(n: u64, buffer: &mut [u8], end: usize) -> usize
     at
 }
 
-/// Writes numbers, each after a space: from the last to the first into a piece of memory, which is then copied at once.
+/// Writes numbers, each after a space: from the last to the first into a piece of memory, which is then
+/// copied at once.
 fn push_numbers(out: &mut Vec<u8>, all: &[u64]) -> Result<(), OutOfMemory>
     requires { length all.now ≤ MOST_NUMBERS }
     ensures { OnOk result (out.new.items ≡ out.old.items ++ numbers all.now) }
@@ -205,9 +206,10 @@ pub fn push_end(text: &mut Vec<u8>, now: u64, pending: u64) -> Result<(), OutOfM
     push_line(text, b"end", &[now, pending])
 }
 
-/// The lines of the outs, and the end line with this tick and this number of pending timers.
+/// The lines of the outs, in their order, and the end line with this tick and this number of pending
+/// timers. Each out has a text, also `NotTaken::OutOfMemory`, which a player never returns.
 ///
-/// Fails only where memory ran out.
+/// Fails only when an allocation is refused. It allocates the text alone, which grows with the lines.
 pub fn text_of(alloc: Global, outs: &[Out], now: u64, pending: u64) -> Result<Vec<u8>, OutOfMemory>
     ensures { IfOk result (λ bytes. bytes.items ≡ text outs.now now pending) }
 {

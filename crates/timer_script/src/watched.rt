@@ -2,8 +2,9 @@
 //!
 //! An error that was returned once may be gone at the next call. Here it stays known, so a contract
 //! can say that an error comes only where the reader or the writer itself failed. Each call makes one
-//! call of the reader or the writer, and nothing is retried: no clause can count those calls, so tests
-//! with readers and writers that fail once show it.
+//! call of the reader or the writer, with the whole piece, and nothing is retried. No clause counts those
+//! calls, since what `std` knows of a reader or a writer is its bytes alone: a test over one that writes its
+//! calls down does.
 ghost use Rattle.std.specs.Prelude.{◌≡◌, ◌||◌, ◌&&◌, ◌==◌, ◌<◌, not, false, length, is_ok, is_err};
 ghost use Rattle.std.specs.Io.{ReadsAtMost, WritesAtMost};
 ghost use Rattle.std.specs.Io.KnownBytes.{Keeps, ReadConsumes, WriteAppends};

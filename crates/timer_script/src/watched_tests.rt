@@ -1,88 +1,154 @@
-//! What a watched reader or writer asks of the one inside: one call for each call, and none again.
-use crate::testing::{same, same_in};
+//! What a watched reader or writer, and a peer of the two, ask of the ones inside: one call for each call,
+//! with the whole piece, and none again.
+use crate::peer::Peer;
+use crate::streams::Streams;
+use crate::testing::same_in;
 use crate::watched::Watched;
+use std::alloc::Global;
 use std::io;
 use std::io::{ErrorKind, Read, Write};
+use std::process::Abort;
 
-/// Counts its calls. The first of each kind fails, where it is asked to; each later one does nothing.
+/// Writes its calls down: `<` and the piece of a read, `>` and that of a write, `!` for a flush. One of
+/// them fails, counted from 0.
 #[derive(Drop)]
-struct Counted {
-    reads: u64,
-    writes: u64,
-    flushes: u64,
-    fails: bool,
+struct Recorder {
+    log: Vec<u8>,
+    calls: u64,
+    fails_at: u64,
 }
 
-impl Counted {
-    fn new(fails: bool) -> Counted {
-        Counted {
-            reads: 0,
-            writes: 0,
-            flushes: 0,
-            fails,
+impl Recorder {
+    fn new(alloc: Global, fails_at: u64) -> Recorder {
+        Recorder {
+            log: Vec::new(alloc),
+            calls: 0,
+            fails_at,
         }
     }
-}
 
-impl Read for Counted {
-    fn read(&mut self, _buf: &mut [u8]) -> io::Result<usize> {
-        self.reads = self.reads.saturating_add(1);
-        if self.fails && self.reads == 1 {
-            return Err(io::Error::from(ErrorKind::Interrupted));
-        }
-        Ok(0)
-    }
-}
-
-impl Write for Counted {
-    fn write(&mut self, _buf: &[u8]) -> io::Result<usize> {
-        self.writes = self.writes.saturating_add(1);
-        if self.fails && self.writes == 1 {
-            return Err(io::Error::from(ErrorKind::Interrupted));
-        }
-        Ok(0)
-    }
-
-    fn flush(&mut self) -> io::Result<()> {
-        self.flushes = self.flushes.saturating_add(1);
-        if self.fails && self.flushes == 1 {
+    /// Writes a call down. It fails in the way that standard readers and writers are retried after.
+    fn note(&mut self, kind: u8, piece: &[u8]) -> io::Result<()> {
+        let call = self.calls;
+        self.calls = call.saturating_add(1);
+        self.log.push(kind)?;
+        self.log.extend_from_slice(piece)?;
+        if call == self.fails_at {
             return Err(io::Error::from(ErrorKind::Interrupted));
         }
         Ok(())
     }
 }
 
-#[test]
-fn each_read_of_a_watched_reader_is_one_read_inside(rt: HostRuntime) {
-    for fails in [false, true] {
-        let mut reader = Watched::new(Counted::new(fails));
-        let mut piece = [0u8; 4];
-        same_in(&rt, fails, reader.read(&mut piece).is_err(), fails);
-        same_in(&rt, fails, reader.failed(), fails);
-        same(&rt, reader.into_inner().reads, 1);
+impl Read for Recorder {
+    fn read(&mut self, buf: &mut [u8]) -> io::Result<usize> {
+        self.note(b'<', buf)?;
+        Ok(buf.len())
     }
 }
 
-#[test]
-fn each_write_of_a_watched_writer_is_one_write_inside(rt: HostRuntime) {
-    for fails in [false, true] {
-        let mut writer = Watched::new(Counted::new(fails));
-        same_in(&rt, fails, writer.write(b"").is_err(), fails);
-        same_in(&rt, fails, writer.failed(), fails);
-        let inner = writer.into_inner();
-        same(&rt, inner.writes, 1);
-        same(&rt, inner.flushes, 0);
+impl Write for Recorder {
+    fn write(&mut self, buf: &[u8]) -> io::Result<usize> {
+        self.note(b'>', buf)?;
+        Ok(buf.len())
+    }
+
+    fn flush(&mut self) -> io::Result<()> {
+        self.note(b'!', b"")
     }
 }
 
+/// Makes a call of each kind, of which this one fails inside, and compares what failed.
+fn check_calls(rt: &impl Abort, alloc: Global, fails_at: u64) {
+    let mut watched = Watched::new(Recorder::new(alloc, fails_at));
+    let mut piece = *b"room";
+    same_in(
+        rt,
+        fails_at,
+        watched.read(&mut piece).ok(),
+        taken(4, fails_at == 0),
+    );
+    same_in(rt, fails_at, watched.failed(), fails_at == 0);
+    same_in(
+        rt,
+        fails_at,
+        watched.write(b"text").ok(),
+        taken(4, fails_at == 1),
+    );
+    same_in(rt, fails_at, watched.failed(), fails_at <= 1);
+    same_in(rt, fails_at, watched.flush().is_err(), fails_at == 2);
+    same_in(rt, fails_at, watched.failed(), fails_at <= 2);
+    let inner = watched.into_inner();
+    same_in(
+        rt,
+        fails_at,
+        inner.log.as_slice(),
+        b"<room>text!".as_slice(),
+    );
+}
+
+/// So many bytes, where the call does not fail.
+fn taken(bytes: usize, fails: bool) -> Option<usize> {
+    if fails { None } else { Some(bytes) }
+}
+
 #[test]
-fn each_flush_of_a_watched_writer_is_one_flush_inside(rt: HostRuntime) {
-    for fails in [false, true] {
-        let mut writer = Watched::new(Counted::new(fails));
-        same_in(&rt, fails, writer.flush().is_err(), fails);
-        same_in(&rt, fails, writer.failed(), fails);
-        let inner = writer.into_inner();
-        same(&rt, inner.flushes, 1);
-        same(&rt, inner.writes, 0);
+fn each_call_of_a_watched_value_is_one_call_inside(rt: HostRuntime) {
+    for fails_at in 0..4 {
+        check_calls(&rt, rt.alloc(), fails_at);
+    }
+}
+
+/// The same for a reader and a writer that are a peer.
+fn check_streams(rt: &impl Abort, alloc: Global, fails_at: u64) {
+    let reader = Recorder::new(alloc, fails_at);
+    // The writer's first call is the second of all.
+    let writer = Recorder::new(alloc, fails_at.wrapping_sub(1));
+    let mut streams = Streams::new(reader, writer);
+    let mut piece = *b"room";
+    same_in(
+        rt,
+        fails_at,
+        Peer::read(&mut streams, &mut piece).ok(),
+        taken(4, fails_at == 0),
+    );
+    same_in(
+        rt,
+        fails_at,
+        Peer::write(&mut streams, b"text").ok(),
+        taken(4, fails_at == 1),
+    );
+    same_in(
+        rt,
+        fails_at,
+        Peer::flush(&mut streams).is_err(),
+        fails_at == 2,
+    );
+    let Streams { reader, writer } = streams;
+    same_in(rt, fails_at, reader.failed(), fails_at == 0);
+    same_in(
+        rt,
+        fails_at,
+        writer.failed(),
+        fails_at == 1 || fails_at == 2,
+    );
+    same_in(
+        rt,
+        fails_at,
+        reader.into_inner().log.as_slice(),
+        b"<room".as_slice(),
+    );
+    same_in(
+        rt,
+        fails_at,
+        writer.into_inner().log.as_slice(),
+        b">text!".as_slice(),
+    );
+}
+
+#[test]
+fn each_call_of_streams_is_one_call_of_their_reader_or_writer(rt: HostRuntime) {
+    for fails_at in 0..4 {
+        check_streams(&rt, rt.alloc(), fails_at);
     }
 }
