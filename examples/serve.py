@@ -3,7 +3,7 @@
 
     examples/serve.py PROGRAM [TICK]      e.g.  examples/serve.py ./timers 0.05
 
-Messages are sent, and each is to be acknowledged within 30 ticks of TICK seconds (0.05 where nothing is said). An
+Messages are sent, and each is to be acknowledged within 30 ticks of TICK seconds (by default 0.05). An
 acknowledgement stops the message's time-out. That of message 4 comes at the very tick at which the time-out fires.
 """
 import queue, subprocess, sys, threading, time
@@ -67,13 +67,13 @@ class TimeOuts:
         return self.answer(), self.server.wait()
 
 
-def main(program, tick=0.05):
+def main(program, tick):
     timers = TimeOuts(program, lambda number, now: print(f"message {number} was not acknowledged by tick {now}"))
     begin, now = time.monotonic(), 0
     for at, what, number in PLAN:
         while now < at:
             now += 1
-            while (left := begin + now * float(tick) - time.monotonic()) > 0:
+            while (left := begin + now * tick - time.monotonic()) > 0:
                 timers.listen(left)  # the loop sleeps here, until a line comes or the next tick is there
             timers.write("tick 1")
         if what == "send":
@@ -86,4 +86,14 @@ def main(program, tick=0.05):
     print(f"end at tick {now} with {pending} pending, status {status}")
 
 
-main(*sys.argv[1:])
+if len(sys.argv) not in (2, 3):
+    print(f"usage: {sys.argv[0]} PROGRAM [TICK], e.g. {sys.argv[0]} ./timers 0.05", file=sys.stderr)
+    sys.exit(2)
+try:
+    tick = float(sys.argv[2]) if len(sys.argv) == 3 else 0.05
+except ValueError:
+    sys.exit(f"{sys.argv[0]}: a tick is a number of seconds, not {sys.argv[2]}")
+try:
+    main(sys.argv[1], tick)
+except OSError as fault:
+    sys.exit(f"{sys.argv[1]}: {fault.strerror}")

@@ -1,0 +1,17 @@
+# Completes the arguments of timers(1) in fish.
+complete -c timers -f
+complete -c timers -n __fish_use_subcommand -a play -d "Play the script on standard input"
+complete -c timers -n __fish_use_subcommand -a serve -d "Answer each line of standard input as it comes"
+complete -c timers -n __fish_use_subcommand -a show -d "Answer lines, and show where the timers stand"
+complete -c timers -n __fish_use_subcommand -a threads -d "Run clients in threads of their own"
+complete -c timers -n __fish_use_subcommand -a help -d "Print help, of the program or of a command"
+complete -c timers -n __fish_use_subcommand -s V -l version -d "Print the version"
+complete -c timers -s h -l help -d "Print help"
+set -l playing "__fish_seen_subcommand_from play serve show"
+complete -c timers -n $playing -l scheme -x -a "plain hashed hier clock" -d "How timers are kept"
+complete -c timers -n $playing -l slots -x -d "The buckets of the hashed wheel, 1 to 65536"
+complete -c timers -n $playing -l capacity -x -d "The most pending timers, 1 to 1048576"
+complete -c timers -n $playing -l first-tick -x -d "The tick at which the clock begins"
+complete -c timers -n "__fish_seen_subcommand_from play serve show threads" -l clients -x -d "The number of clients, 1 to 64"
+complete -c timers -n "__fish_seen_subcommand_from threads" -l timers -x -d "The timers that each client starts, 1 to 10000"
+complete -c timers -n "__fish_seen_subcommand_from help" -a "play serve show threads"
