@@ -174,6 +174,11 @@ impl Wheel for PlainWheel {
         first_deadline(self.timers.as_slice(), self.now)
     }
 
+    /// The same as `quiet_until`, which is exact here: a scan of all timers.
+    fn next_deadline(&self) -> Option<u64> {
+        self.quiet_until()
+    }
+
     fn expire(&mut self) -> Option<Timer> {
         let first = find_due(self.timers.as_slice(), self.now)?;
         drop_serial(&mut self.timers, first.serial);

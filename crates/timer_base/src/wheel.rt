@@ -15,7 +15,7 @@
 ghost use Rattle.std.specs.Prelude.{◌≡◌, ◌<◌, ◌≤◌, ◌-◌, ◌↔◌, [], length, IsTrue, IfOk, OnErr, MatchOption};
 ghost use Rattle.timer_base.specs.declared.limits.TheConstants.{LAST};
 ghost use Rattle.timer_base.specs.Pending.{timers_of};
-ghost use Rattle.timer_base.specs.WakeUps.{IsQuietUntil};
+ghost use Rattle.timer_base.specs.WakeUps.{IsQuietUntil, next_deadline};
 ghost use Rattle.timer_base.specs.WheelState.{WheelState, IsWellFormed, timer_at, first_due, after_start, after_stop, after_tick, after_expiry, after_clear, after_restart, old_timer, due_at, after_withdrawal, after_revival, Advances};
 
 use crate::fault::OutOfMemory;
@@ -122,6 +122,13 @@ pub trait Wheel {
     /// rather than search for it. Does not allocate.
     fn quiet_until(&self) -> Option<u64>
         ensures { IsQuietUntil result (state self.now) };
+
+    /// Returns the first pending deadline, or None exactly when nothing is pending.
+    ///
+    /// It is exact where `quiet_until` may be early, and a wheel may have to walk timers to find it. Due timers
+    /// may be waiting: they are not looked at. Does not allocate.
+    fn next_deadline(&self) -> Option<u64>
+        ensures { result ≡ next_deadline (state self.now).pending };
 
     /// Removes the first of the due timers and returns it. Does not allocate.
     fn expire(&mut self) -> Option<Timer>

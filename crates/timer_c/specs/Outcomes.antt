@@ -3,7 +3,7 @@ use Rattle.std.specs.Prelude.{ℕ, ◌≡◌, ◌+◌, ◌<◌, ◌≤◌, ◌�
 use Rattle.timer_base.specs.declared.limits.TheConstants.{LAST}
 use Rattle.timer_base.specs.declared.timer.Timer.{Timer}
 use Rattle.timer_base.specs.declared.timer.Handle as base
-use Rattle.timer_base.specs.WakeUps.{IsWakeUp}
+use Rattle.timer_base.specs.WakeUps.{IsWakeUp, next_deadline}
 use Rattle.timer_base.specs.WheelState.{WheelState, empty_wheel, after_start, after_tick}
 use Rattle.timer_wheels.specs.declared.table.TheConstants.{LAST_OF_CLOCK}
 use Rattle.timer_total.specs.Refusals.{next_timer, timer_due, left_until, held_at, after_removal, IsStartable, IsAt}
@@ -119,3 +119,10 @@ IsNextCall tick w =
     ((tick ≡ w.now) × (0 < length w.due))
     ⊎ ((tick ≡ NEVER) × (w.due ≡ []) × (w.pending ≡ []))
     ⊎ ((w.due ≡ []) × IsWakeUp tick w)
+
+-- the deadline of the timer that is taken next: now where an expired one waits, else the first pending one
+abbrev pub IsNextDeadline : ℕ → WheelState → Type 0
+IsNextDeadline tick w =
+    ((tick ≡ w.now) × (0 < length w.due))
+    ⊎ ((tick ≡ NEVER) × (w.due ≡ []) × (w.pending ≡ []))
+    ⊎ ((w.due ≡ []) × (next_deadline w.pending ≡ Some tick))

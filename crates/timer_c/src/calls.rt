@@ -2,7 +2,7 @@
 ghost use Rattle.std.specs.Prelude.{◌≡◌, ◌<◌, ◌++◌, ◌↔◌, true, false, Some, None, [], map, take, drop, length, min};
 ghost use Rattle.timer_base.specs.Pending.{timers_of};
 ghost use Rattle.timer_base.specs.WheelState.{first_due, after_tick, after_expiry};
-ghost use Rattle.timer_c.specs.Outcomes.{IsStarted, IsStartedAt, WhyNotStarted, IsRestarted, IsRestartedAt, WhyNotRestarted, IsSeen, IsStopped, WhyNotStopped, IsTicked, IsAdvanced, WhyNotTicked, IsNextCall, told, tell, after_expiries};
+ghost use Rattle.timer_c.specs.Outcomes.{IsStarted, IsStartedAt, WhyNotStarted, IsRestarted, IsRestartedAt, WhyNotRestarted, IsSeen, IsStopped, WhyNotStopped, IsTicked, IsAdvanced, WhyNotTicked, IsNextCall, IsNextDeadline, told, tell, after_expiries};
 ghost use Rattle.timer_total.specs.Refusals.{left_until};
 ghost use Rattle.timer_c.specs.declared.status.TheConstants.{OK};
 
@@ -182,6 +182,19 @@ pub(crate) fn wakeup<W: Wheel + Drop>(timers: &Timers<W>) -> u64
     }
     match timers.quiet_until() {
         Some(tick) => tick,
+        None => NEVER,
+    }
+}
+
+/// The deadline of the timer that is handed out next: the present tick when an expired one waits.
+pub(crate) fn next<W: Wheel + Drop>(timers: &Timers<W>) -> u64
+    ensures { IsNextDeadline result timers.now }
+{
+    if timers.has_due() {
+        return timers.now();
+    }
+    match timers.next_deadline() {
+        Some(deadline) => deadline,
         None => NEVER,
     }
 }

@@ -7,7 +7,7 @@ ghost use Rattle.std.specs.Prelude.{◌≡◌, ◌<◌, ◌≤◌, ◌⊎◌, �
 ghost use Rattle.timer_base.specs.Pending.{timers_of};
 ghost use Rattle.timer_base.specs.WheelState.{first_due, after_expiry};
 ghost use Rattle.timer_c.specs.Frames.{IsOpen, IsShut, with_timers};
-ghost use Rattle.timer_c.specs.Outcomes.{IsEmptyAt, IsOpenable, WhyNoWheel, IsStarted, IsStartedAt, WhyNotStarted, IsRestarted, IsRestartedAt, WhyNotRestarted, IsSeen, IsStopped, WhyNotStopped, IsTicked, IsAdvanced, WhyNotTicked, IsNextCall, told, tell, after_expiries};
+ghost use Rattle.timer_c.specs.Outcomes.{IsEmptyAt, IsOpenable, WhyNoWheel, IsStarted, IsStartedAt, WhyNotStarted, IsRestarted, IsRestartedAt, WhyNotRestarted, IsSeen, IsStopped, WhyNotStopped, IsTicked, IsAdvanced, WhyNotTicked, IsNextCall, IsNextDeadline, told, tell, after_expiries};
 ghost use Rattle.timer_c.specs.declared.status.TheConstants.{OK, NOT_OPEN, OPEN, NEVER};
 ghost use Rattle.timer_total.specs.Refusals.{left_until};
 
@@ -269,4 +269,18 @@ pub extern "C" fn timers_wakeup(t: &mut Held) -> u64
         return NEVER;
     }
     calls::wakeup(t.slot.timers())
+}
+
+/// The deadline of the timer that is handed out next: the present tick when an expired one waits, `NEVER` when
+/// no timer is held, and otherwise exactly the first pending deadline.
+#[unsafe(no_mangle)]
+pub extern "C" fn timers_next(t: &mut Held) -> u64
+    ensures deadline { IsOpen t.old → IsNextDeadline result t.old.slot.state }
+    ensures not_open { IsShut t.old → result ≡ NEVER }
+    ensures same { t.new ≡ t.old }
+{
+    if !t.slot.holds() {
+        return NEVER;
+    }
+    calls::next(t.slot.timers())
 }

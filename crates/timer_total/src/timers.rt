@@ -1,7 +1,7 @@
 //! A wheel whose calls have no preconditions.
 ghost use Rattle.std.specs.Prelude.{◌≡◌, ◌+◌, ◌<◌, ◌≤◌, ◌↔◌, ◌⊎◌, ℕ, [], length, IsTrue, IfOk, IfErr, OnErr, None, Some};
 ghost use Rattle.timer_base.specs.declared.limits.TheConstants.{LAST};
-ghost use Rattle.timer_base.specs.WakeUps.{IsQuietUntil};
+ghost use Rattle.timer_base.specs.WakeUps.{IsQuietUntil, next_deadline};
 ghost use Rattle.timer_base.specs.WheelState.{WheelState, first_due, after_start, after_tick, after_expiry};
 ghost use Rattle.timer_total.specs.Refusals.{next_timer, timer_due, left_until, held_at, after_removal, IsStartable, IsAt, WhyNotStarted, WhyNotRestarted, WhyNotTicked};
 ghost use Rattle.timer_total.specs.Ticks.{Passes, numbered};
@@ -73,6 +73,14 @@ impl<W: Wheel + Drop> Timers<W> {
         ensures { IsQuietUntil result self.now }
     {
         self.wheel.quiet_until()
+    }
+
+    /// The first pending deadline, or None exactly when nothing is pending. Expired timers are not looked at.
+    /// Does not allocate. The wheel may walk timers to find it.
+    pub fn next_deadline(&self) -> Option<u64>
+        ensures { result ≡ next_deadline self.now.pending }
+    {
+        self.wheel.next_deadline()
     }
 
     /// Starts a timer that expires after `interval` ticks, under the next serial.

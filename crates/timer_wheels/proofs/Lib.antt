@@ -26,3 +26,4 @@ pub mod RestartLemmas
 pub mod WakeUpLemmas
 pub mod SlotLaws
 pub mod WithdrawLemmas
+pub mod DeadlineLemmas

@@ -14,3 +14,4 @@ pub mod Leap
 pub mod Hier
 pub mod Tables
 pub mod HierWheel
+pub mod Deadlines

@@ -25,6 +25,7 @@ ghost use Rattle.timer_base.specs.WheelState.{empty_wheel, first_due, timer_at, 
 ghost use Rattle.timer_wheels.specs.Hashed.{slot_of, rounds_of, IsHashed, AreInBuckets, AreInBuckets-prop, IsNextSweep};
 
 use crate::buckets::Buckets;
+use crate::deadlines::first_of_all;
 use crate::sweep::{first_visit, next_tick, slot_after};
 use std::alloc::Global;
 use timer_base::{Handle, LAST, MakeFault, OutOfMemory, Timer, Wheel};
@@ -217,6 +218,11 @@ impl Wheel for HashedWheel {
         ensures quiet { IsQuietUntil result (state_of self.now.buckets) }
     {
         first_visit(&self.buckets, self.slot)
+    }
+
+    /// Found by a walk along every bucket: a bucket has timers of many revolutions.
+    fn next_deadline(&self) -> Option<u64> {
+        first_of_all(&self.buckets)
     }
 
     fn expire(&mut self) -> Option<Timer>

@@ -62,6 +62,7 @@ ghost use Rattle.timer_wheels.specs.Hier.{ArePlaced, ArePlaced-prop};
 ghost use Rattle.timer_wheels.specs.Placement.{ShowsWheels, IsPaid, most_moves};
 
 use crate::buckets::Buckets;
+use crate::deadlines::first_of_wheels;
 use crate::digits::{bucket_of, buckets_of, last_tick_of};
 use crate::leap::{advance_until_due, first_visit, visits_between};
 use crate::migration::next_tick;
@@ -328,6 +329,12 @@ impl Wheel for HierWheel {
         ensures quiet { IsQuietUntil result (hier_state self.now) }
     {
         first_visit(self.table, &self.buckets, &self.occupied)
+    }
+
+    /// Found in the first bucket with a timer: on wheel 0 without a look at its timers, and on a higher wheel by a
+    /// walk along that bucket alone.
+    fn next_deadline(&self) -> Option<u64> {
+        first_of_wheels(self.table, &self.buckets, &self.occupied)
     }
 
     fn expire(&mut self) -> Option<Timer>

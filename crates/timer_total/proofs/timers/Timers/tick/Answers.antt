@@ -1,4 +1,4 @@
-use Rattle.std.proofs.Common.{◌≡◌, sym, ◌∙◌, arith}
+use Rattle.std.proofs.Common.{◌≡◌, sym, ◌∙◌}
 use Rattle.timer_base.specs.TickLaws.{not_due}
 use Rattle.timer_total.proofs.ClockEnds.{at_end}
 use Rattle.timer_total.proofs.timers.Timers.tick.Goals as goal

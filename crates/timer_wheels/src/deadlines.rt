@@ -1,0 +1,86 @@
+//! The first deadline of a wheel, exactly.
+//!
+//! A bucket is in order of starting and not of deadlines, so that its first deadline takes a walk along it. In
+//! a hierarchy every deadline of a bucket comes before those of the buckets after it: the first one with a timer
+//! is enough.
+ghost use Rattle.std.specs.Prelude.{◌≡◌, ◌<◌, length};
+ghost use Rattle.timer_base.specs.PlainState.{earliest};
+ghost use Rattle.timer_base.specs.WakeUps.{next_deadline};
+ghost use Rattle.timer_links.specs.Lists.{list_at};
+ghost use Rattle.timer_wheels.specs.BucketLists.{rows_below, timers_in};
+ghost use Rattle.timer_wheels.specs.Buckets.{state_of};
+ghost use Rattle.timer_wheels.specs.Deadlines.{IsLeastDeadline};
+ghost use Rattle.timer_wheels.specs.Hier.{IsHier};
+
+use crate::buckets::Buckets;
+use crate::digits::{lowest_slots, visit_of};
+use crate::occupied::Occupied;
+use crate::table::Table;
+use timer_links::Links;
+
+/// The first pending deadline, found by a walk along every bucket. Does not allocate.
+pub fn first_of_all(buckets: &Buckets) -> Option<u64>
+    ensures { result ≡ next_deadline (state_of buckets.now).pending }
+{
+    least_below(&buckets.links, buckets.slots)
+}
+
+/// The first pending deadline of a hierarchy of wheels, found in its first bucket with a timer. Does not allocate.
+///
+/// A slot of wheel 0 is one tick, and so its deadline needs no walk.
+pub fn first_of_wheels(table: Table, buckets: &Buckets, occupied: &Occupied) -> Option<u64>
+    requires { IsHier table buckets.now occupied.now }
+    ensures { result ≡ next_deadline (state_of buckets.now).pending }
+{
+    let Some(list) = occupied.first() else {
+        return None;
+    };
+    if list < lowest_slots(table) {
+        return Some(visit_of(table, list, buckets.tick));
+    }
+    least_in(&buckets.links, list)
+}
+
+/// The least deadline of the timers in the first `count` lists. It walks all of them.
+fn least_below(links: &Links, count: usize) -> Option<u64>
+    requires { count < length links.now }
+    ensures { IsLeastDeadline result (timers_in (rows_below count links.now)) }
+{
+    let mut least = None;
+    for list in 0..count {
+        least = earlier(least, least_in(links, list));
+    }
+    least
+}
+
+/// The least deadline of the timers in one list. It walks the whole list.
+fn least_in(links: &Links, list: usize) -> Option<u64>
+    requires { list < length links.now }
+    ensures { IsLeastDeadline result (timers_in (list_at list links.now)) }
+{
+    links.keys_are_apart();
+    let mut least = None;
+    let mut at = links.front(list);
+    for step in 0..links.len() {
+        let Some(key) = at else {
+            break;
+        };
+        let Some(node) = links.get(key) else {
+            break;
+        };
+        least = earlier(least, Some(node.timer.deadline));
+        at = links.next(key);
+    }
+    least
+}
+
+/// The earlier one of two deadlines, each of which may be missing.
+fn earlier(first: Option<u64>, second: Option<u64>) -> Option<u64>
+    ensures { result ≡ earliest first second }
+{
+    match (first, second) {
+        (Some(first), Some(second)) => Some(first.min(second)),
+        (Some(_), None) => first,
+        (None, _) => second,
+    }
+}
