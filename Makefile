@@ -1,27 +1,38 @@
-# make             builds the program and leaves it as ./timers
-# make run         builds it and plays a script of examples/
-# make test        the whole gate; its last line is 'N passed, 0 failed'
-# make lib         builds libtimers.a and libtimers.so into build/lib
-# make install     installs program, libraries, header, pkg-config file, man pages and docs under PREFIX
+# make try         plays a script of examples/ with an unproved build that has checks at run time (SCRIPT=, ARGUMENTS=)
+# make             proves and builds the program and leaves it as ./timers
+# make run         the same, and plays a script of examples/
+# make test        the whole gate; its last line is 'N passed, 0 failed', or 'N passed, 0 failed, N skipped'
+# make lib         proves and builds libtimers.a and libtimers.so into build/lib
+# make install     installs what make and make lib built, under PREFIX (tools/install/layout has all variables)
 # make uninstall   removes what it installed
+# make dist        a tarball of program and libraries, for machines without the toolchain: build/timers-*.tar.gz
+# make deb         Debian packages built from it: build/deb/*.deb
 # make bench       measures the wheels against others (bench/README.md)
 # make bench-lines measures the owner's desk, ring lines and clients in threads against others
-# make hostile     the program where memory, its outputs or its input fail it
+# make hostile     the program under memory limits and input and output errors
 # make fuzz        an hour of scripts, against a model of docs/formats.md (MINUTES=N)
-# make soak        64 clients of 10,000 timers each in threads, 100 times; prints how far it is
+# make soak        64 clients of 10,000 timers each in threads, 100 times; prints progress
 # make clean       removes what was built
+#
+# CPU=x86-64-v3 builds program and libraries for that processor. x86-64, x86-64-v2 (the default) and x86-64-v3 can be
+# chosen; the first runs on all of x86-64.
 
 KIT = $(dir $(shell rt doc))
 PROGRAM = crates/timer_program/out/timer_program
 SOAK = crates/timer_soak/out/timer_soak
 DESK_BENCH = crates/timer_desk_bench/out/timer_desk_bench
-PREFIX = /usr/local
+SCRIPT = examples/retransmission
+ARGUMENTS = play
 MINUTES = 60
 
 # rt proves what changed, builds the program, and runs it: on the empty script it prints one line.
 all:
-	cd crates/timer_program && rt run < /dev/null
+	cd crates/timer_program && rt run $(if $(CPU),--cpu=$(CPU)) < /dev/null
 	cp $(PROGRAM) timers
+
+try:
+	cd crates/timer_program && rt try -- $(ARGUMENTS) < $(abspath $(SCRIPT))
+	@echo "Nothing was proved: this build has checks at run time in place of proofs. 'make run' proves the program."
 
 run: all
 	./timers < examples/retransmission
@@ -32,11 +43,18 @@ test:
 lib:
 	tools/lib build/lib
 
-install: all lib
-	tools/install/install $(PREFIX) build/lib
+# The variables of tools/install/layout come from the environment, into which make puts those that it is given.
+install:
+	@tools/install/install
 
 uninstall:
-	tools/install/uninstall $(PREFIX)
+	@tools/install/uninstall
+
+dist: all lib
+	tools/dist
+
+deb: dist
+	tools/deb
 
 bench:
 	cd crates/timer_bench && rt lib
@@ -64,4 +82,4 @@ clean:
 	rm -rf crates/*/out build timers
 	$(MAKE) -C bench clean
 
-.PHONY: all run test lib install uninstall bench bench-lines hostile fuzz soak clean
+.PHONY: all try run test lib install uninstall dist deb bench bench-lines hostile fuzz soak clean
