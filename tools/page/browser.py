@@ -1,0 +1,118 @@
+"""A headless Chromium, driven over its DevTools protocol through a pair of pipes."""
+import json
+import os
+import select
+import shutil
+import subprocess
+import tempfile
+import time
+
+NAMES = ["chromium", "chromium-browser", "google-chrome", "google-chrome-stable"]
+LIMIT = 120  # seconds for one answer
+
+
+def found():
+    """The browser that the variable CHROMIUM names, or one on the path, or None."""
+    return next((path for path in map(shutil.which, [os.environ.get("CHROMIUM", ""), *NAMES]) if path), None)
+
+
+class Failed(Exception):
+    """The browser gave an error, or no answer in time."""
+
+
+class Browser:
+    def __init__(self, program):
+        self.folder = tempfile.TemporaryDirectory(ignore_cleanup_errors=True)
+        down, self.out = os.pipe()
+        self.into, up = os.pipe()
+        words = [program, "--headless=new", "--remote-debugging-pipe", "--no-sandbox", "--disable-gpu", "--disable-dev-shm-usage",
+                 "--hide-scrollbars", "--no-first-run", f"--user-data-dir={self.folder.name}"]
+        # The browser reads from its descriptor 3 and writes to 4; `sh` gives them these numbers.
+        shell = f'exec "$@" 3<&{down} 4>&{up}'
+        self.process = subprocess.Popen(["bash", "-c", shell, "sh", *words], pass_fds=(down, up), stdout=subprocess.DEVNULL, stderr=subprocess.DEVNULL)
+        os.close(down)
+        os.close(up)
+        self.asked, self.rest, self.events = 0, b"", []
+        target = self.ask("Target.createTarget", {"url": "about:blank"}, None)["targetId"]
+        self.session = self.ask("Target.attachToTarget", {"targetId": target, "flatten": True}, None)["sessionId"]
+        for domain in ("Page", "Runtime", "Log", "Network"):
+            self.ask(f"{domain}.enable")
+
+    def message(self, until):
+        """The next message of the browser."""
+        while b"\0" not in self.rest:
+            if not select.select([self.into], [], [], max(0, until - time.monotonic()))[0]:
+                raise Failed("the browser gave no answer in time")
+            got = os.read(self.into, 1 << 16)
+            if not got:
+                raise Failed("the browser ended")
+            self.rest += got
+        text, self.rest = self.rest.split(b"\0", 1)
+        return json.loads(text)
+
+    def ask(self, method, parameters=None, session=""):
+        self.asked += 1
+        question = {"id": self.asked, "method": method, "params": parameters or {}}
+        if session == "":
+            question["sessionId"] = self.session
+        os.write(self.out, json.dumps(question).encode() + b"\0")
+        until = time.monotonic() + LIMIT
+        while True:
+            answer = self.message(until)
+            if answer.get("id") == self.asked:
+                if "error" in answer:
+                    raise Failed(f"{method}: {answer['error']['message']}")
+                return answer["result"]
+            self.events.append(answer)
+
+    def open(self, path, width=1280, height=900, is_dark=False):
+        """Loads a file, and waits until it has run."""
+        self.events.clear()
+        self.ask("Emulation.setDeviceMetricsOverride", {"width": width, "height": height, "deviceScaleFactor": 1, "mobile": width < 600})
+        scheme = {"name": "prefers-color-scheme", "value": "dark" if is_dark else "light"}
+        self.ask("Emulation.setEmulatedMedia", {"features": [scheme, {"name": "prefers-reduced-motion", "value": "reduce"}]})
+        self.ask("Page.navigate", {"url": f"file://{os.path.abspath(path)}"})
+        until = time.monotonic() + LIMIT
+        while not any(event.get("method") == "Page.loadEventFired" for event in self.events):
+            self.events.append(self.message(until))
+
+    def value(self, script):
+        """The value of an expression in the page."""
+        result = self.ask("Runtime.evaluate", {"expression": script, "returnByValue": True, "awaitPromise": True})
+        if "exceptionDetails" in result:
+            details = result["exceptionDetails"]
+            raise Failed(details.get("exception", {}).get("description") or details["text"])
+        return result["result"].get("value")
+
+    def press(self, key, code):
+        for kind in ("keyDown", "keyUp"):
+            self.ask("Input.dispatchKeyEvent", {"type": kind, "key": key, "code": code, "windowsVirtualKeyCode": 0, "text": " " if key == " " and kind == "keyDown" else ""})
+
+    def faults(self):
+        """What the page's console has: errors, warnings, exceptions; and what it loaded besides its own file."""
+        found = []
+        for event in self.events:
+            method, told = event.get("method"), event.get("params", {})
+            if method == "Runtime.exceptionThrown":
+                found.append(told["exceptionDetails"].get("exception", {}).get("description", told["exceptionDetails"]["text"]))
+            elif method == "Runtime.consoleAPICalled" and told["type"] in ("error", "warning", "assert"):
+                found.append(" ".join(str(a.get("value", a.get("description"))) for a in told["args"]))
+            elif method == "Log.entryAdded" and told["entry"]["level"] in ("error", "warning"):
+                found.append(told["entry"]["text"])
+            elif method == "Network.requestWillBeSent" and told.get("type") != "Document":
+                found.append(f"loads {told['request']['url'][:80]}")
+        return found
+
+    def picture(self, path):
+        import base64
+        with open(path, "wb") as file:
+            file.write(base64.b64decode(self.ask("Page.captureScreenshot", {"format": "png"})["data"]))
+
+    def close(self):
+        try:
+            self.ask("Browser.close", None, None)
+            self.process.wait(20)
+        except (Failed, subprocess.TimeoutExpired, OSError):
+            self.process.kill()
+            self.process.wait()
+        self.folder.cleanup()

@@ -1,0 +1,92 @@
+"""Where a line of ticks is cut, so that each move and each expired timer is a step of its own.
+
+The cuts follow from the deadlines alone. They decide at which ticks the program is asked where the timers stand, and
+nothing of what it answers.
+"""
+from dataclasses import dataclass
+
+MOST_PIECES = 64  # of one line; a line with more is one step
+MOST_STEPS = 5_000
+
+
+@dataclass
+class Piece:
+    line: int
+    passed: int
+    text: str
+
+
+def moves(scheme, now, deadline):
+    """The ticks after now at which a timer of a hierarchy changes its wheel, and its deadline."""
+    ticks = []
+    while now != deadline:
+        level = scheme.level(now, deadline)
+        now = deadline - deadline % scheme.wheels[level].ticks
+        ticks.append(now)
+    return ticks
+
+
+def sweeps(scheme, now, deadline):
+    """The ticks after now, up to the deadline, at which the hashed wheel passes over a timer's bucket."""
+    slots = scheme.wheels[0].slots
+    first = now + 1 + (deadline - now - 1) % slots
+    return range(first, deadline + 1, slots)
+
+
+def stops(scheme, now, then, deadlines):
+    """The ticks after now and before `then` at which something happens, or None where there are too many."""
+    found = set()
+    for deadline in deadlines:
+        if scheme.is_hierarchy():
+            ticks = moves(scheme, now, deadline)
+        elif scheme.name == "hashed":
+            ticks = sweeps(scheme, now, deadline)
+        else:
+            ticks = [deadline]
+        for tick in ticks:
+            if tick >= then:
+                break
+            found.add(tick)
+            if len(found) >= MOST_PIECES:
+                return None
+    return sorted(found)
+
+
+def note(deadlines, answers):
+    """Keeps the deadlines of the pending timers, by serial."""
+    for answer in answers:
+        words = answer.split()
+        if words[0] == "started":
+            deadlines[words[3]] = int(words[4])
+        elif words[0] == "restarted":
+            deadlines.pop(words[3], None)
+            deadlines[words[4]] = int(words[5])
+        elif words[0] in ("stopped", "expired"):
+            deadlines.pop(words[3], None)
+        elif words[0] == "returned":
+            deadlines.pop(words[2], None)
+
+
+def cut(line, text, now, then, ticks):
+    """A line of ticks in pieces that end at these ticks."""
+    passed = [tick - now for tick in [*ticks, then]]
+    return [Piece(line, end, f"tick {end - start}") for start, end in zip([0, *passed], passed)]
+
+
+def pieces(scheme, first_tick, lines, steps):
+    """The script's lines, cut, and the lines that would have had too many pieces."""
+    made, uncut, deadlines, now = [], [], {}, first_tick
+    for step in steps:
+        text = lines[step.line]
+        is_tick = text.startswith("tick ") and not any(a.startswith("tick refused") for a in step.answers)
+        ticks = stops(scheme, now, step.now, deadlines.values()) if is_tick else []
+        if ticks is None or len(made) > MOST_STEPS:
+            uncut.append(step.line)
+            ticks = []
+        if is_tick:
+            made += cut(step.line, text, now, step.now, ticks)
+        else:
+            made.append(Piece(step.line, 0, text))
+        note(deadlines, step.answers)
+        now = step.now
+    return made, uncut

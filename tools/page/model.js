@@ -1,0 +1,143 @@
+// What stood where after each step, and the history of each timer. Step 0 is before the first line.
+
+const SNAPSHOT = 64; // the buckets are kept whole after so many steps
+
+function keyOf(wheel, slot) {
+  return wheel * 65536 + slot;
+}
+
+function placeOf(key) {
+  return { wheel: Math.floor(key / 65536), slot: key % 65536 };
+}
+
+function serialOf(written) {
+  return written.split(":")[0];
+}
+
+// The buckets after these edits. Lists that didn't change are the same objects as before.
+function edited(buckets, edits) {
+  const next = new Map(buckets);
+  for (const [wheel, slot, front, back, between] of edits) {
+    const key = keyOf(wheel, slot);
+    const old = next.get(key) || [];
+    const list = [...old.slice(0, front), ...between, ...old.slice(old.length - back)];
+    if (list.length) next.set(key, list);
+    else next.delete(key);
+  }
+  return next;
+}
+
+// The digits of a tick, the lowest wheel's first.
+function digitsOf(wheels, tick) {
+  return wheels.map((wheel) => Number((tick / wheel.ticks) % BigInt(wheel.slots)));
+}
+
+// The highest wheel at which two ticks have different digits, or -1.
+function levelOf(wheels, one, other) {
+  const a = digitsOf(wheels, one);
+  const b = digitsOf(wheels, other);
+  let level = wheels.length - 1;
+  while (level >= 0 && a[level] === b[level]) level -= 1;
+  return level;
+}
+
+class Play {
+  constructor(data) {
+    Object.assign(this, data);
+    this.wheels = data.wheels.map((wheel) => ({ ...wheel, ticks: BigInt(wheel.ticks) }));
+    this.steps = data.steps.map(([line, passed, now, answers, edits]) => ({ line, passed, now: BigInt(now), answers, edits, events: [] }));
+    this.timers = new Map();
+    this.used = new Set();
+    this.snapshots = [new Map()];
+    this.read();
+    // A bad line is a last step, at which nothing changes.
+    if (data.bad !== null) this.steps.push({ line: data.bad, passed: 0, now: this.now(this.last), answers: [], edits: [], events: [], isBad: true });
+  }
+
+  get last() {
+    return this.steps.length;
+  }
+
+  now(step) {
+    return step ? this.steps[step - 1].now : BigInt(this.firstTick);
+  }
+
+  // Reads all steps once: the snapshots, and each timer's history.
+  read() {
+    let buckets = this.snapshots[0];
+    this.steps.forEach((step, at) => {
+      for (const answer of step.answers) this.hear(answer, at + 1);
+      buckets = edited(buckets, step.edits);
+      for (const edit of step.edits) this.see(edit, at + 1);
+      if ((at + 1) % SNAPSHOT === 0) this.snapshots.push(buckets);
+    });
+  }
+
+  // The buckets after a step, from the nearest snapshot, or from the step that was asked for last.
+  buckets(step) {
+    const from = Math.floor(step / SNAPSHOT);
+    let at = Math.min(from, this.snapshots.length - 1) * SNAPSHOT;
+    let buckets = this.snapshots[at / SNAPSHOT];
+    if (this.kept && this.kept.step <= step && this.kept.step > at) {
+      at = this.kept.step;
+      buckets = this.kept.buckets;
+    }
+    for (; at < step; at += 1) buckets = edited(buckets, this.steps[at].edits);
+    this.kept = { step, buckets };
+    return buckets;
+  }
+
+  happen(serial, step, event) {
+    const timer = this.timers.get(serial);
+    if (!timer) return;
+    const whole = { ...event, step, serial };
+    timer.events.push(whole);
+    this.steps[step - 1].events.push(whole);
+  }
+
+  // An answer: a timer that begins or ends.
+  hear(answer, step) {
+    const words = answer.split(" ");
+    const line = this.lines[this.steps[step - 1].line].split(" ");
+    if (words[0] === "started") this.begin(words[3], words[1], words[4], line[4], step, null);
+    else if (words[0] === "restarted") {
+      this.happen(words[3], step, { kind: "restarted", by: words[4] });
+      this.begin(words[4], words[1], words[5], line[5], step, words[3]);
+    } else if (words[0] === "stopped") this.happen(words[3], step, { kind: "stopped" });
+    else if (words[0] === "expired") this.happen(words[3], step, { kind: "expired", tick: BigInt(words[1]) });
+    else if (words[0] === "returned") this.happen(words[2], step, { kind: "returned" });
+  }
+
+  begin(serial, client, deadline, action, step, old) {
+    this.timers.set(serial, { serial, client, action, deadline: BigInt(deadline), old, start: this.now(step), key: null, note: "", events: [] });
+    this.happen(serial, step, { kind: "started" });
+  }
+
+  // An edit of a bucket: timers that came there, or whose rounds changed.
+  see([wheel, slot, , , between], step) {
+    const key = keyOf(wheel, slot);
+    for (const written of between) {
+      const timer = this.timers.get(serialOf(written));
+      if (!timer) continue;
+      const note = written.split(":")[1] || "";
+      if (timer.key === null) timer.events[timer.events.length - 1].to = key;
+      else if (timer.key !== key) this.happen(timer.serial, step, { kind: "moved", from: timer.key, to: key });
+      else if (timer.note !== note) this.happen(timer.serial, step, { kind: "round", rounds: note });
+      timer.key = key;
+      timer.note = note;
+    }
+    if (between.length) this.used.add(wheel);
+  }
+
+  // Where a timer stands after a step: its key, or null where it isn't pending.
+  whereIs(serial, step) {
+    const timer = this.timers.get(serial);
+    let key = null;
+    for (const event of timer ? timer.events : []) {
+      if (event.step > step) break;
+      if (event.kind === "started" || event.kind === "moved") key = event.to;
+      else if (event.kind !== "round") key = null;
+    }
+    return key;
+  }
+}

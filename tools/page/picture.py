@@ -1,0 +1,2 @@
+def picture(play, line):
+    return ""

@@ -1,0 +1,280 @@
+// The page: steps, the script's lines, the followed timer, and the controls.
+
+const MOST_ANSWERS = 8; // of one line in the list of lines
+const MOST_EVENTS = 20; // of one timer's history
+
+const $ = (id) => document.getElementById(id);
+const play = new Play(JSON.parse($("data").textContent));
+const words = new Words(play);
+const shown = { step: 0, followed: play.timers.size ? play.timers.keys().next().value : null, timer: null };
+const calm = window.matchMedia("(prefers-reduced-motion: reduce)");
+
+function follow(serial) {
+  if (serial !== null) shown.followed = serial;
+  render(shown.step);
+}
+
+// The wheels that ever hold a timer, and the lowest, whose hand moves at each tick.
+const drawn = play.wheels.map((_, k) => k).filter((k) => k === 0 || play.used.has(k)).reverse();
+const cards = new Map(drawn.map((k) => [k, new WheelCard(play, words, k, follow)]));
+
+// The lines, and the steps that belong to each.
+const stepsOfLine = play.lines.map(() => []);
+play.steps.forEach((step, at) => stepsOfLine[step.line].push(at + 1));
+const rows = play.lines.map((text, line) => {
+  const steps = stepsOfLine[line];
+  const passed = make("span", { class: "passed" });
+  const button = make("button", { type: "button", disabled: !steps.length, onclick: () => go(steps[steps.length - 1]) },
+    make("span", { class: "number" }, String(line + 1)), make("span", { class: "text" }, text || " "), passed);
+  const element = make("li", { class: line === play.bad ? "is-line-bad" : "" }, button);
+  return { element, passed, count: -1 };
+});
+
+function answerRow(answer) {
+  const words = answer.split(" ");
+  const kind = words[0] === "refused" || words[1] === "refused" ? "refused" : words[0];
+  const why = kind === "refused" ? make("span", { class: "why" }, reasonOf(answer)) : null;
+  return make("div", { class: `answer ${kind}` }, answer, why);
+}
+
+// A line's answers so far. Nothing is done where they are those that it shows.
+function renderLine(line, step) {
+  const row = rows[line];
+  const done = stepsOfLine[line].filter((at) => at <= step);
+  row.element.classList.toggle("is-played", done.length > 0);
+  if (row.count === done.length) return;
+  row.count = done.length;
+  const answers = done.flatMap((at) => play.steps[at - 1].answers);
+  const made = answers.slice(0, MOST_ANSWERS).map(answerRow);
+  if (answers.length > MOST_ANSWERS) made.push(make("div", { class: "answer" }, `… and ${answers.length - MOST_ANSWERS} more`));
+  const isBad = line === play.bad && done.length > 0;
+  if (isBad) made.push(make("div", { class: "answer refused" }, `bad line ${line + 1}`, make("span", { class: "why" }, play.reason)));
+  row.element.classList.toggle("is-bad", isBad);
+  row.element.replaceChildren(row.element.firstChild, ...made);
+  const pieces = stepsOfLine[line].length;
+  row.passed.textContent = pieces > 1 && done.length ? `${play.steps[done[done.length - 1] - 1].passed} passed` : "";
+}
+
+function renderLines(from, step) {
+  const lineAt = (at) => (at ? play.steps[at - 1].line : -1);
+  const low = Math.max(0, Math.min(lineAt(from), lineAt(step)));
+  for (let line = low; line <= Math.max(lineAt(from), lineAt(step)); line += 1) renderLine(line, step);
+  const here = lineAt(step);
+  if (rows[lineAt(from)]) rows[lineAt(from)].element.classList.remove("is-here");
+  if (!rows[here]) return;
+  const { element } = rows[here];
+  element.classList.add("is-here");
+  // The list is scrolled, and not the page.
+  const list = $("lines");
+  const [top, bottom] = [element.offsetTop - list.offsetTop, element.offsetTop - list.offsetTop + element.offsetHeight];
+  if (top < list.scrollTop || bottom > list.scrollTop + list.clientHeight) list.scrollTop = top - list.clientHeight / 3;
+}
+
+function renderTold(step) {
+  const here = step ? play.steps[step - 1] : { answers: [] };
+  const kind = (said) => (here.isBad || / is refused as /.test(said) ? "fault" : / expires?[,. ]/.test(said) ? "out" : "");
+  $("told").replaceChildren(...words.of(step).map((said) => make("p", { class: kind(said) }, said)));
+}
+
+function digitRow(name, tick, level) {
+  const cells = words.digits(tick).map((digit, at) => make("td", { class: words.levels[at] === level ? "level" : "" }, String(digit)));
+  return make("tr", {}, make("th", { scope: "row" }, name), ...cells);
+}
+
+// The digits of now and of the deadline, one over the other: the highest that differs is where the timer stands.
+function digitTable(timer, now) {
+  const level = levelOf(play.wheels, now, timer.deadline);
+  const names = words.levels.map((k) => make("th", { scope: "col" }, play.wheels[k].name));
+  return make("div", { class: "scroll" }, make("table", { class: "digits" }, make("thead", {}, make("tr", {}, make("td", {}), ...names)),
+    make("tbody", {}, digitRow(`now ${now}`, now, level), digitRow(`deadline ${timer.deadline}`, timer.deadline, level))));
+}
+
+function historyRow(event, step) {
+  const past = event.step <= step;
+  const line = play.steps[event.step - 1].line + 1;
+  const tick = event.tick === undefined ? play.now(event.step) : event.tick;
+  const state = `${past ? "is-past" : ""} ${event.step === step ? "is-now" : ""}`;
+  return make("li", { class: state.trim() }, make("button", { type: "button", onclick: () => go(event.step) }, words.event(event),
+    make("small", {}, `tick ${tick}, line ${line}`)));
+}
+
+// A timer's history, or the part of a long one that is about this step.
+function history(timer, step) {
+  const past = timer.events.filter((event) => event.step <= step).length;
+  const first = Math.max(0, Math.min(past - MOST_EVENTS / 2, timer.events.length - MOST_EVENTS));
+  const rows = timer.events.slice(first, first + MOST_EVENTS).map((event) => historyRow(event, step));
+  const rest = timer.events.length - first - rows.length;
+  if (first) rows.unshift(make("li", { class: "cut" }, `${first} earlier`));
+  if (rest) rows.push(make("li", { class: "cut" }, `${rest} later`));
+  return make("ol", { class: "history" }, ...rows);
+}
+
+function renderFollowed(step) {
+  const timer = play.timers.get(shown.followed);
+  if (document.activeElement !== $("serial") || !shown.isTyped) $("serial").value = shown.followed || "";
+  $("before").disabled = !timer || !play.timers.has(String(BigInt(timer.serial) - 1n));
+  $("after").disabled = !timer || !play.timers.has(String(BigInt(timer.serial) + 1n));
+  if (!timer) {
+    $("followed").replaceChildren(make("p", {}, play.timers.size ? `The script starts no timer ${shown.followed}.` : "The script starts no timer."));
+    return;
+  }
+  const now = play.now(step);
+  const key = play.whereIs(timer.serial, step);
+  const parts = [make("p", {}, `Timer ${timer.serial} of client ${timer.client}, deadline ${timer.deadline}.`)];
+  if (key !== null) {
+    if (words.isHierarchy) parts.push(digitTable(timer, now));
+    parts.push(make("p", { class: "because" }, words.why(timer, now)));
+  } else parts.push(make("p", { class: "because" }, timer.events[0].step > step ? "It has not been started yet." : "It is no longer pending."));
+  parts.push(history(timer, step));
+  $("followed").replaceChildren(...parts);
+}
+
+function renderWheels(step) {
+  const parts = new Map(drawn.map((k) => [k, { held: [], chosen: null, left: [] }]));
+  const buckets = play.buckets(step);
+  let count = 0;
+  for (const key of [...buckets.keys()].sort((a, b) => a - b)) {
+    const { wheel, slot } = placeOf(key);
+    parts.get(wheel).held.push([slot, buckets.get(key)]);
+    count += buckets.get(key).length;
+  }
+  const chosen = play.whereIs(shown.followed, step);
+  if (chosen !== null) parts.get(placeOf(chosen).wheel).chosen = placeOf(chosen).slot;
+  for (const { kind, from } of step ? play.steps[step - 1].events : []) {
+    if (kind === "moved") parts.get(placeOf(from).wheel).left.push(placeOf(from).slot);
+  }
+  for (const [k, card] of cards) card.render(parts.get(k), play.now(step), shown.followed);
+  $("count").textContent = `${count} pending`;
+}
+
+// Where the timers that move at this step stand now, on the screen.
+function flights(step) {
+  if (calm.matches || !step) return [];
+  const moved = play.steps[step - 1].events.filter((event) => event.kind === "moved" && cards.has(placeOf(event.from).wheel));
+  return moved.slice(0, 12).map((event) => [event.from, event.to].map((key) => cards.get(placeOf(key).wheel).spot(placeOf(key).slot)));
+}
+
+function fly(step) {
+  for (const [[x, y], [toX, toY]] of flights(step)) {
+    const flyer = make("div", { class: "flyer", "aria-hidden": "true" });
+    document.body.append(flyer);
+    const at = (left, top) => ({ transform: `translate(${left}px, ${top}px)` });
+    flyer.animate([at(x, y), at(toX, toY)], { duration: 600, easing: "ease-in-out" }).onfinish = () => flyer.remove();
+  }
+}
+
+function render(step) {
+  const from = shown.step;
+  shown.step = step;
+  document.body.classList.toggle("is-jump", Math.abs(step - from) > 1);
+  for (const card of cards.values()) card.back = step < from;
+  $("now").textContent = String(play.now(step));
+  $("face").textContent = words.face(play.now(step));
+  renderTold(step);
+  renderWheels(step);
+  renderLines(from, step);
+  renderFollowed(step);
+  $("slider").value = String(step);
+  $("slider").setAttribute("aria-valuetext", `step ${step} of ${play.last}, tick ${play.now(step)}`);
+  $("at").textContent = `${step} of ${play.last}`;
+  $("first").disabled = $("back").disabled = step === 0;
+  $("next").disabled = $("last").disabled = step === play.last;
+  if (step === from + 1) fly(step);
+}
+
+function go(step) {
+  render(Math.min(Math.max(step, 0), play.last));
+  if (shown.step === play.last) pause();
+}
+
+function pause() {
+  clearTimeout(shown.timer);
+  shown.timer = null;
+  $("play").textContent = "Play";
+  $("told").setAttribute("aria-live", "polite");
+}
+
+function playOn() {
+  shown.timer = setTimeout(() => {
+    playOn();
+    go(shown.step + 1);
+  }, 1000 / Number($("speed").value));
+}
+
+function toggle() {
+  if (shown.timer !== null) {
+    pause();
+    return;
+  }
+  if (shown.step === play.last) go(0);
+  $("play").textContent = "Pause";
+  // While it plays, a screen reader isn't flooded.
+  $("told").setAttribute("aria-live", "off");
+  playOn();
+  go(shown.step + 1);
+}
+
+function key(event) {
+  const { target } = event;
+  if (event.ctrlKey || event.metaKey || event.altKey || target.matches("select, input[type=text]")) return;
+  const acts = { ArrowLeft: () => go(shown.step - 1), ArrowRight: () => go(shown.step + 1), Home: () => go(0), End: () => go(play.last), f: () => $("serial").select() };
+  if (event.key === " " && !target.matches("button, summary")) acts[" "] = toggle;
+  if (!acts[event.key]) return;
+  event.preventDefault();
+  acts[event.key]();
+}
+
+function setTheme(theme) {
+  document.documentElement.dataset.theme = theme;
+  $("theme").textContent = theme === "dark" ? "Light" : "Dark";
+}
+
+function followTyped() {
+  const typed = $("serial").value.trim();
+  if (!typed) return;
+  shown.isTyped = true;
+  follow(typed);
+  shown.isTyped = false;
+}
+
+function followNext(by) {
+  follow(String(BigInt(shown.followed) + by));
+}
+
+function fill() {
+  $("title").textContent = play.title;
+  $("command").textContent = play.command;
+  $("scheme").textContent = words.scheme();
+  const keys = make("p", {}, "Keys: ", make("kbd", {}, "←"), " ", make("kbd", {}, "→"), " a step, ", make("kbd", {}, "space"), " play and pause, ", make("kbd", {}, "Home"), " ",
+    make("kbd", {}, "End"), " first and last, ", make("kbd", {}, "f"), " another timer to follow.");
+  $("guide").replaceChildren(...words.guide().map((said) => make("p", {}, said)), keys);
+  $("intro").open = window.innerWidth >= 860 && window.innerHeight >= 700;
+  $("lines").replaceChildren(...rows.map((row) => row.element));
+  $("wheels").replaceChildren(...[...cards.values()].map((card) => card.element));
+  $("wheels").classList.toggle("is-single", cards.size === 1);
+  const folded = play.wheels.map((wheel, k) => (cards.has(k) ? null : wheel.name)).filter((name) => name !== null);
+  $("folded").textContent = folded.length ? `Never used by this script, and not drawn: ${listed(folded)}.` : "";
+  $("slider").max = String(play.last);
+}
+
+function listen() {
+  $("first").onclick = () => go(0);
+  $("back").onclick = () => go(shown.step - 1);
+  $("next").onclick = () => go(shown.step + 1);
+  $("last").onclick = () => go(play.last);
+  $("play").onclick = toggle;
+  $("slider").oninput = () => go(Number($("slider").value));
+  $("theme").onclick = () => setTheme(document.documentElement.dataset.theme === "dark" ? "light" : "dark");
+  $("serial").oninput = followTyped;
+  $("choose").onsubmit = (event) => event.preventDefault();
+  $("before").onclick = () => followNext(-1n);
+  $("after").onclick = () => followNext(1n);
+  document.addEventListener("keydown", key);
+  const dark = window.matchMedia("(prefers-color-scheme: dark)");
+  dark.addEventListener("change", () => setTheme(dark.matches ? "dark" : "light"));
+  setTheme(dark.matches ? "dark" : "light");
+}
+
+fill();
+listen();
+render(0);
