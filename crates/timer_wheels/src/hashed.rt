@@ -25,6 +25,7 @@ ghost use Rattle.timer_base.specs.WheelState.{empty_wheel, first_due, timer_at, 
 ghost use Rattle.timer_wheels.specs.Hashed.{slot_of, rounds_of, IsHashed, AreInBuckets, AreInBuckets-prop, IsNextSweep};
 
 use crate::buckets::Buckets;
+use crate::revolutions::skip_revolutions;
 use crate::sweep::{first_visit, next_tick, slot_after};
 use std::alloc::Global;
 use timer_base::{Handle, LAST, MakeFault, OutOfMemory, Timer, Wheel};
@@ -110,6 +111,24 @@ impl HashedWheel {
         let steps = (rest % slots as u64) as usize + 1;
         (slot_after(self.slot, steps, slots), rounds)
     }
+
+    /// Passes at least one and at most `most` ticks, one by one, up to the first at which something is due,
+    /// and returns how many.
+    fn tick_until_due(&mut self, most: u64) -> u64
+        requires nothing_due { (state_of self.old.buckets).due ≡ [] }
+        requires some { 0 < most }
+        requires before_last { most ≤ (state_of self.old.buckets).last_tick - (state_of self.old.buckets).now }
+        ensures advances { Advances most result (state_of self.old.buckets) (state_of self.new.buckets) }
+        ensures slots { slots_of self.new ≡ slots_of self.old }
+    {
+        for passed in 0..most {
+            self.per_tick();
+            if self.has_due() {
+                return passed + 1;
+            }
+        }
+        most
+    }
 }
 
 // A call that changes the wheel repeats the clauses of the trait, which its own would replace, and adds
@@ -194,6 +213,8 @@ impl Wheel for HashedWheel {
         self.slot = slot;
     }
 
+    /// Ticks for a revolution at most, and then skips those in which nothing is due: at most two revolutions of
+    /// ticks and a walk along all timers, however far the next deadline is.
     fn advance(&mut self, most: u64) -> u64
         requires nothing_due { (state_of self.old.buckets).due ≡ [] }
         requires some { 0 < most }
@@ -201,11 +222,14 @@ impl Wheel for HashedWheel {
         ensures advances { Advances most result (state_of self.old.buckets) (state_of self.new.buckets) }
         ensures slots { slots_of self.new ≡ slots_of self.old }
     {
-        for passed in 0..most {
-            self.per_tick();
+        let revolution = self.slots() as u64;
+        let mut passed = 0;
+        while passed < most {
+            passed += self.tick_until_due(revolution.min(most - passed));
             if self.has_due() {
-                return passed + 1;
+                return passed;
             }
+            passed += skip_revolutions(&mut self.buckets, most - passed);
         }
         most
     }
