@@ -190,7 +190,7 @@ impl Wheel for PlainWheel {
         if handle.place > 0 {
             return None;
         }
-        find_waiting(self.timers.as_slice(), handle.serial, self.now)
+        find_due_with(self.timers.as_slice(), handle.serial, self.now)
     }
 
     fn withdraw(&mut self, handle: Handle) -> Option<Timer> {
@@ -273,7 +273,7 @@ fn find_pending(timers: &[Timer], serial: u64, tick: u64) -> Option<Timer>
 }
 
 /// The first of the timers with the serial that is due at the tick.
-fn find_waiting(timers: &[Timer], serial: u64, tick: u64) -> Option<Timer>
+fn find_due_with(timers: &[Timer], serial: u64, tick: u64) -> Option<Timer>
     ensures { result ≡ find (is_due_with tick serial) timers.now }
 {
     timers

@@ -5,7 +5,8 @@
 //!     last_tick     the last tick of its clock, which never changes
 //!     now           the present tick
 //!     pending       the timers that wait for their deadline, by deadline and then serial, each with its place
-//!     due           the timers whose deadline is now, by serial, each with its place, until they are taken or withdrawn
+//!     due           the timers whose deadline is now, by serial, each with its place, until they are taken,
+//!                   withdrawn or revived
 //!     last_serial   the serial of the last start, 0 where there was none
 //!
 //! Each call that changes a wheel is one equation on this record. The four routines of G. Varghese
@@ -53,7 +54,8 @@ pub trait Wheel {
     ///
     /// The only error is out of memory, and then nothing changes. A wheel with a limited number of places
     /// returns it at its limit too, though no allocation failed. The place is a free choice of the wheel.
-    /// Due timers may be waiting, here and in `look`, `stop`, `restart`, `withdraw`, `revive`, `list` and `clear`.
+    /// Due timers may be waiting, here and in `look`, `stop`, `restart`, `withdraw`, `revive`, `list` and
+    /// `clear`.
     fn start(&mut self, timer: Timer) -> Result<Handle, OutOfMemory>
         requires later { (state self.old).now < timer.deadline }
         requires deadline { timer.deadline ≤ (state self.old).last_tick }
@@ -140,17 +142,17 @@ pub trait Wheel {
     fn look_due(&self, handle: Handle) -> Option<Timer>
         ensures { result ≡ due_at handle (state self.now) };
 
-    /// Removes the due timer with exactly this handle, and returns it: the stop of a timer that became due first.
+    /// Removes the due timer with exactly this handle, and returns it: what `stop` is for a pending timer.
     ///
-    /// Where there is none, nothing changes. Does not allocate.
+    /// If there is none, nothing changes. Does not allocate.
     fn withdraw(&mut self, handle: Handle) -> Option<Timer>
         ensures timer { result ≡ due_at handle (state self.old) }
         ensures withdrawn { state self.new ≡ after_withdrawal handle (state self.old) };
 
     /// Removes the due timer with exactly this handle and starts another in its place, and returns the new
-    /// handle and the old timer: the restart of a timer that became due first.
+    /// handle and the old timer: what `restart` is for a pending timer.
     ///
-    /// Where there is none, nothing changes. Does not allocate. The place is a free choice of the wheel.
+    /// If there is none, nothing changes. Does not allocate. The place is a free choice of the wheel.
     fn revive(&mut self, handle: Handle, timer: Timer) -> Option<(Handle, Timer)>
         requires later { (state self.old).now < timer.deadline }
         requires deadline { timer.deadline ≤ (state self.old).last_tick }

@@ -5,7 +5,6 @@
 //! crate is not part of the program.
 #![tactic(auto)]
 
-mod costs;
 mod replay;
 mod sums;
 

@@ -5,7 +5,7 @@ use crate::{Links, Node, Step, Taken};
 use std::alloc::Global;
 use std::fmt::Debug;
 use std::process::Abort;
-use timer_base::Timer;
+use timer_base::{OutOfMemory, Timer};
 
 fn node(serial: u64) -> Node {
     Node {
@@ -304,4 +304,51 @@ fn nodes_keep_their_order_while_the_links_grow(rt: HostRuntime) {
         same(&rt, popped, Some(node(serial)));
     }
     same(&rt, links.len(), 0);
+}
+
+/// The nodes of a long list.
+const MANY: u64 = 100000;
+
+/// Pops nodes with the serials from the first up to the one before the last.
+fn pops(rt: &impl Abort, links: &mut Links, list: usize, first: u64, end: u64) {
+    for serial in first..end {
+        let found = pop(links, list).map(|(_key, node)| node);
+        assert_eq!(rt; found, Some(node(serial)));
+    }
+}
+
+/// Walks along a list whose serials count up from 1, and returns how many nodes it has.
+fn walks(rt: &impl Abort, links: &Links, list: usize) -> u64 {
+    assert!(rt; list < links.lists());
+    let mut at = links.front(list);
+    for serial in 1..=MANY {
+        let Some(key) = at else {
+            return serial - 1;
+        };
+        assert_eq!(rt; links.get(key), Some(node(serial)));
+        at = next(links, key).flatten();
+    }
+    assert_eq!(rt; at, None);
+    MANY
+}
+
+#[test]
+fn a_list_holds_a_hundred_thousand_nodes(rt: HostRuntime) -> Result<(), OutOfMemory> {
+    let mut links = lists_of(&rt, rt.alloc(), 2);
+    let mut keys = Vec::new(rt.alloc());
+    for serial in 1..=MANY {
+        keys.push(put(&rt, &mut links, 1, serial))?;
+    }
+    same(&rt, links.len(), 100000);
+    same(&rt, walks(&rt, &links, 1), MANY);
+    for (key, serial) in keys.iter().zip(1..=MANY) {
+        if 40000 < serial && serial <= 60000 {
+            assert_eq!(rt; links.unlink(*key), Some(node(serial)));
+        }
+    }
+    same(&rt, links.len(), 80000);
+    pops(&rt, &mut links, 1, 1, 40001);
+    pops(&rt, &mut links, 1, 60001, 100001);
+    same(&rt, pop(&mut links, 1), None);
+    Ok(())
 }

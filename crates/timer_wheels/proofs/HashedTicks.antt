@@ -27,10 +27,10 @@ pub record IsDistance (n now d q r : ℕ) : Type 0 where
   pub is : d ≡ now + 1 + (n * q + r)
   pub over : r < n
 
-distance : (n now d : ℕ) → 0 < n → now < d → IsDistance n now d ((d - now - 1) / n) ((d - now - 1) % n)
+pub distance : (n now d : ℕ) → 0 < n → now < d → IsDistance n now d ((d - now - 1) / n) ((d - now - 1) % n)
 distance n now d z h = record { is = omega arith; over = omega arith }
 
-quotient_is : (n q r x : ℕ) → r < n → x ≡ n * q + r → x / n ≡ q
+pub quotient_is : (n q r x : ℕ) → r < n → x ≡ n * q + r → x / n ≡ q
 quotient_is n q r x h e = let f : x ≡ q * n + r = omega arith in ap (λ (y : ℕ). y / n) f ∙ div-mul-add q n r h
 
 pub remainder_is : (n q r x : ℕ) → r < n → x ≡ n * q + r → x % n ≡ r
@@ -194,7 +194,7 @@ all_left : (n last_tick now last s : ℕ) (rows : List (ℕ × Node)) → AllByR
 all_left n last_tick now last s [] a = refl
 all_left n last_tick now last s (x ∷ xs) a = rw (is_not_due (now + 1) (timer_in x) a.0.0.later) (ap (λ (r : List Entry). entry_of x ∷ r) (all_left n last_tick now last s xs a.1))
 
-both : (P Q : ℕ × Node → Type 0) (rows : List (ℕ × Node)) → AllByRecursion P rows → AllByRecursion Q rows → AllByRecursion (λ row. P row × Q row) rows
+pub both : (P Q : ℕ × Node → Type 0) (rows : List (ℕ × Node)) → AllByRecursion P rows → AllByRecursion Q rows → AllByRecursion (λ row. P row × Q row) rows
 both P Q [] a b = tt
 both P Q (x ∷ xs) a b = ((a.0, b.0), both P Q xs a.1 b.1)
 

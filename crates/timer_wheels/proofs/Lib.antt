@@ -12,6 +12,8 @@ pub mod HierLemmas
 pub mod ShownLemmas
 pub mod SweepLemmas
 pub mod HashedTicks
+pub mod CountdownLemmas
+pub mod RevolutionLemmas
 pub mod OccupiedLemmas
 pub mod VisitLaws
 pub mod LeapLemmas

@@ -3,7 +3,13 @@ use Rattle.std.specs.Prelude.{◌≡◌, ◌⊎◌, ℕ, ◌||◌, ◌==◌, nat
 use Rattle.timer_base.specs.declared.limits.TheConstants.{LAST}
 use Rattle.timer_base.specs.declared.fault.MakeFault.{MakeFault}
 use Rattle.timer_base.specs.declared.fault.MakeFault.TheVariants.{Slots, FirstTick, OutOfMemory}
+use Rattle.timer_base.specs.WheelState.{WheelState}
+use Rattle.timer_wheels.specs.Buckets.{state_of}
 use Rattle.timer_wheels.specs.declared.hashed.HashedWheel.{HashedWheel}
+
+-- the state of the wheel
+abbrev pub hashed_state : HashedWheel → WheelState
+hashed_state wheel = state_of wheel.buckets
 
 -- how many slots the wheel has
 abbrev pub slots_of : HashedWheel → ℕ

@@ -32,18 +32,13 @@ pub record WheelCounts : Type 0 where
   -- buckets that were visited, counting those that were known to be empty
   pub visits : ℕ
 
--- each tick since it was made visited a bucket, except for those that it skipped
-abbrev pub visits_of : HierWheel → ℕ
-visits_of wheel = wheel.buckets.tick - wheel.counts.skipped
-
+-- its counts; each tick since it was made visited a bucket, except for those that it skipped
 abbrev pub counts_of : HierWheel → WheelCounts
-counts_of wheel = record { starts = wheel.counts.starts; moves = wheel.counts.moves; visits = visits_of wheel }
-
-abbrev pub starts_of : HierWheel → ℕ
-starts_of wheel = (counts_of wheel).starts
-
-abbrev pub moves_of : HierWheel → ℕ
-moves_of wheel = (counts_of wheel).moves
+counts_of wheel = record {
+  starts = wheel.counts.starts;
+  moves = wheel.counts.moves;
+  visits = wheel.buckets.tick - wheel.counts.skipped;
+}
 
 -- the counts after one more start or restart
 abbrev pub with_start : WheelCounts → WheelCounts

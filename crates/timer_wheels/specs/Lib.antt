@@ -8,6 +8,7 @@ pub mod Migration
 pub mod Shown
 pub mod Hashed
 pub mod Sweep
+pub mod Revolutions
 pub mod HashedWheel
 pub mod Occupied
 pub mod Leap

@@ -26,6 +26,7 @@ ghost use Rattle.timer_wheels.specs.Hashed.{slot_of, rounds_of, IsHashed, AreInB
 
 use crate::buckets::Buckets;
 use crate::deadlines::first_of_all;
+use crate::revolutions::skip_revolutions;
 use crate::sweep::{first_visit, next_tick, slot_after};
 use std::alloc::Global;
 use timer_base::{Handle, LAST, MakeFault, OutOfMemory, Timer, Wheel};
@@ -51,15 +52,14 @@ pub struct HashedWheel {
 }
 
 impl HashedWheel {
-    ghost use Rattle.timer_wheels.specs.Buckets.{state_of};
-    ghost use Rattle.timer_wheels.specs.HashedWheel.{slots_of, fault_of, IsHashedFault};
+    ghost use Rattle.timer_wheels.specs.HashedWheel.{hashed_state, slots_of, fault_of, IsHashedFault};
 
     /// A wheel with no timer, of 1 to 65,536 slots, at a first tick of at most `LAST`.
     ///
     /// Errors, in this order: `Slots` where there are none or more than `MOST_SLOTS`; `FirstTick` above
     /// `LAST`; `OutOfMemory`.
     pub fn new(alloc: Global, slots: usize, first_tick: u64) -> Result<HashedWheel, MakeFault>
-        ensures ok { IfOk result (λ wheel. ⟦<HashedWheel as Wheel>⟧.state wheel ≡ empty_wheel LAST first_tick) }
+        ensures ok { IfOk result (λ wheel. hashed_state wheel ≡ empty_wheel LAST first_tick) }
         ensures slots { IfOk result (λ wheel. slots_of wheel ≡ slots) }
         ensures no_fault { IfOk result (λ wheel. fault_of slots first_tick ≡ None) }
         ensures err { IfErr result (λ fault. IsHashedFault slots first_tick fault) }
@@ -90,7 +90,7 @@ impl HashedWheel {
     /// by serial, each under its handle's place with (deadline - now - 1) div N rounds. List N holds
     /// the due ones, by serial.
     pub fn links(&self) -> &Links
-        ensures { IsHashed (slots_of self.now) (⟦<HashedWheel as Wheel>⟧.state self.now) result.now }
+        ensures { IsHashed (slots_of self.now) (hashed_state self.now) result.now }
     {
         &self.buckets.links
     }
@@ -98,10 +98,10 @@ impl HashedWheel {
     /// The bucket and the rounds of a timer that is started now.
     #[inline(always)]
     fn bucket_and_rounds(&self, timer: Timer) -> (usize, u64)
-        requires later { (state_of self.now.buckets).now < timer.deadline }
+        requires later { (hashed_state self.now).now < timer.deadline }
         ensures bucket { result.0 ≡ slot_of (slots_of self.now) timer }
         ensures in_range { result.0 < slots_of self.now }
-        ensures rounds { result.1 ≡ rounds_of (slots_of self.now) (state_of self.now.buckets).now timer }
+        ensures rounds { result.1 ≡ rounds_of (slots_of self.now) (hashed_state self.now).now timer }
     {
         let buckets = &self.buckets;
         let slots = buckets.slots;
@@ -111,15 +111,33 @@ impl HashedWheel {
         let steps = (rest % slots as u64) as usize + 1;
         (slot_after(self.slot, steps, slots), rounds)
     }
+
+    /// Passes at least one and at most `most` ticks, one by one, up to the first at which something is due,
+    /// and returns how many.
+    fn tick_until_due(&mut self, most: u64) -> u64
+        requires nothing_due { (hashed_state self.old).due ≡ [] }
+        requires some { 0 < most }
+        requires before_last { most ≤ (hashed_state self.old).last_tick - (hashed_state self.old).now }
+        ensures advances { Advances most result (hashed_state self.old) (hashed_state self.new) }
+        ensures slots { slots_of self.new ≡ slots_of self.old }
+    {
+        for passed in 0..most {
+            self.per_tick();
+            if self.has_due() {
+                return passed + 1;
+            }
+        }
+        most
+    }
 }
 
 // A call that changes the wheel repeats the clauses of the trait, which its own would replace, and adds
 // that the number of slots stays: so `links` shows the same slots from `new` on.
 impl Wheel for HashedWheel {
-    ghost use Rattle.timer_wheels.specs.HashedWheel.{slots_of};
-    ghost use Rattle.timer_wheels.specs.Buckets.{state_of, state_of-well_formed};
+    ghost use Rattle.timer_wheels.specs.HashedWheel.{hashed_state, slots_of};
+    ghost use Rattle.timer_wheels.specs.Buckets.{state_of-well_formed};
 
-    ghost state = { λ wheel. state_of wheel.buckets };
+    ghost state = { λ wheel. hashed_state wheel };
 
     ghost well_formed = { λ wheel. state_of-well_formed wheel.buckets };
 
@@ -144,13 +162,13 @@ impl Wheel for HashedWheel {
     }
 
     fn start(&mut self, timer: Timer) -> Result<Handle, OutOfMemory>
-        requires later { (state_of self.old.buckets).now < timer.deadline }
-        requires deadline { timer.deadline ≤ (state_of self.old.buckets).last_tick }
-        requires fresh { (state_of self.old.buckets).last_serial < timer.serial }
+        requires later { (hashed_state self.old).now < timer.deadline }
+        requires deadline { timer.deadline ≤ (hashed_state self.old).last_tick }
+        requires fresh { (hashed_state self.old).last_serial < timer.serial }
         requires serial { timer.serial ≤ LAST }
         ensures named { IfOk result (λ handle. handle.serial ≡ timer.serial) }
-        ensures started { IfOk result (λ handle. state_of self.new.buckets ≡ after_start handle.place timer (state_of self.old.buckets)) }
-        ensures err { OnErr result (state_of self.new.buckets ≡ state_of self.old.buckets) }
+        ensures started { IfOk result (λ handle. hashed_state self.new ≡ after_start handle.place timer (hashed_state self.old)) }
+        ensures err { OnErr result (hashed_state self.new ≡ hashed_state self.old) }
         ensures slots { slots_of self.new ≡ slots_of self.old }
     {
         let (bucket, rounds) = self.bucket_and_rounds(timer);
@@ -162,21 +180,21 @@ impl Wheel for HashedWheel {
     }
 
     fn stop(&mut self, handle: Handle) -> Option<Timer>
-        ensures timer { result ≡ timer_at handle (state_of self.old.buckets) }
-        ensures stopped { state_of self.new.buckets ≡ after_stop handle (state_of self.old.buckets) }
+        ensures timer { result ≡ timer_at handle (hashed_state self.old) }
+        ensures stopped { hashed_state self.new ≡ after_stop handle (hashed_state self.old) }
         ensures slots { slots_of self.new ≡ slots_of self.old }
     {
         self.buckets.stop(handle)
     }
 
     fn restart(&mut self, handle: Handle, timer: Timer) -> Option<(Handle, Timer)>
-        requires later { (state_of self.old.buckets).now < timer.deadline }
-        requires deadline { timer.deadline ≤ (state_of self.old.buckets).last_tick }
-        requires fresh { (state_of self.old.buckets).last_serial < timer.serial }
+        requires later { (hashed_state self.old).now < timer.deadline }
+        requires deadline { timer.deadline ≤ (hashed_state self.old).last_tick }
+        requires fresh { (hashed_state self.old).last_serial < timer.serial }
         requires serial { timer.serial ≤ LAST }
-        ensures old { old_timer result ≡ timer_at handle (state_of self.old.buckets) }
+        ensures old { old_timer result ≡ timer_at handle (hashed_state self.old) }
         ensures named { MatchOption result (Unit {0}) (λ r. r.0.serial ≡ timer.serial) }
-        ensures restarted { state_of self.new.buckets ≡ after_restart result handle timer (state_of self.old.buckets) }
+        ensures restarted { hashed_state self.new ≡ after_restart result handle timer (hashed_state self.old) }
         ensures slots { slots_of self.new ≡ slots_of self.old }
     {
         let (bucket, rounds) = self.bucket_and_rounds(timer);
@@ -184,9 +202,9 @@ impl Wheel for HashedWheel {
     }
 
     fn per_tick(&mut self)
-        requires nothing_due { (state_of self.old.buckets).due ≡ [] }
-        requires before_last { (state_of self.old.buckets).now < (state_of self.old.buckets).last_tick }
-        ensures ticked { state_of self.new.buckets ≡ after_tick (state_of self.old.buckets) }
+        requires nothing_due { (hashed_state self.old).due ≡ [] }
+        requires before_last { (hashed_state self.old).now < (hashed_state self.old).last_tick }
+        ensures ticked { hashed_state self.new ≡ after_tick (hashed_state self.old) }
         ensures slots { slots_of self.new ≡ slots_of self.old }
     {
         let buckets = &mut self.buckets;
@@ -195,18 +213,23 @@ impl Wheel for HashedWheel {
         self.slot = slot;
     }
 
+    /// Takes single ticks for a revolution, and then skips whole revolutions in which nothing is due: at most
+    /// two revolutions of ticks and two walks along all timers, however far the next deadline is.
     fn advance(&mut self, most: u64) -> u64
-        requires nothing_due { (state_of self.old.buckets).due ≡ [] }
+        requires nothing_due { (hashed_state self.old).due ≡ [] }
         requires some { 0 < most }
-        requires before_last { most ≤ (state_of self.old.buckets).last_tick - (state_of self.old.buckets).now }
-        ensures advances { Advances most result (state_of self.old.buckets) (state_of self.new.buckets) }
+        requires before_last { most ≤ (hashed_state self.old).last_tick - (hashed_state self.old).now }
+        ensures advances { Advances most result (hashed_state self.old) (hashed_state self.new) }
         ensures slots { slots_of self.new ≡ slots_of self.old }
     {
-        for passed in 0..most {
-            self.per_tick();
+        let revolution = self.slots() as u64;
+        let mut passed = 0;
+        while passed < most {
+            passed += self.tick_until_due(revolution.min(most - passed));
             if self.has_due() {
-                return passed + 1;
+                return passed;
             }
+            passed += skip_revolutions(&mut self.buckets, most - passed);
         }
         most
     }
@@ -214,8 +237,8 @@ impl Wheel for HashedWheel {
     /// The tick of the first slot ahead that has a timer, due then or a revolution or more later. Each slot
     /// before it is looked at.
     fn quiet_until(&self) -> Option<u64>
-        ensures next { IfSome result (λ tick. IsNextSweep (slots_of self.now) tick (state_of self.now.buckets)) }
-        ensures quiet { IsQuietUntil result (state_of self.now.buckets) }
+        ensures next { IfSome result (λ tick. IsNextSweep (slots_of self.now) tick (hashed_state self.now)) }
+        ensures quiet { IsQuietUntil result (hashed_state self.now) }
     {
         first_visit(&self.buckets, self.slot)
     }
@@ -226,8 +249,8 @@ impl Wheel for HashedWheel {
     }
 
     fn expire(&mut self) -> Option<Timer>
-        ensures first { result ≡ first_due (state_of self.old.buckets) }
-        ensures rest { state_of self.new.buckets ≡ after_expiry (state_of self.old.buckets) }
+        ensures first { result ≡ first_due (hashed_state self.old) }
+        ensures rest { hashed_state self.new ≡ after_expiry (hashed_state self.old) }
         ensures slots { slots_of self.new ≡ slots_of self.old }
     {
         self.buckets.expire()
@@ -238,21 +261,21 @@ impl Wheel for HashedWheel {
     }
 
     fn withdraw(&mut self, handle: Handle) -> Option<Timer>
-        ensures timer { result ≡ due_at handle (state_of self.old.buckets) }
-        ensures withdrawn { state_of self.new.buckets ≡ after_withdrawal handle (state_of self.old.buckets) }
+        ensures timer { result ≡ due_at handle (hashed_state self.old) }
+        ensures withdrawn { hashed_state self.new ≡ after_withdrawal handle (hashed_state self.old) }
         ensures slots { slots_of self.new ≡ slots_of self.old }
     {
         self.buckets.withdraw(handle)
     }
 
     fn revive(&mut self, handle: Handle, timer: Timer) -> Option<(Handle, Timer)>
-        requires later { (state_of self.old.buckets).now < timer.deadline }
-        requires deadline { timer.deadline ≤ (state_of self.old.buckets).last_tick }
-        requires fresh { (state_of self.old.buckets).last_serial < timer.serial }
+        requires later { (hashed_state self.old).now < timer.deadline }
+        requires deadline { timer.deadline ≤ (hashed_state self.old).last_tick }
+        requires fresh { (hashed_state self.old).last_serial < timer.serial }
         requires serial { timer.serial ≤ LAST }
-        ensures old { old_timer result ≡ due_at handle (state_of self.old.buckets) }
+        ensures old { old_timer result ≡ due_at handle (hashed_state self.old) }
         ensures named { MatchOption result (Unit {0}) (λ r. r.0.serial ≡ timer.serial) }
-        ensures revived { state_of self.new.buckets ≡ after_revival result handle timer (state_of self.old.buckets) }
+        ensures revived { hashed_state self.new ≡ after_revival result handle timer (hashed_state self.old) }
         ensures slots { slots_of self.new ≡ slots_of self.old }
     {
         let (bucket, rounds) = self.bucket_and_rounds(timer);
@@ -264,7 +287,7 @@ impl Wheel for HashedWheel {
     }
 
     fn clear(&mut self)
-        ensures cleared { state_of self.new.buckets ≡ after_clear (state_of self.old.buckets) }
+        ensures cleared { hashed_state self.new ≡ after_clear (hashed_state self.old) }
         ensures slots { slots_of self.new ≡ slots_of self.old }
     {
         self.buckets.clear()

@@ -123,7 +123,7 @@ pub struct HierWheel {
 }
 
 impl HierWheel {
-    ghost use Rattle.timer_wheels.specs.HierWheel.{hier_state, table_of, counts_of, starts_of, moves_of, visits_of, IsHierFault};
+    ghost use Rattle.timer_wheels.specs.HierWheel.{hier_state, table_of, counts_of, IsHierFault};
 
     /// An empty hierarchy of ten wheels of 64 slots, a clock of 2^60 ticks, at its first tick.
     ///
@@ -183,15 +183,15 @@ impl HierWheel {
 
     /// How many timers were started or restarted since the wheel was made. Does not allocate.
     pub fn starts(&self) -> u64
-        ensures { result ≡ starts_of self.now }
+        ensures { result ≡ (counts_of self.now).starts }
     {
         self.counts.starts
     }
 
     /// How many times a timer was put into a lower wheel since the wheel was made. Does not allocate.
     pub fn moves(&self) -> u64
-        ensures value { result ≡ moves_of self.now }
-        ensures at_most { result ≤ most_moves (radices (table_of self.now)) * starts_of self.now }
+        ensures value { result ≡ (counts_of self.now).moves }
+        ensures at_most { result ≤ most_moves (radices (table_of self.now)) * (counts_of self.now).starts }
     {
         self.counts.moves
     }
@@ -202,7 +202,7 @@ impl HierWheel {
     /// passes, and that of its last tick where something is due then: buckets emptied, and those known to
     /// be empty are counted without a look.
     pub fn visits(&self) -> u64
-        ensures { result ≡ visits_of self.now }
+        ensures { result ≡ (counts_of self.now).visits }
     {
         self.buckets.tick - self.counts.skipped
     }

@@ -78,13 +78,7 @@ fn empty_bucket(
 /// There is one loop for each table, and in it all that depends on the table is constant.
 // Kept out of line, since a tick seldom needs it.
 #[inline(never)]
-fn migrate(
-    table: Table,
-    links: &mut Links,
-    occupied: &mut Occupied,
-    list: usize,
-    tick: u64,
-) -> u64
+fn migrate(table: Table, links: &mut Links, occupied: &mut Occupied, list: usize, tick: u64) -> u64
     requires lists { length links.old ≡ slots (radices table) + 1 }
     requires list { list < slots (radices table) }
     requires rows { AllByRecursion (MayMigrate (radices table) tick list) (list_at list links.old) }

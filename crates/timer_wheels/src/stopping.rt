@@ -1,4 +1,4 @@
-//! A stop and a restart in a hierarchy of wheels.
+//! A stop, a restart and a revival in a hierarchy of wheels.
 ghost use Rattle.std.specs.Prelude.{◌≡◌, ◌<◌, ◌≤◌, [], MatchOption};
 ghost use Rattle.timer_base.specs.declared.limits.TheConstants.{LAST};
 ghost use Rattle.timer_base.specs.WheelState.{after_stop, after_restart, after_revival, old_timer, timer_at, due_at};

@@ -24,6 +24,16 @@ pub enum Call {
     Clear,
     /// Goes on to the tick. Each pair is a tick and the serial of a timer that expires then.
     Until(u64, &'static [(u64, u64)]),
+    /// Goes on to the tick, at which something is due, and takes nothing.
+    Reach(u64),
+    /// Withdraws the timer with this serial, which is due.
+    Withdraw(u64),
+    /// Replaces the timer with this serial, which is due, by the next one, with this deadline.
+    Revive(u64, u64),
+    /// The timer with this serial is not due.
+    NotDue(u64),
+    /// Takes the timers that are due, which have these serials.
+    Take(&'static [u64]),
 }
 
 /// How a wheel is taken from one tick to a later one.
@@ -61,7 +71,6 @@ pub fn start<W: Wheel>(
     wheel: &mut W,
     deadline: u64,
 ) -> Result<Handle, OutOfMemory> {
-    settle(rt, wheel);
     assert!(rt; wheel.now() < deadline);
     assert!(rt; deadline <= wheel.last_tick());
     assert!(rt; wheel.last_serial() < LAST);
@@ -76,7 +85,6 @@ pub fn restart<W: Wheel>(
     handle: Handle,
     deadline: u64,
 ) -> Option<(Handle, Timer)> {
-    settle(rt, wheel);
     assert!(rt; wheel.now() < deadline);
     assert!(rt; deadline <= wheel.last_tick());
     assert!(rt; wheel.last_serial() < LAST);
@@ -84,14 +92,18 @@ pub fn restart<W: Wheel>(
     wheel.restart(handle, timer(serial, deadline))
 }
 
-pub fn look<W: Wheel>(rt: &impl Abort, wheel: &W, handle: Handle) -> Option<Timer> {
-    settle(rt, wheel);
-    wheel.look(handle)
-}
-
-pub fn stop<W: Wheel>(rt: &impl Abort, wheel: &mut W, handle: Handle) -> Option<Timer> {
-    settle(rt, wheel);
-    wheel.stop(handle)
+/// Replaces a due timer by the next one.
+pub fn revive<W: Wheel>(
+    rt: &impl Abort,
+    wheel: &mut W,
+    handle: Handle,
+    deadline: u64,
+) -> Option<(Handle, Timer)> {
+    assert!(rt; wheel.now() < deadline);
+    assert!(rt; deadline <= wheel.last_tick());
+    assert!(rt; wheel.last_serial() < LAST);
+    let serial = wheel.last_serial() + 1;
+    wheel.revive(handle, timer(serial, deadline))
 }
 
 /// Advances by at most `most` ticks, and returns by how many.
@@ -176,15 +188,28 @@ pub fn play<W: Wheel>(
                 );
             }
             Call::List(serials) => {
-                settle(rt, wheel);
                 lists(rt, wheel.list()?.as_slice(), serials);
                 assert_eq!(rt; wheel.len(), serials.len());
             }
-            Call::Clear => {
-                settle(rt, wheel);
-                wheel.clear();
-            }
+            Call::Clear => wheel.clear(),
             Call::Until(tick, expired) => expires(rt, wheel, tick, expired, pace),
+            Call::Reach(tick) => {
+                go_on(rt, wheel, tick, tick, pace);
+                assert!(rt; wheel.has_due());
+            }
+            Call::Withdraw(serial) => {
+                let handle = handle_of(rt, handles.as_slice(), serial);
+                withdraws(rt, wheel, handle);
+            }
+            Call::Revive(serial, deadline) => {
+                let handle = handle_of(rt, handles.as_slice(), serial);
+                handles.push(revives(rt, wheel, handle, deadline))?;
+            }
+            Call::NotDue(serial) => {
+                let handle = handle_of(rt, handles.as_slice(), serial);
+                finds_nothing_due(rt, wheel, handle);
+            }
+            Call::Take(serials) => expire(rt, wheel, serials),
         }
     }
     Ok(())
@@ -204,7 +229,7 @@ fn handle_of(rt: &impl Abort, handles: &[Handle], serial: u64) -> Handle {
 
 /// Stops a pending timer, and sees that it is gone.
 fn stops<W: Wheel>(rt: &impl Abort, wheel: &mut W, handle: Handle) {
-    let found = stop(rt, wheel, handle);
+    let found = wheel.stop(handle);
     assert_eq!(rt; found.map(|timer| timer.serial), Some(handle.serial));
     finds_nothing(rt, wheel, handle);
 }
@@ -216,18 +241,63 @@ fn restarts<W: Wheel>(rt: &impl Abort, wheel: &mut W, handle: Handle, deadline: 
     };
     assert_eq!(rt; old.serial, handle.serial);
     assert_eq!(rt;
-        look(rt, wheel, restarted),
+        wheel.look(restarted),
         Some(timer(restarted.serial, deadline))
     );
     finds_nothing(rt, wheel, handle);
     restarted
 }
 
+/// Withdraws a due timer, and sees that it is gone.
+fn withdraws<W: Wheel>(rt: &impl Abort, wheel: &mut W, handle: Handle) {
+    let pending = wheel.len();
+    let due = wheel.look_due(handle);
+    assert_eq!(rt; due.map(|timer| timer.serial), Some(handle.serial));
+    assert_eq!(rt; wheel.withdraw(handle), due);
+    finds_nothing_due(rt, wheel, handle);
+    assert_eq!(rt; wheel.len(), pending);
+}
+
+/// Revives a due timer, and sees that the next one is pending at its place.
+fn revives<W: Wheel>(rt: &impl Abort, wheel: &mut W, handle: Handle, deadline: u64) -> Handle {
+    let pending = wheel.len();
+    let due = wheel.look_due(handle);
+    assert_eq!(rt; due.map(|timer| timer.serial), Some(handle.serial));
+    let Some((revived, old)) = revive(rt, wheel, handle, deadline) else {
+        panic!(rt; "{handle:?} is not due");
+    };
+    assert_eq!(rt; Some(old), due);
+    assert_eq!(rt; wheel.look(revived), Some(timer(revived.serial, deadline)));
+    finds_nothing_due(rt, wheel, handle);
+    finds_nothing_due(rt, wheel, revived);
+    assert!(rt; pending < 1000);
+    assert_eq!(rt;
+        (wheel.len(), wheel.last_serial()),
+        (pending + 1, revived.serial)
+    );
+    revived
+}
+
+/// Sees that no due timer is found by the handle, and that asking changes nothing.
+fn finds_nothing_due<W: Wheel>(rt: &impl Abort, wheel: &mut W, handle: Handle) {
+    let before = (wheel.len(), wheel.has_due(), wheel.last_serial());
+    assert_eq!(rt; wheel.look_due(handle), None, "looked at {handle:?}");
+    assert_eq!(rt; wheel.withdraw(handle), None, "withdrew {handle:?}");
+    assert!(rt; wheel.now() < LAST);
+    let deadline = wheel.now() + 1;
+    assert_eq!(rt;
+        revive(rt, wheel, handle, deadline),
+        None,
+        "revived {handle:?}"
+    );
+    assert_eq!(rt; (wheel.len(), wheel.has_due(), wheel.last_serial()), before);
+}
+
 /// Sees that no timer is found by the handle, and that asking changes nothing.
 fn finds_nothing<W: Wheel>(rt: &impl Abort, wheel: &mut W, handle: Handle) {
     let before = (wheel.len(), wheel.last_serial());
-    assert_eq!(rt; look(rt, wheel, handle), None, "looked at {handle:?}");
-    assert_eq!(rt; stop(rt, wheel, handle), None, "stopped {handle:?}");
+    assert_eq!(rt; wheel.look(handle), None, "looked at {handle:?}");
+    assert_eq!(rt; wheel.stop(handle), None, "stopped {handle:?}");
     assert!(rt; wheel.now() < LAST);
     let deadline = wheel.now() + 1;
     assert_eq!(rt;

@@ -1,26 +1,60 @@
-use Rattle.std.proofs.Common.{◌≤◌, refl, ◌∙◌, arith}
-use Rattle.timer_base.specs.TickLaws.{passing_none, nothing_due, before_last, passing_more, not_due, stops_early, passes_all}
+use Rattle.std.proofs.Common.{◌≡◌, ◌<◌, ◌≤◌, ◌+◌, ◌-◌, ◌∙◌, arith}
+use Rattle.std.specs.Prelude.{[], min, length}
+use Rattle.timer_base.specs.TickLaws.{IsPassing, not_due}
 use Rattle.timer_wheels.specs.Buckets.{state_of}
+use Rattle.timer_wheels.proofs.RevolutionLemmas.{passing_on, passing_from, passing_skip, advances_on, room_left, turn_fits}
 use Rattle.timer_wheels.proofs.hashed.HashedWheelWheel.advance.Goals as goal
 
-pub loop-passed-init : goal.loop-passed-init
-loop-passed-init c = record { passing = passing_none (state_of c.args.self.now.buckets) c.requires.nothing_due; slots = refl }
-
-pub per_tick-requires-clause-nothing_due : goal.per_tick-requires-clause-nothing_due
-per_tick-requires-clause-nothing_due c = nothing_due c.loop-passed.passed (state_of c.args.self.now.buckets) (state_of c.loop-passed.self.buckets) c.loop-passed.invariant.passing
-
-pub per_tick-requires-clause-before_last : goal.per_tick-requires-clause-before_last
-per_tick-requires-clause-before_last c = before_last c.loop-passed.passed c.args.most (state_of c.args.self.now.buckets) (state_of c.loop-passed.self.buckets) c.loop-passed.invariant.passing c.loop-passed-test.true c.requires.before_last
-
-pub loop-passed-preserved : goal.loop-passed-preserved
-loop-passed-preserved c = record {
-  passing = passing_more c.loop-passed.passed (state_of c.args.self.now.buckets) (state_of c.loop-passed.self.buckets) (state_of c.per_tick.new.self.buckets) c.loop-passed.invariant.passing c.per_tick.ensures.ticked
-      (not_due (state_of c.per_tick.new.self.buckets).due c.has_due.result c.has_due.ensures c.if-has_due.false);
-  slots = c.per_tick.ensures.slots ∙ c.loop-passed.invariant.slots;
-}
+pub tick_until_due-passed-requires-clause-before_last : goal.tick_until_due-passed-requires-clause-before_last
+tick_until_due-passed-requires-clause-before_last c =
+    let w = c.loop-passed.invariant in
+    let r : c.args.most - c.loop-passed.passed ≤ (state_of c.loop-passed.self.buckets).last_tick - (state_of c.loop-passed.self.buckets).now =
+    room_left c.loop-passed.passed c.args.most (state_of c.args.self.now.buckets) (state_of c.loop-passed.self.buckets) w.passing w.at_most c.requires.before_last in
+    let m : c.min.result ≡ min c.slots-revolution.result (c.args.most - c.loop-passed.passed) = c.min.ensures in
+    omega arith
 
 pub returns-then-has_due-clause-advances : goal.returns-then-has_due-clause-advances
-returns-then-has_due-clause-advances c = stops_early c.loop-passed.passed c.args.most (state_of c.args.self.now.buckets) (state_of c.loop-passed.self.buckets) (state_of c.per_tick.new.self.buckets) c.loop-passed.invariant.passing c.loop-passed-test.true c.per_tick.ensures.ticked (c.has_due.ensures.0 c.if-has_due.true)
+returns-then-has_due-clause-advances c =
+    let w = c.loop-passed.invariant in
+    let mid = state_of c.loop-passed.self.buckets in
+    let new = state_of c.tick_until_due-passed.new.self.buckets in
+    advances_on c.loop-passed.passed c.min.result c.tick_until_due-passed.result c.args.most (state_of c.args.self.now.buckets) mid new w.passing c.tick_until_due-passed.ensures.advances
+    (turn_fits c.loop-passed.passed c.slots-revolution.result c.min.result c.tick_until_due-passed.result c.args.most mid new w.at_most c.min.ensures c.tick_until_due-passed.ensures.advances)
+    (c.has_due.ensures.0 c.if-has_due.true)
 
-pub returns-clause-advances : goal.returns-clause-advances
-returns-clause-advances c = let a : c.args.most ≤ c.loop-passed.passed = c.loop-passed-test.false in passes_all c.loop-passed.passed c.args.most (state_of c.args.self.now.buckets) (state_of c.loop-passed.self.buckets) c.loop-passed.invariant.passing c.requires.some (omega arith)
+pub skip_revolutions-passed-requires-clause-nothing_due : goal.skip_revolutions-passed-requires-clause-nothing_due
+skip_revolutions-passed-requires-clause-nothing_due c =
+    not_due (state_of c.tick_until_due-passed.new.self.buckets).due c.has_due.result c.has_due.ensures c.if-has_due.false
+
+pub skip_revolutions-passed-requires-clause-before_last : goal.skip_revolutions-passed-requires-clause-before_last
+skip_revolutions-passed-requires-clause-before_last c =
+    let w = c.loop-passed.invariant in
+    let old = state_of c.args.self.now.buckets in
+    let mid = state_of c.loop-passed.self.buckets in
+    let new = state_of c.tick_until_due-passed.new.self.buckets in
+    let due : new.due ≡ [] = not_due new.due c.has_due.result c.has_due.ensures c.if-has_due.false in
+    let turn = passing_from c.min.result c.tick_until_due-passed.result mid new c.tick_until_due-passed.ensures.advances due in
+    room_left (c.loop-passed.passed + c.tick_until_due-passed.result) c.args.most old new
+    (passing_on c.loop-passed.passed c.tick_until_due-passed.result old mid new w.passing turn)
+    (turn_fits c.loop-passed.passed c.slots-revolution.result c.min.result c.tick_until_due-passed.result c.args.most mid new w.at_most c.min.ensures c.tick_until_due-passed.ensures.advances)
+    c.requires.before_last
+
+pub loop-passed-preserved : goal.loop-passed-preserved
+loop-passed-preserved c =
+    let w = c.loop-passed.invariant in
+    let old = state_of c.args.self.now.buckets in
+    let mid = state_of c.loop-passed.self.buckets in
+    let new = state_of c.tick_until_due-passed.new.self.buckets in
+    let end = state_of c.skip_revolutions-passed.new.buckets in
+    let due : new.due ≡ [] = not_due new.due c.has_due.result c.has_due.ensures c.if-has_due.false in
+    let turn : IsPassing c.tick_until_due-passed.result mid new = passing_from c.min.result c.tick_until_due-passed.result mid new c.tick_until_due-passed.ensures.advances due in
+    let skip : IsPassing c.skip_revolutions-passed.result new end = passing_skip c.skip_revolutions-passed.result new end due c.skip_revolutions-passed.ensures.quiet c.skip_revolutions-passed.ensures.skipped in
+    let at : IsPassing (c.loop-passed.passed + c.tick_until_due-passed.result) old new = passing_on c.loop-passed.passed c.tick_until_due-passed.result old mid new w.passing turn in
+    let fits : c.loop-passed.passed + c.tick_until_due-passed.result ≤ c.args.most =
+    turn_fits c.loop-passed.passed c.slots-revolution.result c.min.result c.tick_until_due-passed.result c.args.most mid new w.at_most c.min.ensures c.tick_until_due-passed.ensures.advances in
+    let less : c.skip_revolutions-passed.result ≤ c.args.most - (c.loop-passed.passed + c.tick_until_due-passed.result) = c.skip_revolutions-passed.ensures.at_most in
+    record {
+      passing = passing_on (c.loop-passed.passed + c.tick_until_due-passed.result) c.skip_revolutions-passed.result old new end at skip;
+      slots = c.skip_revolutions-passed.ensures.slots ∙ (c.tick_until_due-passed.ensures.slots ∙ w.slots);
+      at_most = omega arith;
+    }

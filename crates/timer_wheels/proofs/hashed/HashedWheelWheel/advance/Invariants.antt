@@ -1,4 +1,4 @@
-use Rattle.std.proofs.Common.{◌≡◌}
+use Rattle.std.proofs.Common.{◌≡◌, ◌-◌, ◌≤◌}
 use Rattle.timer_base.specs.TickLaws.{IsPassing}
 use Rattle.timer_wheels.specs.Buckets.{state_of}
 use Rattle.timer_wheels.specs.HashedWheel.{slots_of}
@@ -8,4 +8,8 @@ abbrev pub invariant-loop-passed : goal.invariant-loop-passed
 invariant-loop-passed l = record {
   passing : IsPassing l.passed (state_of l.initial.self.buckets) (state_of l.self.buckets);
   slots : slots_of l.self ≡ slots_of l.initial.self;
+  at_most : l.passed ≤ l.most;
 }
+
+abbrev pub decreases-loop-passed : goal.decreases-loop-passed
+decreases-loop-passed l = l.most - l.passed

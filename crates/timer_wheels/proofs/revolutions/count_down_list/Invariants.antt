@@ -1,0 +1,5 @@
+use Rattle.timer_wheels.proofs.CountdownLemmas.{IsCounting}
+use Rattle.timer_wheels.proofs.revolutions.count_down_list.Given as goal
+
+abbrev pub invariant-loop-step : goal.invariant-loop-step
+invariant-loop-step l = IsCounting l.list l.step l.rounds l.initial.links l.links l.at

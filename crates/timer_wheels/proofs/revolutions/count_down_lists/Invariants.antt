@@ -1,0 +1,5 @@
+use Rattle.timer_wheels.proofs.CountdownLemmas.{AreCounted}
+use Rattle.timer_wheels.proofs.revolutions.count_down_lists.Given as goal
+
+abbrev pub invariant-loop-list : goal.invariant-loop-list
+invariant-loop-list l = AreCounted l.list l.rounds l.initial.links l.links
