@@ -3,7 +3,8 @@ ghost use Rattle.std.specs.Prelude.{◌≡◌, ◌<◌, ℕ, get_or, vec_len, fa
 ghost use Rattle.timer_facility.specs.Facility.{with_nothing_waiting};
 ghost use Rattle.timer_desk.specs.Desk.{clients_of, backlog_at, IsIdle, AllIdle};
 ghost use Rattle.timer_desk.specs.Ring.{line_of_inlet, got_of, requests_ring_of, words_ring_of_reader, all_submitted};
-ghost use Rattle.timer_desk.specs.Winding.{AreEndsOf, AreReadersOf, AllGot, IsReadOut, AllReadOut, KeepsLines, IsWaiting, IsBlamed, IsFirstBlamed};
+ghost use Rattle.timer_desk.specs.Winding.{AreEndsOf, AreReadersOf, AllGot, IsReadOut, AllReadOut};
+ghost use Rattle.timer_desk.specs.Winding.{KeepsLines, IsWaiting, IsBlamed, IsFirstBlamed};
 
 use crate::desk::Desk;
 use crate::ring::{ClientReader, RequestsEnded, RingInlet};
