@@ -20,6 +20,7 @@ use Rattle.timer_facility.specs.Run.{run, notices_in}
 use Rattle.timer_facility.specs.Facility.{FacilityView, view_after, with_nothing_waiting}
 use Rattle.timer_facility.specs.HandedOver.{HandsOver, timers_handed}
 use Rattle.timer_facility.specs.Owed.{timer_handed}
+use Rattle.timer_desk.specs.declared.word.Numbered.{Numbered}
 use Rattle.timer_desk.specs.declared.word.Word.{Word}
 use Rattle.timer_desk.specs.declared.word.Word.TheVariants as Words
 use Rattle.timer_desk.specs.declared.report.Done.{Done}
@@ -31,6 +32,8 @@ use Rattle.timer_desk.specs.declared.report.Served.TheVariants.{NoMemory}
 use Rattle.timer_desk.specs.Extends.{Extends, Extends-refl}
 use Rattle.timer_desk.specs.Report.{Side, side_of, HeldIsLast, got_but_held, held_list, is_held, held_after, may_hold, Tells, Runs, asked, asked_in, words, words_in, flushed, flushed_in, events, events_in, outs, tick_outs, placed}
 use Rattle.timer_desk.specs.Right.{AtEach, IsRight, IsRightMember, IsRightClose, pending_after}
+use Rattle.timer_desk.specs.Holding.{HoldsAfter, Holds}
+use Rattle.timer_desk.proofs.HoldingLemmas.{holds-notices}
 use Rattle.timer_desk.proofs.ReportJoining.{not_held}
 use Rattle.timer_desk.specs.Desk.{DeskState, IsDesk, Told, AreInTime, AddsStep, tick_notices, close_notices, steps_of, AreBehind}
 
@@ -149,13 +152,14 @@ pub record IsOwners (first : Done) : Type 0 where
   pub same_held : (c : ℕ) (before : Bool) → held_after c before first ≡ before
   pub is_right : (c room len left pending : ℕ) → IsRightMember c room len left pending first
   pub no_serve : (c : ℕ) → first ≡ Dones.Served c NoMemory → ⊥
+  pub holds : (may_refuse : Bool) (c : ℕ) (s : FacilityState) (held : Option Numbered) → HoldsAfter may_refuse c s held first held
   pub in_time : (s : FacilityState) (report : List Done) → AreInTime s (first ∷ []) report → AreInTime s [] (first ∷ report)
 
 pub of_tick : (r : Result (Unit {0}) TickFault) → IsOwners (Dones.Ticked r)
-of_tick r = record { no_request = λ c. refl; no_word = λ c. refl; none_flushed = λ c. refl; same_held = λ c before. refl; is_right = λ c room len left pending. tt; no_serve = λ c h. absurd (cc); in_time = λ s report h. (refl, h) }
+of_tick r = record { no_request = λ c. refl; no_word = λ c. refl; none_flushed = λ c. refl; same_held = λ c before. refl; is_right = λ c room len left pending. tt; no_serve = λ c h. absurd (cc); holds = λ m c s held. refl; in_time = λ s report h. (refl, h) }
 
 pub of_close : (r : Result ℕ CloseFault) → IsOwners (Dones.Closed r)
-of_close r = record { no_request = λ c. refl; no_word = λ c. refl; none_flushed = λ c. refl; same_held = λ c before. refl; is_right = λ c room len left pending. tt; no_serve = λ c h. absurd (cc); in_time = λ s report h. (refl, h) }
+of_close r = record { no_request = λ c. refl; no_word = λ c. refl; none_flushed = λ c. refl; same_held = λ c before. refl; is_right = λ c room len left pending. tt; no_serve = λ c h. absurd (cc); holds = λ m c s held. refl; in_time = λ s report h. (refl, h) }
 
 Tells-noted : (c : ℕ) (first : Done) (ns : List Notice) (a : Side) → IsOwners first → HeldIsLast a
     → Tells c (first ∷ map Dones.Noticed ns) a (record a { backlog = with_words (words c (map Dones.Noticed ns)) a.backlog })
@@ -190,6 +194,12 @@ module _ {I : Type 0} (kind : LineKind I) where
     facility = runs;
     in_time = o.in_time f.state (map Dones.Noticed ns) (in_time-notices f.state (first ∷ []) ns runs.outs_are);
     right = λ c i b l. right_side c i b l;
+    holds = λ c b l.
+        let held : Option Numbered = (get_or bs c b).held in
+        let within : c < length bs = let m = d.as_many in omega arith in
+        let there : get_or bs' c b ≡ with_words (words c (map Dones.Noticed ns)) (get_or bs c b) = ap (λ xs. get_or xs c b) e ∙ with_notices-at ns bs c b within in
+        subst (λ (x : BacklogState). Holds kind.take_may_refuse c f.state held [] (first ∷ map Dones.Noticed ns) x.held) (sym there)
+        (held, o.holds kind.take_may_refuse c f.state held, holds-notices kind.take_may_refuse c f.state held (first ∷ []) ns);
     closes = (closes, closes-notices f.state (first ∷ []) ns);
   }
     where

@@ -3,6 +3,7 @@ pub mod DrivingLemmas
 pub mod ReportHeld
 pub mod ReportJoining
 pub mod HandingLemmas
+pub mod HoldingLemmas
 pub mod AskingLemmas
 pub mod ReportOfOne
 pub mod ProgressLemmas

@@ -19,6 +19,7 @@ use Rattle.timer_desk.specs.Report.{Side, got_but_held, held_list, is_held, held
 use Rattle.timer_desk.specs.Right.{AtEach, IsRightServe, IsRightMember, IsNeeded, outbox_after, pending_after, IsRight, IsRightClose}
 use Rattle.timer_desk.specs.Desk.{DeskState, clients_of, side_at, ToldSides, Told, AreInTime, AreOwed, AreBehind}
 use Rattle.timer_desk.proofs.ReportHeld.{got_but_held_is}
+use Rattle.timer_desk.proofs.HoldingLemmas.{Holds-joined}
 
 flushed-append : (c : ℕ) (r q : List Done) → flushed c (r ++ q) ≡ flushed c r + flushed c q
 flushed-append c [] q = omega arith
@@ -267,6 +268,9 @@ module _ {I : Type 0} (kind : LineKind I) where
         let within : c < clients_of y = let e = f.clients.same_clients in omega arith in
         Right-joined kind.take_may_refuse c r q (side_at kind x c i b) (side_at kind y c i b) (side_at kind z c i b) x.facility y.facility
         (f.clients.sides c i b low) (g.clients.sides c i b within) f.facility.state_is (f.right c i b low) (g.right c i b within);
+    holds = λ c b low.
+        Holds-joined kind.take_may_refuse c x.facility y.facility r q (get_or x.backlogs c b).held (get_or y.backlogs c b).held (get_or z.backlogs c b).held
+        (λ past. state-joined x.facility y.facility r past f.facility.state_is) (f.holds c b low) (g.holds c b (let e = f.clients.same_clients in omega arith));
     closes = closes-joined r q x.facility y.facility f.facility.state_is f.closes g.closes;
   }
 
@@ -299,6 +303,7 @@ module _ {I : Type 0} (kind : LineKind I) where
     facility = record { outs_are = refl; state_is = refl };
     in_time = refl;
     right = λ c i b low. tt;
+    holds = λ c b low. refl;
     closes = tt;
   }
 

@@ -19,6 +19,8 @@ use Rattle.timer_desk.specs.Right.{IsRight, IsRightMember, IsNeeded, IsRightClos
 use Rattle.timer_desk.specs.Desk.{IsDesk, Told, AreInTime}
 use Rattle.timer_desk.proofs.ReportJoining.{not_held, moved}
 use Rattle.timer_desk.proofs.HandingLemmas.{desk_of}
+use Rattle.timer_desk.specs.Holding.{HoldsAfter, Holds}
+use Rattle.timer_desk.proofs.HoldingLemmas.{same_held, serve_holds}
 
 either : (b : Bool) → (b ≡ true) ⊎ (b ≡ false)
 either b = elim b as (λ v. (v ≡ true) ⊎ (v ≡ false)) [ true ↦ inl refl | false ↦ inr refl ]
@@ -40,6 +42,9 @@ pub record IsOf (c : ℕ) (done : Done) : Type 0 where
   pub same_held : (k : ℕ) (before : Bool) → k ≢ c → held_after k before done ≡ before
   pub is_right : (k room len left pending : ℕ) → k ≢ c → IsRightMember k room len left pending done
   pub no_serve : (k : ℕ) → k ≢ c → done ≡ Dones.Served k NoMemory → ⊥
+  pub holds_here : (may_refuse : Bool) (s : FacilityState) (a b : Side) → Tells c (done ∷ []) a b → (done ≡ Dones.Served c NoMemory → RanOutOfMemory may_refuse c s b.backlog.held)
+      → HoldsAfter may_refuse c s a.backlog.held done b.backlog.held
+  pub holds_there : (may_refuse : Bool) (k : ℕ) (s : FacilityState) (held : Option Numbered) → k ≢ c → HoldsAfter may_refuse k s held done held
   pub no_close : (s : FacilityState) → IsRightClose s [] done []
   pub in_time : (s t : FacilityState) → Runs (done ∷ []) s t → AreInTime s [] (done ∷ [])
 
@@ -51,6 +56,8 @@ of_serve c served = record {
   same_held = λ k before h. if_other k h (held_after_serve before served) before;
   is_right = λ k room len left pending h is. absurd (h (sym is));
   no_serve = λ k h is. absurd (h (sym (same_client k served is)));
+  holds_here = λ m s a b t wants. ((λ _. serve_holds m c s served a b t (λ is. wants (ap (Dones.Served c) is))), (λ other. absurd (other refl)));
+  holds_there = λ m k s held h. ((λ is. absurd (h (sym is))), (λ _. refl));
   no_close = λ s is. absurd (cc);
   in_time = λ s t runs. (refl, runs.outs_are);
 }
@@ -69,6 +76,8 @@ of_flush c count = record {
   same_held = λ k before h. refl;
   is_right = λ k room len left pending h. tt;
   no_serve = λ k h is. absurd (cc);
+  holds_here = λ m s a b t wants. same_held a.backlog.held b.backlog.held t.held_first t.none_held;
+  holds_there = λ m k s held h. refl;
   no_close = λ s is. absurd (cc);
   in_time = λ s t runs. (refl, runs.outs_are);
 }
@@ -124,6 +133,7 @@ module _ {I : Type 0} (kind : LineKind I) where
     facility = runs;
     in_time = o.in_time f.state f'.state runs;
     right = λ k j e l. (right_at k j e l (either (c == k)), tt);
+    holds = λ k e l. holds_at k e l (either (c == k));
     closes = (o.no_close f.state, tt);
   }
     where
@@ -162,6 +172,20 @@ module _ {I : Type 0} (kind : LineKind I) where
           subst (λ x. Tells k (done ∷ []) (side_of kind (get_or inlets k j) (get_or backlogs k e)) (side_of kind x (get_or (slice_set backlogs c b') k e))) (sym (get_or-set_other inlets c k i' j other))
           (subst (λ y. Tells k (done ∷ []) (side_of kind (get_or inlets k j) (get_or backlogs k e)) (side_of kind (get_or inlets k j) y)) (sym (get_or-set_other backlogs c k b' e other))
           (Tells-other c k done (side_of kind (get_or inlets k j) (get_or backlogs k e)) o other (d.held k j e l)))
+
+      holds_at : (k : ℕ) (e : BacklogState) → k < length inlets → (c == k) ≡ true ⊎ (c == k) ≡ false
+          → Holds kind.take_may_refuse k f.state (get_or backlogs k e).held [] (done ∷ []) (get_or (slice_set backlogs c b') k e).held
+      holds_at k e l (inl h) =
+          let is : k ≡ c = is_equal c k h in
+          subst (λ (x : BacklogState). Holds kind.take_may_refuse k f.state x.held [] (done ∷ []) (get_or (slice_set backlogs c b') k e).held) (sym (backlog_was k e is))
+          (subst (λ (x : BacklogState). Holds kind.take_may_refuse k f.state b.held [] (done ∷ []) x.held) (sym (backlog_here k e is))
+          (subst (λ n. Holds kind.take_may_refuse n f.state b.held [] (done ∷ []) b'.held) (sym is)
+          (b'.held, o.holds_here kind.take_may_refuse f.state (side_of kind i b) (side_of kind i' b') tells wants, refl)))
+      holds_at k e l (inr h) =
+          let other : k ≢ c = is_other c k h in
+          let held : Option Numbered = (get_or backlogs k e).held in
+          subst (λ (x : BacklogState). Holds kind.take_may_refuse k f.state held [] (done ∷ []) x.held) (sym (get_or-set_other backlogs c k b' e other))
+          (held, o.holds_there kind.take_may_refuse k f.state held other, refl)
 
       state_after : (k : ℕ) → pending_after k f.state (done ∷ []) ≡ pending_of f'.state k
       state_after k = ap (λ v. pending_of v k) (sym runs.state_is)

@@ -16,6 +16,7 @@ use Rattle.timer_desk.specs.Inlet.{LineKind}
 use Rattle.timer_desk.specs.Backlog.{BacklogState, empty_backlog, HasRoom}
 use Rattle.timer_desk.specs.Report.{Side, side_of, HeldIsLast, Tells, Runs, events, outs}
 use Rattle.timer_desk.specs.Right.{AtEach, IsRight, IsRightClose}
+use Rattle.timer_desk.specs.Holding.{Holds}
 
 -- the facility, in which nothing waits; and for each client its line and its backlog
 pub record DeskState (I : Type 0) : Type 0 where
@@ -131,6 +132,8 @@ module _ {I : Type 0} (kind : LineKind I) where
     pub in_time : AreInTime old.facility [] report
     pub right : (c : ℕ) (i : I) (b : BacklogState) → c < clients_of old
         → AtEach (IsRight kind.take_may_refuse c old.facility (side_at kind old c i b) (side_at kind new c i b)) [] report
+    pub holds : (c : ℕ) (b : BacklogState) → c < clients_of old
+        → Holds kind.take_may_refuse c old.facility (get_or old.backlogs c b).held [] report (get_or new.backlogs c b).held
     pub closes : AtEach (IsRightClose old.facility) [] report
 
   -- a step, and what it appends to the report

@@ -2,6 +2,7 @@ pub mod Asking
 pub mod Backlog
 pub mod Desk
 pub mod Extends
+pub mod Holding
 pub mod Inlet
 pub mod Memory
 pub mod Report

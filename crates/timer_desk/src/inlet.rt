@@ -34,7 +34,8 @@ pub trait Inlet {
     fn take(&mut self) -> Taken
         ensures line { kind.same self.old self.new }
         ensures got { (kind.state self.new).got ≡ (kind.state self.old).got ++ taken_of result }
-        ensures standing { ¬ ((kind.state self.old).standing ≡ []) → (kind.state self.old).standing ≡ taken_of result ++ (kind.state self.new).standing }
+        ensures standing { ¬ ((kind.state self.old).standing ≡ [])
+            → (kind.state self.old).standing ≡ taken_of result ++ (kind.state self.new).standing }
         ensures nothing_stands { (kind.state self.old).standing ≡ [] → (kind.state self.new).standing ≡ [] }
         ensures empty { result ≡ Taken.Empty → (kind.state self.old).standing ≡ [] }
         ensures memory { result ≡ Taken.NoMemory → kind.take_may_refuse ≡ true }
@@ -51,7 +52,7 @@ pub trait Inlet {
 
     /// Puts words into the line, in order, until it does not take one, and returns how many it took.
     ///
-    /// A line may show them to its client all at once.
+    /// A line may show them to its client all at once. It allocates or waits only if `put` does.
     fn put_slice(&mut self, words: &[Word]) -> usize
         ensures line { kind.same self.old self.new }
         ensures given { (kind.state self.new).given ≡ (kind.state self.old).given ++ take result words.now }

@@ -43,6 +43,8 @@ pub use winding::wind_up;
 pub use word::{Numbered, Word};
 
 #[cfg(test)]
+mod driving_tests;
+#[cfg(test)]
 mod locked_tests;
 #[cfg(test)]
 mod tests;

@@ -188,7 +188,7 @@ impl Inlet for RingInlet {
         }
     }
 
-    /// Puts words, and shows them to the client with one store.
+    /// Puts words, and shows them to the client with one atomic store.
     fn put_slice(&mut self, words: &[Word]) -> usize
         ensures line { SameRingLine self.old self.new }
         ensures given { given_of self.new ≡ given_of self.old ++ take result words.now }

@@ -1,4 +1,4 @@
-//! Lines alone, and the room of a desk. Whole desks are tested in `timer_threads`, over all wheels.
+//! Lines alone, and the room of a desk. `timer_threads` tests desks over every wheel and both kinds of line.
 use super::*;
 use std::alloc::Global;
 use std::fmt::Debug;

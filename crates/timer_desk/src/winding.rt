@@ -3,7 +3,8 @@ ghost use Rattle.std.specs.Prelude.{◌≡◌, ◌<◌, ℕ, get_or, vec_len, fa
 ghost use Rattle.timer_facility.specs.Facility.{with_nothing_waiting};
 ghost use Rattle.timer_desk.specs.Desk.{clients_of, backlog_at, IsIdle, AllIdle};
 ghost use Rattle.timer_desk.specs.Ring.{line_of_inlet, got_of, requests_ring_of, words_ring_of_reader, all_submitted};
-ghost use Rattle.timer_desk.specs.Winding.{AreEndsOf, AreReadersOf, AllGot, IsReadOut, AllReadOut, KeepsLines, IsWaiting, IsBlamed};
+ghost use Rattle.timer_desk.specs.Winding.{AreEndsOf, AreReadersOf, AllGot, IsReadOut, AllReadOut};
+ghost use Rattle.timer_desk.specs.Winding.{KeepsLines, IsWaiting, IsBlamed, IsFirstBlamed};
 
 use crate::desk::Desk;
 use crate::ring::{ClientReader, RequestsEnded, RingInlet};
@@ -13,7 +14,7 @@ use timer_facility::Facility;
 /// Settles each line, ends the desk, and settles the readers.
 ///
 /// An error drops all of them. It is the first client with a held request, a request left in its line or a
-/// word in its outbox; or, where there is no such client, one whose line could not be finished.
+/// word in its outbox; or, if there is no such client, the first one whose line could not be finished.
 pub fn wind_up<W: Wheel + Drop>(
     desk: Desk<W, RingInlet>,
     ended: Vec<RequestsEnded>,
@@ -27,6 +28,7 @@ pub fn wind_up<W: Wheel + Drop>(
     ensures as_many { IfOk result (λ done. vec_len done.1 ≡ clients_of desk) }
     ensures words { IfOk result (λ done. AllReadOut desk.inlets readers.items done.1.items) }
     ensures err { IfErr result (λ c. IsBlamed desk ended.items c) }
+    ensures first { IfErr result (λ c. IsFirstBlamed desk ended.items readers.items c) }
 {
     let mut desk = desk;
     let mut ended = ended;
@@ -38,13 +40,18 @@ pub fn wind_up<W: Wheel + Drop>(
     let (facility, inlets) = desk.end();
     let mut inlets = inlets;
     let mut readers = readers;
+    // The lines are finished from the last one down, so the last failure is that of the first client.
+    let mut unfinished = None;
     while let Some(inlet) = inlets.pop() {
         let c = inlets.len();
         if !finish_line(inlet, &mut readers[c]) {
-            return Err(c);
+            unfinished = Some(c);
         }
     }
-    Ok((facility, readers))
+    match unfinished {
+        Some(c) => Err(c),
+        None => Ok((facility, readers)),
+    }
 }
 
 /// Settles the line of client c, and returns whether the client is done: no request is held, none stands

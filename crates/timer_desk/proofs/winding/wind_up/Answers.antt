@@ -4,11 +4,9 @@ use Rattle.std.proofs.lemmas.List.{get_or_default}
 use Rattle.std.proofs.lemmas.Grind.{common_steps}
 use Rattle.timer_desk.specs.declared.ring.RingInlet.{RingInlet}
 use Rattle.timer_desk.specs.declared.ring.ClientReader.{ClientReader}
-use Rattle.timer_desk.specs.Ring.{line_of_inlet, words_ring_of_reader, got_of, given_of, all_submitted}
-use Rattle.timer_desk.specs.Winding.{IsWaiting, IsReadOut}
-use Rattle.timer_desk.specs.Desk.{backlog_at}
-use Rattle.timer_desk.specs.Backlog.{BacklogState}
-use Rattle.timer_desk.proofs.WindingLemmas.{last_is, below_stays, one_more_read, IsReadOut-same}
+use Rattle.timer_desk.specs.Ring.{line_of_inlet, words_ring_of_reader, given_of}
+use Rattle.timer_desk.specs.Winding.{IsReadOut, before}
+use Rattle.timer_desk.proofs.WindingLemmas.{last_is, below_stays, some_number, one_more_read, IsReadOut-same, can_be_read_out, still_waits}
 use Rattle.timer_desk.proofs.winding.wind_up.Goals as goal
 
 pub loop-inlet-preserved : goal.loop-inlet-preserved
@@ -38,7 +36,25 @@ loop-inlet-preserved g c =
       fewer = grind (arith, common_steps);
       as_many = grind (arith, common_steps);
       below = λ k r h. below_stays readers c.args.readers.items m x (λ k' r' h'. was.below k' r' (omega (arith, count))) k r (omega (arith, told));
-      read = λ k i r l h. one_more_read all start readers m x low here (λ k' i' r' l' h'. was.read k' i' r' (omega (arith, count)) h') k i r (omega (arith, told)) h;
+      named = was.named;
+      read = λ k i r l h. one_more_read all start readers m (before (length all) c.loop-inlet.unfinished) x low here (λ k' i' r' l' h'. was.read k' i' r' (omega (arith, count)) h') k i r (omega (arith, told)) h;
+    }
+
+pub loop-inlet-preserved-then-not-finish_line : goal.loop-inlet-preserved-then-not-finish_line
+loop-inlet-preserved-then-not-finish_line g c =
+    let was = c.loop-inlet.invariant in
+    let popped = c.in-Some.ensures in
+    let m = c.len-c.result in
+    let told = c.len-c.ensures in
+    let count : vec_len c.loop-inlet.inlets ≡ m + 1 = grind (arith, common_steps) in
+    let readers = c.loop-inlet.readers.items in
+    let x = c.finish_line.new.reader in record {
+      first = grind (arith, common_steps);
+      fewer = grind (arith, common_steps);
+      as_many = grind (arith, common_steps);
+      below = λ k r h. below_stays readers c.args.readers.items m x (λ k' r' h'. was.below k' r' (omega (arith, count))) k r (omega (arith, told));
+      named = λ k e. let same = some_number m k e in omega (arith, count, was.fewer, same);
+      read = λ k i r l h. absurd (omega (arith, told, l, h));
     }
 
 pub returns-clause-words : goal.returns-clause-words
@@ -51,7 +67,7 @@ returns-clause-words g c k i r low =
     let there : get_or all k i ≡ get_or c.loop-c.desk.inlets k i = ap (λ is. get_or is k i) c.end-facility.ensures.inlets in
     let keeps = c.loop-c.invariant.keeps in
     IsReadOut-same (get_or all k i) (get_or c.args.desk.inlets k i) (get_or c.args.readers.items k r) (get_or c.loop-inlet.readers.items k r)
-    (ap given_of there ∙ keeps.same_given k i low) (was.read k i r (omega (arith, none)) (omega (arith, ends, keeps.same_clients, low)))
+    (ap given_of there ∙ keeps.same_given k i low) (was.read k i r (omega (arith, none)) (subst (λ u. k < before (length all) u) (sym c.in-None.is) (omega (arith, ends, keeps.same_clients, low))))
 
 pub returns-then-not-is_done-clause-err : goal.returns-then-not-is_done-clause-err
 returns-then-not-is_done-clause-err g c =
@@ -59,17 +75,25 @@ returns-then-not-is_done-clause-err g c =
     let was = c.loop-c.invariant in
     let low : n < length c.args.desk.inlets = omega (arith, was.keeps.same_clients, was.as_many, c.requires.ended.as_many, c.loop-c.ended.ok, c.args.ended.ok, c.len-c-end.ensures, c.loop-c-test.true, c.loop-c.auto.c-end) in
     let here : n ≤ n = omega arith in
-    let in_ended : n < vec_len c.loop-c.ended = omega (arith, low, was.as_many, c.requires.ended.as_many, c.args.ended.ok) in
-    let waits = c.if-not-is_done.ensures.waiting refl in record {
+    let in_ended : n < vec_len c.loop-c.ended = omega (arith, low, was.as_many, c.requires.ended.as_many, c.args.ended.ok) in record {
       client = low;
       idle_before = was.idle;
       got_before = was.got;
-      waiting = inl (λ i e.
-          let same_end : c.index_mut.result.now ≡ get_or c.args.ended.items n e = c.index_mut.ensures.value ∙ was.later n c.index_mut.result.now here in_ended ∙ get_or_default c.args.ended.items n c.index_mut.result.now e (omega (arith, in_ended, was.as_many, c.args.ended.ok)) in
-          subst (λ (bs : List BacklogState). IsWaiting (get_or bs n _) (got_of (get_or c.args.desk.inlets n i)) (all_submitted (get_or c.args.ended.items n e))) was.keeps.same_backlogs
-          (subst (λ got. IsWaiting (backlog_at c.loop-c.desk n) got (all_submitted (get_or c.args.ended.items n e))) (was.keeps.same_got n i low)
-          (subst (λ x. IsWaiting (backlog_at c.loop-c.desk n) (got_of (get_or c.loop-c.desk.inlets n i)) (all_submitted x)) same_end (waits i))));
+      waiting = inl (still_waits n c.args.desk c.loop-c.desk c.args.ended.items c.index_mut.result.now was.keeps low
+          (λ e. c.index_mut.ensures.value ∙ was.later n c.index_mut.result.now here in_ended ∙ get_or_default c.args.ended.items n c.index_mut.result.now e (omega (arith, in_ended, was.as_many, c.args.ended.ok)))
+          (c.if-not-is_done.ensures.waiting refl));
     }
+
+pub returns-then-not-is_done-clause-first : goal.returns-then-not-is_done-clause-first
+returns-then-not-is_done-clause-first g c =
+    let n = c.loop-c.c in
+    let was = c.loop-c.invariant in
+    let low : n < length c.args.desk.inlets = omega (arith, was.keeps.same_clients, was.as_many, c.requires.ended.as_many, c.loop-c.ended.ok, c.args.ended.ok, c.len-c-end.ensures, c.loop-c-test.true, c.loop-c.auto.c-end) in
+    let here : n ≤ n = omega arith in
+    let in_ended : n < vec_len c.loop-c.ended = omega (arith, low, was.as_many, c.requires.ended.as_many, c.args.ended.ok) in
+    inl (still_waits n c.args.desk c.loop-c.desk c.args.ended.items c.index_mut.result.now was.keeps low
+    (λ e. c.index_mut.ensures.value ∙ was.later n c.index_mut.result.now here in_ended ∙ get_or_default c.args.ended.items n c.index_mut.result.now e (omega (arith, in_ended, was.as_many, c.args.ended.ok)))
+    (c.if-not-is_done.ensures.waiting refl))
 
 pub finish_line-requires : goal.finish_line-requires
 finish_line-requires g c =
@@ -92,17 +116,30 @@ finish_line-requires g c =
     let there : get_or all m i ≡ get_or c.loop-c.desk.inlets m i = ap (λ is. get_or is m i) c.end-facility.ensures.inlets in
     ap words_ring_of_reader (sym reader) ∙ old ∙ ap (λ l. l.1) (sym line) ∙ ap (λ x. (line_of_inlet x).1) (sym there) ∙ ap (λ x. (line_of_inlet x).1) (sym last)
 
-pub returns-then-not-finish_line-clause-err : goal.returns-then-not-finish_line-clause-err
-returns-then-not-finish_line-clause-err g c =
+pub returns-in-Some-unfinished-clause-err : goal.returns-in-Some-unfinished-clause-err
+returns-in-Some-unfinished-clause-err g c =
     let was = c.loop-inlet.invariant in
-    let m = c.len-c.result in
-    let count : vec_len c.loop-inlet.inlets ≡ m + 1 = let popped = c.in-Some.ensures in let told = c.len-c.ensures in grind (arith, common_steps) in
     let all = c.end-facility.result.1.items in
     let ends : length all ≡ length c.loop-c.desk.inlets = ap (λ is. length is) c.end-facility.ensures.inlets in
     let done = c.loop-c.invariant in
-    let n : c.loop-c.c ≡ length c.args.desk.inlets = omega (arith, c.loop-c.auto.c-end, c.len-c-end.ensures, c.loop-c-test.false, c.requires.ended.as_many, c.args.ended.ok) in record {
-      client = omega (arith, count, was.fewer, ends, done.keeps.same_clients);
-      idle_before = λ k l. done.idle k (omega (arith, count, was.fewer, ends, done.keeps.same_clients, n, l));
-      got_before = λ k i e l. done.got k i e (omega (arith, count, was.fewer, ends, done.keeps.same_clients, n, l));
+    let n : c.loop-c.c ≡ length c.args.desk.inlets = omega (arith, c.loop-c.auto.c-end, c.len-c-end.ensures, c.loop-c-test.false, c.requires.ended.as_many, c.args.ended.ok) in
+    let low : c.in-Some-unfinished.c < length all = was.named c.in-Some-unfinished.c c.in-Some-unfinished.is in record {
+      client = omega (arith, low, ends, done.keeps.same_clients);
+      idle_before = λ k l. done.idle k (omega (arith, low, ends, done.keeps.same_clients, n, l));
+      got_before = λ k i e l. done.got k i e (omega (arith, low, ends, done.keeps.same_clients, n, l));
       waiting = inr ((λ k l. done.idle k (omega (arith, n, l))), (λ k i e l. done.got k i e (omega (arith, n, l))));
     }
+
+pub returns-in-Some-unfinished-clause-first : goal.returns-in-Some-unfinished-clause-first
+returns-in-Some-unfinished-clause-first g c = inr (λ k i r l.
+    let was = c.loop-inlet.invariant in
+    let popped = c.in_default.ensures in
+    let none : vec_len c.loop-inlet.inlets ≡ 0 = grind (arith, common_steps) in
+    let all = c.end-facility.result.1.items in
+    let ends : length all ≡ length c.loop-c.desk.inlets = ap (λ is. length is) c.end-facility.ensures.inlets in
+    let there : get_or all k i ≡ get_or c.loop-c.desk.inlets k i = ap (λ is. get_or is k i) c.end-facility.ensures.inlets in
+    let keeps = c.loop-c.invariant.keeps in
+    let low : c.in-Some-unfinished.c < length all = was.named c.in-Some-unfinished.c c.in-Some-unfinished.is in
+    can_be_read_out (get_or all k i) (get_or c.args.desk.inlets k i) (get_or c.args.readers.items k r) (get_or c.loop-inlet.readers.items k r)
+    (ap given_of there ∙ keeps.same_given k i (omega (arith, low, ends, keeps.same_clients, l)))
+    (was.read k i r (omega (arith, none)) (subst (λ u. k < before (length all) u) (sym c.in-Some-unfinished.is) l)))

@@ -1,10 +1,10 @@
-use Rattle.std.proofs.Common.{◌≡◌, ◌<◌, ◌≤◌, ℕ, length, get_or, take, vec_len}
+use Rattle.std.proofs.Common.{◌≡◌, ◌<◌, ◌≤◌, ℕ, Some, length, get_or, take, vec_len}
 use Rattle.timer_desk.specs.declared.ring.RingInlet.{RingInlet}
 use Rattle.timer_desk.specs.declared.ring.RequestsEnded.{RequestsEnded}
 use Rattle.timer_desk.specs.declared.ring.ClientReader.{ClientReader}
 use Rattle.timer_desk.specs.Desk.{IsIdle, backlog_at}
 use Rattle.timer_desk.specs.Ring.{got_of, all_submitted}
-use Rattle.timer_desk.specs.Winding.{KeepsLines, IsReadOut}
+use Rattle.timer_desk.specs.Winding.{KeepsLines, IsReadOut, before}
 use Rattle.timer_desk.proofs.winding.wind_up.Given as goal
 
 -- the ends from c on are unchanged, and the clients below c are done
@@ -17,14 +17,16 @@ invariant-loop-c g l = record {
   got : (k : ℕ) (i : RingInlet) (e : RequestsEnded) → k < l.c → all_submitted (get_or l.fn.ended.items k e) ≡ got_of (get_or l.fn.desk.inlets k i);
 }
 
--- the lines left are the first ones, with their readers unchanged; the readers of the others are settled
+-- the lines left are the first ones, with their readers unchanged; of the others, the readers before the client that is named
+-- are settled
 abbrev pub invariant-loop-inlet : goal.invariant-loop-inlet
 invariant-loop-inlet g l = record {
   first : l.inlets.items ≡ take (vec_len l.inlets) l.initial.inlets.items;
   fewer : vec_len l.inlets ≤ length l.initial.inlets.items;
   as_many : vec_len l.readers ≡ vec_len l.fn.readers;
   below : (k : ℕ) (r : ClientReader) → k < vec_len l.inlets → get_or l.readers.items k r ≡ get_or l.fn.readers.items k r;
-  read : (k : ℕ) (i : RingInlet) (r : ClientReader) → vec_len l.inlets ≤ k → k < length l.initial.inlets.items
+  named : (c : ℕ) → l.unfinished ≡ Some c → c < length l.initial.inlets.items;
+  read : (k : ℕ) (i : RingInlet) (r : ClientReader) → vec_len l.inlets ≤ k → k < before (length l.initial.inlets.items) l.unfinished
       → IsReadOut (get_or l.initial.inlets.items k i) (get_or l.fn.readers.items k r) (get_or l.readers.items k r);
 }
 
