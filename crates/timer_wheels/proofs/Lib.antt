@@ -27,3 +27,4 @@ pub mod WakeUpLemmas
 pub mod SlotLaws
 pub mod WithdrawLemmas
 pub mod DeadlineLemmas
+pub mod VisitingLemmas
