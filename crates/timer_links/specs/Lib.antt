@@ -2,3 +2,4 @@
 pub mod Lists
 pub mod Ring
 pub mod Links
+pub mod Keys

@@ -11,6 +11,8 @@
 //! array (`ring`), so that changing a neighbour's link never touches the neighbour's node.
 ghost use Rattle.std.specs.Prelude.{◌≡◌, ◌≢◌, ◌<◌, ◌≤◌, ◌↔◌, IsTrue, Some, None, IfOk, OnErr, IfErr, IfSome, IsSome, length, map, [], replicate};
 ghost use Rattle.timer_links.specs.Lists.{node_at, first_key, with_row, row_count, list_at, without_key, front_moved, appended, PopsFront, AreApart, IsNext, SetsRounds, SetsNode, MovesBack, IsAloneIn, HasRounds};
+ghost use Rattle.timer_links.specs.Keys.{IsFirstUsed};
+ghost use Rattle.timer_links.specs.declared.ring.TheConstants.{PLACES};
 
 use crate::node::Node;
 use crate::ring::{PLACES, Sides, join, join_last, key_at, only_neighbour, reserve_place};
@@ -323,5 +325,20 @@ impl Links {
         join(sides, last, to as u32);
         // A ring of no nodes is a root between itself and itself.
         join(sides, from as u32, from as u32);
+    }
+
+    /// The first key in use from this one on, or None when no such key is in use. Does not allocate.
+    ///
+    /// It looks at each key on the way: there are no more keys than there ever were nodes at one time.
+    pub fn used_from(&self, from: usize) -> Option<usize>
+        ensures found { IsFirstUsed from self.now result }
+        ensures in_range { IfSome result (λ key. key < PLACES) }
+    {
+        for key in from..self.sides.len() - self.lists {
+            if self.nodes.contains(key) {
+                return Some(key);
+            }
+        }
+        None
     }
 }

@@ -17,7 +17,7 @@ pub enum StartFault {
 /// Why no timer was restarted. The old one is unchanged.
 #[derive(Clone, Copy, Debug, PartialEq, Eq, Error)]
 pub enum RestartFault {
-    #[error("no pending timer has this handle")]
+    #[error("no timer has this handle")]
     NotPending,
     #[error("the interval is 0")]
     ZeroInterval,

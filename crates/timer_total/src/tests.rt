@@ -1,7 +1,7 @@
 //! Each call once where it is accepted and once where it is refused, over the plain wheel.
 use crate::{RestartFault, StartFault, TickFault, Timers};
 use std::test::Fail;
-use timer_base::{Handle, LAST, PlainWheel, Timer};
+use timer_base::{Handle, LAST, PlainWheel, Timer, Wheel};
 
 fn action_of(timer: Option<Timer>) -> Option<u64> {
     match timer {
@@ -16,6 +16,7 @@ fn starts_restarts_stops_and_expires(rt: HostRuntime) -> Result<(), Fail> {
     assert!(rt; timers.now() == 100);
     assert!(rt; !timers.has_due());
     assert!(rt; timers.quiet_until().is_none());
+    assert!(rt; timers.next_deadline().is_none());
     let first = timers.start(3, 11)?;
     let second = timers.start(3, 22)?;
     let third = timers.start(50, 33)?;
@@ -35,6 +36,8 @@ fn starts_restarts_stops_and_expires(rt: HostRuntime) -> Result<(), Fail> {
     assert!(rt; timers.start_at(100, 1) == Err(StartFault::ZeroInterval));
     assert!(rt; timers.start_at(LAST + 1, 1) == Err(StartFault::TooLate));
     assert!(rt; timers.quiet_until() == Some(103));
+    assert!(rt; timers.next_deadline() == Some(103));
+    assert!(rt; timers.wheel().now() == 100);
     timers.tick()?;
     assert!(rt; timers.advance(0)? == 0);
     assert!(rt; timers.advance(10)? == 2);

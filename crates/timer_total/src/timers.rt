@@ -46,6 +46,13 @@ impl<W: Wheel + Drop> Timers<W> {
         self.wheel.now()
     }
 
+    /// The wheel, for what only its own readers show. Its last serial may be lower than that of the timers.
+    pub fn wheel(&self) -> &W
+        ensures { numbered self.now.last_serial (W.state result.now) ≡ self.now }
+    {
+        &self.wheel
+    }
+
     /// How many timers are pending. Expired timers that were not yet taken are not counted.
     pub fn len(&self) -> usize
         ensures { result ≡ length self.now.pending }
@@ -134,8 +141,8 @@ impl<W: Wheel + Drop> Timers<W> {
         }
     }
 
-    /// Starts a timer that expires at this tick, which is after the present one, under the next serial: as a
-    /// start with what is left until then, and so ZeroInterval for a tick that isn't.
+    /// Starts a timer that expires at the tick `deadline`, under the next serial. A tick that is not after the
+    /// present one is refused as `ZeroInterval`, and the other errors are those of `start`.
     pub fn start_at(&mut self, deadline: u64, action: u64) -> Result<Handle, StartFault>
         ensures started { IfOk result (λ handle. self.new ≡ after_start handle.place (timer_due deadline action self.old) self.old) }
         ensures named { IfOk result (λ handle. handle.serial ≡ self.old.last_serial + 1) }
@@ -148,14 +155,15 @@ impl<W: Wheel + Drop> Timers<W> {
         self.start(interval, action)
     }
 
-    /// How many ticks are left until this one, 0 where it is not after the present one.
+    /// How many ticks are left until this one, or 0 if it is not after the present one.
     pub fn until(&self, deadline: u64) -> u64
         ensures { result ≡ left_until deadline self.now }
     {
         deadline.saturating_sub(self.wheel.now())
     }
 
-    /// The timer with exactly this handle: pending, or expired and not yet taken.
+    /// The timer with exactly this handle, pending or expired and not yet taken, or None if there is none.
+    /// Does not allocate.
     pub fn look(&self, handle: Handle) -> Option<Timer>
         ensures { result ≡ held_at handle self.now }
     {
@@ -165,7 +173,7 @@ impl<W: Wheel + Drop> Timers<W> {
         }
     }
 
-    /// Removes the timer with exactly this handle, pending or expired and not yet taken, and returns it. Where
+    /// Removes the timer with exactly this handle, pending or expired and not yet taken, and returns it. If
     /// there is none, nothing changes. Does not allocate.
     pub fn stop(&mut self, handle: Handle) -> Option<Timer>
         ensures timer { result ≡ held_at handle self.old }
@@ -207,7 +215,8 @@ impl<W: Wheel + Drop> Timers<W> {
         }
     }
 
-    /// As a restart with what is left until this tick: ZeroInterval for a tick that isn't after the present one.
+    /// Removes the timer with exactly this handle, as `restart`, and starts one that expires at the tick
+    /// `deadline`. A tick that is not after the present one is refused as `ZeroInterval`. Does not allocate.
     pub fn restart_at(
         &mut self,
         handle: Handle,

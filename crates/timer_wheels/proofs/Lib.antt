@@ -29,3 +29,4 @@ pub mod WakeUpLemmas
 pub mod SlotLaws
 pub mod WithdrawLemmas
 pub mod DeadlineLemmas
+pub mod VisitingLemmas

@@ -16,3 +16,4 @@ pub mod Hier
 pub mod Tables
 pub mod HierWheel
 pub mod Deadlines
+pub mod HeldPlaces

@@ -58,6 +58,7 @@ ghost use Rattle.timer_wheels.specs.Leap.{IsNextVisit};
 ghost use Rattle.timer_wheels.specs.Tables.{radices, last_of_table};
 ghost use Rattle.timer_wheels.specs.declared.table.Table.TheVariants.{Wide};
 ghost use Rattle.timer_wheels.specs.Occupied.{AreMarked, AreMarked-prop};
+ghost use Rattle.timer_wheels.specs.HeldPlaces.{IsFirstHeld};
 ghost use Rattle.timer_wheels.specs.Hier.{ArePlaced, ArePlaced-prop};
 ghost use Rattle.timer_wheels.specs.Placement.{ShowsWheels, IsPaid, most_moves};
 
@@ -69,6 +70,7 @@ use crate::migration::next_tick;
 use crate::occupied::Occupied;
 use crate::stopping::{restart_timer, revive_timer, stop_timer};
 use crate::table::Table;
+use crate::visiting::held_from;
 use std::alloc::Global;
 use timer_base::{Handle, LAST, MakeFault, OutOfMemory, Timer, Wheel};
 use timer_links::Links;
@@ -205,6 +207,17 @@ impl HierWheel {
         ensures { result ≡ (counts_of self.now).visits }
     {
         self.buckets.tick - self.counts.skipped
+    }
+
+    /// The handle of the timer, pending or due, at this place or the first later one that has a timer, or None
+    /// when there is none. Does not allocate.
+    ///
+    /// It looks at each place on the way: there are no more places than there ever were timers at one time.
+    pub fn held_from(&self, place: usize) -> Option<Handle>
+        ensures first { IsFirstHeld place (hier_state self.now) result }
+        ensures in_range { IfSome result (λ handle. handle.place < 4294967296) }
+    {
+        held_from(&self.buckets, place)
     }
 }
 

@@ -1,0 +1,24 @@
+-- The places at which timers are held, in the order of their numbers.
+use Rattle.std.specs.Prelude.{◌<◌, ◌≤◌, ◌⊎◌, ℕ, List, Option, Some, None, IsSome}
+use Rattle.std.specs.List.{AllByRecursion}
+use Rattle.timer_base.specs.declared.timer.Handle.{Handle}
+use Rattle.timer_base.specs.Pending.{Entry}
+use Rattle.timer_base.specs.WheelState.{WheelState, timer_at, due_at}
+
+-- none of the timers has a place from the first one up to the second
+abbrev pub AreElsewhere : ℕ → ℕ → List Entry → Type 0
+AreElsewhere from to entries = AllByRecursion (λ entry. (entry.place < from) ⊎ (to ≤ entry.place)) entries
+
+-- the places of the timers are below this one
+abbrev pub AreBefore : ℕ → List Entry → Type 0
+AreBefore from entries = AllByRecursion (λ entry. entry.place < from) entries
+
+-- a timer is pending or due under this handle
+abbrev pub IsHeld : Handle → WheelState → Type 0
+IsHeld handle w = IsSome (timer_at handle w) ⊎ IsSome (due_at handle w)
+
+-- the handle of the timer at the first place from this one on, and none exactly where no place from it on has a timer
+abbrev pub IsFirstHeld : ℕ → WheelState → Option Handle → Type 0
+IsFirstHeld from w None = AreBefore from w.pending × AreBefore from w.due
+IsFirstHeld from w (Some handle) =
+    (from ≤ handle.place) × IsHeld handle w × AreElsewhere from handle.place w.pending × AreElsewhere from handle.place w.due
