@@ -6,6 +6,7 @@ use Rattle.std.proofs.lemmas.List.{get_or-set_same, get_or-set_other, get_or-tak
 use Rattle.timer_desk.specs.declared.ring.RingInlet.{RingInlet}
 use Rattle.timer_desk.specs.declared.ring.ClientReader.{ClientReader}
 use Rattle.timer_desk.specs.declared.ring.RequestsEnded.{RequestsEnded}
+use Rattle.timer_desk.specs.declared.word.Numbered.{Numbered}
 use Rattle.timer_desk.specs.Backlog.{BacklogState, empty_backlog}
 use Rattle.timer_desk.specs.Desk.{DeskState, clients_of, backlog_at}
 use Rattle.timer_desk.specs.Ring.{got_of, given_of, all_submitted}
@@ -37,20 +38,23 @@ pub IsReadOut-same : (i j : RingInlet) (before after : ClientReader) → given_o
 IsReadOut-same i j before after e h = record { line = h.line; read = h.read; settled = h.settled; all = h.all ∙ e }
 
 -- so the reader before shows that the line can be finished
-pub can_be_read_out : (i j : RingInlet) (before after : ClientReader) → given_of i ≡ given_of j → IsReadOut i before after → CanBeReadOut j before
+pub can_be_read_out : (i j : RingInlet) (before after : ClientReader) → given_of i ≡ given_of j → IsReadOut i before after
+    → CanBeReadOut j before
 can_be_read_out i j before after e h = record { settled = after; read_out = IsReadOut-same i j before after e h }
 
 pub some_number : (m n : ℕ) → Some m ≡ Some n → m ≡ n
 some_number m n h = cc
 
 -- what waited after some lines were settled waited before
-pub still_waits : (n : ℕ) (old new : DeskState RingInlet) (ended : List RequestsEnded) (x : RequestsEnded) → KeepsLines old new → n < clients_of old
+pub still_waits : (n : ℕ) (old new : DeskState RingInlet) (ended : List RequestsEnded) (x : RequestsEnded)
+    → KeepsLines old new → n < clients_of old
     → ((e : RequestsEnded) → x ≡ get_or ended n e)
     → ((i : RingInlet) → IsWaiting (backlog_at new n) (got_of (get_or new.inlets n i)) (all_submitted x))
     → (i : RingInlet) (e : RequestsEnded) → IsWaiting (backlog_at old n) (got_of (get_or old.inlets n i)) (all_submitted (get_or ended n e))
 still_waits n old new ended x keeps low is waits i e =
-    subst (λ (bs : List BacklogState). IsWaiting (get_or bs n (empty_backlog 0)) (got_of (get_or old.inlets n i)) (all_submitted (get_or ended n e))) keeps.same_backlogs
-    (subst (λ got. IsWaiting (backlog_at new n) got (all_submitted (get_or ended n e))) (keeps.same_got n i low)
+    let all : List Numbered = all_submitted (get_or ended n e) in
+    subst (λ (bs : List BacklogState). IsWaiting (get_or bs n (empty_backlog 0)) (got_of (get_or old.inlets n i)) all) keeps.same_backlogs
+    (subst (λ got. IsWaiting (backlog_at new n) got all) (keeps.same_got n i low)
     (subst (λ y. IsWaiting (backlog_at new n) (got_of (get_or new.inlets n i)) (all_submitted y)) (is e) (waits i)))
 
 pub one_more_read : (all : List RingInlet) (start rs : List ClientReader) (m n : ℕ) (x : ClientReader) → m < length rs

@@ -59,7 +59,8 @@ pub record CanBeReadOut (inlet : RingInlet) (reader : ClientReader) : Type 0 whe
 
 -- so for each client before c
 abbrev pub AreReadOutBefore : List RingInlet → List ClientReader → ℕ → Type 0
-AreReadOutBefore inlets readers c = (k : ℕ) (i : RingInlet) (r : ClientReader) → k < c → CanBeReadOut (get_or inlets k i) (get_or readers k r)
+AreReadOutBefore inlets readers c = (k : ℕ) (i : RingInlet) (r : ClientReader) → k < c
+    → CanBeReadOut (get_or inlets k i) (get_or readers k r)
 
 -- something of this client waits; or nothing of any client does, and it is its line that could not be finished. Nothing of
 -- a client before it waits.
@@ -74,7 +75,8 @@ pub record IsBlamed (desk : DeskState RingInlet) (ended : List RequestsEnded) (c
 -- something of this client waits; or its line is the first that could not be finished
 abbrev pub IsFirstBlamed : DeskState RingInlet → List RequestsEnded → List ClientReader → ℕ → Type 0
 IsFirstBlamed desk ended readers c =
-    ((i : RingInlet) (e : RequestsEnded) → IsWaiting (backlog_at desk c) (got_of (get_or desk.inlets c i)) (all_submitted (get_or ended c e)))
+    ((i : RingInlet) (e : RequestsEnded)
+    → IsWaiting (backlog_at desk c) (got_of (get_or desk.inlets c i)) (all_submitted (get_or ended c e)))
     ⊎ AreReadOutBefore desk.inlets readers c
 
 -- how many of the first clients come before the one that is named; all of them if none is
