@@ -67,6 +67,10 @@ impl<W: Wheel> Wheel for Refusing<W> {
         self.wheel.quiet_until()
     }
 
+    fn next_deadline(&self) -> Option<u64> {
+        self.wheel.next_deadline()
+    }
+
     fn per_tick(&mut self) {
         self.wheel.per_tick();
     }
