@@ -6,8 +6,8 @@
  *     timers_start_at, timers_restart_at - the same, for a tick in place of an interval
  *     timers_tick, timers_advance - pass ticks
  *     timers_expire, timers_expire_batch - take expired timers
- *     timers_look - read a timer
- *     timers_now, timers_len, timers_has_due, timers_wakeup - read the state
+ *     timers_look, timers_each - read one timer, visit all of them
+ *     timers_now, timers_len, timers_has_due, timers_wakeup, timers_next - read the state
  *
  * SYNOPSIS
  *     #include <timers.h>
@@ -15,73 +15,80 @@
  *
  * DESCRIPTION
  *     A `struct timers` owns timers and a clock of ticks. The length of a tick is the caller's choice: a
- *     millisecond, a frame, a retransmission unit. A timer is started with an interval in ticks and a value,
- *     its action. Only timers_tick and timers_advance advance the clock. A timer whose deadline is the
- *     present tick has expired: it is no longer pending, and waits until timers_expire takes it.
- *     Timers expire in the order of their deadlines, and those of one deadline in the order of their starts.
- *     While expired timers wait, others may be started, restarted and stopped, for instance by the work
- *     that the first of them triggers; only the clock stands still until all of them are taken (TIMERS_DUE).
- *     An expired timer that was not yet taken can be stopped and restarted too: where timers_stop returns
- *     TIMERS_OK, timers_expire does not hand the timer out. So where the work of one timer frees what the
- *     action of another points to, it stops the other, whether that has expired or not. Of timers that
- *     timers_expire_batch has written to an array this holds no more: they are taken.
+ *     millisecond, a frame, a retransmission unit. A timer is started with an interval in ticks and a
+ *     value, its action. Only timers_tick and timers_advance advance the clock. A timer whose deadline is
+ *     the present tick has expired: it is no longer pending, and waits until timers_expire takes it. Timers
+ *     expire in the order of their deadlines, and those of one deadline in the order of their starts. While
+ *     expired timers wait, others may be started, restarted and stopped, for instance by the work that the
+ *     first of them triggers; only the clock stands still until all of them are taken (TIMERS_DUE). An
+ *     expired timer that was not yet taken can be stopped and restarted too: after a timers_stop that
+ *     returned TIMERS_OK, neither timers_expire nor timers_expire_batch hands the timer out. So if the work
+ *     of one timer frees what the action of another points to, it stops the other, whether that has expired
+ *     or not. A timer that timers_expire_batch has written to an array is taken, and can't be stopped any
+ *     more: if the work of one can free what another of the array points to, take them one at a time.
  *
- *     An interval counts from the present tick, the one up to which the clock was advanced last. Where the clock
- *     is behind the real time, as it is while input is handled, the timer expires that much too early: advance
- *     the clock first, or give timers_start_at the tick that is meant. A caller that rounds the real time down to a
- *     tick starts a timer somewhere within that tick, so that an interval of n ticks lasts more than n - 1 and at
- *     most n: add 1 where it must last no less than n.
+ *     An interval counts from the present tick, the one up to which the clock was advanced last. While the
+ *     clock is behind the real time, as it is while input is handled, a timer expires that much too early:
+ *     advance the clock first, or give timers_start_at the tick that is meant. A caller that rounds the
+ *     real time down to a tick starts a timer somewhere within that tick, so that an interval of n ticks
+ *     lasts more than n - 1 and at most n: add 1 if it must last no less than n. An interval of 0 is
+ *     refused: its timer would belong to a tick that has already begun, and whoever takes what expires
+ *     until nothing is left might never finish. For work that is due at once, call it, or start a timer of
+ *     1 tick.
  *
- *     Restart, stop, look and expire take constant time. So does a start, amortised: the timers are in tables that
- *     grow, and a start that finds them full moves all timers to larger ones. A tick takes time for the timers
- *     that expire at it and those that move to a lower wheel, and timers_advance skips stretches in which
- *     nothing happens. Only timers_new, timers_start and timers_start_at allocate.
+ *     Restart, stop, look and expire take constant time. So does a start, amortised: the timers are in
+ *     tables that grow, and a start that finds them full moves all timers to larger ones. A tick takes time
+ *     for the timers that expire at it and those that move to a lower wheel, and timers_advance skips
+ *     stretches in which nothing happens. timers_next may walk one bucket. Only timers_new, timers_start
+ *     and timers_start_at allocate. A restart never does, so a timer that the work of another re-arms by
+ *     timers_restart needs no memory. Memory is kept for later starts until timers_free.
  *
  *     The library is proved: each function meets the contract stated in crates/timer_c/src/exports.rt, for
  *     every call that keeps the rules below. Nothing checks that a caller keeps them.
  *
  * RULES
  *     1. A `struct timers` begins as TIMERS_INIT, or with all its bytes 0: static storage, calloc and
- *        memset will do. Only these functions write it. It must not be copied, since it owns memory; it
- *        may be moved by a memcpy after which the old one is not used. No function, timers_new included,
- *        may be given uninitialised memory: it could not be known whether that owns timers.
- *     2. A pointer argument is not NULL and points to an object of its type that this call alone uses;
- *        no two arguments of one call overlap.
+ *        memset will do. Only these functions write it. It must not be copied, since it owns memory; it may
+ *        be moved by a memcpy after which the old one is not used. No function, timers_new included, may be
+ *        given uninitialised memory: it could not be known whether that owns timers.
+ *     2. A pointer argument is not NULL and points to an object of its type that this call alone uses; no
+ *        two arguments of one call overlap.
  *     3. Where an argument is only written (handle, restarted, action, passed, out), the object may be
- *        uninitialised: it has only integers, so that any bits are a value, and no function reads it.
- *        It is written exactly where the function says so, and otherwise unchanged.
- *     4. Calls on one `struct timers` come one at a time, those that take a const one too. It may be handed from thread to thread, by a
- *        lock or by a thread's start or join. Calls on two of them are independent.
- *     5. malloc, realloc and free are one allocator, and align as C requires. Link with no other definition of
- *        rattle_alloc, rattle_dealloc and rattle_realloc than the library's.
- *     6. No call comes from a signal handler, or from the forked child of a process with threads.
+ *        uninitialised: it has only integers, so that any bits are a value, and no function reads it. It is
+ *        written exactly where the function says so, and otherwise unchanged.
+ *     4. Calls on one `struct timers` come one at a time, also those that take a const one. It may be
+ *        handed from thread to thread, by a lock or by a thread's start or join. Calls on two of them are
+ *        independent.
+ *     5. malloc, realloc and free are one allocator, and align as C requires. The timers are freed in a
+ *        process that has the allocator which they came from.
+ *     6. No call comes from a signal handler, or from the forked child of a process with threads. (The
+ *        child of a process without threads has a copy of its own, with the same handles.)
  *
- *     Nothing else is required. A call before timers_new, after timers_free, or in the wrong order
- *     returns a status and changes nothing.
+ *     Nothing else is required. A call before timers_new, after timers_free, or in the wrong order returns
+ *     a status and changes nothing.
  *
  * HANDLES
- *     A handle names a timer of the `struct timers` that returned it. It is dead once its timer was stopped,
- *     restarted or taken, and never names another timer of that struct: serials continue after timers_free and
- *     timers_new. (Setting a struct to TIMERS_INIT again resets them.) It must be used with that struct alone:
- *     each struct counts serials from 1, so that in another one it may name a timer that is there.
+ *     A handle is for the `struct timers` that returned it. It is dead once its timer was stopped,
+ *     restarted or taken, and never names another timer of that struct: serials continue after timers_free
+ *     and timers_new. (Setting a struct to TIMERS_INIT again resets them.) Nothing marks to which struct a
+ *     handle belongs: each struct counts serials from 1, so in another struct the same handle may name a
+ *     timer that is there.
  *
  * ACTIONS
  *     An action is any 64 bits. For a pointer give (uint64_t)(uintptr_t)p, and read it as
- *     (void *)(uintptr_t)action. The timers never follow it: whoever frees what it points to stops the timer first.
- *     timers_free drops what it holds without a word. To take all of it out before, in the order of the deadlines:
+ *     (void *)(uintptr_t)action. The timers never follow it: whoever frees what it points to stops the
+ *     timer first. timers_free drops the timers and says nothing of their actions. To release these first:
  *
- *         struct timer_expired out;
- *         uint64_t passed;
- *         do {
- *             while (timers_expire(&t, &out))
- *                 release((void *)(uintptr_t)out.action);
- *         } while (timers_advance(&t, UINT64_MAX, &passed) == TIMERS_OK);
+ *         size_t cursor = 0;
+ *         struct timer_handle handle;
+ *         struct timer_expired timer;
+ *         while (timers_each(&t, &cursor, &handle, &timer))
+ *             release((void *)(uintptr_t)timer.action);
+ *         timers_free(&t);
  *
- *     It ends with the clock at its last tick, where no timer is left.
- *
- * STATUS
- *     Each call that can fail returns one: the first that applies, in the order of the function's comment.
- *     At any but TIMERS_OK nothing has changed, in the timers or in what the arguments point to.
+ * ERRORS
+ *     Each call that can fail returns a status: the first that applies, in the order of the function's
+ *     comment. At any but TIMERS_OK nothing has changed, in the timers or in what the arguments point to.
  */
 #ifndef TIMERS_H
 #define TIMERS_H
@@ -89,6 +96,16 @@
 #include <stdbool.h>
 #include <stddef.h>
 #include <stdint.h>
+
+/* The version of this header. */
+#define TIMERS_VERSION "1.0.0"
+
+/* Marks the calls whose result is there only at TIMERS_OK: the compiler warns if their status is not read. */
+#if defined(__GNUC__) || defined(__clang__)
+#define TIMERS_CHECKED __attribute__((warn_unused_result))
+#else
+#define TIMERS_CHECKED
+#endif
 
 #ifdef __cplusplus
 extern "C" {
@@ -116,7 +133,7 @@ enum timers_table {
 
 #define TIMERS_LAST UINT64_C(1152921504606846975)   /* 2^60 - 1 */
 #define TIMERS_CLOCK_LAST UINT64_C(8639999)         /* day 99, 23:59:59 */
-#define TIMERS_NEVER UINT64_MAX                     /* of timers_wakeup: nothing is pending */
+#define TIMERS_NEVER UINT64_MAX                     /* of timers_wakeup and timers_next: no timer is held */
 
 /* Private: see rule 1. */
 struct timers {
@@ -141,76 +158,97 @@ struct timer_expired {
 /* Makes timers with this table (enum timers_table), none of them pending, at the first tick. `t` holds them
  * until timers_free. It must begin as TIMERS_INIT or as 0 bytes (rule 1).
  * TIMERS_OPEN, TIMERS_NO_TABLE, TIMERS_TOO_LATE, TIMERS_NO_MEMORY. */
+TIMERS_CHECKED
 enum timers_status timers_new(struct timers *t, uint32_t table, uint64_t first_tick);
 
 /* Frees the timers, if it holds any: pending and expired ones are dropped. timers_new may follow. Does
- * nothing where it holds none, so it may be called twice. */
+ * nothing if it holds none, so it may be called twice. */
 void timers_free(struct timers *t);
 
 /* Starts a timer that expires after `interval` ticks, 1 or more, and hands `action` back with it.
  * Writes `*handle` at TIMERS_OK.
  * TIMERS_NOT_OPEN, TIMERS_ZERO_INTERVAL, TIMERS_TOO_LATE, TIMERS_SERIALS_SPENT, TIMERS_NO_MEMORY. */
+TIMERS_CHECKED
 enum timers_status timers_start(struct timers *t, uint64_t interval, uint64_t action, struct timer_handle *handle);
 
-/* Starts a timer that expires at the tick `deadline`, which is after the present one, as timers_start. Returns
- * TIMERS_ZERO_INTERVAL for a tick that is not. The other statuses are those of timers_start. */
+/* Starts a timer that expires at the tick `deadline`, which is after the present one, as timers_start.
+ * Returns TIMERS_ZERO_INTERVAL for a tick that is not. The other statuses are those of timers_start. */
+TIMERS_CHECKED
 enum timers_status timers_start_at(struct timers *t, uint64_t deadline, uint64_t action, struct timer_handle *handle);
 
-/* Stops the timer with this handle, as timers_stop, and starts another in its place, as timers_start. On failure
- * the old one stays as it is. Writes `*restarted`, the new handle, at TIMERS_OK: `handle` is dead then. Does
- * not allocate.
+/* Stops the timer with this handle, as timers_stop, and starts another in its place, as timers_start. On
+ * failure the old one stays as it is. Writes `*restarted`, the new handle, at TIMERS_OK: `handle` is dead
+ * then. Does not allocate.
  * TIMERS_NOT_OPEN, TIMERS_NOT_PENDING, TIMERS_ZERO_INTERVAL, TIMERS_TOO_LATE, TIMERS_SERIALS_SPENT. */
+TIMERS_CHECKED
 enum timers_status timers_restart(struct timers *t, struct timer_handle handle, uint64_t interval, uint64_t action,
                                   struct timer_handle *restarted);
 
 /* Stops the timer with this handle and starts one that expires at the tick `deadline`: timers_restart, with a
  * tick as timers_start_at. The statuses are those of timers_restart. */
+TIMERS_CHECKED
 enum timers_status timers_restart_at(struct timers *t, struct timer_handle handle, uint64_t deadline, uint64_t action,
                                      struct timer_handle *restarted);
 
-/* Stops the timer with this handle, which is pending, or has expired and was not yet taken: it is not handed out
- * any more. Writes `*action`, its action, at TIMERS_OK.
+/* Stops the timer with this handle, which is pending, or has expired and was not yet taken: it is not
+ * handed out any more. Writes `*action`, its action, at TIMERS_OK.
  * TIMERS_NOT_OPEN, TIMERS_NOT_PENDING. */
 enum timers_status timers_stop(struct timers *t, struct timer_handle handle, uint64_t *action);
 
-/* Writes `*out`, the timer with this handle, at TIMERS_OK. It is pending where its deadline is after timers_now,
- * by as many ticks as it has left; where that is timers_now, it has expired and was not yet taken.
+/* Writes `*out`, the timer with this handle, at TIMERS_OK. If its deadline is after timers_now it is
+ * pending, and the difference is the number of ticks that it has left; otherwise it has expired and was not
+ * yet taken.
  * TIMERS_NOT_OPEN, TIMERS_NOT_PENDING. */
+TIMERS_CHECKED
 enum timers_status timers_look(const struct timers *t, struct timer_handle handle, struct timer_expired *out);
+
+/* Visits every timer, pending or expired and not yet taken, in no particular order. `*cursor` is 0 at the
+ * first call. Each call that finds a timer writes it to `*out` and its handle to `*handle`, moves `*cursor`
+ * on and returns true; at the end it returns false and writes nothing. Between two calls timers may be
+ * started, stopped, restarted and taken: one that is there all the time is visited exactly once. A whole
+ * visit takes time for the most timers that were ever held at once. false if it holds none. */
+bool timers_each(const struct timers *t, size_t *cursor, struct timer_handle *handle, struct timer_expired *out);
 
 /* Advances the clock by one tick. The timers with that deadline expire, and wait for timers_expire.
  * TIMERS_NOT_OPEN, TIMERS_DUE, TIMERS_CLOCK_END. */
 enum timers_status timers_tick(struct timers *t);
 
 /* Passes at most `most` ticks, and stops at the first at which a timer expires. Writes `*passed`, how many
- * were passed, at TIMERS_OK: 0 only where `most` is 0, and fewer than `most` only where a timer has
- * expired or the clock is at its last tick.
+ * were passed, at TIMERS_OK: 0 only if `most` is 0, and fewer than `most` only if a timer has expired or the
+ * clock is at its last tick.
  * TIMERS_NOT_OPEN, TIMERS_DUE, TIMERS_CLOCK_END. */
 enum timers_status timers_advance(struct timers *t, uint64_t most, uint64_t *passed);
 
 /* Takes the first of the expired timers, in the order of their starts. Returns whether there was one, and
- * writes `*out` exactly then. false where it holds none. */
+ * writes `*out` exactly then. false if it holds none. */
 bool timers_expire(struct timers *t, struct timer_expired *out);
 
-/* Takes the first of the expired timers, as many as there are and as fit into out[0] to out[room - 1]. Returns
- * how many, and writes that many of `out`. `out` must not be NULL, even where `room` is 0. 0 where it holds none. */
+/* Takes the first of the expired timers, as many as there are and as fit into out[0] to out[room - 1].
+ * Returns how many, and writes that many of `out`. `out` must not be NULL, even if `room` is 0. 0 if it
+ * holds none. */
 size_t timers_expire_batch(struct timers *t, struct timer_expired *out, size_t room);
 
-/* Whether an expired timer was not yet taken. false where it holds none. */
+/* Whether an expired timer was not yet taken. false if it holds none. */
 bool timers_has_due(const struct timers *t);
 
-/* The present tick. 0 where it holds none. */
+/* The present tick. 0 if it holds none. */
 uint64_t timers_now(const struct timers *t);
 
-/* How many timers are pending. Expired timers are not counted. 0 where it holds none. While expired timers
+/* How many timers are pending. Expired timers are not counted. 0 if it holds none. While expired timers
  * wait, it takes time for each of them: timers_has_due says in constant time whether any wait. */
 size_t timers_len(const struct timers *t);
 
-/* The tick until which the caller may sleep: the present one where an expired timer waits to be taken,
- * TIMERS_NEVER where nothing is pending (or it holds none), and otherwise a tick after the present one, at
+/* The tick until which the caller may sleep: the present one if an expired timer waits to be taken,
+ * TIMERS_NEVER if nothing is pending (or it holds none), and otherwise a tick after the present one, at
  * most the first deadline, before which nothing expires. Call it again once the clock is there: it may be
- * before the first deadline, as the wheels don't search for that. */
+ * before the first deadline, as the wheels don't search for that. Constant time. */
 uint64_t timers_wakeup(const struct timers *t);
+
+/* The deadline of the timer that is taken next, exactly: the present tick if an expired timer waits to be
+ * taken, TIMERS_NEVER if nothing is pending (or it holds none), and otherwise the first pending deadline.
+ * Takes constant time if that comes before the next multiple of 64 ticks (of TIMERS_CLOCK, 60), and
+ * otherwise walks the timers of one bucket. A loop that only sleeps can use timers_wakeup. */
+uint64_t timers_next(const struct timers *t);
 
 /* The text of a status, for messages. */
 static inline const char *timers_message(enum timers_status status)
@@ -247,6 +285,7 @@ TIMERS_ASSERT(sizeof(struct timer_handle) == 16 && offsetof(struct timer_handle,
 TIMERS_ASSERT(sizeof(struct timer_expired) == 24 && offsetof(struct timer_expired, deadline) == 0
               && offsetof(struct timer_expired, serial) == 8 && offsetof(struct timer_expired, action) == 16, "struct timer_expired");
 #undef TIMERS_ASSERT
+#undef TIMERS_CHECKED
 
 #ifdef __cplusplus
 }

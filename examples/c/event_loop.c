@@ -111,6 +111,7 @@ int main(void)
 			return 1;
 		}
 		wakeups++;
+		catch_up(milliseconds());     /* first: an interval that input starts counts from the present tick */
 		if (input.revents != 0) {
 			char line[256];
 			ssize_t count = read(STDIN_FILENO, line, sizeof line);
@@ -118,7 +119,6 @@ int main(void)
 			if (count <= 0)
 				input.fd = -1;        /* poll ignores it from now on */
 		}
-		catch_up(milliseconds());
 	}
 	fprintf(stderr, "%u wake-ups\n", wakeups);
 	timers_free(&timers);

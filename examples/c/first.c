@@ -10,11 +10,11 @@ int main(void)
 	struct timer_handle tea, egg, call;
 	struct timer_expired e;
 	uint64_t passed, action;
-	if (timers_new(&t, TIMERS_WIDE, 0) != TIMERS_OK)
+	if (timers_new(&t, TIMERS_WIDE, 0) != TIMERS_OK               /* the clock is at tick 0 */
+	    || timers_start(&t, 300, 'T', &tea) != TIMERS_OK          /* 'T' comes back at tick 300 */
+	    || timers_start(&t, 240, 'E', &egg) != TIMERS_OK
+	    || timers_start(&t, 900, 'C', &call) != TIMERS_OK)
 		return 1;
-	timers_start(&t, 300, 'T', &tea);
-	timers_start(&t, 240, 'E', &egg);
-	timers_start(&t, 900, 'C', &call);
 	timers_stop(&t, call, &action);
 	while (timers_len(&t) > 0) {
 		timers_advance(&t, timers_wakeup(&t) - timers_now(&t), &passed);

@@ -98,6 +98,15 @@ static uint64_t random_interval(void)
 	}
 }
 
+/* The index of the timer with this handle, or `count`. */
+static size_t index_of(struct timer_handle handle)
+{
+	for (size_t i = 0; i < count; i++)
+		if (list[i].place == handle.place && list[i].serial == handle.serial)
+			return i;
+	return count;
+}
+
 /* A handle, mostly of a timer that is pending or due; its index in the list, or `count` where it names none. */
 static size_t random_handle(struct timer_handle *handle)
 {
@@ -113,13 +122,10 @@ static size_t random_handle(struct timer_handle *handle)
 	} else {
 		*handle = (struct timer_handle){ (size_t)next_random(), below(last_serial + 2) };
 	}
-	for (size_t i = 0; i < count; i++)
-		if (list[i].place == handle->place && list[i].serial == handle->serial)
-			return i;
-	return count;
+	return index_of(*handle);
 }
 
-static uint64_t statuses[11], starts, restarts, stops, revivals, withdrawals, expiries, ticks, refused_while_due, most_pending;
+static uint64_t statuses[11], starts, restarts, stops, revivals, withdrawals, expiries, ticks, refused_while_due, most_pending, visits, early_wakeups;
 
 static void seen(enum timers_status status)
 {
@@ -284,7 +290,7 @@ static void do_expire_batch(struct timers *t)
 
 static void look(struct timers *t)
 {
-	uint64_t wakeup = timers_wakeup(t);
+	uint64_t wakeup = timers_wakeup(t), next = timers_next(t);
 	WANT("now", timers_now(t), now);
 	WANT("len", timers_len(t), count - due);
 	WANT("has due", timers_has_due(t), due > 0);
@@ -294,6 +300,39 @@ static void look(struct timers *t)
 		WANT("wake-up where nothing is pending", wakeup, TIMERS_NEVER);
 	else
 		WANT("wake-up in time", wakeup > now && wakeup <= list[0].deadline, 1);
+	WANT("next deadline", next, count == 0 ? TIMERS_NEVER : list[0].deadline);
+	early_wakeups += wakeup < next;
+}
+
+/* Visits all timers, and stops one in eight as it comes to them: each is visited once, with its deadline and action. */
+static void do_visit(struct timers *t)
+{
+	size_t cursor = 0, visited = 0, wanted = count;
+	struct timer_handle handle = { 41, 42 };
+	struct timer_expired e = { 43, 44, 45 };
+	uint64_t action, sum = 0, wanted_sum = 0;
+	for (size_t i = 0; i < count; i++)
+		wanted_sum += list[i].serial * list[i].serial;
+	while (timers_each(t, &cursor, &handle, &e)) {
+		size_t at = index_of(handle);
+		WANT("a timer that is held is visited", at < count, 1);
+		WANT("deadline visited", e.deadline, list[at].deadline);
+		WANT("serial visited", e.serial, handle.serial);
+		WANT("action visited", e.action, list[at].action);
+		sum += e.serial * e.serial;
+		visited++;
+		if (below(8) == 0) {
+			WANT("stop of the visited", timers_stop(t, handle, &action), TIMERS_OK);
+			take_out(at);
+			stops++;
+		}
+		e = (struct timer_expired){ 43, 44, 45 };
+	}
+	WANT("visited", visited, wanted);
+	WANT("each once", sum, wanted_sum);
+	WANT("out of the last visit kept", e.deadline == 43 && e.serial == 44 && e.action == 45, 1);
+	WANT("after the end", timers_each(t, &cursor, &handle, &e), false);
+	visits++;
 }
 
 static void want_closed(struct timers *t)
@@ -301,6 +340,7 @@ static void want_closed(struct timers *t)
 	struct timer_handle handle = { 7, 7 };
 	struct timer_expired e = { 7, 7, 7 };
 	uint64_t word = 7;
+	size_t place = 7;
 	WANT("start, not open", timers_start(t, 1, 1, &handle), TIMERS_NOT_OPEN);
 	WANT("restart, not open", timers_restart(t, handle, 1, 1, &handle), TIMERS_NOT_OPEN);
 	WANT("start at, not open", timers_start_at(t, 1, 1, &handle), TIMERS_NOT_OPEN);
@@ -315,7 +355,9 @@ static void want_closed(struct timers *t)
 	WANT("now, not open", timers_now(t), 0);
 	WANT("len, not open", timers_len(t), 0);
 	WANT("wake-up, not open", timers_wakeup(t), TIMERS_NEVER);
-	WANT("kept, not open", handle.place == 7 && handle.serial == 7 && e.serial == 7 && word == 7, 1);
+	WANT("next, not open", timers_next(t), TIMERS_NEVER);
+	WANT("visit, not open", timers_each(t, &place, &handle, &e), false);
+	WANT("kept, not open", handle.place == 7 && handle.serial == 7 && e.serial == 7 && word == 7 && place == 7, 1);
 	timers_free(t);
 }
 
@@ -384,6 +426,8 @@ int main(int argc, char **argv)
 		default: do_expire(&t);
 		}
 		look(&t);
+		if (below(1000) == 0)
+			do_visit(&t);
 		if (calls_done % 20000 == 0)
 			spread = UINT64_C(1) << (3 + below(14));
 		/* Now and then begin anew, with timers pending and due. Serials go on. */
@@ -401,9 +445,10 @@ int main(int argc, char **argv)
 	for (size_t i = 0; i < sizeof statuses / sizeof *statuses; i++)
 		printf(" %" PRIu64, statuses[i]);
 	printf("\n");
-	printf("of these, restarts of expired timers %" PRIu64 ", stops of expired timers %" PRIu64 "\n", revivals, withdrawals);
-	if (revivals == 0 || withdrawals == 0) {
-		printf("no expired timer was restarted, or none was stopped\n");
+	printf("of these, restarts of expired timers %" PRIu64 ", stops of expired timers %" PRIu64 "; visits of all timers %" PRIu64
+	       ", wake-ups before the next deadline %" PRIu64 "\n", revivals, withdrawals, visits, early_wakeups);
+	if (revivals == 0 || withdrawals == 0 || visits == 0 || early_wakeups == 0) {
+		printf("no expired timer was restarted, or none was stopped, or none was visited, or no wake-up came early\n");
 		return 1;
 	}
 	const char *never = missing();

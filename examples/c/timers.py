@@ -9,6 +9,7 @@
 `python3 timers.py libtimers.so` compares random calls with a dictionary, and goes to the end of the clock.
 """
 import ctypes
+import operator
 import random
 import sys
 from ctypes import POINTER, Structure, byref, c_bool, c_size_t, c_uint32, c_uint64, c_void_p
@@ -29,6 +30,14 @@ class TimersError(Exception):
     def __init__(self, status):
         super().__init__(MESSAGES[status])
         self.status = status
+
+
+def word(value, bits=64):
+    """An argument of so many bits: ctypes would cut off the rest."""
+    value = operator.index(value)
+    if not 0 <= value < 2**bits:
+        raise OverflowError(f"{value} is not from 0 to 2^{bits} - 1")
+    return value
 
 
 def check(status):
@@ -53,6 +62,9 @@ CALLS = {
     "free": (None, [POINTER(Held)]),
     "start": (c_uint32, [POINTER(Held), c_uint64, c_uint64, POINTER(Handle)]),
     "restart": (c_uint32, [POINTER(Held), Handle, c_uint64, c_uint64, POINTER(Handle)]),
+    "start_at": (c_uint32, [POINTER(Held), c_uint64, c_uint64, POINTER(Handle)]),
+    "restart_at": (c_uint32, [POINTER(Held), Handle, c_uint64, c_uint64, POINTER(Handle)]),
+    "look": (c_uint32, [POINTER(Held), Handle, POINTER(Expired)]),
     "stop": (c_uint32, [POINTER(Held), Handle, POINTER(c_uint64)]),
     "tick": (c_uint32, [POINTER(Held)]),
     "advance": (c_uint32, [POINTER(Held), c_uint64, POINTER(c_uint64)]),
@@ -62,6 +74,8 @@ CALLS = {
     "now": (c_uint64, [POINTER(Held)]),
     "len": (c_size_t, [POINTER(Held)]),
     "wakeup": (c_uint64, [POINTER(Held)]),
+    "next": (c_uint64, [POINTER(Held)]),
+    "each": (c_bool, [POINTER(Held), POINTER(c_size_t), POINTER(Handle), POINTER(Expired)]),
 }
 
 
@@ -76,7 +90,7 @@ class Timers:
             function.restype, function.argtypes = result, arguments
             self._call[name] = function
         self._held = Held()
-        self._do("new", table, first_tick)
+        self._do("new", word(table, 32), word(first_tick))
 
     def _do(self, name, *arguments):
         check(self._call[name](self._held, *arguments))
@@ -93,17 +107,35 @@ class Timers:
     def start(self, interval, action):
         """Starts a timer, and returns its handle."""
         handle = Handle()
-        self._do("start", interval, action, byref(handle))
+        self._do("start", word(interval), word(action), byref(handle))
         return handle
 
+    def start_at(self, deadline, action):
+        """Starts a timer that expires at this tick, and returns its handle."""
+        handle = Handle()
+        self._do("start_at", word(deadline), word(action), byref(handle))
+        return handle
+
+    def look(self, handle):
+        """The timer with this handle, pending or expired, as (deadline, serial, action)."""
+        timer = Expired()
+        self._do("look", handle, byref(timer))
+        return timer.deadline, timer.serial, timer.action
+
     def restart(self, handle, interval, action):
-        """Starts another in the stead of the pending timer with this handle, and returns its handle."""
+        """Stops the timer with this handle, pending or expired, starts another in its place, and returns its handle."""
         restarted = Handle()
-        self._do("restart", handle, interval, action, byref(restarted))
+        self._do("restart", handle, word(interval), word(action), byref(restarted))
+        return restarted
+
+    def restart_at(self, handle, deadline, action):
+        """The same, for a timer that expires at this tick."""
+        restarted = Handle()
+        self._do("restart_at", handle, word(deadline), word(action), byref(restarted))
         return restarted
 
     def stop(self, handle):
-        """Stops the pending timer with this handle, and returns its action."""
+        """Stops the timer with this handle, pending or expired, and returns its action."""
         action = c_uint64()
         self._do("stop", handle, byref(action))
         return action.value
@@ -118,8 +150,8 @@ class Timers:
     def advance(self, most):
         """Passes so many ticks, and returns what expired on the way as a list of (deadline, serial, action).
 
-        It passes fewer where the clock comes to its last tick. There it is refused (CLOCK_END) if nothing was left to take."""
-        first_tick, out, passed = self.now(), self.expired(), c_uint64()
+        It passes fewer if the clock comes to its last tick. There it is refused (CLOCK_END) if nothing was left to take."""
+        first_tick, out, passed, most = self.now(), self.expired(), c_uint64(), word(most)
         while most > 0:
             status = self._call["advance"](self._held, most, byref(passed))
             # What was taken is taken: an error would lose it.
@@ -134,9 +166,27 @@ class Timers:
         return self._call["now"](self._held)
 
     def wakeup(self):
-        """The tick until which to sleep, or None where nothing is pending."""
+        """The tick until which to sleep, or None if nothing is pending."""
         tick = self._call["wakeup"](self._held)
         return None if tick == NEVER else tick
+
+    def next(self):
+        """The deadline of the timer that is handed out next, or None if no timer is held."""
+        tick = self._call["next"](self._held)
+        return None if tick == NEVER else tick
+
+    def __iter__(self):
+        """Visits all timers, pending and expired, in no particular order: pairs of a handle and what `look` returns."""
+        cursor = c_size_t()
+        while True:
+            handle, timer = Handle(), Expired()
+            if not self._call["each"](self._held, byref(cursor), byref(handle), byref(timer)):
+                return
+            yield handle, (timer.deadline, timer.serial, timer.action)
+
+    def __bool__(self):
+        # True also if none is pending: `__len__` would say no.
+        return True
 
     def __len__(self):
         return self._call["len"](self._held)
@@ -158,7 +208,8 @@ def compare(library, calls=20000):
             which = rng.randrange(5)
             if which < 2 or (which < 4 and not pending):
                 interval, action = 1 + rng.randrange(3000), rng.getrandbits(64)
-                handle = timers.start(interval, action)
+                handle = timers.start_at(now + interval, action) if which else timers.start(interval, action)
+                assert timers.look(handle) == (now + interval, handle.serial, action)
                 pending[handle.serial] = (now + interval, action, handle)
             elif which < 4:
                 serial = rng.choice(list(pending)[:50])
@@ -167,7 +218,8 @@ def compare(library, calls=20000):
                     assert timers.stop(handle) == action
                 else:
                     interval = 1 + rng.randrange(3000)
-                    restarted = timers.restart(handle, interval, action)
+                    again = rng.randrange(2)
+                    restarted = timers.restart_at(handle, now + interval, action) if again else timers.restart(handle, interval, action)
                     pending[restarted.serial] = (now + interval, action, restarted)
                 assert refused(timers.stop, handle) == NOT_PENDING
             else:
@@ -181,8 +233,17 @@ def compare(library, calls=20000):
             first = min((d for d, _, _ in pending.values()), default=None)
             wakeup = timers.wakeup()
             assert wakeup is None if first is None else now < wakeup <= first
+            assert timers.next() == first and timers
             assert timers.now() == now and len(timers) == len(pending)
+        visited = {handle.serial: (deadline, action) for handle, (deadline, _, action) in timers}
+        assert visited == {serial: (deadline, action) for serial, (deadline, action, _) in pending.items()}
         assert refused(timers.start, 0, 1) == ZERO_INTERVAL
+        for value in (2**64, -1):
+            try:
+                timers.start(1, value)
+                assert False, value
+            except OverflowError:
+                pass
     timers.close()
     assert refused(timers.start, 1, 1) == NOT_OPEN
     print(f"{calls} calls from Python agree; tick {now}")

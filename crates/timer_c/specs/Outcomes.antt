@@ -5,6 +5,7 @@ use Rattle.timer_base.specs.declared.timer.Timer.{Timer}
 use Rattle.timer_base.specs.declared.timer.Handle as base
 use Rattle.timer_base.specs.WakeUps.{IsWakeUp, next_deadline}
 use Rattle.timer_base.specs.WheelState.{WheelState, empty_wheel, after_start, after_tick}
+use Rattle.timer_wheels.specs.HeldPlaces.{AreBefore, AreElsewhere}
 use Rattle.timer_wheels.specs.declared.table.TheConstants.{LAST_OF_CLOCK}
 use Rattle.timer_total.specs.Refusals.{next_timer, timer_due, left_until, held_at, after_removal, IsStartable, IsAt}
 use Rattle.timer_total.specs.Ticks.{Passes, numbered}
@@ -126,3 +127,13 @@ IsNextDeadline tick w =
     ((tick ≡ w.now) × (0 < length w.due))
     ⊎ ((tick ≡ NEVER) × (w.due ≡ []) × (w.pending ≡ []))
     ⊎ ((w.due ≡ []) × (next_deadline w.pending ≡ Some tick))
+
+-- a visit from a place on came to this timer, which is the first one there, and goes on after it
+abbrev pub IsVisited : ℕ → WheelState → ℕ → Handle → Expired → Type 0
+IsVisited from w next handle out =
+    (from ≤ handle.place) × (next ≡ handle.place + 1) × IsSeen handle w out
+    × AreElsewhere from handle.place w.pending × AreElsewhere from handle.place w.due
+
+-- no timer is left for a visit from this place on
+abbrev pub IsAllVisited : ℕ → WheelState → Type 0
+IsAllVisited from w = AreBefore from w.pending × AreBefore from w.due

@@ -2,7 +2,7 @@
 ghost use Rattle.std.specs.Prelude.{◌≡◌, ◌<◌, ◌++◌, ◌↔◌, true, false, Some, None, [], map, take, drop, length, min};
 ghost use Rattle.timer_base.specs.Pending.{timers_of};
 ghost use Rattle.timer_base.specs.WheelState.{first_due, after_tick, after_expiry};
-ghost use Rattle.timer_c.specs.Outcomes.{IsStarted, IsStartedAt, WhyNotStarted, IsRestarted, IsRestartedAt, WhyNotRestarted, IsSeen, IsStopped, WhyNotStopped, IsTicked, IsAdvanced, WhyNotTicked, IsNextCall, IsNextDeadline, told, tell, after_expiries};
+ghost use Rattle.timer_c.specs.Outcomes.{IsStarted, IsStartedAt, WhyNotStarted, IsRestarted, IsRestartedAt, WhyNotRestarted, IsSeen, IsStopped, WhyNotStopped, IsTicked, IsAdvanced, WhyNotTicked, IsNextCall, IsNextDeadline, IsVisited, IsAllVisited, told, tell, after_expiries};
 ghost use Rattle.timer_total.specs.Refusals.{left_until};
 ghost use Rattle.timer_c.specs.declared.status.TheConstants.{OK};
 
@@ -12,6 +12,7 @@ use crate::status::{
 };
 use timer_base::{Timer, Wheel};
 use timer_total::{RestartFault, StartFault, TickFault, Timers};
+use timer_wheels::HierWheel;
 
 pub(crate) fn start<W: Wheel + Drop>(
     timers: &mut Timers<W>,
@@ -197,6 +198,30 @@ pub(crate) fn next<W: Wheel + Drop>(timers: &Timers<W>) -> u64
         Some(deadline) => deadline,
         None => NEVER,
     }
+}
+
+/// Writes the first timer from the cursor's place on, with its handle, and moves the cursor past it.
+pub(crate) fn each(
+    timers: &Timers<HierWheel>,
+    cursor: &mut usize,
+    handle: &mut Handle,
+    out: &mut Expired,
+) -> bool
+    ensures visited { result ≡ true → IsVisited cursor.old timers.now cursor.new handle.new out.new }
+    ensures ended { result ≡ false → IsAllVisited cursor.old timers.now }
+    ensures kept { result ≡ false → (cursor.new ≡ cursor.old) × (handle.new ≡ handle.old) × (out.new ≡ out.old) }
+{
+    let Some(found) = timers.wheel().held_from(*cursor) else {
+        return false;
+    };
+    // Under this handle a timer is held, so there is one.
+    let Some(timer) = timers.look(found) else {
+        return false;
+    };
+    *cursor = found.place + 1;
+    *handle = given(found);
+    *out = expired(timer);
+    true
 }
 
 /// A handle as C's struct.

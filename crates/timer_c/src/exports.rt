@@ -7,7 +7,7 @@ ghost use Rattle.std.specs.Prelude.{◌≡◌, ◌<◌, ◌≤◌, ◌⊎◌, �
 ghost use Rattle.timer_base.specs.Pending.{timers_of};
 ghost use Rattle.timer_base.specs.WheelState.{first_due, after_expiry};
 ghost use Rattle.timer_c.specs.Frames.{IsOpen, IsShut, with_timers};
-ghost use Rattle.timer_c.specs.Outcomes.{IsEmptyAt, IsOpenable, WhyNoWheel, IsStarted, IsStartedAt, WhyNotStarted, IsRestarted, IsRestartedAt, WhyNotRestarted, IsSeen, IsStopped, WhyNotStopped, IsTicked, IsAdvanced, WhyNotTicked, IsNextCall, IsNextDeadline, told, tell, after_expiries};
+ghost use Rattle.timer_c.specs.Outcomes.{IsEmptyAt, IsOpenable, WhyNoWheel, IsStarted, IsStartedAt, WhyNotStarted, IsRestarted, IsRestartedAt, WhyNotRestarted, IsSeen, IsStopped, WhyNotStopped, IsTicked, IsAdvanced, WhyNotTicked, IsNextCall, IsNextDeadline, IsVisited, IsAllVisited, told, tell, after_expiries};
 ghost use Rattle.timer_c.specs.declared.status.TheConstants.{OK, NOT_OPEN, OPEN, NEVER};
 ghost use Rattle.timer_total.specs.Refusals.{left_until};
 
@@ -74,7 +74,12 @@ pub extern "C" fn timers_start(t: &mut Held, interval: u64, action: u64, handle:
 
 /// Starts a timer that expires at this tick, and writes its handle.
 #[unsafe(no_mangle)]
-pub extern "C" fn timers_start_at(t: &mut Held, deadline: u64, action: u64, handle: &mut Handle) -> u32
+pub extern "C" fn timers_start_at(
+    t: &mut Held,
+    deadline: u64,
+    action: u64,
+    handle: &mut Handle,
+) -> u32
     ensures started { result ≡ OK → IsOpen t.old × IsStartedAt deadline action t.old.slot.state t.new.slot.state handle.new }
     ensures refused { 0 < result → ((result ≡ NOT_OPEN) × IsShut t.old)
         ⊎ (IsOpen t.old × WhyNotStarted (left_until deadline t.old.slot.state) t.old.slot.state result) }
@@ -283,4 +288,24 @@ pub extern "C" fn timers_next(t: &mut Held) -> u64
         return NEVER;
     }
     calls::next(t.slot.timers())
+}
+
+/// Writes the first timer from the cursor's place on, pending or expired and not yet taken, with its handle, and
+/// moves the cursor past it. Returns whether there was one.
+#[unsafe(no_mangle)]
+pub extern "C" fn timers_each(
+    t: &mut Held,
+    cursor: &mut usize,
+    handle: &mut Handle,
+    out: &mut Expired,
+) -> bool
+    ensures visited { result ≡ true → IsOpen t.old × IsVisited cursor.old t.old.slot.state cursor.new handle.new out.new }
+    ensures ended { result ≡ false → IsOpen t.old → IsAllVisited cursor.old t.old.slot.state }
+    ensures kept { result ≡ false → (cursor.new ≡ cursor.old) × (handle.new ≡ handle.old) × (out.new ≡ out.old) }
+    ensures same { t.new ≡ t.old }
+{
+    if !t.slot.holds() {
+        return false;
+    }
+    calls::each(t.slot.timers(), cursor, handle, out)
 }

@@ -10,11 +10,11 @@ pub struct Handle {
     pub serial: u64,
 }
 
-/// A timer that expired: `struct timer_expired`.
+/// A timer that expired, or that is looked at: `struct timer_expired`.
 #[repr(C)]
 #[derive(Clone, Copy, Debug, PartialEq, Eq)]
 pub struct Expired {
-    /// The tick at which it expired.
+    /// The tick at which it expires.
     pub deadline: u64,
     /// Its number in the order of starting.
     pub serial: u64,

@@ -18,10 +18,10 @@ pub const NO_MEMORY: u32 = 4;
 /// An expired timer was not yet taken.
 pub const DUE: u32 = 5;
 
-/// No pending timer has this handle.
+/// No timer has this handle.
 pub const NOT_PENDING: u32 = 6;
 
-/// The interval is 0.
+/// The interval is 0, or the tick is not after the present one.
 pub const ZERO_INTERVAL: u32 = 7;
 
 /// The deadline, or the first tick, is after the last tick.
@@ -39,5 +39,5 @@ pub const WIDE: u32 = 0;
 /// 60 seconds, 60 minutes, 24 hours, 100 days: a clock of 8,640,000 ticks.
 pub const CLOCK: u32 = 1;
 
-/// In place of a tick: nothing is pending.
+/// In place of a tick: no timer is held.
 pub const NEVER: u64 = u64::MAX;
