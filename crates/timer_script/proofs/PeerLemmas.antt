@@ -293,3 +293,12 @@ talked_join a b p q r x y x' y' flushed t f u =
       read = Consumes-trans p.remaining q.remaining r.remaining x x' t.read u.read;
       written = Appends-trans p.contents q.contents r.contents y y' t.written u.written;
     }
+
+-- ---- calls that are known
+
+pub known_prompt : (Answers : List ℕ → List ℕ → Type 0) (old new : PeerState) (came gone : List ℕ) (flushed : Bool) (calls : List Moment) → old.moments ≡ Some [] → new.moments ≡ Some calls
+    → HasTalkedBy Answers old new came gone flushed → IsPromptBy Answers [] [] true calls
+known_prompt Answers old new came gone flushed calls none known talked =
+    let from_none : Grows (Some []) new.moments talked.moments = subst (λ o. Grows o new.moments talked.moments) none talked.grows in
+    let grows : Grows (Some []) (Some calls) talked.moments = subst (λ o. Grows (Some []) o talked.moments) known from_none in
+    subst (λ xs. IsPromptBy Answers [] [] true xs) (sym grows) talked.prompt

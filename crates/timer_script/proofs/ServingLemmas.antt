@@ -1,6 +1,6 @@
 -- The result of the turns of a session with a peer.
 use Rattle.std.proofs.Common.{◌≡◌, false, zero, suc, ℕ, ◌+◌, ◌≤◌, Bool, true, false, List, [], ◌++◌, length, take, drop, inl, inr, refl, sym, ap, subst, ◌∙◌, arith, lit≤, append_assoc, append-nil, length-append, take-append-drop}
-use Rattle.std.specs.Prelude.{Result, Ok, Err, OnOk, IfErr}
+use Rattle.std.specs.Prelude.{Result, Ok, Err, OnOk, IfErr, Some}
 use Rattle.std.proofs.Math.Seq.{take-append-add}
 use Rattle.std.proofs.lemmas.List.{length-take-le}
 use Rattle.std.specs.Io.KnownBytes.{IsAtEnd}
@@ -13,10 +13,10 @@ use Rattle.timer_script.specs.declared.fault.SessionFault.TheVariants as session
 use Rattle.timer_script.specs.declared.stage.Stage.TheVariants.{Going}
 use Rattle.timer_script.specs.Script.{spelling, BeginsNoLine}
 use Rattle.timer_script.specs.Session.{SessionState, fresh, lines_of, next_line, HasFed, IsAnsweredSoFar, HasFailed, WhyStopped, WhyNotEnded}
-use Rattle.timer_script.specs.Peer.{PeerState}
-use Rattle.timer_script.specs.Serving.{IsAnsweredBy, HasTalked, HasPassed, AreGood, HasSent, HasSentPart, is_flushed, HasTurned, serve_fault, StopsTurn, last_line, StopsEnd, HasAnsweredAll, HasServed}
+use Rattle.timer_script.specs.Peer.{PeerState, Moment}
+use Rattle.timer_script.specs.Serving.{IsAnsweredBy, IsPrompt, HasTalked, HasPassed, AreGood, HasSent, HasSentPart, is_flushed, HasTurned, serve_fault, StopsTurn, last_line, StopsEnd, HasAnsweredAll, HasServed}
 use Rattle.timer_script.proofs.SessionLemmas.{fed_nothing, fed_join, fed_shift, ended_going, stopped_at, some_more}
-use Rattle.timer_script.proofs.PeerLemmas.{talked_nothing, talked_wrote, talked_sent, talked_join}
+use Rattle.timer_script.proofs.PeerLemmas.{talked_nothing, talked_wrote, talked_sent, talked_join, known_prompt}
 
 -- ---- one turn
 
@@ -239,3 +239,17 @@ served_finish (Err fault) before s p q r sound at_end answered good f whole sent
 -- a new session has answered everything
 pub fresh_answered : (s : FacilityState) → IsAnsweredSoFar (fresh s)
 fresh_answered s = record { going = refl; written = refl; partial = record { no_feed = tt; short = lit≤ tt } }
+
+-- calls that are known are prompt, however serving ended
+pub served_prompt : (before : FacilityState) (p q : PeerState) (result : Result Unit ServeFault) (calls : List Moment) → p.moments ≡ Some [] → q.moments ≡ Some calls → HasServed before p q result
+    → IsPrompt (fresh before) [] [] true calls
+served_prompt before p q (Ok u) calls none known h = known_prompt (IsAnsweredBy (fresh before)) p q h.0 h.1 true calls none known h.3
+served_prompt before p q (Err faults.Read) calls none known h = let f = h.1 in known_prompt (IsAnsweredBy (fresh before)) p q (f.bytes ++ []) f.sent true calls none known f.talked
+served_prompt before p q (Err (faults.Bad n)) calls none known h = known_prompt (IsAnsweredBy (fresh before)) p q h.0 h.1 true calls none known h.3
+served_prompt before p q (Err faults.OutOfMemory) calls none known h =
+    let f = h.2 in known_prompt (IsAnsweredBy (fresh before)) p q (f.bytes ++ h.1) f.sent true calls none known f.talked
+served_prompt before p q (Err faults.Write) calls none known h = elim h.0 [
+  | inl x ↦ let f = x.4 in known_prompt (IsAnsweredBy (fresh before)) p q (f.bytes ++ x.1) f.sent x.3 calls none known f.talked
+  | inr x ↦ known_prompt (IsAnsweredBy (fresh before)) p q x.0 (take x.2 x.1) x.3 calls none known x.6
+]
+served_prompt before p q (Err faults.TooLong) calls none known h = let f = h.1 in known_prompt (IsAnsweredBy (fresh before)) p q (f.bytes ++ []) f.sent true calls none known f.talked

@@ -1,5 +1,5 @@
 -- The peer of a server, and the order of the bytes that come from it and go to it.
-use Rattle.std.specs.Prelude.{◌≡◌, ℕ, ◌||◌, Bool, List, [], ◌∷◌, ◌++◌, take, Option, None, Some, Result, Ok, Err, is_err}
+use Rattle.std.specs.Prelude.{◌≡◌, ◌==◌, ℕ, ◌||◌, Bool, if◌then◌else◌, List, [], ◌∷◌, ◌++◌, take, drop, slice_index, Option, None, Some, Result, Ok, Err, is_err}
 use Rattle.std.specs.Io.{ReadsAtMost, WritesAtMost}
 use Rattle.std.specs.Io.KnownBytes.{Keeps, ReadConsumes, WriteAppends}
 use Rattle.timer_script.specs.Output.{took_nothing}
@@ -9,6 +9,10 @@ pub data Moment : Type 0 where
   Came : List ℕ → Moment
   Went : List ℕ → Moment
   Flush : Moment
+
+-- a call that is kept as bytes: `<` and what came, `>` and what went, or anything else for a flush
+abbrev pub moment_of : List ℕ → Moment
+moment_of call = if slice_index call 0 == 60 then Came (drop 1 call) else if slice_index call 0 == 62 then Went (drop 1 call) else Flush
 
 -- what is known of a peer
 pub record PeerState : Type 0 where

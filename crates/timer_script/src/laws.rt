@@ -1,5 +1,5 @@
 //! Lemmas about scripts and the text that answers them, each the contract of a function that does nothing.
-ghost use Rattle.std.specs.Prelude.{◌≡◌, ◌++◌, ℕ, List, [], length};
+ghost use Rattle.std.specs.Prelude.{◌≡◌, ◌++◌, ℕ, List, [], length, true, Some, Result};
 ghost use Rattle.timer_base.specs.declared.limits.TheConstants.{LAST};
 ghost use Rattle.timer_facility.specs.declared.event.Event.{Event};
 ghost use Rattle.timer_facility.specs.State.{FacilityState, IsSound};
@@ -9,6 +9,9 @@ ghost use Rattle.timer_script.specs.declared.lines.TheConstants.{MOST_TICKS};
 ghost use Rattle.timer_script.specs.Script.{IsScript, IsBadLine};
 ghost use Rattle.timer_script.specs.Running.{IsAnswer};
 ghost use Rattle.timer_script.specs.declared.fault.SessionFault.TheVariants.{Bad};
+ghost use Rattle.timer_script.specs.declared.fault.ServeFault.{ServeFault};
+ghost use Rattle.timer_script.specs.Peer.{PeerState, Moment};
+ghost use Rattle.timer_script.specs.Serving.{IsPrompt, HasServed};
 ghost use Rattle.timer_script.specs.Session.{SessionState, fresh, HasFed, HasFailed, WhyNotEnded, IsStoppedAt};
 ghost use Rattle.timer_script.specs.Text.{end_line};
 
@@ -63,4 +66,11 @@ pub fn a_session_stops_at_the_first_bad_line()
         → HasFailed n end → IsStoppedAt s (bytes ++ more) text n }
     ensures not_ended { (s : FacilityState) (bytes text : List ℕ) (end new : SessionState) (n : ℕ) → HasFed (fresh s) bytes [] text end
         → end.unwritten ≡ [] → WhyNotEnded (Bad n) end new → IsStoppedAt s bytes text n }
+{}
+
+/// The calls of a peer, where they are known, are prompt, however serving ends: before each read every
+/// complete line that came was answered, and the answers were flushed.
+pub fn served_calls_are_prompt()
+    ensures { (before : FacilityState) (peer after : PeerState) (result : Result Unit ServeFault) (calls : List Moment) → peer.moments ≡ Some []
+        → after.moments ≡ Some calls → HasServed before peer after result → IsPrompt (fresh before) [] [] true calls }
 {}

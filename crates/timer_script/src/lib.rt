@@ -47,6 +47,8 @@ pub use text::text_of;
 pub use watched::Watched;
 
 #[cfg(test)]
+mod prompt_tests;
+#[cfg(test)]
 mod script_tests;
 #[cfg(test)]
 mod serving_tests;
