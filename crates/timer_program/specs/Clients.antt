@@ -1,6 +1,8 @@
 -- The clients in threads that are asked for, and how a call with them ends.
-use Rattle.std.specs.Prelude.{◌≡◌, ℕ, ◌≤◌, ◌⊎◌, true, false, List, Option}
+use Rattle.std.specs.Prelude.{◌≡◌, ℕ, ◌≤◌, ◌⊎◌, ◌++◌, true, false, List, Option, Result, Ok, Err, Vec, codes, decimal}
 use Rattle.std.specs.Io.KnownBytes.{Appends}
+use Rattle.timer_threads.specs.declared.fault.ThreadsFault.{ThreadsFault}
+use Rattle.timer_threads.specs.declared.fault.ThreadsFault.TheVariants as faults
 use Rattle.timer_threads.specs.Threads.{whole_text}
 use Rattle.timer_program.specs.declared.requested.Clients.{Clients}
 use Rattle.timer_script.specs.declared.watched.Watched.{Watched}
@@ -24,3 +26,28 @@ pub record HasRunClients {S : Type 0} (asked : Clients) (contents : S → Option
   pub failed : status ≡ 1 → AreFew asked × ((has_failed writer' ≡ true) ⊎ (writer' ≡ writer))
   -- 2: what was asked for is out of range, and nothing was written
   pub refused : status ≡ 2 → ¬ (AreFew asked) × (writer' ≡ writer)
+
+-- the line of an error of this client
+abbrev pub client_fault : ℕ → List ℕ
+client_fault client = codes "client " ++ decimal client ++ codes " failed\n"
+
+-- the line of an error
+abbrev pub fault_line : ThreadsFault → List ℕ
+fault_line faults.OutOfMemory = codes "out of memory\n"
+fault_line (faults.Client client) = client_fault client
+fault_line faults.Desk = codes "desk failed\n"
+
+-- a text was written whole, or a writer failed
+abbrev pub WritesWhole : {S : Type 0} → (S → Option (List ℕ)) → Watched S → Watched S → List ℕ → Type 0
+WritesWhole contents writer writer' text =
+    (has_failed writer' ≡ true)
+    ⊎ ((has_failed writer' ≡ false) × Appends (contents (inner_of writer)) (contents (inner_of writer')) text)
+
+-- what was written of a run of clients: its text; or nothing, and on the other writer the line of its error
+abbrev pub HasEndedClients : {S F A : Type 0} → Result (Vec ℕ A) ThreadsFault → (S → Option (List ℕ)) → (F → Option (List ℕ))
+    → (writer writer' : Watched S) (faults faults' : Watched F) → ℕ → Type 0
+HasEndedClients (Ok text) contents contents-of-faults writer writer' errors errors' status =
+    ((status ≡ 0) × (has_failed writer' ≡ false) × Appends (contents (inner_of writer)) (contents (inner_of writer')) text.items)
+    ⊎ ((status ≡ 1) × (has_failed writer' ≡ true))
+HasEndedClients (Err fault) contents contents-of-faults writer writer' errors errors' status =
+    (status ≡ 1) × (writer' ≡ writer) × WritesWhole contents-of-faults errors errors' (fault_line fault)

@@ -1,8 +1,15 @@
 -- How a call of the program ends: its exit status, and what it did to its input and its output.
-use Rattle.std.specs.Prelude.{◌≡◌, ℕ, ◌≤◌, ◌⊎◌, true, false, List, codes, Option, Result, Ok, Err}
+use Rattle.std.specs.Prelude.{◌≡◌, ◌≢◌, ℕ, ◌≤◌, ◌⊎◌, true, false, List, Option, Result, Ok, Err, IfOk}
 use Rattle.std.specs.Io.KnownBytes.{Appends}
+use Rattle.clap.specs.Values.{kind_of}
+use Rattle.clap.specs.declared.error.Error.{Error}
+use Rattle.clap.specs.declared.error.kind.ErrorKind.{ErrorKind}
+use Rattle.clap.specs.declared.error.kind.ErrorKind.TheVariants as kinds
 use Rattle.timer_facility.specs.Opened.{opened}
 use Rattle.timer_program.specs.declared.asked.Play.{Play}
+use Rattle.timer_program.specs.declared.arguments.Asked.{Asked}
+use Rattle.timer_program.specs.declared.arguments.Asked.TheVariants as calls
+use Rattle.timer_program.specs.Arguments.{subcommand_of}
 use Rattle.timer_program.specs.declared.asked.PlayFault.{PlayFault}
 use Rattle.timer_script.specs.declared.fault.RunFault.{RunFault}
 use Rattle.timer_script.specs.declared.fault.ServeFault.{ServeFault}
@@ -13,7 +20,6 @@ use Rattle.timer_script.specs.Running.{HasRun}
 use Rattle.timer_script.specs.Serving.{HasServed}
 use Rattle.timer_script.specs.Streams.{streams_state}
 use Rattle.timer_program.specs.Showing.{HasShownLines}
-use Rattle.timer_program.specs.declared.requested.Clients.{Clients}
 use Rattle.timer_program.specs.Clients.{HasRunClients}
 
 -- a script was played as asked, or the request was refused and nothing was read
@@ -50,26 +56,43 @@ pub record HasServedLines {R S : Type 0} (asked : Play) (remaining : R → Optio
   -- 2: what was asked for is refused, and nothing was read or written
   pub refused : status ≡ 2 → ((fault : PlayFault) × IsRefused fault asked) × (reader' ≡ reader) × (writer' ≡ writer)
 
--- no script was played, and nothing was read
-pub record HasNotPlayed {R S : Type 0} (contents : S → Option (List ℕ)) (reader reader' : Watched R) (writer writer' : Watched S)
-    (status : ℕ) : Type 0 where
+-- help or the version is asked for
+abbrev pub IsShown : ErrorKind → Type 0
+IsShown kind = (kind ≡ kinds.DisplayHelp) ⊎ (kind ≡ kinds.DisplayVersion)
+
+-- no script was played, and nothing was read, for an error of this kind: help or the version is asked for, the arguments are
+-- refused, or out of memory
+pub record HasNotPlayed {R S : Type 0} (kind : ErrorKind) (contents : S → Option (List ℕ)) (reader reader' : Watched R)
+    (writer writer' : Watched S) (status : ℕ) : Type 0 where
   pub in_range : status ≤ 2
   pub unread : reader' ≡ reader
-  -- 0: a whole text was written
+  -- 0: help or the version was asked for, and a whole text was written
   pub written : status ≡ 0
-      → ((text : List ℕ) × Appends (contents (inner_of writer)) (contents (inner_of writer')) text) × (has_failed writer' ≡ false)
-  -- 1: the writer failed, or nothing was written
-  pub failed : status ≡ 1 → (has_failed writer' ≡ true) ⊎ (writer' ≡ writer)
-  -- 2: nothing was written
-  pub refused : status ≡ 2 → writer' ≡ writer
+      → IsShown kind × (((text : List ℕ) × Appends (contents (inner_of writer)) (contents (inner_of writer')) text) × (has_failed writer' ≡ false))
+  -- 1: the writer failed, or nothing was written; and the arguments were not refused
+  pub failed : status ≡ 1
+      → ((kind ≡ kinds.OutOfMemory) ⊎ IsShown kind) × ((has_failed writer' ≡ true) ⊎ (writer' ≡ writer))
+  -- 2: the arguments are refused, and nothing was written
+  pub refused : status ≡ 2 → (kind ≢ kinds.OutOfMemory) × ((¬ (IsShown kind)) × (writer' ≡ writer))
 
--- what the subcommand of this name did: a script was played as the arguments ask, or lines were answered as they came, or
--- answered and shown, or clients ran and nothing was read; or, whatever the name, none of these
-abbrev pub HasEnded : {R S : Type 0} (name : List ℕ) (remaining : R → Option (List ℕ)) (contents : S → Option (List ℕ)) (reader reader' : Watched R)
-    (writer writer' : Watched S) → ℕ → Type 0
-HasEnded name remaining contents reader reader' writer writer' status =
-    ((name ≡ codes "play") × ((asked : Play) × HasPlayed asked remaining contents reader reader' writer writer' status))
-    ⊎ (((name ≡ codes "serve") × ((asked : Play) × HasServedLines asked remaining contents reader reader' writer writer' status))
-    ⊎ (((name ≡ codes "show") × ((asked : Play) × HasShownLines asked remaining contents reader reader' writer writer' status))
-    ⊎ (((name ≡ codes "threads") × ((asked : Clients) × (reader' ≡ reader) × HasRunClients asked contents writer writer' status))
-    ⊎ HasNotPlayed contents reader reader' writer writer' status)))
+-- What was done for arguments that were read as this: a script was played, lines were answered as they came, or answered and
+-- shown, or clients ran and nothing was read; or, where they are read as none of these, nothing but a text was written.
+abbrev pub HasDone : {R S : Type 0} → Result Asked Error → (remaining : R → Option (List ℕ)) (contents : S → Option (List ℕ))
+    (reader reader' : Watched R) (writer writer' : Watched S) → ℕ → Type 0
+HasDone (Ok (calls.Play asked)) remaining contents reader reader' writer writer' status =
+    HasPlayed asked remaining contents reader reader' writer writer' status
+HasDone (Ok (calls.Serve asked)) remaining contents reader reader' writer writer' status =
+    HasServedLines asked remaining contents reader reader' writer writer' status
+HasDone (Ok (calls.Show asked)) remaining contents reader reader' writer writer' status =
+    HasShownLines asked remaining contents reader reader' writer writer' status
+HasDone (Ok (calls.Threads asked)) remaining contents reader reader' writer writer' status =
+    (reader' ≡ reader) × HasRunClients asked contents writer writer' status
+HasDone (Err error) remaining contents reader reader' writer writer' status =
+    HasNotPlayed (kind_of error) contents reader reader' writer writer' status
+
+-- the arguments, which name this subcommand, were read as one of its calls or as an error, and that was done
+pub record HasEnded {R S : Type 0} (name : List ℕ) (remaining : R → Option (List ℕ)) (contents : S → Option (List ℕ))
+    (reader reader' : Watched R) (writer writer' : Watched S) (status : ℕ) : Type 0 where
+  pub read : Result Asked Error
+  pub named : IfOk read (λ asked. name ≡ subcommand_of asked)
+  pub done : HasDone read remaining contents reader reader' writer writer' status

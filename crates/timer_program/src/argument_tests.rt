@@ -1,6 +1,7 @@
 //! Arguments: what they ask for, and what is refused.
 use crate::arguments::{Asked, read_arguments};
 use crate::asked::{Play, PlayFault, Scheme};
+use crate::help::{PLACEMENTS, SCHEMES, SCRIPTS, STREAMS, THREADS};
 use crate::testing::{Fault, Sink, Source, call, has_left, same, same_in};
 use crate::unread::{after_name, end_without_arguments};
 use std::alloc::Global;
@@ -218,6 +219,60 @@ fn help_and_version_are_written_where_they_are_asked_for(rt: HostRuntime) {
     }
 }
 
+#[test]
+fn each_help_ends_with_its_whole_text(rt: HostRuntime) {
+    let rows = [
+        (["--help"].as_slice(), SCRIPTS),
+        (["play", "--help"].as_slice(), SCHEMES),
+        (["serve", "--help"].as_slice(), STREAMS),
+        (["show", "--help"].as_slice(), PLACEMENTS),
+        (["threads", "--help"].as_slice(), THREADS),
+    ];
+    for (arguments, text) in rows {
+        let ended = call(&rt, arguments, Source::of(b""), Sink::new(rt.alloc()));
+        let (help, end) = ended.output.split_at(ended.output.len() - 1);
+        same_in(&rt, arguments, (ended.status, end), (0, b"\n".as_slice()));
+        same_in(&rt, arguments, help.ends_with(text.as_bytes()), true);
+    }
+}
+
+#[test]
+fn a_refused_file_name_is_followed_by_the_way_to_read_a_file(rt: HostRuntime) {
+    let rows = [
+        (["script.txt"].as_slice(), "\nUsage: timers < FILE\n"),
+        (
+            ["play", "script.txt"].as_slice(),
+            "\nUsage: timers play [OPTIONS] < FILE\n",
+        ),
+        (
+            ["serve", "script.txt"].as_slice(),
+            "\nUsage: timers serve [OPTIONS] < FILE\n",
+        ),
+        (
+            ["show", "script.txt"].as_slice(),
+            "\nUsage: timers show [OPTIONS] < FILE\n",
+        ),
+    ];
+    for (arguments, line) in rows {
+        let ended = call(
+            &rt,
+            arguments,
+            Source::of(b"close\n"),
+            Sink::new(rt.alloc()),
+        );
+        let is_in = ended
+            .faults
+            .windows(line.len())
+            .any(|part| part == line.as_bytes());
+        same_in(
+            &rt,
+            arguments,
+            (ended.status, ended.asks, is_in),
+            (2, 0, true),
+        );
+    }
+}
+
 /// Asks for a text with this front, of a writer that takes 7 bytes and then has this fault.
 fn write_fails<T: AllocGlobal + Abort + Threads>(
     rt: &T,
@@ -241,7 +296,7 @@ fn help_says_that_no_arguments_play(rt: HostRuntime) {
         Sink::new(rt.alloc()),
     );
     for line in [
-        b"\nUsage: timers [COMMAND]\n".as_slice(),
+        b"\nUsage: timers < FILE\n".as_slice(),
         b"\nWith no arguments, `timers` is `timers play`.\n".as_slice(),
     ] {
         let is_in = ended.output.windows(line.len()).any(|part| part == line);

@@ -15,8 +15,8 @@ ghost use Rattle.timer_program.specs.Asked.{name_of};
 
 use crate::asked::{Play, Scheme};
 use crate::help::{
-    ABOUT, NAME, PLACEMENTS, PLAY_ABOUT, SCHEMES, SCRIPTS, SERVE_ABOUT, SHOW_ABOUT, STREAMS,
-    THREADS, THREADS_ABOUT, VERSION,
+    ABOUT, NAME, PLACEMENTS, PLAY_ABOUT, PLAY_USAGE, SCHEMES, SCRIPTS, SERVE_ABOUT, SERVE_USAGE,
+    SHOW_ABOUT, SHOW_USAGE, STREAMS, THREADS, THREADS_ABOUT, USAGE, VERSION,
 };
 use crate::requested::Clients;
 use clap::error::ErrorKind;
@@ -64,6 +64,7 @@ fn number<'a>(
 fn playing_command<'a>(
     alloc: Global,
     name: &'a str,
+    usage: &'a str,
     about: &'a str,
     after_help: &'a str,
 ) -> Result<Command<'a>, AllocError> {
@@ -106,6 +107,7 @@ fn playing_command<'a>(
         "The tick at which the clock begins, 0 to the last tick of the scheme",
     );
     Command::new(alloc, name)
+        .override_usage(usage)
         .about(about)
         .after_help(after_help)
         .arg(scheme)?
@@ -145,12 +147,13 @@ fn program<'a>(alloc: Global) -> Result<Command<'a>, AllocError> {
     Command::new(alloc, NAME)
         .bin_name(NAME)?
         .version(VERSION)
+        .override_usage(USAGE)
         .about(ABOUT)
         .after_help(SCRIPTS)
         .no_binary_name(true)
-        .subcommand(playing_command(alloc, "play", PLAY_ABOUT, SCHEMES)?)?
-        .subcommand(playing_command(alloc, "serve", SERVE_ABOUT, STREAMS)?)?
-        .subcommand(playing_command(alloc, "show", SHOW_ABOUT, PLACEMENTS)?)?
+        .subcommand(playing_command(alloc, "play", PLAY_USAGE, PLAY_ABOUT, SCHEMES)?)?
+        .subcommand(playing_command(alloc, "serve", SERVE_USAGE, SERVE_ABOUT, STREAMS)?)?
+        .subcommand(playing_command(alloc, "show", SHOW_USAGE, SHOW_ABOUT, PLACEMENTS)?)?
         .subcommand(threads_command(alloc)?)
 }
 

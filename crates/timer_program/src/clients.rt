@@ -1,10 +1,12 @@
 //! The subcommand `threads`: clients in threads of their own, and one line for each.
-ghost use Rattle.std.specs.Prelude.{◌≡◌, IfOk, IsTrue, ◌↔◌, vec_len, false};
-ghost use Rattle.timer_program.specs.Clients.{AreFew, HasRunClients};
-ghost use Rattle.timer_script.specs.Watched.{has_failed};
+ghost use Rattle.std.specs.Prelude.{◌≡◌, IfOk, OnOk, OnErr, IsTrue, ◌↔◌, vec_len, true, false};
+ghost use Rattle.std.specs.Io.KnownBytes.{Appends};
+ghost use Rattle.timer_program.specs.Clients.{AreFew, HasRunClients, HasEndedClients, fault_line, client_fault};
+ghost use Rattle.timer_script.specs.Watched.{inner_of, has_failed};
 
 use crate::reporting::report;
 use crate::requested::Clients;
+use itoa::Buffer;
 use std::alloc::{AllocError, Global};
 use std::io::Write;
 use std::thread::Threads;
@@ -33,25 +35,58 @@ pub fn run_clients<W: Write, F: Write>(
     let Ok(gates) = open_gates(alloc, asked.clients as usize) else {
         return report(RunFault::OutOfMemory, faults);
     };
-    match threads_run(rt, alloc, gates, asked.timers, LIMIT) {
+    let ended = threads_run(rt, alloc, gates, asked.timers, LIMIT);
+    end_clients(ended, writer, &mut Watched::new(faults))
+}
+
+/// Writes the text of clients that came to their end, or reports in one line why they did not, and
+/// returns the exit status. An error in reporting is ignored.
+pub fn end_clients<W: Write, F: Write>(
+    ended: Result<Vec<u8>, ThreadsFault>,
+    writer: &mut Watched<W>,
+    faults: &mut Watched<F>,
+) -> u8
+    requires writer_good { has_failed writer.old ≡ false }
+    requires faults_good { has_failed faults.old ≡ false }
+    ensures { HasEndedClients ended W.contents F.contents writer.old writer.new faults.old faults.new result }
+{
+    match ended {
         Ok(text) => match write_text(writer, &text) {
             Ok(()) => 0,
             Err(fault) => report(fault, faults),
         },
-        Err(fault) => report_clients(fault, faults),
+        Err(fault) => {
+            let _ = write_fault(fault, faults);
+            1
+        }
     }
 }
 
-/// Reports in one line why a run of clients failed, and returns its exit status.
-fn report_clients<F: Write>(fault: ThreadsFault, faults: &mut F) -> u8
-    ensures { result ≡ 1 }
+/// Writes the line of an error of a run of clients. Does not allocate.
+fn write_fault<F: Write>(fault: ThreadsFault, faults: &mut Watched<F>) -> Result<(), RunFault>
+    requires { has_failed faults.old ≡ false }
+    ensures ok { OnOk result (Appends (F.contents (inner_of faults.old)) (F.contents (inner_of faults.new)) (fault_line fault)) }
+    ensures good { OnOk result (has_failed faults.new ≡ false) }
+    ensures failed { OnErr result (has_failed faults.new ≡ true) }
 {
-    let _ = match fault {
-        ThreadsFault::OutOfMemory => writeln!(faults, "out of memory"),
-        ThreadsFault::Client(c) => writeln!(faults, "client {c} failed"),
-        ThreadsFault::Desk => writeln!(faults, "desk failed"),
-    };
-    1
+    match fault {
+        ThreadsFault::OutOfMemory => write_text(faults, b"out of memory\n"),
+        ThreadsFault::Client(client) => write_client(client, faults),
+        ThreadsFault::Desk => write_text(faults, b"desk failed\n"),
+    }
+}
+
+/// Writes the line of an error of this client.
+fn write_client<F: Write>(client: usize, faults: &mut Watched<F>) -> Result<(), RunFault>
+    requires { has_failed faults.old ≡ false }
+    ensures ok { OnOk result (Appends (F.contents (inner_of faults.old)) (F.contents (inner_of faults.new)) (client_fault client)) }
+    ensures good { OnOk result (has_failed faults.new ≡ false) }
+    ensures failed { OnErr result (has_failed faults.new ≡ true) }
+{
+    let mut buffer = Buffer::new();
+    write_text(faults, b"client ")?;
+    write_text(faults, buffer.format(client as u64).as_bytes())?;
+    write_text(faults, b" failed\n")
 }
 
 /// An open gate for each client.

@@ -1,10 +1,13 @@
 //! Calls of the program with `threads`.
 use crate::arguments::{Asked, read_arguments};
+use crate::clients::end_clients;
 use crate::requested::Clients;
 use crate::testing::{Fault, Sink, Source, call, has_left, same, same_in};
 use std::alloc::Global;
 use std::io::ErrorKind;
 use std::process::Abort;
+use timer_script::Watched;
+use timer_threads::ThreadsFault;
 
 static FOUR_OF_1000: &str = "\
 client 0 sent 1000 started 1000 expired 1000
@@ -65,4 +68,30 @@ fn clients_whose_text_cannot_be_written_end_with_1(rt: HostRuntime) {
     let arguments = ["threads", "--clients", "1", "--timers", "2"].as_slice();
     let ended = call(&rt, arguments, Source::of(b""), sink);
     has_left(&rt, arguments, &ended, 1, b"client 0 s", b"write failed\n");
+}
+
+#[test]
+fn each_error_of_a_run_of_clients_has_its_line_and_writes_nothing_else(rt: HostRuntime) {
+    for (fault, line) in [
+        (ThreadsFault::Client(0), "client 0 failed\n"),
+        (ThreadsFault::Client(63), "client 63 failed\n"),
+        (ThreadsFault::Desk, "desk failed\n"),
+        (ThreadsFault::OutOfMemory, "out of memory\n"),
+    ] {
+        let mut writer = Watched::new(Sink::new(rt.alloc()));
+        let mut faults = Watched::new(Sink::new(rt.alloc()));
+        same_in(
+            &rt,
+            line,
+            end_clients(Err(fault), &mut writer, &mut faults),
+            1,
+        );
+        same_in(&rt, line, writer.into_inner().bytes.is_empty(), true);
+        same_in(
+            &rt,
+            line,
+            faults.into_inner().bytes.as_slice(),
+            line.as_bytes(),
+        );
+    }
 }

@@ -3,7 +3,7 @@ ghost use Rattle.std.specs.Prelude.{◌≡◌, ◌≢◌, ◌≤◌, ◌⊎◌, 
 ghost use Rattle.std.specs.Io.KnownBytes.{Appends};
 ghost use Rattle.clap.specs.Values.{kind_of};
 ghost use Rattle.timer_program.specs.Arguments.{named};
-ghost use Rattle.timer_program.specs.Command.{HasPlayed, HasEnded};
+ghost use Rattle.timer_program.specs.Command.{HasPlayed, HasDone, HasEnded};
 ghost use Rattle.timer_script.specs.Watched.{inner_of, has_failed};
 
 use crate::arguments::{Asked, read_arguments};
@@ -39,8 +39,23 @@ pub fn command<T: AllocGlobal + Threads, S: AsStr, R: Read, W: Write, F: Write>(
     ensures { HasEnded (named S.text arguments.now) R.remaining W.contents
         streams.old.reader streams.new.reader streams.old.writer streams.new.writer result }
 {
+    let read = read_arguments(rt.alloc(), arguments);
+    do_asked(rt, read, streams, faults)
+}
+
+/// Does what the arguments were read as, and returns the exit status.
+fn do_asked<T: AllocGlobal + Threads, R: Read, W: Write, F: Write>(
+    rt: &T,
+    read: Result<Asked, Error>,
+    streams: &mut Streams<R, W>,
+    faults: &mut F,
+) -> u8
+    requires reader_good { has_failed streams.old.reader ≡ false }
+    requires writer_good { has_failed streams.old.writer ≡ false }
+    ensures { HasDone read R.remaining W.contents streams.old.reader streams.new.reader streams.old.writer streams.new.writer result }
+{
     let alloc = rt.alloc();
-    match read_arguments(alloc, arguments) {
+    match read {
         Ok(Asked::Play(asked)) => play(
             alloc,
             asked,

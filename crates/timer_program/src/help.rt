@@ -9,6 +9,16 @@ pub static VERSION: &str = "1.0.0";
 pub static ABOUT: &str =
     "Plays a script of timers: clients start, restart and stop them, and ticks let them expire";
 
+/// How the program is called, in the help and below each refusal. It opens no file, so a refused file name is
+/// followed by the way to read one.
+pub static USAGE: &str = "timers < FILE\n       timers COMMAND [OPTIONS] < FILE";
+
+pub static PLAY_USAGE: &str = "timers play [OPTIONS] < FILE";
+
+pub static SERVE_USAGE: &str = "timers serve [OPTIONS] < FILE";
+
+pub static SHOW_USAGE: &str = "timers show [OPTIONS] < FILE";
+
 pub static PLAY_ABOUT: &str = "Plays the script on standard input and writes one line per result";
 
 /// What stands below the help of the program.
@@ -73,7 +83,8 @@ pub static STREAMS: &str = "\
 A stream has the lines of a script, which `timers help` describes, and they have the
 same answers. Each line is answered as soon as its line feed has come: before more is
 read, the answers to all complete lines are written and flushed. At the end of the
-input the line `end` is written. The input may have any length.
+input the line `end` is written. The input may have any length. Read the answers while
+you write: when the pipe of the answers is full, no more lines are read.
 
 A bad line ends the stream: the lines before it have been answered, and `bad line L`
 is reported. A last line without its line feed is a bad line.

@@ -33,6 +33,35 @@ enum SchemeWheel {
     Hier(HierWheel),
 }
 
+/// A wheel that a scheme can be asked for.
+trait OfScheme {
+    ghost use Rattle.timer_program.specs.declared.asked.Play.{Play};
+
+    /// The wheel is the one that is asked for: of that scheme, a hashed one with that many slots.
+    ghost is_asked: { Play → Self → Type 0 };
+}
+
+impl OfScheme for PlainWheel {
+    ghost use Rattle.timer_program.specs.declared.schemes.SchemeWheel.TheVariants as wheels;
+    ghost use Rattle.timer_program.specs.Schemes.{IsWheelOf};
+
+    ghost is_asked = { λ asked wheel. IsWheelOf asked (wheels.Plain wheel) };
+}
+
+impl OfScheme for HashedWheel {
+    ghost use Rattle.timer_program.specs.declared.schemes.SchemeWheel.TheVariants as wheels;
+    ghost use Rattle.timer_program.specs.Schemes.{IsWheelOf};
+
+    ghost is_asked = { λ asked wheel. IsWheelOf asked (wheels.Hashed wheel) };
+}
+
+impl OfScheme for HierWheel {
+    ghost use Rattle.timer_program.specs.declared.schemes.SchemeWheel.TheVariants as wheels;
+    ghost use Rattle.timer_program.specs.Schemes.{IsWheelOf};
+
+    ghost is_asked = { λ asked wheel. IsWheelOf asked (wheels.Hier wheel) };
+}
+
 /// The hashed wheel that is asked for. Fails only by memory, since its numbers are in their ranges.
 fn hashed_wheel(alloc: Global, asked: Play) -> Result<HashedWheel, OutOfMemory>
     requires { IsPlayable asked }
@@ -108,15 +137,16 @@ pub fn play_by_scheme<R: Read, S: Write>(
     ensures { HasRun (opened (config_of asked) (scheme_last asked.scheme)) R.remaining S.contents reader.old reader.new writer.old writer.new result }
 {
     match wheel_of(alloc, asked)? {
-        SchemeWheel::Plain(wheel) => play_on(alloc, wheel, checked, reader, writer),
-        SchemeWheel::Hashed(wheel) => play_on(alloc, wheel, checked, reader, writer),
-        SchemeWheel::Hier(wheel) => play_on(alloc, wheel, checked, reader, writer),
+        SchemeWheel::Plain(wheel) => play_on(alloc, asked, wheel, checked, reader, writer),
+        SchemeWheel::Hashed(wheel) => play_on(alloc, asked, wheel, checked, reader, writer),
+        SchemeWheel::Hier(wheel) => play_on(alloc, asked, wheel, checked, reader, writer),
     }
 }
 
-/// Plays the script of the reader over a new wheel, which stands at the first tick.
-fn play_on<R: Read, S: Write, W: Wheel + Drop>(
+/// Plays the script of the reader over a new wheel, the one that is asked for, which stands at the first tick.
+fn play_on<R: Read, S: Write, W: Wheel + OfScheme + Drop>(
     alloc: Global,
+    _asked: Play,
     wheel: W,
     checked: Checked,
     reader: &mut Watched<R>,
@@ -124,6 +154,7 @@ fn play_on<R: Read, S: Write, W: Wheel + Drop>(
 ) -> Result<(), RunFault>
     requires reader_good { has_failed reader.old ≡ false }
     requires writer_good { has_failed writer.old ≡ false }
+    requires asked { W.is_asked _asked wheel }
     requires pending { (W.state wheel).pending ≡ [] }
     requires due { (W.state wheel).due ≡ [] }
     requires now { (W.state wheel).now ≡ checked.first_tick }
@@ -149,21 +180,23 @@ pub fn serve_by_scheme<P: Peer>(
     ensures { HasServed (opened (config_of asked) (scheme_last asked.scheme)) (P.state peer.old) (P.state peer.new) result }
 {
     match wheel_of(alloc, asked) {
-        Ok(SchemeWheel::Plain(wheel)) => serve_on(alloc, wheel, checked, peer),
-        Ok(SchemeWheel::Hashed(wheel)) => serve_on(alloc, wheel, checked, peer),
-        Ok(SchemeWheel::Hier(wheel)) => serve_on(alloc, wheel, checked, peer),
+        Ok(SchemeWheel::Plain(wheel)) => serve_on(alloc, asked, wheel, checked, peer),
+        Ok(SchemeWheel::Hashed(wheel)) => serve_on(alloc, asked, wheel, checked, peer),
+        Ok(SchemeWheel::Hier(wheel)) => serve_on(alloc, asked, wheel, checked, peer),
         Err(OutOfMemory) => Err(ServeFault::OutOfMemory),
     }
 }
 
-/// Answers the peer's lines as they come, over a new wheel, which stands at the first tick.
-fn serve_on<P: Peer, W: Wheel + Drop>(
+/// Answers the peer's lines as they come, over a new wheel, the one that is asked for, which stands at the first tick.
+fn serve_on<P: Peer, W: Wheel + OfScheme + Drop>(
     alloc: Global,
+    _asked: Play,
     wheel: W,
     checked: Checked,
     peer: &mut P,
 ) -> Result<(), ServeFault>
     requires good { AreGood (P.state peer.old) }
+    requires asked { W.is_asked _asked wheel }
     requires pending { (W.state wheel).pending ≡ [] }
     requires due { (W.state wheel).due ≡ [] }
     requires now { (W.state wheel).now ≡ checked.first_tick }
@@ -190,22 +223,24 @@ pub fn show_by_scheme<P: Peer>(
     ensures { HasShown (opened (config_of asked) (scheme_last asked.scheme)) (P.state peer.old) (P.state peer.new) result }
 {
     match wheel_of(alloc, asked) {
-        Ok(SchemeWheel::Plain(wheel)) => show_on(alloc, wheel, checked, peer),
-        Ok(SchemeWheel::Hashed(wheel)) => show_on(alloc, wheel, checked, peer),
-        Ok(SchemeWheel::Hier(wheel)) => show_on(alloc, wheel, checked, peer),
+        Ok(SchemeWheel::Plain(wheel)) => show_on(alloc, asked, wheel, checked, peer),
+        Ok(SchemeWheel::Hashed(wheel)) => show_on(alloc, asked, wheel, checked, peer),
+        Ok(SchemeWheel::Hier(wheel)) => show_on(alloc, asked, wheel, checked, peer),
         Err(OutOfMemory) => Err(ServeFault::OutOfMemory),
     }
 }
 
 /// Answers the peer's lines as they come and shows where the timers stand, over a new wheel, which stands
 /// at the first tick.
-fn show_on<P: Peer, W: Wheel + Placement + Drop>(
+fn show_on<P: Peer, W: Wheel + Placement + OfScheme + Drop>(
     alloc: Global,
+    _asked: Play,
     wheel: W,
     checked: Checked,
     peer: &mut P,
 ) -> Result<(), ServeFault>
     requires good { AreGood (P.state peer.old) }
+    requires asked { W.is_asked _asked wheel }
     requires pending { (W.state wheel).pending ≡ [] }
     requires due { (W.state wheel).due ≡ [] }
     requires now { (W.state wheel).now ≡ checked.first_tick }
