@@ -9,6 +9,9 @@
 # make deb         Debian packages built from it: build/deb/*.deb
 # make bench       measures the wheels against others (bench/README.md)
 # make bench-lines measures the owner's desk, ring lines and clients in threads against others
+# make bench-scale measures an operation with 1,000 to 10,000,000 timers pending (bench/build/scale.csv and .svg)
+# make bench-tail  measures how long single ticks and starts take (bench/build/tail.csv and .svg)
+# make docs        makes docs/pages and docs/hierarchy.svg from the scripts of examples/
 # make hostile     the program under memory limits and input and output errors
 # make fuzz        an hour of scripts, against a model of docs/formats.md (MINUTES=N)
 # make soak        64 clients of 10,000 timers each in threads, 100 times; prints progress
@@ -82,4 +85,10 @@ clean:
 	rm -rf crates/*/out build timers
 	$(MAKE) -C bench clean
 
-.PHONY: all try run test lib install uninstall dist deb bench bench-lines hostile fuzz soak clean
+bench-scale bench-tail: bench-%: lib
+	$(MAKE) -C bench $* TIMERS_C=$(CURDIR)/build/lib/libtimers.a RUN_OPTIONS="$(RUN_OPTIONS)"
+
+docs: all
+	TIMERS=$(CURDIR)/$(PROGRAM) tools/docs_pages docs
+
+.PHONY: all try run test lib install uninstall dist deb bench bench-lines bench-scale bench-tail docs hostile fuzz soak clean

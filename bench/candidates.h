@@ -3,6 +3,7 @@
 // how many timers an owner may have, and for which workloads it is. The first row is the reference. A peer that this
 // machine lacks is left out.
 CANDIDATE_ROW(run_ref_hier, "ref-hier", ANY, true, 0, MANY, ALL)
+CANDIDATE_ROW(run_ref_apart, "ref-apart", ANY, true, 0, MANY, ALL)
 CANDIDATE_ROW(run_ref_plain_hier, "ref-plain-hier", LOW_WHEEL, true, 0, MANY, ALL)
 CANDIDATE_ROW(run_ref_hash_64k, "ref-hash-64k", TICK_BY_TICK, true, 65536, MANY, ALL)
 CANDIDATE_ROW(run_ref_hash_256, "ref-hash-256", TICK_BY_TICK, true, 256, MANY, ALL)

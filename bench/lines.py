@@ -1,20 +1,27 @@
 #!/usr/bin/env python3
 """Measures the owner's desk, ring lines and `timers threads`, each against its peer, as processes.
 
-    lines.py --work PROGRAM --timers PROGRAM [--only desk,lines,threads] [--repeats N]
+    lines.py --work PROGRAM --timers PROGRAM [--only desk,lines,rings,threads] [--repeats N] [--csv FILE]
 
-PROGRAM of --work is that of crates/timer_desk_bench, that of --timers the product. The peers are build/lines_ref and
-build/threads_ref. Programs take turns: each repeat gives one ratio, and a row has their median, and in parentheses the
-least and the greatest; `of best` is the ratio of the two least times.
+PROGRAM of --work is that of crates/timer_desk_bench, that of --timers the product. The peers are build/lines_ref
+and build/threads_ref. `rings` has no product: it compares C++ rings that publish their indices in other ways with
+one that publishes each item with release (build/rings_ref). --csv writes the ratios for plot_runs.py.
+
+Programs take turns: each repeat gives one ratio, and a row has their median, and in parentheses the least and the
+greatest; `of best` is the ratio of the two least times.
 
 Nothing is measured where a program gives another output than its peer. Status 1: a wrong output; 2: wrong arguments, or
 a program is not built.
 """
-import argparse, os, resource, statistics, subprocess, sys, time
+import argparse, csv, os, resource, statistics, subprocess, sys, time
+
+import runs
 
 HERE = os.path.dirname(os.path.abspath(__file__))
 LINES_REF = os.path.join(HERE, "build", "lines_ref")
 THREADS_REF = os.path.join(HERE, "build", "threads_ref")
+RINGS_REF = os.path.join(HERE, "build", "rings_ref")
+RINGS = ["seq_cst", "batch-8", "batch-16", "batch-64", "release-16"]  # against `release`
 ROUND = 65536  # requests in a round at a desk
 ROUNDS, FIRST_ROUNDS = 20, 5
 TRIPS = 1_000_000
@@ -63,8 +70,13 @@ def run(command, cores, apart=False):
     return after.ru_utime + after.ru_stime - before.ru_utime - before.ru_stime, wall, out
 
 
-def spread(mine, peer):
+RATIOS = []  # of each row: its name, and its ratios
+
+
+def spread(name, mine, peer):
+    """The ratios as text; they are kept for the CSV."""
     ratios = [m / p for m, p in zip(mine, peer)]
+    RATIOS.append((name, ratios))
     return f"{statistics.median(ratios):.2f} ({min(ratios):.2f}-{max(ratios):.2f}), of best {min(mine) / min(peer):.2f}"
 
 
@@ -83,8 +95,9 @@ def desk(work, repeats):
         served, words = ROUNDS * (ROUND // clients * clients), 2 * ROUNDS * (ROUND // clients * clients)
         for mode, name in (("desk", "turns"), ("calls", "single calls")):
             best = min(took[mode])
+            ratio = spread(f"desk, {clients} clients, {name}", took[mode], took["facility"])
             print(f"desk, {clients:2} clients, {name}: {served / best / 1e6:.1f} M requests and {words / best / 1e6:.1f} M words a second, "
-                  f"{best / words * 1e9:.0f} ns an event, ratio to the facility alone {spread(took[mode], took['facility'])}")
+                  f"{best / words * 1e9:.0f} ns an event, ratio to the facility alone {ratio}")
 
 
 def lines(work, repeats):
@@ -102,7 +115,25 @@ def lines(work, repeats):
             mine.append(wall)
             peer.append(ref_wall)
         print(f"line, {what}: {count / min(mine) / 1e6:.2f} M a second, {min(mine) / count * 1e9:.0f} ns each, "
-              f"the C++ ring {min(peer) / count * 1e9:.0f} ns, ratio {spread(mine, peer)}")
+              f"the C++ ring {min(peer) / count * 1e9:.0f} ns, ratio {spread(f'line, {what}', mine, peer)}")
+
+
+def rings(repeats):
+    """C++ rings from one thread to another, each on a core of its own: what a store for each item costs."""
+    if len(CORES) < 2:
+        print("rings: this takes two cores")
+        return
+    took = {mode: [] for mode in ["release", *RINGS]}
+    for _ in range(repeats):
+        for mode, times in took.items():
+            _, wall, out = run([RINGS_REF, mode, str(ONE_WAY)], CORES[:2], apart=True)
+            if out.decode() != f"{mode} served {ONE_WAY}\n":
+                fail(f"rings: {out!r}")
+            times.append(wall)
+    for mode in RINGS:
+        ratio = spread(f"C++ ring, {mode}", took[mode], took["release"])
+        print(f"C++ ring, {mode}: {min(took[mode]) / ONE_WAY * 1e9:.0f} ns each, with a store with release for each "
+              f"item {min(took['release']) / ONE_WAY * 1e9:.0f} ns, ratio {ratio}")
 
 
 def threads(timers, repeats):
@@ -119,31 +150,50 @@ def threads(timers, repeats):
             mine.append(wall)
             peer.append(ref_wall)
             cpu.append(used)
+        ratio = spread(f"threads, {cores} core{'s' if cores > 1 else ''}", mine, peer)
         print(f"threads, {CLIENTS} clients of {TIMERS} timers on {cores} core{'s' if cores > 1 else ''}: {min(mine) * 1e3:.1f} ms "
-              f"({min(cpu) * 1e3:.1f} ms of processor time), the C++ program {min(peer) * 1e3:.1f} ms, ratio {spread(mine, peer)}")
+              f"({min(cpu) * 1e3:.1f} ms of processor time), the C++ program {min(peer) * 1e3:.1f} ms, ratio {ratio}")
+
+
+def write(path, repeats, load):
+    """The ratios in the columns of runs.py."""
+    with open(path, "w", newline="", encoding="utf-8") as file:
+        writer = csv.writer(file)
+        writer.writerow(runs.COLUMNS)
+        for name, ratios in RATIOS:
+            figures = [f"{value:.3f}" for value in (statistics.median(ratios), min(ratios), max(ratios))]
+            row = ["lines", "timers", "", "", name, "ratio", *figures]
+            writer.writerow([*row, repeats, runs.machine(), f"{load:.1f}"])
 
 
 def main():
     parser = argparse.ArgumentParser()
     parser.add_argument("--work")
     parser.add_argument("--timers")
-    parser.add_argument("--only", default="desk,lines,threads")
+    parser.add_argument("--only", default="desk,lines,rings,threads")
+    parser.add_argument("--csv")
     parser.add_argument("--repeats", type=int, default=5)
     options = parser.parse_args()
     parts = options.only.split(",")
-    if not set(parts) <= {"desk", "lines", "threads"} or options.repeats < 1:
-        parser.error("--only takes desk, lines and threads, --repeats a number from 1 on")
-    needed = {"desk": [options.work], "lines": [options.work, LINES_REF], "threads": [options.timers, THREADS_REF]}
+    if not set(parts) <= {"desk", "lines", "rings", "threads"} or options.repeats < 1:
+        parser.error("--only takes desk, lines, rings and threads, --repeats a number from 1 on")
+    needed = {"desk": [options.work], "lines": [options.work, LINES_REF], "rings": [RINGS_REF],
+              "threads": [options.timers, THREADS_REF]}
     for part in parts:
         for program in needed[part]:
             if not program or not os.path.exists(program):
                 fail(f"{part}: {program or 'a program'} is not there", 2)
+    load = os.getloadavg()[0]
     if "desk" in parts:
         desk(options.work, options.repeats)
     if "lines" in parts:
         lines(options.work, options.repeats)
+    if "rings" in parts:
+        rings(options.repeats)
     if "threads" in parts:
         threads(options.timers, options.repeats)
+    if options.csv:
+        write(options.csv, options.repeats, load)
 
 
 main()

@@ -9,10 +9,14 @@ NUMBER = re.compile(r"0|[1-9][0-9]*")
 def of_fields(word, fields):
     wanted = FIELDS[word]
     if len(fields) != wanted:
-        return f"'{word}' takes {wanted or 'no'} number{'' if wanted == 1 else 's'}, and here are {len(fields)}"
+        return (
+            f"'{word}' takes {wanted or 'no'} number{'' if wanted == 1 else 's'}, and here are {len(fields)}"
+        )
     for text in fields:
         if not NUMBER.fullmatch(text):
-            return f"'{text}' is not a number as a script has it: digits alone, without a leading zero or a sign"
+            return (
+                f"'{text}' is not a number as a script has it: digits alone, without a leading zero or a sign"
+            )
         if int(text) > LAST:
             return f"{text} is above 1152921504606846975"
     if word == "tick" and not 1 <= int(fields[0]) <= 1_000_000:

@@ -25,16 +25,32 @@ class Browser:
         self.folder = tempfile.TemporaryDirectory(ignore_cleanup_errors=True)
         down, self.out = os.pipe()
         self.into, up = os.pipe()
-        words = [program, "--headless=new", "--remote-debugging-pipe", "--no-sandbox", "--disable-gpu", "--disable-dev-shm-usage",
-                 "--hide-scrollbars", "--no-first-run", f"--user-data-dir={self.folder.name}"]
+        words = [
+            program,
+            "--headless=new",
+            "--remote-debugging-pipe",
+            "--no-sandbox",
+            "--disable-gpu",
+            "--disable-dev-shm-usage",
+            "--hide-scrollbars",
+            "--no-first-run",
+            f"--user-data-dir={self.folder.name}",
+        ]
         # The browser reads from its descriptor 3 and writes to 4; `sh` gives them these numbers.
         shell = f'exec "$@" 3<&{down} 4>&{up}'
-        self.process = subprocess.Popen(["bash", "-c", shell, "sh", *words], pass_fds=(down, up), stdout=subprocess.DEVNULL, stderr=subprocess.DEVNULL)
+        self.process = subprocess.Popen(
+            ["bash", "-c", shell, "sh", *words],
+            pass_fds=(down, up),
+            stdout=subprocess.DEVNULL,
+            stderr=subprocess.DEVNULL,
+        )
         os.close(down)
         os.close(up)
         self.asked, self.rest, self.events = 0, b"", []
         target = self.ask("Target.createTarget", {"url": "about:blank"}, None)["targetId"]
-        self.session = self.ask("Target.attachToTarget", {"targetId": target, "flatten": True}, None)["sessionId"]
+        self.session = self.ask("Target.attachToTarget", {"targetId": target, "flatten": True}, None)[
+            "sessionId"
+        ]
         for domain in ("Page", "Runtime", "Log", "Network"):
             self.ask(f"{domain}.enable")
 
@@ -68,9 +84,15 @@ class Browser:
     def open(self, path, width=1280, height=900, is_dark=False):
         """Loads a file, and waits until it has run."""
         self.events.clear()
-        self.ask("Emulation.setDeviceMetricsOverride", {"width": width, "height": height, "deviceScaleFactor": 1, "mobile": width < 600})
+        self.ask(
+            "Emulation.setDeviceMetricsOverride",
+            {"width": width, "height": height, "deviceScaleFactor": 1, "mobile": width < 600},
+        )
         scheme = {"name": "prefers-color-scheme", "value": "dark" if is_dark else "light"}
-        self.ask("Emulation.setEmulatedMedia", {"features": [scheme, {"name": "prefers-reduced-motion", "value": "reduce"}]})
+        self.ask(
+            "Emulation.setEmulatedMedia",
+            {"features": [scheme, {"name": "prefers-reduced-motion", "value": "reduce"}]},
+        )
         self.ask("Page.navigate", {"url": f"file://{os.path.abspath(path)}"})
         until = time.monotonic() + LIMIT
         while not any(event.get("method") == "Page.loadEventFired" for event in self.events):
@@ -78,7 +100,9 @@ class Browser:
 
     def value(self, script):
         """The value of an expression in the page."""
-        result = self.ask("Runtime.evaluate", {"expression": script, "returnByValue": True, "awaitPromise": True})
+        result = self.ask(
+            "Runtime.evaluate", {"expression": script, "returnByValue": True, "awaitPromise": True}
+        )
         if "exceptionDetails" in result:
             details = result["exceptionDetails"]
             raise Failed(details.get("exception", {}).get("description") or details["text"])
@@ -86,15 +110,28 @@ class Browser:
 
     def press(self, key, code):
         for kind in ("keyDown", "keyUp"):
-            self.ask("Input.dispatchKeyEvent", {"type": kind, "key": key, "code": code, "windowsVirtualKeyCode": 0, "text": " " if key == " " and kind == "keyDown" else ""})
+            self.ask(
+                "Input.dispatchKeyEvent",
+                {
+                    "type": kind,
+                    "key": key,
+                    "code": code,
+                    "windowsVirtualKeyCode": 0,
+                    "text": " " if key == " " and kind == "keyDown" else "",
+                },
+            )
 
     def faults(self):
-        """What the page's console has: errors, warnings, exceptions; and what it loaded besides its own file."""
+        """The errors and warnings of the page's console, and what it loaded besides its own file."""
         found = []
         for event in self.events:
             method, told = event.get("method"), event.get("params", {})
             if method == "Runtime.exceptionThrown":
-                found.append(told["exceptionDetails"].get("exception", {}).get("description", told["exceptionDetails"]["text"]))
+                found.append(
+                    told["exceptionDetails"]
+                    .get("exception", {})
+                    .get("description", told["exceptionDetails"]["text"])
+                )
             elif method == "Runtime.consoleAPICalled" and told["type"] in ("error", "warning", "assert"):
                 found.append(" ".join(str(a.get("value", a.get("description"))) for a in told["args"]))
             elif method == "Log.entryAdded" and told["entry"]["level"] in ("error", "warning"):
@@ -105,6 +142,7 @@ class Browser:
 
     def picture(self, path):
         import base64
+
         with open(path, "wb") as file:
             file.write(base64.b64decode(self.ask("Page.captureScreenshot", {"format": "png"})["data"]))
 

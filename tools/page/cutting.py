@@ -1,11 +1,10 @@
 """Where a line of ticks is cut, so that each move and each expired timer is a step of its own.
 
-The cuts follow from the deadlines alone. They decide at which ticks the program is asked where the timers stand, and
-nothing of what it answers.
-"""
+The cuts follow from the deadlines alone. They decide at which ticks the program is asked where the timers
+stand, and nothing of what it answers."""
 from dataclasses import dataclass
 
-MOST_PIECES = 64  # of one line; a line with more is one step
+MOST_PIECES = 32  # of one line; a line with more is one step
 MOST_STEPS = 5_000
 
 

@@ -4,14 +4,16 @@ const SVG = "http://www.w3.org/2000/svg";
 const INNER = 78;
 const OUTER = 98;
 const MOST_BUCKETS = 32; // shown of one wheel before the rest is folded
-const MOST_CHIPS = 24; // shown of one bucket before the rest is folded
+const MOST_CHIPS = 24;   // shown of one bucket before the rest is folded
 
 function make(tag, attributes, ...children) {
   const svg = ["svg", "circle", "path", "text", "g", "line", "title"].includes(tag);
   const made = svg ? document.createElementNS(SVG, tag) : document.createElement(tag);
   for (const [name, value] of Object.entries(attributes || {})) {
-    if (name.startsWith("on")) made.addEventListener(name.slice(2), value);
-    else if (value !== null && value !== false) made.setAttribute(name, value === true ? "" : value);
+    if (name.startsWith("on"))
+      made.addEventListener(name.slice(2), value);
+    else if (value !== null && value !== false)
+      made.setAttribute(name, value === true ? "" : value);
   }
   made.append(...children.filter((child) => child !== null && child !== undefined));
   return made;
@@ -26,7 +28,8 @@ function point(turn, radius) {
 function segment(from, to, inner, outer) {
   const large = to - from > 0.5 ? 1 : 0;
   const at = (turn, radius) => point(turn, radius).map((n) => n.toFixed(2)).join(" ");
-  return `M${at(from, outer)}A${outer} ${outer} 0 ${large} 1 ${at(to, outer)}L${at(to, inner)}A${inner} ${inner} 0 ${large} 0 ${at(from, inner)}Z`;
+  return `M${at(from, outer)}A${outer} ${outer} 0 ${large} 1 ${at(to, outer)}L${at(to, inner)}A${inner} ${
+      inner} 0 ${large} 0 ${at(from, inner)}Z`;
 }
 
 // The segment of a slot. Where there are many slots it is wider than its share, so that it can be seen.
@@ -39,37 +42,50 @@ function slotSegment(slot, slots) {
 
 class WheelCard {
   constructor(play, words, wheel, follow) {
-    Object.assign(this, { play, words, wheel, follow });
+    Object.assign(this, {play, words, wheel, follow});
     this.rows = new Map();
     this.segments = new Map();
     this.turn = null;
     this.isOpen = false;
     this.openBuckets = new Set();
-    const { name, slots, ticks } = play.wheels[wheel];
-    const each = { plain: "", hashed: `${slots} slots, one a tick` }[play.scheme] ?? `${slots} slots of ${ticksOf(ticks)}`;
-    this.list = make("ul", { class: "buckets" });
-    this.body = make("div", { class: "wheel-body" }, play.scheme === "plain" ? null : this.ring(slots), this.list);
-    this.element = make("article", { class: "wheel", "aria-label": name },
-      make("header", {}, make("h3", {}, play.scheme === "plain" ? "Pending, from the front" : upper(name)), make("p", {}, each)), this.body);
+    const {name, slots, ticks} = play.wheels[wheel];
+    const each = {plain: "", hashed: `${slots} slots, one a tick`}[play.scheme] ??
+        `${slots} slots of ${ticksOf(ticks)}`;
+    this.list = make("ul", {class: "buckets"});
+    this.body =
+        make("div", {class: "wheel-body"}, play.scheme === "plain" ? null : this.ring(slots), this.list);
+    this.element = make("article", {class: "wheel", "aria-label": name},
+        make("header", {}, make("h3", {}, play.scheme === "plain" ? "Pending, from the front" : upper(name)),
+            make("p", {}, each)),
+        this.body);
   }
 
   ring(slots) {
-    this.held = make("path", { class: "held" });
-    this.chosen = make("path", { class: "held-followed" });
-    this.left = make("path", { class: "left" });
+    this.held = make("path", {class: "held"});
+    this.chosen = make("path", {class: "held-followed"});
+    this.left = make("path", {class: "left"});
     const tip = point(0, INNER - 12);
-    this.hand = make("g", { class: "turns" }, make("line", { class: "hand", x1: 0, y1: -26, x2: tip[0], y2: tip[1] + 4 }),
-      make("path", { class: "hand-tip", d: `M-5 ${-INNER + 13}L5 ${-INNER + 13}L0 ${-INNER + 4}Z` }));
-    this.digit = make("text", { class: "digit", y: 0 });
+    this.hand =
+        make("g", {class: "turns"}, make("line", {class: "hand", x1: 0, y1: -26, x2: tip[0], y2: tip[1] + 4}),
+            make("path", {class: "hand-tip", d: `M-5 ${- INNER + 13}L5 ${- INNER + 13}L0 ${- INNER + 4}Z`}));
+    this.digit = make("text", {class: "digit", y: 0});
     const dashes = slots > 1 && slots <= 128 ? "0.84 0.16" : "none";
-    const track = make("circle", { class: "track", r: (INNER + OUTER) / 2, "stroke-width": OUTER - INNER, pathLength: slots, "stroke-dasharray": dashes,
-      "stroke-dashoffset": "-0.08", transform: "rotate(-90)" });
+    const track = make("circle", {
+      class: "track",
+      r: (INNER + OUTER) / 2,
+      "stroke-width": OUTER - INNER,
+      pathLength: slots,
+      "stroke-dasharray": dashes,
+      "stroke-dashoffset": "-0.08",
+      transform: "rotate(-90)"
+    });
     this.title = make("title", {});
-    this.svg = make("svg", { viewBox: "-120 -120 240 240", role: "img" }, this.title, track, this.held, this.chosen, this.left, this.hand, this.digit);
+    this.svg = make("svg", {viewBox: "-120 -120 240 240", role: "img"}, this.title, track, this.held,
+        this.chosen, this.left, this.hand, this.digit);
     const marks = slots < 8 ? [...Array(slots).keys()] : [0, 1, 2, 3].map((k) => Math.floor((k * slots) / 4));
     for (const slot of marks) {
       const [x, y] = point((slot + 0.5) / slots, 109);
-      this.svg.append(make("text", { class: "slot-label", x, y }, String(slot)));
+      this.svg.append(make("text", {class: "slot-label", x, y}, String(slot)));
     }
     return this.svg;
   }
@@ -82,20 +98,21 @@ class WheelCard {
     return [box.left + ((x + 120) / 240) * box.width, box.top + ((y + 120) / 240) * box.height];
   }
 
-  // `held` are the slots that have timers and their lists; `chosen` is the slot of the followed timer, or null; `left` are
-  // the slots that timers have just moved away from.
-  render({ held, chosen, left }, now, followed) {
+  // `held` are the slots that have timers and their lists; `chosen` is the slot of the followed timer, or
+  // null; `left` are the slots that timers have just moved away from.
+  render({held, chosen, left}, now, followed) {
     if (this.svg) this.renderRing(held, chosen, left, now);
     this.renderBuckets(held, chosen, followed);
   }
 
   segment(slot) {
-    if (!this.segments.has(slot)) this.segments.set(slot, slotSegment(slot, this.play.wheels[this.wheel].slots));
+    if (!this.segments.has(slot))
+      this.segments.set(slot, slotSegment(slot, this.play.wheels[this.wheel].slots));
     return this.segments.get(slot);
   }
 
   renderRing(held, chosen, left, now) {
-    const { slots, name } = this.play.wheels[this.wheel];
+    const {slots, name} = this.play.wheels[this.wheel];
     const digit = digitsOf(this.play.wheels, now)[this.wheel];
     this.held.setAttribute("d", held.map(([slot]) => (slot === chosen ? "" : this.segment(slot))).join(""));
     this.chosen.setAttribute("d", chosen === null ? "" : this.segment(chosen));
@@ -105,38 +122,57 @@ class WheelCard {
     const from = this.turn === null ? digit : this.turn;
     const on = (((digit - from) % slots) + slots) % slots;
     this.turn = from + (this.back && on ? on - slots : on);
-    this.hand.setAttribute("style", `transform: rotate(${(((this.turn + 0.5) / slots) * 360).toFixed(3)}deg)`);
-    this.title.textContent = `${upper(name)}: the hand is at slot ${digit}, ${held.length} slot${held.length === 1 ? " has" : "s have"} timers`;
+    this.hand.setAttribute(
+        "style", `transform: rotate(${(((this.turn + 0.5) / slots) * 360).toFixed(3)}deg)`);
+    this.title.textContent = `${upper(name)}: the hand is at slot ${digit}, ${held.length} slot${
+        held.length === 1 ? " has" : "s have"} timers`;
   }
 
   renderBuckets(held, chosen, followed) {
     const shown = this.isOpen ? held : held.filter(([slot], at) => at < MOST_BUCKETS || slot === chosen);
     const rows = shown.map(([slot, list]) => this.row(slot, list, slot === chosen ? followed : null));
-    if (!held.length) rows.push(make("li", {}, make("span", { class: "none" }, "empty")));
-    if (shown.length < held.length) rows.push(make("li", { class: "rest" }, this.more(`and ${held.length - shown.length} more slots`, () => { this.isOpen = true; })));
+    if (!held.length) rows.push(make("li", {}, make("span", {class: "none"}, "empty")));
+    if (shown.length < held.length)
+      rows.push(make("li", {class: "rest"}, this.more(`and ${held.length - shown.length} more slots`, () => {
+        this.isOpen = true;
+      })));
     this.list.replaceChildren(...rows);
     const live = new Set(shown.map(([slot]) => slot));
-    for (const slot of this.rows.keys()) if (!live.has(slot)) this.rows.delete(slot);
+    for (const slot of this.rows.keys())
+      if (!live.has(slot)) this.rows.delete(slot);
   }
 
   more(text, open) {
-    return make("button", { type: "button", class: "chip more", onclick: () => { open(); this.follow(null); } }, text);
+    return make("button", {
+      type: "button",
+      class: "chip more",
+      onclick: () => {
+        open();
+        this.follow(null);
+      }
+    },
+        text);
   }
 
-  // The row of a bucket, where `has` is the followed timer if it stands there. It is made anew only if it changed.
+  // The row of a bucket, where `has` is the followed timer if it stands there. It is made anew only if it
+  // changed.
   row(slot, list, has) {
     const old = this.rows.get(slot);
     const isOpen = this.openBuckets.has(slot);
     if (old && old.list === list && old.has === has && old.isOpen === isOpen) return old.element;
     const most = isOpen ? list.length : MOST_CHIPS;
     const shown = list.slice(0, most);
-    if (has && !shown.some((written) => serialOf(written) === has)) shown[most - 1] = list.find((written) => serialOf(written) === has);
+    if (has && !shown.some((written) => serialOf(written) === has))
+      shown[most - 1] = list.find((written) => serialOf(written) === has);
     const chips = shown.map((written) => this.chip(written, has));
-    if (shown.length < list.length) chips.push(this.more(`and ${list.length - shown.length} more`, () => this.openBuckets.add(slot)));
-    const name = this.play.scheme === "plain" ? "pending" : this.words.place(keyOf(this.wheel, slot)).replace(/^wheel \d+ /, "");
-    const element = make("li", { class: "bucket" }, make("span", { class: "name" }, name),
-      make("div", { class: "chips" }, ...chips));
-    this.rows.set(slot, { list, has, isOpen, element });
+    if (shown.length < list.length)
+      chips.push(this.more(`and ${list.length - shown.length} more`, () => this.openBuckets.add(slot)));
+    const name = this.play.scheme === "plain" ?
+        "pending" :
+        this.words.place(keyOf(this.wheel, slot)).replace(/^wheel \d+ /, "");
+    const element = make("li", {class: "bucket"}, make("span", {class: "name"}, name),
+        make("div", {class: "chips"}, ...chips));
+    this.rows.set(slot, {list, has, isOpen, element});
     return element;
   }
 
@@ -144,8 +180,16 @@ class WheelCard {
     const serial = serialOf(written);
     const timer = this.play.timers.get(serial);
     const parts = written.split(":");
-    return make("button", { type: "button", class: `chip${serial === has ? " is-followed" : ""}`, "data-serial": serial, "aria-pressed": String(serial === has),
-      title: timer ? `timer ${serial}, deadline ${timer.deadline}, client ${timer.client}, action ${timer.action}` : `timer ${serial}`,
-      onclick: () => this.follow(serial) }, serial, parts[1] === undefined ? null : make("span", { class: "part" }, `:${parts[1]}`));
+    return make("button", {
+      type: "button",
+      class: `chip${serial === has ? " is-followed" : ""}`,
+      "data-serial": serial,
+      "aria-pressed": String(serial === has),
+      title: timer ?
+          `timer ${serial}, deadline ${timer.deadline}, client ${timer.client}, action ${timer.action}` :
+          `timer ${serial}`,
+      onclick: () => this.follow(serial)
+    },
+        serial, parts[1] === undefined ? null : make("span", {class: "part"}, `:${parts[1]}`));
   }
 }

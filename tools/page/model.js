@@ -2,17 +2,11 @@
 
 const SNAPSHOT = 64; // the buckets are kept whole after so many steps
 
-function keyOf(wheel, slot) {
-  return wheel * 65536 + slot;
-}
+function keyOf(wheel, slot) { return wheel * 65536 + slot; }
 
-function placeOf(key) {
-  return { wheel: Math.floor(key / 65536), slot: key % 65536 };
-}
+function placeOf(key) { return {wheel: Math.floor(key / 65536), slot: key % 65536}; }
 
-function serialOf(written) {
-  return written.split(":")[0];
-}
+function serialOf(written) { return written.split(":")[0]; }
 
 // The buckets after these edits. Lists that didn't change are the same objects as before.
 function edited(buckets, edits) {
@@ -21,8 +15,10 @@ function edited(buckets, edits) {
     const key = keyOf(wheel, slot);
     const old = next.get(key) || [];
     const list = [...old.slice(0, front), ...between, ...old.slice(old.length - back)];
-    if (list.length) next.set(key, list);
-    else next.delete(key);
+    if (list.length)
+      next.set(key, list);
+    else
+      next.delete(key);
   }
   return next;
 }
@@ -44,23 +40,29 @@ function levelOf(wheels, one, other) {
 class Play {
   constructor(data) {
     Object.assign(this, data);
-    this.wheels = data.wheels.map((wheel) => ({ ...wheel, ticks: BigInt(wheel.ticks) }));
-    this.steps = data.steps.map(([line, passed, now, answers, edits]) => ({ line, passed, now: BigInt(now), answers, edits, events: [] }));
+    this.wheels = data.wheels.map((wheel) => ({...wheel, ticks: BigInt(wheel.ticks)}));
+    this.steps = data.steps.map(([line, passed, now, answers, edits]) =>
+                                    ({line, passed, now: BigInt(now), answers, edits, events: []}));
     this.timers = new Map();
     this.used = new Set();
     this.snapshots = [new Map()];
     this.read();
     // A bad line is a last step, at which nothing changes.
-    if (data.bad !== null) this.steps.push({ line: data.bad, passed: 0, now: this.now(this.last), answers: [], edits: [], events: [], isBad: true });
+    if (data.bad !== null)
+      this.steps.push({
+        line: data.bad,
+        passed: 0,
+        now: this.now(this.last),
+        answers: [],
+        edits: [],
+        events: [],
+        isBad: true
+      });
   }
 
-  get last() {
-    return this.steps.length;
-  }
+  get last() { return this.steps.length; }
 
-  now(step) {
-    return step ? this.steps[step - 1].now : BigInt(this.firstTick);
-  }
+  now(step) { return step ? this.steps[step - 1].now : BigInt(this.firstTick); }
 
   // Reads all steps once: the snapshots, and each timer's history.
   read() {
@@ -83,14 +85,14 @@ class Play {
       buckets = this.kept.buckets;
     }
     for (; at < step; at += 1) buckets = edited(buckets, this.steps[at].edits);
-    this.kept = { step, buckets };
+    this.kept = {step, buckets};
     return buckets;
   }
 
   happen(serial, step, event) {
     const timer = this.timers.get(serial);
     if (!timer) return;
-    const whole = { ...event, step, serial };
+    const whole = {...event, step, serial};
     timer.events.push(whole);
     this.steps[step - 1].events.push(whole);
   }
@@ -99,18 +101,32 @@ class Play {
   hear(answer, step) {
     const words = answer.split(" ");
     const line = this.lines[this.steps[step - 1].line].split(" ");
-    if (words[0] === "started") this.begin(words[3], words[1], words[4], line[4], step, null);
+    if (words[0] === "started")
+      this.begin(words[3], words[1], words[4], line[4], step, null);
     else if (words[0] === "restarted") {
-      this.happen(words[3], step, { kind: "restarted", by: words[4] });
+      this.happen(words[3], step, {kind: "restarted", by: words[4]});
       this.begin(words[4], words[1], words[5], line[5], step, words[3]);
-    } else if (words[0] === "stopped") this.happen(words[3], step, { kind: "stopped" });
-    else if (words[0] === "expired") this.happen(words[3], step, { kind: "expired", tick: BigInt(words[1]) });
-    else if (words[0] === "returned") this.happen(words[2], step, { kind: "returned" });
+    } else if (words[0] === "stopped")
+      this.happen(words[3], step, {kind: "stopped"});
+    else if (words[0] === "expired")
+      this.happen(words[3], step, {kind: "expired", tick: BigInt(words[1])});
+    else if (words[0] === "returned")
+      this.happen(words[2], step, {kind: "returned"});
   }
 
   begin(serial, client, deadline, action, step, old) {
-    this.timers.set(serial, { serial, client, action, deadline: BigInt(deadline), old, start: this.now(step), key: null, note: "", events: [] });
-    this.happen(serial, step, { kind: "started" });
+    this.timers.set(serial, {
+      serial,
+      client,
+      action,
+      deadline: BigInt(deadline),
+      old,
+      start: this.now(step),
+      key: null,
+      note: "",
+      events: []
+    });
+    this.happen(serial, step, {kind: "started"});
   }
 
   // An edit of a bucket: timers that came there, or whose rounds changed.
@@ -120,9 +136,12 @@ class Play {
       const timer = this.timers.get(serialOf(written));
       if (!timer) continue;
       const note = written.split(":")[1] || "";
-      if (timer.key === null) timer.events[timer.events.length - 1].to = key;
-      else if (timer.key !== key) this.happen(timer.serial, step, { kind: "moved", from: timer.key, to: key });
-      else if (timer.note !== note) this.happen(timer.serial, step, { kind: "round", rounds: note });
+      if (timer.key === null)
+        timer.events[timer.events.length - 1].to = key;
+      else if (timer.key !== key)
+        this.happen(timer.serial, step, {kind: "moved", from: timer.key, to: key});
+      else if (timer.note !== note)
+        this.happen(timer.serial, step, {kind: "round", rounds: note});
       timer.key = key;
       timer.note = note;
     }
@@ -135,8 +154,10 @@ class Play {
     let key = null;
     for (const event of timer ? timer.events : []) {
       if (event.step > step) break;
-      if (event.kind === "started" || event.kind === "moved") key = event.to;
-      else if (event.kind !== "round") key = null;
+      if (event.kind === "started" || event.kind === "moved")
+        key = event.to;
+      else if (event.kind !== "round")
+        key = null;
     }
     return key;
   }

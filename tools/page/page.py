@@ -13,14 +13,14 @@ def read(name):
 
 
 def edit(place, old, new):
-    """How the timers of a bucket changed: so many of the front and of the back stay, and these are between."""
+    """How a bucket changed: so many timers of its front and of its back stay, and these are between."""
     front = 0
     while front < min(len(old), len(new)) and old[front] == new[front]:
         front += 1
     back = 0
     while back < min(len(old), len(new)) - front and old[-1 - back] == new[-1 - back]:
         back += 1
-    return [*place, front, back, new[front:len(new) - back]]
+    return [*place, front, back, new[front : len(new) - back]]
 
 
 def edits(old, new):

@@ -21,7 +21,9 @@ class Step:
     passed: int  # ticks of the line that have passed at the step's end, 0 for other lines
     now: int = 0
     answers: list = field(default_factory=list)
-    buckets: dict = field(default_factory=dict)  # (wheel, slot) -> the timers as they are written, from the front
+    buckets: dict = field(
+        default_factory=dict
+    )  # (wheel, slot) -> the timers as they are written, from the front
 
 
 @dataclass
@@ -82,5 +84,7 @@ def play(program, script, options, whole):
         if [a for s in fine for a in s.answers] != [a for s in steps for a in s.answers]:
             raise Refused("the script has other answers when its ticks are played in pieces", 1)
         steps = fine
-    reason = bad_lines.reason(lines[bad], bad == len(lines) - 1 and not script.endswith(b"\n")) if error else ""
+    reason = (
+        bad_lines.reason(lines[bad], bad == len(lines) - 1 and not script.endswith(b"\n")) if error else ""
+    )
     return Play(scheme, first_tick, lines, steps, bad, reason, uncut)

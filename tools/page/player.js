@@ -6,7 +6,11 @@ const MOST_EVENTS = 20; // of one timer's history
 const $ = (id) => document.getElementById(id);
 const play = new Play(JSON.parse($("data").textContent));
 const words = new Words(play);
-const shown = { step: 0, followed: play.timers.size ? play.timers.keys().next().value : null, timer: null };
+const shown = {
+  step: 0,
+  followed: play.timers.size ? play.timers.keys().next().value : null,
+  timer: null
+};
 const calm = window.matchMedia("(prefers-reduced-motion: reduce)");
 
 function follow(serial) {
@@ -23,18 +27,19 @@ const stepsOfLine = play.lines.map(() => []);
 play.steps.forEach((step, at) => stepsOfLine[step.line].push(at + 1));
 const rows = play.lines.map((text, line) => {
   const steps = stepsOfLine[line];
-  const passed = make("span", { class: "passed" });
-  const button = make("button", { type: "button", disabled: !steps.length, onclick: () => go(steps[steps.length - 1]) },
-    make("span", { class: "number" }, String(line + 1)), make("span", { class: "text" }, text || " "), passed);
-  const element = make("li", { class: line === play.bad ? "is-line-bad" : "" }, button);
-  return { element, passed, count: -1 };
+  const passed = make("span", {class: "passed"});
+  const button = make("button",
+      {type: "button", disabled: !steps.length, onclick: () => go(steps[steps.length - 1])},
+      make("span", {class: "number"}, String(line + 1)), make("span", {class: "text"}, text || " "), passed);
+  const element = make("li", {class: line === play.bad ? "is-line-bad" : ""}, button);
+  return {element, passed, count: -1};
 });
 
 function answerRow(answer) {
   const words = answer.split(" ");
   const kind = words[0] === "refused" || words[1] === "refused" ? "refused" : words[0];
-  const why = kind === "refused" ? make("span", { class: "why" }, reasonOf(answer)) : null;
-  return make("div", { class: `answer ${kind}` }, answer, why);
+  const why = kind === "refused" ? make("span", {class: "why"}, reasonOf(answer)) : null;
+  return make("div", {class: `answer ${kind}`}, answer, why);
 }
 
 // A line's answers so far. Nothing is done where they are those that it shows.
@@ -46,13 +51,17 @@ function renderLine(line, step) {
   row.count = done.length;
   const answers = done.flatMap((at) => play.steps[at - 1].answers);
   const made = answers.slice(0, MOST_ANSWERS).map(answerRow);
-  if (answers.length > MOST_ANSWERS) made.push(make("div", { class: "answer" }, `… and ${answers.length - MOST_ANSWERS} more`));
+  if (answers.length > MOST_ANSWERS)
+    made.push(make("div", {class: "answer"}, `… and ${answers.length - MOST_ANSWERS} more`));
   const isBad = line === play.bad && done.length > 0;
-  if (isBad) made.push(make("div", { class: "answer refused" }, `bad line ${line + 1}`, make("span", { class: "why" }, play.reason)));
+  if (isBad)
+    made.push(make(
+        "div", {class: "answer refused"}, `bad line ${line + 1}`, make("span", {class: "why"}, play.reason)));
   row.element.classList.toggle("is-bad", isBad);
   row.element.replaceChildren(row.element.firstChild, ...made);
   const pieces = stepsOfLine[line].length;
-  row.passed.textContent = pieces > 1 && done.length ? `${play.steps[done[done.length - 1] - 1].passed} passed` : "";
+  row.passed.textContent =
+      pieces > 1 && done.length ? `${play.steps[done[done.length - 1] - 1].passed} passed` : "";
 }
 
 function renderLines(from, step) {
@@ -62,31 +71,39 @@ function renderLines(from, step) {
   const here = lineAt(step);
   if (rows[lineAt(from)]) rows[lineAt(from)].element.classList.remove("is-here");
   if (!rows[here]) return;
-  const { element } = rows[here];
+  const {element} = rows[here];
   element.classList.add("is-here");
   // The list is scrolled, and not the page.
   const list = $("lines");
-  const [top, bottom] = [element.offsetTop - list.offsetTop, element.offsetTop - list.offsetTop + element.offsetHeight];
-  if (top < list.scrollTop || bottom > list.scrollTop + list.clientHeight) list.scrollTop = top - list.clientHeight / 3;
+  const [top, bottom] =
+      [element.offsetTop - list.offsetTop, element.offsetTop - list.offsetTop + element.offsetHeight];
+  if (top < list.scrollTop || bottom > list.scrollTop + list.clientHeight)
+    list.scrollTop = top - list.clientHeight / 3;
 }
 
 function renderTold(step) {
-  const here = step ? play.steps[step - 1] : { answers: [] };
-  const kind = (said) => (here.isBad || / is refused as /.test(said) ? "fault" : / expires?[,. ]/.test(said) ? "out" : "");
-  $("told").replaceChildren(...words.of(step).map((said) => make("p", { class: kind(said) }, said)));
+  const here = step ? play.steps[step - 1] : {answers: []};
+  const kind = (said) => (here.isBad || / is refused as /.test(said) ? "fault" :
+          / expires?[,. ]/.test(said)                                ? "out" :
+                                                                       "");
+  $("told").replaceChildren(...words.of(step).map((said) => make("p", {class: kind(said)}, said)));
 }
 
 function digitRow(name, tick, level) {
-  const cells = words.digits(tick).map((digit, at) => make("td", { class: words.levels[at] === level ? "level" : "" }, String(digit)));
-  return make("tr", {}, make("th", { scope: "row" }, name), ...cells);
+  const cells = words.digits(tick).map(
+      (digit, at) => make("td", {class: words.levels[at] === level ? "level" : ""}, String(digit)));
+  return make("tr", {}, make("th", {scope: "row"}, name), ...cells);
 }
 
-// The digits of now and of the deadline, one over the other: the highest that differs is where the timer stands.
+// The digits of now and of the deadline, one over the other: the highest that differs is where the timer
+// stands.
 function digitTable(timer, now) {
   const level = levelOf(play.wheels, now, timer.deadline);
-  const names = words.levels.map((k) => make("th", { scope: "col" }, play.wheels[k].name));
-  return make("div", { class: "scroll" }, make("table", { class: "digits" }, make("thead", {}, make("tr", {}, make("td", {}), ...names)),
-    make("tbody", {}, digitRow(`now ${now}`, now, level), digitRow(`deadline ${timer.deadline}`, timer.deadline, level))));
+  const names = words.levels.map((k) => make("th", {scope: "col"}, play.wheels[k].name));
+  return make("div", {class: "scroll"},
+      make("table", {class: "digits"}, make("thead", {}, make("tr", {}, make("td", {}), ...names)),
+          make("tbody", {}, digitRow(`now ${now}`, now, level),
+              digitRow(`deadline ${timer.deadline}`, timer.deadline, level))));
 }
 
 function historyRow(event, step) {
@@ -94,19 +111,22 @@ function historyRow(event, step) {
   const line = play.steps[event.step - 1].line + 1;
   const tick = event.tick === undefined ? play.now(event.step) : event.tick;
   const state = `${past ? "is-past" : ""} ${event.step === step ? "is-now" : ""}`;
-  return make("li", { class: state.trim() }, make("button", { type: "button", onclick: () => go(event.step) }, words.event(event),
-    make("small", {}, `tick ${tick}, line ${line}`)));
+  return make("li", {class: state.trim()},
+      make("button", {type: "button", onclick: () => go(event.step)}, words.event(event),
+          make("small", {}, `tick ${tick}, line ${line}`)));
 }
 
-// A timer's history, or the part of a long one that is about this step.
+// A timer's history, or the part of a long one that is about this step. Of the rounds only the present one is
+// listed.
 function history(timer, step) {
-  const past = timer.events.filter((event) => event.step <= step).length;
-  const first = Math.max(0, Math.min(past - MOST_EVENTS / 2, timer.events.length - MOST_EVENTS));
-  const rows = timer.events.slice(first, first + MOST_EVENTS).map((event) => historyRow(event, step));
-  const rest = timer.events.length - first - rows.length;
-  if (first) rows.unshift(make("li", { class: "cut" }, `${first} earlier`));
-  if (rest) rows.push(make("li", { class: "cut" }, `${rest} later`));
-  return make("ol", { class: "history" }, ...rows);
+  const events = timer.events.filter((event) => event.kind !== "round" || event.step === step);
+  const past = events.filter((event) => event.step <= step).length;
+  const first = Math.max(0, Math.min(past - MOST_EVENTS / 2, events.length - MOST_EVENTS));
+  const rows = events.slice(first, first + MOST_EVENTS).map((event) => historyRow(event, step));
+  const rest = events.length - first - rows.length;
+  if (first) rows.unshift(make("li", {class: "cut"}, `${first} earlier`));
+  if (rest) rows.push(make("li", {class: "cut"}, `${rest} later`));
+  return make("ol", {class: "history"}, ...rows);
 }
 
 function renderFollowed(step) {
@@ -115,32 +135,38 @@ function renderFollowed(step) {
   $("before").disabled = !timer || !play.timers.has(String(BigInt(timer.serial) - 1n));
   $("after").disabled = !timer || !play.timers.has(String(BigInt(timer.serial) + 1n));
   if (!timer) {
-    $("followed").replaceChildren(make("p", {}, play.timers.size ? `The script starts no timer ${shown.followed}.` : "The script starts no timer."));
+    $("followed")
+        .replaceChildren(make("p", {},
+            play.timers.size ? `The script starts no timer ${shown.followed}.` :
+                               "The script starts no timer."));
     return;
   }
   const now = play.now(step);
   const key = play.whereIs(timer.serial, step);
-  const parts = [make("p", {}, `Timer ${timer.serial} of client ${timer.client}, deadline ${timer.deadline}.`)];
+  const parts =
+      [make("p", {}, `Timer ${timer.serial} of client ${timer.client}, deadline ${timer.deadline}.`)];
   if (key !== null) {
     if (words.isHierarchy) parts.push(digitTable(timer, now));
-    parts.push(make("p", { class: "because" }, words.why(timer, now)));
-  } else parts.push(make("p", { class: "because" }, timer.events[0].step > step ? "It has not been started yet." : "It is no longer pending."));
+    parts.push(make("p", {class: "because"}, words.why(timer, now)));
+  } else
+    parts.push(make("p", {class: "because"},
+        timer.events[0].step > step ? "It has not been started yet." : "It is no longer pending."));
   parts.push(history(timer, step));
   $("followed").replaceChildren(...parts);
 }
 
 function renderWheels(step) {
-  const parts = new Map(drawn.map((k) => [k, { held: [], chosen: null, left: [] }]));
+  const parts = new Map(drawn.map((k) => [k, {held: [], chosen: null, left: []}]));
   const buckets = play.buckets(step);
   let count = 0;
   for (const key of [...buckets.keys()].sort((a, b) => a - b)) {
-    const { wheel, slot } = placeOf(key);
+    const {wheel, slot} = placeOf(key);
     parts.get(wheel).held.push([slot, buckets.get(key)]);
     count += buckets.get(key).length;
   }
   const chosen = play.whereIs(shown.followed, step);
   if (chosen !== null) parts.get(placeOf(chosen).wheel).chosen = placeOf(chosen).slot;
-  for (const { kind, from } of step ? play.steps[step - 1].events : []) {
+  for (const {kind, from} of step ? play.steps[step - 1].events : []) {
     if (kind === "moved") parts.get(placeOf(from).wheel).left.push(placeOf(from).slot);
   }
   for (const [k, card] of cards) card.render(parts.get(k), play.now(step), shown.followed);
@@ -150,16 +176,19 @@ function renderWheels(step) {
 // Where the timers that move at this step stand now, on the screen.
 function flights(step) {
   if (calm.matches || !step) return [];
-  const moved = play.steps[step - 1].events.filter((event) => event.kind === "moved" && cards.has(placeOf(event.from).wheel));
-  return moved.slice(0, 12).map((event) => [event.from, event.to].map((key) => cards.get(placeOf(key).wheel).spot(placeOf(key).slot)));
+  const moved = play.steps[step - 1].events.filter(
+      (event) => event.kind === "moved" && cards.has(placeOf(event.from).wheel));
+  return moved.slice(0, 12).map(
+      (event) => [event.from, event.to].map((key) => cards.get(placeOf(key).wheel).spot(placeOf(key).slot)));
 }
 
 function fly(step) {
   for (const [[x, y], [toX, toY]] of flights(step)) {
-    const flyer = make("div", { class: "flyer", "aria-hidden": "true" });
+    const flyer = make("div", {class: "flyer", "aria-hidden": "true"});
     document.body.append(flyer);
-    const at = (left, top) => ({ transform: `translate(${left}px, ${top}px)` });
-    flyer.animate([at(x, y), at(toX, toY)], { duration: 600, easing: "ease-in-out" }).onfinish = () => flyer.remove();
+    const at = (left, top) => ({transform: `translate(${left}px, ${top}px)`});
+    flyer.animate([at(x, y), at(toX, toY)], {duration: 600, easing: "ease-in-out"}).onfinish = () =>
+        flyer.remove();
   }
 }
 
@@ -215,9 +244,15 @@ function toggle() {
 }
 
 function key(event) {
-  const { target } = event;
+  const {target} = event;
   if (event.ctrlKey || event.metaKey || event.altKey || target.matches("select, input[type=text]")) return;
-  const acts = { ArrowLeft: () => go(shown.step - 1), ArrowRight: () => go(shown.step + 1), Home: () => go(0), End: () => go(play.last), f: () => $("serial").select() };
+  const acts = {
+    ArrowLeft: () => go(shown.step - 1),
+    ArrowRight: () => go(shown.step + 1),
+    Home: () => go(0),
+    End: () => go(play.last),
+    f: () => $("serial").select()
+  };
   if (event.key === " " && !target.matches("button, summary")) acts[" "] = toggle;
   if (!acts[event.key]) return;
   event.preventDefault();
@@ -237,23 +272,24 @@ function followTyped() {
   shown.isTyped = false;
 }
 
-function followNext(by) {
-  follow(String(BigInt(shown.followed) + by));
-}
+function followNext(by) { follow(String(BigInt(shown.followed) + by)); }
 
 function fill() {
   $("title").textContent = play.title;
   $("command").textContent = play.command;
   $("scheme").textContent = words.scheme();
-  const keys = make("p", {}, "Keys: ", make("kbd", {}, "←"), " ", make("kbd", {}, "→"), " a step, ", make("kbd", {}, "space"), " play and pause, ", make("kbd", {}, "Home"), " ",
-    make("kbd", {}, "End"), " first and last, ", make("kbd", {}, "f"), " another timer to follow.");
+  const keys = make("p", {}, "Keys: ", make("kbd", {}, "←"), " ", make("kbd", {}, "→"), " a step, ",
+      make("kbd", {}, "space"), " play and pause, ", make("kbd", {}, "Home"), " ", make("kbd", {}, "End"),
+      " first and last, ", make("kbd", {}, "f"), " another timer to follow.");
   $("guide").replaceChildren(...words.guide().map((said) => make("p", {}, said)), keys);
   $("intro").open = window.innerWidth >= 860 && window.innerHeight >= 700;
   $("lines").replaceChildren(...rows.map((row) => row.element));
   $("wheels").replaceChildren(...[...cards.values()].map((card) => card.element));
   $("wheels").classList.toggle("is-single", cards.size === 1);
-  const folded = play.wheels.map((wheel, k) => (cards.has(k) ? null : wheel.name)).filter((name) => name !== null);
-  $("folded").textContent = folded.length ? `Never used by this script, and not drawn: ${listed(folded)}.` : "";
+  const folded =
+      play.wheels.map((wheel, k) => (cards.has(k) ? null : wheel.name)).filter((name) => name !== null);
+  $("folded").textContent =
+      folded.length ? `Never used by this script, and not drawn: ${listed(folded)}.` : "";
   $("slider").max = String(play.last);
 }
 

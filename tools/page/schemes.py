@@ -54,7 +54,7 @@ def value_of(options, name, default):
         if word == name and at + 1 < len(options):
             return options[at + 1]
         if word.startswith(name + "="):
-            return word[len(name) + 1:]
+            return word[len(name) + 1 :]
     return default
 
 

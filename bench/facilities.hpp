@@ -1,0 +1,166 @@
+// The facilities that scale.cpp and tail.cpp measure, each behind the same calls. Owner i has one timer at
+// most.
+//   start(i, interval); stop(i); restart(i, interval); tick(); drain(): how many have expired; pass(k): k
+//   ticks, with all that expires
+#pragma once
+#include "wheels_apart.hpp"
+#include "wheels_ref.hpp"
+#include <cstdio>
+#include <cstdlib>
+#include <string>
+#ifdef WITH_TIMERS_C
+#include <timers.h>
+#endif
+#ifdef WITH_LIBUV
+#include <uv.h>
+#endif
+
+namespace {
+[[noreturn]] inline void give_up(const char *what) {
+  fprintf(stderr, "%s failed\n", what);
+  exit(1);
+}
+
+#ifdef WITH_TIMERS_C
+// The product, through its library for C.
+struct LibTimers {
+  struct timers held = TIMERS_INIT;
+  std::vector<timer_handle> handles;
+  explicit LibTimers(size_t owners) : handles(owners) {
+    if (timers_new(&held, TIMERS_WIDE, 0)) give_up("timers_new");
+  }
+  ~LibTimers() { timers_free(&held); }
+  LibTimers(const LibTimers &) = delete;
+  void start(size_t i, uint64_t interval) {
+    if (timers_start(&held, interval, i, &handles[i])) give_up("timers_start");
+  }
+  void stop(size_t i) {
+    uint64_t action;
+    if (timers_stop(&held, handles[i], &action)) give_up("timers_stop");
+  }
+  void restart(size_t i, uint64_t interval) {
+    if (timers_restart(&held, handles[i], interval, i, &handles[i])) give_up("timers_restart");
+  }
+  void tick() {
+    if (timers_tick(&held)) give_up("timers_tick");
+  }
+  size_t drain() {
+    size_t count = 0;
+    timer_expired one;
+    while (timers_expire(&held, &one)) ++count;
+    return count;
+  }
+  void pass(uint64_t k) {
+    for (uint64_t passed = 0; k; k -= passed) {
+      if (timers_advance(&held, k, &passed)) give_up("timers_advance");
+      drain();
+    }
+  }
+};
+#endif
+
+// A wheel of this folder.
+template <class W> struct Reference {
+  W wheel;
+  uint64_t serial = 0;
+  std::vector<Handle> handles;
+  explicit Reference(size_t owners) : wheel(owners), handles(owners) {}
+  Timer timer(size_t i, uint64_t interval) {
+    ++serial;
+    return {serial, 0, serial, wheel.now() + interval, i};
+  }
+  void start(size_t i, uint64_t interval) { handles[i] = wheel.start(timer(i, interval)); }
+  void stop(size_t i) {
+    Timer out;
+    if (!wheel.stop(handles[i], out)) give_up("stop");
+  }
+  void restart(size_t i, uint64_t interval) {
+    if constexpr (HasRestart<W>::value) {
+      Timer out;
+      if (!wheel.restart(handles[i], timer(i, interval), out)) give_up("restart");
+    } else {
+      stop(i);
+      start(i, interval);
+    }
+  }
+  void tick() { wheel.tick(); }
+  size_t drain() {
+    size_t count = 0;
+    Timer out;
+    while (wheel.expire(out)) ++count;
+    return count;
+  }
+  void pass(uint64_t k) {
+    while (k) {
+      k -= wheel.advance(k);
+      drain();
+    }
+  }
+};
+
+#ifdef WITH_LIBUV
+extern "C" void uv__run_timers(uv_loop_t *loop);
+
+// libuv's timers, with its loop's clock set by hand.
+struct Libuv {
+  uv_loop_t loop;
+  std::vector<uv_timer_t> timers;
+  static inline size_t fired = 0;
+  static void fire(uv_timer_t *) { ++fired; }
+  explicit Libuv(size_t owners) : timers(owners) {
+    if (uv_loop_init(&loop)) give_up("uv_loop_init");
+    loop.time = 0;
+    for (auto &timer : timers) uv_timer_init(&loop, &timer);
+  }
+  void start(size_t i, uint64_t interval) { uv_timer_start(&timers[i], fire, interval, 0); }
+  void stop(size_t i) { uv_timer_stop(&timers[i]); }
+  void restart(size_t i, uint64_t interval) { start(i, interval); }
+  void tick() {
+    ++loop.time;
+    uv__run_timers(&loop);
+  }
+  size_t drain() {
+    size_t count = fired;
+    fired = 0;
+    return count;
+  }
+  void pass(uint64_t k) {
+    loop.time += k;
+    uv__run_timers(&loop);
+    drain();
+  }
+};
+#endif
+
+struct Random {  // splitmix64
+  uint64_t s;
+  uint64_t next() {
+    uint64_t z = s += 0x9E3779B97F4A7C15ull;
+    z = (z ^ z >> 30) * 0xBF58476D1CE4E5B9ull;
+    z = (z ^ z >> 27) * 0x94D049BB133111EBull;
+    return z ^ z >> 31;
+  }
+  uint64_t below(uint64_t n) { return (uint64_t)((unsigned __int128)next() * n >> 64); }
+};
+
+// Calls `run` with the type of the facility that has this name; false where there is none.
+template <class Run> bool with_facility(const std::string &name, Run run) {
+  if (name == "ref-hier")
+    run.template of<Reference<Hier<true>>>();
+  else if (name == "ref-apart")
+    run.template of<Reference<HierApart>>();
+  else if (name == "ref-hash-64k")
+    run.template of<Reference<Hash<65536>>>();
+#ifdef WITH_TIMERS_C
+  else if (name == "timers-c")
+    run.template of<LibTimers>();
+#endif
+#ifdef WITH_LIBUV
+  else if (name == "libuv")
+    run.template of<Libuv>();
+#endif
+  else
+    return false;
+  return true;
+}
+}  // namespace
