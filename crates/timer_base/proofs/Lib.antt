@@ -9,3 +9,4 @@ pub mod SortedTimers
 pub mod PlainRestarts
 pub mod PlainWakeUps
 pub mod PlainWithdrawals
+pub mod PlainNames

@@ -213,6 +213,11 @@ impl Wheel for PlainWheel {
         Some((handle, old))
     }
 
+    fn names_one(&self, _handle: Handle) {
+        // Read, so that the prover knows the invariant here.
+        let _timers = &self.timers;
+    }
+
     fn list(&self) -> Result<Vec<Timer>, OutOfMemory> {
         let mut timers = Vec::from_slice(*self.timers.allocator(), self.timers.as_slice())?;
         keep_pending(&mut timers, self.now);

@@ -15,6 +15,7 @@
 //! EXPIRY_PROCESSING is for).
 ghost use Rattle.std.specs.Prelude.{◌≡◌, ◌<◌, ◌≤◌, ◌-◌, ◌↔◌, [], length, IsTrue, IfOk, OnErr, MatchOption};
 ghost use Rattle.timer_base.specs.declared.limits.TheConstants.{LAST};
+ghost use Rattle.timer_base.specs.Names.{NamesOne};
 ghost use Rattle.timer_base.specs.Pending.{timers_of};
 ghost use Rattle.timer_base.specs.WakeUps.{IsQuietUntil, next_deadline};
 ghost use Rattle.timer_base.specs.WheelState.{WheelState, IsWellFormed, timer_at, first_due, after_start, after_stop, after_tick, after_expiry, after_clear, after_restart, old_timer, due_at, after_withdrawal, after_revival, Advances};
@@ -161,6 +162,10 @@ pub trait Wheel {
         ensures old { old_timer result ≡ due_at handle (state self.old) }
         ensures named { MatchOption result (Unit {0}) (λ r. r.0.serial ≡ timer.serial) }
         ensures revived { state self.new ≡ after_revival result handle timer (state self.old) };
+
+    /// Does nothing at run time. Its contract is a lemma: no handle names a pending timer and a due one.
+    fn names_one(&self, handle: Handle)
+        ensures { NamesOne handle (state self.now) };
 
     /// The pending timers, by deadline and then serial. The only error is out of memory.
     fn list(&self) -> Result<Vec<Timer>, OutOfMemory>

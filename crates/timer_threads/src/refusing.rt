@@ -71,6 +71,10 @@ impl<W: Wheel> Wheel for Refusing<W> {
         self.wheel.next_deadline()
     }
 
+    fn names_one(&self, handle: Handle) {
+        self.wheel.names_one(handle)
+    }
+
     fn per_tick(&mut self) {
         self.wheel.per_tick();
     }

@@ -1,1 +1,2 @@
 pub mod ClockEnds
+pub mod DeadHandles

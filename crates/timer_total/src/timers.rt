@@ -174,11 +174,13 @@ impl<W: Wheel + Drop> Timers<W> {
     }
 
     /// Removes the timer with exactly this handle, pending or expired and not yet taken, and returns it. If
-    /// there is none, nothing changes. Does not allocate.
+    /// there is none, nothing changes. The handle is dead then: no timer has it. Does not allocate.
     pub fn stop(&mut self, handle: Handle) -> Option<Timer>
         ensures timer { result ≡ held_at handle self.old }
         ensures stopped { self.new ≡ after_removal handle self.old }
+        ensures dead { held_at handle self.new ≡ None }
     {
+        self.wheel.names_one(handle);
         match self.wheel.stop(handle) {
             Some(timer) => Some(timer),
             None => self.wheel.withdraw(handle),

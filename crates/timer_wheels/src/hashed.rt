@@ -26,6 +26,7 @@ ghost use Rattle.timer_wheels.specs.Hashed.{slot_of, rounds_of, IsHashed, AreInB
 
 use crate::buckets::Buckets;
 use crate::deadlines::first_of_all;
+use crate::naming::names_one;
 use crate::revolutions::skip_revolutions;
 use crate::sweep::{first_visit, next_tick, slot_after};
 use std::alloc::Global;
@@ -280,6 +281,10 @@ impl Wheel for HashedWheel {
     {
         let (bucket, rounds) = self.bucket_and_rounds(timer);
         self.buckets.revive(handle, bucket, timer, rounds)
+    }
+
+    fn names_one(&self, handle: Handle) {
+        names_one(&self.buckets, handle)
     }
 
     fn list(&self) -> Result<Vec<Timer>, OutOfMemory> {

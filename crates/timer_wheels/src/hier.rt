@@ -67,6 +67,7 @@ use crate::deadlines::first_of_wheels;
 use crate::digits::{bucket_of, buckets_of, last_tick_of};
 use crate::leap::{advance_until_due, first_visit, visits_between};
 use crate::migration::next_tick;
+use crate::naming::names_one;
 use crate::occupied::Occupied;
 use crate::stopping::{restart_timer, revive_timer, stop_timer};
 use crate::table::Table;
@@ -393,6 +394,10 @@ impl Wheel for HierWheel {
         let counts = &mut self.counts;
         counts.starts += 1;
         Some(revived)
+    }
+
+    fn names_one(&self, handle: Handle) {
+        names_one(&self.buckets, handle)
     }
 
     fn list(&self) -> Result<Vec<Timer>, OutOfMemory> {
