@@ -278,11 +278,17 @@ pub HasWorked-finished : (start : ClientEnd) (c : Client) (w : Worked) → IsSou
     → w.sent ≡ c.sent → w.started ≡ c.started → w.expired ≡ c.expired → w.failed ≡ c.failed || not (is_complete c)
     → HasWorked c.count start w
 HasWorked-finished start c w sound h ended reader sent started expired failed =
+    let submits : submitted c.end ≡ submitted start ++ requests_from (next_of start) w.sent =
+    h.sends ∙ ap (λ n. submitted start ++ requests_from n c.sent) h.first ∙ ap (λ n. submitted start ++ requests_from (next_of start) n) (sym sent) in
     let passed : c.failed ≡ false → ArePassed (next_of start) c.count h.words =
     λ good. subst (λ n. ArePassed n c.count h.words) h.first (subst (λ b. AreChecked b c.first c.count h.words) good h.checked) in record {
       sent = ended_so (λ e. all_submitted e ≡ submitted c.end) (λ e. all_submitted e ≡ submitted start ++ requests_from (next_of start) w.sent) w.ended
-          (λ e is. is ∙ h.sends ∙ ap (λ n. submitted start ++ requests_from n c.sent) h.first ∙ ap (λ n. submitted start ++ requests_from (next_of start) n) (sym sent)) ended;
+          (λ e is. is ∙ submits) ended;
       most = let a = sound.sent in omega (arith, a, sent);
+      last = c.end;
+      same_line = h.line;
+      next = h.next ∙ ap (λ n. n + c.sent) h.first ∙ ap (λ n. next_of start + n) (sym sent);
+      submits = submits;
       words = h.words;
       received = reader ∙ h.received;
       started = h.started ∙ sym started;

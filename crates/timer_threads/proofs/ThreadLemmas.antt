@@ -1,41 +1,38 @@
 -- Threads that are started one after another, and the lines of their clients.
-use Rattle.std.proofs.Common.{◌≡◌, ◌<◌, ◌+◌, ◌++◌, ℕ, List, [], ◌∷◌, length, get_or, take, refl, sym, ◌∙◌, ap, subst, arith, append_assoc, append-nil, length-append, ◌⊎◌, inl, inr, suc, Bool, true, false, ◌||◌}
+use Rattle.std.proofs.Common.{◌≡◌, ◌<◌, ◌+◌, ◌++◌, ℕ, List, [], ◌∷◌, length, get_or, take, refl, sym, ◌∙◌, ap, subst, arith, append_assoc, append-nil, length-append, ◌⊎◌, inl, inr, zero, suc, Bool, true, false, ◌||◌}
 use Rattle.std.specs.Prelude.{is_none}
 use Rattle.std.proofs.lemmas.List.{get_or_push, get_or_append_left, take_more, length-take-le}
-use Rattle.std.specs.declared.thread.PromisedHandle.{PromisedHandle}
 use Rattle.timer_desk.specs.declared.ring.RingInlet.{RingInlet}
 use Rattle.timer_desk.specs.Ring.{line_of_end, line_of_inlet}
-use Rattle.timer_threads.specs.declared.promise.Finishes.{Finishes}
+use Rattle.timer_threads.specs.declared.child.Child.{Child}
 use Rattle.timer_threads.specs.declared.worked.Worked.{Worked}
+use Rattle.timer_threads.specs.Children.{promise_of, HaveLeft}
 use Rattle.timer_threads.specs.Working.{IsOfLine, IsWhole}
 use Rattle.timer_threads.specs.Parted.{NoneFailed}
 use Rattle.timer_threads.specs.Threads.{AreTied, AreOfLines, AllWhole, clients_text, client_line, whole_lines}
 
-pub Child : Type 0
-Child = PromisedHandle Worked Finishes
-
 before_or_last : (k n : ℕ) → k < n + 1 → (k < n) ⊎ (k ≡ n)
 before_or_last k n h = grind (arith)
 
-pub AreTied-more : (count : ℕ) (inlets : List RingInlet) (children : List (PromisedHandle Worked Finishes)) (i : RingInlet) (h : PromisedHandle Worked Finishes) → AreTied count inlets children
-    → line_of_inlet i ≡ line_of_end h.promise.end.value → h.promise.count ≡ count → AreTied count (inlets ++ i ∷ []) (children ++ h ∷ [])
+pub AreTied-more : (count : ℕ) (inlets : List RingInlet) (children : List Child) (i : RingInlet) (h : Child) → AreTied count inlets children
+    → line_of_inlet i ≡ line_of_end (promise_of h).end.value → (promise_of h).count ≡ count → AreTied count (inlets ++ i ∷ []) (children ++ h ∷ [])
 AreTied-more count inlets children i h was line is_count = record {
   as_many = let a = was.as_many in omega (arith, length-append children (h ∷ []), length-append inlets (i ∷ []), a);
   lines = λ k j g l. elim (before_or_last k (length inlets) (let a = length-append inlets (i ∷ []) in omega arith)) [
     | inl low ↦
         ap line_of_inlet (get_or_append_left inlets (i ∷ []) j k low)
         ∙ was.lines k j g low
-        ∙ ap (λ (x : PromisedHandle Worked Finishes). line_of_end x.promise.end.value) (sym (get_or_append_left children (h ∷ []) g k (let a = was.as_many in omega (arith, a, low))))
+        ∙ ap (λ (x : Child). line_of_end (promise_of x).end.value) (sym (get_or_append_left children (h ∷ []) g k (let a = was.as_many in omega (arith, a, low))))
     | inr is ↦
         ap line_of_inlet (get_or_push inlets i j k (sym is))
         ∙ line
-        ∙ ap (λ (x : PromisedHandle Worked Finishes). line_of_end x.promise.end.value) (sym (get_or_push children h g k (was.as_many ∙ sym is)))
+        ∙ ap (λ (x : Child). line_of_end (promise_of x).end.value) (sym (get_or_push children h g k (was.as_many ∙ sym is)))
   ];
   counts = λ k g l. elim (before_or_last k (length inlets) (let a = length-append inlets (i ∷ []) in omega arith)) [
     | inl low ↦
-        ap (λ (x : PromisedHandle Worked Finishes). x.promise.count) (get_or_append_left children (h ∷ []) g k (let a = was.as_many in omega (arith, a, low)))
+        ap (λ (x : Child). (promise_of x).count) (get_or_append_left children (h ∷ []) g k (let a = was.as_many in omega (arith, a, low)))
         ∙ was.counts k g low
-    | inr is ↦ ap (λ (x : PromisedHandle Worked Finishes). x.promise.count) (get_or_push children h g k (was.as_many ∙ sym is)) ∙ is_count
+    | inr is ↦ ap (λ (x : Child). (promise_of x).count) (get_or_push children h g k (was.as_many ∙ sym is)) ∙ is_count
   ];
 }
 
@@ -56,36 +53,61 @@ clients_text-next ws n w low is =
     ∙ clients_text-last 0 (take n ws) w
     ∙ ap (λ k. clients_text 0 (take n ws) ++ client_line k w.sent w.started w.expired) len
 
--- what was joined under the promise of the thread with this number
-pub record IsKept (children : List (PromisedHandle Worked Finishes)) (k : ℕ) (w : Worked) : Type 0 where
-  pub handle : PromisedHandle Worked Finishes
-  pub at : handle ≡ get_or children k handle
-  pub line : IsOfLine (line_of_end handle.promise.end.value) w
-  pub whole : IsWhole handle.promise.count w
+-- what the thread with this number left
+pub record IsKept (children : List Child) (k : ℕ) (w : Worked) : Type 0 where
+  pub child : Child
+  pub at : child ≡ get_or children k child
+  pub line : IsOfLine (line_of_end (promise_of child).end.value) w
+  pub whole : IsWhole (promise_of child).count w
 
-pub lines_kept : (count : ℕ) (first now : List RingInlet) (children : List (PromisedHandle Worked Finishes)) (all : List Worked) → AreTied count first children
-    → length now ≡ length first → length all ≡ length children
+left_at : (children : List Child) (all : List Worked) (k : ℕ) (w : Worked) → HaveLeft children all → k < length children → IsKept children k (get_or all k w)
+left_at [] all k w h l = absurd (omega arith)
+left_at (c ∷ cs) [] k w h l = absurd h
+left_at (c ∷ cs) (v ∷ vs) zero w h l = record { child = c; at = refl; line = h.0; whole = h.1 }
+left_at (c ∷ cs) (v ∷ vs) (suc k) w h l =
+    let is = left_at cs vs k w h.2 (omega arith) in record { child = is.child; at = is.at; line = is.line; whole = is.whole }
+
+pub left_as_many : (children : List Child) (all : List Worked) → HaveLeft children all → length all ≡ length children
+left_as_many [] [] h = refl
+left_as_many [] (v ∷ vs) h = absurd h
+left_as_many (c ∷ cs) [] h = absurd h
+left_as_many (c ∷ cs) (v ∷ vs) h = ap suc (left_as_many cs vs h.2)
+
+-- whatever the threads that are left will leave, all have left that after what was left so far
+abbrev pub LeadsTo : List Child → List Child → List Worked → Type 0
+LeadsTo children rest so_far = (more : List Worked) → HaveLeft rest more → HaveLeft children (so_far ++ more)
+
+pub leads_on : (children rest rest' : List Child) (so_far : List Worked) (c : Child) (w : Worked) → LeadsTo children rest so_far → rest ≡ c ∷ rest'
+    → IsOfLine (line_of_end (promise_of c).end.value) w → IsWhole (promise_of c).count w → LeadsTo children rest' (so_far ++ w ∷ [])
+leads_on children rest rest' so_far c w leads is line whole more h =
+    subst (λ xs. HaveLeft children xs) (sym (append_assoc so_far (w ∷ []) more))
+    (leads (w ∷ more) (subst (λ cs. HaveLeft cs (w ∷ more)) (sym is) (line, whole, h)))
+
+pub leads_end : (children rest : List Child) (all : List Worked) → LeadsTo children rest all → rest ≡ [] → HaveLeft children all
+leads_end children rest all leads none =
+    subst (λ xs. HaveLeft children xs) (append-nil all) (leads [] (subst (λ cs. HaveLeft cs []) (sym none) tt))
+
+pub lines_kept : (count : ℕ) (first now : List RingInlet) (children : List Child) (all : List Worked) → AreTied count first children
+    → length now ≡ length first
     → ((k : ℕ) (i : RingInlet) → k < length first → line_of_inlet (get_or first k i) ≡ line_of_inlet (get_or now k i))
-    → ((k : ℕ) (w : Worked) → k < length children → IsKept children k (get_or all k w))
-    → AreOfLines now all
-lines_kept count first now children all tied as_many joined same kept = record {
-  as_many = joined ∙ tied.as_many ∙ sym as_many;
+    → HaveLeft children all → AreOfLines now all
+lines_kept count first now children all tied as_many same left = record {
+  as_many = left_as_many children all left ∙ tied.as_many ∙ sym as_many;
   each = λ k i w l.
       let low : k < length first = omega (arith, as_many, l) in
-      let is = kept k w (let a = tied.as_many in omega (arith, a, low)) in
-      let line : line_of_end is.handle.promise.end.value ≡ line_of_inlet (get_or now k i) =
-      ap (λ (x : PromisedHandle Worked Finishes). line_of_end x.promise.end.value) is.at ∙ sym (tied.lines k i is.handle low) ∙ same k i low in
+      let is = left_at children all k w left (let a = tied.as_many in omega (arith, a, low)) in
+      let line : line_of_end (promise_of is.child).end.value ≡ line_of_inlet (get_or now k i) =
+      ap (λ (x : Child). line_of_end (promise_of x).end.value) is.at ∙ sym (tied.lines k i is.child low) ∙ same k i low in
       subst (λ l. IsOfLine l (get_or all k w)) line is.line;
 }
 
-pub whole_kept : (count : ℕ) (first : List RingInlet) (children : List (PromisedHandle Worked Finishes)) (all : List Worked) → AreTied count first children
-    → length all ≡ length children
-    → ((k : ℕ) (w : Worked) → k < length children → IsKept children k (get_or all k w))
-    → AllWhole count all
-whole_kept count first children all tied joined kept k w l =
-    let is = kept k w (omega (arith, joined, l)) in
-    let n : is.handle.promise.count ≡ count =
-    ap (λ (x : PromisedHandle Worked Finishes). x.promise.count) is.at ∙ tied.counts k is.handle (let a = tied.as_many in omega (arith, a, joined, l)) in
+pub whole_kept : (count : ℕ) (first : List RingInlet) (children : List Child) (all : List Worked) → AreTied count first children
+    → HaveLeft children all → AllWhole count all
+whole_kept count first children all tied left k w l =
+    let joined = left_as_many children all left in
+    let is = left_at children all k w left (omega (arith, joined, l)) in
+    let n : (promise_of is.child).count ≡ count =
+    ap (λ (x : Child). (promise_of x).count) is.at ∙ tied.counts k is.child (let a = tied.as_many in omega (arith, a, joined, l)) in
     subst (λ m. IsWhole m (get_or all k w)) n is.whole
 
 not_failed : (a b : Bool) → a || b ≡ false → a ≡ false

@@ -1,6 +1,5 @@
 -- Clients in threads of their own, and the text of their counts.
 use Rattle.std.specs.Prelude.{◌≡◌, ◌<◌, ◌+◌, ◌++◌, ◌⊎◌, ℕ, zero, suc, true, false, List, [], ◌∷◌, length, get_or, Option, Some, None, codes, decimal}
-use Rattle.std.specs.declared.thread.PromisedHandle.{PromisedHandle}
 use Rattle.timer_desk.specs.declared.ring.RingInlet.{RingInlet}
 use Rattle.timer_desk.specs.declared.ring.RequestsEnded.{RequestsEnded}
 use Rattle.timer_desk.specs.declared.ring.ClientReader.{ClientReader}
@@ -9,19 +8,20 @@ use Rattle.timer_desk.specs.declared.driving.DriveEnd.TheVariants as DriveEnds
 use Rattle.timer_desk.specs.Desk.{DeskState, IsIdle, backlog_at}
 use Rattle.timer_desk.specs.Winding.{IsWaiting}
 use Rattle.timer_desk.specs.Ring.{line_of_end, line_of_inlet, got_of, given_of, all_submitted, read_by, unread_by}
-use Rattle.timer_threads.specs.declared.promise.Finishes.{Finishes}
+use Rattle.timer_threads.specs.declared.child.Child.{Child}
 use Rattle.timer_threads.specs.declared.fault.ThreadsFault.{ThreadsFault}
 use Rattle.timer_threads.specs.declared.fault.ThreadsFault.TheVariants as Faults
 use Rattle.timer_threads.specs.declared.worked.Worked.{Worked}
+use Rattle.timer_threads.specs.Children.{promise_of}
 use Rattle.timer_threads.specs.Working.{IsOfLine, IsWhole}
 use Rattle.timer_threads.specs.Parted.{has_failed, NoneFailed, AllEnded}
 
 -- the thread at each index was started with the end of the line at that index, and with this many requests to send
-pub record AreTied (count : ℕ) (inlets : List RingInlet) (children : List (PromisedHandle Worked Finishes)) : Type 0 where
+pub record AreTied (count : ℕ) (inlets : List RingInlet) (children : List Child) : Type 0 where
   pub as_many : length children ≡ length inlets
-  pub lines : (k : ℕ) (i : RingInlet) (h : PromisedHandle Worked Finishes) → k < length inlets
-      → line_of_inlet (get_or inlets k i) ≡ line_of_end (get_or children k h).promise.end.value
-  pub counts : (k : ℕ) (h : PromisedHandle Worked Finishes) → k < length inlets → (get_or children k h).promise.count ≡ count
+  pub lines : (k : ℕ) (i : RingInlet) (h : Child) → k < length inlets
+      → line_of_inlet (get_or inlets k i) ≡ line_of_end (promise_of (get_or children k h)).end.value
+  pub counts : (k : ℕ) (h : Child) → k < length inlets → (promise_of (get_or children k h)).count ≡ count
 
 -- what the client at each index left is of the line of the inlet at that index
 pub record AreOfLines (inlets : List RingInlet) (all : List Worked) : Type 0 where

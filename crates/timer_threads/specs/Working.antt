@@ -12,7 +12,7 @@ use Rattle.timer_desk.specs.declared.word.Numbered.{Numbered}
 use Rattle.timer_desk.specs.declared.word.Word.{Word}
 use Rattle.timer_desk.specs.declared.word.Word.TheVariants as Words
 use Rattle.timer_desk.specs.declared.ring.ClientEnd.{ClientEnd}
-use Rattle.timer_desk.specs.Ring.{Line, next_of, numbered, submitted, received_by_end, all_submitted, requests_ring_of, words_ring_of_reader, read_by}
+use Rattle.timer_desk.specs.Ring.{Line, line_of_end, next_of, numbered, submitted, received_by_end, all_submitted, requests_ring_of, words_ring_of_reader, read_by}
 use Rattle.timer_threads.specs.declared.worked.Worked.{Worked}
 
 -- What is sent.
@@ -97,6 +97,11 @@ IsShort count w = (w.sent < count) ⊎ ((w.started < count) ⊎ (w.expired < cou
 pub record HasWorked (count : ℕ) (start : ClientEnd) (w : Worked) : Type 0 where
   pub sent : IfSome w.ended (λ e. all_submitted e ≡ submitted start ++ requests_from (next_of start) w.sent)
   pub most : w.sent ≤ count
+  -- the end when the work ended, also where nothing is left of it since the owner's end was dropped
+  pub last : ClientEnd
+  pub same_line : line_of_end last ≡ line_of_end start
+  pub next : next_of last ≡ next_of start + w.sent
+  pub submits : submitted last ≡ submitted start ++ requests_from (next_of start) w.sent
   pub words : List Word
   pub received : read_by w.reader ≡ received_by_end start ++ words
   pub started : length (started_by words) ≡ w.started

@@ -1,56 +1,56 @@
-//! The threads that were started for the clients.
+//! The threads that were started for the clients, which are joined together.
 //!
-//! `Children` has no `Drop`, and its handles are its own: a function that has one hands it on, joins it, or
-//! is not accepted. So no path, not even one on which memory runs out, lets go of a thread unjoined.
-ghost use Rattle.std.specs.Prelude.{◌≡◌, ◌<◌, ◌≤◌, [], ◌∷◌, ◌++◌, length, IfOk};
-ghost use Rattle.timer_threads.specs.Children.{handles_of, room_of};
+//! The room for what the clients leave is made before the first thread is started: joining them can't
+//! run out of memory.
+ghost use Rattle.std.specs.Prelude.{◌≡◌, ◌<◌, ◌≤◌, [], ◌∷◌, ◌++◌, length, vec_len, vec_capacity, IfOk};
 
-use crate::promise::Finishes;
+use crate::child::Child;
 use crate::worked::Worked;
 use std::alloc::{AllocError, Global};
-use std::thread::{PromisedHandle, Threads};
+use std::thread::Threads;
 
-/// Threads that have to be joined, in the order of their clients.
+/// Threads that have to be joined, in the order of their clients. As a `Child`, it is not `Drop`.
 pub struct Children {
-    handles: Vec<PromisedHandle<Worked, Finishes>>,
+    threads: Vec<Child>,
+    // Room for what they leave, and nothing in it.
+    left: Vec<Worked>,
+    ghost empty: { vec_len left ≡ 0 },
+    ghost room: { vec_capacity threads ≤ vec_capacity left },
 }
 
 impl Children {
+    ghost use Rattle.timer_threads.specs.Children.{threads_of, room_of, HaveLeft};
+
     /// No threads, and room for so many.
     pub fn with_capacity(alloc: Global, capacity: usize) -> Result<Children, AllocError>
-        ensures none { IfOk result (λ c. handles_of c ≡ []) }
-        ensures room { IfOk result (λ c. capacity ≤ room_of c) }
+        ensures none { IfOk result (λ children. threads_of children ≡ []) }
+        ensures room { IfOk result (λ children. capacity ≤ room_of children) }
     {
-        let handles = Vec::with_capacity(alloc, capacity)?;
-        Ok(Children { handles })
+        let left = Vec::with_capacity(alloc, capacity)?;
+        let threads = Vec::with_capacity(alloc, capacity)?;
+        Ok(Children { threads, left })
     }
 
-    /// Adds a thread, for which there is room.
-    pub fn push_reserved(&mut self, child: PromisedHandle<Worked, Finishes>)
-        requires { length (handles_of self.old) < room_of self.old }
-        ensures items { handles_of self.new ≡ handles_of self.old ++ child ∷ [] }
+    /// Adds a thread, for which there is room. Does not allocate.
+    pub fn push_reserved(&mut self, child: Child)
+        requires { length (threads_of self.old) < room_of self.old }
+        ensures threads { threads_of self.new ≡ threads_of self.old ++ child ∷ [] }
         ensures room { room_of self.new ≡ room_of self.old }
     {
-        self.handles.push_reserved(child)
+        self.threads.push_reserved(child)
     }
 
-    /// The handles, to be joined.
-    pub fn into_handles(self) -> Vec<PromisedHandle<Worked, Finishes>>
-        ensures { result.items ≡ handles_of self }
+    /// Waits for the end of each thread, and returns what the clients left, in their order. Does not
+    /// allocate.
+    pub fn join(self, rt: &impl Threads) -> Vec<Worked>
+        ensures { HaveLeft (threads_of self) result.items }
     {
-        let Children { handles } = self;
-        handles
-    }
-
-    /// Waits for the end of threads whose results are of no use.
-    pub fn join_all(self, rt: &impl Threads) {
-        join_handles(rt, self.into_handles());
-    }
-}
-
-/// Waits for the end of threads whose results are of no use.
-pub fn join_handles(rt: &impl Threads, handles: Vec<PromisedHandle<Worked, Finishes>>) {
-    for handle in handles {
-        handle.join(rt);
+        let Children { threads, mut left } = self;
+        let mut rest = threads.into_iter();
+        while let Some(child) = rest.next() {
+            left.push_reserved(child.join(rt));
+        }
+        rest.destroy_empty();
+        left
     }
 }

@@ -306,10 +306,20 @@ fn a_client_works_at_the_ends_of_its_ranges(rt: HostRuntime) {
     assert!(rt; !worked.failed);
 }
 
-#[test]
-fn a_client_whose_owner_is_gone_fails(rt: HostRuntime) {
-    let (end, inlet) = line(&rt, rt.alloc(), 8, 1);
+/// What is left of a client of three requests, over a line of this capacity whose owner is gone.
+fn alone(rt: &impl Abort, alloc: Global, capacity: usize) -> Worked
+    requires { (1 ≤ capacity) × (capacity ≤ 8) }
+{
+    let (end, inlet) = line(rt, alloc, capacity, 1);
     drop(inlet);
-    let worked = client_work(end, 3, 1000, Open);
-    assert!(rt; worked.failed);
+    client_work(end, 3, 1000, Open)
+}
+
+#[test]
+fn a_client_whose_owner_is_gone_fails_and_says_how_many_it_sent(rt: HostRuntime) {
+    for (capacity, sent) in [(8, 3), (2, 2)] {
+        let worked = alone(&rt, rt.alloc(), capacity);
+        same(&rt, (worked.failed, worked.ended.is_none()), (true, true));
+        same(&rt, worked.sent, sent);
+    }
 }

@@ -5,12 +5,15 @@
 //! desk up once each client has finished. A `Gate` holds a client back, for tests.
 #![tactic(auto)]
 
+mod child;
 mod children;
 mod client;
 #[cfg(test)]
 mod client_tests;
 mod ending;
 mod fault;
+#[cfg(test)]
+mod full_tests;
 mod gate;
 #[cfg(test)]
 mod line_tests;

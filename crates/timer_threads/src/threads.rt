@@ -7,23 +7,18 @@
 //! of its own line: that is the promise that it is started with, and the condition of settling.
 ghost use Rattle.std.specs.Prelude.{◌≡◌, ◌<◌, ◌≤◌, [], length, true, IfOk, IfErr, vec_len};
 ghost use Rattle.timer_base.specs.declared.limits.TheConstants.{LAST};
-ghost use Rattle.timer_desk.specs.Ring.{line_of_end};
-ghost use Rattle.timer_threads.specs.Children.{handles_of};
+ghost use Rattle.timer_threads.specs.Children.{threads_of};
 ghost use Rattle.timer_threads.specs.Threads.{AreTied, IsAmong, whole_text};
 
-use crate::children::{Children, join_handles};
+use crate::child::Child;
+use crate::children::Children;
 use crate::ending::end_all;
 use crate::fault::ThreadsFault;
 use crate::gate::Gate;
-use crate::promise::Finishes;
-use crate::worked::Worked;
-use crate::working::client_work;
 use std::alloc::Global;
-use std::snapshot::Snapshot;
-use std::thread;
-use std::thread::{PromisedHandle, Threads};
+use std::thread::Threads;
 use timer_base::OutOfMemory;
-use timer_desk::{ClientEnd, Desk, Driven, RingInlet, drive, ring_line};
+use timer_desk::{Desk, Driven, RingInlet, drive, ring_line};
 use timer_facility::{Config, Facility};
 use timer_wheels::HierWheel;
 
@@ -66,29 +61,6 @@ fn new_facility(alloc: Global, clients: u64) -> Result<Facility<HierWheel>, OutO
     Ok(Facility::open(alloc, checked, wheel))
 }
 
-/// Starts a client's thread.
-fn start<G: Gate + Drop + Send + 'static>(
-    rt: &impl Threads,
-    end: ClientEnd,
-    count: u64,
-    limit: u64,
-    gate: G,
-) -> Result<PromisedHandle<Worked, Finishes>, OutOfMemory>
-    requires count { count ≤ LAST }
-    requires limit { limit ≤ LAST }
-    ensures line { IfOk result (λ h. line_of_end h.promise.end.value ≡ line_of_end end) }
-    ensures count { IfOk result (λ h. h.promise.count ≡ count) }
-{
-    let promise = Finishes {
-        end: Snapshot::of(&end),
-        count,
-    };
-    match thread::spawn_with(rt, promise, move || client_work(end, count, limit, gate)) {
-        Ok(child) => Ok(child),
-        Err(_) => Err(OutOfMemory),
-    }
-}
-
 /// Makes a line and starts a thread for each gate, up to the first that can't be had.
 fn start_all<G: Gate + Drop + Send + 'static>(
     rt: &impl Threads,
@@ -99,7 +71,7 @@ fn start_all<G: Gate + Drop + Send + 'static>(
 ) -> Result<Clients, OutOfMemory>
     requires count { count ≤ LAST }
     requires limit { limit ≤ LAST }
-    ensures tied { IfOk result (λ c. AreTied count c.inlets.items (handles_of c.children)) }
+    ensures tied { IfOk result (λ c. AreTied count c.inlets.items (threads_of c.children)) }
     ensures all { IfOk result (λ c. c.all ≡ true → vec_len c.inlets ≡ vec_len gates) }
 {
     let Ok(mut inlets) = Vec::with_capacity(alloc, gates.len()) else {
@@ -116,7 +88,7 @@ fn start_all<G: Gate + Drop + Send + 'static>(
                 all: false,
             });
         };
-        let Ok(child) = start(rt, end, count, limit, gate) else {
+        let Ok(child) = Child::start(rt, end, count, limit, gate) else {
             return Ok(Clients {
                 inlets,
                 children,
@@ -163,7 +135,7 @@ pub fn threads_run<G: Gate + Drop + Send + 'static>(
         all,
     } = clients;
     if !all {
-        children.join_all(rt);
+        let _ = children.join(rt);
         return Err(ThreadsFault::OutOfMemory);
     }
     drive_beside(rt, alloc, facility, inlets, children, timers, limit)
@@ -182,22 +154,16 @@ fn drive_beside(
     requires clients { vec_len inlets ≡ length facility.state.numbers }
     requires pending { facility.state.pending ≡ [] }
     requires waiting { facility.waiting ≡ [] }
-    requires tied { AreTied timers inlets.items (handles_of children) }
+    requires tied { AreTied timers inlets.items (threads_of children) }
     requires timers { timers ≤ LAST }
     requires limit { limit ≤ LAST }
     ensures text { IfOk result (λ text. text.items ≡ whole_text (vec_len inlets) timers) }
     ensures client { IfErr result (λ fault. IsAmong (vec_len inlets) fault) }
 {
     let Ok(desk) = Desk::open(alloc, facility, inlets, ROOM) else {
-        children.join_all(rt);
+        let _ = children.join(rt);
         return Err(ThreadsFault::OutOfMemory);
     };
     let Driven { desk, outcome } = drive(alloc, desk, timers, limit);
-    match thread::join_promised(rt, children.into_handles()) {
-        Ok(all) => end_all(alloc, desk, outcome, all, timers),
-        Err(failed) => {
-            join_handles(rt, failed.value);
-            Err(ThreadsFault::OutOfMemory)
-        }
-    }
+    end_all(alloc, desk, outcome, children.join(rt), timers)
 }

@@ -1,0 +1,59 @@
+//! A client's thread, which has to be joined.
+//!
+//! The handle of a thread may be dropped, and its thread then runs on. A `Child` has no `Drop`: a function
+//! that has one hands it on or joins it, or is not accepted. So no path lets go of a thread unjoined, not
+//! even one on which memory runs out.
+ghost use Rattle.std.specs.Prelude.{◌≡◌, ◌≤◌, IfOk};
+ghost use Rattle.timer_base.specs.declared.limits.TheConstants.{LAST};
+ghost use Rattle.timer_desk.specs.Ring.{line_of_end};
+ghost use Rattle.timer_threads.specs.Children.{promise_of};
+ghost use Rattle.timer_threads.specs.Working.{IsOfLine, IsWhole};
+
+use crate::gate::Gate;
+use crate::promise::Finishes;
+use crate::worked::Worked;
+use crate::working::client_work;
+use std::snapshot::Snapshot;
+use std::thread;
+use std::thread::{PromisedHandle, Threads};
+use timer_base::OutOfMemory;
+use timer_desk::ClientEnd;
+
+/// A client's thread that was started. It is not `Drop`, so that it is joined.
+pub struct Child {
+    handle: PromisedHandle<Worked, Finishes>,
+}
+
+impl Child {
+    /// Starts a client's thread. Fails where no thread can be started.
+    pub fn start<G: Gate + Drop + Send + 'static>(
+        rt: &impl Threads,
+        end: ClientEnd,
+        count: u64,
+        limit: u64,
+        gate: G,
+    ) -> Result<Child, OutOfMemory>
+        requires count { count ≤ LAST }
+        requires limit { limit ≤ LAST }
+        ensures line { IfOk result (λ child. line_of_end (promise_of child).end.value ≡ line_of_end end) }
+        ensures count { IfOk result (λ child. (promise_of child).count ≡ count) }
+    {
+        let promise = Finishes {
+            end: Snapshot::of(&end),
+            count,
+        };
+        match thread::spawn_with(rt, promise, move || client_work(end, count, limit, gate)) {
+            Ok(handle) => Ok(Child { handle }),
+            Err(_) => Err(OutOfMemory),
+        }
+    }
+
+    /// Waits for the thread's end, and returns what its client left. Does not allocate.
+    pub fn join(self, rt: &impl Threads) -> Worked
+        ensures line { IsOfLine (line_of_end (promise_of self).end.value) result }
+        ensures whole { IsWhole (promise_of self).count result }
+    {
+        let Child { handle } = self;
+        handle.join(rt)
+    }
+}
