@@ -60,8 +60,17 @@ function renderLine(line, step) {
   row.element.classList.toggle("is-bad", isBad);
   row.element.replaceChildren(row.element.firstChild, ...made);
   const pieces = stepsOfLine[line].length;
-  row.passed.textContent =
-      pieces > 1 && done.length ? `${play.steps[done[done.length - 1] - 1].passed} passed` : "";
+  const passed = done.length ? play.steps[done[done.length - 1] - 1].passed : 0;
+  row.passed.textContent = done.length && done.length < pieces ? `${passed} passed` : "";
+}
+
+// Scrolls the list to a row, and not the page.
+function scrollTo(element) {
+  const list = $("lines");
+  const top = element.offsetTop - list.offsetTop;
+  const bottom = top + element.offsetHeight;
+  if (top < list.scrollTop || bottom > list.scrollTop + list.clientHeight)
+    list.scrollTop = top - list.clientHeight / 3;
 }
 
 function renderLines(from, step) {
@@ -73,12 +82,9 @@ function renderLines(from, step) {
   if (!rows[here]) return;
   const {element} = rows[here];
   element.classList.add("is-here");
-  // The list is scrolled, and not the page.
-  const list = $("lines");
-  const [top, bottom] =
-      [element.offsetTop - list.offsetTop, element.offsetTop - list.offsetTop + element.offsetHeight];
-  if (top < list.scrollTop || bottom > list.scrollTop + list.clientHeight)
-    list.scrollTop = top - list.clientHeight / 3;
+  scrollTo(element);
+  // Rows that were never seen have estimated heights until the next frames, so the place is looked up again.
+  requestAnimationFrame(() => requestAnimationFrame(() => scrollTo(element)));
 }
 
 function renderTold(step) {
@@ -99,9 +105,13 @@ function digitRow(name, tick, level) {
 // stands.
 function digitTable(timer, now) {
   const level = levelOf(play.wheels, now, timer.deadline);
-  const names = words.levels.map((k) => make("th", {scope: "col"}, play.wheels[k].name));
+  const name = (k) => (play.scheme === "hier" ? String(k) : play.wheels[k].name);
+  const names = words.levels.map((k) => make("th", {scope: "col"}, name(k)));
   return make("div", {class: "scroll"},
-      make("table", {class: "digits"}, make("thead", {}, make("tr", {}, make("td", {}), ...names)),
+      make("table", {class: "digits"},
+          make("thead", {},
+              make("tr", {}, make("th", {}, words.levels.length > 1 && play.scheme === "hier" ? "wheel" : ""),
+                  ...names)),
           make("tbody", {}, digitRow(`now ${now}`, now, level),
               digitRow(`deadline ${timer.deadline}`, timer.deadline, level))));
 }
