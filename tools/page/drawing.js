@@ -67,7 +67,7 @@ class WheelCard {
     const tip = point(0, INNER - 12);
     this.hand =
         make("g", {class: "turns"}, make("line", {class: "hand", x1: 0, y1: -26, x2: tip[0], y2: tip[1] + 4}),
-            make("path", {class: "hand-tip", d: `M-5 ${- INNER + 13}L5 ${- INNER + 13}L0 ${- INNER + 4}Z`}));
+            make("path", {class: "hand-tip", d: `M-5 ${-INNER + 13}L5 ${-INNER + 13}L0 ${-INNER + 4}Z`}));
     this.digit = make("text", {class: "digit", y: 0});
     const dashes = slots > 1 && slots <= 128 ? "0.84 0.16" : "none";
     const track = make("circle", {

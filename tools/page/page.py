@@ -4,7 +4,7 @@ import json
 import os
 
 HERE = os.path.dirname(os.path.abspath(__file__))
-CODE = ["model.js", "words.js", "drawing.js", "player.js"]
+CODE = ["model.js", "words.js", "drawing.js", "lines.js", "player.js"]
 
 
 def read(name):

@@ -1,6 +1,5 @@
 // The page: steps, the script's lines, the followed timer, and the controls.
 
-const MOST_ANSWERS = 8; // of one line in the list of lines
 const MOST_EVENTS = 20; // of one timer's history
 
 const $ = (id) => document.getElementById(id);
@@ -22,71 +21,18 @@ function follow(serial) {
 const drawn = play.wheels.map((_, k) => k).filter((k) => k === 0 || play.used.has(k)).reverse();
 const cards = new Map(drawn.map((k) => [k, new WheelCard(play, words, k, follow)]));
 
-// The lines, and the steps that belong to each.
-const stepsOfLine = play.lines.map(() => []);
-play.steps.forEach((step, at) => stepsOfLine[step.line].push(at + 1));
-const rows = play.lines.map((text, line) => {
-  const steps = stepsOfLine[line];
-  const passed = make("span", {class: "passed"});
-  const button = make("button",
-      {type: "button", disabled: !steps.length, onclick: () => go(steps[steps.length - 1])},
-      make("span", {class: "number"}, String(line + 1)), make("span", {class: "text"}, text || " "), passed);
-  const element = make("li", {class: line === play.bad ? "is-line-bad" : ""}, button);
-  return {element, passed, count: -1};
-});
+const lines = new LineList(play, $("lines"), go);
 
-function answerRow(answer) {
-  const words = answer.split(" ");
-  const kind = words[0] === "refused" || words[1] === "refused" ? "refused" : words[0];
-  const why = kind === "refused" ? make("span", {class: "why"}, reasonOf(answer)) : null;
-  return make("div", {class: `answer ${kind}`}, answer, why);
-}
-
-// A line's answers so far. Nothing is done where they are those that it shows.
-function renderLine(line, step) {
-  const row = rows[line];
-  const done = stepsOfLine[line].filter((at) => at <= step);
-  row.element.classList.toggle("is-played", done.length > 0);
-  if (row.count === done.length) return;
-  row.count = done.length;
-  const answers = done.flatMap((at) => play.steps[at - 1].answers);
-  const made = answers.slice(0, MOST_ANSWERS).map(answerRow);
-  if (answers.length > MOST_ANSWERS)
-    made.push(make("div", {class: "answer"}, `… and ${answers.length - MOST_ANSWERS} more`));
-  const isBad = line === play.bad && done.length > 0;
-  if (isBad)
-    made.push(make(
-        "div", {class: "answer refused"}, `bad line ${line + 1}`, make("span", {class: "why"}, play.reason)));
-  row.element.classList.toggle("is-bad", isBad);
-  row.element.replaceChildren(row.element.firstChild, ...made);
-  const pieces = stepsOfLine[line].length;
-  row.passed.textContent =
-      pieces > 1 && done.length ? `${play.steps[done[done.length - 1] - 1].passed} passed` : "";
-}
-
-function renderLines(from, step) {
-  const lineAt = (at) => (at ? play.steps[at - 1].line : -1);
-  const low = Math.max(0, Math.min(lineAt(from), lineAt(step)));
-  for (let line = low; line <= Math.max(lineAt(from), lineAt(step)); line += 1) renderLine(line, step);
-  const here = lineAt(step);
-  if (rows[lineAt(from)]) rows[lineAt(from)].element.classList.remove("is-here");
-  if (!rows[here]) return;
-  const {element} = rows[here];
-  element.classList.add("is-here");
-  // The list is scrolled, and not the page.
-  const list = $("lines");
-  const [top, bottom] =
-      [element.offsetTop - list.offsetTop, element.offsetTop - list.offsetTop + element.offsetHeight];
-  if (top < list.scrollTop || bottom > list.scrollTop + list.clientHeight)
-    list.scrollTop = top - list.clientHeight / 3;
+// What kind of news a sentence is, for its colour.
+function kindOf(said, isBad) {
+  if (isBad || said.includes(" is refused as ")) return "fault";
+  return / expires?[,. ]/.test(said) ? "out" : "";
 }
 
 function renderTold(step) {
-  const here = step ? play.steps[step - 1] : {answers: []};
-  const kind = (said) => (here.isBad || / is refused as /.test(said) ? "fault" :
-          / expires?[,. ]/.test(said)                                ? "out" :
-                                                                       "");
-  $("told").replaceChildren(...words.of(step).map((said) => make("p", {class: kind(said)}, said)));
+  const isBad = step > 0 && play.steps[step - 1].isBad === true;
+  const said = words.of(step).map((sentence) => make("p", {class: kindOf(sentence, isBad)}, sentence));
+  $("told").replaceChildren(...said);
 }
 
 function digitRow(name, tick, level) {
@@ -99,11 +45,12 @@ function digitRow(name, tick, level) {
 // stands.
 function digitTable(timer, now) {
   const level = levelOf(play.wheels, now, timer.deadline);
-  const names = words.levels.map((k) => make("th", {scope: "col"}, play.wheels[k].name));
-  return make("div", {class: "scroll"},
-      make("table", {class: "digits"}, make("thead", {}, make("tr", {}, make("td", {}), ...names)),
-          make("tbody", {}, digitRow(`now ${now}`, now, level),
-              digitRow(`deadline ${timer.deadline}`, timer.deadline, level))));
+  const name = (k) => (play.scheme === "hier" ? String(k) : play.wheels[k].name);
+  const names = words.levels.map((k) => make("th", {scope: "col"}, name(k)));
+  const head = make("tr", {}, make("th", {}, play.scheme === "hier" ? "wheel" : ""), ...names);
+  const deadline = digitRow(`deadline ${timer.deadline}`, timer.deadline, level);
+  const body = make("tbody", {}, digitRow(`now ${now}`, now, level), deadline);
+  return make("div", {class: "scroll"}, make("table", {class: "digits"}, make("thead", {}, head), body));
 }
 
 function historyRow(event, step) {
@@ -201,7 +148,7 @@ function render(step) {
   $("face").textContent = words.face(play.now(step));
   renderTold(step);
   renderWheels(step);
-  renderLines(from, step);
+  lines.render(step);
   renderFollowed(step);
   $("slider").value = String(step);
   $("slider").setAttribute("aria-valuetext", `step ${step} of ${play.last}, tick ${play.now(step)}`);
@@ -283,7 +230,7 @@ function fill() {
       " first and last, ", make("kbd", {}, "f"), " another timer to follow.");
   $("guide").replaceChildren(...words.guide().map((said) => make("p", {}, said)), keys);
   $("intro").open = window.innerWidth >= 860 && window.innerHeight >= 700;
-  $("lines").replaceChildren(...rows.map((row) => row.element));
+  lines.show(0, AROUND);
   $("wheels").replaceChildren(...[...cards.values()].map((card) => card.element));
   $("wheels").classList.toggle("is-single", cards.size === 1);
   const folded =

@@ -18,7 +18,8 @@ const GUIDE = {
   plain: [
     "All pending timers stand in one list, in order of their deadlines." +
         " At each tick the clock looks at the front of the list alone.",
-    "A start has to find its place, so it takes the longer the more timers are pending.",
+    "A start has to find its place, so it takes the longer the more timers are pending." +
+        " Timers are written serial:deadline.",
   ],
   hashed: [
     "The wheel is a ring of slots, and the clock's hand goes on by one slot with each tick." +
@@ -28,7 +29,7 @@ const GUIDE = {
     "A tick looks at one slot alone, however many timers are pending.",
   ],
   hier: [
-    "Think of the hands of a clock, with 64 slots a wheel. Wheel 0 goes on by one slot with each tick," +
+    "Think of the hands of a clock, with 64 slots a wheel: wheel 0 goes on by one slot with each tick," +
         " wheel 1 with each 64 ticks, wheel 2 with each 64 × 64, and so on." +
         " So the hands show the digits of the present tick.",
     "A timer stands at the highest wheel whose digit differs between its deadline and now," +
@@ -229,10 +230,9 @@ class Words {
   }
 
   guide() {
-    return [
-      ...GUIDE[this.play.scheme],
-      "The hand is the clock, and a filled slot has timers.",
-      "Choose a timer's number to follow it: it is orange, and its history stands beside the wheels.",
-    ];
+    const hand = this.play.scheme === "plain" ? [] : ["The hand is the clock, and a filled slot has timers."];
+    const follow =
+        "Choose a timer's number to follow it: it is orange, and its history stands beside the clock.";
+    return [...GUIDE[this.play.scheme], ...hand, follow];
   }
 }
