@@ -8,3 +8,4 @@ pub mod AskingLemmas
 pub mod ReportOfOne
 pub mod ProgressLemmas
 pub mod WindingLemmas
+pub mod TickingLemmas

@@ -14,3 +14,4 @@ pub mod Locked
 pub mod Queues
 pub mod Winding
 pub mod Driving
+pub mod Ticking

@@ -25,6 +25,7 @@ mod report;
 mod ring;
 mod ring_maker;
 mod settling;
+mod ticking;
 mod turn;
 mod winding;
 mod word;
@@ -48,3 +49,5 @@ mod driving_tests;
 mod locked_tests;
 #[cfg(test)]
 mod tests;
+#[cfg(test)]
+mod ticking_tests;

@@ -1,0 +1,7 @@
+pub mod ParkedParts
+pub mod DeskParts
+pub mod LineParts
+pub mod FrameSteps
+pub mod MakingLemmas
+pub mod RoundLemmas
+pub mod PlacingLemmas

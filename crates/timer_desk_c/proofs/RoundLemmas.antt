@@ -1,0 +1,285 @@
+-- What a desk has done in a round, serve after serve and flush after flush.
+use Rattle.std.proofs.Common.{rules, ◌≡◌, ◌≢◌, ◌<◌, ◌≤◌, ◌+◌, ◌++◌, ◌==◌, ℕ, Bool, true, false, ◌||◌, List, [], ◌∷◌, length, length-append, refl, sym, ◌∙◌, ap, subst, arith, ◌⊎◌, inl, inr}
+use Rattle.std.specs.Prelude.{All, nat_lt, not, if◌then◌else◌}
+use Rattle.std.specs.List.{list_any}
+use Rattle.std.proofs.lemmas.Grind.{flat_map-append}
+use Rattle.std.proofs.lemmas.Bool.Decides.{nat_tests}
+use Rattle.std.proofs.lemmas.List.Elements.{All-append}
+use Rattle.std.proofs.lemmas.List.Folds.{list_any-append}
+use Rattle.timer_desk.specs.declared.word.Numbered.{Numbered}
+use Rattle.timer_desk.specs.declared.report.Served.{Served}
+use Rattle.timer_desk.specs.declared.report.Served.TheVariants.{Idle, NoRoom, NoMemory, Did}
+use Rattle.timer_desk.specs.declared.report.Done.{Done}
+use Rattle.timer_desk.specs.declared.report.Done.TheVariants as Dones
+use Rattle.timer_desk.specs.declared.ring.RingInlet.{RingInlet}
+use Rattle.timer_desk.specs.Backlog.{BacklogState}
+use Rattle.timer_desk.specs.Report.{HeldIsLast, asked, asked_in}
+use Rattle.timer_desk.specs.Ring.{ring_lines}
+use Rattle.timer_desk.specs.Desk.{clients_of, side_at}
+use Rattle.timer_desk.proofs.ReportJoining.{Told-joined, Told-nothing}
+use Rattle.timer_desk_c.specs.DeskSlots.{DeskState}
+use Rattle.timer_desk_c.specs.Desks.{Says}
+use Rattle.timer_desk_c.specs.Rounds.{did, starved, did_request, ran_out, served_none, flushed_one, moved_a_word, IsServe, IsFlush, IsServedOut, round_status, HasServedAll, HasFlushedAll}
+use Rattle.timer_desk_c.specs.Serving.{HasServedClient}
+
+either : (b : Bool) → (b ≡ true) ⊎ (b ≡ false)
+either b = elim b as (λ v. (v ≡ true) ⊎ (v ≡ false)) [ true ↦ inl refl | false ↦ inr refl ]
+
+same_is : (n : ℕ) → (n == n) ≡ true
+same_is n = grind (arith, nat_tests)
+
+other_is : (m n : ℕ) → n ≢ m → (m == n) ≡ false
+other_is m n h = grind (arith, nat_tests)
+
+or_true : (a : Bool) → (a || true) ≡ true
+or_true true = refl
+or_true false = refl
+
+or_false : (a : Bool) → (a || false) ≡ a
+or_false true = refl
+or_false false = refl
+
+-- One serve.
+
+abbrev no_requests : List Numbered
+no_requests = []
+
+asked_same : (c : ℕ) (s : Served) → did s ≡ true → length (asked c (Dones.Served c s ∷ [])) ≡ 1
+asked_same c Idle h = absurd (cc)
+asked_same c NoRoom h = absurd (cc)
+asked_same c NoMemory h = absurd (cc)
+asked_same c (Did n w) h = ap (λ (b : Bool). length ((if b then n ∷ no_requests else no_requests) ++ no_requests)) (same_is c)
+
+asked_none : (c : ℕ) (s : Served) → did s ≡ false → length (asked c (Dones.Served c s ∷ [])) ≡ 0
+asked_none c Idle h = ap (λ (b : Bool). length ((if b then no_requests else no_requests) ++ no_requests)) (same_is c)
+asked_none c NoRoom h = ap (λ (b : Bool). length ((if b then no_requests else no_requests) ++ no_requests)) (same_is c)
+asked_none c NoMemory h = ap (λ (b : Bool). length ((if b then no_requests else no_requests) ++ no_requests)) (same_is c)
+asked_none c (Did n w) h = absurd (cc)
+
+asked_other : (c k : ℕ) (s : Served) → k ≢ c → asked k (Dones.Served c s ∷ []) ≡ []
+asked_other c k Idle h = ap (λ (b : Bool). (if b then no_requests else no_requests) ++ no_requests) (other_is c k h)
+asked_other c k NoRoom h = ap (λ (b : Bool). (if b then no_requests else no_requests) ++ no_requests) (other_is c k h)
+asked_other c k NoMemory h = ap (λ (b : Bool). (if b then no_requests else no_requests) ++ no_requests) (other_is c k h)
+asked_other c k (Did n w) h = ap (λ (b : Bool). (if b then n ∷ no_requests else no_requests) ++ no_requests) (other_is c k h)
+
+fed : (s : Served) → did s ≡ true → starved s ≡ false
+fed Idle h = refl
+fed NoRoom h = refl
+fed NoMemory h = absurd (cc)
+fed (Did n w) h = refl
+
+-- The serves of one client.
+
+-- so many serves of client c so far, each of which did a request
+pub record IsServing (c n : ℕ) (busy : Bool) (old now : DeskState) : Type 0 where
+  pub report : List Done
+  pub says : Says report old now
+  pub serves : All IsServe report
+  pub others : (k : ℕ) → k ≢ c → asked k report ≡ []
+  pub count : length (asked c report) ≡ n
+  pub busy_is : busy ≡ list_any did_request report
+  pub fed_all : list_any ran_out report ≡ false
+
+abbrev pub IsHeldRight : DeskState → Type 0
+IsHeldRight x = (c : ℕ) (i : RingInlet) (b : BacklogState) → c < clients_of x → HeldIsLast (side_at ring_lines x c i b)
+
+pub serving_nothing : (c : ℕ) (x : DeskState) → IsHeldRight x → IsServing c 0 false x x
+serving_nothing c x last = record {
+  report = [];
+  says = Told-nothing ring_lines x last;
+  serves = search rules;
+  others = λ k h. refl;
+  count = refl;
+  busy_is = refl;
+  fed_all = refl;
+}
+
+asked-append : (c : ℕ) (r q : List Done) → asked c (r ++ q) ≡ asked c r ++ asked c q
+asked-append c r q = flat_map-append (asked_in c) r q
+
+asked_nil : (c : ℕ) (r q : List Done) → asked c r ≡ [] → asked c q ≡ [] → asked c (r ++ q) ≡ []
+asked_nil c r q e f = asked-append c r q ∙ ap (λ xs. xs ++ asked c q) e ∙ f
+
+asked_long : (c : ℕ) (r q : List Done) → length (asked c (r ++ q)) ≡ length (asked c r) + length (asked c q)
+asked_long c r q = ap (λ xs. length xs) (asked-append c r q) ∙ length-append (asked c r) (asked c q)
+
+pub serving_more : (c n : ℕ) (busy : Bool) (x y z : DeskState) (s : Served) → IsServing c n busy x y → did s ≡ true → Says (Dones.Served c s ∷ []) y z
+    → IsServing c (n + 1) true x z
+serving_more c n busy x y z s f h says =
+    let d = Dones.Served c s ∷ [] in
+    let m = asked_long c f.report d in
+    let one = asked_same c s h in
+    let count = f.count in record {
+      report = f.report ++ d;
+      says = Told-joined ring_lines f.report d x y z f.says says;
+      serves = All-append IsServe f.report d f.serves (search rules);
+      others = λ k other. asked_nil k f.report d (f.others k other) (asked_other c k s other);
+      count = omega (arith, m, one, count);
+      busy_is = sym (list_any-append did_request f.report d ∙ ap (λ b. list_any did_request f.report || (b || false)) h ∙ or_true (list_any did_request f.report));
+      fed_all = list_any-append ran_out f.report d ∙ ap (λ b. b || (starved s || false)) f.fed_all ∙ ap (λ b. b || false) (fed s h);
+    }
+
+pub serving_ends : (c n most : ℕ) (busy out : Bool) (x y z : DeskState) (s : Served) → IsServing c n busy x y → n ≤ most → did s ≡ false → out ≡ starved s
+    → Says (Dones.Served c s ∷ []) y z → HasServedClient c most busy out x z
+serving_ends c n most busy out x y z s f few h e says =
+    let d = Dones.Served c s ∷ [] in
+    let m = asked_long c f.report d in
+    let one = asked_none c s h in
+    let count = f.count in
+    let none : list_any (served_none c) d ≡ true = ap (λ b. (if b then not (did s) else false) || false) (same_is c) ∙ ap (λ b. not b || false) h in record {
+      report = f.report ++ d;
+      says = Told-joined ring_lines f.report d x y z f.says says;
+      serves = All-append IsServe f.report d f.serves (search rules);
+      others = λ k other. asked_nil k f.report d (f.others k other) (asked_other c k s other);
+      served = record {
+        at_most = omega (arith, m, one, count, few);
+        through = inr (list_any-append (served_none c) f.report d ∙ ap (λ b. list_any (served_none c) f.report || b) none ∙ or_true (list_any (served_none c) f.report));
+      };
+      busy_is = f.busy_is ∙ sym (list_any-append did_request f.report d ∙ ap (λ b. list_any did_request f.report || (b || false)) h ∙ or_false (list_any did_request f.report));
+      memory_is = e ∙ sym (list_any-append ran_out f.report d ∙ ap (λ b. b || (starved s || false)) f.fed_all ∙ or_false (starved s));
+    }
+
+pub serving_full : (c most : ℕ) (busy : Bool) (x y : DeskState) → IsServing c most busy x y → HasServedClient c most busy false x y
+serving_full c most busy x y f =
+    let count = f.count in record {
+      report = f.report;
+      says = f.says;
+      serves = f.serves;
+      others = f.others;
+      served = record { at_most = omega (arith, count); through = inl count };
+      busy_is = f.busy_is;
+      memory_is = sym f.fed_all;
+    }
+
+-- A round of serves.
+
+-- each client below k was served, and none from k on
+pub record IsRound (most k : ℕ) (busy out : Bool) (old now : DeskState) : Type 0 where
+  pub report : List Done
+  pub says : Says report old now
+  pub serves : All IsServe report
+  pub each : (c : ℕ) → c < k → IsServedOut c most report
+  pub later : (c : ℕ) → k ≤ c → asked c report ≡ []
+  pub busy_is : busy ≡ list_any did_request report
+  pub memory_is : out ≡ list_any ran_out report
+
+none_below : (c : ℕ) → c < 0 → ⊥
+none_below c low = absurd (let z : c < 0 = low in grind (arith))
+
+pub round_nothing : (most : ℕ) (x : DeskState) → IsHeldRight x → IsRound most 0 false false x x
+round_nothing most x last = record {
+  report = [];
+  says = Told-nothing ring_lines x last;
+  serves = search rules;
+  each = λ c low. absurd (none_below c low);
+  later = λ c high. refl;
+  busy_is = refl;
+  memory_is = refl;
+}
+
+below_or_same : (c k : ℕ) → c < k + 1 → (c < k) ⊎ (c ≡ k)
+below_or_same c k h = grind (arith)
+
+less_is_other : (c k : ℕ) → c < k → c ≢ k
+less_is_other c k h e = absurd (omega (arith, h, e))
+
+more_is_other : (c k : ℕ) → k + 1 ≤ c → c ≢ k
+more_is_other c k h e = absurd (omega (arith, h, e))
+
+-- what else was served leaves a client served out
+out_before : (c most : ℕ) (r q : List Done) → IsServedOut c most r → asked c q ≡ [] → IsServedOut c most (r ++ q)
+out_before c most r q o none =
+    let m = asked_long c r q in
+    let z : length (asked c q) ≡ 0 = ap (λ xs. length xs) none in
+    let few = o.at_most in record {
+      at_most = omega (arith, m, z, few);
+      through = elim o.through [
+        | inl full ↦ inl (omega (arith, m, z, full))
+        | inr idle ↦ inr (list_any-append (served_none c) r q ∙ ap (λ b. b || list_any (served_none c) q) idle)
+      ];
+    }
+
+out_after : (c most : ℕ) (r q : List Done) → IsServedOut c most q → asked c r ≡ [] → IsServedOut c most (r ++ q)
+out_after c most r q o none =
+    let m = asked_long c r q in
+    let z : length (asked c r) ≡ 0 = ap (λ xs. length xs) none in
+    let few = o.at_most in record {
+      at_most = omega (arith, m, z, few);
+      through = elim o.through [
+        | inl full ↦ inl (omega (arith, m, z, full))
+        | inr idle ↦ inr (list_any-append (served_none c) r q ∙ ap (λ b. list_any (served_none c) r || b) idle ∙ or_true (list_any (served_none c) r))
+      ];
+    }
+
+pub round_more : (most k : ℕ) (busy out b o : Bool) (x y z : DeskState) → IsRound most k busy out x y → HasServedClient k most b o y z
+    → IsRound most (k + 1) (busy || b) (out || o) x z
+round_more most k busy out b o x y z f g =
+    let r = f.report in
+    let q = g.report in record {
+      report = r ++ q;
+      says = Told-joined ring_lines r q x y z f.says g.says;
+      serves = All-append IsServe r q f.serves g.serves;
+      each = λ c low. elim (below_or_same c k low) [
+        | inl under ↦ out_before c most r q (f.each c under) (g.others c (less_is_other c k under))
+        | inr same ↦ subst (λ v. IsServedOut v most (r ++ q)) (sym same) (out_after k most r q g.served (f.later k (omega arith)))
+      ];
+      later = λ c high. asked_nil c r q (f.later c (omega (arith, high))) (g.others c (more_is_other c k high));
+      busy_is = ap (λ v. v || b) f.busy_is ∙ ap (λ v. list_any did_request r || v) g.busy_is ∙ sym (list_any-append did_request r q);
+      memory_is = ap (λ v. v || o) f.memory_is ∙ ap (λ v. list_any ran_out r || v) g.memory_is ∙ sym (list_any-append ran_out r q);
+    }
+
+pub round_done : (most k status : ℕ) (busy out : Bool) (x y : DeskState) → IsRound most k busy out x y → clients_of x ≤ k → status ≡ round_status out busy
+    → HasServedAll most status x y
+round_done most k status busy out x y f all e = record {
+  report = f.report;
+  says = f.says;
+  serves = f.serves;
+  each = λ c low. f.each c (omega (arith, all, low));
+  status_is = e ∙ ap (λ v. round_status v busy) f.memory_is ∙ ap (λ v. round_status (list_any ran_out f.report) v) f.busy_is;
+}
+
+-- A round of flushes.
+
+-- each client below k was flushed
+pub record IsFlushing (k : ℕ) (moved : Bool) (old now : DeskState) : Type 0 where
+  pub report : List Done
+  pub says : Says report old now
+  pub flushes : All IsFlush report
+  pub each : (c : ℕ) → c < k → list_any (flushed_one c) report ≡ true
+  pub moved_is : moved ≡ list_any moved_a_word report
+
+pub flushing_nothing : (x : DeskState) → IsHeldRight x → IsFlushing 0 false x x
+flushing_nothing x last = record {
+  report = [];
+  says = Told-nothing ring_lines x last;
+  flushes = search rules;
+  each = λ c low. absurd (none_below c low);
+  moved_is = refl;
+}
+
+pub flushing_more : (k count : ℕ) (moved b : Bool) (x y z : DeskState) → IsFlushing k moved x y → Says (Dones.Flushed k count ∷ []) y z → b ≡ nat_lt 0 count
+    → IsFlushing (k + 1) (moved || b) x z
+flushing_more k count moved b x y z f says e =
+    let r = f.report in
+    let d = Dones.Flushed k count ∷ [] in
+    let one : list_any (flushed_one k) d ≡ true = ap (λ v. v || false) (same_is k) in record {
+      report = r ++ d;
+      says = Told-joined ring_lines r d x y z f.says says;
+      flushes = All-append IsFlush r d f.flushes (search rules);
+      each = λ c low. elim (below_or_same c k low) [
+        | inl under ↦ list_any-append (flushed_one c) r d ∙ ap (λ v. v || list_any (flushed_one c) d) (f.each c under)
+        | inr same ↦ subst (λ v. list_any (flushed_one v) (r ++ d) ≡ true) (sym same)
+            (list_any-append (flushed_one k) r d ∙ ap (λ v. list_any (flushed_one k) r || v) one ∙ or_true (list_any (flushed_one k) r))
+      ];
+      moved_is =
+          ap (λ v. v || b) f.moved_is ∙ ap (λ v. list_any moved_a_word r || v) (e ∙ sym (or_false (nat_lt 0 count))) ∙ sym (list_any-append moved_a_word r d);
+    }
+
+pub flushing_done : (k : ℕ) (moved : Bool) (x y : DeskState) → IsFlushing k moved x y → clients_of x ≤ k → HasFlushedAll moved x y
+flushing_done k moved x y f all = record {
+  report = f.report;
+  says = f.says;
+  flushes = f.flushes;
+  each = λ c low. f.each c (omega (arith, all, low));
+  moved_is = f.moved_is;
+}

@@ -1,0 +1,167 @@
+-- The owner's desk, before and after a call.
+use Rattle.std.specs.Prelude.{ℕ, ◌≡◌, ◌≢◌, ◌<◌, ◌≤◌, ◌⊎◌, Bool, true, false, List, [], ◌∷◌, length, get_or, map, Ok, Err, Some, None, Result, IfOk}
+use Rattle.timer_base.specs.declared.limits.TheConstants.{LAST}
+use Rattle.timer_facility.specs.declared.config.Config as facility
+use Rattle.timer_facility.specs.declared.request.TickFault.{TickFault}
+use Rattle.timer_facility.specs.declared.request.CloseFault.{CloseFault}
+use Rattle.timer_facility.specs.declared.request.TickFault.TheVariants as TickFaults
+use Rattle.timer_facility.specs.declared.request.CloseFault.TheVariants as CloseFaults
+use Rattle.timer_facility.specs.Config.{config_fault}
+use Rattle.timer_facility.specs.Opened.{opened}
+use Rattle.timer_facility.specs.State.{FacilityState}
+use Rattle.timer_facility.specs.WakeUps.{IsWakeUp}
+use Rattle.timer_desk.specs.declared.opening.TheConstants.{LEAST_ROOM, MOST_ROOM}
+use Rattle.timer_desk.specs.declared.report.Served.{Served}
+use Rattle.timer_desk.specs.declared.report.Served.TheVariants as Serveds
+use Rattle.timer_desk.specs.declared.report.Done.{Done}
+use Rattle.timer_desk.specs.declared.report.Done.TheVariants as Dones
+use Rattle.timer_desk.specs.declared.ring.RingInlet.{RingInlet}
+use Rattle.timer_desk.specs.Ring.{line_of_inlet, got_of, given_of, is_settled, free_of_inlet, ring_lines}
+use Rattle.timer_desk.specs.Settling.{HasSettled}
+use Rattle.timer_desk.specs.Desk.{opened_desk, clients_of, Told, TakesNothing, tick_notices, close_notices}
+use Rattle.timer_desk_c.specs.declared.shapes.DeskConfig.{DeskConfig}
+use Rattle.timer_desk_c.specs.declared.held.HeldLine.{HeldLine}
+use Rattle.timer_desk_c.specs.declared.line.Line.{Line}
+use Rattle.timer_desk_c.specs.declared.making.TheConstants.{LEAST_LINE, MOST_LINE}
+use Rattle.timer_desk_c.specs.declared.status.TheConstants.{OK, NO_MEMORY, IDLE, NO_ROOM, OUT_OF_RANGE, CLOSED, CLOCK_END, NO_CLIENT, NOT_FINISHED, OTHER_LINE, NEVER}
+use Rattle.timer_desk_c.specs.DeskSlots.{DeskState}
+use Rattle.timer_desk_c.specs.Frames.{HasLine, HasNoLine}
+use Rattle.timer_desk_c.specs.Lines.{requests_ring_on, words_ring_on, submitted_on, received_on, next_on, free_on, is_open_line, IsSameLine, SameTraffic}
+
+-- the configuration of the facility
+abbrev pub config_of : ℕ → DeskConfig → facility.Config
+config_of clients c = record { clients = clients; capacity = c.capacity; first_tick = c.first_tick; first_serial = 1; first_number = 1 }
+
+-- each number is in its range
+abbrev pub IsFit : ℕ → DeskConfig → Type 0
+IsFit clients c =
+    (config_fault (config_of clients c) ≡ None) × (LEAST_ROOM ≤ c.room) × (c.room ≤ MOST_ROOM) × (LEAST_LINE ≤ c.line) × (c.line ≤ MOST_LINE)
+
+-- the client's end is of this inlet's line
+abbrev pub IsEndOf : RingInlet → Line → Type 0
+IsEndOf i l = (requests_ring_on l ≡ Some (line_of_inlet i).0) × (words_ring_on l ≡ Some (line_of_inlet i).1)
+
+-- a new end: nothing was sent or received, and there is room for this many requests
+pub record IsNewEnd (room : ℕ) (l : Line) : Type 0 where
+  pub open_yet : is_open_line l ≡ true
+  pub submitted : submitted_on l ≡ []
+  pub received : received_on l ≡ []
+  pub next : next_on l ≡ 1
+  pub free : free_on l ≡ room
+
+-- a new inlet: nothing was got or given, and there is room for this many words
+pub record IsNewInlet (room : ℕ) (i : RingInlet) : Type 0 where
+  pub got : got_of i ≡ []
+  pub given : given_of i ≡ []
+  pub unsettled : is_settled i ≡ false
+  pub free : free_of_inlet i ≡ room
+
+-- new lines, with room for this many items each way: at each index the two ends of one line
+pub record AreNewLines (room : ℕ) (inlets : List RingInlet) (ends : List Line) : Type 0 where
+  pub as_many : length ends ≡ length inlets
+  pub inlet : (k : ℕ) (i : RingInlet) → k < length inlets → IsNewInlet room (get_or inlets k i)
+  pub end : (k : ℕ) (l : Line) → k < length inlets → IsNewEnd room (get_or ends k l)
+  pub tied : (k : ℕ) (i : RingInlet) (l : Line) → k < length inlets → IsEndOf (get_or inlets k i) (get_or ends k l)
+
+-- each of C's lines holds the end at its index
+pub record AreHeld (ends : List Line) (lines : List HeldLine) : Type 0 where
+  pub as_many : length lines ≡ length ends
+  pub open_each : (k : ℕ) (x : HeldLine) → k < length ends → HasLine (get_or lines k x)
+  pub state : (k : ℕ) (x : HeldLine) (l : Line) → k < length ends → (get_or lines k x).slot.state ≡ get_or ends k l
+  -- and has its number
+  pub client : (k : ℕ) (x : HeldLine) → k < length ends → (get_or lines k x).client ≡ k
+
+-- none of C's lines holds one
+abbrev pub AllEmpty : List HeldLine → Type 0
+AllEmpty lines = (k : ℕ) (x : HeldLine) → k < length lines → HasNoLine (get_or lines k x)
+
+-- one of C's lines holds one
+pub record IsOneHeld (lines : List HeldLine) : Type 0 where
+  pub index : ℕ
+  pub in_range : index < length lines
+  pub held : (x : HeldLine) → HasLine (get_or lines index x)
+
+-- a new desk of this configuration over these lines
+abbrev pub IsNewDesk : ℕ → DeskConfig → DeskState → Type 0
+IsNewDesk clients c d = (d ≡ opened_desk (opened (config_of clients c) LAST) d.inlets c.room) × (clients_of d ≡ clients)
+
+-- a new desk, and its lines at C
+pub record IsMade (c : DeskConfig) (d : DeskState) (lines : List HeldLine) : Type 0 where
+  pub desk : IsNewDesk (length lines) c d
+  pub ends : List Line
+  pub lines_of : AreNewLines c.line d.inlets ends
+  pub held : AreHeld ends lines
+
+abbrev pub WhyNotMade : ℕ → DeskConfig → ℕ → Type 0
+WhyNotMade clients c status = ((status ≡ OUT_OF_RANGE) × (IsFit clients c → ⊥)) ⊎ ((status ≡ NO_MEMORY) × IsFit clients c)
+
+-- what this report says of the desk
+abbrev pub Says : List Done → DeskState → DeskState → Type 0
+Says report old new = Told ring_lines report old new
+
+abbrev pub status_of : Served → ℕ
+status_of Serveds.Idle = IDLE
+status_of Serveds.NoRoom = NO_ROOM
+status_of Serveds.NoMemory = NO_MEMORY
+status_of (Serveds.Did numbered word) = OK
+
+-- the client was served once, with this status
+pub record HasServed (client status : ℕ) (old new : DeskState) : Type 0 where
+  pub served : Served
+  pub status_is : status ≡ status_of served
+  pub says : Says (Dones.Served client served ∷ []) old new
+  pub no_room : served ≡ Serveds.NoRoom → new ≡ old
+  pub idle : served ≡ Serveds.Idle → TakesNothing ring_lines old new
+
+abbrev pub tick_status : {X : Type 0} → Result X TickFault → ℕ
+tick_status (Ok done) = OK
+tick_status (Err TickFaults.Closed) = CLOSED
+tick_status (Err TickFaults.ClockEnd) = CLOCK_END
+
+-- a tick was tried, with this status, and the notices of the timers that expired are in the outboxes
+pub record HasTicked (status : ℕ) (old new : DeskState) : Type 0 where
+  pub result : Result (Unit {0}) TickFault
+  pub status_is : status ≡ tick_status result
+  pub says : Says (Dones.Ticked result ∷ map Dones.Noticed (tick_notices old.facility)) old new
+
+abbrev pub close_status : Result ℕ CloseFault → ℕ
+close_status (Ok count) = OK
+close_status (Err CloseFaults.Closed) = CLOSED
+close_status (Err CloseFaults.OutOfMemory) = NO_MEMORY
+
+-- a close was tried, with this status and this number of timers that were returned, whose notices are in the outboxes
+pub record HasClosed (status returned : ℕ) (old new : DeskState) : Type 0 where
+  pub result : Result ℕ CloseFault
+  pub status_is : status ≡ close_status result
+  pub returned_is : IfOk result (λ count. returned ≡ count)
+  pub says : Says (Dones.Closed result ∷ map Dones.Noticed (close_notices old.facility result)) old new
+
+-- the tick until which nothing expires
+abbrev pub IsNextTick : ℕ → FacilityState → Type 0
+IsNextTick tick s = ((tick ≡ NEVER) × (s.pending ≡ [])) ⊎ IsWakeUp tick s
+
+-- the line of this client, which has finished, is settled: what was got of it followed by what stands is all that was
+-- ever submitted on it
+pub record IsSettled (client standing : ℕ) (line : Line) (old new : DeskState) : Type 0 where
+  pub client_in_range : client < clients_of old
+  pub same_clients : clients_of new ≡ clients_of old
+  pub same_facility : new.facility ≡ old.facility
+  pub same_backlogs : new.backlogs ≡ old.backlogs
+  pub others : (k : ℕ) (i : RingInlet) → k ≢ client → get_or new.inlets k i ≡ get_or old.inlets k i
+  pub settled : (i : RingInlet) → HasSettled (get_or old.inlets client i) (get_or new.inlets client i) (submitted_on line) standing
+
+-- a line that is given as a client's is of that client of the desk, or its requests could not be ended
+abbrev pub IsGivenAs : ℕ → DeskState → Line → Type 0
+IsGivenAs client d l = (i : RingInlet) → (requests_ring_on l ≡ None) ⊎ (requests_ring_on l ≡ Some (line_of_inlet (get_or d.inlets client i)).0)
+
+-- nothing of the line but the prover's knowledge has changed
+abbrev pub IsAsBefore : Line → Line → Type 0
+IsAsBefore old new = IsSameLine old new × SameTraffic old new
+
+-- why no line was settled: the first that holds, where the line has this number
+abbrev pub WhyNotSettled : ℕ → ℕ → DeskState → Line → ℕ → Type 0
+WhyNotSettled client number d l status =
+    ((status ≡ NO_CLIENT) × (clients_of d ≤ client))
+    ⊎ ((status ≡ OTHER_LINE) × (client < clients_of d) × (number ≢ client))
+    ⊎ ((status ≡ NOT_FINISHED) × (client < clients_of d) × (number ≡ client) × (is_open_line l ≡ true))
+    ⊎ ((status ≡ OTHER_LINE) × (client < clients_of d) × (number ≡ client) × (requests_ring_on l ≡ None))

@@ -1,0 +1,11 @@
+pub mod Messages
+pub mod Lines
+pub mod DeskSlots
+pub mod DeskLent
+pub mod LineSlots
+pub mod LineLent
+pub mod Frames
+pub mod Desks
+pub mod Advancing
+pub mod Rounds
+pub mod Serving

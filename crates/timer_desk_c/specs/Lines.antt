@@ -1,0 +1,102 @@
+-- The client's end of a line, before and after a call.
+use Rattle.std.specs.Prelude.{ℕ, ◌≡◌, ◌+◌, ◌<◌, ◌≤◌, ◌⊎◌, ◌++◌, Bool, true, false, List, [], ◌∷◌, Option, Some, None}
+use Rattle.timer_base.specs.declared.limits.TheConstants.{LAST}
+use Rattle.timer_facility.specs.declared.request.Request.{Request}
+use Rattle.timer_desk.specs.declared.word.Numbered.{Numbered}
+use Rattle.timer_desk.specs.declared.word.Word.{Word}
+use Rattle.timer_desk.specs.Ring.{Ring, line_of_end, requests_ring_of, words_ring_of_reader, submitted, all_submitted, received_by_end, read_by, seen_by_end, seen_by_reader, free_of, next_of, numbered}
+use Rattle.timer_desk_c.specs.declared.line.Line.{Line}
+use Rattle.timer_desk_c.specs.declared.line.Line.TheVariants.{Open, Finished, Gone}
+use Rattle.timer_desk_c.specs.declared.shapes.Message.{Message}
+use Rattle.timer_desk_c.specs.declared.status.TheConstants.{LINE_FULL, NUMBERS_SPENT, FINISHED}
+use Rattle.timer_desk_c.specs.Messages.{message_of}
+
+-- it has not finished
+abbrev pub is_open_line : Line → Bool
+is_open_line (Open e) = true
+is_open_line (Finished ended r) = false
+is_open_line Gone = false
+
+-- its ring of requests; none where it finished after the owner's end was dropped
+abbrev pub requests_ring_on : Line → Option Ring
+requests_ring_on (Open e) = Some (line_of_end e).0
+requests_ring_on (Finished (Some e) r) = Some (requests_ring_of e)
+requests_ring_on (Finished None r) = None
+requests_ring_on Gone = None
+
+-- its ring of words
+abbrev pub words_ring_on : Line → Option Ring
+words_ring_on (Open e) = Some (line_of_end e).1
+words_ring_on (Finished ended r) = Some (words_ring_of_reader r)
+words_ring_on Gone = None
+
+-- all requests submitted
+abbrev pub submitted_on : Line → List Numbered
+submitted_on (Open e) = submitted e
+submitted_on (Finished (Some e) r) = all_submitted e
+submitted_on (Finished None r) = []
+submitted_on Gone = []
+
+-- all words received
+abbrev pub received_on : Line → List Word
+received_on (Open e) = received_by_end e
+received_on (Finished ended r) = read_by r
+received_on Gone = []
+
+-- the words known to stand in the line
+abbrev pub seen_on : Line → List Word
+seen_on (Open e) = seen_by_end e
+seen_on (Finished ended r) = seen_by_reader r
+seen_on Gone = []
+
+-- the next request's number
+abbrev pub next_on : Line → ℕ
+next_on (Open e) = next_of e
+next_on (Finished ended r) = 0
+next_on Gone = 0
+
+-- how many slots for requests are known to be free
+abbrev pub free_on : Line → ℕ
+free_on (Open e) = free_of e
+free_on (Finished ended r) = 0
+free_on Gone = 0
+
+-- the same line, which has finished or not as before
+abbrev pub IsSameLine : Line → Line → Type 0
+IsSameLine old new =
+    (requests_ring_on new ≡ requests_ring_on old) × (words_ring_on new ≡ words_ring_on old) × (is_open_line new ≡ is_open_line old)
+
+-- no request was sent and no word received
+abbrev pub SameTraffic : Line → Line → Type 0
+SameTraffic old new =
+    (submitted_on new ≡ submitted_on old) × (received_on new ≡ received_on old) × (next_on new ≡ next_on old)
+
+-- no request was sent
+abbrev pub SameSent : Line → Line → Type 0
+SameSent old new = (submitted_on new ≡ submitted_on old) × (next_on new ≡ next_on old)
+
+-- the request was sent under this number, the next one
+abbrev pub HasSent : Request → Line → Line → ℕ → Type 0
+HasSent request old new number =
+    (is_open_line old ≡ true) × (number ≡ next_on old) × (number ≤ LAST) × (next_on new ≡ number + 1)
+    × (submitted_on new ≡ submitted_on old ++ numbered number request ∷ [])
+
+-- why no request was sent: `LINE_FULL` only where no slot is known to be free
+abbrev pub WhyNotSent : Line → Line → ℕ → Type 0
+WhyNotSent old new status =
+    ((status ≡ FINISHED) × (is_open_line old ≡ false))
+    ⊎ ((status ≡ NUMBERS_SPENT) × (is_open_line old ≡ true) × (LAST < next_on old))
+    ⊎ ((status ≡ LINE_FULL) × (is_open_line old ≡ true) × (next_on old ≤ LAST) × (free_on new ≡ 0))
+
+-- a word was received, and this is it
+pub record HasReceived (old new : Line) (out : Message) : Type 0 where
+  pub word : Word
+  pub received : received_on new ≡ received_on old ++ word ∷ []
+  pub is : out ≡ message_of word
+
+-- The requests have ended. The line has no ring of requests afterwards only where the owner's end was dropped, and else
+-- all that was submitted is known.
+abbrev pub HasFinished : Line → Line → Type 0
+HasFinished old new =
+    (is_open_line old ≡ true) × (is_open_line new ≡ false) × (words_ring_on new ≡ words_ring_on old)
+    × ((requests_ring_on new ≡ None) ⊎ ((requests_ring_on new ≡ requests_ring_on old) × (submitted_on new ≡ submitted_on old)))

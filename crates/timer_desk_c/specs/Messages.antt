@@ -1,0 +1,59 @@
+-- A word to a client as C's struct. Fields that its kind doesn't use are 0.
+use Rattle.std.specs.Prelude.{ℕ}
+use Rattle.timer_base.specs.declared.timer.Timer.{Timer}
+use Rattle.timer_base.specs.declared.timer.Handle as base
+use Rattle.timer_facility.specs.declared.request.Answer.{Answer}
+use Rattle.timer_facility.specs.declared.request.Answer.TheVariants as Answers
+use Rattle.timer_facility.specs.declared.request.Reason.{Reason}
+use Rattle.timer_facility.specs.declared.request.Reason.TheVariants as Reasons
+use Rattle.timer_facility.specs.declared.request.NotTaken.{NotTaken}
+use Rattle.timer_facility.specs.declared.request.NotTaken.TheVariants as NotTakens
+use Rattle.timer_facility.specs.declared.request.Notice.TheVariants as Notices
+use Rattle.timer_desk.specs.declared.word.Word.{Word}
+use Rattle.timer_desk.specs.declared.word.Word.TheVariants as Words
+use Rattle.timer_desk_c.specs.declared.shapes.Handle.{Handle}
+use Rattle.timer_desk_c.specs.declared.shapes.Message.{Message}
+use Rattle.timer_desk_c.specs.declared.status.TheConstants.{NO_MEMORY, NOT_PENDING, ZERO_INTERVAL, TOO_LATE, SERIALS_SPENT, CLOSED, CAPACITY, NO_CLIENT, NUMBERS_SPENT, REPEATED, AHEAD, STARTED, RESTARTED, STOPPED, REFUSED, NOT_TAKEN, EXPIRED, RETURNED}
+
+-- all 0
+abbrev pub blank : Message
+blank = record { kind = 0; reason = 0; number = 0; handle = record { place = 0; serial = 0 }; deadline = 0; action = 0; other = 0 }
+
+-- a handle as C's struct
+abbrev pub given : base.Handle → Handle
+given handle = record { place = handle.place; serial = handle.serial }
+
+-- and as the wheel's type
+abbrev pub named : Handle → base.Handle
+named handle = record { place = handle.place; serial = handle.serial }
+
+abbrev pub reason_of : Reason → ℕ
+reason_of Reasons.ZeroInterval = ZERO_INTERVAL
+reason_of Reasons.TooLate = TOO_LATE
+reason_of Reasons.SerialsSpent = SERIALS_SPENT
+reason_of Reasons.Full = CAPACITY
+reason_of Reasons.NoSuch = NOT_PENDING
+
+abbrev pub message_of_answer : ℕ → Answer → Message
+message_of_answer number (Answers.Started handle deadline) = record blank { kind = STARTED; number = number; handle = given handle; deadline = deadline }
+message_of_answer number (Answers.Stopped serial) = record blank { kind = STOPPED; number = number; handle = record { place = 0; serial = serial } }
+message_of_answer number (Answers.Restarted handle deadline old) = record blank { kind = RESTARTED; number = number; handle = given handle; deadline = deadline; other = old }
+message_of_answer number (Answers.Refused reason) = record blank { kind = REFUSED; reason = reason_of reason; number = number }
+
+abbrev pub message_of_not_taken : ℕ → NotTaken → Message
+message_of_not_taken number NotTakens.Closed = record blank { kind = NOT_TAKEN; reason = CLOSED; number = number }
+message_of_not_taken number NotTakens.NoClient = record blank { kind = NOT_TAKEN; reason = NO_CLIENT; number = number }
+message_of_not_taken number (NotTakens.Repeated next) = record blank { kind = NOT_TAKEN; reason = REPEATED; number = number; other = next }
+message_of_not_taken number NotTakens.NumbersSpent = record blank { kind = NOT_TAKEN; reason = NUMBERS_SPENT; number = number }
+message_of_not_taken number (NotTakens.Ahead next) = record blank { kind = NOT_TAKEN; reason = AHEAD; number = number; other = next }
+message_of_not_taken number NotTakens.OutOfMemory = record blank { kind = NOT_TAKEN; reason = NO_MEMORY; number = number }
+
+-- a timer that is handed out, under the number of the request that started it
+abbrev pub message_of_timer : ℕ → Timer → Message
+message_of_timer kind t = record { kind = kind; reason = 0; number = t.number; handle = record { place = 0; serial = t.serial }; deadline = t.deadline; action = t.action; other = 0 }
+
+abbrev pub message_of : Word → Message
+message_of (Words.Answered number answer) = message_of_answer number answer
+message_of (Words.NotTaken number reason) = message_of_not_taken number reason
+message_of (Words.Notice (Notices.Expired timer)) = message_of_timer EXPIRED timer
+message_of (Words.Notice (Notices.Returned timer)) = message_of_timer RETURNED timer

@@ -1,0 +1,107 @@
+-- Rounds of the owner over all clients: each is served, each outbox is flushed.
+use Rattle.std.specs.Prelude.{ℕ, ◌≡◌, ◌<◌, ◌≤◌, ◌⊎◌, ◌==◌, Bool, true, false, not, List, length, All, nat_lt, if◌then◌else◌}
+use Rattle.std.specs.List.{list_any}
+use Rattle.timer_desk.specs.declared.report.Served.{Served}
+use Rattle.timer_desk.specs.declared.report.Served.TheVariants as Serveds
+use Rattle.timer_desk.specs.declared.report.Done.{Done}
+use Rattle.timer_desk.specs.declared.report.Done.TheVariants as Dones
+use Rattle.timer_desk.specs.Desk.{clients_of}
+use Rattle.timer_desk.specs.Report.{asked}
+use Rattle.timer_desk_c.specs.declared.status.TheConstants.{OK, NO_MEMORY, IDLE}
+use Rattle.timer_desk_c.specs.DeskSlots.{DeskState}
+use Rattle.timer_desk_c.specs.Desks.{Says}
+
+-- a request was done
+abbrev pub did : Served → Bool
+did Serveds.Idle = false
+did Serveds.NoRoom = false
+did Serveds.NoMemory = false
+did (Serveds.Did numbered word) = true
+
+-- memory ran out for a request
+abbrev pub starved : Served → Bool
+starved Serveds.Idle = false
+starved Serveds.NoRoom = false
+starved Serveds.NoMemory = true
+starved (Serveds.Did numbered word) = false
+
+-- the member is a serve that did a request
+abbrev pub did_request : Done → Bool
+did_request (Dones.Served client served) = did served
+did_request (Dones.Ticked result) = false
+did_request (Dones.Closed result) = false
+did_request (Dones.Noticed notice) = false
+did_request (Dones.Flushed client count) = false
+
+-- the member is a serve for which memory ran out
+abbrev pub ran_out : Done → Bool
+ran_out (Dones.Served client served) = starved served
+ran_out (Dones.Ticked result) = false
+ran_out (Dones.Closed result) = false
+ran_out (Dones.Noticed notice) = false
+ran_out (Dones.Flushed client count) = false
+
+-- the member is a serve of client c that did no request
+abbrev pub served_none : ℕ → Done → Bool
+served_none c (Dones.Served client served) = if client == c then not (did served) else false
+served_none c (Dones.Ticked result) = false
+served_none c (Dones.Closed result) = false
+served_none c (Dones.Noticed notice) = false
+served_none c (Dones.Flushed client count) = false
+
+-- the member is a flush of client c
+abbrev pub flushed_one : ℕ → Done → Bool
+flushed_one c (Dones.Served client served) = false
+flushed_one c (Dones.Ticked result) = false
+flushed_one c (Dones.Closed result) = false
+flushed_one c (Dones.Noticed notice) = false
+flushed_one c (Dones.Flushed client count) = client == c
+
+-- the member is a flush that moved a word
+abbrev pub moved_a_word : Done → Bool
+moved_a_word (Dones.Served client served) = false
+moved_a_word (Dones.Ticked result) = false
+moved_a_word (Dones.Closed result) = false
+moved_a_word (Dones.Noticed notice) = false
+moved_a_word (Dones.Flushed client count) = nat_lt 0 count
+
+-- the member is a serve
+abbrev pub IsServe : Done → Type 0
+IsServe (Dones.Served client served) = Unit {0}
+IsServe (Dones.Ticked result) = ⊥
+IsServe (Dones.Closed result) = ⊥
+IsServe (Dones.Noticed notice) = ⊥
+IsServe (Dones.Flushed client count) = ⊥
+
+-- the member is a flush
+abbrev pub IsFlush : Done → Type 0
+IsFlush (Dones.Served client served) = ⊥
+IsFlush (Dones.Ticked result) = ⊥
+IsFlush (Dones.Closed result) = ⊥
+IsFlush (Dones.Noticed notice) = ⊥
+IsFlush (Dones.Flushed client count) = Unit {0}
+
+-- at most so many requests of client c were done, and fewer only where a serve of it did none
+pub record IsServedOut (c most : ℕ) (report : List Done) : Type 0 where
+  pub at_most : length (asked c report) ≤ most
+  pub through : (length (asked c report) ≡ most) ⊎ (list_any (served_none c) report ≡ true)
+
+-- the status of a round of serves: whether memory ran out in one of them, else whether one did a request
+abbrev pub round_status : Bool → Bool → ℕ
+round_status ran_out busy = if ran_out then NO_MEMORY else if busy then OK else IDLE
+
+-- each client was served, up to `most` times, with this status in all
+pub record HasServedAll (most status : ℕ) (old new : DeskState) : Type 0 where
+  pub report : List Done
+  pub says : Says report old new
+  pub serves : All IsServe report
+  pub each : (c : ℕ) → c < clients_of old → IsServedOut c most report
+  pub status_is : status ≡ round_status (list_any ran_out report) (list_any did_request report)
+
+-- each client was flushed, and whether a word was moved
+pub record HasFlushedAll (moved : Bool) (old new : DeskState) : Type 0 where
+  pub report : List Done
+  pub says : Says report old new
+  pub flushes : All IsFlush report
+  pub each : (c : ℕ) → c < clients_of old → list_any (flushed_one c) report ≡ true
+  pub moved_is : moved ≡ list_any moved_a_word report

@@ -1,0 +1,247 @@
+//! The functions that C calls in the owner's thread. None of them waits for a client.
+//!
+//! The contracts have the same parts as those of `line_exports`. What a call did to the desk is a report, as in
+//! `timer_desk`: each member with its exact result, the words for each client in order, and the facility before
+//! and after.
+ghost use Rattle.std.specs.Prelude.{◌≡◌, ◌<◌, ◌≤◌, ◌⊎◌, [], length, get_or, true, false};
+ghost use Rattle.timer_facility.specs.State.{FacilityState};
+ghost use Rattle.timer_desk.specs.declared.ring.RingInlet.{RingInlet};
+ghost use Rattle.timer_desk.specs.Desk.{clients_of, backlog_at};
+ghost use Rattle.timer_desk.specs.Ring.{line_of_inlet};
+ghost use Rattle.timer_desk_c.specs.Frames.{IsOpen, IsShut, with_desk, HasLine, HasNoLine, with_line};
+ghost use Rattle.timer_desk_c.specs.Desks.{IsFit, IsMade, AllEmpty, IsOneHeld, WhyNotMade, HasServed, HasTicked, HasClosed, IsNextTick, IsSettled, IsGivenAs, IsAsBefore, WhyNotSettled};
+ghost use Rattle.timer_desk_c.specs.Rounds.{HasServedAll, HasFlushedAll};
+ghost use Rattle.timer_desk_c.specs.Advancing.{HasAdvanced, WhyNotAdvanced, HasFlushed};
+ghost use Rattle.timer_desk_c.specs.declared.status.TheConstants.{OK, NOT_OPEN, OPEN, NO_CLIENT, NEVER};
+
+use crate::held::{HeldDesk, HeldLine};
+use crate::making::{Made, make};
+use crate::parked::Parked;
+use crate::placing::{are_empty, place};
+use crate::settling::settle;
+use crate::shapes::DeskConfig;
+use crate::status::{NEVER, NOT_OPEN, OK, OPEN};
+use crate::{advancing, calls, rounds};
+use std::alloc::Global;
+
+/// Makes a desk with a client for each of `lines`, which hold the clients' ends from then on.
+#[unsafe(no_mangle)]
+pub extern "C" fn timers_desk_new(
+    alloc: Global,
+    d: &mut HeldDesk,
+    lines: &mut [HeldLine],
+    config: &DeskConfig,
+) -> u32
+    ensures made { result ≡ OK → IsShut d.old × AllEmpty lines.old × IsFit (length lines.old) config.now × IsOpen d.new
+        × IsMade config.now d.new.slot.state lines.new × (length lines.new ≡ length lines.old) }
+    ensures refused { 0 < result → ((result ≡ OPEN) × (IsOpen d.old ⊎ IsOneHeld lines.old))
+        ⊎ (IsShut d.old × AllEmpty lines.old × WhyNotMade (length lines.old) config.now result) }
+    ensures kept { 0 < result → (d.new ≡ d.old) × (lines.new ≡ lines.old) }
+{
+    if d.slot.holds() {
+        return OPEN;
+    }
+    if !are_empty(lines) {
+        return OPEN;
+    }
+    match make(alloc, lines.len(), *config) {
+        Ok(made) => {
+            let Made { desk, ends } = made;
+            d.slot.put(Parked::park(desk));
+            place(ends, lines);
+            OK
+        }
+        Err(status) => status,
+    }
+}
+
+/// Frees the desk, if there is one: the facility, all pending timers and words, and the owner's ends of the lines.
+#[unsafe(no_mangle)]
+pub extern "C" fn timers_desk_free(alloc: Global, d: &mut HeldDesk)
+    ensures shut { IsShut d.new }
+    ensures kept { IsShut d.old → d.new ≡ d.old }
+{
+    if d.slot.holds() {
+        drop(d.slot.take(alloc).unpark());
+    }
+}
+
+/// Serves a client once: takes its held request, or else the next of its line, to the facility.
+#[unsafe(no_mangle)]
+pub extern "C" fn timers_desk_serve(d: &mut HeldDesk, client: usize) -> u32
+    ensures served { IsOpen d.old → client < clients_of d.old.slot.state → HasServed client result d.old.slot.state d.new.slot.state }
+    ensures none { IsOpen d.old → clients_of d.old.slot.state ≤ client → (result ≡ NO_CLIENT) × (d.new ≡ d.old) }
+    ensures not_open { IsShut d.old → (result ≡ NOT_OPEN) × (d.new ≡ d.old) }
+    ensures only { d.new ≡ with_desk d.old d.new.slot.state }
+{
+    if !d.slot.holds() {
+        return NOT_OPEN;
+    }
+    calls::serve(d.slot.desk(), client)
+}
+
+/// Serves each client in turn, each up to `most` times. Returns `NO_MEMORY` if memory ran out for a request,
+/// else `OK` if one was done, else `IDLE`.
+#[unsafe(no_mangle)]
+pub extern "C" fn timers_desk_serve_all(d: &mut HeldDesk, most: u64) -> u32
+    ensures served { IsOpen d.old → HasServedAll most result d.old.slot.state d.new.slot.state }
+    ensures not_open { IsShut d.old → (result ≡ NOT_OPEN) × (d.new ≡ d.old) }
+    ensures only { d.new ≡ with_desk d.old d.new.slot.state }
+{
+    if !d.slot.holds() {
+        return NOT_OPEN;
+    }
+    rounds::serve_all(d.slot.desk(), most)
+}
+
+/// Moves words from each client's outbox into its line, as many as it takes. Returns whether one was moved.
+#[unsafe(no_mangle)]
+pub extern "C" fn timers_desk_flush_all(d: &mut HeldDesk) -> bool
+    ensures flushed { IsOpen d.old → HasFlushedAll result d.old.slot.state d.new.slot.state }
+    ensures not_open { IsShut d.old → (result ≡ false) × (d.new ≡ d.old) }
+    ensures only { d.new ≡ with_desk d.old d.new.slot.state }
+{
+    if !d.slot.holds() {
+        return false;
+    }
+    rounds::flush_all(d.slot.desk())
+}
+
+/// Advances the clock by one tick. The notices of the timers that expire wait in the outboxes.
+#[unsafe(no_mangle)]
+pub extern "C" fn timers_desk_tick(d: &mut HeldDesk) -> u32
+    ensures ticked { IsOpen d.old → HasTicked result d.old.slot.state d.new.slot.state }
+    ensures not_open { IsShut d.old → (result ≡ NOT_OPEN) × (d.new ≡ d.old) }
+    ensures only { d.new ≡ with_desk d.old d.new.slot.state }
+{
+    if !d.slot.holds() {
+        return NOT_OPEN;
+    }
+    calls::tick(d.slot.desk())
+}
+
+/// Passes at most `most` ticks, up to the first at which a timer expires, and writes how many were passed: 0 only
+/// if `most` is 0.
+#[unsafe(no_mangle)]
+pub extern "C" fn timers_desk_advance(d: &mut HeldDesk, most: u64, passed: &mut u64) -> u32
+    ensures advanced { result ≡ OK → IsOpen d.old × HasAdvanced most passed.new d.old.slot.state d.new.slot.state }
+    ensures refused { 0 < result → ((result ≡ NOT_OPEN) × IsShut d.old) ⊎ (IsOpen d.old × WhyNotAdvanced d.old.slot.state.facility result) }
+    ensures kept { 0 < result → (d.new ≡ d.old) × (passed.new ≡ passed.old) }
+    ensures only { d.new ≡ with_desk d.old d.new.slot.state }
+{
+    if !d.slot.holds() {
+        return NOT_OPEN;
+    }
+    advancing::advance(d.slot.desk(), most, passed)
+}
+
+/// Moves words from a client's outbox into its line, as many as it takes, and returns how many.
+#[unsafe(no_mangle)]
+pub extern "C" fn timers_desk_flush(d: &mut HeldDesk, client: usize) -> usize
+    ensures flushed { IsOpen d.old → client < clients_of d.old.slot.state → HasFlushed client result d.old.slot.state d.new.slot.state }
+    ensures none { IsOpen d.old → clients_of d.old.slot.state ≤ client → (result ≡ 0) × (d.new ≡ d.old) }
+    ensures not_open { IsShut d.old → (result ≡ 0) × (d.new ≡ d.old) }
+    ensures only { d.new ≡ with_desk d.old d.new.slot.state }
+{
+    if !d.slot.holds() {
+        return 0;
+    }
+    advancing::flush(d.slot.desk(), client)
+}
+
+/// Closes the facility: each pending timer is returned to its client, and no request is accepted from then on.
+/// Writes how many were returned.
+#[unsafe(no_mangle)]
+pub extern "C" fn timers_desk_close(d: &mut HeldDesk, returned: &mut u64) -> u32
+    ensures closed { IsOpen d.old → HasClosed result returned.new d.old.slot.state d.new.slot.state }
+    ensures not_open { IsShut d.old → (result ≡ NOT_OPEN) × (d.new ≡ d.old) }
+    ensures kept { 0 < result → returned.new ≡ returned.old }
+    ensures only { d.new ≡ with_desk d.old d.new.slot.state }
+{
+    if !d.slot.holds() {
+        return NOT_OPEN;
+    }
+    calls::close(d.slot.desk(), returned)
+}
+
+/// The present tick, or 0 if there is no desk.
+#[unsafe(no_mangle)]
+pub extern "C" fn timers_desk_now(d: &mut HeldDesk) -> u64
+    ensures now { IsOpen d.old → result ≡ d.old.slot.state.facility.now }
+    ensures not_open { IsShut d.old → result ≡ 0 }
+    ensures same { d.new ≡ d.old }
+{
+    if !d.slot.holds() {
+        return 0;
+    }
+    d.slot.desk().facility().now()
+}
+
+/// How many timers are pending, or 0 if there is no desk.
+#[unsafe(no_mangle)]
+pub extern "C" fn timers_desk_len(d: &mut HeldDesk) -> usize
+    ensures pending { IsOpen d.old → result ≡ length d.old.slot.state.facility.pending }
+    ensures not_open { IsShut d.old → result ≡ 0 }
+    ensures same { d.new ≡ d.old }
+{
+    if !d.slot.holds() {
+        return 0;
+    }
+    d.slot.desk().facility().pending()
+}
+
+/// A tick after the present one and at most the first deadline, before which nothing expires; `NEVER` if
+/// nothing is pending or there is no desk.
+#[unsafe(no_mangle)]
+pub extern "C" fn timers_desk_wakeup(d: &mut HeldDesk) -> u64
+    ensures tick { IsOpen d.old → IsNextTick result d.old.slot.state.facility }
+    ensures not_open { IsShut d.old → result ≡ NEVER }
+    ensures same { d.new ≡ d.old }
+{
+    if !d.slot.holds() {
+        return NEVER;
+    }
+    calls::wakeup(d.slot.desk())
+}
+
+/// How many words wait in a client's outbox. 0 if there is no such client or no desk.
+#[unsafe(no_mangle)]
+pub extern "C" fn timers_desk_outbox(d: &mut HeldDesk, client: usize) -> usize
+    ensures len { IsOpen d.old → client < clients_of d.old.slot.state → result ≡ length (backlog_at d.old.slot.state client).outbox }
+    ensures none { IsOpen d.old → clients_of d.old.slot.state ≤ client → result ≡ 0 }
+    ensures not_open { IsShut d.old → result ≡ 0 }
+    ensures same { d.new ≡ d.old }
+{
+    if !d.slot.holds() {
+        return 0;
+    }
+    calls::outbox(d.slot.desk(), client)
+}
+
+/// Settles the line of a client that has finished, and writes how many of its requests still stand in it.
+#[unsafe(no_mangle)]
+pub extern "C" fn timers_desk_settle(
+    d: &mut HeldDesk,
+    client: usize,
+    line: &mut HeldLine,
+    standing: &mut usize,
+) -> u32
+    requires line { IsOpen d.old → HasLine line.old → client < clients_of d.old.slot.state → line.old.client ≡ client
+        → IsGivenAs client d.old.slot.state line.old.slot.state }
+    ensures settled { result ≡ OK → IsOpen d.old × HasLine line.old × (line.old.client ≡ client)
+        × IsSettled client standing.new line.old.slot.state d.old.slot.state d.new.slot.state }
+    ensures refused { 0 < result → ((result ≡ NOT_OPEN) × (IsShut d.old ⊎ HasNoLine line.old))
+        ⊎ (IsOpen d.old × HasLine line.old × WhyNotSettled client line.old.client d.old.slot.state line.old.slot.state result) }
+    ensures kept { 0 < result → (d.new ≡ d.old) × (standing.new ≡ standing.old) }
+    ensures line { IsAsBefore line.old.slot.state line.new.slot.state }
+    ensures only { (d.new ≡ with_desk d.old d.new.slot.state) × (line.new ≡ with_line line.old line.new.slot.state) }
+{
+    if !d.slot.holds() {
+        return NOT_OPEN;
+    }
+    if !line.slot.holds() {
+        return NOT_OPEN;
+    }
+    let number = line.client;
+    settle(d.slot.desk(), client, number, line.slot.line(), standing)
+}

@@ -1,0 +1,96 @@
+//! The client's end of a line, before and after it has finished.
+ghost use Rattle.std.specs.Prelude.{◌≡◌};
+
+use crate::messages::message_of;
+use crate::shapes::Message;
+use crate::status::{FINISHED, LINE_FULL, NUMBERS_SPENT, OK};
+use std::mem;
+use timer_desk::{ClientEnd, ClientReader, RequestsEnded, Unsent, Word};
+use timer_facility::Request;
+
+/// The client's end of a line.
+#[derive(Drop)]
+pub enum Line {
+    /// It sends requests and receives words.
+    Open(ClientEnd),
+    /// It has finished its requests, and still receives words.
+    Finished(Option<RequestsEnded>, ClientReader),
+    /// In passing, while it finishes.
+    Gone,
+}
+
+impl Line {
+    ghost use Rattle.std.specs.Prelude.{◌≡◌, ◌<◌, ◌++◌, [], ◌∷◌, true, false, IfSome, IsNone};
+    ghost use Rattle.timer_desk_c.specs.Lines.{HasSent, WhyNotSent, HasReceived, IsSameLine, SameTraffic, HasFinished, is_open_line, seen_on, received_on, submitted_on, next_on};
+    ghost use Rattle.timer_desk_c.specs.declared.status.TheConstants.{OK, FINISHED};
+
+    /// Sends a request, and writes its number, one above that of the last.
+    pub(crate) fn send(&mut self, request: Request, number: &mut u64) -> u32
+        ensures sent { result ≡ OK → HasSent request self.old self.new number.new }
+        ensures refused { 0 < result → WhyNotSent self.old self.new result }
+        ensures kept { 0 < result → SameTraffic self.old self.new × (number.new ≡ number.old) }
+        ensures line { IsSameLine self.old self.new }
+        ensures received { (received_on self.new ≡ received_on self.old) × (seen_on self.new ≡ seen_on self.old) }
+    {
+        let Line::Open(end) = self else {
+            return FINISHED;
+        };
+        match end.submit(request) {
+            Ok(sent) => {
+                *number = sent;
+                OK
+            }
+            Err(Unsent::Spent(_)) => NUMBERS_SPENT,
+            Err(Unsent::Full(_)) => LINE_FULL,
+        }
+    }
+
+    /// Receives the next word.
+    fn next_word(&mut self) -> Option<Word>
+        ensures some { IfSome result (λ w. received_on self.new ≡ received_on self.old ++ w ∷ []) }
+        ensures none { IsNone result → (received_on self.new ≡ received_on self.old) × (seen_on self.old ≡ []) }
+        ensures line { IsSameLine self.old self.new }
+        ensures sent { (submitted_on self.new ≡ submitted_on self.old) × (next_on self.new ≡ next_on self.old) }
+    {
+        match self {
+            Line::Open(end) => end.receive(),
+            Line::Finished(_, reader) => reader.receive(),
+            Line::Gone => None,
+        }
+    }
+
+    /// Receives the next word, and writes it.
+    pub(crate) fn receive(&mut self, out: &mut Message) -> bool
+        ensures received { result ≡ true → HasReceived self.old self.new out.new }
+        ensures none { result ≡ false → (received_on self.new ≡ received_on self.old) × (seen_on self.old ≡ []) × (out.new ≡ out.old) }
+        ensures line { IsSameLine self.old self.new }
+        ensures sent { (submitted_on self.new ≡ submitted_on self.old) × (next_on self.new ≡ next_on self.old) }
+    {
+        match self.next_word() {
+            Some(word) => {
+                *out = message_of(word);
+                true
+            }
+            None => false,
+        }
+    }
+
+    /// Ends the requests of a line that has not finished.
+    pub(crate) fn finish(&mut self) -> u32
+        ensures finished { result ≡ OK → HasFinished self.old self.new }
+        ensures refused { 0 < result → (result ≡ FINISHED) × (is_open_line self.old ≡ false) × (self.new ≡ self.old) }
+        ensures received { received_on self.new ≡ received_on self.old }
+    {
+        match mem::replace(self, Line::Gone) {
+            Line::Open(end) => {
+                let (ended, reader) = end.finish();
+                *self = Line::Finished(ended, reader);
+                OK
+            }
+            other => {
+                *self = other;
+                FINISHED
+            }
+        }
+    }
+}

@@ -1,0 +1,135 @@
+//! The functions that C calls in a client's thread. None of them waits, and none but `timers_line_free`
+//! allocates or frees memory.
+//!
+//! The contracts have the same parts: what the call did if it returns `OK`; the first reason that holds if it
+//! returns another status; what is the same then; and that nothing but the state of the line ever changes in
+//! what C holds.
+ghost use Rattle.std.specs.Prelude.{◌≡◌, ◌<◌, ◌⊎◌, [], true, false};
+ghost use Rattle.timer_facility.specs.declared.request.Request.TheVariants.{Start, Stop, Restart};
+ghost use Rattle.timer_desk_c.specs.Frames.{HasLine, HasNoLine, with_line};
+ghost use Rattle.timer_desk_c.specs.Lines.{HasSent, WhyNotSent, SameTraffic, SameSent, HasReceived, HasFinished, IsSameLine, is_open_line, seen_on, received_on};
+ghost use Rattle.timer_desk_c.specs.Messages.{named};
+ghost use Rattle.timer_desk_c.specs.declared.status.TheConstants.{OK, NOT_OPEN, FINISHED};
+
+use crate::held::HeldLine;
+use crate::messages::named;
+use crate::shapes::{Handle, Message};
+use crate::status::NOT_OPEN;
+use std::alloc::Global;
+use timer_facility::Request;
+
+/// Sends the request to start a timer that expires after `interval` ticks, and writes the request's number.
+#[unsafe(no_mangle)]
+pub extern "C" fn timers_line_start(
+    line: &mut HeldLine,
+    interval: u64,
+    action: u64,
+    number: &mut u64,
+) -> u32
+    ensures sent { result ≡ OK → HasLine line.old × HasSent (Start interval action) line.old.slot.state line.new.slot.state number.new }
+    ensures refused { 0 < result → ((result ≡ NOT_OPEN) × HasNoLine line.old)
+        ⊎ (HasLine line.old × WhyNotSent line.old.slot.state line.new.slot.state result) }
+    ensures kept { 0 < result → SameTraffic line.old.slot.state line.new.slot.state × (number.new ≡ number.old) }
+    ensures received { received_on line.new.slot.state ≡ received_on line.old.slot.state }
+    ensures line { IsSameLine line.old.slot.state line.new.slot.state }
+    ensures only { line.new ≡ with_line line.old line.new.slot.state }
+{
+    if !line.slot.holds() {
+        return NOT_OPEN;
+    }
+    line.slot
+        .line()
+        .send(Request::Start { interval, action }, number)
+}
+
+/// Sends the request to stop the timer with this handle, and writes the request's number.
+#[unsafe(no_mangle)]
+pub extern "C" fn timers_line_stop(line: &mut HeldLine, handle: Handle, number: &mut u64) -> u32
+    ensures sent { result ≡ OK → HasLine line.old × HasSent (Stop (named handle)) line.old.slot.state line.new.slot.state number.new }
+    ensures refused { 0 < result → ((result ≡ NOT_OPEN) × HasNoLine line.old)
+        ⊎ (HasLine line.old × WhyNotSent line.old.slot.state line.new.slot.state result) }
+    ensures kept { 0 < result → SameTraffic line.old.slot.state line.new.slot.state × (number.new ≡ number.old) }
+    ensures received { received_on line.new.slot.state ≡ received_on line.old.slot.state }
+    ensures line { IsSameLine line.old.slot.state line.new.slot.state }
+    ensures only { line.new ≡ with_line line.old line.new.slot.state }
+{
+    if !line.slot.holds() {
+        return NOT_OPEN;
+    }
+    line.slot.line().send(Request::Stop(named(handle)), number)
+}
+
+/// Sends the request to stop the timer with this handle and start another in its place, and writes the
+/// request's number.
+#[unsafe(no_mangle)]
+pub extern "C" fn timers_line_restart(
+    line: &mut HeldLine,
+    handle: Handle,
+    interval: u64,
+    action: u64,
+    number: &mut u64,
+) -> u32
+    ensures sent { result ≡ OK → HasLine line.old
+        × HasSent (Restart (named handle) interval action) line.old.slot.state line.new.slot.state number.new }
+    ensures refused { 0 < result → ((result ≡ NOT_OPEN) × HasNoLine line.old)
+        ⊎ (HasLine line.old × WhyNotSent line.old.slot.state line.new.slot.state result) }
+    ensures kept { 0 < result → SameTraffic line.old.slot.state line.new.slot.state × (number.new ≡ number.old) }
+    ensures received { received_on line.new.slot.state ≡ received_on line.old.slot.state }
+    ensures line { IsSameLine line.old.slot.state line.new.slot.state }
+    ensures only { line.new ≡ with_line line.old line.new.slot.state }
+{
+    if !line.slot.holds() {
+        return NOT_OPEN;
+    }
+    line.slot.line().send(
+        Request::Restart {
+            handle: named(handle),
+            interval,
+            action,
+        },
+        number,
+    )
+}
+
+/// Receives the next word. Returns whether there was one.
+#[unsafe(no_mangle)]
+pub extern "C" fn timers_line_receive(line: &mut HeldLine, out: &mut Message) -> bool
+    ensures received { result ≡ true → HasLine line.old × HasReceived line.old.slot.state line.new.slot.state out.new }
+    ensures none { result ≡ false → (received_on line.new.slot.state ≡ received_on line.old.slot.state) × (out.new ≡ out.old) }
+    ensures nothing_seen { result ≡ false → HasLine line.old → seen_on line.old.slot.state ≡ [] }
+    ensures sent { SameSent line.old.slot.state line.new.slot.state }
+    ensures line { IsSameLine line.old.slot.state line.new.slot.state }
+    ensures only { line.new ≡ with_line line.old line.new.slot.state }
+{
+    if !line.slot.holds() {
+        return false;
+    }
+    line.slot.line().receive(out)
+}
+
+/// Ends the requests of this line. Words are still received.
+#[unsafe(no_mangle)]
+pub extern "C" fn timers_line_finish(line: &mut HeldLine) -> u32
+    ensures finished { result ≡ OK → HasLine line.old × HasFinished line.old.slot.state line.new.slot.state }
+    ensures refused { 0 < result → ((result ≡ NOT_OPEN) × HasNoLine line.old)
+        ⊎ (HasLine line.old × (result ≡ FINISHED) × (is_open_line line.old.slot.state ≡ false)) }
+    ensures kept { 0 < result → line.new ≡ line.old }
+    ensures received { received_on line.new.slot.state ≡ received_on line.old.slot.state }
+    ensures only { line.new ≡ with_line line.old line.new.slot.state }
+{
+    if !line.slot.holds() {
+        return NOT_OPEN;
+    }
+    line.slot.line().finish()
+}
+
+/// Frees the end of the line, if there is one.
+#[unsafe(no_mangle)]
+pub extern "C" fn timers_line_free(alloc: Global, line: &mut HeldLine)
+    ensures shut { HasNoLine line.new }
+    ensures kept { HasNoLine line.old → line.new ≡ line.old }
+{
+    if line.slot.holds() {
+        drop(line.slot.take(alloc).unpark());
+    }
+}

@@ -1,0 +1,148 @@
+//! Words to a client as C's struct.
+ghost use Rattle.std.specs.Prelude.{◌≡◌};
+ghost use Rattle.timer_desk_c.specs.Messages.{blank, given, named, reason_of, message_of_answer, message_of_not_taken, message_of_timer, message_of};
+
+use crate::shapes::{Handle, Message};
+use crate::status::{
+    AHEAD, CAPACITY, CLOSED, EXPIRED, NO_CLIENT, NO_MEMORY, NOT_PENDING, NOT_TAKEN, NUMBERS_SPENT,
+    REFUSED, REPEATED, RESTARTED, RETURNED, SERIALS_SPENT, STARTED, STOPPED, TOO_LATE,
+    ZERO_INTERVAL,
+};
+use timer_base::Timer;
+use timer_desk::Word;
+use timer_facility::{Answer, NotTaken, Notice, Reason};
+
+/// A word as C's struct.
+pub(crate) fn message_of(word: Word) -> Message
+    ensures { result ≡ message_of word }
+{
+    match word {
+        Word::Answered { number, answer } => message_of_answer(number, answer),
+        Word::NotTaken { number, reason } => message_of_not_taken(number, reason),
+        Word::Notice(Notice::Expired(timer)) => message_of_timer(EXPIRED, timer),
+        Word::Notice(Notice::Returned(timer)) => message_of_timer(RETURNED, timer),
+    }
+}
+
+fn message_of_answer(number: u64, answer: Answer) -> Message
+    ensures { result ≡ message_of_answer number answer }
+{
+    match answer {
+        Answer::Started { handle, deadline } => Message {
+            kind: STARTED,
+            number,
+            handle: given(handle),
+            deadline,
+            ..nothing()
+        },
+        Answer::Stopped { serial } => Message {
+            kind: STOPPED,
+            number,
+            handle: Handle { place: 0, serial },
+            ..nothing()
+        },
+        Answer::Restarted {
+            handle,
+            deadline,
+            old,
+        } => Message {
+            kind: RESTARTED,
+            number,
+            handle: given(handle),
+            deadline,
+            other: old,
+            ..nothing()
+        },
+        Answer::Refused(reason) => Message {
+            kind: REFUSED,
+            reason: number_of(reason),
+            number,
+            ..nothing()
+        },
+    }
+}
+
+fn message_of_not_taken(number: u64, reason: NotTaken) -> Message
+    ensures { result ≡ message_of_not_taken number reason }
+{
+    let (reason, other) = match reason {
+        NotTaken::Closed => (CLOSED, 0),
+        NotTaken::NoClient => (NO_CLIENT, 0),
+        NotTaken::Repeated { next } => (REPEATED, next),
+        NotTaken::NumbersSpent => (NUMBERS_SPENT, 0),
+        NotTaken::Ahead { next } => (AHEAD, next),
+        NotTaken::OutOfMemory => (NO_MEMORY, 0),
+    };
+    Message {
+        kind: NOT_TAKEN,
+        reason,
+        number,
+        other,
+        ..nothing()
+    }
+}
+
+fn message_of_timer(kind: u32, timer: Timer) -> Message
+    ensures { result ≡ message_of_timer kind timer }
+{
+    Message {
+        kind,
+        number: timer.number,
+        handle: Handle {
+            place: 0,
+            serial: timer.serial,
+        },
+        deadline: timer.deadline,
+        action: timer.action,
+        ..nothing()
+    }
+}
+
+fn number_of(reason: Reason) -> u32
+    ensures { result ≡ reason_of reason }
+{
+    match reason {
+        Reason::ZeroInterval => ZERO_INTERVAL,
+        Reason::TooLate => TOO_LATE,
+        Reason::SerialsSpent => SERIALS_SPENT,
+        Reason::Full => CAPACITY,
+        Reason::NoSuch => NOT_PENDING,
+    }
+}
+
+/// A handle as C's struct.
+fn given(handle: timer_base::Handle) -> Handle
+    ensures { result ≡ given handle }
+{
+    Handle {
+        place: handle.place,
+        serial: handle.serial,
+    }
+}
+
+/// A handle as the wheel's type.
+pub(crate) fn named(handle: Handle) -> timer_base::Handle
+    ensures { result ≡ named handle }
+{
+    timer_base::Handle {
+        place: handle.place,
+        serial: handle.serial,
+    }
+}
+
+fn nothing() -> Message
+    ensures { result ≡ blank }
+{
+    Message {
+        kind: 0,
+        reason: 0,
+        number: 0,
+        handle: Handle {
+            place: 0,
+            serial: 0,
+        },
+        deadline: 0,
+        action: 0,
+        other: 0,
+    }
+}

@@ -1,0 +1,103 @@
+//! Rounds of the owner: each client is served, or each outbox flushed.
+ghost use Rattle.std.specs.Prelude.{◌≡◌, ◌<◌, ◌||◌, nat_lt};
+ghost use Rattle.timer_desk.specs.Desk.{clients_of};
+ghost use Rattle.timer_desk_c.specs.Rounds.{did, starved, round_status, HasServedAll, HasFlushedAll};
+ghost use Rattle.timer_desk_c.specs.Serving.{HasServedClient};
+
+use crate::status::{IDLE, NO_MEMORY, OK};
+use timer_base::Wheel;
+use timer_desk::{Desk, RingInlet, Served};
+
+/// What the serves of one client did.
+#[derive(Drop)]
+struct Round {
+    /// A request was done.
+    busy: bool,
+    /// Memory ran out for a request.
+    starved: bool,
+}
+
+/// Serves each client in turn, each up to `most` times.
+pub(crate) fn serve_all<W: Wheel + Drop>(desk: &mut Desk<W, RingInlet>, most: u64) -> u32
+    ensures { HasServedAll most result desk.old desk.new }
+{
+    desk.keeps();
+    let mut busy = false;
+    let mut starved = false;
+    for client in 0..desk.clients() {
+        let round = serve_up_to(desk, client, most);
+        busy = either(busy, round.busy);
+        starved = either(starved, round.starved);
+    }
+    round_status(starved, busy)
+}
+
+/// Serves a client until `most` requests were done or a serve did none.
+fn serve_up_to<W: Wheel + Drop>(desk: &mut Desk<W, RingInlet>, client: usize, most: u64) -> Round
+    requires { client < clients_of desk.old }
+    ensures { HasServedClient client most result.busy result.starved desk.old desk.new }
+{
+    desk.keeps();
+    let mut busy = false;
+    for _ in 0..most {
+        let served = desk.serve(client);
+        if !is_done(served) {
+            let starved = is_starved(served);
+            return Round { busy, starved };
+        }
+        busy = true;
+    }
+    Round {
+        busy,
+        starved: false,
+    }
+}
+
+/// Flushes each client's outbox. Returns whether a word was moved.
+pub(crate) fn flush_all<W: Wheel + Drop>(desk: &mut Desk<W, RingInlet>) -> bool
+    ensures { HasFlushedAll result desk.old desk.new }
+{
+    desk.keeps();
+    let mut busy = false;
+    for client in 0..desk.clients() {
+        busy = either(busy, is_some(desk.flush(client)));
+    }
+    busy
+}
+
+/// Whether a serve did a request.
+fn is_done(served: Served) -> bool
+    ensures { result ≡ did served }
+{
+    matches!(served, Served::Did { .. })
+}
+
+/// Whether memory ran out for a request.
+fn is_starved(served: Served) -> bool
+    ensures { result ≡ starved served }
+{
+    matches!(served, Served::NoMemory)
+}
+
+/// Whether words were moved.
+fn is_some(count: usize) -> bool
+    ensures { result ≡ nat_lt 0 count }
+{
+    count > 0
+}
+
+fn either(a: bool, b: bool) -> bool
+    ensures { result ≡ a || b }
+{
+    a || b
+}
+
+/// The status of a round: out of memory comes before what was done, so that the owner comes back for the held request.
+fn round_status(starved: bool, busy: bool) -> u32
+    ensures { result ≡ round_status starved busy }
+{
+    if starved {
+        return NO_MEMORY;
+    }
+    if busy { OK } else { IDLE }
+}

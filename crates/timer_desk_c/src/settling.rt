@@ -1,0 +1,41 @@
+//! Settles the line of a client that has finished.
+ghost use Rattle.std.specs.Prelude.{◌≡◌, ◌<◌};
+ghost use Rattle.timer_desk.specs.Desk.{clients_of};
+ghost use Rattle.timer_desk_c.specs.Desks.{IsSettled, IsGivenAs, IsAsBefore, WhyNotSettled};
+ghost use Rattle.timer_desk_c.specs.declared.status.TheConstants.{OK};
+
+use crate::line::Line;
+use crate::status::{NO_CLIENT, NOT_FINISHED, OK, OTHER_LINE};
+use timer_base::Wheel;
+use timer_desk::{Desk, RingInlet};
+
+/// Settles the line of a client, which has this number, and writes how many requests stand in it.
+pub(crate) fn settle<W: Wheel + Drop>(
+    desk: &mut Desk<W, RingInlet>,
+    client: usize,
+    number: u64,
+    line: &mut Line,
+    standing: &mut usize,
+) -> u32
+    requires line { client < clients_of desk.old → number ≡ client → IsGivenAs client desk.old line.old }
+    ensures settled { result ≡ OK → (number ≡ client) × IsSettled client standing.new line.old desk.old desk.new }
+    ensures refused { 0 < result → WhyNotSettled client number desk.old line.old result }
+    ensures kept { 0 < result → (desk.new ≡ desk.old) × (standing.new ≡ standing.old) }
+    ensures line { IsAsBefore line.old line.new }
+{
+    if client >= desk.clients() {
+        return NO_CLIENT;
+    }
+    if number != client as u64 {
+        return OTHER_LINE;
+    }
+    match line {
+        Line::Open(_) => NOT_FINISHED,
+        Line::Finished(Some(ended), _) => {
+            *standing = desk.settle(client, ended);
+            OK
+        }
+        Line::Finished(None, _) => OTHER_LINE,
+        Line::Gone => OTHER_LINE,
+    }
+}

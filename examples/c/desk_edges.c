@@ -1,0 +1,242 @@
+/* The edges of timers_desk.h, in one thread: calls on empty structs, refusals, a full line, a client
+ * that doesn't read, the close, settling, frees in every order, want of memory. */
+#include <stdio.h>
+#include <stdlib.h>
+#include <string.h>
+#include "timers_desk.h"
+
+#define CHECK(fact) do { if (!(fact)) { fprintf(stderr, "line %d: %s\n", __LINE__, #fact); abort(); } } while (0)
+
+/* with -DREFUSE each allocation of the story is refused in turn */
+static long left = -1, asked, blocks;
+#ifdef REFUSE
+#include <malloc.h>
+static bool refused(void) { asked++; return left >= 0 && left-- == 0; }
+void *__real_malloc(size_t size);
+void *__real_realloc(void *at, size_t size);
+void __real_free(void *at);
+void *__wrap_malloc(size_t size) { if (refused()) return NULL; blocks++; return __real_malloc(size); }
+void *__wrap_realloc(void *at, size_t size) { if (refused()) return NULL; return __real_realloc(at, size); }
+void __wrap_free(void *at) { if (at) blocks--; __real_free(at); }
+#endif
+
+static void owner_turn(struct timers_desk *d)
+{
+	timers_desk_serve_all(d, 100);
+	timers_desk_flush_all(d);
+}
+
+static void empty_structs(void)
+{
+	struct timers_desk d = TIMERS_DESK_INIT;
+	struct timers_line l = TIMERS_LINE_INIT;
+	struct timers_word w;
+	struct timer_handle h = { 1, 2 };
+	uint64_t n = 77;
+	size_t s = 78;
+	CHECK(timers_desk_serve(&d, 0) == TIMERS_DESK_NOT_OPEN && timers_desk_serve_all(&d, 9) == TIMERS_DESK_NOT_OPEN && !timers_desk_flush_all(&d));
+	CHECK(timers_desk_flush(&d, 0) == 0 && timers_desk_tick(&d) == TIMERS_DESK_NOT_OPEN);
+	CHECK(timers_desk_advance(&d, 5, &n) == TIMERS_DESK_NOT_OPEN && n == 77);
+	CHECK(timers_desk_close(&d, &n) == TIMERS_DESK_NOT_OPEN && n == 77 && timers_desk_settle(&d, 0, &l, &s) == TIMERS_DESK_NOT_OPEN && s == 78);
+	CHECK(timers_desk_now(&d) == 0 && timers_desk_len(&d) == 0 && timers_desk_outbox(&d, 0) == 0 && timers_desk_wakeup(&d) == TIMERS_NEVER);
+	CHECK(timers_line_start(&l, 1, 2, &n) == TIMERS_DESK_NOT_OPEN && n == 77);
+	CHECK(timers_line_stop(&l, h, &n) == TIMERS_DESK_NOT_OPEN && timers_line_restart(&l, h, 1, 2, &n) == TIMERS_DESK_NOT_OPEN && n == 77);
+	CHECK(!timers_line_receive(&l, &w) && timers_line_finish(&l) == TIMERS_DESK_NOT_OPEN);
+	timers_line_free(&l);
+	timers_desk_free(&d);
+}
+
+static void configurations(void)
+{
+	struct timers_desk d = TIMERS_DESK_INIT;
+	struct timers_line l[65] = { TIMERS_LINE_INIT };
+	struct timers_desk_config good = { 5, 100, 8, 4 }, c;
+	CHECK(timers_desk_new(&d, l, 0, &good) == TIMERS_DESK_OUT_OF_RANGE && timers_desk_new(&d, l, 65, &good) == TIMERS_DESK_OUT_OF_RANGE);
+	c = good, c.capacity = 0; CHECK(timers_desk_new(&d, l, 1, &c) == TIMERS_DESK_OUT_OF_RANGE);
+	c = good, c.capacity = 1048577; CHECK(timers_desk_new(&d, l, 1, &c) == TIMERS_DESK_OUT_OF_RANGE);
+	c = good, c.first_tick = TIMERS_LAST + 1; CHECK(timers_desk_new(&d, l, 1, &c) == TIMERS_DESK_OUT_OF_RANGE);
+	c = good, c.room = 1; CHECK(timers_desk_new(&d, l, 1, &c) == TIMERS_DESK_OUT_OF_RANGE);
+	c = good, c.line = 0; CHECK(timers_desk_new(&d, l, 1, &c) == TIMERS_DESK_OUT_OF_RANGE);
+	c = good, c.line = 65537; CHECK(timers_desk_new(&d, l, 1, &c) == TIMERS_DESK_OUT_OF_RANGE);
+	CHECK(timers_desk_new(&d, l, 64, &good) == TIMERS_DESK_OK && timers_desk_now(&d) == 5);
+	CHECK(timers_desk_new(&d, l, 64, &good) == TIMERS_DESK_OPEN);
+	timers_desk_free(&d);
+	CHECK(timers_desk_new(&d, l, 64, &good) == TIMERS_DESK_OPEN);       /* the lines still hold their ends */
+	for (int i = 0; i < 64; i++)
+		timers_line_free(&l[i]);
+	CHECK(timers_desk_new(&d, l, 2, &good) == TIMERS_DESK_OK);
+	timers_line_free(&l[1]);
+	timers_desk_free(&d);
+	timers_line_free(&l[0]);
+}
+
+/* returns whether memory ran out */
+static bool story(void)
+{
+	struct timers_desk d = TIMERS_DESK_INIT;
+	struct timers_line l[2] = { TIMERS_LINE_INIT, TIMERS_LINE_INIT };
+	struct timers_desk_config config = { 0, 100, 8, 4 };
+	struct timers_word w, first;
+	uint64_t n;
+	size_t standing;
+	enum timers_desk_status s = timers_desk_new(&d, l, 2, &config);
+	if (s != TIMERS_DESK_OK) {
+		CHECK(s == TIMERS_DESK_NO_MEMORY && d.mark == 0 && l[0].mark == 0 && l[1].mark == 0 && !d.at && !l[0].at);
+		return true;
+	}
+	/* a full line */
+	for (uint64_t i = 1; i <= 4; i++)
+		CHECK(timers_line_start(&l[0], 100 * i, i, &n) == TIMERS_DESK_OK && n == i);
+	n = 99;
+	CHECK(timers_line_start(&l[0], 5, 5, &n) == TIMERS_DESK_LINE_FULL && n == 99);
+	/* want of memory holds a request; it is tried again, and none is lost or taken twice */
+	bool ran_out = false;
+	for (int done = 0; done < 4;) {
+		s = timers_desk_serve(&d, 0);
+		CHECK(s == TIMERS_DESK_OK || s == TIMERS_DESK_NO_MEMORY || s == TIMERS_DESK_NO_ROOM);
+		if (s == TIMERS_DESK_NO_ROOM)
+			CHECK(timers_desk_flush(&d, 0) > 0);
+		done += s == TIMERS_DESK_OK;
+		ran_out |= s == TIMERS_DESK_NO_MEMORY;
+	}
+	CHECK(timers_desk_serve(&d, 0) == TIMERS_DESK_IDLE || timers_desk_serve(&d, 0) == TIMERS_DESK_NO_ROOM);
+	CHECK(timers_desk_serve(&d, 2) == TIMERS_DESK_NO_CLIENT && timers_desk_flush(&d, 2) == 0);
+	timers_desk_flush_all(&d);
+	for (uint64_t i = 1; i <= 4; i++) {
+		CHECK(timers_line_receive(&l[0], &w) && w.kind == TIMERS_WORD_STARTED && w.number == i && w.handle.serial == i && w.deadline == 100 * i);
+		if (i == 1)
+			first = w;
+	}
+	memset(&w, 7, sizeof w);
+	CHECK(!timers_line_receive(&l[0], &w) && w.action == 0x0707070707070707);
+	CHECK(timers_desk_len(&d) == 4 && timers_desk_wakeup(&d) <= 100 && timers_desk_wakeup(&d) > 0);
+	/* an expiry, by jumps; another client cannot stop it */
+	CHECK(timers_line_stop(&l[1], first.handle, &n) == TIMERS_DESK_OK && n == 1);
+	owner_turn(&d);
+	CHECK(timers_line_receive(&l[1], &w) && w.kind == TIMERS_WORD_REFUSED && w.reason == TIMERS_DESK_NOT_PENDING);
+	CHECK(timers_desk_advance(&d, 0, &n) == TIMERS_DESK_OK && n == 0);
+	CHECK(timers_desk_advance(&d, 1000, &n) == TIMERS_DESK_OK && n == 100 && timers_desk_now(&d) == 100);
+	timers_desk_flush_all(&d);
+	CHECK(timers_line_receive(&l[0], &w) && w.kind == TIMERS_WORD_EXPIRED && w.number == 1 && w.action == 1 && w.deadline == 100);
+	/* refusals are words */
+	CHECK(timers_line_stop(&l[0], first.handle, &n) == TIMERS_DESK_OK && n == 5);
+	CHECK(timers_line_start(&l[0], 0, 0, &n) == TIMERS_DESK_OK && n == 6);
+	CHECK(timers_line_start(&l[0], TIMERS_LAST, 0, &n) == TIMERS_DESK_OK && n == 7);
+	owner_turn(&d);
+	CHECK(timers_line_receive(&l[0], &w) && w.kind == TIMERS_WORD_REFUSED && w.reason == TIMERS_DESK_NOT_PENDING && w.number == 5);
+	CHECK(timers_line_receive(&l[0], &w) && w.reason == TIMERS_DESK_ZERO_INTERVAL);
+	CHECK(timers_line_receive(&l[0], &w) && w.reason == TIMERS_DESK_TOO_LATE);
+	/* a restart, whose handle is new */
+	struct timer_handle second = { first.handle.place, 2 };
+	CHECK(timers_line_restart(&l[0], second, 1000, 22, &n) == TIMERS_DESK_OK);
+	owner_turn(&d);
+	CHECK(timers_line_receive(&l[0], &w));
+	CHECK((w.kind == TIMERS_WORD_RESTARTED && w.other == 2) || (w.kind == TIMERS_WORD_REFUSED && w.reason == TIMERS_DESK_NOT_PENDING));
+	/* settle before and after the finish */
+	standing = 55;
+	CHECK(timers_desk_settle(&d, 0, &l[0], &standing) == TIMERS_DESK_NOT_FINISHED);
+	CHECK(timers_desk_settle(&d, 1, &l[0], &standing) == TIMERS_DESK_OTHER_LINE && standing == 55);
+	CHECK(timers_desk_settle(&d, 2, &l[0], &standing) == TIMERS_DESK_NO_CLIENT);
+	CHECK(timers_line_start(&l[1], 7, 7, &n) == TIMERS_DESK_OK && timers_line_start(&l[1], 8, 8, &n) == TIMERS_DESK_OK);
+	CHECK(timers_line_finish(&l[1]) == TIMERS_DESK_OK && timers_line_finish(&l[1]) == TIMERS_DESK_FINISHED);
+	CHECK(timers_line_start(&l[1], 9, 9, &n) == TIMERS_DESK_FINISHED);
+	CHECK(l[0].client == 0 && l[1].client == 1 && timers_desk_settle(&d, 0, &l[1], &standing) == TIMERS_DESK_OTHER_LINE);
+	CHECK(timers_desk_settle(&d, 1, &l[1], &standing) == TIMERS_DESK_OK && standing == 2);
+	while ((s = timers_desk_serve(&d, 1)) != TIMERS_DESK_IDLE) {
+		CHECK(s == TIMERS_DESK_OK || s == TIMERS_DESK_NO_MEMORY);
+		ran_out |= s == TIMERS_DESK_NO_MEMORY;
+	}
+	CHECK(timers_desk_settle(&d, 1, &l[1], &standing) == TIMERS_DESK_OK && standing == 0);
+	/* the close returns what is pending */
+	n = 66;
+	while ((s = timers_desk_close(&d, &n)) != TIMERS_DESK_OK) {
+		CHECK(s == TIMERS_DESK_NO_MEMORY && n == 66);
+		ran_out = true;
+	}
+	CHECK(n == 5);
+	CHECK(timers_desk_close(&d, &n) == TIMERS_DESK_CLOSED && n == 5 && timers_desk_tick(&d) == TIMERS_DESK_CLOSED && timers_desk_len(&d) == 0);
+	CHECK(timers_desk_advance(&d, 3, &n) == TIMERS_DESK_CLOSED);
+	CHECK(timers_line_start(&l[0], 9, 9, &n) == TIMERS_DESK_OK);
+	owner_turn(&d);
+	int returned = 0, closed = 0;
+	while (timers_desk_flush_all(&d), timers_line_receive(&l[0], &w) || timers_line_receive(&l[1], &w)) {
+		returned += w.kind == TIMERS_WORD_RETURNED;
+		closed += w.kind == TIMERS_WORD_NOT_TAKEN && w.reason == TIMERS_DESK_CLOSED;
+	}
+	timers_desk_serve_all(&d, 9), timers_desk_flush_all(&d);
+	while (timers_line_receive(&l[0], &w))
+		closed += w.kind == TIMERS_WORD_NOT_TAKEN && w.reason == TIMERS_DESK_CLOSED;
+	CHECK(returned == 5 && closed == 1);
+	timers_desk_free(&d);
+	CHECK(timers_line_start(&l[0], 9, 9, &n) == TIMERS_DESK_OK);        /* nobody will take it */
+	s = timers_line_finish(&l[0]);
+	CHECK(s == TIMERS_DESK_OK);
+	timers_line_free(&l[0]);
+	timers_line_free(&l[1]);
+	return ran_out;
+}
+
+/* client 0 sends as much as it can and doesn't read; client 1 goes on as ever, and at the end no word of client 0 is lost */
+static void slow_client(void)
+{
+	struct timers_desk d = TIMERS_DESK_INIT;
+	struct timers_line l[2] = { TIMERS_LINE_INIT, TIMERS_LINE_INIT };
+	struct timers_desk_config config = { 0, 1000, 16, 4 };
+	struct timers_word w;
+	uint64_t n, sent = 0, started = 0, expired = 0, full = 0, held_up = 0;
+	CHECK(timers_desk_new(&d, l, 2, &config) == TIMERS_DESK_OK);
+	for (uint64_t i = 1; i <= 2000; i++) {
+		while (timers_line_start(&l[0], 3, sent + 1, &n) == TIMERS_DESK_OK)
+			CHECK(n == ++sent);
+		full++;
+		CHECK(timers_line_start(&l[1], 1, i, &n) == TIMERS_DESK_OK && n == i);
+		owner_turn(&d);
+		held_up += timers_desk_serve(&d, 0) == TIMERS_DESK_NO_ROOM;
+		CHECK(timers_desk_outbox(&d, 0) <= 16);
+		CHECK(timers_desk_tick(&d) == TIMERS_DESK_OK);
+		owner_turn(&d);
+		CHECK(timers_line_receive(&l[1], &w) && w.kind == TIMERS_WORD_STARTED && w.number == i);
+		CHECK(timers_line_receive(&l[1], &w) && w.kind == TIMERS_WORD_EXPIRED && w.number == i && w.action == i);
+		CHECK(!timers_line_receive(&l[1], &w));
+	}
+	CHECK(full == 2000 && held_up > 1900 && sent < 30);
+	CHECK(timers_line_finish(&l[0]) == TIMERS_DESK_OK);
+	for (int turns = 0; expired < sent; turns++) {
+		while (timers_line_receive(&l[0], &w)) {
+			if (w.kind == TIMERS_WORD_STARTED)
+				CHECK(w.number == ++started);
+			else
+				CHECK(w.kind == TIMERS_WORD_EXPIRED && w.number == ++expired && w.action == expired);
+		}
+		owner_turn(&d);
+		CHECK(timers_desk_tick(&d) == TIMERS_DESK_OK && turns < 1000);
+	}
+	CHECK(started == sent);
+	timers_line_free(&l[0]);
+	timers_line_free(&l[1]);
+	timers_desk_free(&d);
+}
+
+int main(void)
+{
+	empty_structs();
+	slow_client();
+	configurations();
+	CHECK(!story());
+#ifdef REFUSE
+	long all = asked, runs = 0;
+	for (long i = 0; i < all; i++) {
+		left = i;
+		bool out = story();
+		runs += out;
+		if (left >= 0)
+			break;
+	}
+	left = -1;
+	CHECK(blocks == 0);
+	printf("refused each allocation of the story in turn: %ld runs ran out of memory, no block is left\n", runs);
+#endif
+	(void)left, (void)asked, (void)blocks;
+	puts("ok");
+	return 0;
+}

@@ -1,0 +1,272 @@
+/* timers_desk.h - timers for a server with threads: one owner, and up to 64 clients in threads of their own
+ *
+ * NAME
+ *     timers_desk_new, timers_desk_free - make and free a desk with its clients' lines
+ *     timers_desk_serve, timers_desk_serve_all - take requests
+ *     timers_desk_flush, timers_desk_flush_all - hand out words
+ *     timers_desk_tick, timers_desk_advance - pass ticks
+ *     timers_desk_close, timers_desk_settle - close, settle a finished line
+ *     timers_desk_now, timers_desk_len, timers_desk_wakeup, timers_desk_outbox - read the state
+ *     timers_line_start, timers_line_stop, timers_line_restart - send a request
+ *     timers_line_receive - receive a word
+ *     timers_line_finish, timers_line_free - end the requests, free a client's end
+ *
+ * SYNOPSIS
+ *     #include <timers_desk.h>
+ *     cc -pthread prog.c $(pkg-config --cflags --libs timers)
+ *
+ * DESCRIPTION
+ *     A `struct timers_desk` owns the timers of up to 64 clients, numbered from 0, and a clock of ticks. One thread, the
+ *     owner, calls the timers_desk functions on it. Each client has a `struct timers_line`, its end of a line to the
+ *     owner, and calls the timers_line functions on it from its own thread. A line carries requests to the owner and
+ *     words back, each first in, first out.
+ *
+ *     No call waits for another thread. There is no lock: the two ends of a line share nothing but two rings. A
+ *     client's calls take constant time and do not allocate. If its line is full, a request is refused with
+ *     TIMERS_DESK_LINE_FULL. Nothing has changed then, and it may be sent again.
+ *
+ *     Each request has a number, one above that of the client's request before it, from 1 on. The owner takes requests
+ *     by timers_desk_serve or timers_desk_serve_all, and each gets one word as its answer, in the order in which they
+ *     were sent. Each timer that was started and neither stopped nor restarted gets one more word, at the tick of its
+ *     deadline or at the close. So a client knows by counting that it has all its words: one for each request, and one
+ *     for each such timer.
+ *
+ *     Words wait in the client's outbox at the owner until a flush moves them into the line. A request is taken only if
+ *     the outbox has room for its answer and for a word of each of the client's pending timers, so no word is ever
+ *     lost. A client that does not read stops only its own requests. If memory runs out for a request, it is held,
+ *     and tried again first when its client is served the next time.
+ *
+ *     The owner's loop:
+ *
+ *         for (;;) {
+ *             clear the signal by which clients wake the owner
+ *             enum timers_desk_status s = timers_desk_serve_all(&desk, 64);
+ *             pass the ticks up to the real time, by timers_desk_advance
+ *             flush each client, and wake those that got words
+ *             if (s != TIMERS_DESK_OK and no word was moved)
+ *                 sleep until the signal or tick timers_desk_wakeup(&desk); after TIMERS_DESK_NO_MEMORY only briefly
+ *         }
+ *
+ *     How threads wake each other is left to the program: an eventfd, a pipe, a condition variable with a flag. The
+ *     order matters. The owner clears the signal before it looks at the lines, never between looking and sleeping. A
+ *     client first sends its requests and then signals. So a request that the owner did not see is followed by a signal
+ *     that ends its sleep, and no request waits for ever. A client also signals after it has received words, since its
+ *     line has room again. In the other direction the same holds: the client clears its signal, receives until there is
+ *     no word, and then sleeps. examples/c/desk_server.c does this with eventfds.
+ *
+ *     The library is proved: each function meets the contract stated in crates/timer_desk_c/src/desk_exports.rt or
+ *     line_exports.rt, for every call that keeps the rules below. Nothing checks that a caller keeps them. Not proved
+ *     is anything about time: when a thread runs, and when a word arrives.
+ *
+ * RULES
+ *     1. A `struct timers_desk` begins as TIMERS_DESK_INIT and a `struct timers_line` as TIMERS_LINE_INIT, or with all
+ *        bytes 0. Only these functions write them. They must not be copied, since they own memory; they may be moved
+ *        by a memcpy after which the old one is not used.
+ *     2. A pointer argument is not NULL and points to an object of its type, or for `lines` to as many as are
+ *        passed, that this call alone uses; no two arguments of one call overlap.
+ *     3. An object that a call only writes (number, word, passed, returned, standing) may be uninitialised.
+ *     4. Calls on one struct come one at a time. A struct may be handed from thread to thread, by a lock, by a
+ *        thread's start or join, or by a sequentially consistent atomic. Calls on two structs are independent:
+ *        those of the owner and of its clients may overlap in every way.
+ *     5. timers_desk_settle is given a line of the same desk. A line of another client is refused, and so is one of
+ *        another desk whose client has another number; one of another desk with the same number is not noticed.
+ *     6. malloc, realloc and free are one allocator that threads may share, and align as C requires.
+ *     7. No call comes from a signal handler, or from the forked child of a process with threads.
+ *
+ *     Nothing else is required. A call before timers_desk_new, after a free, or in the wrong order returns a status or
+ *     nothing and changes nothing. Either end may be freed before the other, at any time.
+ */
+#ifndef TIMERS_DESK_H
+#define TIMERS_DESK_H
+
+#include <stdbool.h>
+#include <stddef.h>
+#include <stdint.h>
+#include "timers.h"
+
+#ifdef __cplusplus
+extern "C" {
+#endif
+
+/* The numbers up to TIMERS_CLOCK_END are those of enum timers_status. */
+enum timers_desk_status {
+	TIMERS_DESK_OK = 0,
+	TIMERS_DESK_NOT_OPEN = 1,        /* the struct holds nothing */
+	TIMERS_DESK_OPEN = 2,            /* the desk or one of the lines holds something already */
+	TIMERS_DESK_NO_MEMORY = 4,       /* malloc or realloc returned NULL */
+	TIMERS_DESK_NOT_PENDING = 6,     /* no pending timer of this client has this handle */
+	TIMERS_DESK_ZERO_INTERVAL = 7,   /* the interval is 0 */
+	TIMERS_DESK_TOO_LATE = 8,        /* the deadline is after the last tick */
+	TIMERS_DESK_SERIALS_SPENT = 9,   /* the desk has started 2^60 - 1 timers */
+	TIMERS_DESK_CLOCK_END = 10,      /* the clock is at its last tick */
+	TIMERS_DESK_CLOSED = 11,         /* the desk was closed */
+	TIMERS_DESK_CAPACITY = 12,       /* as many timers are pending as may be */
+	TIMERS_DESK_NO_CLIENT = 13,      /* there is no client with this number */
+	TIMERS_DESK_NUMBERS_SPENT = 14,  /* the client has sent 2^60 - 1 requests */
+	TIMERS_DESK_REPEATED = 15,       /* of a word: the number was taken before; never with one line for each client */
+	TIMERS_DESK_AHEAD = 16,          /* of a word: an earlier number is missing; never with one line for each client */
+	TIMERS_DESK_LINE_FULL = 17,      /* the line has no room for another request now */
+	TIMERS_DESK_FINISHED = 18,       /* the line has finished */
+	TIMERS_DESK_OUT_OF_RANGE = 19,   /* a number of the configuration, or the number of lines, is out of its range */
+	TIMERS_DESK_IDLE = 20,           /* no request was known to stand in the line */
+	TIMERS_DESK_NO_ROOM = 21,        /* the client's outbox has no room for one more answer and one more notice */
+	TIMERS_DESK_OTHER_LINE = 22,     /* the line is another client's, or its desk was freed before it finished */
+	TIMERS_DESK_NOT_FINISHED = 23    /* the line has not finished */
+};
+
+/* Private: see rule 1. */
+struct timers_desk {
+	void *at;
+	uint64_t mark;
+};
+struct timers_line {
+	void *at;
+	uint64_t mark;
+	uint64_t client;   /* the number of its client, which may be read */
+};
+#define TIMERS_DESK_INIT { NULL, 0 }
+#define TIMERS_LINE_INIT { NULL, 0, 0 }
+
+#define TIMERS_DESK_CLIENTS 64   /* the most clients */
+
+struct timers_desk_config {
+	uint64_t first_tick;   /* the tick at which the clock begins: 0 to TIMERS_LAST */
+	uint64_t capacity;     /* the most timers that may be pending at a time: 1 to 1,048,576 */
+	size_t room;           /* how many words each client's outbox has room for: 2 to 65,536 */
+	size_t line;           /* how many requests, and how many words, each line has room for: 1 to 65,536 */
+};
+
+enum timers_word_kind {
+	TIMERS_WORD_STARTED = 1,     /* number, handle, deadline */
+	TIMERS_WORD_RESTARTED = 2,   /* number, handle and deadline of the new timer, serial of the old one in `other` */
+	TIMERS_WORD_STOPPED = 3,     /* number, handle.serial of the stopped timer */
+	TIMERS_WORD_REFUSED = 4,     /* number, reason: the request used up its number, and nothing else changed */
+	TIMERS_WORD_NOT_TAKEN = 5,   /* number, reason: nothing changed */
+	TIMERS_WORD_EXPIRED = 6,     /* number of the request that started it, handle.serial, deadline, action */
+	TIMERS_WORD_RETURNED = 7     /* the same: the desk was closed before its deadline */
+};
+
+/* A message to a client. What its kind doesn't list above is 0. */
+struct timers_word {
+	uint32_t kind;      /* enum timers_word_kind */
+	uint32_t reason;    /* enum timers_desk_status */
+	uint64_t number;
+	struct timer_handle handle;
+	uint64_t deadline;
+	uint64_t action;
+	uint64_t other;
+};
+
+/* The owner's calls. */
+
+/* Makes a desk with `clients` clients, 1 to 64, over the clock of TIMERS_WIDE. lines[0] to lines[clients - 1] hold the
+ * clients' ends from then on, until timers_line_free. `lines` must not be NULL, even if `clients` is 0.
+ * TIMERS_DESK_OPEN, TIMERS_DESK_OUT_OF_RANGE, TIMERS_DESK_NO_MEMORY: nothing has changed then. */
+enum timers_desk_status timers_desk_new(struct timers_desk *d, struct timers_line *lines, size_t clients,
+                                        const struct timers_desk_config *config);
+
+/* Frees the desk, if it holds one: pending timers, and words that no client's line has yet, are dropped. Clients
+ * may go on calling: their requests are never taken, and what stands in the line is still received. */
+void timers_desk_free(struct timers_desk *d);
+
+/* Serves a client once: takes its held request, or else the next one of its line. At TIMERS_DESK_OK the answer is in
+ * the outbox. Allocates only for a start.
+ * TIMERS_DESK_NOT_OPEN, TIMERS_DESK_NO_CLIENT, TIMERS_DESK_NO_ROOM, TIMERS_DESK_IDLE: nothing was taken.
+ * TIMERS_DESK_NO_MEMORY: the request is held, and is tried again first. */
+enum timers_desk_status timers_desk_serve(struct timers_desk *d, size_t client);
+
+/* Serves each client in turn, until `most` of its requests were done or a serve did none.
+ * TIMERS_DESK_NOT_OPEN.
+ * TIMERS_DESK_NO_MEMORY: memory ran out for at least one client, whose request is held; others may have been done.
+ * TIMERS_DESK_OK: at least one request was done. TIMERS_DESK_IDLE: none was. */
+enum timers_desk_status timers_desk_serve_all(struct timers_desk *d, uint64_t most);
+
+/* Moves words from each client's outbox into its line, until the outbox is empty or the line full. Returns whether a
+ * word was moved. Does not allocate. */
+bool timers_desk_flush_all(struct timers_desk *d);
+
+/* The same for one client, and returns how many words were moved. 0 if there is no such client. */
+size_t timers_desk_flush(struct timers_desk *d, size_t client);
+
+/* Advances the clock by one tick. A word for each timer with that deadline goes to the outbox of its client. Does not
+ * allocate.
+ * TIMERS_DESK_NOT_OPEN, TIMERS_DESK_CLOSED, TIMERS_DESK_CLOCK_END. */
+enum timers_desk_status timers_desk_tick(struct timers_desk *d);
+
+/* Passes at most `most` ticks, up to the first at which a timer expires. At TIMERS_DESK_OK it writes to `*passed` how
+ * many: 0 only if `most` is 0, and fewer than `most` only if a timer has expired or the clock is at its last tick. Jumps
+ * over stretches in which nothing happens. Does not allocate.
+ * TIMERS_DESK_NOT_OPEN, TIMERS_DESK_CLOSED, TIMERS_DESK_CLOCK_END. */
+enum timers_desk_status timers_desk_advance(struct timers_desk *d, uint64_t most, uint64_t *passed);
+
+/* Closes the desk: each pending timer is returned by a word to its client. From then on each request is answered by
+ * TIMERS_WORD_NOT_TAKEN. At TIMERS_DESK_OK it writes to `*returned` how many timers were returned.
+ * TIMERS_DESK_NOT_OPEN, TIMERS_DESK_CLOSED.
+ * TIMERS_DESK_NO_MEMORY: nothing has changed, and it may be repeated. */
+enum timers_desk_status timers_desk_close(struct timers_desk *d, uint64_t *returned);
+
+/* Settles the line of a client that has finished, once its thread has handed the line over (rule 4). At TIMERS_DESK_OK it
+ * writes to `*standing` how many of the client's requests still stand in the line. If that is 0, the last serve did not
+ * return TIMERS_DESK_NO_MEMORY, and the outbox is empty, nothing of this client is left at the desk but pending timers.
+ * TIMERS_DESK_NOT_OPEN (either struct), TIMERS_DESK_NO_CLIENT, TIMERS_DESK_OTHER_LINE (it is another client's),
+ * TIMERS_DESK_NOT_FINISHED, TIMERS_DESK_OTHER_LINE (the desk was freed before it finished). */
+enum timers_desk_status timers_desk_settle(struct timers_desk *d, size_t client, struct timers_line *line, size_t *standing);
+
+/* The present tick. 0 if it holds no desk. */
+uint64_t timers_desk_now(struct timers_desk *d);
+
+/* How many timers are pending, of all clients. 0 if it holds no desk. */
+size_t timers_desk_len(struct timers_desk *d);
+
+/* A tick after the present one and at most the first deadline, before which nothing expires. TIMERS_NEVER if
+ * nothing is pending, or it holds no desk. */
+uint64_t timers_desk_wakeup(struct timers_desk *d);
+
+/* How many words wait in a client's outbox. 0 if there is no such client, or it holds no desk. */
+size_t timers_desk_outbox(struct timers_desk *d, size_t client);
+
+/* A client's calls. None of them allocates or waits. */
+
+/* Sends the request to start a timer that expires `interval` ticks after it is taken, and hands `action` back then.
+ * Writes `*number`, the request's number, at TIMERS_DESK_OK.
+ * TIMERS_DESK_NOT_OPEN, TIMERS_DESK_FINISHED, TIMERS_DESK_NUMBERS_SPENT, TIMERS_DESK_LINE_FULL. */
+enum timers_desk_status timers_line_start(struct timers_line *line, uint64_t interval, uint64_t action, uint64_t *number);
+
+/* Sends the request to stop the timer with this handle, that of the word that answered its start. The same statuses. */
+enum timers_desk_status timers_line_stop(struct timers_line *line, struct timer_handle handle, uint64_t *number);
+
+/* Sends the request to stop the timer with this handle and start another in its place. The same statuses. */
+enum timers_desk_status timers_line_restart(struct timers_line *line, struct timer_handle handle, uint64_t interval,
+                                            uint64_t action, uint64_t *number);
+
+/* Receives the next word. Returns whether there was one, and writes `*word` exactly then. */
+bool timers_line_receive(struct timers_line *line, struct timers_word *word);
+
+/* Ends the requests of this line. Words are still received.
+ * TIMERS_DESK_NOT_OPEN, TIMERS_DESK_FINISHED. */
+enum timers_desk_status timers_line_finish(struct timers_line *line);
+
+/* Frees the client's end, if it holds one. What it sent is still taken, and words to it are lost. */
+void timers_line_free(struct timers_line *line);
+
+/* The layout that the library was built for. */
+#ifdef __cplusplus
+#define TIMERS_DESK_ASSERT(fact, says) static_assert(fact, says)
+#else
+#define TIMERS_DESK_ASSERT(fact, says) _Static_assert(fact, says)
+#endif
+TIMERS_DESK_ASSERT(sizeof(struct timers_desk) == 16 && offsetof(struct timers_desk, mark) == 8, "struct timers_desk");
+TIMERS_DESK_ASSERT(sizeof(struct timers_line) == 24 && offsetof(struct timers_line, mark) == 8
+                   && offsetof(struct timers_line, client) == 16, "struct timers_line");
+TIMERS_DESK_ASSERT(sizeof(struct timers_word) == 56 && offsetof(struct timers_word, number) == 8
+                   && offsetof(struct timers_word, handle) == 16 && offsetof(struct timers_word, deadline) == 32
+                   && offsetof(struct timers_word, action) == 40 && offsetof(struct timers_word, other) == 48, "struct timers_word");
+TIMERS_DESK_ASSERT(sizeof(struct timers_desk_config) == 32 && offsetof(struct timers_desk_config, capacity) == 8
+                   && offsetof(struct timers_desk_config, room) == 16 && offsetof(struct timers_desk_config, line) == 24,
+                   "struct timers_desk_config");
+#undef TIMERS_DESK_ASSERT
+
+#ifdef __cplusplus
+}
+#endif
+#endif
