@@ -1,63 +1,91 @@
-/* Loaded before a program (LD_PRELOAD), refuses the Nth allocation by malloc or realloc, N being REFUSE, and
- * writes into the file GROWTHS how many there were, as it ends. Allocations before main are not counted. */
-#define _GNU_SOURCE
-#include <dlfcn.h>
-#include <fcntl.h>
-#include <stdatomic.h>
-#include <stdbool.h>
-#include <stdio.h>
-#include <stdlib.h>
-#include <sys/syscall.h>
-#include <unistd.h>
+/* Loaded before a program (LD_PRELOAD), refuses the Nth allocation by malloc or realloc, N being REFUSE, and the Nth
+ * start of a thread, N being REFUSE_THREAD. As the program ends, it writes into the file GROWTHS how many allocations
+ * and how many starts of threads there were. Those before main are not counted.
+ *
+ * It includes no header, so that a compiler without the C library's headers builds it: the toolchain's own is one.
+ * The numbers are those of Linux on x86-64. */
+typedef __SIZE_TYPE__ size_t;
+
+enum { SYS_EXIT_GROUP = 231, O_WRONLY_CREAT_TRUNC = 01 | 0100 | 01000, EAGAIN = 11 };
+
+void *dlsym(void *, const char *);
+char *getenv(const char *);
+unsigned long strtoul(const char *, char **, int);
+int open(const char *, int, ...);
+int dprintf(int, const char *, ...);
+int close(int);
+long syscall(long, ...);
+
+/* Counts calls, and refuses one of them. */
+struct refusal {
+	_Atomic unsigned long count;
+	unsigned long wanted;
+};
+
+static struct refusal allocations;
+static struct refusal threads;
+static _Atomic _Bool counts;
 
 static void *(*real_malloc)(size_t);
 static void *(*real_realloc)(void *, size_t);
-static atomic_ulong count;
-static unsigned long wanted;
-static atomic_bool counts;
+static int (*real_create)(void *, const void *, void *(*)(void *), void *);
+
+static void *next_of(const char *name) { return dlsym((void *)-1L, name); }
+
+static unsigned long number_of(const char *name)
+{
+	const char *text = getenv(name);
+	return text ? strtoul(text, 0, 10) : 0;
+}
 
 __attribute__((constructor)) static void begin(void)
 {
-	const char *at = getenv("REFUSE");
-	wanted = at ? strtoul(at, NULL, 10) : 0;
-	real_malloc = (void *(*)(size_t))dlsym(RTLD_NEXT, "malloc");
-	real_realloc = (void *(*)(void *, size_t))dlsym(RTLD_NEXT, "realloc");
-	counts = true;
+	allocations.wanted = number_of("REFUSE");
+	threads.wanted = number_of("REFUSE_THREAD");
+	real_malloc = (void *(*)(size_t))next_of("malloc");
+	real_realloc = (void *(*)(void *, size_t))next_of("realloc");
+	real_create = (int (*)(void *, const void *, void *(*)(void *), void *))next_of("pthread_create");
+	counts = 1;
 }
 
-static void tell(void)
+static void report(void)
 {
-	counts = false;
+	counts = 0;
 	const char *file = getenv("GROWTHS");
-	int fd = file ? open(file, O_WRONLY | O_CREAT | O_TRUNC, 0600) : -1;
+	int fd = file ? open(file, O_WRONLY_CREAT_TRUNC, 0600) : -1;
 	if (fd < 0)
 		return;
-	dprintf(fd, "%lu\n", (unsigned long)count);
+	dprintf(fd, "%lu %lu\n", (unsigned long)allocations.count, (unsigned long)threads.count);
 	close(fd);
 }
 
-__attribute__((destructor)) static void end(void) { tell(); }
+__attribute__((destructor)) static void end(void) { report(); }
 
 /* How a program with threads ends: without destructors. */
 void _exit(int status)
 {
-	tell();
-	syscall(SYS_exit_group, status);
+	report();
+	syscall(SYS_EXIT_GROUP, status);
 	__builtin_unreachable();
 }
 
-static bool refuses(void) { return counts && ++count == wanted; }
+static _Bool refuses(struct refusal *calls) { return counts && ++calls->count == calls->wanted; }
 
 void *malloc(size_t size)
 {
 	if (!real_malloc)
-		real_malloc = (void *(*)(size_t))dlsym(RTLD_NEXT, "malloc");
-	return refuses() ? NULL : real_malloc(size);
+		real_malloc = (void *(*)(size_t))next_of("malloc");
+	return refuses(&allocations) ? 0 : real_malloc(size);
 }
 
 void *realloc(void *block, size_t size)
 {
 	if (!real_realloc)
-		real_realloc = (void *(*)(void *, size_t))dlsym(RTLD_NEXT, "realloc");
-	return refuses() ? NULL : real_realloc(block, size);
+		real_realloc = (void *(*)(void *, size_t))next_of("realloc");
+	return refuses(&allocations) ? 0 : real_realloc(block, size);
+}
+
+int pthread_create(void *thread, const void *attributes, void *(*work)(void *), void *argument)
+{
+	return refuses(&threads) ? EAGAIN : real_create(thread, attributes, work, argument);
 }
