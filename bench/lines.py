@@ -5,7 +5,8 @@
 
 PROGRAM of --work is that of crates/timer_desk_bench, that of --timers the product. The peers are build/lines_ref
 and build/threads_ref. `rings` has no product: it compares C++ rings that publish their indices in other ways with
-one that publishes each item with release (build/rings_ref). --csv writes the ratios for plot_runs.py.
+one that publishes each item with release (build/rings_ref). `threads` has a second peer, one wheel under a mutex
+(build/mutex_ref). --csv writes the ratios for plot_runs.py.
 
 Programs take turns: each repeat gives one ratio, and a row has their median, and in parentheses the least and the
 greatest; `of best` is the ratio of the two least times.
@@ -20,6 +21,7 @@ import runs
 HERE = os.path.dirname(os.path.abspath(__file__))
 LINES_REF = os.path.join(HERE, "build", "lines_ref")
 THREADS_REF = os.path.join(HERE, "build", "threads_ref")
+MUTEX_REF = os.path.join(HERE, "build", "mutex_ref")
 RINGS_REF = os.path.join(HERE, "build", "rings_ref")
 RINGS = ["seq_cst", "batch-8", "batch-16", "batch-64", "release-16"]  # against `release`
 ROUND = 65536  # requests in a round at a desk
@@ -141,18 +143,22 @@ def threads(timers, repeats):
     for cores in (1, 2, 4):
         if len(CORES) < cores:
             continue
-        mine, peer, cpu = [], [], []
+        mine, peer, mutex, cpu = [], [], [], []
         for _ in range(repeats):
             used, wall, out = run([timers, "threads", "--clients", str(CLIENTS), "--timers", str(TIMERS)], CORES[:cores])
             _, ref_wall, ref_out = run([THREADS_REF, str(CLIENTS), str(TIMERS)], CORES[:cores])
-            if out != ref_out:
-                fail(f"threads: {out!r}, and the reference {ref_out!r}")
+            _, mutex_wall, mutex_out = run([MUTEX_REF, str(CLIENTS), str(TIMERS)], CORES[:cores])
+            if not out == ref_out == mutex_out:
+                fail(f"threads: {out!r}, and the references {ref_out!r} and {mutex_out!r}")
             mine.append(wall)
+            mutex.append(mutex_wall)
             peer.append(ref_wall)
             cpu.append(used)
-        ratio = spread(f"threads, {cores} core{'s' if cores > 1 else ''}", mine, peer)
-        print(f"threads, {CLIENTS} clients of {TIMERS} timers on {cores} core{'s' if cores > 1 else ''}: {min(mine) * 1e3:.1f} ms "
-              f"({min(cpu) * 1e3:.1f} ms of processor time), the C++ program {min(peer) * 1e3:.1f} ms, ratio {ratio}")
+        name = f"threads, {cores} core{'s' if cores > 1 else ''}"
+        ratio, mutex_ratio = spread(name, mine, peer), spread(f"{name}, against a mutex", mine, mutex)
+        print(f"{name}, {CLIENTS} clients of {TIMERS} timers: {min(mine) * 1e3:.1f} ms "
+              f"({min(cpu) * 1e3:.1f} ms of processor time), the C++ program {min(peer) * 1e3:.1f} ms, ratio {ratio}; "
+              f"a wheel under a mutex {min(mutex) * 1e3:.1f} ms, ratio {mutex_ratio}")
 
 
 def write(path, repeats, load):
@@ -178,7 +184,7 @@ def main():
     if not set(parts) <= {"desk", "lines", "rings", "threads"} or options.repeats < 1:
         parser.error("--only takes desk, lines, rings and threads, --repeats a number from 1 on")
     needed = {"desk": [options.work], "lines": [options.work, LINES_REF], "rings": [RINGS_REF],
-              "threads": [options.timers, THREADS_REF]}
+              "threads": [options.timers, THREADS_REF, MUTEX_REF]}
     for part in parts:
         for program in needed[part]:
             if not program or not os.path.exists(program):

@@ -14,6 +14,7 @@ SHOWN = [  # candidate, colour; the first ones are drawn last, over the others
     ("timers-hier", "#0b5cad"),
     ("timers-hier-stop-start", "#6aa5dd"),
     ("timers-hash-64k", "#0f8a5f"),
+    ("ref-apart", "#3b4a5a"),
     ("tokio-wheel", "#c8553d"),
     ("ref-hash-64k", "#8a8f98"),
     ("libuv", "#b08900"),
