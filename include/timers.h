@@ -100,7 +100,7 @@
 /* The version of this header. */
 #define TIMERS_VERSION "1.0.0"
 
-/* Marks the calls whose result is there only at TIMERS_OK: the compiler warns if their status is not read. */
+/* Marks calls whose result is there only at TIMERS_OK: the compiler warns if their status is not read. */
 #if defined(__GNUC__) || defined(__clang__)
 #define TIMERS_CHECKED __attribute__((warn_unused_result))
 #else
@@ -207,7 +207,8 @@ enum timers_status timers_look(const struct timers *t, struct timer_handle handl
  * on and returns true; at the end it returns false and writes nothing. Between two calls timers may be
  * started, stopped, restarted and taken: one that is there all the time is visited exactly once. A whole
  * visit takes time for the most timers that were ever held at once. false if it holds none. */
-bool timers_each(const struct timers *t, size_t *cursor, struct timer_handle *handle, struct timer_expired *out);
+bool timers_each(const struct timers *t, size_t *cursor, struct timer_handle *handle,
+                 struct timer_expired *out);
 
 /* Advances the clock by one tick. The timers with that deadline expire, and wait for timers_expire.
  * TIMERS_NOT_OPEN, TIMERS_DUE, TIMERS_CLOCK_END. */

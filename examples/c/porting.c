@@ -1,4 +1,4 @@
-/* The timers of an event loop, with the calls of libuv's: docs/porting.md explains them. The clock is a number here, so
+/* The timers of an event loop that had libuv's: docs/porting.md explains the calls. The clock is a number here, so
  * that the output is always the same. */
 #include <inttypes.h>
 #include <limits.h>

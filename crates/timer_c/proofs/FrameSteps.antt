@@ -1,6 +1,6 @@
 -- What C holds is the same except for the state of its timers.
 use Rattle.std.proofs.Common.{◌≡◌, List, [], ◌∷◌, refl, ap, ◌∙◌}
-use Rattle.std.specs.Prelude.{Option, Some, None}
+use Rattle.std.specs.Prelude.{Some, None}
 use Rattle.timer_base.specs.declared.timer.Timer.{Timer}
 use Rattle.timer_base.specs.Pending.{Entry}
 use Rattle.timer_base.specs.WheelState.{WheelState, first_due, after_expiry}

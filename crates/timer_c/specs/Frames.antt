@@ -1,5 +1,5 @@
 -- What C holds, before and after a call.
-use Rattle.std.specs.Prelude.{◌≡◌, Bool, true, false}
+use Rattle.std.specs.Prelude.{◌≡◌, true, false}
 use Rattle.timer_base.specs.WheelState.{WheelState}
 use Rattle.timer_c.specs.declared.held.Held.{Held}
 use Rattle.timer_c.specs.Slots.{is_open}

@@ -78,7 +78,8 @@ action_of (Some t) = Some t.action
 -- a stop was done: the timer is removed, and no timer has its handle
 abbrev pub IsStopped : Handle → WheelState → WheelState → ℕ → Type 0
 IsStopped handle old new action =
-    (new ≡ after_removal (named handle) old) × (action_of (held_at (named handle) old) ≡ Some action) × (held_at (named handle) new ≡ None)
+    (new ≡ after_removal (named handle) old) × (action_of (held_at (named handle) old) ≡ Some action)
+    × (held_at (named handle) new ≡ None)
 
 abbrev pub WhyNotStopped : Handle → WheelState → ℕ → Type 0
 WhyNotStopped handle old status =

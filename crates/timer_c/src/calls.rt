@@ -209,7 +209,8 @@ pub(crate) fn each(
 ) -> bool
     ensures visited { result ≡ true → IsVisited cursor.old timers.now cursor.new handle.new out.new }
     ensures ended { result ≡ false → IsAllVisited cursor.old timers.now }
-    ensures kept { result ≡ false → (cursor.new ≡ cursor.old) × (handle.new ≡ handle.old) × (out.new ≡ out.old) }
+    ensures kept { result ≡ false
+        → (cursor.new ≡ cursor.old) × (handle.new ≡ handle.old) × (out.new ≡ out.old) }
 {
     let Some(found) = timers.wheel().held_from(*cursor) else {
         return false;

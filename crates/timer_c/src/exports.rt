@@ -299,9 +299,11 @@ pub extern "C" fn timers_each(
     handle: &mut Handle,
     out: &mut Expired,
 ) -> bool
-    ensures visited { result ≡ true → IsOpen t.old × IsVisited cursor.old t.old.slot.state cursor.new handle.new out.new }
+    ensures visited { result ≡ true
+        → IsOpen t.old × IsVisited cursor.old t.old.slot.state cursor.new handle.new out.new }
     ensures ended { result ≡ false → IsOpen t.old → IsAllVisited cursor.old t.old.slot.state }
-    ensures kept { result ≡ false → (cursor.new ≡ cursor.old) × (handle.new ≡ handle.old) × (out.new ≡ out.old) }
+    ensures kept { result ≡ false
+        → (cursor.new ≡ cursor.old) × (handle.new ≡ handle.old) × (out.new ≡ out.old) }
     ensures same { t.new ≡ t.old }
 {
     if !t.slot.holds() {

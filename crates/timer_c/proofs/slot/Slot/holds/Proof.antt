@@ -1,5 +1,5 @@
 -- `holds` reads the mark and compares it.
-use Rattle.std.proofs.Common.{ℕ, List, [], ◌∷◌, refl, sym, subst, w64}
+use Rattle.std.proofs.Common.{List, [], ◌∷◌, refl, sym, subst}
 use base.Fml.{ftrue, flft}
 use base.Fraction.{full_share}
 use mir.Syntax.{named}

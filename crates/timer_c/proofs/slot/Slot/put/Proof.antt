@@ -1,5 +1,5 @@
 -- `put` stores the address and the mark; what was parked is the slot's from then on.
-use Rattle.std.proofs.Common.{◌≡◌, Bool, true, false, List, [], ◌∷◌, ◌++◌, refl, sym, subst, lit<}
+use Rattle.std.proofs.Common.{◌≡◌, false, List, [], ◌∷◌, ◌++◌, refl, sym, subst, lit<}
 use base.Fml.{ftrue, fsep, flft}
 use base.Fraction.{full_share}
 use base.Logic.{SProp, ent, id⊢}

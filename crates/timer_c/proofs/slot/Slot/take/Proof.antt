@@ -1,5 +1,5 @@
 -- `take` clears the mark, and parks what the slot owned.
-use Rattle.std.proofs.Common.{◌≡◌, Bool, true, false, List, [], ◌∷◌, refl, ap, ◌∙◌, lit<}
+use Rattle.std.proofs.Common.{◌≡◌, Bool, true, List, [], ◌∷◌, refl, ap, ◌∙◌, lit<}
 use base.Fml.{ftrue, fsep, flft}
 use base.Fraction.{full_share}
 use base.Logic.{never, fst∗}
