@@ -1,4 +1,4 @@
-use Rattle.std.proofs.Common.{◌≡◌, ◌∙◌, ◌+◌, Bool, refl, sym, subst, arith}
+use Rattle.std.proofs.Common.{◌∙◌, ◌+◌, Bool, refl, sym, subst, arith}
 use Rattle.timer_desk_c.proofs.RoundLemmas.{IsFlushing, flushing_nothing, flushing_more, flushing_done}
 use Rattle.timer_desk_c.proofs.rounds.flush_all.Goals as goal
 

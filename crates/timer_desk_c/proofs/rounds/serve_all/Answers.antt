@@ -1,4 +1,4 @@
-use Rattle.std.proofs.Common.{◌≡◌, ◌∙◌, ◌+◌, ◌||◌, Bool, refl, sym, subst, arith}
+use Rattle.std.proofs.Common.{◌∙◌, ◌+◌, ◌||◌, Bool, refl, sym, subst, arith}
 use Rattle.timer_desk_c.proofs.RoundLemmas.{IsRound, round_nothing, round_more, round_done}
 use Rattle.timer_desk_c.proofs.rounds.serve_all.Goals as goal
 
