@@ -1,5 +1,8 @@
--- Which subcommand the arguments name.
-use Rattle.std.specs.Prelude.{ℕ, List, [], ◌∷◌, codes}
+-- Which subcommand the arguments name, and whether they ask for help or the version.
+use Rattle.std.specs.Prelude.{◌≡◌, ◌⊎◌, ℕ, List, [], ◌∷◌, codes}
+use Rattle.std.specs.List.{slice_index}
+use Rattle.clap.specs.declared.error.kind.ErrorKind.{ErrorKind}
+use Rattle.clap.specs.declared.error.kind.ErrorKind.TheVariants as kinds
 use Rattle.timer_program.specs.declared.arguments.Asked.{Asked}
 use Rattle.timer_program.specs.declared.arguments.Asked.TheVariants.{Play, Serve, Show, Threads}
 
@@ -14,3 +17,17 @@ subcommand_of (Threads asked) = codes "threads"
 abbrev pub named : {S : Type 0} → (S → List ℕ) → List S → List ℕ
 named text [] = codes "play"
 named text (first ∷ rest) = text first
+
+-- help or the version is asked for
+abbrev pub IsShown : ErrorKind → Type 0
+IsShown kind = (kind ≡ kinds.DisplayHelp) ⊎ (kind ≡ kinds.DisplayVersion)
+
+-- the argument is `-h` or `-V`, alone or before other letters
+abbrev pub IsShortOfText : List ℕ → Type 0
+IsShortOfText argument =
+    (slice_index argument 0 ≡ 45) × ((slice_index argument 1 ≡ 104) ⊎ (slice_index argument 1 ≡ 86))
+
+-- the argument asks for help or for the version
+abbrev pub AsksForText : List ℕ → Type 0
+AsksForText argument =
+    (argument ≡ codes "help") ⊎ ((argument ≡ codes "--help") ⊎ ((argument ≡ codes "--version") ⊎ IsShortOfText argument))

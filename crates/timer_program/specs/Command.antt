@@ -1,5 +1,5 @@
 -- How a call of the program ends: its exit status, and what it did to its input and its output.
-use Rattle.std.specs.Prelude.{◌≡◌, ◌≢◌, ℕ, ◌≤◌, ◌⊎◌, true, false, List, Option, Result, Ok, Err, IfOk}
+use Rattle.std.specs.Prelude.{◌≡◌, ◌≢◌, ℕ, ◌≤◌, ◌⊎◌, true, false, List, Option, Result, Ok, Err, IfOk, IfErr, Any}
 use Rattle.std.specs.Io.KnownBytes.{Appends}
 use Rattle.clap.specs.Values.{kind_of}
 use Rattle.clap.specs.declared.error.Error.{Error}
@@ -9,7 +9,7 @@ use Rattle.timer_facility.specs.Opened.{opened}
 use Rattle.timer_program.specs.declared.asked.Play.{Play}
 use Rattle.timer_program.specs.declared.arguments.Asked.{Asked}
 use Rattle.timer_program.specs.declared.arguments.Asked.TheVariants as calls
-use Rattle.timer_program.specs.Arguments.{subcommand_of}
+use Rattle.timer_program.specs.Arguments.{named, subcommand_of, IsShown, AsksForText}
 use Rattle.timer_program.specs.declared.asked.PlayFault.{PlayFault}
 use Rattle.timer_script.specs.declared.fault.RunFault.{RunFault}
 use Rattle.timer_script.specs.declared.fault.ServeFault.{ServeFault}
@@ -56,10 +56,6 @@ pub record HasServedLines {R S : Type 0} (asked : Play) (remaining : R → Optio
   -- 2: what was asked for is refused, and nothing was read or written
   pub refused : status ≡ 2 → ((fault : PlayFault) × IsRefused fault asked) × (reader' ≡ reader) × (writer' ≡ writer)
 
--- help or the version is asked for
-abbrev pub IsShown : ErrorKind → Type 0
-IsShown kind = (kind ≡ kinds.DisplayHelp) ⊎ (kind ≡ kinds.DisplayVersion)
-
 -- no script was played, and nothing was read, for an error of this kind: help or the version is asked for, the arguments are
 -- refused, or out of memory
 pub record HasNotPlayed {R S : Type 0} (kind : ErrorKind) (contents : S → Option (List ℕ)) (reader reader' : Watched R)
@@ -90,9 +86,11 @@ HasDone (Ok (calls.Threads asked)) remaining contents reader reader' writer writ
 HasDone (Err error) remaining contents reader reader' writer writer' status =
     HasNotPlayed (kind_of error) contents reader reader' writer writer' status
 
--- the arguments, which name this subcommand, were read as one of its calls or as an error, and that was done
-pub record HasEnded {R S : Type 0} (name : List ℕ) (remaining : R → Option (List ℕ)) (contents : S → Option (List ℕ))
-    (reader reader' : Watched R) (writer writer' : Watched S) (status : ℕ) : Type 0 where
+-- the arguments were read as a call of the subcommand that they name, or as an error, which is help or the version only
+-- where an argument asks for it; and that was done
+pub record HasEnded {A R S : Type 0} (text : A → List ℕ) (arguments : List A) (remaining : R → Option (List ℕ))
+    (contents : S → Option (List ℕ)) (reader reader' : Watched R) (writer writer' : Watched S) (status : ℕ) : Type 0 where
   pub read : Result Asked Error
-  pub named : IfOk read (λ asked. name ≡ subcommand_of asked)
+  pub called : IfOk read (λ asked. named text arguments ≡ subcommand_of asked)
+  pub asked : IfErr read (λ error. IsShown (kind_of error) → Any (λ argument. AsksForText (text argument)) arguments)
   pub done : HasDone read remaining contents reader reader' writer writer' status

@@ -9,8 +9,9 @@
 //!     timers --version              its name and version
 //!
 //! `clap` reads the arguments, writes the help, and says why arguments are refused.
-ghost use Rattle.std.specs.Prelude.{◌≡◌, IfSome, IfOk};
-ghost use Rattle.timer_program.specs.Arguments.{named, subcommand_of};
+ghost use Rattle.std.specs.Prelude.{◌≡◌, IfSome, IfOk, IfErr, IsTrue, Any};
+ghost use Rattle.clap.specs.Values.{kind_of};
+ghost use Rattle.timer_program.specs.Arguments.{named, subcommand_of, IsShown, IsShortOfText, AsksForText};
 ghost use Rattle.timer_program.specs.Asked.{name_of};
 
 use crate::asked::{Play, Scheme};
@@ -213,20 +214,65 @@ fn parsed<S: AsStr>(alloc: Global, name: &str, arguments: &[S]) -> Result<Asked,
         return Ok(asked);
     }
     // An option without a value is refused as any other mistake in the arguments.
-    Err(program(alloc)?.error(
+    Err(refusal(alloc)?)
+}
+
+/// A refusal of arguments that name no subcommand with all that it needs.
+fn refusal(alloc: Global) -> Result<Error, AllocError>
+    ensures { IfOk result (λ error. kind_of error ≡ ErrorKind.MissingSubcommand) }
+{
+    program(alloc)?.error(
         ErrorKind::MissingSubcommand,
         "a subcommand with a value for each of its options is required",
-    )?)
+    )
+}
+
+/// Whether an argument is `-h` or `-V`, alone or before other letters.
+fn is_short_of_text(argument: &str) -> bool
+    ensures { IsTrue result → IsShortOfText argument.now }
+{
+    let bytes = argument.as_bytes();
+    bytes.len() > 1 && bytes[0] == b'-' && (bytes[1] == b'h' || bytes[1] == b'V')
+}
+
+/// Whether an argument asks for help or for the version.
+fn is_of_text(argument: &str) -> bool
+    ensures { IsTrue result → AsksForText argument.now }
+{
+    match argument {
+        "help" | "--help" | "--version" => true,
+        _ => is_short_of_text(argument),
+    }
+}
+
+/// Whether one of the arguments asks for help or for the version.
+fn any_of_text<S: AsStr>(arguments: &[S]) -> bool
+    ensures { IsTrue result → Any (λ argument. AsksForText (S.text argument)) arguments.now }
+{
+    let mut rest = arguments;
+    while let Some((first, others)) = rest.split_first() {
+        if is_of_text(first.as_str()) {
+            return true;
+        }
+        rest = others;
+    }
+    false
 }
 
 /// What the arguments ask for. No arguments ask for `play`.
 ///
 /// An error is a request for help or for the version, a refusal, or out of memory.
 pub fn read_arguments<S: AsStr>(alloc: Global, arguments: &[S]) -> Result<Asked, Error>
-    ensures { IfOk result (λ asked. named S.text arguments.now ≡ subcommand_of asked) }
+    ensures call { IfOk result (λ asked. named S.text arguments.now ≡ subcommand_of asked) }
+    ensures text { IfErr result (λ error. IsShown (kind_of error) → Any (λ argument. AsksForText (S.text argument)) arguments.now) }
 {
-    match arguments.first() {
+    let read = match arguments.first() {
         Some(name) => parsed(alloc, name.as_str(), arguments),
         None => parsed(alloc, "play", PLAY.as_slice()),
+    };
+    match read {
+        // However `clap` reads the arguments, a call whose arguments don't ask for a text doesn't end with one.
+        Err(error) if !error.use_stderr() && !any_of_text(arguments) => Err(refusal(alloc)?),
+        read => read,
     }
 }

@@ -2,7 +2,6 @@
 ghost use Rattle.std.specs.Prelude.{◌≡◌, ◌≢◌, ◌≤◌, ◌⊎◌, ℕ, List, false, true};
 ghost use Rattle.std.specs.Io.KnownBytes.{Appends};
 ghost use Rattle.clap.specs.Values.{kind_of};
-ghost use Rattle.timer_program.specs.Arguments.{named};
 ghost use Rattle.timer_program.specs.Command.{HasPlayed, HasDone, HasEnded};
 ghost use Rattle.timer_script.specs.Watched.{inner_of, has_failed};
 
@@ -36,7 +35,7 @@ pub fn command<T: AllocGlobal + Threads, S: AsStr, R: Read, W: Write, F: Write>(
 ) -> u8
     requires reader_good { has_failed streams.old.reader ≡ false }
     requires writer_good { has_failed streams.old.writer ≡ false }
-    ensures { HasEnded (named S.text arguments.now) R.remaining W.contents
+    ensures { HasEnded S.text arguments.now R.remaining W.contents
         streams.old.reader streams.new.reader streams.old.writer streams.new.writer result }
 {
     let read = read_arguments(rt.alloc(), arguments);

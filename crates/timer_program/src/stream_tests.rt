@@ -92,10 +92,8 @@ fn a_writer_that_fails_once_at_any_byte_ends_the_run(rt: HostRuntime) {
     let text = MIGRATION_TEXT.as_bytes();
     same(&rt, text.len(), 82);
     for room in 0..=text.len() {
-        for size in SIZES {
-            for fault in FAULTS {
-                write_fails_after(&rt, &text[..room], size, fault);
-            }
+        for fault in FAULTS {
+            write_fails_after(&rt, &text[..room], SIZES[room % SIZES.len()], fault);
         }
     }
 }
@@ -119,10 +117,8 @@ fn read_fails_after<T: AllocGlobal + Abort + Threads>(
 fn a_reader_that_fails_once_at_any_byte_ends_the_run(rt: HostRuntime) {
     // After the last byte the reader fails in place of its end.
     for room in 0..=MIGRATION.len() {
-        for size in SIZES {
-            for kind in KINDS {
-                read_fails_after(&rt, room, size, kind);
-            }
+        for kind in KINDS {
+            read_fails_after(&rt, room, SIZES[room % SIZES.len()], kind);
         }
     }
 }

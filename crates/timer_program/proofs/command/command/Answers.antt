@@ -4,6 +4,7 @@ use Rattle.timer_program.proofs.command.command.Goals as goal
 pub returns : goal.returns
 returns g c = record {
   read = c.read_arguments-read.result;
-  named = c.read_arguments-read.ensures;
+  called = c.read_arguments-read.ensures.call;
+  asked = c.read_arguments-read.ensures.text;
   done = c.do_asked.ensures;
 }
