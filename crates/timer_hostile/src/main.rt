@@ -19,6 +19,7 @@ mod lines;
 mod linked;
 mod played;
 mod scenario;
+mod texts;
 mod wheels;
 
 use fault::Fault;

@@ -7,6 +7,7 @@ use crate::handles::use_strange_handles;
 use crate::lines::{use_locked_line, use_memory_line, use_ring_line};
 use crate::linked::push_a_hundred;
 use crate::played::{play_close, play_migration, play_stop_middle};
+use crate::texts::write_text_of_outs;
 use crate::wheels::{hashed, hier, list_a_few, plain, start_a_hundred};
 use std::alloc::Global;
 use std::sync::Wait;
@@ -31,6 +32,7 @@ pub enum Scenario {
     Migration,
     StopMiddle,
     Close,
+    Text,
     MemoryLine,
     LockedLine,
     RingLine,
@@ -49,7 +51,7 @@ const WIDE: Kind = Kind::Hier(Table::Wide);
 const CLOCK: Kind = Kind::Hier(Table::Clock);
 
 /// Each scenario with its name.
-pub const SCENARIOS: [(&str, Scenario); 36] = [
+pub const SCENARIOS: [(&str, Scenario); 37] = [
     ("pushes-9", Scenario::Pushes(9)),
     ("pushes-257", Scenario::Pushes(257)),
     ("pushes-641", Scenario::Pushes(641)),
@@ -70,6 +72,7 @@ pub const SCENARIOS: [(&str, Scenario); 36] = [
     ("migration", Scenario::Migration),
     ("stop-middle", Scenario::StopMiddle),
     ("close", Scenario::Close),
+    ("text", Scenario::Text),
     ("memory-line", Scenario::MemoryLine),
     ("locked-line", Scenario::LockedLine),
     ("ring-line", Scenario::RingLine),
@@ -99,6 +102,7 @@ pub fn play<R: AllocGlobal + Wait>(rt: &R, scenario: Scenario) -> Result<bool, F
         Scenario::Migration => play_migration(alloc)?,
         Scenario::StopMiddle => play_stop_middle(alloc)?,
         Scenario::Close => play_close(alloc)?,
+        Scenario::Text => write_text_of_outs(alloc)?,
         Scenario::MemoryLine => use_memory_line(alloc)?,
         Scenario::LockedLine => use_locked_line(rt, alloc)?,
         Scenario::RingLine => use_ring_line(alloc)?,

@@ -1,15 +1,19 @@
 -- Threads that are started one after another, and the lines of their clients.
 use Rattle.std.proofs.Common.{◌≡◌, ◌<◌, ◌+◌, ◌++◌, ℕ, List, [], ◌∷◌, length, get_or, take, refl, sym, ◌∙◌, ap, subst, arith, append_assoc, append-nil, length-append, ◌⊎◌, inl, inr, zero, suc, Bool, true, false, ◌||◌}
-use Rattle.std.specs.Prelude.{is_none}
+use Rattle.std.specs.Prelude.{is_none, Result, Ok, Err, IfErr}
 use Rattle.std.proofs.lemmas.List.{get_or_push, get_or_append_left, take_more, length-take-le}
 use Rattle.timer_desk.specs.declared.ring.RingInlet.{RingInlet}
 use Rattle.timer_desk.specs.Ring.{line_of_end, line_of_inlet}
+use Rattle.timer_desk.specs.declared.driving.DriveEnd.{DriveEnd}
+use Rattle.timer_desk.specs.Desk.{DeskState}
 use Rattle.timer_threads.specs.declared.child.Child.{Child}
+use Rattle.timer_threads.specs.declared.fault.ThreadsFault.{ThreadsFault}
+use Rattle.timer_threads.specs.declared.fault.ThreadsFault.TheVariants as Faults
 use Rattle.timer_threads.specs.declared.worked.Worked.{Worked}
 use Rattle.timer_threads.specs.Children.{promise_of, HaveLeft}
 use Rattle.timer_threads.specs.Working.{IsOfLine, IsWhole}
 use Rattle.timer_threads.specs.Parted.{NoneFailed}
-use Rattle.timer_threads.specs.Threads.{AreTied, AreOfLines, AllWhole, clients_text, client_line, whole_lines}
+use Rattle.timer_threads.specs.Threads.{AreTied, AreOfLines, AllWhole, IsAmong, IsFirstFault, clients_text, client_line, whole_lines}
 
 before_or_last : (k n : ℕ) → k < n + 1 → (k < n) ⊎ (k ≡ n)
 before_or_last k n h = grind (arith)
@@ -109,6 +113,17 @@ whole_kept count first children all tied left k w l =
     let n : (promise_of is.child).count ≡ count =
     ap (λ (x : Child). (promise_of x).count) is.at ∙ tied.counts k is.child (let a = tied.as_many in omega (arith, a, joined, l)) in
     subst (λ m. IsWhole m (get_or all k w)) n is.whole
+
+pub all_left : (count : ℕ) (inlets : List RingInlet) (children : List Child) (all : List Worked) → AreTied count inlets children → HaveLeft children all → length all ≡ length inlets
+all_left count inlets children all tied left = left_as_many children all left ∙ tied.as_many
+
+-- a client that the first error names is one of the clients
+pub first_among : {A : Type 0} (result : Result A ThreadsFault) (desk : DeskState RingInlet) (outcome : DriveEnd) (all : List Worked) (n : ℕ) → length all ≡ n
+    → IfErr result (λ fault. IsFirstFault desk outcome all fault) → IfErr result (λ fault. IsAmong n fault)
+first_among (Ok x) desk outcome all n is h = tt
+first_among (Err Faults.OutOfMemory) desk outcome all n is h = tt
+first_among (Err (Faults.Client c)) desk outcome all n is h = subst (λ k. c < k) is h.1.client
+first_among (Err Faults.Desk) desk outcome all n is h = tt
 
 not_failed : (a b : Bool) → a || b ≡ false → a ≡ false
 not_failed true b h = h

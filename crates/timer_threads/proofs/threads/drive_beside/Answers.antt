@@ -1,7 +1,9 @@
-use Rattle.std.proofs.Common.{◌≡◌, length, get_or, sym, ◌∙◌, ap, arith, rules}
+use Rattle.std.proofs.Common.{◌≡◌, length, vec_len, get_or, sym, subst, ◌∙◌, ap, arith, rules}
+use Rattle.std.specs.Prelude.{IfOk}
 use Rattle.timer_desk.specs.Ring.{line_of_inlet}
 use Rattle.timer_threads.specs.Children.{threads_of}
-use Rattle.timer_threads.proofs.ThreadLemmas.{lines_kept, whole_kept}
+use Rattle.timer_threads.specs.Threads.{whole_text}
+use Rattle.timer_threads.proofs.ThreadLemmas.{lines_kept, whole_kept, all_left, first_among}
 use Rattle.timer_threads.proofs.threads.drive_beside.Goals as goal
 
 pub end_all-requires-clause-lines : goal.end_all-requires-clause-lines
@@ -16,3 +18,15 @@ end_all-requires-clause-lines g c =
 pub end_all-requires-clause-counts : goal.end_all-requires-clause-counts
 end_all-requires-clause-counts g c =
     whole_kept c.args.timers c.args.inlets.items (threads_of c.args.children) c.join-2.result.items c.requires.tied c.join-2.ensures
+
+pub returns-clause-text : goal.returns-clause-text
+returns-clause-text g c =
+    let left = all_left c.args.timers c.args.inlets.items (threads_of c.args.children) c.join-2.result.items c.requires.tied c.join-2.ensures in
+    let as_many : vec_len c.join-2.result ≡ vec_len c.args.inlets = omega (arith, left, c.join-2.result.ok, c.args.inlets.ok) in
+    subst (λ n. IfOk c.end_all.result (λ text. text.items ≡ whole_text n c.args.timers)) as_many c.end_all.ensures.text
+
+pub returns-clause-client : goal.returns-clause-client
+returns-clause-client g c =
+    let left = all_left c.args.timers c.args.inlets.items (threads_of c.args.children) c.join-2.result.items c.requires.tied c.join-2.ensures in
+    let as_many : length c.join-2.result.items ≡ vec_len c.args.inlets = omega (arith, left, c.args.inlets.ok) in
+    first_among c.end_all.result c.drive-desk.result.desk c.drive-desk.result.outcome c.join-2.result.items (vec_len c.args.inlets) as_many c.end_all.ensures.fault
