@@ -26,7 +26,7 @@ const lines = new LineList(play, $("lines"), go);
 // What kind of news a sentence is, for its colour.
 function kindOf(said, isBad) {
   if (isBad || said.includes(" is refused as ")) return "fault";
-  return / expires?[,. ]/.test(said) ? "out" : "";
+  return / (has|have) reached /.test(said) && !said.startsWith("The clock") ? "out" : "";
 }
 
 function renderNews(step) {
