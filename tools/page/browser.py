@@ -1,4 +1,5 @@
 """A headless Chromium, driven over its DevTools protocol through a pair of pipes."""
+import base64
 import json
 import os
 import select
@@ -47,8 +48,8 @@ class Browser:
         os.close(down)
         os.close(up)
         self.asked, self.rest, self.events = 0, b"", []
-        target = self.ask("Target.createTarget", {"url": "about:blank"}, None)["targetId"]
-        self.session = self.ask("Target.attachToTarget", {"targetId": target, "flatten": True}, None)[
+        target = self.ask("Target.createTarget", {"url": "about:blank"}, False)["targetId"]
+        self.session = self.ask("Target.attachToTarget", {"targetId": target, "flatten": True}, False)[
             "sessionId"
         ]
         for domain in ("Page", "Runtime", "Log", "Network"):
@@ -66,10 +67,10 @@ class Browser:
         text, self.rest = self.rest.split(b"\0", 1)
         return json.loads(text)
 
-    def ask(self, method, parameters=None, session=""):
+    def ask(self, method, parameters=None, is_page=True):
         self.asked += 1
         question = {"id": self.asked, "method": method, "params": parameters or {}}
-        if session == "":
+        if is_page:
             question["sessionId"] = self.session
         os.write(self.out, json.dumps(question).encode() + b"\0")
         until = time.monotonic() + LIMIT
@@ -81,7 +82,7 @@ class Browser:
                 return answer["result"]
             self.events.append(answer)
 
-    def open(self, path, width=1280, height=900, is_dark=False):
+    def open(self, path, width=1280, height=900, is_dark=False, is_calm=True):
         """Loads a file, and waits until it has run."""
         self.events.clear()
         self.ask(
@@ -89,10 +90,8 @@ class Browser:
             {"width": width, "height": height, "deviceScaleFactor": 1, "mobile": width < 600},
         )
         scheme = {"name": "prefers-color-scheme", "value": "dark" if is_dark else "light"}
-        self.ask(
-            "Emulation.setEmulatedMedia",
-            {"features": [scheme, {"name": "prefers-reduced-motion", "value": "reduce"}]},
-        )
+        motion = {"name": "prefers-reduced-motion", "value": "reduce" if is_calm else "no-preference"}
+        self.ask("Emulation.setEmulatedMedia", {"features": [scheme, motion]})
         self.ask("Page.navigate", {"url": f"file://{os.path.abspath(path)}"})
         until = time.monotonic() + LIMIT
         while not any(event.get("method") == "Page.loadEventFired" for event in self.events):
@@ -110,45 +109,33 @@ class Browser:
 
     def press(self, key, code):
         for kind in ("keyDown", "keyUp"):
-            self.ask(
-                "Input.dispatchKeyEvent",
-                {
-                    "type": kind,
-                    "key": key,
-                    "code": code,
-                    "windowsVirtualKeyCode": 0,
-                    "text": " " if key == " " and kind == "keyDown" else "",
-                },
-            )
+            text = " " if key == " " and kind == "keyDown" else ""
+            self.ask("Input.dispatchKeyEvent", {"type": kind, "key": key, "code": code, "text": text})
 
     def faults(self):
         """The errors and warnings of the page's console, and what it loaded besides its own file."""
         found = []
         for event in self.events:
-            method, told = event.get("method"), event.get("params", {})
+            method, given = event.get("method"), event.get("params", {})
             if method == "Runtime.exceptionThrown":
-                found.append(
-                    told["exceptionDetails"]
-                    .get("exception", {})
-                    .get("description", told["exceptionDetails"]["text"])
-                )
-            elif method == "Runtime.consoleAPICalled" and told["type"] in ("error", "warning", "assert"):
-                found.append(" ".join(str(a.get("value", a.get("description"))) for a in told["args"]))
-            elif method == "Log.entryAdded" and told["entry"]["level"] in ("error", "warning"):
-                found.append(told["entry"]["text"])
-            elif method == "Network.requestWillBeSent" and told.get("type") != "Document":
-                found.append(f"loads {told['request']['url'][:80]}")
+                details = given["exceptionDetails"]
+                found.append(details.get("exception", {}).get("description", details["text"]))
+            elif method == "Runtime.consoleAPICalled" and given["type"] in ("error", "warning", "assert"):
+                found.append(" ".join(str(a.get("value", a.get("description"))) for a in given["args"]))
+            elif method == "Log.entryAdded" and given["entry"]["level"] in ("error", "warning"):
+                found.append(given["entry"]["text"])
+            elif method == "Network.requestWillBeSent" and given.get("type") != "Document":
+                found.append(f"loads {given['request']['url'][:80]}")
         return found
 
     def picture(self, path):
-        import base64
-
+        """Writes what the window shows as a PNG."""
         with open(path, "wb") as file:
             file.write(base64.b64decode(self.ask("Page.captureScreenshot", {"format": "png"})["data"]))
 
     def close(self):
         try:
-            self.ask("Browser.close", None, None)
+            self.ask("Browser.close", None, False)
             self.process.wait(20)
         except (Failed, subprocess.TimeoutExpired, OSError):
             self.process.kill()

@@ -26,13 +26,13 @@ const lines = new LineList(play, $("lines"), go);
 // What kind of news a sentence is, for its colour.
 function kindOf(said, isBad) {
   if (isBad || said.includes(" is refused as ")) return "fault";
-  return / expires?[,. ]/.test(said) ? "out" : "";
+  return / (has|have) reached /.test(said) && !said.startsWith("The clock") ? "out" : "";
 }
 
-function renderTold(step) {
+function renderNews(step) {
   const isBad = step > 0 && play.steps[step - 1].isBad === true;
   const said = words.of(step).map((sentence) => make("p", {class: kindOf(sentence, isBad)}, sentence));
-  $("told").replaceChildren(...said);
+  $("news").replaceChildren(...said);
 }
 
 function digitRow(name, tick, level) {
@@ -146,7 +146,7 @@ function render(step) {
   for (const card of cards.values()) card.back = step < from;
   $("now").textContent = String(play.now(step));
   $("face").textContent = words.face(play.now(step));
-  renderTold(step);
+  renderNews(step);
   renderWheels(step);
   lines.render(step);
   renderFollowed(step);
@@ -167,7 +167,7 @@ function pause() {
   clearTimeout(shown.timer);
   shown.timer = null;
   $("play").textContent = "Play";
-  $("told").setAttribute("aria-live", "polite");
+  $("news").setAttribute("aria-live", "polite");
 }
 
 function playOn() {
@@ -185,7 +185,7 @@ function toggle() {
   if (shown.step === play.last) go(0);
   $("play").textContent = "Pause";
   // While it plays, a screen reader isn't flooded.
-  $("told").setAttribute("aria-live", "off");
+  $("news").setAttribute("aria-live", "off");
   playOn();
   go(shown.step + 1);
 }
@@ -233,10 +233,9 @@ function fill() {
   lines.show(0, AROUND);
   $("wheels").replaceChildren(...[...cards.values()].map((card) => card.element));
   $("wheels").classList.toggle("is-single", cards.size === 1);
-  const folded =
-      play.wheels.map((wheel, k) => (cards.has(k) ? null : wheel.name)).filter((name) => name !== null);
+  const folded = play.wheels.map((_, k) => k).filter((k) => !cards.has(k));
   $("folded").textContent =
-      folded.length ? `Never used by this script, and not drawn: ${listed(folded)}.` : "";
+      folded.length ? `Not drawn, since no timer ever stands there: ${words.wheelsNamed(folded)}.` : "";
   $("slider").max = String(play.last);
 }
 

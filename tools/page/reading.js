@@ -12,6 +12,8 @@
     return {
       now: text(document.querySelector("#now")),
       buckets: [...document.querySelectorAll(".bucket")].filter((node) => node.checkVisibility()).map(bucket),
+      followed: document.querySelector("#serial").value,
+      because: [...document.querySelectorAll(".because")].map(text).join(" "),
       line: here ? Number(text(here.querySelector(".number"))) : 0,
       answers: here ? [...here.querySelectorAll(".answer")].map(answer) : [],
     };

@@ -95,7 +95,23 @@ class Words {
     return this.play.scheme === "hashed" ? `slot ${d[0]} of ${this.play.wheels[0].slots}` : "";
   }
 
-  wheelName(k) { return this.play.scheme === "clock" ? `the ${this.play.wheels[k].name}'s` : `wheel ${k}`; }
+  wheelName(k) {
+    return this.play.scheme === "clock" ? `the wheel of ${this.play.wheels[k].name}s` : `wheel ${k}`;
+  }
+
+  // Wheels, the lowest first: 'wheel 1 and wheels 4 to 9'.
+  wheelsNamed(wheels) {
+    if (this.play.scheme !== "hier") return listed(wheels.map((k) => this.play.wheels[k].name));
+    const runs = [];
+    for (const k of wheels) {
+      const run = runs[runs.length - 1];
+      if (run && run[1] === k - 1)
+        run[1] = k;
+      else
+        runs.push([k, k]);
+    }
+    return listed(runs.map(([from, to]) => (from === to ? `wheel ${from}` : `wheels ${from} to ${to}`)));
+  }
 
   // Why a timer stands where it stands while the clock is at `now`.
   why(timer, now) {
