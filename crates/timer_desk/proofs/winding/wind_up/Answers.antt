@@ -1,5 +1,4 @@
 use Rattle.std.proofs.Common.{◌≡◌, ◌<◌, ◌≤◌, ◌+◌, ◌-◌, ◌∙◌, Some, length, get_or, take, vec_len, subst, refl, sym, ap, arith, inl, inr}
-use Rattle.std.specs.Prelude.{List}
 use Rattle.std.proofs.lemmas.List.{get_or_default}
 use Rattle.std.proofs.lemmas.Grind.{common_steps}
 use Rattle.timer_desk.specs.declared.ring.RingInlet.{RingInlet}
