@@ -1,7 +1,8 @@
 // The work of `timers threads` over one hierarchy under a mutex, as a program without a desk would have it.
 //   mutex_ref CLIENTS TIMERS
-// A client starts its timers, of interval 1 + j mod 97 and action j, and takes those of its own that have expired, each time under the
-// mutex; the main thread passes ticks under it. A client has at most 1,022 timers pending. The output is that of threads_ref.
+// A client starts its timers, of interval 1 + j mod 97 and action j, and takes those of its own that have
+// expired, each time under the mutex; the main thread passes ticks under it. A client has at most 1,022
+// timers pending. The output is that of threads_ref.
 #include "wheels_ref.hpp"
 #include <atomic>
 #include <cstdio>
@@ -28,7 +29,8 @@ struct Shared {
     wheel.tick();
     while (wheel.expire(timer)) --pending[timer.client], expired[timer.client].push_back(timer);
   }
-  // Starts a timer if the client has another one and room for it, and takes what has expired. Whether it started one.
+  // Starts a timer if the client has another one and room for it, and takes what has expired. Whether it
+  // started one.
   bool pass(size_t client, uint64_t number, bool has_more, std::vector<Timer> &taken) {
     std::lock_guard<std::mutex> guard(mutex);
     taken.swap(expired[client]);
@@ -51,11 +53,14 @@ struct Client {
       bool started = shared.pass(client, sent + 1, sent < timers, taken);
       sent += started;
       for (const Timer &timer : taken) {
-        failed = failed || timer.deadline < deadline || (timer.deadline == deadline && timer.serial <= serial);
+        failed =
+            failed || timer.deadline < deadline || (timer.deadline == deadline && timer.serial <= serial);
         deadline = timer.deadline, serial = timer.serial, ++expired;
       }
-      if (started || !taken.empty()) idle = 0;
-      else ++idle, sched_yield();
+      if (started || !taken.empty())
+        idle = 0;
+      else
+        ++idle, sched_yield();
     }
     failed = failed || sent < timers || expired < timers;
   }
@@ -70,13 +75,20 @@ int main(int argc, char **argv) {
   std::vector<std::thread> threads;
   std::atomic<size_t> ended{0};
   for (size_t c = 0; c < count; ++c)
-    threads.emplace_back([&, c] { clients[c].work(shared, c, timers); ++ended; });
+    threads.emplace_back([&, c] {
+      clients[c].work(shared, c, timers);
+      ++ended;
+    });
   while (ended < count) shared.tick(), sched_yield();
   for (auto &thread : threads) thread.join();
   for (size_t c = 0; c < count; ++c) {
-    if (clients[c].failed) { fprintf(stderr, "client %zu failed\n", c); return 1; }
+    if (clients[c].failed) {
+      fprintf(stderr, "client %zu failed\n", c);
+      return 1;
+    }
     auto number = [](uint64_t n) { return std::to_string(n); };
-    std::string line = "client " + number(c) + " sent " + number(clients[c].sent) + " started " + number(clients[c].sent);
+    std::string line =
+        "client " + number(c) + " sent " + number(clients[c].sent) + " started " + number(clients[c].sent);
     printf("%s expired %s\n", line.c_str(), number(clients[c].expired).c_str());
   }
   puts("end");
