@@ -71,6 +71,7 @@ pub fn a_session_stops_at_the_first_bad_line()
 /// The calls of a peer, where they are known, are prompt, however serving ends: before each read every
 /// complete line that came was answered, and the answers were flushed.
 pub fn served_calls_are_prompt()
-    ensures { (before : FacilityState) (peer after : PeerState) (result : Result Unit ServeFault) (calls : List Moment) → peer.moments ≡ Some []
-        → after.moments ≡ Some calls → HasServed before peer after result → IsPrompt (fresh before) [] [] true calls }
+    ensures { (before : FacilityState) (peer after : PeerState) (result : Result Unit ServeFault)
+        (calls : List Moment) → peer.moments ≡ Some [] → after.moments ≡ Some calls
+        → HasServed before peer after result → IsPrompt (fresh before) [] [] true calls }
 {}

@@ -30,7 +30,8 @@ struct Known<'a, R: Drop> {
 impl<R: Abort + Drop> Known<'_, R> {
     /// Keeps a call.
     fn keep(&mut self, kind: u8, piece: &[u8])
-        ensures { map (λ call. call.items) self.new.calls.items ≡ map (λ call. call.items) self.old.calls.items ++ (kind ∷ piece.now) ∷ [] }
+        ensures { map (λ call. call.items) self.new.calls.items
+            ≡ map (λ call. call.items) self.old.calls.items ++ (kind ∷ piece.now) ∷ [] }
     {
         let mut call = Vec::new(self.alloc);
         let Ok(()) = call.push(kind) else {
@@ -83,7 +84,8 @@ fn serve_known<R: Abort + Drop>(
     requires none { peer.old.calls.items ≡ [] }
     requires pending { facility.state.pending ≡ [] }
     requires waiting { facility.waiting ≡ [] }
-    ensures { IsPrompt (fresh facility.state) [] [] true (map moment_of (map (λ call. call.items) peer.new.calls.items)) }
+    ensures { IsPrompt (fresh facility.state) [] [] true
+        (map moment_of (map (λ call. call.items) peer.new.calls.items)) }
 {
     served_calls_are_prompt();
     serve(alloc, peer, facility)
