@@ -8,7 +8,7 @@ use Rattle.std.proofs.Math.Nat.{add-mul-mod_self_left, mod-add-mod}
 use Rattle.timer_base.specs.declared.timer.Timer.{Timer}
 use Rattle.timer_base.specs.Order.{in_order, AreDistinct, AreRising}
 use Rattle.timer_base.specs.OrderLaws.{filter-in_order, in_order-same, AllAt, AreRising-weaken, All-weaken}
-use Rattle.timer_base.specs.Pending.{Entry, timer_of, timers_of, is_due_at, entries_due, entries_left}
+use Rattle.timer_base.specs.Pending.{Entry, timer_of, is_due_at, entries_due, entries_left}
 use Rattle.timer_base.specs.WheelState.{IsPending, after_tick}
 use Rattle.timer_links.specs.declared.node.Node.{Node}
 use Rattle.timer_links.specs.Lists.{list_at}

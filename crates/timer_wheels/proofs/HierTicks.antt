@@ -7,7 +7,7 @@ use Rattle.std.proofs.lemmas.Bool.Decides.{nat_tests}
 use Rattle.timer_base.specs.declared.timer.Timer.{Timer}
 use Rattle.timer_base.specs.Order.{AreDistinct, AreRising, in_order, insert_in_order, is_before}
 use Rattle.timer_base.specs.OrderLaws.{either, map-in_order, in_order-same, AllAt, All-filter, All-weaken, All-in_order}
-use Rattle.timer_base.specs.Pending.{Entry, timer_of, timers_of, is_due_at, entries_due, entries_left}
+use Rattle.timer_base.specs.Pending.{Entry, timer_of, is_due_at, entries_due, entries_left}
 use Rattle.timer_base.specs.WheelState.{WheelState, IsPending, after_tick}
 use Rattle.timer_links.specs.declared.node.Node.{Node}
 use Rattle.timer_links.specs.Lists.{list_at}
@@ -17,7 +17,6 @@ use Rattle.timer_wheels.specs.BucketLists.{timer_in, timers_in, entry_of, entrie
 use Rattle.timer_wheels.specs.Placement.{IsPlaced, hops_of, levels_of}
 use Rattle.timer_wheels.specs.Migration.{target, migrated, due_rows, left_rows, MayMigrate, IsOfTick}
 use Rattle.timer_wheels.proofs.RowLemmas.{all-append, all-front, all-rest, all-rows_below, all-list_at, IsAround, around, append-nil}
-use Rattle.timer_wheels.specs.BucketLaws.{timers_of-entries}
 use Rattle.std.proofs.lemmas.List.Elements.{filter-append}
 use Rattle.timer_wheels.proofs.BucketLemmas.{filter-pending_in, AreRising-part}
 use Rattle.timer_wheels.proofs.MigrationLemmas.{target_due, target_left, migrate_rows-length, to_list, list_at-migrate_rows, Distinct, distinct-filter, in_order-pulled, distinct-pulled, GoesDown, AreMigrated, migrate_rows_keeps}

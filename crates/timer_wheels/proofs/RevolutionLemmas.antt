@@ -6,7 +6,7 @@ use Rattle.std.specs.List.{AllByRecursion}
 use Rattle.std.proofs.lemmas.Bool.{cases_eq, cases_lt}
 use Rattle.std.proofs.Math.Nat.{mul-add, add-mul-mod_self_right}
 use Rattle.timer_base.specs.declared.timer.Timer.{Timer}
-use Rattle.timer_base.specs.Order.{in_order, AreDistinct, AreRising}
+use Rattle.timer_base.specs.Order.{in_order, AreDistinct}
 use Rattle.timer_base.specs.OrderLaws.{All-in_order, All-weaken}
 use Rattle.timer_base.specs.Pending.{Entry, timer_of}
 use Rattle.timer_base.specs.TickLaws.{AreAfter, IsPassing, after_ticks-now, after_ticks-last, after_ticks-add, passing_quiet}
@@ -15,7 +15,7 @@ use Rattle.timer_links.specs.declared.node.Node.{Node}
 use Rattle.timer_links.specs.Lists.{list_at}
 use Rattle.timer_wheels.specs.BucketLaws.{timers_of-entries}
 use Rattle.timer_wheels.specs.BucketLists.{timer_in, timers_in, entries_of, rows_below, pending_in, wheel_state, ArePending, AreDue, AreInOrder}
-use Rattle.timer_wheels.specs.Hashed.{IsInBucket, AreInBuckets, rounds_of}
+use Rattle.timer_wheels.specs.Hashed.{IsInBucket, AreInBuckets}
 use Rattle.timer_wheels.specs.Revolutions.{HasRoundsLeft, with_fewer_rounds}
 use Rattle.timer_wheels.proofs.HashedTicks.{IsDistance, StaysIn, distance, quotient_is, both}
 use Rattle.timer_wheels.proofs.RowLemmas.{all-rows_below, all-list_at, entries-append}

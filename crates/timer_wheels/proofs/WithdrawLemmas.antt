@@ -1,13 +1,13 @@
 -- Lemmas for `withdraw` and `revive`: a due timer is found under its place, and leaves the list of the due ones.
 use Rattle.std.proofs.Common.{◌≡◌, ◌≢◌, ◌<◌, ◌≤◌, ◌+◌, ◌⊎◌, ℕ, List, [], ◌∷◌, ◌++◌, length, refl, sym, ◌∙◌, ap, subst, inl, inr, arith, length-set, get_or-set_same, get_or-set_other}
-use Rattle.std.specs.Prelude.{false, true, ◌==◌, map, not, slice_set, Option, Some, None, IsSome}
+use Rattle.std.specs.Prelude.{false, map, slice_set, Option, Some, None, IsSome}
 use Rattle.std.specs.List.{AllByRecursion}
 use Rattle.std.proofs.lemmas.Bool.{cases_eq, cases_lt, eq-eqb, ne_eqb}
 use Rattle.timer_base.specs.declared.timer.Timer.{Timer}
 use Rattle.timer_base.specs.declared.timer.Handle.{Handle}
 use Rattle.timer_base.specs.Order.{AreDistinct, AreRising, IsNotAmong}
-use Rattle.timer_base.specs.OrderLaws.{either, AreDistinct-rising, AreRising-weaken}
-use Rattle.timer_base.specs.Pending.{Entry, has_handle, has_serial, first_timer, without_serial, without_found}
+use Rattle.timer_base.specs.OrderLaws.{AreDistinct-rising, AreRising-weaken}
+use Rattle.timer_base.specs.Pending.{Entry, has_handle, first_timer, without_serial, without_found}
 use Rattle.timer_base.specs.WheelState.{WheelState, IsPending, due_at, after_start, after_withdrawal}
 use Rattle.timer_links.specs.declared.node.Node.{Node}
 use Rattle.timer_links.specs.Lists.{list_at, node_in, node_at, first_of, with_row, without_key, AreApart}

@@ -1,6 +1,6 @@
 use Rattle.std.proofs.Common.{◌≡◌, ◌≤◌, ◌-◌, refl, arith}
 use Rattle.timer_links.specs.Lists.{row_count}
-use Rattle.timer_wheels.proofs.CountdownLemmas.{counting-begun, next_left, counting-in_use, counting-enough_left, counting-one, counting-none, counting-enough}
+use Rattle.timer_wheels.proofs.CountdownLemmas.{counting-begun, next_left, counting-in_use, counting-enough_left, counting-one, counting-enough}
 use Rattle.timer_wheels.proofs.revolutions.count_down_list.Goals as goal
 
 pub loop-step-init : goal.loop-step-init

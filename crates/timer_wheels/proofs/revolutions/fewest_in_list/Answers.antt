@@ -1,6 +1,6 @@
 use Rattle.std.proofs.Common.{◌≡◌, ◌≤◌, arith}
 use Rattle.timer_links.specs.Lists.{row_count}
-use Rattle.timer_wheels.proofs.CountdownLemmas.{measured-none, measured-in_use, measured-one, measured-all, measured-enough}
+use Rattle.timer_wheels.proofs.CountdownLemmas.{measured-none, measured-in_use, measured-one, measured-enough}
 use Rattle.timer_wheels.proofs.revolutions.fewest_in_list.Goals as goal
 
 pub loop-step-init : goal.loop-step-init

@@ -1,7 +1,5 @@
-use Rattle.std.proofs.Common.{◌≡◌, ◌+◌, ◌*◌, ◌/◌, ◌<◌, ◌≤◌, ℕ, List, refl, sym, subst, ◌∙◌, arith}
-use Rattle.timer_base.specs.TickLaws.{AreAfter}
+use Rattle.std.proofs.Common.{◌+◌, ◌*◌, refl, arith}
 use Rattle.timer_links.specs.Lists.{list_at}
-use Rattle.timer_wheels.specs.Buckets.{state_of, state_of-well_formed}
 use Rattle.timer_wheels.proofs.BucketLemmas.{no_rows}
 use Rattle.timer_wheels.proofs.RevolutionLemmas.{skipped, skipped-pending, skipped-in_buckets, skipped-distinct, skipped-in_order, skipped-due, skipped-quiet, same_slot_after, quiet_now}
 use Rattle.timer_wheels.proofs.revolutions.skip_revolutions.Goals as goal

@@ -1,4 +1,4 @@
-use Rattle.std.proofs.Common.{◌≡◌, ◌<◌, ◌≤◌, ℕ, List, refl, sym, ◌∙◌, subst, arith}
+use Rattle.std.proofs.Common.{◌<◌, ◌≤◌, ℕ, refl, sym, ◌∙◌, subst, arith}
 use Rattle.timer_links.specs.declared.node.Node.{Node}
 use Rattle.timer_wheels.specs.Digits.{slots}
 use Rattle.timer_wheels.specs.Occupied.{AreMarked}

@@ -1,4 +1,4 @@
-use Rattle.std.proofs.Common.{◌≡◌, ◌<◌, ◌%◌, ℕ, List, sym}
+use Rattle.std.proofs.Common.{◌≡◌, ◌%◌, ℕ, List, sym}
 use Rattle.std.specs.Prelude.{Option, Some, None, MatchOption}
 use Rattle.timer_base.specs.declared.timer.Timer.{Timer}
 use Rattle.timer_base.specs.declared.timer.Handle.{Handle}
