@@ -1,6 +1,6 @@
-use Rattle.std.proofs.Common.{◌≡◌, ◌<◌, sym, ◌∙◌, arith}
+use Rattle.std.proofs.Common.{◌≡◌, sym, ◌∙◌}
 use Rattle.std.specs.Prelude.{Some, None}
-use Rattle.timer_base.specs.PlainState.{IsJump, first_after}
+use Rattle.timer_base.specs.PlainState.{first_after}
 use Rattle.timer_base.proofs.PlainJumps.{jump-none, jump-some}
 use Rattle.timer_base.proofs.PlainSteps.{all_after, none_of_them}
 use Rattle.timer_base.proofs.PlainWakeUps.{first_is_next}

@@ -1,4 +1,4 @@
-use Rattle.std.proofs.Common.{◌≡◌, ◌+◌, ◌-◌, ◌∙◌, ap}
+use Rattle.std.proofs.Common.{◌-◌, ◌∙◌, ap}
 use Rattle.timer_base.specs.WheelState.{after_tick}
 use Rattle.timer_base.proofs.PlainJumps.{jumped, due_skipped, state_skipped}
 use Rattle.timer_base.proofs.PlainSteps.{none_of_them}
