@@ -1,7 +1,7 @@
-//! A wheel for tests, whose first start runs out of memory.
+//! A wheel for tests, whose next start runs out of memory if `refuses` says so.
 use timer_base::{Handle, OutOfMemory, Timer, Wheel};
 
-/// A wheel whose next start fails where `refuses` is set, and only that one.
+/// A wheel whose next start fails if `refuses` is set, and only that one.
 #[derive(Drop)]
 pub struct Refusing<W> {
     pub wheel: W,

@@ -70,9 +70,9 @@ fn first_fault(
     }
 }
 
-/// Winds the desk up where all that it takes is there, and returns the client for whose sake that
-/// failed: the first of whom something is held, waits or stands; or, where there is none, one whose line
-/// could not be finished, or the first for whom a word is left.
+/// Winds the desk up if all that it takes is there, and returns the client that blocked it: the first of whom
+/// something is held, waits or stands; if there is none, the first whose line could not be finished; or the
+/// first with a word left to read.
 fn held_back(
     desk: Desk<HierWheel, RingInlet>,
     parts: Option<(Vec<RequestsEnded>, Vec<ClientReader>)>,

@@ -10,7 +10,7 @@ use itoa::Buffer;
 use std::alloc::Global;
 use timer_base::OutOfMemory;
 
-/// Writes a word and a number, each behind a space.
+/// Writes a word as it is, and a number after it.
 fn push_count(text: &mut Vec<u8>, word: &[u8], count: u64) -> Result<(), OutOfMemory>
     ensures { OnOk result (text.new.items ≡ text.old.items ++ word.now ++ decimal count) }
 {
