@@ -20,6 +20,7 @@
  * std::bad_alloc if memory is out, and otherwise `timing::error` with the status of C. What may well
  * happen is a result: no timer has the handle (it was stopped, restarted or taken), or nothing has
  * expired. After an exception nothing has changed. */
+/* SPDX-License-Identifier: MIT OR Apache-2.0 */
 #ifndef TIMERS_HPP
 #define TIMERS_HPP
 

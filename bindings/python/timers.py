@@ -10,6 +10,7 @@ Ticks and actions are whole numbers from 0 to 2^64 - 1: any other is refused by 
 call that the library refuses raises TimersError, and has changed nothing. An action may be the key of a
 dictionary. If the library is in no folder that the loader searches, give its path: Timers("lib/libtimers.so.1").
 """
+# SPDX-License-Identifier: MIT OR Apache-2.0
 import ctypes
 import operator
 from ctypes import POINTER, Structure, byref, c_bool, c_size_t, c_uint32, c_uint64, c_void_p

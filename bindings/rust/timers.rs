@@ -14,6 +14,7 @@
 //! A call that is refused returns an [`Error`], and has changed nothing. In the child of a process with
 //! threads call nothing before `exec`. Rust 1.82 or later.
 
+// SPDX-License-Identifier: MIT OR Apache-2.0
 #![allow(dead_code)]
 
 use std::error;

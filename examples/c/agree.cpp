@@ -1,4 +1,5 @@
-/* Random calls of timers.hpp against a sorted map, of deadline and serial to action. Then its edges. */
+/* Random calls of timers.hpp against a sorted map, of deadline and serial to action. Then its edges.
+ * It is linked with --wrap=malloc,--wrap=realloc, so that it can refuse memory. */
 #include <chrono>
 #include <cstdint>
 #include <cstdlib>
@@ -21,6 +22,21 @@ using ticks = Timers::ticks;
 			std::exit(1); \
 		} \
 	} while (false)
+
+static bool refusing;
+
+extern "C" {
+void *__real_malloc(std::size_t size);
+void *__real_realloc(void *block, std::size_t size);
+void *__wrap_malloc(std::size_t size)
+{
+	return refusing ? nullptr : __real_malloc(size);
+}
+void *__wrap_realloc(void *block, std::size_t size)
+{
+	return refusing ? nullptr : __real_realloc(block, size);
+}
+}
 
 static_assert(sizeof(Timers) == 24);
 static_assert(!std::is_copy_constructible_v<Timers> && !std::is_copy_assignable_v<Timers>);
@@ -141,6 +157,8 @@ static void meet_the_edges()
 	HOLDS(moved.size() == 1 && timers.size() == 0 && !timers.stop(first));
 	HOLDS(refusal([&] { timers.start(1ms, &number); }) == TIMERS_NOT_OPEN);
 	timers = std::move(moved);
+	Timers &same = timers;
+	timers = std::move(same);
 	HOLDS(timers.stop(first) == &number);
 	HOLDS(refusal([&] { timers.catch_up(ticks(8640000), [](const auto &) {}); }) == TIMERS_CLOCK_END);
 	HOLDS(timers.now().count() == 8639999);
@@ -156,9 +174,45 @@ static void meet_the_edges()
 	std::cout << "the edges are as the header says\n";
 }
 
+/* How many of 1,000 starts memory is refused to, while none is given out. */
+static unsigned refused_starts(Timers &timers)
+{
+	unsigned refused = 0;
+	refusing = true;
+	for (int i = 0; i < 1000; i++) {
+		const std::size_t before = timers.size();
+		try {
+			timers.start(1s, nullptr);
+		} catch (const std::bad_alloc &) {
+			refused += timers.size() == before;
+		}
+	}
+	refusing = false;
+	return refused;
+}
+
+static void run_out_of_memory()
+{
+	Timers timers;
+	const unsigned refused = refused_starts(timers);
+	HOLDS(refused > 0 && timers.size() == 1000 - refused);
+	timers.start(1s, nullptr);
+	HOLDS(timers.size() == 1001 - refused);
+	bool thrown = false;
+	refusing = true;
+	try {
+		Timers others;
+	} catch (const std::bad_alloc &) {
+		thrown = true;
+	}
+	refusing = false;
+	HOLDS(thrown);
+}
+
 int main()
 {
 	compare(20000);
 	round_intervals();
 	meet_the_edges();
+	run_out_of_memory();
 }
