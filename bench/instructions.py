@@ -57,7 +57,12 @@ def symbols():
 
 def run(candidate, symbol, workload, part):
     """Instructions of a run, its units, and the length of its preparation; None if it isn't for the candidate."""
-    callgrind = ["valgrind", "--tool=callgrind", "--callgrind-out-file=/dev/null", f"--toggle-collect={symbol}"]
+    callgrind = [
+        "valgrind",
+        "--tool=callgrind",
+        "--callgrind-out-file=/dev/null",
+        f"--toggle-collect={symbol}",
+    ]
     done = subprocess.run(
         [*callgrind, COUNT, candidate, workload, SCALE, part], capture_output=True, text=True, check=False
     )
@@ -99,7 +104,9 @@ def table(counted, candidates):
     """As Markdown."""
     lines = [f"| {TITLE} | " + " | ".join(candidates) + " |", "|---" * (len(candidates) + 1) + "|"]
     for row, cells in counted.items():
-        lines.append(f"| {row} | " + " | ".join("" if cell is None else f"{cell:.1f}" for cell in cells) + " |")
+        lines.append(
+            f"| {row} | " + " | ".join("" if cell is None else f"{cell:.1f}" for cell in cells) + " |"
+        )
     return "\n".join(lines)
 
 
