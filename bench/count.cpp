@@ -1,7 +1,7 @@
 // Runs one candidate once, in this process, for a tool that counts its instructions (instructions.py).
 //   count CANDIDATE WORKLOAD SCALE all|base
-// `base` replays the preparation alone. It prints the number of units and of operations; the status is 1 if the
-// candidate gave up, and 3 if the workload isn't for it.
+// `base` replays the preparation alone. It prints the number of units and the length of the preparation. The
+// status is 1 if the candidate gave up, 2 if there is no such one, and 3 if the workload isn't for it.
 #include "workloads.hpp"
 #include <cstring>
 

@@ -8,9 +8,10 @@
 Each count is that of a run of build/count, inside the candidate's function alone. If a workload begins with a
 preparation, the count of the preparation alone is subtracted. A peer that this machine lacks has empty cells.
 
---check names each row that differs from the page by more than 3 %. Status 1: a row of the product does, or is not in
-the page; peers are built by other compilers on other machines, so theirs are only named. Status 2: wrong arguments, or
-a program is not there. Without valgrind it says so and counts nothing: status 0 with --check, otherwise 2.
+--check names each row that differs from the page by more than 3 %. Status 1: a row of the product does, or is not
+in the page; peers are built by other compilers on other machines, so theirs are only named. Status 2: wrong
+arguments, or a program is not there. Without valgrind it says so and counts nothing: status 0 with --check,
+otherwise 2.
 """
 import argparse
 import os
@@ -56,7 +57,7 @@ def symbols():
 
 
 def run(candidate, symbol, workload, part):
-    """Instructions of a run, its units, and the length of its preparation; None if it isn't for the candidate."""
+    """Instructions of a run, its units, and the length of its preparation; None if the candidate lacks it."""
     callgrind = [
         "valgrind",
         "--tool=callgrind",

@@ -4,15 +4,16 @@
     page.py measure --work PROGRAM --timers PROGRAM [--parts wheels,play]
     page.py write
 
-`measure` takes some nine minutes on four cores that do nothing else; the results go to build/page. PROGRAM of --work is
-that of crates/timer_desk_bench, that of --timers the product, and build/bench has to have the product in it. `write`
-puts what has been measured between the markers of the pages, `<!-- NAME -->` and `<!-- end -->`, and draws the plots:
-no figure of a table is typed by hand. Status 1: a part failed; 2: wrong arguments.
+`measure` takes some nine minutes on four cores that do nothing else; the results go to build/page. PROGRAM of
+--work is that of crates/timer_desk_bench, that of --timers the product, and build/bench has to have the product
+in it. `write` puts what has been measured between the markers of the pages, `<!-- NAME -->` and `<!-- end -->`,
+and draws the plots: no figure of a table is typed by hand. Status 1: a part failed; 2: wrong arguments.
 """
 import argparse
 import datetime
 import json
 import os
+import resource
 import subprocess
 import sys
 import time
@@ -26,8 +27,8 @@ FOLDER = os.path.join(HERE, "build", "page")
 PAGES = [os.path.join(HERE, "README.md"), os.path.join(DOCS, "scale.md")]
 
 SHORT = (
-    "churn-1k,churn-10k,churn-100k,churn-1M,push-back-1k,push-back-10k,push-back-100k,push-back-1M,expire-1000,"
-    "expire-log20,expire-log30,expire-log40,steady-1M,burst-1000,burst-5000"
+    "churn-1k,churn-10k,churn-100k,churn-1M,push-back-1k,push-back-10k,push-back-100k,push-back-1M,"
+    "expire-1000,expire-log20,expire-log30,expire-log40,steady-1M,burst-1000,burst-5000"
 )
 QUIET = "quiet-1k,quiet-100k,quiet-1M"
 PEERS = "timers-hier,timers-hash-64k,ref-apart,ref-hash-64k,tokio-wheel"
@@ -80,27 +81,40 @@ def parts(work, timers):
     }
 
 
+def times():
+    """Seconds so far: by the clock, of all processors at work, of this program's children, taken by the host."""
+    with open("/proc/stat", encoding="utf-8") as stat:
+        ticks = [int(word) / os.sysconf("SC_CLK_TCK") for word in stat.readline().split()[1:9]]
+    user, nice, system, _, _, irq, softirq, steal = ticks
+    own = resource.getrusage(resource.RUSAGE_CHILDREN)
+    return time.time(), user + nice + system + irq + softirq, own.ru_utime + own.ru_stime, steal
+
+
 def measure(chosen, work, timers):
     """Runs the parts. Returns whether all of them came to their end."""
     os.makedirs(FOLDER, exist_ok=True)
     done_well = True
     for name in chosen:
-        begun, load = time.time(), os.getloadavg()[0]
+        before = times()
         with open(file(f"{name}.log"), "w", encoding="utf-8") as log:
             for command in parts(work, timers)[name]:
                 done = subprocess.run(command, stdout=log, stderr=subprocess.STDOUT, cwd=HERE, check=False)
                 done_well = done_well and done.returncode == 0
                 if done.returncode:
                     print(f"{name}: status {done.returncode}: {' '.join(command)}", flush=True)
+        seconds, busy, own, steal = (after - first for after, first in zip(times(), before))
         setting = {
             "machine": runs.machine(),
             "date": datetime.date.today().isoformat(),
-            "load": load,
-            "seconds": time.time() - begun,
+            "others": max(busy - own, 0) / seconds,  # how many cores, on average
+            "steal": steal / seconds,
         }
         with open(file(f"{name}.json"), "w", encoding="utf-8") as out:
             json.dump(setting, out)
-        print(f"{name}: {setting['seconds']:.0f} s, load {load:.1f} at its beginning", flush=True)
+        print(
+            f"{name}: {seconds:.0f} s; others took {setting['others']:.1f} cores, {setting['steal']:.1f} the host"
+        )
+        sys.stdout.flush()
     return done_well
 
 

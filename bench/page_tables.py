@@ -270,7 +270,7 @@ def tail(folder):
     return markdown(["", "", *ranks], made)
 
 
-AIMS = [  # what is aimed at, the most that the ratio may be, and where the ratio stands: file, workload or run, peer
+AIMS = [  # what is aimed at, the most that the ratio may be, and where it stands: file, workload or run, peer
     ("10,000 timers of one tick, 1,000 ahead, to the C++ wheel", 1, "wheels", "burst-1000", HIER),
     ("10,000 timers of one tick, 5,000 ahead, to the C++ wheel", 1, "wheels", "burst-5000", HIER),
     ("a million pending, each of which expires, to the C++ wheel", 1, "wheels", "steady-1M", HIER),
@@ -343,7 +343,7 @@ def cost(folder):
             f"    what the desk adds: {desk:.0f} ns      =  {shares[2]:.0f} %",
             "    ticks of 1 ms: 16 facilities x 1,000 x some 20 ns   =  0.03 % (guess)",
             "",
-            f"So the timers take **some {sum(shares):.0f} % of the processor**, and the rest stays for the connections.",
+            f"So the timers take **some {sum(shares):.0f} % of the processor**: the rest is the connections'.",
         ]
     )
 
@@ -357,14 +357,11 @@ def setting(folder):
                 found.append(json.load(file))
     if not found:
         return ""
-    cores = int(found[0]["machine"].rsplit(", ", 1)[1].split()[0])
-    loads = [one["load"] for one in found]
-    busy = ""
-    if max(loads) > cores / 2 + 1:
-        busy = " **Other work ran beside it: read the ratios with their spreads, and no time as one of a quiet machine.**"
+    others, steal = (max(one[key] for one in found) for key in ("others", "steal"))
+    busy = " **Other work ran beside it: read the ratios with their spreads.**" if others > 0.5 else ""
     return (
-        f"{found[0]['date']}, on the code of this page's commit; {found[0]['machine']}. The load was {min(loads):.1f} to "
-        f"{max(loads):.1f} when the parts began (a part's own work makes 1).{busy}"
+        f"{found[0]['date']}, on the code of this page's commit; {found[0]['machine']}. During no part did other "
+        f"processes take more than {others:.1f} of the cores, nor the host's neighbours more than {steal:.1f}.{busy}"
     )
 
 

@@ -1,9 +1,9 @@
-// The program `timers play` once more, in C++ over the hand-tuned hierarchy of wheels, and tuned as a process: a
-// stronger peer than play_ref.cpp. Buffers get their size once, each line is played as soon as it is parsed, numbers
-// are written two digits at a time straight into the output, and room is made once for each line of output.
+// The program `timers play` once more, in C++ over the hand-tuned hierarchy of wheels, and tuned as a process:
+// a stronger peer than play_ref.cpp. Buffers get their size once, each line is played as soon as it is parsed,
+// numbers are written two digits at a time straight into the output, and room is made once for each line of it.
 //
-// It keeps the promise of `timers play`: the whole script is read, parsed and played before a byte is written; a bad
-// line, an input that is too long or a lack of memory writes nothing. Options: --clients N, --capacity N,
+// It keeps the promise of `timers play`: the whole script is read, parsed and played before a byte is written;
+// a bad line, an input that is too long or a lack of memory writes nothing. Options: --clients N, --capacity N,
 // --first-tick T; others are passed over.
 #include "wheels_ref.hpp"
 #include <algorithm>
