@@ -90,6 +90,7 @@
  *     Each call that can fail returns a status: the first that applies, in the order of the function's
  *     comment. At any but TIMERS_OK nothing has changed, in the timers or in what the arguments point to.
  */
+/* SPDX-License-Identifier: MIT OR Apache-2.0 */
 #ifndef TIMERS_H
 #define TIMERS_H
 

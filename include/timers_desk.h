@@ -76,6 +76,7 @@
  *     Nothing else is required. A call before timers_desk_new, after a free, or in the wrong order returns a status or
  *     nothing and changes nothing. Either end may be freed before the other, at any time.
  */
+/* SPDX-License-Identifier: MIT OR Apache-2.0 */
 #ifndef TIMERS_DESK_H
 #define TIMERS_DESK_H
 

@@ -1,17 +1,17 @@
-"""Timers from Python, by ctypes, in one file that may be taken along.
+"""Timers from Python, by ctypes, in one file that may be taken along. timers(3) says what each call does.
 
     from timers import Timers
-    with Timers("libtimers.so") as timers:
+    with Timers() as timers:
         handle = timers.start(25, 7)
         for deadline, serial, action in timers.advance(100):
             ...
 
-`python3 timers.py libtimers.so` compares random calls with a dictionary, and goes to the end of the clock.
+Ticks and actions are whole numbers from 0 to 2^64 - 1: any other is refused by OverflowError or TypeError. A
+call that the library refuses raises TimersError, and has changed nothing. An action may be the key of a
+dictionary. If the library is in no folder that the loader searches, give its path: Timers("lib/libtimers.so.1").
 """
 import ctypes
 import operator
-import random
-import sys
 from ctypes import POINTER, Structure, byref, c_bool, c_size_t, c_uint32, c_uint64, c_void_p
 
 OK, NOT_OPEN, OPEN, NO_TABLE, NO_MEMORY, DUE, NOT_PENDING, ZERO_INTERVAL, TOO_LATE, SERIALS_SPENT, CLOCK_END = range(11)
@@ -80,10 +80,14 @@ CALLS = {
 
 
 class Timers:
-    """Timers and their clock. Use it from one thread at a time, and close it (or use `with`)."""
+    """Timers and their clock. Use it from one thread at a time.
 
-    def __init__(self, library="libtimers.so", table=WIDE, first_tick=0):
-        loaded = ctypes.CDLL(library)
+    `len` is how many timers are pending. An object is true also if there are none.
+    """
+
+    def __init__(self, library="libtimers.so.1", table=WIDE, first_tick=0):
+        # Each call takes little time: so Python's lock is held meanwhile, and they come one at a time.
+        loaded = ctypes.PyDLL(library)
         self._call = {}
         for name, (result, arguments) in CALLS.items():
             function = getattr(loaded, "timers_" + name)
@@ -96,7 +100,15 @@ class Timers:
         check(self._call[name](self._held, *arguments))
 
     def close(self):
+        """Frees all timers. Every call that starts or passes something is refused from then on (NOT_OPEN)."""
         self._call["free"](self._held)
+
+    def __del__(self):
+        if hasattr(self, "_held"):
+            self.close()
+
+    def __reduce__(self):
+        raise TypeError("timers own memory: they can't be copied or pickled")
 
     def __enter__(self):
         return self
@@ -123,7 +135,7 @@ class Timers:
         return timer.deadline, timer.serial, timer.action
 
     def restart(self, handle, interval, action):
-        """Stops the timer with this handle, pending or expired, starts another in its place, and returns its handle."""
+        """Stops the timer with this handle, starts another in its place, and returns the new handle."""
         restarted = Handle()
         self._do("restart", handle, word(interval), word(action), byref(restarted))
         return restarted
@@ -140,8 +152,28 @@ class Timers:
         self._do("stop", handle, byref(action))
         return action.value
 
+    def expire(self):
+        """Takes the first of the expired timers, and returns it as (deadline, serial, action), or None."""
+        timer = Expired()
+        if not self._call["expire"](self._held, byref(timer)):
+            return None
+        return timer.deadline, timer.serial, timer.action
+
+    def catch_up(self, now, run):
+        """Passes the ticks up to `now`, and calls run(deadline, serial, action) for each timer on the way.
+
+        They are taken one at a time: what `run` stops does not come out.
+        """
+        now, passed = word(now), c_uint64()
+        while True:
+            while (timer := self.expire()) is not None:
+                run(*timer)
+            if self.now() >= now:
+                return
+            self._do("advance", now - self.now(), byref(passed))
+
     def expired(self):
-        """Takes what expired, and returns it as a list of (deadline, serial, action)."""
+        """Takes all that expired, and returns it as a list of (deadline, serial, action)."""
         taken, batch = [], (Expired * 64)()
         while count := self._call["expire_batch"](self._held, batch, len(batch)):
             taken.extend((e.deadline, e.serial, e.action) for e in batch[:count])
@@ -150,7 +182,9 @@ class Timers:
     def advance(self, most):
         """Passes so many ticks, and returns what expired on the way as a list of (deadline, serial, action).
 
-        It passes fewer if the clock comes to its last tick. There it is refused (CLOCK_END) if nothing was left to take."""
+        These are taken, and can't be stopped any more. It passes fewer ticks if the clock comes to its last
+        one. There it is refused (CLOCK_END) if nothing was left to take.
+        """
         first_tick, out, passed, most = self.now(), self.expired(), c_uint64(), word(most)
         while most > 0:
             status = self._call["advance"](self._held, most, byref(passed))
@@ -163,6 +197,7 @@ class Timers:
         return out
 
     def now(self):
+        """The present tick."""
         return self._call["now"](self._held)
 
     def wakeup(self):
@@ -171,12 +206,15 @@ class Timers:
         return None if tick == NEVER else tick
 
     def next(self):
-        """The deadline of the timer that is handed out next, or None if no timer is held."""
+        """The deadline of the timer that is taken next, exactly, or None if no timer is held."""
         tick = self._call["next"](self._held)
         return None if tick == NEVER else tick
 
     def __iter__(self):
-        """Visits all timers, pending and expired, in no particular order: pairs of a handle and what `look` returns."""
+        """Visits all timers, pending and expired, in no particular order: pairs of a handle and what `look` says.
+
+        Meanwhile timers may be started, stopped and taken.
+        """
         cursor = c_size_t()
         while True:
             handle, timer = Handle(), Expired()
@@ -190,85 +228,3 @@ class Timers:
 
     def __len__(self):
         return self._call["len"](self._held)
-
-
-def refused(call, *arguments):
-    try:
-        call(*arguments)
-    except TimersError as error:
-        return error.status
-    return OK
-
-
-def compare(library, calls=20000):
-    rng = random.Random(5)
-    pending, now = {}, 1000
-    with Timers(library, first_tick=now) as timers:
-        for _ in range(calls):
-            which = rng.randrange(5)
-            if which < 2 or (which < 4 and not pending):
-                interval, action = 1 + rng.randrange(3000), rng.getrandbits(64)
-                handle = timers.start_at(now + interval, action) if which else timers.start(interval, action)
-                assert timers.look(handle) == (now + interval, handle.serial, action)
-                pending[handle.serial] = (now + interval, action, handle)
-            elif which < 4:
-                serial = rng.choice(list(pending)[:50])
-                _, action, handle = pending.pop(serial)
-                if which == 2:
-                    assert timers.stop(handle) == action
-                else:
-                    interval = 1 + rng.randrange(3000)
-                    again = rng.randrange(2)
-                    restarted = timers.restart_at(handle, now + interval, action) if again else timers.restart(handle, interval, action)
-                    pending[restarted.serial] = (now + interval, action, restarted)
-                assert refused(timers.stop, handle) == NOT_PENDING
-            else:
-                most = rng.randrange(200)
-                got = timers.advance(most)
-                now += most
-                want = sorted((d, s, a) for s, (d, a, _) in pending.items() if d <= now)
-                assert got == want, (got, want)
-                for _, serial, _ in got:
-                    del pending[serial]
-            first = min((d for d, _, _ in pending.values()), default=None)
-            wakeup = timers.wakeup()
-            assert wakeup is None if first is None else now < wakeup <= first
-            assert timers.next() == first and timers
-            assert timers.now() == now and len(timers) == len(pending)
-        visited = {handle.serial: (deadline, action) for handle, (deadline, _, action) in timers}
-        assert visited == {serial: (deadline, action) for serial, (deadline, action, _) in pending.items()}
-        assert refused(timers.start, 0, 1) == ZERO_INTERVAL
-        for value in (2**64, -1):
-            try:
-                timers.start(1, value)
-                assert False, value
-            except OverflowError:
-                pass
-    timers.close()
-    assert refused(timers.start, 1, 1) == NOT_OPEN
-    print(f"{calls} calls from Python agree; tick {now}")
-
-
-def come_to_the_last_tick(library):
-    """Nothing that expired is lost at the end of the clock, and what is refused there has taken nothing."""
-    last = 8639999
-    with Timers(library, CLOCK, last - 9) as timers:
-        first, second = timers.start(5, 7), timers.start(9, 8)
-        assert refused(timers.start, 10, 9) == TOO_LATE
-        assert timers.advance(100) == [(last - 4, first.serial, 7), (last, second.serial, 8)]
-        assert timers.now() == last and refused(timers.advance, 1) == CLOCK_END
-        assert timers.advance(0) == [] and timers.now() == last
-    with Timers(library, CLOCK, last - 9) as timers:
-        assert timers.advance(100) == [] and timers.now() == last
-        assert refused(timers.advance, 100) == CLOCK_END
-    with Timers(library, CLOCK, last - 1) as timers:
-        handle = timers.start(1, 6)
-        assert timers._call["tick"](timers._held) == OK
-        assert timers.advance(1) == [(last, handle.serial, 6)]
-        assert refused(timers.advance, 1) == CLOCK_END
-
-
-if __name__ == "__main__":
-    library = sys.argv[1] if len(sys.argv) > 1 else "libtimers.so"
-    compare(library)
-    come_to_the_last_tick(library)

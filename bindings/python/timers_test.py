@@ -1,0 +1,138 @@
+"""Random calls through timers.py agree with a dictionary; then its edges and the end of the clock.
+
+    python3 timers_test.py libtimers.so
+"""
+import copy
+import random
+import sys
+
+from timers import CLOCK, CLOCK_END, NOT_OPEN, NOT_PENDING, OK, TOO_LATE, ZERO_INTERVAL, Timers, TimersError
+
+
+def refused(call, *arguments):
+    try:
+        call(*arguments)
+    except TimersError as error:
+        return error.status
+    return OK
+
+
+def compare(library, calls=20000):
+    rng = random.Random(5)
+    pending, now = {}, 1000
+    with Timers(library, first_tick=now) as timers:
+        for _ in range(calls):
+            which = rng.randrange(5)
+            if which < 2 or (which < 4 and not pending):
+                interval, action = 1 + rng.randrange(3000), rng.getrandbits(64)
+                handle = timers.start_at(now + interval, action) if which else timers.start(interval, action)
+                assert timers.look(handle) == (now + interval, handle.serial, action)
+                pending[handle.serial] = (now + interval, action, handle)
+            elif which < 4:
+                serial = rng.choice(list(pending)[:50])
+                _, action, handle = pending.pop(serial)
+                if which == 2:
+                    assert timers.stop(handle) == action
+                else:
+                    interval = 1 + rng.randrange(3000)
+                    if rng.randrange(2):
+                        restarted = timers.restart_at(handle, now + interval, action)
+                    else:
+                        restarted = timers.restart(handle, interval, action)
+                    pending[restarted.serial] = (now + interval, action, restarted)
+                assert refused(timers.stop, handle) == NOT_PENDING
+            else:
+                most = rng.randrange(200)
+                got = []
+                if rng.randrange(2):
+                    got = timers.advance(most)
+                else:
+                    timers.catch_up(now + most, lambda *timer: got.append(timer))
+                now += most
+                want = sorted((d, s, a) for s, (d, a, _) in pending.items() if d <= now)
+                assert got == want, (got, want)
+                for _, serial, _ in got:
+                    del pending[serial]
+            first = min((d for d, _, _ in pending.values()), default=None)
+            wakeup = timers.wakeup()
+            assert wakeup is None if first is None else now < wakeup <= first
+            assert timers.next() == first and timers
+            assert timers.now() == now and len(timers) == len(pending)
+        visited = {handle.serial: (deadline, action) for handle, (deadline, _, action) in timers}
+        assert visited == {serial: (deadline, action) for serial, (deadline, action, _) in pending.items()}
+    print(f"{calls} calls from Python agree; tick {now}")
+
+
+def raises(kind, call, *arguments):
+    try:
+        call(*arguments)
+    except kind:
+        return True
+    return False
+
+
+def meet_the_edges(library):
+    """What is no number of 64 bits is refused, and nothing has changed; truth is not emptiness."""
+    with Timers(library, first_tick=2**60 - 2) as timers:
+        handle = timers.start(1, 2**64 - 1)
+        calls = [timers.start, timers.start_at, lambda *two: timers.restart(handle, *two)]
+        for call in calls + [lambda *two: timers.restart_at(handle, *two)]:
+            for value in (2**64, -1):
+                assert raises(OverflowError, call, value, 1) and raises(OverflowError, call, 1, value)
+            for value in (1.0, "1", None):
+                assert raises(TypeError, call, value, 1) and raises(TypeError, call, 1, value)
+        for value in (2**64, -1):
+            assert raises(OverflowError, timers.advance, value)
+            assert raises(OverflowError, timers.catch_up, value, print)
+            assert raises(OverflowError, lambda value=value: Timers(library, first_tick=value))
+        assert raises(OverflowError, lambda: Timers(library, table=2**32))
+        assert refused(timers.start, 0, 1) == refused(timers.start_at, timers.now(), 1) == ZERO_INTERVAL
+        assert refused(timers.start, 2, 1) == TOO_LATE
+        assert raises(TypeError, copy.copy, timers) and raises(TypeError, copy.deepcopy, timers)
+        assert timers.look(handle) == (2**60 - 1, 1, 2**64 - 1) and len(timers) == 1
+        assert timers.stop(handle) == 2**64 - 1
+        assert timers and len(timers) == 0 and timers.next() is None and timers.wakeup() is None
+    assert timers and refused(timers.start, 1, 1) == NOT_OPEN
+    timers.close()
+
+
+def stop_what_expired(library):
+    """The work of one timer stops another of its tick, which is not handed out then."""
+    with Timers(library) as timers:
+        handles = [timers.start(5, number) for number in range(3)]
+        ran = []
+
+        def run(deadline, serial, action):
+            ran.append((deadline, action))
+            if action == 0:
+                assert timers.stop(handles[1]) == 1
+
+        timers.catch_up(9, run)
+        assert ran == [(5, 0), (5, 2)] and timers.now() == 9 and timers.expire() is None
+
+
+def come_to_the_last_tick(library):
+    """Nothing that expired is lost at the end of the clock, and what is refused there has taken nothing."""
+    last = 8639999
+    with Timers(library, CLOCK, last - 9) as timers:
+        first, second = timers.start(5, 7), timers.start(9, 8)
+        assert refused(timers.start, 10, 9) == TOO_LATE
+        assert timers.advance(100) == [(last - 4, first.serial, 7), (last, second.serial, 8)]
+        assert timers.now() == last and refused(timers.advance, 1) == CLOCK_END
+        assert timers.advance(0) == [] and timers.now() == last
+    with Timers(library, CLOCK, last - 9) as timers:
+        assert timers.advance(100) == [] and timers.now() == last
+        assert refused(timers.advance, 100) == CLOCK_END
+    with Timers(library, CLOCK, last - 1) as timers:
+        handle = timers.start(1, 6)
+        assert timers._call["tick"](timers._held) == OK
+        assert timers.advance(1) == [(last, handle.serial, 6)]
+        assert refused(timers.advance, 1) == CLOCK_END
+
+
+if __name__ == "__main__":
+    library = sys.argv[1] if len(sys.argv) > 1 else "libtimers.so.1"
+    compare(library)
+    meet_the_edges(library)
+    stop_what_expired(library)
+    come_to_the_last_tick(library)

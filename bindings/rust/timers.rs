@@ -1,0 +1,315 @@
+//! timers.h for Rust: a safe wrapper over the C library, in one file that may be taken along.
+//!
+//! ```text
+//! mod timers;                     // in main.rs, with this file beside it
+//!
+//! rustc --edition 2021 -L PREFIX/lib main.rs
+//! ```
+//!
+//! A [`Timers`] owns timers and their clock, and frees them when it is dropped. It can be sent to another
+//! thread, and not be shared by two. An action is 64 bits that come back with the timer: an index into what
+//! you keep. A tick is as long as you choose. timers(3) says what each call does, and when an interval
+//! counts from now.
+//!
+//! A call that is refused returns an [`Error`], and has changed nothing. In the child of a process with
+//! threads call nothing before `exec`. Rust 1.82 or later.
+
+#![allow(dead_code)]
+
+use std::error;
+use std::ffi::{c_uint, c_void};
+use std::fmt;
+use std::mem::MaybeUninit;
+use std::time::Duration;
+
+const OK: c_uint = 0;
+const NEVER: u64 = u64::MAX;
+
+/// The last tick of [`Table::Wide`].
+pub const LAST: u64 = (1 << 60) - 1;
+/// The last tick of [`Table::Clock`]: day 99, 23:59:59.
+pub const LAST_OF_CLOCK: u64 = 8_639_999;
+
+/// The slots of the wheels.
+#[derive(Clone, Copy, Debug, Eq, PartialEq)]
+pub enum Table {
+    /// Ten wheels of 64 slots.
+    Wide = 0,
+    /// 60 seconds, 60 minutes, 24 hours, 100 days.
+    Clock = 1,
+}
+
+/// Why a call was refused.
+#[derive(Clone, Copy, Debug, Eq, PartialEq)]
+pub enum Error {
+    /// Memory is out, or there are about 4.29 billion timers.
+    NoMemory,
+    /// An expired timer was not yet taken.
+    Due,
+    /// No timer has this handle: it was stopped, restarted or taken.
+    NotPending,
+    /// The interval is 0, or the tick is not after the present one.
+    ZeroInterval,
+    /// The deadline, or the first tick, is after the last tick.
+    TooLate,
+    /// 2^60 - 1 timers were started.
+    SerialsSpent,
+    /// The clock is at its last tick.
+    ClockEnd,
+}
+
+impl Error {
+    /// The error of a status. A wrapper is always open and names a table that is there: so no other status
+    /// comes.
+    fn of(status: c_uint) -> Result<(), Error> {
+        match status {
+            OK => Ok(()),
+            4 => Err(Error::NoMemory),
+            5 => Err(Error::Due),
+            6 => Err(Error::NotPending),
+            7 => Err(Error::ZeroInterval),
+            8 => Err(Error::TooLate),
+            9 => Err(Error::SerialsSpent),
+            10 => Err(Error::ClockEnd),
+            other => unreachable!("status {other} of libtimers"),
+        }
+    }
+}
+
+impl fmt::Display for Error {
+    fn fmt(&self, f: &mut fmt::Formatter<'_>) -> fmt::Result {
+        f.write_str(match self {
+            Error::NoMemory => "out of memory",
+            Error::Due => "an expired timer was not yet taken",
+            Error::NotPending => "no timer has this handle",
+            Error::ZeroInterval => "nothing is left of the interval",
+            Error::TooLate => "after the last tick",
+            Error::SerialsSpent => "every serial was used",
+            Error::ClockEnd => "the clock is at its last tick",
+        })
+    }
+}
+
+impl error::Error for Error {}
+
+/// The name of a timer of one `Timers`. In another one it may name a timer that is there.
+#[repr(C)]
+#[derive(Clone, Copy, Debug, Eq, Hash, PartialEq)]
+pub struct Handle {
+    place: usize,
+    serial: u64,
+}
+
+impl Handle {
+    /// Counts the starts and restarts, from 1.
+    pub fn serial(self) -> u64 {
+        self.serial
+    }
+}
+
+/// A timer: one that was taken, or is looked at.
+#[repr(C)]
+#[derive(Clone, Copy, Debug, Default, Eq, PartialEq)]
+pub struct Timer {
+    pub deadline: u64,
+    pub serial: u64,
+    pub action: u64,
+}
+
+/// `struct timers`. It may be moved.
+#[repr(C)]
+struct Held {
+    at: *mut c_void,
+    mark: u64,
+    last_serial: u64,
+}
+
+#[link(name = "timers")]
+unsafe extern "C" {
+    fn timers_new(t: *mut Held, table: u32, first_tick: u64) -> c_uint;
+    fn timers_free(t: *mut Held);
+    fn timers_start(t: *mut Held, interval: u64, action: u64, handle: *mut Handle) -> c_uint;
+    fn timers_start_at(t: *mut Held, deadline: u64, action: u64, handle: *mut Handle) -> c_uint;
+    fn timers_restart(
+        t: *mut Held,
+        handle: Handle,
+        interval: u64,
+        action: u64,
+        restarted: *mut Handle,
+    ) -> c_uint;
+    fn timers_restart_at(
+        t: *mut Held,
+        handle: Handle,
+        deadline: u64,
+        action: u64,
+        restarted: *mut Handle,
+    ) -> c_uint;
+    fn timers_stop(t: *mut Held, handle: Handle, action: *mut u64) -> c_uint;
+    fn timers_look(t: *const Held, handle: Handle, out: *mut Timer) -> c_uint;
+    fn timers_each(t: *const Held, cursor: *mut usize, handle: *mut Handle, out: *mut Timer) -> bool;
+    fn timers_tick(t: *mut Held) -> c_uint;
+    fn timers_advance(t: *mut Held, most: u64, passed: *mut u64) -> c_uint;
+    fn timers_expire(t: *mut Held, out: *mut Timer) -> bool;
+    fn timers_expire_batch(t: *mut Held, out: *mut Timer, room: usize) -> usize;
+    fn timers_has_due(t: *const Held) -> bool;
+    fn timers_now(t: *const Held) -> u64;
+    fn timers_len(t: *const Held) -> usize;
+    fn timers_wakeup(t: *const Held) -> u64;
+    fn timers_next(t: *const Held) -> u64;
+}
+
+/// Timers and their clock.
+///
+/// What keeps the rules of the header, for each `unsafe` below: `held` begins as zeros and is private, so
+/// that only the library writes it, and what it owns has one owner. Each pointer is to an object of this
+/// call alone. `&mut` and the missing `Sync` make calls come one at a time.
+pub struct Timers {
+    held: Held,
+}
+
+// SAFETY: the library keeps nothing of a thread, and a struct may be handed to another one (rule 4).
+unsafe impl Send for Timers {}
+
+impl Drop for Timers {
+    fn drop(&mut self) {
+        unsafe { timers_free(&mut self.held) }
+    }
+}
+
+/// What `call` writes to its argument, if it returns `TIMERS_OK`.
+fn written<T>(call: impl FnOnce(*mut T) -> c_uint) -> Result<T, Error> {
+    let mut out = MaybeUninit::uninit();
+    Error::of(call(out.as_mut_ptr()))?;
+    // SAFETY: at TIMERS_OK each call writes all of what it is given to write.
+    Ok(unsafe { out.assume_init() })
+}
+
+/// The interval, in ticks of this length, of a time-out that must last no less than `time`: rounded up, and
+/// one tick more, since the present tick has begun. `u64::MAX`, which is refused, if it is above that.
+///
+/// # Panics
+/// If a tick has no length.
+pub fn at_least(time: Duration, tick: Duration) -> u64 {
+    let ticks = time.as_nanos().div_ceil(tick.as_nanos()) + 1;
+    u64::try_from(ticks).unwrap_or(u64::MAX)
+}
+
+impl Timers {
+    /// Timers of which none is pending. `TooLate`, `NoMemory`.
+    pub fn new(table: Table, first_tick: u64) -> Result<Timers, Error> {
+        let mut held = Held { at: std::ptr::null_mut(), mark: 0, last_serial: 0 };
+        Error::of(unsafe { timers_new(&mut held, table as u32, first_tick) })?;
+        Ok(Timers { held })
+    }
+
+    /// Starts a timer that expires after `interval` ticks. `ZeroInterval`, `TooLate`, `SerialsSpent`,
+    /// `NoMemory`.
+    pub fn start(&mut self, interval: u64, action: u64) -> Result<Handle, Error> {
+        written(|handle| unsafe { timers_start(&mut self.held, interval, action, handle) })
+    }
+
+    /// Starts a timer that expires at the tick `deadline`, which is after now. As `start`.
+    pub fn start_at(&mut self, deadline: u64, action: u64) -> Result<Handle, Error> {
+        written(|handle| unsafe { timers_start_at(&mut self.held, deadline, action, handle) })
+    }
+
+    /// Stops a timer, pending or expired, and starts another in its place. It does not allocate.
+    /// `NotPending`, `ZeroInterval`, `TooLate`, `SerialsSpent`: then the old one stays as it is.
+    pub fn restart(&mut self, handle: Handle, interval: u64, action: u64) -> Result<Handle, Error> {
+        written(|restarted| unsafe { timers_restart(&mut self.held, handle, interval, action, restarted) })
+    }
+
+    /// `restart`, for a timer that expires at the tick `deadline`.
+    pub fn restart_at(&mut self, handle: Handle, deadline: u64, action: u64) -> Result<Handle, Error> {
+        written(|restarted| unsafe { timers_restart_at(&mut self.held, handle, deadline, action, restarted) })
+    }
+
+    /// Stops a timer, pending or expired and not yet taken, and returns its action; `None` if none has the
+    /// handle.
+    pub fn stop(&mut self, handle: Handle) -> Option<u64> {
+        written(|action| unsafe { timers_stop(&mut self.held, handle, action) }).ok()
+    }
+
+    /// The timer with this handle, pending or expired and not yet taken.
+    pub fn look(&self, handle: Handle) -> Option<Timer> {
+        written(|out| unsafe { timers_look(&self.held, handle, out) }).ok()
+    }
+
+    /// Finds a timer, pending or expired, and moves the cursor, which begins at 0, past it; `None` at the
+    /// end. Between two calls timers may be started, stopped and taken: one that is there all the time is
+    /// found exactly once.
+    pub fn visit(&self, cursor: &mut usize) -> Option<(Handle, Timer)> {
+        let mut handle = Handle { place: 0, serial: 0 };
+        let mut timer = Timer::default();
+        unsafe { timers_each(&self.held, cursor, &mut handle, &mut timer) }.then_some((handle, timer))
+    }
+
+    /// All timers, pending and expired, in no particular order.
+    pub fn iter(&self) -> impl Iterator<Item = (Handle, Timer)> + '_ {
+        let mut cursor = 0;
+        std::iter::from_fn(move || self.visit(&mut cursor))
+    }
+
+    /// Advances the clock by one tick. `Due`, `ClockEnd`.
+    pub fn tick(&mut self) -> Result<(), Error> {
+        Error::of(unsafe { timers_tick(&mut self.held) })
+    }
+
+    /// Passes at most `most` ticks, stops at the first at which a timer expires, and returns how many were
+    /// passed. `Due`, `ClockEnd`.
+    pub fn advance(&mut self, most: u64) -> Result<u64, Error> {
+        written(|passed| unsafe { timers_advance(&mut self.held, most, passed) })
+    }
+
+    /// Takes the first of the expired timers.
+    pub fn expire(&mut self) -> Option<Timer> {
+        let mut timer = Timer::default();
+        unsafe { timers_expire(&mut self.held, &mut timer) }.then_some(timer)
+    }
+
+    /// Takes as many of the expired timers as there are and as fit, and returns them.
+    pub fn expire_batch<'a>(&mut self, out: &'a mut [Timer]) -> &'a [Timer] {
+        // SAFETY: the pointer of a slice is not null, also if the slice is empty.
+        let count = unsafe { timers_expire_batch(&mut self.held, out.as_mut_ptr(), out.len()) };
+        &out[..count]
+    }
+
+    /// Passes the ticks up to `now`, and calls `run` for each timer that expires on the way, one at a time:
+    /// what `run` stops does not come out. `ClockEnd` once the last tick is before `now`.
+    pub fn catch_up(&mut self, now: u64, mut run: impl FnMut(&mut Timers, Timer)) -> Result<(), Error> {
+        loop {
+            while let Some(timer) = self.expire() {
+                run(self, timer);
+            }
+            if self.now() >= now {
+                return Ok(());
+            }
+            self.advance(now - self.now())?;
+        }
+    }
+
+    /// Whether an expired timer was not yet taken.
+    pub fn has_due(&self) -> bool {
+        unsafe { timers_has_due(&self.held) }
+    }
+
+    /// The present tick.
+    pub fn now(&self) -> u64 {
+        unsafe { timers_now(&self.held) }
+    }
+
+    /// How many timers are pending. Expired ones are not counted.
+    pub fn pending(&self) -> usize {
+        unsafe { timers_len(&self.held) }
+    }
+
+    /// A tick until which the caller may sleep, at most the first deadline; `None` if no timer is held.
+    pub fn wakeup(&self) -> Option<u64> {
+        Some(unsafe { timers_wakeup(&self.held) }).filter(|&tick| tick != NEVER)
+    }
+
+    /// The deadline of the timer that is taken next, exactly; `None` if no timer is held.
+    pub fn next_deadline(&self) -> Option<u64> {
+        Some(unsafe { timers_next(&self.held) }).filter(|&tick| tick != NEVER)
+    }
+}

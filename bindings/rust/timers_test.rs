@@ -1,0 +1,132 @@
+// Random calls through timers.rs agree with a sorted map, of deadline and serial to action. Then its edges.
+mod timers;
+
+use std::collections::BTreeMap;
+use std::thread;
+use std::time::Duration;
+use timers::{at_least, Error, Handle, Table, Timer, Timers, LAST, LAST_OF_CLOCK};
+
+/// Knuth's generator of 64 bits, of which the upper ones are used.
+struct Random(u64);
+
+impl Random {
+    fn below(&mut self, bound: u64) -> u64 {
+        self.0 = self.0.wrapping_mul(6364136223846793005).wrapping_add(1442695040888963407);
+        (self.0 >> 33) % bound
+    }
+}
+
+fn compare(calls: u32) {
+    let mut random = Random(11);
+    let mut pending: BTreeMap<(u64, u64), u64> = BTreeMap::new();
+    let mut handles: Vec<(Handle, u64)> = Vec::new(); // dead ones too, with their deadlines
+    let mut timers = Timers::new(Table::Wide, 1000).unwrap();
+    for _ in 0..calls {
+        let (now, interval, action) = (timers.now(), 1 + random.below(3000), random.below(1 << 31));
+        match random.below(5) {
+            which @ 0..2 => {
+                let handle = match which {
+                    0 => timers.start(interval, action),
+                    _ => timers.start_at(now + interval, action),
+                };
+                let handle = handle.unwrap();
+                pending.insert((now + interval, handle.serial()), action);
+                handles.push((handle, now + interval));
+            }
+            which @ 2..4 if !handles.is_empty() => {
+                let at = random.below(handles.len() as u64) as usize;
+                let (handle, deadline) = handles[at];
+                let serial = handle.serial();
+                let there = pending.remove(&(deadline, serial));
+                assert_eq!(timers.look(handle), there.map(|action| Timer { deadline, serial, action }));
+                if which == 2 {
+                    assert_eq!(timers.stop(handle), there);
+                } else {
+                    let restarted = match random.below(2) {
+                        0 => timers.restart(handle, interval, action),
+                        _ => timers.restart_at(handle, now + interval, action),
+                    };
+                    assert_eq!(restarted.is_ok(), there.is_some());
+                    match restarted {
+                        Ok(restarted) => {
+                            pending.insert((now + interval, restarted.serial()), action);
+                            handles[at] = (restarted, now + interval);
+                        }
+                        Err(error) => assert_eq!(error, Error::NotPending),
+                    }
+                }
+            }
+            _ => {
+                let until = now + random.below(200);
+                let run = |timers: &mut Timers, timer: Timer| {
+                    let (key, action) = pending.pop_first().unwrap();
+                    assert_eq!((key, action), ((timer.deadline, timer.serial), timer.action));
+                    assert_eq!(timer.deadline, timers.now());
+                };
+                timers.catch_up(until, run).unwrap();
+                assert_eq!(timers.now(), until);
+                assert!(pending.keys().all(|&(deadline, _)| deadline > until));
+            }
+        }
+        let first = pending.keys().next().map(|&(deadline, _)| deadline);
+        assert_eq!((timers.pending(), timers.next_deadline()), (pending.len(), first));
+        let wakeup = timers.wakeup();
+        assert_eq!(wakeup.is_some(), first.is_some());
+        assert!(wakeup <= first && wakeup.is_none_or(|tick| timers.now() < tick));
+    }
+    let visited: BTreeMap<_, _> = timers.iter().map(|(h, t)| ((t.deadline, h.serial()), t.action)).collect();
+    assert_eq!((timers.iter().count(), visited), (pending.len(), pending));
+    println!("{calls} calls from Rust agree");
+}
+
+fn meet_the_edges() {
+    assert!(Timers::new(Table::Wide, LAST).is_ok() && Timers::new(Table::Clock, LAST_OF_CLOCK).is_ok());
+    assert_eq!(Timers::new(Table::Wide, LAST + 1).err(), Some(Error::TooLate));
+    assert_eq!(Timers::new(Table::Clock, LAST_OF_CLOCK + 1).err(), Some(Error::TooLate));
+    let mut timers = Timers::new(Table::Clock, LAST_OF_CLOCK - 9).unwrap();
+    assert_eq!(timers.start(0, 1), Err(Error::ZeroInterval));
+    assert_eq!(timers.start(10, 1), Err(Error::TooLate));
+    assert_eq!(timers.start_at(timers.now(), 1), Err(Error::ZeroInterval));
+    assert_eq!((timers.wakeup(), timers.next_deadline(), timers.expire()), (None, None, None));
+
+    let handles: Vec<Handle> = (0..4).map(|action| timers.start(3, action).unwrap()).collect();
+    assert_eq!(timers.advance(100), Ok(3));
+    assert_eq!(
+        (timers.has_due(), timers.tick(), timers.advance(1)),
+        (true, Err(Error::Due), Err(Error::Due))
+    );
+    assert_eq!((timers.stop(handles[1]), timers.stop(handles[1])), (Some(1), None)); // expired, not yet taken
+    assert_eq!(timers.restart(handles[2], 0, 7), Err(Error::ZeroInterval));
+    assert!(timers.expire_batch(&mut []).is_empty());
+    let mut batch = [Timer::default(); 4];
+    let taken: Vec<u64> = timers.expire_batch(&mut batch).iter().map(|timer| timer.action).collect();
+    assert_eq!(taken, [0, 2, 3]);
+
+    // The work of one timer stops another of its tick. The timers were handed to another thread.
+    let ran = thread::spawn(move || {
+        let first = timers.start(1, 10).unwrap();
+        let second = timers.start(1, 11).unwrap();
+        let mut ran = Vec::new();
+        let end = timers.catch_up(LAST_OF_CLOCK + 1, |timers, timer| {
+            ran.push(timer.serial);
+            assert_eq!(timers.stop(second), Some(11));
+        });
+        assert_eq!(
+            (end, timers.now(), timers.tick()),
+            (Err(Error::ClockEnd), LAST_OF_CLOCK, Err(Error::ClockEnd))
+        );
+        (ran, first.serial())
+    });
+    let (ran, first) = ran.join().unwrap();
+    assert_eq!(ran, [first]);
+
+    let (ms, us) = (Duration::from_millis, Duration::from_micros);
+    assert_eq!((at_least(ms(5), ms(1)), at_least(us(4999), ms(1)), at_least(us(5001), ms(1))), (6, 6, 7));
+    assert_eq!((at_least(ms(0), ms(1)), at_least(Duration::MAX, Duration::from_nanos(1))), (1, u64::MAX));
+    println!("the edges are as its pages say");
+}
+
+fn main() {
+    compare(20000);
+    meet_the_edges();
+}

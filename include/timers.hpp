@@ -1,0 +1,303 @@
+/* timers.hpp - timers.h for C++17, header only
+ *
+ *     #include <timers.hpp>
+ *     c++ -std=c++17 prog.cpp $(pkg-config --cflags --libs timers)
+ *
+ * A `timing::timers<Tick, Action>` owns timers and frees them. It can be moved and not copied. timers.h
+ * says what each call does; this header says what differs. It adds no memory, no lock and no table: the
+ * owner is the 24 bytes of `struct timers`, and each call is one of C.
+ *
+ * TICKS. `Tick` is the length of a tick, a std::chrono::duration. The clock and deadlines are `ticks`,
+ * counted from tick 0. An interval is any duration of whole numbers, and is rounded up to ticks. An
+ * interval of n ticks lasts more than n - 1 and at most n, since the present tick has begun: `at_least`
+ * adds the tick that a time-out needs if it must not come early.
+ *
+ * ACTIONS. An `Action` is trivially copyable and has at most 8 bytes: a pointer, an index, an enum, a
+ * function pointer, or a lambda that captures one pointer. Its bytes are the action of C, so that it costs
+ * nothing. A std::function does not fit: keep it in an object of yours, and give the pointer to that.
+ *
+ * ERRORS. As in the containers of the standard library, an exception is what a caller can't expect:
+ * std::bad_alloc if memory is out, and otherwise `timing::error` with the status of C. What may well
+ * happen is a result: no timer has the handle (it was stopped, restarted or taken), or nothing has
+ * expired. After an exception nothing has changed. */
+#ifndef TIMERS_HPP
+#define TIMERS_HPP
+
+#include <chrono>
+#include <cstddef>
+#include <cstdint>
+#include <cstring>
+#include <limits>
+#include <new>
+#include <optional>
+#include <ratio>
+#include <stdexcept>
+#include <type_traits>
+#include <utility>
+
+#include "timers.h"
+
+namespace timing {
+
+/* A call that was refused: `status` says why, and nothing has changed. */
+class error : public std::runtime_error {
+public:
+	explicit error(enum timers_status status) : std::runtime_error(timers_message(status)), status_(status) {}
+	enum timers_status status() const noexcept { return status_; }
+
+private:
+	enum timers_status status_;
+};
+
+/* The name of a timer. One that was made without a timer names none. */
+class handle {
+public:
+	handle() noexcept : raw_{ 0, 0 } {}
+	explicit handle(timer_handle raw) noexcept : raw_(raw) {}
+	timer_handle raw() const noexcept { return raw_; }
+	std::uint64_t serial() const noexcept { return raw_.serial; }
+	friend bool operator==(handle a, handle b) noexcept
+	{
+		return a.raw_.place == b.raw_.place && a.raw_.serial == b.raw_.serial;
+	}
+	friend bool operator!=(handle a, handle b) noexcept { return !(a == b); }
+
+private:
+	timer_handle raw_;
+};
+
+template <class Tick = std::chrono::milliseconds, class Action = std::uint64_t>
+class timers {
+	static_assert(std::is_trivially_copyable_v<Action> && sizeof(Action) <= 8,
+	              "an action is trivially copyable, of at most 8 bytes: for larger things give a pointer");
+
+public:
+	using ticks = std::chrono::duration<std::uint64_t, typename Tick::period>;
+
+	struct expired {
+		ticks deadline;
+		std::uint64_t serial;     /* that of its handle */
+		Action action;
+	};
+
+	/* Throws error: TIMERS_NO_TABLE, TIMERS_TOO_LATE; std::bad_alloc. */
+	explicit timers(enum timers_table table = TIMERS_WIDE, ticks first_tick = ticks::zero())
+	{
+		check(timers_new(&raw_, table, first_tick.count()));
+	}
+	~timers() { timers_free(&raw_); }
+	timers(const timers &) = delete;
+	timers &operator=(const timers &) = delete;
+
+	/* The other one is left without timers: it may be destroyed and assigned to, its readers say that
+	 * nothing is held, and every other call throws TIMERS_NOT_OPEN. */
+	timers(timers &&other) noexcept : raw_(std::exchange(other.raw_, none())) {}
+	timers &operator=(timers &&other) noexcept
+	{
+		if (this != &other) {
+			timers_free(&raw_);
+			raw_ = std::exchange(other.raw_, none());
+		}
+		return *this;
+	}
+
+	/* The ticks of an interval, rounded up. One that 64 bits can't hold becomes their greatest number,
+	 * which is after every last tick; one of 0 or less becomes 0: both are refused by the calls that
+	 * follow. */
+	template <class Rep, class Period>
+	static constexpr ticks in_ticks(std::chrono::duration<Rep, Period> interval) noexcept
+	{
+		static_assert(std::is_integral_v<Rep> && sizeof(Rep) <= 8,
+		              "an interval is a whole number: round it by std::chrono::ceil");
+		using ratio = std::ratio_divide<Period, typename Tick::period>;
+		constexpr std::uint64_t num = ratio::num, den = ratio::den;
+		constexpr std::uint64_t most = std::numeric_limits<std::uint64_t>::max();
+		static_assert(num <= most / den, "the lengths of a tick and of the interval's unit are too far apart");
+		if (interval.count() <= 0)
+			return ticks::zero();
+		const std::uint64_t count = static_cast<std::uint64_t>(interval.count());
+		const std::uint64_t rest = (count % den * num + den - 1) / den;
+		if (count / den > (most - rest) / num)
+			return ticks(most);
+		return ticks(count / den * num + rest);
+	}
+
+	/* The interval of a time-out that must last no less than this: one tick more, as the present one has
+	 * begun. */
+	template <class Rep, class Period>
+	static constexpr ticks at_least(std::chrono::duration<Rep, Period> time) noexcept
+	{
+		const ticks whole = in_ticks(time);
+		return whole == ticks::max() ? whole : whole + ticks(1);
+	}
+
+	/* timers_start. Throws error: TIMERS_NOT_OPEN, TIMERS_ZERO_INTERVAL (of 0 or less), TIMERS_TOO_LATE,
+	 * TIMERS_SERIALS_SPENT; std::bad_alloc. */
+	template <class Rep, class Period>
+	handle start(std::chrono::duration<Rep, Period> interval, Action action)
+	{
+		timer_handle started;
+		check(timers_start(&raw_, in_ticks(interval).count(), bits(action), &started));
+		return handle(started);
+	}
+
+	/* timers_start_at: the deadline is a tick after now(). Throws as start. */
+	handle start_at(ticks deadline, Action action)
+	{
+		timer_handle started;
+		check(timers_start_at(&raw_, deadline.count(), bits(action), &started));
+		return handle(started);
+	}
+
+	/* timers_restart. If a timer has the handle, replaces that by the new one and returns true. Otherwise
+	 * returns false. Throws error: TIMERS_NOT_OPEN, TIMERS_ZERO_INTERVAL, TIMERS_TOO_LATE,
+	 * TIMERS_SERIALS_SPENT. */
+	template <class Rep, class Period>
+	[[nodiscard]] bool restart(handle &of, std::chrono::duration<Rep, Period> interval, Action action)
+	{
+		return restarted(of, [&](timer_handle *to) {
+			return timers_restart(&raw_, of.raw(), in_ticks(interval).count(), bits(action), to);
+		});
+	}
+
+	/* timers_restart_at, as restart. */
+	[[nodiscard]] bool restart_at(handle &of, ticks deadline, Action action)
+	{
+		return restarted(of, [&](timer_handle *to) {
+			return timers_restart_at(&raw_, of.raw(), deadline.count(), bits(action), to);
+		});
+	}
+
+	/* Stops the timer with this handle, pending or expired, and returns its action; nothing if there is
+	 * none. */
+	std::optional<Action> stop(handle of) noexcept
+	{
+		std::uint64_t action;
+		if (timers_stop(&raw_, of.raw(), &action) != TIMERS_OK)
+			return std::nullopt;
+		return action_of(action);
+	}
+
+	/* The timer with this handle, pending or expired and not yet taken. */
+	std::optional<expired> look(handle of) const noexcept
+	{
+		timer_expired timer;
+		if (timers_look(&raw_, of.raw(), &timer) != TIMERS_OK)
+			return std::nullopt;
+		return cooked(timer);
+	}
+
+	/* Calls visit(handle, expired) for every timer, pending or expired, in no particular order. It may
+	 * start, stop and restart timers, as timers_each says. */
+	template <class Visit>
+	void each(Visit &&visit) const
+	{
+		std::size_t cursor = 0;
+		timer_handle of;
+		timer_expired timer;
+		while (timers_each(&raw_, &cursor, &of, &timer))
+			visit(handle(of), cooked(timer));
+	}
+
+	/* timers_tick. Throws error: TIMERS_NOT_OPEN, TIMERS_DUE, TIMERS_CLOCK_END. */
+	void tick() { check(timers_tick(&raw_)); }
+
+	/* timers_advance: returns how many ticks were passed. Throws as tick. */
+	ticks advance(ticks most)
+	{
+		std::uint64_t passed;
+		check(timers_advance(&raw_, most.count(), &passed));
+		return ticks(passed);
+	}
+
+	/* Takes the first of the expired timers, if there is one. */
+	std::optional<expired> expire() noexcept
+	{
+		timer_expired timer;
+		if (!timers_expire(&raw_, &timer))
+			return std::nullopt;
+		return cooked(timer);
+	}
+
+	/* Passes the ticks up to `real_time`, and calls run(expired) for each timer that expires on the way,
+	 * one at a time, so that it may start, stop and restart any. Throws as tick (TIMERS_CLOCK_END once the
+	 * last tick is before `real_time`), and what `run` throws: that timer is taken, and a further call
+	 * continues. */
+	template <class Run>
+	void catch_up(ticks real_time, Run &&run)
+	{
+		for (;;) {
+			while (const std::optional<expired> timer = expire())
+				run(*timer);
+			if (now() >= real_time)
+				return;
+			advance(real_time - now());
+		}
+	}
+
+	bool has_due() const noexcept { return timers_has_due(&raw_); }
+	ticks now() const noexcept { return ticks(timers_now(&raw_)); }
+
+	/* How many timers are pending. */
+	std::size_t size() const noexcept { return timers_len(&raw_); }
+
+	/* A tick until which the caller may sleep, and the exact first deadline; nothing if no timer is held. */
+	std::optional<ticks> wakeup() const noexcept { return unless_never(timers_wakeup(&raw_)); }
+	std::optional<ticks> next() const noexcept { return unless_never(timers_next(&raw_)); }
+
+	/* For the calls of C that are not here. */
+	::timers *raw() noexcept { return &raw_; }
+
+private:
+	static ::timers none() noexcept { return ::timers TIMERS_INIT; }
+
+	static void check(enum timers_status status)
+	{
+		if (status == TIMERS_NO_MEMORY)
+			throw std::bad_alloc();
+		if (status != TIMERS_OK)
+			throw error(status);
+	}
+
+	static std::uint64_t bits(const Action &action) noexcept
+	{
+		std::uint64_t word = 0;
+		std::memcpy(&word, &action, sizeof action);
+		return word;
+	}
+
+	static Action action_of(std::uint64_t word) noexcept
+	{
+		alignas(Action) unsigned char bytes[sizeof(Action)];
+		std::memcpy(bytes, &word, sizeof bytes);
+		return *std::launder(reinterpret_cast<const Action *>(bytes));
+	}
+
+	static expired cooked(const timer_expired &timer) noexcept
+	{
+		return expired{ ticks(timer.deadline), timer.serial, action_of(timer.action) };
+	}
+
+	static std::optional<ticks> unless_never(std::uint64_t tick) noexcept
+	{
+		return tick == TIMERS_NEVER ? std::nullopt : std::optional<ticks>(ticks(tick));
+	}
+
+	template <class Call>
+	static bool restarted(handle &of, Call call)
+	{
+		timer_handle to;
+		const enum timers_status status = call(&to);
+		if (status == TIMERS_NOT_PENDING)
+			return false;
+		check(status);
+		of = handle(to);
+		return true;
+	}
+
+	::timers raw_ = TIMERS_INIT;
+};
+
+} // namespace timing
+
+#endif
