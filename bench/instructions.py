@@ -40,7 +40,7 @@ ROWS = [
     "burst-1000",
     "burst-5000",
 ]
-CANDIDATES = ["timers-hier", "ref-hier", "ref-apart", "tokio-wheel"]
+CANDIDATES = ["timers-hier", "timers-c", "ref-hier", "ref-apart", "tokio-wheel"]
 MOST = 0.03  # how far a row may be from that of the page
 
 

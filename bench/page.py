@@ -1,7 +1,7 @@
 #!/usr/bin/env python3
 """Measures all that stands in README.md and docs/scale.md, and writes their tables and the plots of docs/.
 
-    page.py measure --work PROGRAM --timers PROGRAM [--parts wheels,play]
+    page.py measure --work PROGRAM --timers PROGRAM [--parts wheels,play] [--quick]
     page.py write
 
 `measure` takes some nine minutes on four cores that do nothing else; the results go to build/page. PROGRAM of
@@ -24,6 +24,7 @@ import runs
 HERE = os.path.dirname(os.path.abspath(__file__))
 DOCS = os.path.join(HERE, "..", "docs")
 FOLDER = os.path.join(HERE, "build", "page")
+IS_QUICK = "--quick" in sys.argv  # a third of the length, three repeats
 PAGES = [os.path.join(HERE, "README.md"), os.path.join(DOCS, "scale.md")]
 
 SHORT = (
@@ -31,7 +32,7 @@ SHORT = (
     "expire-1000,expire-log20,expire-log30,expire-log40,steady-1M,burst-1000,burst-5000"
 )
 QUIET = "quiet-1k,quiet-100k,quiet-1M"
-PEERS = "timers-hier,timers-hash-64k,ref-apart,ref-hash-64k,tokio-wheel"
+PEERS = "timers-hier,timers-hash-64k,timers-c,ref-apart,ref-hash-64k,tokio-wheel"
 
 
 def file(name):
@@ -40,6 +41,8 @@ def file(name):
 
 def of_driver(name, scale, repeats, workloads, candidates):
     """A run of build/bench."""
+    if IS_QUICK:
+        scale, repeats = str(float(scale) / 3), "3"
     return [
         *[os.path.join(HERE, "build", "bench"), "--csv", file(f"{name}.csv"), "--scale", scale],
         *["--repeats", repeats, "--workloads", workloads, "--candidates", candidates],
@@ -75,8 +78,8 @@ def parts(work, timers):
         "scale": [of_script("runs", "scale", "scale", "--repeats", "3", "--operations", "500000")],
         "steady": [of_driver("steady", "0.3", "3", "steady-10M", PEERS)],
         "again": [
-            of_driver("again", "0.3", "5", SHORT, "timers-hier"),
-            of_driver("again-quiet", "4", "5", QUIET, "timers-hier,ref-apart"),
+            of_driver("again", "0.3", "5", SHORT, "timers-hier,timers-c"),
+            of_driver("again-quiet", "4", "5", QUIET, "timers-hier,timers-c,ref-apart"),
         ],
     }
 
@@ -98,6 +101,8 @@ def measure(chosen, work, timers):
         before = times()
         with open(file(f"{name}.log"), "w", encoding="utf-8") as log:
             for command in parts(work, timers)[name]:
+                if "" in command:  # a program that is not there
+                    continue
                 done = subprocess.run(command, stdout=log, stderr=subprocess.STDOUT, cwd=HERE, check=False)
                 done_well = done_well and done.returncode == 0
                 if done.returncode:
@@ -156,6 +161,7 @@ def main():
     parser.add_argument("what", choices=["measure", "write"])
     parser.add_argument("--work")
     parser.add_argument("--timers")
+    parser.add_argument("--quick", action="store_true")
     parser.add_argument("--parts", default=",".join(parts("", "")))
     options = parser.parse_args()
     chosen = options.parts.split(",")
@@ -163,10 +169,9 @@ def main():
         parser.error(f"parts are {', '.join(parts('', ''))}")
     if options.what == "write":
         write()
-    elif not options.work or not options.timers:
-        parser.error("measure takes --work and --timers")
     else:
-        sys.exit(0 if measure(chosen, os.path.abspath(options.work), os.path.abspath(options.timers)) else 1)
+        programs = (os.path.abspath(path) if path else "" for path in (options.work, options.timers))
+        sys.exit(0 if measure(chosen, *programs) else 1)
 
 
 if __name__ == "__main__":

@@ -6,7 +6,7 @@ import os
 BENCH = ["wheels", "quiet", "steady"]  # the runs of build/bench with all candidates
 HIER, HASHED = "timers-hier", "timers-hash-64k"
 RIVALS = ["ref-hier", "ref-apart", "tokio-wheel"]  # of the hierarchy
-COLUMNS = [HIER, "again", "ref-apart", "tokio-wheel", "libuv", HASHED, "ref-hash-64k"]
+COLUMNS = [HIER, "again", "timers-c", "again-c", "ref-apart", "tokio-wheel", "libuv", HASHED, "ref-hash-64k"]
 ORDER = ["churn", "push-back", "expire", "quiet", "steady", "burst"]
 SCRIPTS = {
     "starts": "1 MiB of starts that expire",
@@ -69,28 +69,32 @@ def spread(row, is_slower=False):
     return f"**{text}**" if is_slower else text
 
 
+AGAIN = {HIER: "again", "timers-c": "again-c"}  # the columns of the second run
+
+
 def wheels(folder):
-    """Ratios to ref-hier, with those of the second run."""
+    """Ratios to ref-hier, with those of the second run. A candidate that was not run has no column."""
     at = {(row["workload"], row["candidate"]): row for row in bench_rows(folder)}
     for row in rows_of(folder, "again") + rows_of(folder, "again-quiet"):
-        if row["candidate"] == HIER:
-            at[row["workload"], "again"] = row
+        if row["candidate"] in AGAIN:
+            at[row["workload"], AGAIN[row["candidate"]]] = row
 
     def ratio(work, name):
         row = at.get((work, name))
         return float(row["ratio"]) if row and row["ratio"] else None
 
     def is_slower(work, name):
-        peers = [ratio(work, peer) for peer in (RIVALS if name in (HIER, "again") else ["ref-hash-64k"])]
-        best = min((peer for peer in peers if peer is not None), default=None)
-        mine = ratio(work, name)
-        return name in (HIER, "again", HASHED) and None not in (mine, best) and mine > best
+        if not name.startswith(("timers-", "again")) or ratio(work, name) is None:
+            return False
+        peers = [ratio(work, peer) for peer in (["ref-hash-64k"] if name == HASHED else RIVALS)]
+        return ratio(work, name) > min((peer for peer in peers if peer is not None), default=1e9)
 
     works = list(dict.fromkeys(work for work, _ in at))
+    names = [name for name in COLUMNS if any(candidate == name for _, candidate in at)]
     made = [
-        [work, *(spread(at.get((work, name)), is_slower(work, name)) for name in COLUMNS)] for work in works
+        [work, *(spread(at.get((work, name)), is_slower(work, name)) for name in names)] for work in works
     ]
-    return markdown(["", *("second run" if name == "again" else name for name in COLUMNS)], made)
+    return markdown(["", *("second run" if name.startswith("again") else name for name in names)], made)
 
 
 def units(folder):
@@ -98,6 +102,7 @@ def units(folder):
     at = {(row["workload"], row["candidate"]): row for row in bench_rows(folder)}
     names = {
         HIER: "`HierWheel`",
+        "timers-c": "the same, through the library for C",
         "ref-hier": "C++ wheel",
         "ref-apart": "C++ wheel, the same layout",
         "tokio-wheel": "tokio's",
@@ -116,7 +121,7 @@ def units(folder):
     made = [
         [title, *(cell(work, name, column) for work, column, _ in columns)] for name, title in names.items()
     ]
-    return markdown(["", *(title for _, _, title in columns)], made)
+    return markdown(["", *(title for _, _, title in columns)], [row for row in made if any(row[1:])])
 
 
 def bytes_a_timer(folder):
@@ -204,7 +209,8 @@ def line_tables(folder):
         ]
         for desk in desks
     ]
-    desk = markdown(["Row", "The facility alone, an event", "Single calls", "Turns"], made)
+    head = ["Row", "The facility alone, an event", "Single calls", "Turns"]
+    desk = markdown(head, made) if made else None
     others = [name for name in ratio if not name.startswith("desk")]
     made = [
         [
@@ -301,8 +307,10 @@ def reached(folder, name, work, peer):
 def aims(folder):
     """What was aimed at, and what was reached."""
     made = []
-    for title, most, *where in AIMS:
-        ratio = reached(folder, *where)
+    for title, most, *where, peer in AIMS:
+        ratio = reached(folder, *where, peer)
+        if ratio is None and peer == HIER:
+            title, ratio = f"{title}, through the library for C", reached(folder, *where, "timers-c")
         if ratio is not None:
             shown = f"{ratio:.2f}" if ratio < 100 else f"{ratio:,.0f}"
             made.append(
@@ -317,20 +325,20 @@ def aims(folder):
 
 
 def cost(folder):
-    """What a thousand million timers cost, from these figures, for docs/scale.md."""
-    push = next(
-        row for row in bench_rows(folder) if (row["workload"], row["candidate"]) == ("push-back-1M", HIER)
-    )
+    """What a thousand million timers cost, from these figures, for docs/scale.md; None if one is missing."""
+    rows = {row["candidate"]: row for row in bench_rows(folder) if row["workload"] == "push-back-1M"}
+    push = rows.get(HIER) or rows.get("timers-c")
     least = {
         (row["measure"], row["facility"]): float(row["median"])
         for row in rows_of(folder, "lines")
         if row["unit"] == "ns"
     }
+    calls = "desk, 64 clients, single calls"
+    if not push or (calls, "timers") not in least:
+        return None
     restart, item = float(push["ns_per_unit"]), least["line, requests one way", "timers"]
     # An event is a request or a word: a restart's request and its answer are two.
-    desk = 2 * (
-        least["desk, 64 clients, single calls", "timers"] - least["desk, 64 clients, single calls", "peer"]
-    )
+    desk = 2 * (least[calls, "timers"] - least[calls, "peer"])
     a_core = 1e9 / 30 / 64
     shares = [a_core * ns / 1e7 for ns in (restart, 2 * item, desk)]
     return "\n".join(
@@ -390,11 +398,9 @@ def sections(folder):
         made["serve"] = serve(folder)
     if rows_of(folder, "lines"):
         made["desk"], made["threads"] = line_tables(folder)
-        made["aims"] = aims(folder)
-        if bench_rows(folder):
-            made["cost"] = cost(folder)
+        made["aims"], made["cost"] = aims(folder), cost(folder)
     if rows_of(folder, "scale"):
         made["scale"] = scale(folder)
     if rows_of(folder, "tail"):
         made["tail"] = tail(folder)
-    return made
+    return {name: text for name, text in made.items() if text}
