@@ -73,6 +73,7 @@ def run(command, cores, apart=False):
 
 
 RATIOS = []  # of each row: its name, and its ratios
+TIMES = []  # of each row: its name, and the least time of the product and of the peer, in ns for one event or run
 
 
 def spread(name, mine, peer):
@@ -97,7 +98,9 @@ def desk(work, repeats):
         served, words = ROUNDS * (ROUND // clients * clients), 2 * ROUNDS * (ROUND // clients * clients)
         for mode, name in (("desk", "turns"), ("calls", "single calls")):
             best = min(took[mode])
-            ratio = spread(f"desk, {clients} clients, {name}", took[mode], took["facility"])
+            title = f"desk, {clients} client{'s' if clients > 1 else ''}, {name}"
+            ratio = spread(title, took[mode], took["facility"])
+            TIMES.append((title, best / words * 1e9, min(took["facility"]) / words * 1e9))
             print(f"desk, {clients:2} clients, {name}: {served / best / 1e6:.1f} M requests and {words / best / 1e6:.1f} M words a second, "
                   f"{best / words * 1e9:.0f} ns an event, ratio to the facility alone {ratio}")
 
@@ -116,6 +119,7 @@ def lines(work, repeats):
                 fail(f"{mode}: {out!r}, and the reference {ref_out!r}")
             mine.append(wall)
             peer.append(ref_wall)
+        TIMES.append((f"line, {what}", min(mine) / count * 1e9, min(peer) / count * 1e9))
         print(f"line, {what}: {count / min(mine) / 1e6:.2f} M a second, {min(mine) / count * 1e9:.0f} ns each, "
               f"the C++ ring {min(peer) / count * 1e9:.0f} ns, ratio {spread(f'line, {what}', mine, peer)}")
 
@@ -134,6 +138,7 @@ def rings(repeats):
             times.append(wall)
     for mode in RINGS:
         ratio = spread(f"C++ ring, {mode}", took[mode], took["release"])
+        TIMES.append((f"C++ ring, {mode}", *(min(took[one]) / ONE_WAY * 1e9 for one in (mode, "release"))))
         print(f"C++ ring, {mode}: {min(took[mode]) / ONE_WAY * 1e9:.0f} ns each, with a store with release for each "
               f"item {min(took['release']) / ONE_WAY * 1e9:.0f} ns, ratio {ratio}")
 
@@ -156,13 +161,15 @@ def threads(timers, repeats):
             cpu.append(used)
         name = f"threads, {cores} core{'s' if cores > 1 else ''}"
         ratio, mutex_ratio = spread(name, mine, peer), spread(f"{name}, against a mutex", mine, mutex)
+        TIMES.append((name, min(mine) * 1e9, min(peer) * 1e9))
+        TIMES.append((f"{name}, against a mutex", min(mine) * 1e9, min(mutex) * 1e9))
         print(f"{name}, {CLIENTS} clients of {TIMERS} timers: {min(mine) * 1e3:.1f} ms "
               f"({min(cpu) * 1e3:.1f} ms of processor time), the C++ program {min(peer) * 1e3:.1f} ms, ratio {ratio}; "
               f"a wheel under a mutex {min(mutex) * 1e3:.1f} ms, ratio {mutex_ratio}")
 
 
 def write(path, repeats, load):
-    """The ratios in the columns of runs.py."""
+    """The ratios, and the least times of product and peer, in the columns of runs.py."""
     with open(path, "w", newline="", encoding="utf-8") as file:
         writer = csv.writer(file)
         writer.writerow(runs.COLUMNS)
@@ -170,6 +177,10 @@ def write(path, repeats, load):
             figures = [f"{value:.3f}" for value in (statistics.median(ratios), min(ratios), max(ratios))]
             row = ["lines", "timers", "", "", name, "ratio", *figures]
             writer.writerow([*row, repeats, runs.machine(), f"{load:.1f}"])
+        for name, *least in TIMES:
+            for who, ns in zip(("timers", "peer"), least):
+                row = ["lines", who, "", "least", name, "ns", *[f"{ns:.1f}"] * 3]
+                writer.writerow([*row, repeats, runs.machine(), f"{load:.1f}"])
 
 
 def main():

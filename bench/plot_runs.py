@@ -20,7 +20,11 @@ COLOURS = {
     "libuv": "#b08900",
 }
 RANKS = ["p50", "p90", "p99", "p99.9", "p99.99", "longest"]
-RUNS = {"ticks": "a tick, with all that is due", "growth": "a start, while the table grows"}
+RUNS = {
+    "ticks": "a tick, with all that is due",
+    "growth": "a start, while the table grows",
+    "room": "a start, with room for it",
+}
 PANEL, HEIGHT, LEFT, GAP, TOP = 250, 240, 62, 62, 62
 
 STYLE = """
@@ -242,6 +246,8 @@ def main():
         sys.exit(2)
     with open(sys.argv[1], encoding="utf-8") as file:
         rows = list(csv.DictReader(file))
+    if rows and rows[0]["program"] == "lines":
+        rows = [row for row in rows if row["unit"] == "ratio"]
     if not rows:
         print(f"{sys.argv[1]}: no rows", file=sys.stderr)
         sys.exit(1)

@@ -82,7 +82,7 @@ def main():
     parser.add_argument("--ticks", type=int, default=1_000_000)
     options = parser.parse_args()
     sizes = [int(size) for size in (options.pending or SIZES[options.program]).split(",")]
-    runs = [options.operations] if options.program == "scale" else [options.ticks, "moves", "growth"]
+    runs = [options.operations] if options.program == "scale" else [options.ticks, "moves", "growth", "room"]
     load = os.getloadavg()[0]
     found = turns(options, sizes, runs)
     if not found:

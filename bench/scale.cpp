@@ -2,12 +2,12 @@
 //   scale FACILITY PENDING OPERATIONS
 // It starts PENDING timers that are 2^24 to 2^25 ticks away. Then owners in random order stop and start
 // theirs, in blocks of up to 256 owners, so that stops and starts are timed apart; then as many are
-// restarted; then come 200,000 single ticks, at which nothing is due. One line for each: the name and the
+// restarted; then come 50,000 single ticks, at which nothing is due. One line for each: the name and the
 // nanoseconds of one operation.
 #include "facilities.hpp"
 #include <time.h>
 
-static constexpr uint64_t FAR = 1ull << 24, TICKS = 200000;
+static constexpr uint64_t FAR = 1ull << 24, TICKS = 50000;
 
 static double now_ns() {
   timespec t;

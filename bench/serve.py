@@ -1,7 +1,7 @@
 #!/usr/bin/env python3
 """Measures `timers serve` as a whole process, by its processor time (user and system).
 
-    serve.py PROGRAM [REPEATS]      e.g.  serve.py ./timers 7
+    serve.py PROGRAM [REPEATS] [--csv FILE]      e.g.  serve.py ./timers 7
 
 In bulk: each script of play.py, from a file, by `PROGRAM serve` and `PROGRAM play` in turn.
 One by one: 20,000 requests go down a pipe, each after the answer to the one before, to `PROGRAM serve` and to the C++
@@ -11,7 +11,8 @@ The outputs have to be the same bytes. The ratio is that of the medians, each le
 script, which is printed first. Status 1: an output differs, and nothing more is measured; 2: wrong arguments, or
 build/play_ref is not built.
 """
-import os, statistics, subprocess, sys
+import argparse, os, statistics, subprocess, sys
+import play
 from play import OPTIONS, REF, SCRIPTS, mixed, run
 
 REQUESTS = 20_000
@@ -45,6 +46,9 @@ def one_by_one(command, lines):
     return usage.ru_utime + usage.ru_stime, b"".join(text)
 
 
+ROWS = []  # of the CSV
+
+
 def compare(name, how, commands, given, repeats, bases):
     """Runs two commands in turn. Returns the median of each."""
     times, texts = {who: [] for who in commands}, set()
@@ -61,24 +65,35 @@ def compare(name, how, commands, given, repeats, bases):
     if bases:
         mine, other = (medians[who] - bases[who] for who in commands)
         told += f", ratio {mine / other:.2f}" if other > 0.002 else ", no ratio: too short"
+        (_, figures), = list(play.ratios(times, bases).items())
+        ROWS.append([name, "ratio", "ratio", *(f"{value:.3f}" for value in figures)])
+        for who, of in times.items():
+            ROWS.append([name, who, "ms", *(f"{1e3 * value:.3f}" for value in (medians[who], min(of), max(of)))])
     print(f"{name:16} {told}", flush=True)
     return medians
 
 
 def main():
-    if len(sys.argv) not in (2, 3) or not os.path.exists(REF):
-        print(f"usage: serve.py PROGRAM [REPEATS], with {REF} built", file=sys.stderr)
+    parser = argparse.ArgumentParser()
+    parser.add_argument("program")
+    parser.add_argument("repeats", type=int, nargs="?", default=7)
+    parser.add_argument("--csv")
+    options = parser.parse_args()
+    if not os.path.exists(REF):
+        print(f"{REF} is not there: run make in bench/", file=sys.stderr)
         sys.exit(2)
-    program, repeats = sys.argv[1], int(sys.argv[2]) if len(sys.argv) == 3 else 7
-    serve, play, peer = ([*words, *OPTIONS] for words in ([program, "serve"], [program, "play"], [REF, "--line"]))
-    bulk, single = {"serve": serve, "play": play}, {"serve": serve, "C++": peer}
+    program, repeats, load = options.program, options.repeats, os.getloadavg()[0]
+    serve, played, peer = ([*words, *OPTIONS] for words in ([program, "serve"], [program, "play"], [REF, "--line"]))
+    bulk, single = {"serve": serve, "play": played}, {"serve": serve, "C++": peer}
 
     bases = compare("empty", in_bulk, bulk, SCRIPTS["empty"], repeats, None)
     for name, script in SCRIPTS.items():
-        if name != "empty":
+        if not name.startswith(("empty", "jumps")):
             compare(name, in_bulk, bulk, script, repeats, bases)
     bases = compare("empty pipe", one_by_one, single, [], repeats, None)
     compare("one by one", one_by_one, single, requests(), repeats, bases)
+    if options.csv:
+        play.write(options.csv, [program, "serve"], repeats, load, ROWS)
 
 
 main()

@@ -1,8 +1,9 @@
 // How long single ticks take, with all that is due handed out, by the clock on the wall.
 //   tail FACILITY PENDING TICKS      PENDING timers, evenly over the next 2^20 ticks, then TICKS single ticks
 //   tail FACILITY PENDING moves      PENDING timers in one bucket of the third wheel, and the tick that
-//   empties it tail FACILITY PENDING growth     PENDING starts, one by one: those that make a table grow are
-//   the longest
+//                                    empties it
+//   tail FACILITY PENDING growth     PENDING starts, one by one: those that make a table grow are the longest
+//   tail FACILITY PENDING room       the same again, once all of them were stopped: no table grows
 // One line for each figure: its name and its nanoseconds.
 #include "facilities.hpp"
 #include <algorithm>
@@ -60,6 +61,12 @@ struct Tail {
     rows(took);
   }
 
+  template <class F> void room(F &facility, Random &random) {
+    for (size_t i = 0; i < pending; ++i) facility.start(i, 1 + random.below(1 << 20));
+    for (size_t i = 0; i < pending; ++i) facility.stop(i);
+    growth(facility, random);
+  }
+
   template <class F> void of() {
     F facility(pending);
     Random random{7};
@@ -67,6 +74,8 @@ struct Tail {
       moves(facility, random);
     else if (!strcmp(what, "growth"))
       growth(facility, random);
+    else if (!strcmp(what, "room"))
+      room(facility, random);
     else
       ticks(facility, random, strtoull(what, nullptr, 10));
   }
@@ -74,11 +83,12 @@ struct Tail {
 
 int main(int argc, char **argv) {
   if (argc != 4) {
-    fprintf(stderr, "tail FACILITY PENDING TICKS|moves|growth\n");
+    fprintf(stderr, "tail FACILITY PENDING TICKS|moves|growth|room\n");
     return 2;
   }
   Tail tail{strtoull(argv[2], nullptr, 10), argv[3]};
-  bool is_named = !strcmp(tail.what, "moves") || !strcmp(tail.what, "growth");
+  bool is_named =
+      !strcmp(tail.what, "moves") || !strcmp(tail.what, "growth") || !strcmp(tail.what, "room");
   if (!tail.pending || (!is_named && !strtoull(tail.what, nullptr, 10))) return 2;
   return with_facility(argv[1], tail) ? 0 : 2;
 }

@@ -1,0 +1,406 @@
+"""The tables of README.md and docs/scale.md, made from the files that page.py left in build/page."""
+import csv
+import json
+import os
+
+BENCH = ["wheels", "quiet", "steady"]  # the runs of build/bench with all candidates
+HIER, HASHED = "timers-hier", "timers-hash-64k"
+RIVALS = ["ref-hier", "ref-apart", "tokio-wheel"]  # of the hierarchy
+COLUMNS = [HIER, "again", "timers-c", "again-c", "ref-apart", "tokio-wheel", "libuv", HASHED, "ref-hash-64k"]
+ORDER = ["churn", "push-back", "expire", "quiet", "steady", "burst"]
+SCRIPTS = {
+    "starts": "1 MiB of starts that expire",
+    "mixed": "1 MiB of starts and stops",
+    "closes": "1 MiB of closes",
+    "jumps": "3,000 jumps of a million ticks, some 50 timers pending",
+    "jumps-one": "3,000 jumps of a million ticks, one timer between",
+}
+SCHEMES = {"jumps-hier": "hierarchy", "jumps-hashed": "hashed, 256 slots", "jumps-plain": "plain"}
+FACILITIES = ["timers-c", "ref-hier", "ref-apart", "ref-hash-64k", "libuv"]
+
+
+def rows_of(folder, name):
+    """The rows of a CSV, or none if it isn't there."""
+    path = os.path.join(folder, f"{name}.csv")
+    if not os.path.exists(path):
+        return []
+    with open(path, encoding="utf-8") as file:
+        return list(csv.DictReader(file))
+
+
+def bench_rows(folder):
+    """Those of build/bench, in the order of the page."""
+    rows = [row for name in BENCH for row in rows_of(folder, name)]
+    return sorted(
+        rows,
+        key=lambda row: next(at for at, prefix in enumerate(ORDER) if row["workload"].startswith(prefix)),
+    )
+
+
+def merge(folder, path):
+    """One CSV of all these rows, for the plot."""
+    rows = bench_rows(folder)
+    if rows:
+        with open(path, "w", newline="", encoding="utf-8") as file:
+            writer = csv.DictWriter(file, rows[0].keys())
+            writer.writeheader()
+            writer.writerows(rows)
+
+
+def markdown(head, rows):
+    lines = ["| " + " | ".join(head) + " |", "|---" * len(head) + "|"]
+    return "\n".join([*lines, *("| " + " | ".join(row) + " |" for row in rows)])
+
+
+def of_ns(value):
+    """A time in three digits at most, with its unit."""
+    for unit, size in (("s", 1e9), ("ms", 1e6), ("µs", 1e3), ("ns", 1)):
+        if value >= size or size == 1:
+            scaled = value / size
+            return f"{scaled:.1f} {unit}" if scaled < 10 else f"{scaled:.0f} {unit}"
+    return ""
+
+
+def spread(row, is_slower=False):
+    """A ratio of build/bench, bold if the product is slower."""
+    if row is None or not row["ratio"]:
+        return ""
+    text = f"{float(row['ratio']):.2f} ({float(row['ratio_low']):.2f}-{float(row['ratio_high']):.2f})"
+    return f"**{text}**" if is_slower else text
+
+
+AGAIN = {HIER: "again", "timers-c": "again-c"}  # the columns of the second run
+
+
+def wheels(folder):
+    """Ratios to ref-hier, with those of the second run. A candidate that was not run has no column."""
+    at = {(row["workload"], row["candidate"]): row for row in bench_rows(folder)}
+    for row in rows_of(folder, "again") + rows_of(folder, "again-quiet"):
+        if row["candidate"] in AGAIN:
+            at[row["workload"], AGAIN[row["candidate"]]] = row
+
+    def ratio(work, name):
+        row = at.get((work, name))
+        return float(row["ratio"]) if row and row["ratio"] else None
+
+    def is_slower(work, name):
+        if not name.startswith(("timers-", "again")) or ratio(work, name) is None:
+            return False
+        peers = [ratio(work, peer) for peer in (["ref-hash-64k"] if name == HASHED else RIVALS)]
+        return ratio(work, name) > min((peer for peer in peers if peer is not None), default=1e9)
+
+    works = list(dict.fromkeys(work for work, _ in at))
+    names = [name for name in COLUMNS if any(candidate == name for _, candidate in at)]
+    made = [
+        [work, *(spread(at.get((work, name)), is_slower(work, name)) for name in names)] for work in works
+    ]
+    return markdown(["", *("second run" if name.startswith("again") else name for name in names)], made)
+
+
+def units(folder):
+    """Nanoseconds and bytes of the three hierarchies and tokio's wheel, for docs/scale.md."""
+    at = {(row["workload"], row["candidate"]): row for row in bench_rows(folder)}
+    names = {
+        HIER: "`HierWheel`",
+        "timers-c": "the same, through the library for C",
+        "ref-hier": "C++ wheel",
+        "ref-apart": "C++ wheel, the same layout",
+        "tokio-wheel": "tokio's",
+    }
+    columns = [
+        ("steady-1M", "ns_per_unit", "ns a unit at 1,000,000"),
+        ("steady-10M", "ns_per_unit", "ns a unit at 10,000,000"),
+        ("steady-10M", "bytes_per_timer", "bytes a timer at 10,000,000"),
+        ("push-back-1M", "ns_per_unit", "ns a push-back at 1,000,000"),
+    ]
+
+    def cell(work, name, column):
+        row = at.get((work, name))
+        return f"{float(row[column]):.0f}" if row and row[column] else ""
+
+    made = [
+        [title, *(cell(work, name, column) for work, column, _ in columns)] for name, title in names.items()
+    ]
+    return markdown(["", *(title for _, _, title in columns)], [row for row in made if any(row[1:])])
+
+
+def bytes_a_timer(folder):
+    rows = [
+        row for row in bench_rows(folder) if row["bytes_per_timer"] and row["workload"].startswith("steady")
+    ]
+    at = {(row["workload"], row["candidate"]): row["bytes_per_timer"] for row in rows}
+    names = [
+        name
+        for name in [HIER, HASHED, "ref-hier", "ref-apart", "ref-hash-64k", "tokio-wheel"]
+        if any(n == name for _, n in at)
+    ]
+    works = list(dict.fromkeys(work for work, _ in at))
+    return markdown(
+        ["Bytes a timer", *names], [[work, *(at.get((work, name), "") for name in names)] for work in works]
+    )
+
+
+def figures(row):
+    return float(row["median"]), float(row["low"]), float(row["high"])
+
+
+def ratio_cell(row, is_peer=False):
+    """The ratio with its spread, bold if it is the product's and above 1."""
+    median, low, high = figures(row)
+    text = f"{median:.2f} ({low:.2f}-{high:.2f})" if median < 100 else f"{median:.0f} ({low:.0f}-{high:.0f})"
+    return f"**{text}**" if median > 1 and not is_peer else text
+
+
+def play(folder):
+    """The program against its three peers."""
+    rows = rows_of(folder, "play")
+    at = {(row["run"], row["measure"], row["unit"]): row for row in rows}
+    peers = ["play_ref", "play_ref --reserve", "play_tuned"]
+    made = []
+    for script in (name for name in SCRIPTS if (name, "program", "ms") in at):
+        times = [f"{figures(at[script, who, 'ms'])[0]:.1f} ms" for who in ("program", *peers)]
+        made.append([SCRIPTS[script], *times, *(ratio_cell(at[script, peer, "ratio"]) for peer in peers)])
+    head = ["Script", "timers", *(f"`{peer}`" for peer in peers), *(f"ratio to `{peer}`" for peer in peers)]
+    return markdown(head, made)
+
+
+def jumps(folder):
+    """Jumps of three schemes against the C++ hierarchy."""
+    made = []
+    for name, scheme in SCHEMES.items():
+        at = {(row["run"], row["measure"], row["unit"]): row for row in rows_of(folder, name)}
+        for script in ("jumps-one", "jumps"):
+            if (script, "program", "ms") in at:
+                times = [f"{figures(at[script, who, 'ms'])[0]:.1f} ms" for who in ("program", "play_ref")]
+                made.append(
+                    [f"{scheme}: {SCRIPTS[script]}", *times, ratio_cell(at[script, "play_ref", "ratio"])]
+                )
+    return markdown(["Scheme and script", "timers", "`play_ref`, a hierarchy", "ratio"], made)
+
+
+def serve(folder):
+    """Line by line: in bulk against `play`, one by one against the C++ program."""
+    at = {(row["run"], row["measure"]): row for row in rows_of(folder, "serve")}
+    made = []
+    for name in dict.fromkeys(run for run, _ in at):
+        mine, peer = (
+            of_ns(1e6 * figures(at[name, who])[0]) if (name, who) in at else None for who in ("serve", "play")
+        )
+        peer = peer or of_ns(1e6 * figures(at[name, "C++"])[0]) + " (`play_ref --line`)"
+        title = SCRIPTS.get(name, "20,000 starts and stops down a pipe, one by one")
+        made.append([title, mine, peer, ratio_cell(at[name, "ratio"])])
+    return markdown(["Stream", "`serve`", "`play`", "ratio"], made)
+
+
+def line_tables(folder):
+    """The desk; lines and threads."""
+    rows = rows_of(folder, "lines")
+    ratio = {row["measure"]: row for row in rows if row["unit"] == "ratio"}
+    least = {(row["measure"], row["facility"]): float(row["median"]) for row in rows if row["unit"] == "ns"}
+    desks = list(dict.fromkeys(name.rsplit(", ", 1)[0] for name in ratio if name.startswith("desk")))
+    made = [
+        [
+            desk,
+            f"{least[f'{desk}, single calls', 'peer']:.0f} ns",
+            *(
+                f"{least[f'{desk}, {kind}', 'timers']:.0f} ns, {ratio_cell(ratio[f'{desk}, {kind}'])}"
+                for kind in ("single calls", "turns")
+            ),
+        ]
+        for desk in desks
+    ]
+    head = ["Row", "The facility alone, an event", "Single calls", "Turns"]
+    desk = markdown(head, made) if made else None
+    others = [name for name in ratio if not name.startswith("desk")]
+    made = [
+        [
+            name,
+            of_ns(least[name, "timers"]),
+            of_ns(least[name, "peer"]),
+            ratio_cell(ratio[name], name.startswith("C++")),
+        ]
+        for name in others
+    ]
+    return desk, markdown(["Row", "The row's own", "Peer", "Ratio"], made)
+
+
+def scale(folder):
+    """Nanoseconds of an operation by the number of pending timers."""
+    rows = rows_of(folder, "scale")
+    at = {(row["facility"], row["pending"], row["measure"]): row for row in rows}
+    sizes = list(dict.fromkeys(row["pending"] for row in rows))
+    names = [name for name in FACILITIES if any(row["facility"] == name for row in rows)]
+    made = []
+    for measure in ("stop", "start", "restart", "tick"):
+        for name in names:
+            cells = [at.get((name, size, measure)) for size in sizes]
+            made.append(
+                [
+                    measure,
+                    name,
+                    *(
+                        f"{float(cell['median']):.{0 if float(cell['median']) >= 10 else 1}f}" if cell else ""
+                        for cell in cells
+                    ),
+                ]
+            )
+    return markdown(["ns", "", *(f"{int(size):,} pending" for size in sizes)], made)
+
+
+def tail(folder):
+    """How long single ticks and starts take."""
+    rows = rows_of(folder, "tail")
+    at = {(row["facility"], row["run"], row["measure"]): row for row in rows}
+    names = [name for name in FACILITIES if any(row["facility"] == name for row in rows)]
+    titles = {"ticks": "a tick", "growth": "a start, the table grows", "room": "a start, with room"}
+    ranks = ["p50", "p99", "p99.9", "p99.99", "longest"]
+    made = []
+    for run, title in titles.items():
+        for name in names:
+            cells = [at.get((name, run, rank)) for rank in ranks]
+            if any(cells):
+                made.append([title, name, *(of_ns(float(cell["median"])) if cell else "" for cell in cells)])
+    for name in names:
+        if (name, "moves", "longest") in at:
+            made.append(
+                [
+                    "the tick that moves a million",
+                    name,
+                    "",
+                    "",
+                    "",
+                    "",
+                    of_ns(float(at[name, "moves", "longest"]["median"])),
+                ]
+            )
+    return markdown(["", "", *ranks], made)
+
+
+AIMS = [  # what is aimed at, the most that the ratio may be, and where it stands: file, workload or run, peer
+    ("10,000 timers of one tick, 1,000 ahead, to the C++ wheel", 1, "wheels", "burst-1000", HIER),
+    ("10,000 timers of one tick, 5,000 ahead, to the C++ wheel", 1, "wheels", "burst-5000", HIER),
+    ("a million pending, each of which expires, to the C++ wheel", 1, "wheels", "steady-1M", HIER),
+    ("a quiet tick, to the C++ wheel", 1.05, "again-quiet", "quiet-1k", HIER),
+    ("jumps, plain, to the C++ hierarchy", 3, "jumps-plain", "jumps-one", "play_ref"),
+    ("jumps, hashed, 256 slots, to the C++ hierarchy", 100, "jumps-hashed", "jumps-one", "play_ref"),
+    ("starts, to the tuned program", 0.8, "play", "starts", "play_tuned"),
+    ("starts and stops, to the tuned program", 0.8, "play", "mixed", "play_tuned"),
+    ("closes, to the tuned program", 0.8, "play", "closes", "play_tuned"),
+    ("desk, 8 clients, single calls, to the facility", 1.5, "lines", "desk, 8 clients, single calls", None),
+    ("desk, 8 clients, turns, to the facility", 2, "lines", "desk, 8 clients, turns", None),
+    ("threads on one core, to the C++ program", 1.3, "lines", "threads, 1 core", None),
+]
+
+
+def reached(folder, name, work, peer):
+    """The median of a ratio, or None."""
+    for row in rows_of(folder, name):
+        if "workload" in row and (row["workload"], row["candidate"]) == (work, peer):
+            return float(row["ratio"])
+        if row.get("unit") == "ratio" and (row["run"], row["measure"]) == (
+            (work, peer) if peer else ("", work)
+        ):
+            return float(row["median"])
+    return None
+
+
+def aims(folder):
+    """What was aimed at, and what was reached."""
+    made = []
+    for title, most, *where, peer in AIMS:
+        ratio = reached(folder, *where, peer)
+        if ratio is None and peer == HIER:
+            title, ratio = f"{title}, through the library for C", reached(folder, *where, "timers-c")
+        if ratio is not None:
+            shown = f"{ratio:.2f}" if ratio < 100 else f"{ratio:,.0f}"
+            made.append(
+                [
+                    title,
+                    f"{most:g}",
+                    shown if ratio <= most else f"**{shown}**",
+                    "yes" if ratio <= most else "**no**",
+                ]
+            )
+    return markdown(["Ratio", "At most", "Reached", "Met"], made)
+
+
+def cost(folder):
+    """What a thousand million timers cost, from these figures, for docs/scale.md; None if one is missing."""
+    rows = {row["candidate"]: row for row in bench_rows(folder) if row["workload"] == "push-back-1M"}
+    push = rows.get(HIER) or rows.get("timers-c")
+    least = {
+        (row["measure"], row["facility"]): float(row["median"])
+        for row in rows_of(folder, "lines")
+        if row["unit"] == "ns"
+    }
+    calls = "desk, 64 clients, single calls"
+    if not push or (calls, "timers") not in least:
+        return None
+    restart, item = float(push["ns_per_unit"]), least["line, requests one way", "timers"]
+    # An event is a request or a word: a restart's request and its answer are two.
+    desk = 2 * (least[calls, "timers"] - least[calls, "peer"])
+    a_core = 1e9 / 30 / 64
+    shares = [a_core * ns / 1e7 for ns in (restart, 2 * item, desk)]
+    return "\n".join(
+        [
+            "    10^9 / 30 s                    = 33,300,000 restarts a second, and 0.33 million expiries",
+            f"    over 64 cores                  =    {a_core:,.0f} a second per core",
+            f"    a restart: {restart:.0f} ns              =  {shares[0]:.0f} % of a core",
+            "      (two look-ups that miss, and the links of up to four neighbours, of which most miss)",
+            f"    ring in, ring out: 2 x {item:.0f} ns   =  {shares[1]:.0f} %",
+            f"    what the desk adds: {desk:.0f} ns      =  {shares[2]:.0f} %",
+            "    ticks of 1 ms: 16 facilities x 1,000 x some 20 ns   =  0.03 % (guess)",
+            "",
+            f"So the timers take **some {sum(shares):.0f} % of the processor**: the rest is the connections'.",
+        ]
+    )
+
+
+def setting(folder):
+    """Where and when, with the load."""
+    found = []
+    for name in sorted(os.listdir(folder)):
+        if name.endswith(".json"):
+            with open(os.path.join(folder, name), encoding="utf-8") as file:
+                found.append(json.load(file))
+    if not found:
+        return ""
+    others, steal = (max(one[key] for one in found) for key in ("others", "steal"))
+    busy = " **Other work ran beside it: read the ratios with their spreads.**" if others > 0.5 else ""
+    return (
+        f"{found[0]['date']}, on the code of this page's commit; {found[0]['machine']}. During no part did other "
+        f"processes take more than {others:.1f} of the cores, nor the host's neighbours more than {steal:.1f}.{busy}"
+    )
+
+
+def instructions(folder):
+    """The table that instructions.py printed."""
+    path = os.path.join(folder, "instructions.log")
+    if not os.path.exists(path):
+        return None
+    with open(path, encoding="utf-8") as file:
+        lines = [line.rstrip("\n") for line in file if line.startswith("|")]
+    return "\n".join(lines) if len(lines) > 2 else None
+
+
+def sections(folder):
+    """Each section by the name of its marker."""
+    made = {"setting": setting(folder)}
+    if counted := instructions(folder):
+        made["instructions"] = counted
+    if bench_rows(folder):
+        made |= {"wheels": wheels(folder), "bytes": bytes_a_timer(folder), "units": units(folder)}
+    if rows_of(folder, "play"):
+        made["play"] = play(folder)
+    if rows_of(folder, "jumps-hier"):
+        made["jumps"] = jumps(folder)
+    if rows_of(folder, "serve"):
+        made["serve"] = serve(folder)
+    if rows_of(folder, "lines"):
+        made["desk"], made["threads"] = line_tables(folder)
+        made["aims"], made["cost"] = aims(folder), cost(folder)
+    if rows_of(folder, "scale"):
+        made["scale"] = scale(folder)
+    if rows_of(folder, "tail"):
+        made["tail"] = tail(folder)
+    return {name: text for name, text in made.items() if text}

@@ -1,0 +1,251 @@
+// The program `timers play` once more, in C++ over the hand-tuned hierarchy of wheels, and tuned as a process:
+// a stronger peer than play_ref.cpp. Buffers get their size once, each line is played as soon as it is parsed,
+// numbers are written two digits at a time straight into the output, and room is made once for each line of it.
+//
+// It keeps the promise of `timers play`: the whole script is read, parsed and played before a byte is written;
+// a bad line, an input that is too long or a lack of memory writes nothing. Options: --clients N, --capacity N,
+// --first-tick T; others are passed over.
+#include "wheels_ref.hpp"
+#include <algorithm>
+#include <cstdio>
+#include <cstdlib>
+#include <cstring>
+#include <new>
+#include <unistd.h>
+
+static const uint64_t LAST = (1ull << 60) - 1;
+static const size_t MOST = 1048576;  // bytes of a script
+static const size_t LINE = 128;      // no line of output is longer
+
+static int fail(const char *text) {
+  fputs(text, stderr);
+  return 1;
+}
+
+static const char PAIRS[] =
+    "0001020304050607080910111213141516171819202122232425262728293031323334353637383940414243444546474849"
+    "5051525354555657585960616263646566676869707172737475767778798081828384858687888990919293949596979899";
+
+// The output: one piece of memory, grown by realloc.
+static struct Out {
+  char *base = nullptr, *at = nullptr, *end = nullptr;
+
+  void room(size_t n) {
+    if ((size_t)(end - at) >= n) return;
+    size_t used = (size_t)(at - base), size = std::max(2 * (size_t)(end - base), used + n);
+    char *grown = (char *)realloc(base, size);
+    if (!grown) throw std::bad_alloc();
+    base = grown, at = grown + used, end = grown + size;
+  }
+  template <size_t N> void word(const char (&text)[N]) {
+    memcpy(at, text, N - 1);
+    at += N - 1;
+  }
+  void item(uint64_t n) {
+    *at++ = ' ';
+    if (n < 10) {
+      *at++ = char('0' + n);
+      return;
+    }
+    char digits[20], *first = digits + 20;
+    for (; n >= 100; n /= 100) memcpy(first -= 2, PAIRS + 2 * (n % 100), 2);
+    if (n >= 10)
+      memcpy(first -= 2, PAIRS + 2 * n, 2);
+    else
+      *--first = char('0' + n);
+    size_t count = (size_t)(digits + 20 - first);
+    memcpy(at, first, count);
+    at += count;
+  }
+  template <class... Numbers> void items(Numbers... numbers) {
+    (item(numbers), ...);
+    *at++ = '\n';
+  }
+} out;
+
+// The facility: the wheel, the numbers of the clients, and the handles by serial.
+struct Facility {
+  struct Given {
+    Handle handle;
+    uint64_t client;
+  };
+  Hier<true> wheel{0};
+  uint64_t clients, capacity;
+  std::vector<uint64_t> next;
+  std::vector<Given> given;  // by serial - 1
+  bool closed = false;
+
+  Facility(uint64_t clients, uint64_t capacity, uint64_t first)
+      : clients(clients), capacity(capacity), next(clients, 1) {
+    wheel.clock = first;
+  }
+
+  template <size_t N> void refuse(uint64_t client, uint64_t number, const char (&reason)[N]) {
+    out.word("refused");
+    out.item(client);
+    out.item(number);
+    out.word(reason);
+  }
+  // Whether the request is the client's next one; if not, it is refused.
+  bool admit(uint64_t client, uint64_t number) {
+    if (closed)
+      refuse(client, number, " closed\n");
+    else if (client >= clients)
+      refuse(client, number, " no-client\n");
+    else if (number < next[client])
+      refuse(client, number, " repeated\n");
+    else if (number > next[client])
+      refuse(client, number, " ahead\n");
+    else
+      return ++next[client], true;
+    return false;
+  }
+  void start(uint64_t client, uint64_t number, uint64_t interval, uint64_t action) {
+    out.room(LINE);
+    if (!admit(client, number)) return;
+    if (interval == 0) return refuse(client, number, " zero-interval\n");
+    if (interval > LAST - wheel.clock) return refuse(client, number, " too-late\n");
+    if (wheel.len() == capacity) return refuse(client, number, " full\n");
+    uint64_t serial = given.size() + 1, deadline = wheel.clock + interval;
+    given.push_back({wheel.start(Timer{serial, client, number, deadline, action}), client});
+    out.word("started");
+    out.items(client, number, serial, deadline);
+  }
+  void stop(uint64_t client, uint64_t number, uint64_t serial) {
+    out.room(LINE);
+    if (!admit(client, number)) return;
+    Timer timer;
+    bool is_own = serial != 0 && serial <= given.size() && given[serial - 1].client == client;
+    if (!is_own || !wheel.stop(given[serial - 1].handle, timer)) return refuse(client, number, " no-such\n");
+    out.word("stopped");
+    out.items(client, number, serial);
+  }
+  void ticks(uint64_t left) {
+    Timer timer;
+    out.room(LINE);
+    if (closed) return out.word("tick refused closed\n");
+    while (left && wheel.clock < LAST) {
+      left -= wheel.advance(std::min(left, LAST - wheel.clock));
+      while (wheel.expire(timer)) {
+        out.room(2 * LINE);
+        out.word("expired");
+        out.items(wheel.clock, timer.client, timer.serial, timer.action);
+      }
+    }
+    if (left) out.word("tick refused clock-end\n");
+  }
+  void close() {
+    out.room(LINE);
+    if (closed) return out.word("close refused closed\n");
+    closed = true;
+    std::vector<Timer> all;
+    all.reserve(wheel.len());
+    for (auto &node : wheel.l.nodes)
+      if (node.t.serial) all.push_back(node.t);
+    std::sort(all.begin(), all.end(), [](const Timer &x, const Timer &y) {
+      return x.deadline != y.deadline ? x.deadline < y.deadline : x.serial < y.serial;
+    });
+    out.word("closed");
+    out.items(all.size());
+    for (auto &timer : all) {
+      out.room(LINE);
+      out.word("returned");
+      out.items(timer.client, timer.serial, timer.deadline, timer.action);
+    }
+    wheel.l.count = 0;
+  }
+  void end() {
+    out.room(LINE);
+    out.word("end");
+    out.items(wheel.clock, wheel.len());
+  }
+};
+
+// The lines. Bytes that are no digits stand behind the script, so no bound is tested at each byte.
+struct Reader {
+  const char *at;
+
+  bool number(uint64_t &n, char after) {
+    const char *first = at;
+    uint64_t value = (unsigned char)(*at - '0');
+    if (value > 9) return false;
+    for (++at; first[0] != '0'; ++at) {
+      unsigned digit = (unsigned char)(*at - '0');
+      if (digit > 9) break;
+      if (at - first >= 19) return false;
+      value = value * 10 + digit;
+    }
+    if (value > LAST || *at != after) return false;
+    ++at;
+    n = value;
+    return true;
+  }
+  template <size_t N> bool text(const char (&wanted)[N]) {
+    if (memcmp(at, wanted, N - 1)) return false;
+    at += N - 1;
+    return true;
+  }
+  // Plays the line at the front; false if it is a bad one, and then nothing is played.
+  bool play(Facility &facility) {
+    uint64_t a, b, c, d;
+    if (text("start ")) {
+      if (!(number(a, ' ') && number(b, ' ') && number(c, ' ') && number(d, '\n'))) return false;
+      facility.start(a, b, c, d);
+    } else if (text("stop ")) {
+      if (!(number(a, ' ') && number(b, ' ') && number(c, '\n'))) return false;
+      facility.stop(a, b, c);
+    } else if (text("tick ")) {
+      if (!(number(a, '\n') && a >= 1 && a <= 1000000)) return false;
+      facility.ticks(a);
+    } else if (text("close\n")) {
+      facility.close();
+    } else {
+      return false;
+    }
+    return true;
+  }
+};
+
+static int play(const char *script, size_t length, Facility &facility) {
+  out.room(4 * length + 4096);  // pages that are not written cost nothing
+  Reader reader{script};
+  for (size_t line = 1; reader.at < script + length; ++line)
+    if (!reader.play(facility)) {
+      fprintf(stderr, "bad line %zu\n", line);
+      return 1;
+    }
+  facility.end();
+  for (const char *from = out.base; from < out.at;) {
+    ssize_t count = write(1, from, (size_t)(out.at - from));
+    if (count <= 0) return fail("write failed\n");
+    from += count;
+  }
+  return 0;
+}
+
+int main(int argc, char **argv) {
+  uint64_t clients = 64, capacity = 1024, first = 0;
+  for (int i = 1; i < argc; ++i) {
+    const char *value = i + 1 < argc ? argv[i + 1] : "0";
+    if (!strcmp(argv[i], "--clients")) clients = strtoull(value, nullptr, 10);
+    if (!strcmp(argv[i], "--capacity")) capacity = strtoull(value, nullptr, 10);
+    if (!strcmp(argv[i], "--first-tick")) first = strtoull(value, nullptr, 10);
+  }
+  char *script = (char *)malloc(MOST + 64);
+  if (!script) return fail("out of memory\n");
+  size_t length = 0;
+  for (ssize_t count; length <= MOST; length += (size_t)count) {
+    count = read(0, script + length, MOST + 1 - length);
+    if (count < 0) return fail("read failed\n");
+    if (count == 0) break;
+  }
+  if (length > MOST) return fail("too long\n");
+  memset(script + length, 0, 16);
+  try {
+    Facility facility(clients, capacity, first);
+    // The process ends here, and nothing is freed one by one.
+    _exit(play(script, length, facility));
+  } catch (const std::bad_alloc &) {
+    return fail("out of memory\n");
+  }
+}
