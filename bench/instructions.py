@@ -8,10 +8,10 @@
 Each count is that of a run of build/count, inside the candidate's function alone. If a workload begins with a
 preparation, the count of the preparation alone is subtracted. A peer that this machine lacks has empty cells.
 
---check names each row that differs from the page by more than 3 %. Status 1: a row of the product does, or is not
-in the page; peers are built by other compilers on other machines, so theirs are only named. Status 2: wrong
-arguments, or a program is not there. Without valgrind it says so and counts nothing: status 0 with --check,
-otherwise 2.
+--check names each row that differs from the page by more than 3 %, for the candidates that the page has. Status 1:
+a row of the product does, or is not in the page. Peers are built by other compilers on other machines, so theirs
+are only named. Status 2: wrong arguments, or a program is not there. Without valgrind it says so and counts
+nothing: status 0 with --check, otherwise 2.
 """
 import argparse
 import os
@@ -102,7 +102,10 @@ def count(rows, candidates, jobs):
 
 
 def table(counted, candidates):
-    """As Markdown."""
+    """As Markdown. A candidate without a number has no column."""
+    kept = [at for at in range(len(candidates)) if any(cells[at] is not None for cells in counted.values())]
+    candidates = [candidates[at] for at in kept]
+    counted = {row: [cells[at] for at in kept] for row, cells in counted.items()}
     lines = [f"| {TITLE} | " + " | ".join(candidates) + " |", "|---" * (len(candidates) + 1) + "|"]
     for row, cells in counted.items():
         lines.append(
@@ -134,7 +137,7 @@ def differences(counted, candidates, page):
         for candidate, cell in zip(candidates, cells):
             stands = page.get((row, candidate))
             is_product = candidate.startswith("timers-")
-            if cell is None:
+            if cell is None or all(name != candidate for _, name in page):
                 continue
             if stands is None:
                 yield f"{row}, {candidate}: {cell:.1f} instructions, and no such row in the page", is_product

@@ -6,7 +6,19 @@ import os
 BENCH = ["wheels", "quiet", "steady"]  # the runs of build/bench with all candidates
 HIER, HASHED = "timers-hier", "timers-hash-64k"
 RIVALS = ["ref-hier", "ref-apart", "tokio-wheel"]  # of the hierarchy
-COLUMNS = [HIER, "again", "timers-c", "again-c", "ref-apart", "tokio-wheel", "libuv", HASHED, "ref-hash-64k"]
+COLUMNS = [
+    HIER,
+    "again",
+    "busy",
+    "timers-c",
+    "again-c",
+    "busy-c",
+    "ref-apart",
+    "tokio-wheel",
+    "libuv",
+    HASHED,
+    "ref-hash-64k",
+]
 ORDER = ["churn", "push-back", "expire", "quiet", "steady", "burst"]
 SCRIPTS = {
     "starts": "1 MiB of starts that expire",
@@ -69,6 +81,7 @@ def spread(row, is_slower=False):
     return f"**{text}**" if is_slower else text
 
 
+BUSY = {HIER: "busy", "timers-c": "busy-c"}
 AGAIN = {HIER: "again", "timers-c": "again-c"}  # the columns of the second run
 
 
@@ -79,12 +92,16 @@ def wheels(folder):
         if row["candidate"] in AGAIN:
             at[row["workload"], AGAIN[row["candidate"]]] = row
 
+    for row in rows_of(folder, "busy"):  # an earlier run beside other work, kept by hand
+        if row["candidate"] in BUSY:
+            at[row["workload"], BUSY[row["candidate"]]] = row
+
     def ratio(work, name):
         row = at.get((work, name))
         return float(row["ratio"]) if row and row["ratio"] else None
 
     def is_slower(work, name):
-        if not name.startswith(("timers-", "again")) or ratio(work, name) is None:
+        if not name.startswith(("timers-", "again", "busy")) or ratio(work, name) is None:
             return False
         peers = [ratio(work, peer) for peer in (["ref-hash-64k"] if name == HASHED else RIVALS)]
         return ratio(work, name) > min((peer for peer in peers if peer is not None), default=1e9)
@@ -94,7 +111,8 @@ def wheels(folder):
     made = [
         [work, *(spread(at.get((work, name)), is_slower(work, name)) for name in names)] for work in works
     ]
-    return markdown(["", *("second run" if name.startswith("again") else name for name in names)], made)
+    titles = {"again": "second run", "busy": "busy machine"}
+    return markdown(["", *(titles.get(name.split("-")[0], name) for name in names)], made)
 
 
 def units(folder):
@@ -321,7 +339,7 @@ def aims(folder):
                     "yes" if ratio <= most else "**no**",
                 ]
             )
-    return markdown(["Ratio", "At most", "Reached", "Met"], made)
+    return markdown(["Ratio", "At most", "Reached", "Met"], made) if made else None
 
 
 def cost(folder):
@@ -385,7 +403,7 @@ def instructions(folder):
 
 def sections(folder):
     """Each section by the name of its marker."""
-    made = {"setting": setting(folder)}
+    made = {"setting": setting(folder), "aims": aims(folder)}
     if counted := instructions(folder):
         made["instructions"] = counted
     if bench_rows(folder):
@@ -398,7 +416,7 @@ def sections(folder):
         made["serve"] = serve(folder)
     if rows_of(folder, "lines"):
         made["desk"], made["threads"] = line_tables(folder)
-        made["aims"], made["cost"] = aims(folder), cost(folder)
+        made["cost"] = cost(folder)
     if rows_of(folder, "scale"):
         made["scale"] = scale(folder)
     if rows_of(folder, "tail"):
