@@ -92,7 +92,7 @@ def wheels(folder):
         if row["candidate"] in AGAIN:
             at[row["workload"], AGAIN[row["candidate"]]] = row
 
-    for row in rows_of(folder, "busy"):  # an earlier run beside other work, kept by hand
+    for row in rows_of(folder, "busy"):  # a shorter run at another time, whose file was kept
         if row["candidate"] in BUSY:
             at[row["workload"], BUSY[row["candidate"]]] = row
 
@@ -111,7 +111,7 @@ def wheels(folder):
     made = [
         [work, *(spread(at.get((work, name)), is_slower(work, name)) for name in names)] for work in works
     ]
-    titles = {"again": "second run", "busy": "busy machine"}
+    titles = {"again": "second run", "busy": "third run"}
     return markdown(["", *(titles.get(name.split("-")[0], name) for name in names)], made)
 
 
@@ -120,7 +120,7 @@ def units(folder):
     at = {(row["workload"], row["candidate"]): row for row in bench_rows(folder)}
     names = {
         HIER: "`HierWheel`",
-        "timers-c": "the same, through the library for C",
+        "timers-c": "`HierWheel`, through the library for C",
         "ref-hier": "C++ wheel",
         "ref-apart": "C++ wheel, the same layout",
         "tokio-wheel": "tokio's",
@@ -149,7 +149,7 @@ def bytes_a_timer(folder):
     at = {(row["workload"], row["candidate"]): row["bytes_per_timer"] for row in rows}
     names = [
         name
-        for name in [HIER, HASHED, "ref-hier", "ref-apart", "ref-hash-64k", "tokio-wheel"]
+        for name in [HIER, HASHED, "timers-c", "ref-hier", "ref-apart", "ref-hash-64k", "tokio-wheel"]
         if any(n == name for _, n in at)
     ]
     works = list(dict.fromkeys(work for work, _ in at))
