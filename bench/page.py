@@ -152,7 +152,8 @@ def write():
     ):
         if os.path.exists(file(f"{name}.csv")):
             plot = [sys.executable, os.path.join(HERE, f"{program}.py"), file(f"{name}.csv")]
-            subprocess.run([*plot, os.path.join(DOCS, f"{name}.svg")], check=True)
+            note = ["", page_tables.machine_note(FOLDER)] if name == "bench" else []
+            subprocess.run([*plot, os.path.join(DOCS, f"{name}.svg"), *note], check=True)
     print("written: " + ", ".join(sections))
 
 

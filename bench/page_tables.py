@@ -374,13 +374,26 @@ def cost(folder):
     )
 
 
-def setting(folder):
-    """Where and when, with the load."""
+def settings(folder):
+    """What each part left about the machine."""
     found = []
     for name in sorted(os.listdir(folder)):
         if name.endswith(".json"):
             with open(os.path.join(folder, name), encoding="utf-8") as file:
                 found.append(json.load(file))
+    return found
+
+
+def machine_note(folder):
+    """One line for a plot."""
+    found = settings(folder)
+    busy = "; other work ran beside it" if found and max(one["others"] for one in found) > 0.5 else ""
+    return f"{found[0]['machine']}, {found[0]['date']}{busy}" if found else ""
+
+
+def setting(folder):
+    """Where and when, with the load."""
+    found = settings(folder)
     if not found:
         return ""
     others, steal = (max(one[key] for one in found) for key in ("others", "steal"))

@@ -1,7 +1,9 @@
 #!/usr/bin/env python3
 """Draws results.csv as an SVG: for each workload the ratio of each candidate to the reference, with its spread.
 
-    plot.py build/results.csv ../docs/bench.svg [CANDIDATE,CANDIDATE..]
+    plot.py build/results.csv ../docs/bench.svg [CANDIDATE,CANDIDATE..] [NOTE]
+
+NOTE is written below the axis: the machine, and what else it did.
 
 The axis is logarithmic, and less is better. A dot is the median of the repeats, the line through it goes from the least
 to the greatest ratio. What is beyond the axis is drawn at its end, as a triangle.
@@ -65,7 +67,7 @@ def grid(bottom):
     return parts
 
 
-def drawing(rows, shown):
+def drawing(rows, shown, note):
     works = list(dict.fromkeys(r["workload"] for r in rows))
     cell = {(r["workload"], r["candidate"]): r for r in rows if r["ratio"]}
     shown = [(n, c) for n, c in shown if any((w, n) in cell for w in works)]
@@ -83,21 +85,22 @@ def drawing(rows, shown):
             parts.append(line(x_of(float(r["ratio_low"])), at, x_of(float(r["ratio_high"])), at, colour, 1.4))
             parts.append(mark(float(r["ratio"]), at, colour))
     parts.append(text(LEFT, bottom + 18, "processor time as a ratio to ref-hier, the hand-tuned C++ wheel (at 1); less is better", "start", "#555"))
-    height = bottom + 30
+    parts.append(text(LEFT, bottom + 36, note, "start", "#555"))
+    height = bottom + (48 if note else 30)
     head = f'<svg xmlns="http://www.w3.org/2000/svg" width="{WIDTH}" height="{height}" viewBox="0 0 {WIDTH} {height}" font-family="sans-serif">'
     return "\n".join([head, f'<rect width="{WIDTH}" height="{height}" fill="#fff"/>'] + parts + ["</svg>", ""])
 
 
 def main():
-    if len(sys.argv) not in (3, 4):
+    if len(sys.argv) not in (3, 4, 5):
         print(__doc__, file=sys.stderr)
         sys.exit(2)
     with open(sys.argv[1]) as f:
         rows = list(csv.DictReader(f))
     colours = dict(SHOWN)
-    names = sys.argv[3].split(",") if len(sys.argv) == 4 else [n for n, _ in SHOWN]
+    names = sys.argv[3].split(",") if sys.argv[3:4] not in ([], [""]) else [n for n, _ in SHOWN]
     with open(sys.argv[2], "w") as f:
-        f.write(drawing(rows, [(n, colours.get(n, "#444")) for n in names]))
+        f.write(drawing(rows, [(n, colours.get(n, "#444")) for n in names], (sys.argv[4:5] or [""])[0]))
 
 
 main()
