@@ -30,7 +30,8 @@ all_left : (tick : ℕ) (t : Timer) (es : List Entry) → tick < t.deadline → 
 all_left tick t [] h f = refl
 all_left tick t (e ∷ es) h f = rw (not_due_behind tick t e.timer h f.0) (ap (λ r. e ∷ r) (all_left tick t es h f.1))
 
-front_is_due : (tick : ℕ) (es : List Entry) → IsOrdered (timers_of es) → AllByRecursion (λ t. tick ≤ t.deadline) (timers_of es) → es ≡ entries_due tick es ++ entries_left tick es
+front_is_due : (tick : ℕ) (es : List Entry) → IsOrdered (timers_of es) → AllByRecursion (λ t. tick ≤ t.deadline) (timers_of es)
+    → es ≡ entries_due tick es ++ entries_left tick es
 front_is_due tick [] o a = refl
 front_is_due tick (e ∷ es) o a = elim (either (is_due_at tick e.timer)) [
   | inl h ↦ rw h (ap (λ r. e ∷ r) (front_is_due tick es o.1 a.1))
@@ -38,23 +39,37 @@ front_is_due tick (e ∷ es) o a = elim (either (is_due_at tick e.timer)) [
       rw (h, none_due tick e.timer es later o.0, all_left tick e.timer es later o.0) refl
 ]
 
-not_before_next : (last_tick now last_serial : ℕ) (ts : List Timer) → AllByRecursion (IsPending last_tick now last_serial) ts → AllByRecursion (λ t. now + 1 ≤ t.deadline) ts
+not_before_next : (last_tick now last_serial : ℕ) (ts : List Timer) → AllByRecursion (IsPending last_tick now last_serial) ts
+    → AllByRecursion (λ t. now + 1 ≤ t.deadline) ts
 not_before_next last_tick now last_serial [] a = tt
-not_before_next last_tick now last_serial (t ∷ ts) a = (let h : now < t.deadline = a.0.later in omega arith, not_before_next last_tick now last_serial ts a.1)
+not_before_next last_tick now last_serial (t ∷ ts) a = (
+  let h : now < t.deadline = a.0.later
+      in omega arith,
+  not_before_next last_tick now last_serial ts a.1,
+)
 
-pub tick_cuts_front : (w : WheelState) → IsWellFormed w → w.pending ≡ entries_due (w.now + 1) w.pending ++ entries_left (w.now + 1) w.pending
-tick_cuts_front w k = front_is_due (w.now + 1) w.pending k.ordered (not_before_next w.last_tick w.now w.last_serial (timers_of w.pending) k.each)
+pub tick_cuts_front : (w : WheelState) → IsWellFormed w → w.pending
+    ≡ entries_due (w.now + 1) w.pending ++ entries_left (w.now + 1) w.pending
+tick_cuts_front w k = front_is_due (w.now + 1) w.pending k.ordered
+    (not_before_next w.last_tick w.now w.last_serial (timers_of w.pending) k.each)
 
 -- A start.
 
-below_newest : (last_tick now last_serial high : ℕ) (ts : List Timer) → last_serial < high → AllByRecursion (IsPending last_tick now last_serial) ts → AreBelow high ts
+below_newest : (last_tick now last_serial high : ℕ) (ts : List Timer) → last_serial < high
+    → AllByRecursion (IsPending last_tick now last_serial) ts → AreBelow high ts
 below_newest last_tick now last_serial high [] h a = tt
-below_newest last_tick now last_serial high (t ∷ ts) h a = (let s : t.serial ≤ last_serial = a.0.serial in omega arith, below_newest last_tick now last_serial high ts h a.1)
+below_newest last_tick now last_serial high (t ∷ ts) h a = (
+  let s : t.serial ≤ last_serial = a.0.serial
+      in omega arith,
+  below_newest last_tick now last_serial high ts h a.1,
+)
 
-put_in_order : (e : Entry) (es : List Entry) → AreBelow e.timer.serial (timers_of es) → AreDistinct (timers_of es) → IsOrdered (timers_of es) → put e es ≡ in_order timer_of (e ∷ es)
+put_in_order : (e : Entry) (es : List Entry) → AreBelow e.timer.serial (timers_of es) → AreDistinct (timers_of es)
+    → IsOrdered (timers_of es) → put e es ≡ in_order timer_of (e ∷ es)
 put_in_order e es b d o = sym (ap (insert_in_order timer_of e) (in_order-ordered timer_of es d o) ∙ insert_newest timer_of e es b)
 
-pub start_keeps_order : (w : WheelState) (place : ℕ) (t : Timer) → IsWellFormed w → w.last_serial < t.serial → (after_start place t w).pending ≡ in_order timer_of (record { place = place; timer = t } ∷ w.pending)
+pub start_keeps_order : (w : WheelState) (place : ℕ) (t : Timer) → IsWellFormed w → w.last_serial < t.serial
+    → (after_start place t w).pending ≡ in_order timer_of (record { place = place; timer = t } ∷ w.pending)
 start_keeps_order w place t k h =
     let e : Entry = record { place = place; timer = t } in
     put_in_order e w.pending (below_newest w.last_tick w.now w.last_serial t.serial (timers_of w.pending) h k.each) k.distinct k.ordered
@@ -74,16 +89,21 @@ none_goes : (n : ℕ) (es : List Entry) → IsNotAmong n (timers_of es) → with
 none_goes n [] a = refl
 none_goes n (e ∷ es) a = rw (other_serial n e.timer a.0) (ap (λ r. e ∷ r) (none_goes n es a.1))
 
-found_serial_step : (test : Entry → Bool) (n : ℕ) (e : Entry) (t : Timer) (es : List Entry) → (first_timer test es ≡ Some t → IsNotAmong n (timers_of es) → t.serial ≢ n) → (test e ≡ true) ⊎ (test e ≡ false) → first_timer test (e ∷ es) ≡ Some t → IsNotAmong n (timers_of (e ∷ es)) → t.serial ≢ n
+found_serial_step : (test : Entry → Bool) (n : ℕ) (e : Entry) (t : Timer) (es : List Entry)
+    → (first_timer test es ≡ Some t → IsNotAmong n (timers_of es) → t.serial ≢ n) → (test e ≡ true) ⊎ (test e ≡ false)
+    → first_timer test (e ∷ es) ≡ Some t → IsNotAmong n (timers_of (e ∷ es)) → t.serial ≢ n
 found_serial_step test n e t es ih (inl h) f a = let same : e.timer ≡ t = same_some e.timer t (rw h at f) in rw (← same) a.0
 found_serial_step test n e t es ih (inr h) f a = ih (rw h at f) a.1
 
 -- what is found in a list has a serial different from that of any timer that is not in it
-found_serial : (test : Entry → Bool) (n : ℕ) (t : Timer) (es : List Entry) → first_timer test es ≡ Some t → IsNotAmong n (timers_of es) → t.serial ≢ n
+found_serial : (test : Entry → Bool) (n : ℕ) (t : Timer) (es : List Entry) → first_timer test es ≡ Some t → IsNotAmong n (timers_of es)
+    → t.serial ≢ n
 found_serial test n t [] f a = absurd (cc)
 found_serial test n t (e ∷ es) f a = found_serial_step test n e t es (found_serial test n t es) (either (test e)) f a
 
-one_goes_step : (test : Entry → Bool) (e : Entry) (t : Timer) (es : List Entry) → (first_timer test es ≡ Some t → length (without_serial t.serial es) + 1 ≡ length es) → (test e ≡ true) ⊎ (test e ≡ false) → AreDistinct (timers_of (e ∷ es)) → first_timer test (e ∷ es) ≡ Some t
+one_goes_step : (test : Entry → Bool) (e : Entry) (t : Timer) (es : List Entry)
+    → (first_timer test es ≡ Some t → length (without_serial t.serial es) + 1 ≡ length es) → (test e ≡ true) ⊎ (test e ≡ false)
+    → AreDistinct (timers_of (e ∷ es)) → first_timer test (e ∷ es) ≡ Some t
     → length (without_serial t.serial (e ∷ es)) + 1 ≡ length (e ∷ es)
 one_goes_step test e t es ih (inl h) d f =
     let same : e.timer ≡ t = same_some e.timer t (rw h at f) in
@@ -96,9 +116,11 @@ one_goes_step test e t es ih (inr h) d f =
     let less = ih rest in
     rw (other_serial t.serial e.timer other) (omega arith)
 
-one_goes : (test : Entry → Bool) (t : Timer) (es : List Entry) → AreDistinct (timers_of es) → first_timer test es ≡ Some t → length (without_serial t.serial es) + 1 ≡ length es
+one_goes : (test : Entry → Bool) (t : Timer) (es : List Entry) → AreDistinct (timers_of es) → first_timer test es ≡ Some t
+    → length (without_serial t.serial es) + 1 ≡ length es
 one_goes test t [] d f = absurd (cc)
 one_goes test t (e ∷ es) d f = one_goes_step test e t es (one_goes test t es d.1) (either (test e)) d f
 
-pub stop_takes_one : (w : WheelState) (handle : Handle) (t : Timer) → IsWellFormed w → timer_at handle w ≡ Some t → length (after_stop handle w).pending + 1 ≡ length w.pending
+pub stop_takes_one : (w : WheelState) (handle : Handle) (t : Timer) → IsWellFormed w → timer_at handle w ≡ Some t
+    → length (after_stop handle w).pending + 1 ≡ length w.pending
 stop_takes_one w handle t k f = rw f (one_goes (has_handle handle) t w.pending k.distinct f)

@@ -27,8 +27,10 @@ filter-twice p (t ∷ ts) = elim (either (p t)) [
   | inr h ↦ rw h (filter-twice p ts)
 ]
 
-pub plain_state-after_clear : (now last : ℕ) (ts : List Timer) → plain_state now last (filter (is_due_at now) ts) ≡ after_clear (plain_state now last ts)
-plain_state-after_clear now last ts = state_is now last (ap (λ us. map at_first_place (in_order itself us)) (none_after now ts)) (ap (map at_first_place) (filter-twice (is_due_at now) ts))
+pub plain_state-after_clear : (now last : ℕ) (ts : List Timer) → plain_state now last (filter (is_due_at now) ts)
+    ≡ after_clear (plain_state now last ts)
+plain_state-after_clear now last ts = state_is now last (ap (λ us. map at_first_place (in_order itself us)) (none_after now ts))
+    (ap (map at_first_place) (filter-twice (is_due_at now) ts))
 
 pub due_count-after_clear : (now : ℕ) (ts : List Timer) → due_count now (filter (is_due_at now) ts) ≡ due_count now ts
 due_count-after_clear now ts = ap length (filter-twice (is_due_at now) ts)

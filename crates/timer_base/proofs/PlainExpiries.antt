@@ -17,7 +17,8 @@ find-filter p (t ∷ ts) = elim (either (p t)) [
   | inr h ↦ rw h (find-filter p ts)
 ]
 
-none_step : (p : Timer → Bool) (t : Timer) (ts : List Timer) → (find p ts ≡ None → filter p ts ≡ []) → (p t ≡ true) ⊎ (p t ≡ false) → find p (t ∷ ts) ≡ None → filter p (t ∷ ts) ≡ []
+none_step : (p : Timer → Bool) (t : Timer) (ts : List Timer) → (find p ts ≡ None → filter p ts ≡ []) → (p t ≡ true) ⊎ (p t ≡ false)
+    → find p (t ∷ ts) ≡ None → filter p (t ∷ ts) ≡ []
 none_step p t ts ih (inl h) e = let x = rw h at e in absurd (cc)
 none_step p t ts ih (inr h) e = rw h (ih (rw h at e))
 
@@ -25,7 +26,8 @@ pub find_none : (p : Timer → Bool) (ts : List Timer) → find p ts ≡ None �
 find_none p [] h = refl
 find_none p (t ∷ ts) h = none_step p t ts (find_none p ts) (either (p t)) h
 
-some_step : (p : Timer → Bool) (t f : Timer) (ts : List Timer) → (find p ts ≡ Some f → 0 < length (filter p ts)) → (p t ≡ true) ⊎ (p t ≡ false) → find p (t ∷ ts) ≡ Some f → 0 < length (filter p (t ∷ ts))
+some_step : (p : Timer → Bool) (t f : Timer) (ts : List Timer) → (find p ts ≡ Some f → 0 < length (filter p ts)) → (p t ≡ true)
+    ⊎ (p t ≡ false) → find p (t ∷ ts) ≡ Some f → 0 < length (filter p (t ∷ ts))
 some_step p t f ts ih (inl h) e = rw h (omega arith)
 some_step p t f ts ih (inr h) e = rw h (ih (rw h at e))
 
@@ -36,9 +38,12 @@ find_some p f (t ∷ ts) h = some_step p t f ts (find_some p f ts) (either (p t)
 pub same_some : (t f : Timer) → Some t ≡ Some f → t ≡ f
 same_some t f h = cc
 
-found_above_step : (p : Timer → Bool) (low : ℕ) (t f : Timer) (ts : List Timer) → (find p ts ≡ Some f → AreRising t.serial ts → t.serial < f.serial) → (p t ≡ true) ⊎ (p t ≡ false) → find p (t ∷ ts) ≡ Some f → AreRising low (t ∷ ts) → low < f.serial
+found_above_step : (p : Timer → Bool) (low : ℕ) (t f : Timer) (ts : List Timer)
+    → (find p ts ≡ Some f → AreRising t.serial ts → t.serial < f.serial) → (p t ≡ true) ⊎ (p t ≡ false) → find p (t ∷ ts) ≡ Some f
+    → AreRising low (t ∷ ts) → low < f.serial
 found_above_step p low t f ts ih (inl h) e r = let same : t ≡ f = same_some t f (rw h at e) in rw (← same) r.0
-found_above_step p low t f ts ih (inr h) e r = let above : t.serial < f.serial = ih (rw h at e) r.1 in let r0 : low < t.serial = r.0 in omega arith
+found_above_step p low t f ts ih (inr h) e r = let above : t.serial < f.serial = ih (rw h at e) r.1 in let r0 : low < t.serial = r.0
+    in omega arith
 
 found_above : (p : Timer → Bool) (low : ℕ) (f : Timer) (ts : List Timer) → find p ts ≡ Some f → AreRising low ts → low < f.serial
 found_above p low f [] e r = absurd (cc)
@@ -57,7 +62,9 @@ none_left_out n low (t ∷ ts) l r =
     let other : t.serial ≢ n = λ e. (let e0 : t.serial ≡ n = e in omega arith) in
     rw (other_serial t n other) (ap (λ us. t ∷ us) (none_left_out n t.serial ts (omega arith) r.1))
 
-taken_step : (p : Timer → Bool) (low : ℕ) (t f : Timer) (ts : List Timer) → (find p ts ≡ Some f → AreRising t.serial ts → filter p (filter (λ t. not (has_serial f.serial t)) ts) ≡ drop 1 (filter p ts)) → (p t ≡ true) ⊎ (p t ≡ false) → find p (t ∷ ts) ≡ Some f → AreRising low (t ∷ ts)
+taken_step : (p : Timer → Bool) (low : ℕ) (t f : Timer) (ts : List Timer)
+    → (find p ts ≡ Some f → AreRising t.serial ts → filter p (filter (λ t. not (has_serial f.serial t)) ts) ≡ drop 1 (filter p ts))
+    → (p t ≡ true) ⊎ (p t ≡ false) → find p (t ∷ ts) ≡ Some f → AreRising low (t ∷ ts)
     → filter p (filter (λ t. not (has_serial f.serial t)) (t ∷ ts)) ≡ drop 1 (filter p (t ∷ ts))
 taken_step p low t f ts ih (inl h) e r =
     let same : t ≡ f = same_some t f (rw h at e) in
@@ -69,7 +76,9 @@ taken_step p low t f ts ih (inr h) e r =
     let other : t.serial ≢ f.serial = omega arith in
     rw (other_serial t f.serial other, h) (ih e' r.1)
 
-stay_step : (p q : Timer → Bool) (low : ℕ) (t f : Timer) (ts : List Timer) → ((t : Timer) → p t ≡ true → q t ≡ false) → (find p ts ≡ Some f → AreRising t.serial ts → filter q (filter (λ t. not (has_serial f.serial t)) ts) ≡ filter q ts) → (p t ≡ true) ⊎ (p t ≡ false) → find p (t ∷ ts) ≡ Some f → AreRising low (t ∷ ts)
+stay_step : (p q : Timer → Bool) (low : ℕ) (t f : Timer) (ts : List Timer) → ((t : Timer) → p t ≡ true → q t ≡ false)
+    → (find p ts ≡ Some f → AreRising t.serial ts → filter q (filter (λ t. not (has_serial f.serial t)) ts) ≡ filter q ts) → (p t ≡ true)
+    ⊎ (p t ≡ false) → find p (t ∷ ts) ≡ Some f → AreRising low (t ∷ ts)
     → filter q (filter (λ t. not (has_serial f.serial t)) (t ∷ ts)) ≡ filter q (t ∷ ts)
 stay_step p q low t f ts x ih (inl h) e r =
     let same : t ≡ f = same_some t f (rw h at e) in
@@ -82,12 +91,14 @@ stay_step p q low t f ts x ih (inr h) e r =
     rw (other_serial t f.serial other) (ap (λ us. if q t then t ∷ us else us) (ih e' r.1))
 
 -- the first that satisfies the test is removed from those that do
-taken_out : (p : Timer → Bool) (low : ℕ) (f : Timer) (ts : List Timer) → find p ts ≡ Some f → AreRising low ts → filter p (filter (λ t. not (has_serial f.serial t)) ts) ≡ drop 1 (filter p ts)
+taken_out : (p : Timer → Bool) (low : ℕ) (f : Timer) (ts : List Timer) → find p ts ≡ Some f → AreRising low ts
+    → filter p (filter (λ t. not (has_serial f.serial t)) ts) ≡ drop 1 (filter p ts)
 taken_out p low f [] e r = refl
 taken_out p low f (t ∷ ts) e r = taken_step p low t f ts (taken_out p t.serial f ts) (either (p t)) e r
 
 -- and of no others
-pub others_stay : (p q : Timer → Bool) (low : ℕ) (f : Timer) (ts : List Timer) → ((t : Timer) → p t ≡ true → q t ≡ false) → find p ts ≡ Some f → AreRising low ts → filter q (filter (λ t. not (has_serial f.serial t)) ts) ≡ filter q ts
+pub others_stay : (p q : Timer → Bool) (low : ℕ) (f : Timer) (ts : List Timer) → ((t : Timer) → p t ≡ true → q t ≡ false)
+    → find p ts ≡ Some f → AreRising low ts → filter q (filter (λ t. not (has_serial f.serial t)) ts) ≡ filter q ts
 others_stay p q low f [] x e r = refl
 others_stay p q low f (t ∷ ts) x e r = stay_step p q low t f ts x (others_stay p q t.serial f ts x) (either (p t)) e r
 
@@ -100,14 +111,18 @@ drop-at_first_place (t ∷ ts) = refl
 
 -- the first due timer
 pub first_is_due : (now last : ℕ) (ts : List Timer) → find (is_due_at now) ts ≡ first_due (plain_state now last ts)
-first_is_due now last ts = find-filter (is_due_at now) ts ∙ ap (λ us. slice_get us 0) (sym (timers_of-at_first_place (filter (is_due_at now) ts)))
+first_is_due now last ts = find-filter (is_due_at now) ts ∙ ap (λ us. slice_get us 0)
+    (sym (timers_of-at_first_place (filter (is_due_at now) ts)))
 
 pub plain_state-after_expiry : (now last : ℕ) (ts : List Timer) (f : Timer) → find (is_due_at now) ts ≡ Some f → AreRising 0 ts
     → plain_state now last (filter (λ t. not (has_serial f.serial t)) ts) ≡ after_expiry (plain_state now last ts)
 plain_state-after_expiry now last ts f e r =
-    state_is now last (ap (λ us. map at_first_place (in_order itself us)) (others_stay (is_due_at now) (is_after now) 0 f ts (due_not_after now) e r)) (ap (map at_first_place) (taken_out (is_due_at now) 0 f ts e r) ∙ drop-at_first_place (filter (is_due_at now) ts))
+    state_is now last (ap (λ us. map at_first_place (in_order itself us))
+    (others_stay (is_due_at now) (is_after now) 0 f ts (due_not_after now) e r))
+    (ap (map at_first_place) (taken_out (is_due_at now) 0 f ts e r) ∙ drop-at_first_place (filter (is_due_at now) ts))
 
-pub plain_state-none_due : (now last : ℕ) (ts : List Timer) → find (is_due_at now) ts ≡ None → plain_state now last ts ≡ after_expiry (plain_state now last ts)
+pub plain_state-none_due : (now last : ℕ) (ts : List Timer) → find (is_due_at now) ts ≡ None
+    → plain_state now last ts ≡ after_expiry (plain_state now last ts)
 plain_state-none_due now last ts e =
     let none : map at_first_place (filter (is_due_at now) ts) ≡ [] = ap (map at_first_place) (find_none (is_due_at now) ts e) in
     state_is now last refl (none ∙ ap (drop 1) (sym none))

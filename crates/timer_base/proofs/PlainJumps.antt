@@ -104,14 +104,16 @@ pub plain_state-skipped : (now last ticks : ℕ) (ts : List Timer) → AreDueAft
 plain_state-skipped now last ticks ts a d =
     let none : filter (is_due_at (now + ticks)) ts ≡ filter (is_due_at now) ts = none_due_after (now + ticks) ts a ∙ sym d in
     let before : AreDueAfter now ts = All-weaken (λ t. now + ticks < t.deadline) (λ t. now < t.deadline) ts (λ t h. omega arith) a in
-    let all : filter (is_after (now + ticks)) ts ≡ filter (is_after now) ts = filter_after (now + ticks) ts a ∙ sym (filter_after now ts before) in
+    let all : filter (is_after (now + ticks)) ts ≡ filter (is_after now) ts =
+    filter_after (now + ticks) ts a ∙ sym (filter_after now ts before) in
     state_is (now + ticks) last (ap (λ us. map at_first_place (in_order itself us)) all) (ap (map at_first_place) none)
 
 all-placed : (tick : ℕ) (ts : List Timer) → AreDueAfter tick ts → AreAfter tick (map at_first_place ts)
 all-placed tick [] a = tt
 all-placed tick (t ∷ ts) a = (a.0, all-placed tick ts a.1)
 
-pub pending_after : (tick now : ℕ) (ts : List Timer) → AreDueAfter tick ts → AreAfter tick (map at_first_place (in_order itself (filter (is_after now) ts)))
+pub pending_after : (tick now : ℕ) (ts : List Timer) → AreDueAfter tick ts
+    → AreAfter tick (map at_first_place (in_order itself (filter (is_after now) ts)))
 pending_after tick now ts a =
     let P : Timer → Type 0 = λ t. tick < t.deadline in
     all-placed tick (in_order itself (filter (is_after now) ts))
@@ -127,7 +129,8 @@ jump-none now most ts h a e = record {
   early = λ l. absurd (omega arith);
 }
 
-pub jump-some : (now most passed d : ℕ) (ts : List Timer) → 0 < most → AreDueAfter now ts → first_after now ts ≡ Some d → now < d → passed ≡ min most (d - now)
+pub jump-some : (now most passed d : ℕ) (ts : List Timer) → 0 < most → AreDueAfter now ts → first_after now ts ≡ Some d → now < d
+    → passed ≡ min most (d - now)
     → IsJump now most passed ts
 jump-some now most passed d ts h a e l p = record {
   some = omega arith;

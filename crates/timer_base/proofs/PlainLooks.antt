@@ -24,14 +24,18 @@ no_place h (t ∷ ts) n = rw (not_zero h.place n) (no_place h ts n)
 is_zero : (n : ℕ) → n ≡ 0 → (0 == n) ≡ true
 is_zero n h = grind (arith, nat_tests)
 
-pub at_place : (h : Handle) (ts : List Timer) → h.place ≡ 0 → first_timer (has_handle h) (map at_first_place ts) ≡ find (has_serial h.serial) ts
+pub at_place : (h : Handle) (ts : List Timer) → h.place ≡ 0 → first_timer (has_handle h) (map at_first_place ts)
+    ≡ find (has_serial h.serial) ts
 at_place h [] z = refl
 at_place h (t ∷ ts) z = rw (is_zero h.place z) (ap (λ o. if has_serial h.serial t then Some t else o) (at_place h ts z))
 
 pub filter-filter_same : (p q : Timer → Bool) (ts : List Timer) → filter p (filter q ts) ≡ filter q (filter p ts)
 filter-filter_same p q [] = refl
 filter-filter_same p q (t ∷ ts) = elim (either (p t)) [
-  | inl h ↦ elim (either (q t)) [ inl k ↦ simp (h, k) (ap (λ us. t ∷ us) (filter-filter_same p q ts)) | inr k ↦ simp (h, k) (filter-filter_same p q ts) ]
+  | inl h ↦ elim (either (q t)) [
+    | inl k ↦ simp (h, k) (ap (λ us. t ∷ us) (filter-filter_same p q ts))
+    | inr k ↦ simp (h, k) (filter-filter_same p q ts)
+  ]
   | inr h ↦ elim (either (q t)) [ inl k ↦ simp (h, k) (filter-filter_same p q ts) | inr k ↦ simp (h, k) (filter-filter_same p q ts) ]
 ]
 
@@ -69,7 +73,8 @@ find-both p q (t ∷ ts) = elim (either (p t)) [
   | inr h ↦ elim (either (q t)) [ inl k ↦ simp (h, k) (find-both p q ts) | inr k ↦ simp (h, k) (find-both p q ts) ]
 ]
 
-pub look_here : (now last : ℕ) (ts : List Timer) (h : Handle) → AreRising 0 ts → h.place ≡ 0 → find (is_pending_with now h.serial) ts ≡ timer_at h (plain_state now last ts)
+pub look_here : (now last : ℕ) (ts : List Timer) (h : Handle) → AreRising 0 ts → h.place ≡ 0
+    → find (is_pending_with now h.serial) ts ≡ timer_at h (plain_state now last ts)
 look_here now last ts h r z =
     let after : List Timer = filter (is_after now) ts in
     find-both (has_serial h.serial) (is_after now) ts
@@ -94,11 +99,13 @@ pub no_timer : (t : Timer) → None ≡ Some t → ⊥
 no_timer t e = cc
 
 -- a timer that a look finds is also found by its own serial
-found_at : (now last : ℕ) (ts : List Timer) (h : Handle) (t : Timer) → AreRising 0 ts → timer_at h (plain_state now last ts) ≡ Some t → find (is_pending_with now t.serial) ts ≡ Some t
+found_at : (now last : ℕ) (ts : List Timer) (h : Handle) (t : Timer) → AreRising 0 ts → timer_at h (plain_state now last ts) ≡ Some t
+    → find (is_pending_with now t.serial) ts ≡ Some t
 found_at now last ts h t r f = elim (cases_eq h.place 0) [
   | inl z ↦
       let e : find (is_pending_with now h.serial) ts ≡ Some t = look_here now last ts h r z ∙ f in
-      let s : t.serial ≡ h.serial = eq_is t.serial h.serial (both_first (has_serial h.serial t) (is_after now t) (passes (is_pending_with now h.serial) t ts e)) in
+      let s : t.serial ≡ h.serial = eq_is t.serial h.serial (both_first (has_serial h.serial t) (is_after now t)
+      (passes (is_pending_with now h.serial) t ts e)) in
       ap (λ (k : ℕ). find (is_pending_with now k) ts) s ∙ e
   | inr n ↦ absurd (no_timer t (sym (no_place h (in_order itself (filter (is_after now) ts)) n) ∙ f))
 ]
@@ -110,13 +117,17 @@ pending_not_due now k t h = elim (either (is_after now t)) [
 ]
 
 -- what is due stays
-still_due : (now last : ℕ) (ts : List Timer) (h : Handle) (t : Timer) → AreRising 0 ts → timer_at h (plain_state now last ts) ≡ Some t → filter (is_due_at now) (filter (λ u. not (has_serial t.serial u)) ts) ≡ filter (is_due_at now) ts
-still_due now last ts h t r f = others_stay (is_pending_with now t.serial) (is_due_at now) 0 t ts (pending_not_due now t.serial) (found_at now last ts h t r f) r
+still_due : (now last : ℕ) (ts : List Timer) (h : Handle) (t : Timer) → AreRising 0 ts → timer_at h (plain_state now last ts) ≡ Some t
+    → filter (is_due_at now) (filter (λ u. not (has_serial t.serial u)) ts) ≡ filter (is_due_at now) ts
+still_due now last ts h t r f = others_stay (is_pending_with now t.serial) (is_due_at now) 0 t ts (pending_not_due now t.serial)
+    (found_at now last ts h t r f) r
 
-pub due_count-without : (now last : ℕ) (ts : List Timer) (h : Handle) (t : Timer) → AreRising 0 ts → timer_at h (plain_state now last ts) ≡ Some t → due_count now (filter (λ u. not (has_serial t.serial u)) ts) ≡ due_count now ts
+pub due_count-without : (now last : ℕ) (ts : List Timer) (h : Handle) (t : Timer) → AreRising 0 ts
+    → timer_at h (plain_state now last ts) ≡ Some t → due_count now (filter (λ u. not (has_serial t.serial u)) ts) ≡ due_count now ts
 due_count-without now last ts h t r f = ap length (still_due now last ts h t r f)
 
-pub plain_state-after_stop : (now last : ℕ) (ts : List Timer) (h : Handle) (t : Timer) → AreRising 0 ts → timer_at h (plain_state now last ts) ≡ Some t
+pub plain_state-after_stop : (now last : ℕ) (ts : List Timer) (h : Handle) (t : Timer) → AreRising 0 ts
+    → timer_at h (plain_state now last ts) ≡ Some t
     → plain_state now last (filter (λ u. not (has_serial t.serial u)) ts) ≡ after_stop h (plain_state now last ts)
 plain_state-after_stop now last ts h t r f =
     state_is now last

@@ -24,10 +24,13 @@ pub names_one : (now last : ℕ) (ts : List Timer) (h : Handle) → AreRising 0 
 names_one now last ts h r t f = elim (cases_eq h.place 0) [
   | inl z ↦
       let e : find (is_pending_with now h.serial) ts ≡ Some t = look_here now last ts h r z ∙ f in
-      let s : t.serial ≡ h.serial = eq_is t.serial h.serial (both_first (has_serial h.serial t) (is_after now t) (passes (is_pending_with now h.serial) t ts e)) in
+      let s : t.serial ≡ h.serial = eq_is t.serial h.serial (both_first (has_serial h.serial t) (is_after now t)
+      (passes (is_pending_with now h.serial) t ts e)) in
       let others : ℕ → List Timer = λ k. filter (λ u. not (has_serial k u)) ts in
-      let d : due_at h (plain_state now last (others t.serial)) ≡ due_at h (plain_state now last ts) = ap (λ (w : WheelState). first_timer (has_handle h) w.due) (plain_state-after_stop now last ts h t r f) in
-      let g : due_at h (plain_state now last (others h.serial)) ≡ None = sym (due_here now last (others h.serial) h z) ∙ find-gone now h.serial ts in
+      let d : due_at h (plain_state now last (others t.serial)) ≡ due_at h (plain_state now last ts) =
+      ap (λ (w : WheelState). first_timer (has_handle h) w.due) (plain_state-after_stop now last ts h t r f) in
+      let g : due_at h (plain_state now last (others h.serial)) ≡ None =
+      sym (due_here now last (others h.serial) h z) ∙ find-gone now h.serial ts in
       sym d ∙ (ap (λ (k : ℕ). due_at h (plain_state now last (others k))) s ∙ g)
   | inr n ↦ due_nowhere now last ts h n
 ]

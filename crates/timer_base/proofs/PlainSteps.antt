@@ -33,11 +33,14 @@ filter_after now (t ∷ ts) a = rw (after_is now t a.0) (ap (λ r. t ∷ r) (fil
 next_agree : (now : ℕ) (t : Timer) → now < t.deadline → is_after (now + 1) t ≡ not (is_due_at (now + 1) t)
 next_agree now t h = grind (arith, nat_tests)
 
-filter_agree : (now : ℕ) (ts : List Timer) → AreDueAfter now ts → filter (is_after (now + 1)) ts ≡ filter (λ t. not (is_due_at (now + 1) t)) ts
+filter_agree : (now : ℕ) (ts : List Timer) → AreDueAfter now ts
+    → filter (is_after (now + 1)) ts ≡ filter (λ t. not (is_due_at (now + 1) t)) ts
 filter_agree now [] a = refl
-filter_agree now (t ∷ ts) a = rw (next_agree now t a.0) (ap (λ r. if not (is_due_at (now + 1) t) then t ∷ r else r) (filter_agree now ts a.1))
+filter_agree now (t ∷ ts) a = rw (next_agree now t a.0) (ap (λ r. if not (is_due_at (now + 1) t) then t ∷ r else r)
+    (filter_agree now ts a.1))
 
-pub filter-map : (p : Timer → Bool) (ts : List Timer) → filter (λ entry. p entry.timer) (map at_first_place ts) ≡ map at_first_place (filter p ts)
+pub filter-map : (p : Timer → Bool) (ts : List Timer) → filter (λ entry. p entry.timer) (map at_first_place ts)
+    ≡ map at_first_place (filter p ts)
 filter-map p [] = refl
 filter-map p (t ∷ ts) = elim (either (p t)) [
   | inl h ↦ rw h (ap (λ r. at_first_place t ∷ r) (filter-map p ts))
@@ -51,28 +54,41 @@ state_is n l h k = cc
 
 -- A tick.
 
-kept_next : (now last : ℕ) (ts : List Timer) → AllByRecursion (IsKept now last) ts → AreDueAfter now ts → AllByRecursion (IsKept (now + 1) last) ts
+kept_next : (now last : ℕ) (ts : List Timer) → AllByRecursion (IsKept now last) ts → AreDueAfter now ts
+    → AllByRecursion (IsKept (now + 1) last) ts
 kept_next now last [] k a = tt
-kept_next now last (t ∷ ts) k a =
-    (record { not_before = let h : now < t.deadline = a.0 in omega arith; in_range = k.0.in_range; serial = k.0.serial }, kept_next now last ts k.1 a.1)
+kept_next now last (t ∷ ts) k a = (
+  record {
+    not_before = let h : now < t.deadline = a.0 in omega arith;
+    in_range = k.0.in_range;
+    serial = k.0.serial;
+  },
+  kept_next now last ts k.1 a.1,
+)
 
-pub kept-after_tick : (now last : ℕ) (ts : List Timer) → AllByRecursion (IsKept now last) ts → filter (is_due_at now) ts ≡ [] → AllByRecursion (IsKept (now + 1) last) ts
+pub kept-after_tick : (now last : ℕ) (ts : List Timer) → AllByRecursion (IsKept now last) ts → filter (is_due_at now) ts ≡ []
+    → AllByRecursion (IsKept (now + 1) last) ts
 kept-after_tick now last ts k d = kept_next now last ts k (all_after now last ts k d)
 
 due_in_order : (tick : ℕ) (ts : List Timer) → AreRising 0 ts → in_order itself (filter (is_due_at tick) ts) ≡ filter (is_due_at tick) ts
 due_in_order tick ts r =
     let due : List Timer = filter (is_due_at tick) ts in
-    in_order-same itself tick 0 due (rw (map-itself due) (AllAt-filter tick ts)) (rw (map-itself due) (AreRising-filter (is_due_at tick) 0 ts r))
+    in_order-same itself tick 0 due (rw (map-itself due) (AllAt-filter tick ts))
+    (rw (map-itself due) (AreRising-filter (is_due_at tick) 0 ts r))
 
-pub plain_state-after_tick : (now last : ℕ) (ts : List Timer) → AllByRecursion (IsKept now last) ts → AreRising 0 ts → filter (is_due_at now) ts ≡ []
+pub plain_state-after_tick : (now last : ℕ) (ts : List Timer) → AllByRecursion (IsKept now last) ts → AreRising 0 ts
+    → filter (is_due_at now) ts ≡ []
     → plain_state (now + 1) last ts ≡ after_tick (plain_state now last ts)
 plain_state-after_tick now last ts k r d =
     let a : AreDueAfter now ts = all_after now last ts k d in
     let all : filter (is_after now) ts ≡ ts = filter_after now ts a in
-    let left : filter (λ entry. not (is_due_at (now + 1) entry.timer)) (map at_first_place (in_order itself ts)) ≡ map at_first_place (in_order itself (filter (is_after (now + 1)) ts)) =
+    let left : filter (λ entry. not (is_due_at (now + 1) entry.timer)) (map at_first_place (in_order itself ts))
+    ≡ map at_first_place (in_order itself (filter (is_after (now + 1)) ts)) =
     filter-map (λ t. not (is_due_at (now + 1) t)) (in_order itself ts)
-    ∙ ap (map at_first_place) (filter-in_order itself (λ t. not (is_due_at (now + 1) t)) ts ∙ ap (in_order itself) (sym (filter_agree now ts a))) in
-    let due : filter (λ entry. is_due_at (now + 1) entry.timer) (map at_first_place (in_order itself ts)) ≡ map at_first_place (filter (is_due_at (now + 1)) ts) =
+    ∙ ap (map at_first_place) (filter-in_order itself (λ t. not (is_due_at (now + 1) t)) ts
+    ∙ ap (in_order itself) (sym (filter_agree now ts a))) in
+    let due : filter (λ entry. is_due_at (now + 1) entry.timer) (map at_first_place (in_order itself ts))
+    ≡ map at_first_place (filter (is_due_at (now + 1)) ts) =
     filter-map (is_due_at (now + 1)) (in_order itself ts)
     ∙ ap (map at_first_place) (filter-in_order itself (is_due_at (now + 1)) ts ∙ due_in_order (now + 1) ts r) in
     rw all (state_is (now + 1) last (sym left) (sym due))
@@ -112,7 +128,8 @@ filter-append_no p (x ∷ xs) t h = elim (either (p x)) [
   | inr k ↦ rw k (filter-append_no p xs t h)
 ]
 
-map-insert_by_deadline : (t : Timer) (ts : List Timer) → map at_first_place (insert_by_deadline itself t ts) ≡ put (at_first_place t) (map at_first_place ts)
+map-insert_by_deadline : (t : Timer) (ts : List Timer) → map at_first_place (insert_by_deadline itself t ts)
+    ≡ put (at_first_place t) (map at_first_place ts)
 map-insert_by_deadline t [] = refl
 map-insert_by_deadline t (x ∷ xs) = elim (either (nat_lt t.deadline x.deadline)) [
   | inl k ↦ rw k refl
@@ -122,13 +139,15 @@ map-insert_by_deadline t (x ∷ xs) = elim (either (nat_lt t.deadline x.deadline
 not_due_yet : (now : ℕ) (t : Timer) → now < t.deadline → is_due_at now t ≡ false
 not_due_yet now t h = grind (arith, nat_tests)
 
-newest_last : (t : Timer) (ts : List Timer) → AreBelow t.serial ts → in_order itself (ts ++ t ∷ []) ≡ insert_by_deadline itself t (in_order itself ts)
+newest_last : (t : Timer) (ts : List Timer) → AreBelow t.serial ts
+    → in_order itself (ts ++ t ∷ []) ≡ insert_by_deadline itself t (in_order itself ts)
 newest_last t ts b =
     let all : ts ++ [] ≡ ts = append-nil ts in
     let below : AreBelow t.serial (map itself (ts ++ [])) = rw (all, map-itself ts) b in
     in_order-newest itself t ts [] below ∙ ap (λ us. insert_by_deadline itself t (in_order itself us)) all
 
-pub plain_state-after_start : (now last : ℕ) (ts : List Timer) (t : Timer) → AllByRecursion (IsKept now last) ts → last < t.serial → now < t.deadline
+pub plain_state-after_start : (now last : ℕ) (ts : List Timer) (t : Timer) → AllByRecursion (IsKept now last) ts → last < t.serial
+    → now < t.deadline
     → plain_state now t.serial (ts ++ t ∷ []) ≡ after_start 0 t (plain_state now last ts)
 plain_state-after_start now last ts t k h l =
     let b : AreBelow t.serial (filter (is_after now) ts) = below-filter (is_after now) t.serial ts (below_new now last t.serial ts k h) in
@@ -139,18 +158,30 @@ plain_state-after_start now last ts t k h l =
     (ap (map at_first_place) (filter-append_no (is_due_at now) ts t (not_due_yet now t l)))
 
 kept_one : (now last new : ℕ) (t : Timer) → last < new → IsKept now last t → IsKept now new t
-kept_one now last new t h k = record { not_before = k.not_before; in_range = k.in_range; serial = let s : t.serial ≤ last = k.serial in omega arith }
+kept_one now last new t h k = record {
+  not_before = k.not_before;
+  in_range = k.in_range;
+  serial = let s : t.serial ≤ last = k.serial
+      in omega arith;
+}
 
-pub kept-after_start : (now last : ℕ) (ts : List Timer) (t : Timer) → AllByRecursion (IsKept now last) ts → last < t.serial → now < t.deadline → t.deadline ≤ LAST
+pub kept-after_start : (now last : ℕ) (ts : List Timer) (t : Timer) → AllByRecursion (IsKept now last) ts → last < t.serial
+    → now < t.deadline → t.deadline ≤ LAST
     → AllByRecursion (IsKept now t.serial) (ts ++ t ∷ [])
 kept-after_start now last [] t k h l m = (record { not_before = omega arith; in_range = m; serial = omega arith }, tt)
 kept-after_start now last (x ∷ xs) t k h l m = (kept_one now last t.serial x h k.0, kept-after_start now last xs t k.1 h l m)
 
-rising_on : (low now last : ℕ) (ts : List Timer) (t : Timer) → AllByRecursion (IsKept now last) ts → AreRising low ts → low < t.serial → last < t.serial → AreRising low (ts ++ t ∷ [])
+rising_on : (low now last : ℕ) (ts : List Timer) (t : Timer) → AllByRecursion (IsKept now last) ts → AreRising low ts → low < t.serial
+    → last < t.serial → AreRising low (ts ++ t ∷ [])
 rising_on low now last [] t k r h l = (h, tt)
-rising_on low now last (x ∷ xs) t k r h l = (r.0, rising_on x.serial now last xs t k.1 r.1 (let s : x.serial ≤ last = k.0.serial in omega arith) l)
+rising_on low now last (x ∷ xs) t k r h l = (
+  r.0,
+  rising_on x.serial now last xs t k.1 r.1 (let s : x.serial ≤ last = k.0.serial
+      in omega arith) l,
+)
 
-pub rising-after_start : (now last : ℕ) (ts : List Timer) (t : Timer) → AllByRecursion (IsKept now last) ts → AreRising 0 ts → last < t.serial → AreRising 0 (ts ++ t ∷ [])
+pub rising-after_start : (now last : ℕ) (ts : List Timer) (t : Timer) → AllByRecursion (IsKept now last) ts → AreRising 0 ts
+    → last < t.serial → AreRising 0 (ts ++ t ∷ [])
 rising-after_start now last ts t k r l = rising_on 0 now last ts t k r (omega arith) l
 
 pub due_count-after_start : (now : ℕ) (ts : List Timer) (t : Timer) → now < t.deadline → due_count now (ts ++ t ∷ []) ≡ due_count now ts
@@ -168,7 +199,8 @@ length-pending now last ts = length-map (in_order itself (filter (is_after now) 
 due_not_after : (now : ℕ) (t : Timer) → is_due_at now t ≡ true → is_after now t ≡ false
 due_not_after now t h = grind (arith, nat_tests)
 
-all_counted : (now last : ℕ) (ts : List Timer) → AllByRecursion (IsKept now last) ts → length (filter (is_after now) ts) + due_count now ts ≡ length ts
+all_counted : (now last : ℕ) (ts : List Timer) → AllByRecursion (IsKept now last) ts
+    → length (filter (is_after now) ts) + due_count now ts ≡ length ts
 all_counted now last [] k = refl
 all_counted now last (t ∷ ts) k = elim (either (is_due_at now t)) [
   | inl h ↦ let rest = all_counted now last ts k.1 in rw (due_not_after now t h, h) (omega arith)
@@ -181,5 +213,6 @@ due_count_is now last ts = length-map (filter (is_due_at now) ts)
 pub due_count-le : (now last : ℕ) (ts : List Timer) → AllByRecursion (IsKept now last) ts → due_count now ts ≤ length ts
 due_count-le now last ts k = let all = all_counted now last ts k in omega arith
 
-pub pending_count : (now last : ℕ) (ts : List Timer) → AllByRecursion (IsKept now last) ts → length ts - due_count now ts ≡ length (plain_state now last ts).pending
+pub pending_count : (now last : ℕ) (ts : List Timer) → AllByRecursion (IsKept now last) ts
+    → length ts - due_count now ts ≡ length (plain_state now last ts).pending
 pending_count now last ts k = let all = all_counted now last ts k in omega (arith, length-pending now last ts)

@@ -50,10 +50,15 @@ none_sooner : (t : Timer) (es : List Entry) → IsFirst t (timers_of es) → All
 none_sooner t [] f = tt
 none_sooner t (e ∷ es) f = (not_sooner t e.timer f.0, none_sooner t es f.1)
 
-quiet_next : (last_tick now last : ℕ) (es ds : List Entry) → IsOrdered (timers_of es) → AllByRecursion (IsPending last_tick now last) (timers_of es)
+quiet_next : (last_tick now last : ℕ) (es ds : List Entry) → IsOrdered (timers_of es)
+    → AllByRecursion (IsPending last_tick now last) (timers_of es)
     → IsQuietUntil (next_deadline es) (record { last_tick = last_tick; now = now; pending = es; due = ds; last_serial = last })
 quiet_next last_tick now last [] ds o a = refl
-quiet_next last_tick now last (e ∷ es) ds o a = record { some = omega arith; later = a.0.later; in_time = (omega arith, none_sooner e.timer es o.0) }
+quiet_next last_tick now last (e ∷ es) ds o a = record {
+  some = omega arith;
+  later = a.0.later;
+  in_time = (omega arith, none_sooner e.timer es o.0);
+}
 
 -- the first pending deadline is a tick to wake up at
 pub quiet_until_next : (w : WheelState) → IsWellFormed w → IsQuietUntil (next_deadline w.pending) w
@@ -77,8 +82,10 @@ yes_after tick t h = grind (arith, nat_tests)
 not_after : (tick : ℕ) (t : Timer) → t.deadline ≤ tick → is_after tick t ≡ false
 not_after tick t h = grind (arith, nat_tests)
 
-pub first_after-taken : (tick : ℕ) (first : Option ℕ) (t : Timer) (ts : List Timer) → tick < t.deadline → earliest (earliest first (Some t.deadline)) (first_after tick ts) ≡ earliest first (first_after tick (t ∷ ts))
+pub first_after-taken : (tick : ℕ) (first : Option ℕ) (t : Timer) (ts : List Timer) → tick < t.deadline
+    → earliest (earliest first (Some t.deadline)) (first_after tick ts) ≡ earliest first (first_after tick (t ∷ ts))
 first_after-taken tick first t ts h = rw (yes_after tick t h) (earliest-assoc first (Some t.deadline) (first_after tick ts))
 
-pub first_after-passed : (tick : ℕ) (first : Option ℕ) (t : Timer) (ts : List Timer) → t.deadline ≤ tick → earliest first (first_after tick ts) ≡ earliest first (first_after tick (t ∷ ts))
+pub first_after-passed : (tick : ℕ) (first : Option ℕ) (t : Timer) (ts : List Timer) → t.deadline ≤ tick
+    → earliest first (first_after tick ts) ≡ earliest first (first_after tick (t ∷ ts))
 first_after-passed tick first t ts h = rw (not_after tick t h) refl

@@ -18,15 +18,18 @@ use Rattle.timer_base.proofs.PlainLooks.{no_place, at_place, filter-filter_same,
 pub due_nowhere : (now last : ℕ) (ts : List Timer) (h : Handle) → h.place ≢ 0 → due_at h (plain_state now last ts) ≡ None
 due_nowhere now last ts h n = no_place h (filter (is_due_at now) ts) n
 
-pub due_here : (now last : ℕ) (ts : List Timer) (h : Handle) → h.place ≡ 0 → find (is_due_with now h.serial) ts ≡ due_at h (plain_state now last ts)
+pub due_here : (now last : ℕ) (ts : List Timer) (h : Handle) → h.place ≡ 0
+    → find (is_due_with now h.serial) ts ≡ due_at h (plain_state now last ts)
 due_here now last ts h z = find-both (has_serial h.serial) (is_due_at now) ts ∙ sym (at_place h (filter (is_due_at now) ts) z)
 
 -- a due timer that is found by a handle is also found by its own serial
-found_at : (now last : ℕ) (ts : List Timer) (h : Handle) (t : Timer) → due_at h (plain_state now last ts) ≡ Some t → find (is_due_with now t.serial) ts ≡ Some t
+found_at : (now last : ℕ) (ts : List Timer) (h : Handle) (t : Timer) → due_at h (plain_state now last ts) ≡ Some t
+    → find (is_due_with now t.serial) ts ≡ Some t
 found_at now last ts h t f = elim (cases_eq h.place 0) [
   | inl z ↦
       let e : find (is_due_with now h.serial) ts ≡ Some t = due_here now last ts h z ∙ f in
-      let s : t.serial ≡ h.serial = eq_is t.serial h.serial (both_first (has_serial h.serial t) (is_due_at now t) (passes (is_due_with now h.serial) t ts e)) in
+      let s : t.serial ≡ h.serial = eq_is t.serial h.serial (both_first (has_serial h.serial t) (is_due_at now t)
+      (passes (is_due_with now h.serial) t ts e)) in
       ap (λ (k : ℕ). find (is_due_with now k) ts) s ∙ e
   | inr n ↦ absurd (no_timer t (sym (due_nowhere now last ts h n) ∙ f))
 ]
@@ -37,11 +40,13 @@ due_not_pending now k t h = elim (either (is_due_at now t)) [
   | inr a ↦ absurd (let e = both_second (has_serial k t) (is_due_at now t) h in cc)
 ]
 
-pub plain_state-after_withdrawal : (now last : ℕ) (ts : List Timer) (h : Handle) (t : Timer) → AreRising 0 ts → due_at h (plain_state now last ts) ≡ Some t
+pub plain_state-after_withdrawal : (now last : ℕ) (ts : List Timer) (h : Handle) (t : Timer) → AreRising 0 ts
+    → due_at h (plain_state now last ts) ≡ Some t
     → plain_state now last (filter (λ u. not (has_serial t.serial u)) ts) ≡ after_withdrawal h (plain_state now last ts)
 plain_state-after_withdrawal now last ts h t r f =
     state_is now last
-    (ap (λ us. map at_first_place (in_order itself us)) (others_stay (is_due_with now t.serial) (is_after now) 0 t ts (due_not_pending now t.serial) (found_at now last ts h t f) r))
+    (ap (λ us. map at_first_place (in_order itself us)) (others_stay (is_due_with now t.serial) (is_after now) 0 t ts
+    (due_not_pending now t.serial) (found_at now last ts h t f) r))
     (ap (map at_first_place) (filter-filter_same (is_due_at now) (λ u. not (has_serial t.serial u)) ts)
     ∙ sym (filter-map (λ u. not (has_serial t.serial u)) (filter (is_due_at now) ts)))
     ∙ ap (λ o. record (plain_state now last ts) { due = without_found o (plain_state now last ts).due }) (sym f)
@@ -55,12 +60,15 @@ filter_le p (t ∷ ts) = elim (either (p t)) [
   | inr h ↦ rw h (let n : length (filter p ts) ≤ length ts = filter_le p ts in omega arith)
 ]
 
-shorter : (now k : ℕ) (t : Timer) (ts : List Timer) → find (is_due_with now k) ts ≡ Some t → length (filter (λ u. not (has_serial k u)) ts) < length ts
+shorter : (now k : ℕ) (t : Timer) (ts : List Timer) → find (is_due_with now k) ts ≡ Some t
+    → length (filter (λ u. not (has_serial k u)) ts) < length ts
 shorter now k t [] e = absurd (cc)
 shorter now k t (x ∷ xs) e = elim (either (has_serial k x)) [
-  | inl h ↦ rw h (let n : length (filter (λ u. not (has_serial k u)) xs) ≤ length xs = filter_le (λ u. not (has_serial k u)) xs in omega arith)
+  | inl h ↦ rw h (let n : length (filter (λ u. not (has_serial k u)) xs) ≤ length xs = filter_le (λ u. not (has_serial k u)) xs
+      in omega arith)
   | inr h ↦ rw h (let n : length (filter (λ u. not (has_serial k u)) xs) < length xs = shorter now k t xs (rw h at e) in omega arith)
 ]
 
-pub one_less : (now last : ℕ) (ts : List Timer) (h : Handle) (t : Timer) → due_at h (plain_state now last ts) ≡ Some t → length (filter (λ u. not (has_serial t.serial u)) ts) < length ts
+pub one_less : (now last : ℕ) (ts : List Timer) (h : Handle) (t : Timer) → due_at h (plain_state now last ts) ≡ Some t
+    → length (filter (λ u. not (has_serial t.serial u)) ts) < length ts
 one_less now last ts h t f = shorter now t.serial t ts (found_at now last ts h t f)

@@ -35,9 +35,12 @@ sorted_is_ordered (t ∷ u ∷ us) s =
     let rest : IsOrdered (u ∷ us) = sorted_is_ordered (u ∷ us) (sorted_tail t (u ∷ us) s) in
     ((front, first_through t u us front rest.0), rest)
 
-pub by_key : (ts : List Timer) → IsSortedByKey key_of (λ x y. ordering_then (nat_cmp x.0 y.0) (nat_cmp x.1 y.1)) ts → IsSortedBy is_before ts
+pub by_key : (ts : List Timer) → IsSortedByKey key_of (λ x y. ordering_then (nat_cmp x.0 y.0) (nat_cmp x.1 y.1)) ts
+    → IsSortedBy is_before ts
 by_key ts s = λ k d l h. sym (key_is_before (get_or ts (k + 1) d) (get_or ts k d)) ∙ s k d l h
 
 -- the result of a sort of distinct timers
-pub sorted_in_order : (old new : List Timer) → IsPermutation old new → AreDistinct old → IsSortedByKey key_of (λ x y. ordering_then (nat_cmp x.0 y.0) (nat_cmp x.1 y.1)) new → new ≡ in_order itself old
-sorted_in_order old new p d s = ordered_is_in_order itself old new p (rw (map-itself old) d) (rw (map-itself new) (sorted_is_ordered new (by_key new s)))
+pub sorted_in_order : (old new : List Timer) → IsPermutation old new → AreDistinct old
+    → IsSortedByKey key_of (λ x y. ordering_then (nat_cmp x.0 y.0) (nat_cmp x.1 y.1)) new → new ≡ in_order itself old
+sorted_in_order old new p d s = ordered_is_in_order itself old new p (rw (map-itself old) d)
+    (rw (map-itself new) (sorted_is_ordered new (by_key new s)))

@@ -9,7 +9,8 @@ is_before a b = nat_lt a.deadline b.deadline || (a.deadline == b.deadline && nat
 -- x is inserted before the first one that is handed out after it
 abbrev pub insert_in_order : {X : Type 0} → (X → Timer) → X → List X → List X
 insert_in_order timer x [] = x ∷ []
-insert_in_order timer x (y ∷ ys) = if is_before (timer x) (timer y) then x ∷ y ∷ ys else y ∷ insert_in_order timer x ys
+insert_in_order timer x (y ∷ ys) = if is_before (timer x)
+    (timer y) then x ∷ y ∷ ys else y ∷ insert_in_order timer x ys
 
 -- the members of a list by deadline, and then by serial
 abbrev pub in_order : {X : Type 0} → (X → Timer) → List X → List X
@@ -19,7 +20,8 @@ in_order timer (x ∷ xs) = insert_in_order timer x (in_order timer xs)
 -- x is inserted before the first one with a later deadline, or last where there is none
 abbrev pub insert_by_deadline : {X : Type 0} → (X → Timer) → X → List X → List X
 insert_by_deadline timer x [] = x ∷ []
-insert_by_deadline timer x (y ∷ ys) = if nat_lt (timer x).deadline (timer y).deadline then x ∷ y ∷ ys else y ∷ insert_by_deadline timer x ys
+insert_by_deadline timer x (y ∷ ys) = if nat_lt (timer x).deadline
+    (timer y).deadline then x ∷ y ∷ ys else y ∷ insert_by_deadline timer x ys
 
 -- none of the timers is handed out before this one
 abbrev pub IsFirst : Timer → List Timer → Type 0

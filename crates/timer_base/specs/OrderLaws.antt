@@ -1,4 +1,5 @@
--- Lemmas about the order of anything that has a timer. They are in specs/ since clauses and crates above cite them.
+-- Lemmas about the order of anything that has a timer. They are in specs/ since clauses and crates above cite
+-- them.
 use Rattle.std.specs.Prelude.{◌≡◌, ◌≢◌, ◌<◌, ◌≤◌, ℕ, suc, Bool, true, false, ◌==◌, ◌⊎◌, nat_lt, if◌then◌else◌, List, [], ◌∷◌, ◌++◌, length, filter, map, refl}
 use Rattle.std.proofs.Common.{sym, ◌∙◌, ap, inl, inr, arith}
 use Rattle.std.specs.Coded.{×_prop, Unit-prop, le_prop}
@@ -12,16 +13,20 @@ either b = elim b as (λ v. (v ≡ true) ⊎ (v ≡ false)) [ true ↦ inl refl 
 
 -- The comparison decides the order, both ways.
 
-pub before_means : (a b : Timer) → is_before a b ≡ true → (a.deadline < b.deadline) ⊎ ((a.deadline ≡ b.deadline) × (a.serial < b.serial))
+pub before_means : (a b : Timer) → is_before a b ≡ true → (a.deadline < b.deadline)
+    ⊎ ((a.deadline ≡ b.deadline) × (a.serial < b.serial))
 before_means a b h = grind (arith, nat_tests)
 
-pub not_before_means : (a b : Timer) → is_before a b ≡ false → (b.deadline < a.deadline) ⊎ ((a.deadline ≡ b.deadline) × (b.serial ≤ a.serial))
+pub not_before_means : (a b : Timer) → is_before a b ≡ false → (b.deadline < a.deadline)
+    ⊎ ((a.deadline ≡ b.deadline) × (b.serial ≤ a.serial))
 not_before_means a b h = grind (arith, nat_tests)
 
-pub is_before_when : (a b : Timer) → (a.deadline < b.deadline) ⊎ ((a.deadline ≡ b.deadline) × (a.serial < b.serial)) → is_before a b ≡ true
+pub is_before_when : (a b : Timer) → (a.deadline < b.deadline)
+    ⊎ ((a.deadline ≡ b.deadline) × (a.serial < b.serial)) → is_before a b ≡ true
 is_before_when a b h = grind (arith, nat_tests)
 
-pub is_not_before_when : (a b : Timer) → (b.deadline < a.deadline) ⊎ ((a.deadline ≡ b.deadline) × (b.serial ≤ a.serial)) → is_before a b ≡ false
+pub is_not_before_when : (a b : Timer) → (b.deadline < a.deadline)
+    ⊎ ((a.deadline ≡ b.deadline) × (b.serial ≤ a.serial)) → is_before a b ≡ false
 is_not_before_when a b h = grind (arith, nat_tests)
 
 not_both : (a b : Timer) → is_before a b ≡ true → is_before b a ≡ false
@@ -46,25 +51,33 @@ newest_test : (e x : Timer) → x.serial < e.serial → is_before e x ≡ nat_lt
 newest_test e x h = grind (arith, nat_tests)
 
 newest_step : {X : Type 0} (timer : X → Timer) (e x y : X) (ys : List X) → (timer x).serial < (timer e).serial
-    → insert_by_deadline timer e (insert_in_order timer x ys) ≡ insert_in_order timer x (insert_by_deadline timer e ys)
-    → insert_by_deadline timer e (insert_in_order timer x (y ∷ ys)) ≡ insert_in_order timer x (insert_by_deadline timer e (y ∷ ys))
+    → insert_by_deadline timer e (insert_in_order timer x ys)
+    ≡ insert_in_order timer x (insert_by_deadline timer e ys)
+    → insert_by_deadline timer e (insert_in_order timer x (y ∷ ys))
+    ≡ insert_in_order timer x (insert_by_deadline timer e (y ∷ ys))
 newest_step timer e x y ys h ih = grind (arith, nat_tests)
 
 newest_none : {X : Type 0} (timer : X → Timer) (e x : X) → (timer x).serial < (timer e).serial
-    → insert_by_deadline timer e (insert_in_order timer x []) ≡ insert_in_order timer x (insert_by_deadline timer e [])
+    → insert_by_deadline timer e (insert_in_order timer x [])
+    ≡ insert_in_order timer x (insert_by_deadline timer e [])
 newest_none timer e x h = grind (arith, nat_tests)
 
-pub insert_by_deadline-insert_in_order : {X : Type 0} (timer : X → Timer) (e x : X) (l : List X) → (timer x).serial < (timer e).serial
-    → insert_by_deadline timer e (insert_in_order timer x l) ≡ insert_in_order timer x (insert_by_deadline timer e l)
+pub insert_by_deadline-insert_in_order : {X : Type 0} (timer : X → Timer) (e x : X) (l : List X)
+    → (timer x).serial < (timer e).serial
+    → insert_by_deadline timer e (insert_in_order timer x l)
+    ≡ insert_in_order timer x (insert_by_deadline timer e l)
 insert_by_deadline-insert_in_order timer e x [] h = newest_none timer e x h
-insert_by_deadline-insert_in_order timer e x (y ∷ ys) h = newest_step timer e x y ys h (insert_by_deadline-insert_in_order timer e x ys h)
+insert_by_deadline-insert_in_order timer e x (y ∷ ys) h =
+    newest_step timer e x y ys h (insert_by_deadline-insert_in_order timer e x ys h)
 
-pub insert_newest : {X : Type 0} (timer : X → Timer) (e : X) (l : List X) → AreBelow (timer e).serial (map timer l)
+pub insert_newest : {X : Type 0} (timer : X → Timer) (e : X) (l : List X)
+    → AreBelow (timer e).serial (map timer l)
     → insert_in_order timer e l ≡ insert_by_deadline timer e l
 insert_newest timer e [] b = refl
 insert_newest timer e (y ∷ ys) b = rw (newest_test (timer e) (timer y) b.0, insert_newest timer e ys b.1) refl
 
-AreBelow-insert_in_order : {X : Type 0} (timer : X → Timer) (high : ℕ) (x : X) (l : List X) → (timer x).serial < high
+AreBelow-insert_in_order : {X : Type 0} (timer : X → Timer) (high : ℕ) (x : X) (l : List X)
+    → (timer x).serial < high
     → AreBelow high (map timer l) → AreBelow high (map timer (insert_in_order timer x l))
 AreBelow-insert_in_order timer high x [] h b = (h, tt)
 AreBelow-insert_in_order timer high x (y ∷ ys) h b = elim (either (is_before (timer x) (timer y))) [
@@ -72,15 +85,19 @@ AreBelow-insert_in_order timer high x (y ∷ ys) h b = elim (either (is_before (
   | inr k ↦ rw k (b.0, AreBelow-insert_in_order timer high x ys h b.1)
 ]
 
-pub AreBelow-in_order : {X : Type 0} (timer : X → Timer) (high : ℕ) (xs : List X) → AreBelow high (map timer xs)
+pub AreBelow-in_order : {X : Type 0} (timer : X → Timer) (high : ℕ) (xs : List X)
+    → AreBelow high (map timer xs)
     → AreBelow high (map timer (in_order timer xs))
 AreBelow-in_order timer high [] b = tt
-AreBelow-in_order timer high (x ∷ xs) b = AreBelow-insert_in_order timer high x (in_order timer xs) b.0 (AreBelow-in_order timer high xs b.1)
+AreBelow-in_order timer high (x ∷ xs) b = AreBelow-insert_in_order timer high x (in_order timer xs) b.0
+    (AreBelow-in_order timer high xs b.1)
 
 -- a newest one, wherever it is in the list, is ordered after those of its deadline
-pub in_order-newest : {X : Type 0} (timer : X → Timer) (e : X) (xs ys : List X) → AreBelow (timer e).serial (map timer (xs ++ ys))
+pub in_order-newest : {X : Type 0} (timer : X → Timer) (e : X) (xs ys : List X)
+    → AreBelow (timer e).serial (map timer (xs ++ ys))
     → in_order timer (xs ++ e ∷ ys) ≡ insert_by_deadline timer e (in_order timer (xs ++ ys))
-in_order-newest timer e [] ys b = insert_newest timer e (in_order timer ys) (AreBelow-in_order timer (timer e).serial ys b)
+in_order-newest timer e [] ys b = insert_newest timer e (in_order timer ys)
+    (AreBelow-in_order timer (timer e).serial ys b)
 in_order-newest timer e (x ∷ xs) ys b =
     ap (insert_in_order timer x) (in_order-newest timer e xs ys b.1)
     ∙ sym (insert_by_deadline-insert_in_order timer e x (in_order timer (xs ++ ys)) b.0)
@@ -93,8 +110,10 @@ both_bools b h k = cc
 clash : (a b c : Timer) → is_before a b ≡ true → is_before b c ≡ true → is_before a c ≡ false → ⊥
 clash a b c h k e = both_bools (is_before a c) (through a b c h k) e
 
-pub insert_in_order-commutes : {X : Type 0} (timer : X → Timer) (x y : X) (l : List X) → (timer x).serial ≢ (timer y).serial
-    → insert_in_order timer x (insert_in_order timer y l) ≡ insert_in_order timer y (insert_in_order timer x l)
+pub insert_in_order-commutes : {X : Type 0} (timer : X → Timer) (x y : X) (l : List X)
+    → (timer x).serial ≢ (timer y).serial
+    → insert_in_order timer x (insert_in_order timer y l)
+    ≡ insert_in_order timer y (insert_in_order timer x l)
 insert_in_order-commutes timer x y [] n = elim (either (is_before (timer x) (timer y))) [
   | inl h ↦ simp (h, not_both (timer x) (timer y) h) refl
   | inr h ↦ simp (h, one_of_both (timer x) (timer y) n h) refl
@@ -119,7 +138,8 @@ insert_in_order-commutes timer x y (z ∷ zs) n = elim (either (is_before (timer
   ]
 ]
 
-pub in_order-anywhere : {X : Type 0} (timer : X → Timer) (x : X) (ys zs : List X) → IsNotAmong (timer x).serial (map timer ys)
+pub in_order-anywhere : {X : Type 0} (timer : X → Timer) (x : X) (ys zs : List X)
+    → IsNotAmong (timer x).serial (map timer ys)
     → in_order timer (ys ++ x ∷ zs) ≡ insert_in_order timer x (in_order timer (ys ++ zs))
 in_order-anywhere timer x [] zs n = refl
 in_order-anywhere timer x (y ∷ ys) zs n =
@@ -128,7 +148,8 @@ in_order-anywhere timer x (y ∷ ys) zs n =
 
 -- The length, and facts of every member.
 
-pub length-insert_in_order : {X : Type 0} (timer : X → Timer) (x : X) (l : List X) → length (insert_in_order timer x l) ≡ suc (length l)
+pub length-insert_in_order : {X : Type 0} (timer : X → Timer) (x : X) (l : List X)
+    → length (insert_in_order timer x l) ≡ suc (length l)
 length-insert_in_order timer x [] = refl
 length-insert_in_order timer x (y ∷ ys) = elim (either (is_before (timer x) (timer y))) [
   | inl h ↦ rw h refl
@@ -137,9 +158,11 @@ length-insert_in_order timer x (y ∷ ys) = elim (either (is_before (timer x) (t
 
 pub length-in_order : {X : Type 0} (timer : X → Timer) (xs : List X) → length (in_order timer xs) ≡ length xs
 length-in_order timer [] = refl
-length-in_order timer (x ∷ xs) = length-insert_in_order timer x (in_order timer xs) ∙ ap suc (length-in_order timer xs)
+length-in_order timer (x ∷ xs) = length-insert_in_order timer x (in_order timer xs)
+    ∙ ap suc (length-in_order timer xs)
 
-All-insert_in_order : {X : Type 0} (timer : X → Timer) (P : X → Type 0) (x : X) (ys : List X) → P x → AllByRecursion P ys
+All-insert_in_order : {X : Type 0} (timer : X → Timer) (P : X → Type 0) (x : X) (ys : List X) → P x
+    → AllByRecursion P ys
     → AllByRecursion P (insert_in_order timer x ys)
 All-insert_in_order timer P x [] p a = (p, tt)
 All-insert_in_order timer P x (y ∷ ys) p a = elim (either (is_before (timer x) (timer y))) [
@@ -147,11 +170,14 @@ All-insert_in_order timer P x (y ∷ ys) p a = elim (either (is_before (timer x)
   | inr k ↦ rw k (a.0, All-insert_in_order timer P x ys p a.1)
 ]
 
-pub All-in_order : {X : Type 0} (timer : X → Timer) (P : X → Type 0) (xs : List X) → AllByRecursion P xs → AllByRecursion P (in_order timer xs)
+pub All-in_order : {X : Type 0} (timer : X → Timer) (P : X → Type 0) (xs : List X) → AllByRecursion P xs
+    → AllByRecursion P (in_order timer xs)
 All-in_order timer P [] a = tt
-All-in_order timer P (x ∷ xs) a = All-insert_in_order timer P x (in_order timer xs) a.0 (All-in_order timer P xs a.1)
+All-in_order timer P (x ∷ xs) a = All-insert_in_order timer P x (in_order timer xs) a.0
+    (All-in_order timer P xs a.1)
 
-pub All-filter : {X : Type 0} (P Q : X → Type 0) (p : X → Bool) (xs : List X) → ((x : X) → p x ≡ true → P x → Q x) → AllByRecursion P xs
+pub All-filter : {X : Type 0} (P Q : X → Type 0) (p : X → Bool) (xs : List X)
+    → ((x : X) → p x ≡ true → P x → Q x) → AllByRecursion P xs
     → AllByRecursion Q (filter p xs)
 All-filter P Q p [] f a = tt
 All-filter P Q p (x ∷ xs) f a = elim (either (p x)) [
@@ -159,7 +185,8 @@ All-filter P Q p (x ∷ xs) f a = elim (either (p x)) [
   | inr k ↦ rw k (All-filter P Q p xs f a.1)
 ]
 
-pub All-weaken : {X : Type 0} (P Q : X → Type 0) (xs : List X) → ((x : X) → P x → Q x) → AllByRecursion P xs → AllByRecursion Q xs
+pub All-weaken : {X : Type 0} (P Q : X → Type 0) (xs : List X) → ((x : X) → P x → Q x) → AllByRecursion P xs
+    → AllByRecursion Q xs
 All-weaken P Q [] f a = tt
 All-weaken P Q (x ∷ xs) f a = (f x a.0, All-weaken P Q xs f a.1)
 
@@ -169,7 +196,8 @@ IsFirst-weaken : (a b : Timer) (ts : List Timer) → is_before a b ≡ true → 
 IsFirst-weaken a b [] h f = tt
 IsFirst-weaken a b (t ∷ ts) h f = (first_through a b t h f.0, IsFirst-weaken a b ts h f.1)
 
-IsFirst-insert_in_order : {X : Type 0} (timer : X → Timer) (t : Timer) (x : X) (ys : List X) → is_before (timer x) t ≡ false
+IsFirst-insert_in_order : {X : Type 0} (timer : X → Timer) (t : Timer) (x : X) (ys : List X)
+    → is_before (timer x) t ≡ false
     → IsFirst t (map timer ys) → IsFirst t (map timer (insert_in_order timer x ys))
 IsFirst-insert_in_order timer t x [] h f = (h, tt)
 IsFirst-insert_in_order timer t x (y ∷ ys) h f = elim (either (is_before (timer x) (timer y))) [
@@ -181,13 +209,21 @@ IsOrdered-insert_in_order : {X : Type 0} (timer : X → Timer) (x : X) (ys : Lis
     → IsOrdered (map timer (insert_in_order timer x ys))
 IsOrdered-insert_in_order timer x [] o = (tt, tt)
 IsOrdered-insert_in_order timer x (y ∷ ys) o = elim (either (is_before (timer x) (timer y))) [
-  | inl k ↦ rw k ((not_both (timer x) (timer y) k, IsFirst-weaken (timer x) (timer y) (map timer ys) k o.0), o)
-  | inr k ↦ rw k (IsFirst-insert_in_order timer (timer y) x ys k o.0, IsOrdered-insert_in_order timer x ys o.1)
+  | inl k ↦ rw k (
+    (not_both (timer x) (timer y) k, IsFirst-weaken (timer x) (timer y) (map timer ys) k o.0),
+    o,
+  )
+  | inr k ↦ rw k (
+    IsFirst-insert_in_order timer (timer y) x ys k o.0,
+    IsOrdered-insert_in_order timer x ys o.1,
+  )
 ]
 
-pub IsOrdered-in_order : {X : Type 0} (timer : X → Timer) (xs : List X) → IsOrdered (map timer (in_order timer xs))
+pub IsOrdered-in_order : {X : Type 0} (timer : X → Timer) (xs : List X)
+    → IsOrdered (map timer (in_order timer xs))
 IsOrdered-in_order timer [] = tt
-IsOrdered-in_order timer (x ∷ xs) = IsOrdered-insert_in_order timer x (in_order timer xs) (IsOrdered-in_order timer xs)
+IsOrdered-in_order timer (x ∷ xs) = IsOrdered-insert_in_order timer x (in_order timer xs)
+    (IsOrdered-in_order timer xs)
 
 -- Filtering commutes with ordering.
 
@@ -196,7 +232,8 @@ insert_front : {X : Type 0} (timer : X → Timer) (x y : X) (zs : List X) → is
 insert_front timer x y [] h f = refl
 insert_front timer x y (z ∷ zs) h f = rw (strictly_through (timer x) (timer y) (timer z) h f.0) refl
 
-IsFirst-filter : {X : Type 0} (timer : X → Timer) (p : X → Bool) (t : Timer) (ys : List X) → IsFirst t (map timer ys)
+IsFirst-filter : {X : Type 0} (timer : X → Timer) (p : X → Bool) (t : Timer) (ys : List X)
+    → IsFirst t (map timer ys)
     → IsFirst t (map timer (filter p ys))
 IsFirst-filter timer p t [] f = tt
 IsFirst-filter timer p t (y ∷ ys) f = elim (either (p y)) [
@@ -204,27 +241,31 @@ IsFirst-filter timer p t (y ∷ ys) f = elim (either (p y)) [
   | inr k ↦ rw k (IsFirst-filter timer p t ys f.1)
 ]
 
-pub IsOrdered-filter : {X : Type 0} (timer : X → Timer) (p : X → Bool) (ys : List X) → IsOrdered (map timer ys) → IsOrdered (map timer (filter p ys))
+pub IsOrdered-filter : {X : Type 0} (timer : X → Timer) (p : X → Bool) (ys : List X)
+    → IsOrdered (map timer ys) → IsOrdered (map timer (filter p ys))
 IsOrdered-filter timer p [] o = tt
 IsOrdered-filter timer p (y ∷ ys) o = elim (either (p y)) [
   | inl k ↦ rw k (IsFirst-filter timer p (timer y) ys o.0, IsOrdered-filter timer p ys o.1)
   | inr k ↦ rw k (IsOrdered-filter timer p ys o.1)
 ]
 
-filter_not : {X : Type 0} (timer : X → Timer) (p : X → Bool) (x : X) (ys : List X) → p x ≡ false → filter p (insert_in_order timer x ys) ≡ filter p ys
+filter_not : {X : Type 0} (timer : X → Timer) (p : X → Bool) (x : X) (ys : List X) → p x ≡ false
+    → filter p (insert_in_order timer x ys) ≡ filter p ys
 filter_not timer p x [] n = rw n refl
 filter_not timer p x (y ∷ ys) n = elim (either (is_before (timer x) (timer y))) [
   | inl k ↦ rw (k, n) refl
   | inr k ↦ rw k (ap (λ r. if p y then y ∷ r else r) (filter_not timer p x ys n))
 ]
 
-filter_kept : {X : Type 0} (timer : X → Timer) (p : X → Bool) (x : X) (ys : List X) → p x ≡ true → IsOrdered (map timer ys)
+filter_kept : {X : Type 0} (timer : X → Timer) (p : X → Bool) (x : X) (ys : List X) → p x ≡ true
+    → IsOrdered (map timer ys)
     → filter p (insert_in_order timer x ys) ≡ insert_in_order timer x (filter p ys)
 filter_kept timer p x [] n o = rw n refl
 filter_kept timer p x (y ∷ ys) n o = elim (either (is_before (timer x) (timer y))) [
   | inl k ↦ elim (either (p y)) [
     | inl m ↦ rw (k, n, m, k) refl
-    | inr m ↦ rw (k, n, m) (sym (insert_front timer x y (filter p ys) k (IsFirst-filter timer p (timer y) ys o.0)))
+    | inr m ↦ rw (k, n, m) (sym (insert_front timer x y (filter p ys) k
+        (IsFirst-filter timer p (timer y) ys o.0)))
   ]
   | inr k ↦ elim (either (p y)) [
     | inl m ↦ rw (k, m, k) (ap (λ r. y ∷ r) (filter_kept timer p x ys n o.1))
@@ -232,7 +273,8 @@ filter_kept timer p x (y ∷ ys) n o = elim (either (is_before (timer x) (timer 
   ]
 ]
 
-pub filter-in_order : {X : Type 0} (timer : X → Timer) (p : X → Bool) (xs : List X) → filter p (in_order timer xs) ≡ in_order timer (filter p xs)
+pub filter-in_order : {X : Type 0} (timer : X → Timer) (p : X → Bool) (xs : List X)
+    → filter p (in_order timer xs) ≡ in_order timer (filter p xs)
 filter-in_order timer p [] = refl
 filter-in_order timer p (x ∷ xs) = elim (either (p x)) [
   | inl k ↦ rw k (filter_kept timer p x (in_order timer xs) k (IsOrdered-in_order timer xs)
@@ -242,7 +284,8 @@ filter-in_order timer p (x ∷ xs) = elim (either (p x)) [
 
 -- The order depends on the timers alone, whatever carries them.
 
-map_step : {X : Type 0} {Y : Type 0} (f : X → Timer) (g : Y → Timer) (h : X → Y) (x y : X) (ys : List X) → g (h x) ≡ f x → g (h y) ≡ f y
+map_step : {X : Type 0} {Y : Type 0} (f : X → Timer) (g : Y → Timer) (h : X → Y) (x y : X) (ys : List X)
+    → g (h x) ≡ f x → g (h y) ≡ f y
     → map h (insert_in_order f x ys) ≡ insert_in_order g (h x) (map h ys)
     → map h (insert_in_order f x (y ∷ ys)) ≡ insert_in_order g (h x) (map h (y ∷ ys))
 map_step f g h x y ys a b ih = rw (a, b) (elim (either (is_before (f x) (f y))) [
@@ -250,15 +293,19 @@ map_step f g h x y ys a b ih = rw (a, b) (elim (either (is_before (f x) (f y))) 
   | inr k ↦ rw k (ap (λ r. h y ∷ r) ih)
 ])
 
-map-insert_in_order : {X : Type 0} {Y : Type 0} (f : X → Timer) (g : Y → Timer) (h : X → Y) (same : (x : X) → g (h x) ≡ f x)
+map-insert_in_order : {X : Type 0} {Y : Type 0} (f : X → Timer) (g : Y → Timer) (h : X → Y) (same : (x : X)
+    → g (h x) ≡ f x)
     → (x : X) (ys : List X) → map h (insert_in_order f x ys) ≡ insert_in_order g (h x) (map h ys)
 map-insert_in_order f g h same x [] = refl
-map-insert_in_order f g h same x (y ∷ ys) = map_step f g h x y ys (same x) (same y) (map-insert_in_order f g h same x ys)
+map-insert_in_order f g h same x (y ∷ ys) = map_step f g h x y ys (same x) (same y)
+    (map-insert_in_order f g h same x ys)
 
-pub map-in_order : {X : Type 0} {Y : Type 0} (f : X → Timer) (g : Y → Timer) (h : X → Y) (same : (x : X) → g (h x) ≡ f x) (xs : List X)
+pub map-in_order : {X : Type 0} {Y : Type 0} (f : X → Timer) (g : Y → Timer) (h : X → Y) (same : (x : X)
+    → g (h x) ≡ f x) (xs : List X)
     → map h (in_order f xs) ≡ in_order g (map h xs)
 map-in_order f g h same [] = refl
-map-in_order f g h same (x ∷ xs) = map-insert_in_order f g h same x (in_order f xs) ∙ ap (insert_in_order g (h x)) (map-in_order f g h same xs)
+map-in_order f g h same (x ∷ xs) = map-insert_in_order f g h same x (in_order f xs)
+    ∙ ap (insert_in_order g (h x)) (map-in_order f g h same xs)
 
 -- Rising serials.
 
@@ -270,14 +317,17 @@ pub AreRising-weaken : (a b : ℕ) (ts : List Timer) → b ≤ a → AreRising a
 AreRising-weaken a b [] h r = tt
 AreRising-weaken a b (t ∷ ts) h r = (let r0 : a < t.serial = r.0 in omega arith, r.1)
 
-pub AreRising-filter : (p : Timer → Bool) (low : ℕ) (ts : List Timer) → AreRising low ts → AreRising low (filter p ts)
+pub AreRising-filter : (p : Timer → Bool) (low : ℕ) (ts : List Timer) → AreRising low ts
+    → AreRising low (filter p ts)
 AreRising-filter p low [] r = tt
 AreRising-filter p low (t ∷ ts) r = elim (either (p t)) [
   | inl k ↦ rw k (r.0, AreRising-filter p t.serial ts r.1)
-  | inr k ↦ rw k (AreRising-filter p low ts (AreRising-weaken t.serial low ts (let r0 : low < t.serial = r.0 in omega arith) r.1))
+  | inr k ↦ rw k (AreRising-filter p low ts (AreRising-weaken t.serial low ts (let r0 : low < t.serial = r.0
+      in omega arith) r.1))
 ]
 
-pub AreRising-append : (low : ℕ) (e : Timer) (ts : List Timer) → AreRising low ts → AreBelow e.serial ts → low < e.serial
+pub AreRising-append : (low : ℕ) (e : Timer) (ts : List Timer) → AreRising low ts → AreBelow e.serial ts
+    → low < e.serial
     → AreRising low (ts ++ e ∷ [])
 AreRising-append low e [] r b h = (h, tt)
 AreRising-append low e (t ∷ ts) r b h = (r.0, AreRising-append t.serial e ts r.1 b.1 b.0)
@@ -286,7 +336,8 @@ AreRising-append low e (t ∷ ts) r b h = (r.0, AreRising-append t.serial e ts r
 abbrev pub AllAt : ℕ → List Timer → Type 0
 AllAt tick ts = AllByRecursion (λ t. t.deadline ≡ tick) ts
 
-same_front : (a b : Timer) (tick : ℕ) → a.deadline ≡ tick → b.deadline ≡ tick → a.serial < b.serial → is_before a b ≡ true
+same_front : (a b : Timer) (tick : ℕ) → a.deadline ≡ tick → b.deadline ≡ tick → a.serial < b.serial
+    → is_before a b ≡ true
 same_front a b tick h k l = grind (arith, nat_tests)
 
 pub in_order-same : {X : Type 0} (timer : X → Timer) (tick low : ℕ) (xs : List X) → AllAt tick (map timer xs)
@@ -309,7 +360,8 @@ AllAt-filter tick (t ∷ ts) = elim (either (t.deadline == tick)) [
 
 -- Distinct serials.
 
-IsNotAmong-insert_in_order : {X : Type 0} (timer : X → Timer) (s : ℕ) (x : X) (ys : List X) → (timer x).serial ≢ s
+IsNotAmong-insert_in_order : {X : Type 0} (timer : X → Timer) (s : ℕ) (x : X) (ys : List X)
+    → (timer x).serial ≢ s
     → IsNotAmong s (map timer ys) → IsNotAmong s (map timer (insert_in_order timer x ys))
 IsNotAmong-insert_in_order timer s x [] h n = (h, tt)
 IsNotAmong-insert_in_order timer s x (y ∷ ys) h n = elim (either (is_before (timer x) (timer y))) [
@@ -317,20 +369,26 @@ IsNotAmong-insert_in_order timer s x (y ∷ ys) h n = elim (either (is_before (t
   | inr k ↦ rw k (n.0, IsNotAmong-insert_in_order timer s x ys h n.1)
 ]
 
-AreDistinct-insert_in_order : {X : Type 0} (timer : X → Timer) (x : X) (ys : List X) → IsNotAmong (timer x).serial (map timer ys)
+AreDistinct-insert_in_order : {X : Type 0} (timer : X → Timer) (x : X) (ys : List X)
+    → IsNotAmong (timer x).serial (map timer ys)
     → AreDistinct (map timer ys) → AreDistinct (map timer (insert_in_order timer x ys))
 AreDistinct-insert_in_order timer x [] n d = (tt, tt)
 AreDistinct-insert_in_order timer x (y ∷ ys) n d = elim (either (is_before (timer x) (timer y))) [
   | inl k ↦ rw k (n, d)
-  | inr k ↦ rw k (IsNotAmong-insert_in_order timer (timer y).serial x ys (λ e. n.0 (sym e)) d.0, AreDistinct-insert_in_order timer x ys n.1 d.1)
+  | inr k ↦ rw k (
+    IsNotAmong-insert_in_order timer (timer y).serial x ys (λ e. n.0 (sym e)) d.0,
+    AreDistinct-insert_in_order timer x ys n.1 d.1,
+  )
 ]
 
 pub IsNotAmong-in_order : {X : Type 0} (timer : X → Timer) (s : ℕ) (xs : List X) → IsNotAmong s (map timer xs)
     → IsNotAmong s (map timer (in_order timer xs))
 IsNotAmong-in_order timer s [] n = tt
-IsNotAmong-in_order timer s (x ∷ xs) n = IsNotAmong-insert_in_order timer s x (in_order timer xs) n.0 (IsNotAmong-in_order timer s xs n.1)
+IsNotAmong-in_order timer s (x ∷ xs) n = IsNotAmong-insert_in_order timer s x (in_order timer xs) n.0
+    (IsNotAmong-in_order timer s xs n.1)
 
-pub AreDistinct-in_order : {X : Type 0} (timer : X → Timer) (xs : List X) → AreDistinct (map timer xs) → AreDistinct (map timer (in_order timer xs))
+pub AreDistinct-in_order : {X : Type 0} (timer : X → Timer) (xs : List X) → AreDistinct (map timer xs)
+    → AreDistinct (map timer (in_order timer xs))
 AreDistinct-in_order timer [] d = tt
 AreDistinct-in_order timer (x ∷ xs) d =
     AreDistinct-insert_in_order timer x (in_order timer xs)
@@ -344,4 +402,7 @@ IsNotAmong-rising s low (t ∷ ts) h r =
 
 pub AreDistinct-rising : (low : ℕ) (ts : List Timer) → AreRising low ts → AreDistinct ts
 AreDistinct-rising low [] r = tt
-AreDistinct-rising low (t ∷ ts) r = (IsNotAmong-rising t.serial t.serial ts (omega arith) r.1, AreDistinct-rising t.serial ts r.1)
+AreDistinct-rising low (t ∷ ts) r = (
+  IsNotAmong-rising t.serial t.serial ts (omega arith) r.1,
+  AreDistinct-rising t.serial ts r.1,
+)

@@ -1,4 +1,5 @@
--- The wheel state of a list of timers in order of starting: those after now are pending, and those at now are due.
+-- The wheel state of a list of timers in order of starting: those after now are pending, and those at now are
+-- due.
 use Rattle.std.specs.Prelude.{◌≡◌, ◌<◌, ◌≤◌, ◌+◌, ◌-◌, ℕ, Bool, true, ◌&&◌, nat_lt, min, if◌then◌else◌, List, [], ◌∷◌, Option, Some, None, map, filter, length, refl}
 use Rattle.std.specs.List.{AllByRecursion, AllByRecursion-prop}
 use Rattle.std.specs.Coded.{le_prop}
@@ -55,7 +56,8 @@ earliest (Some first) (Some second) = Some (min first second)
 -- the earliest deadline after the tick, if there is one
 abbrev pub first_after : ℕ → List Timer → Option ℕ
 first_after tick [] = None
-first_after tick (t ∷ ts) = if is_after tick t then earliest (Some t.deadline) (first_after tick ts) else first_after tick ts
+first_after tick (t ∷ ts) = if is_after tick t then earliest (Some t.deadline)
+    (first_after tick ts) else first_after tick ts
 
 -- the deadline is not before now and not after the last tick, and the serial is at most the last one
 pub record IsKept (now last_serial : ℕ) (t : Timer) : Type 0 where
@@ -66,36 +68,47 @@ pub record IsKept (now last_serial : ℕ) (t : Timer) : Type 0 where
 IsKept-one : (now last_serial : ℕ) (t : Timer) → IsProp (IsKept now last_serial t)
 IsKept-one now last_serial t = hlevel le_prop
 
--- the clock jumps by this many ticks, at most by `most`: to the first deadline, or over ticks at which nothing is due
+-- the clock jumps by this many ticks, at most by `most`: to the first deadline, or over ticks at which
+-- nothing is due
 pub record IsJump (now most passed : ℕ) (ts : List Timer) : Type 0 where
   pub some : 0 < passed
   pub at_most : passed ≤ most
   pub quiet : AreDueAfter (now + (passed - 1)) ts
   pub early : passed < most → 0 < length (filter (is_due_at (now + passed)) ts)
 
-pub IsKept-prop : (now last_serial : ℕ) (ts : List Timer) → IsProp (AllByRecursion (IsKept now last_serial) ts)
+pub IsKept-prop : (now last_serial : ℕ) (ts : List Timer)
+    → IsProp (AllByRecursion (IsKept now last_serial) ts)
 IsKept-prop now last_serial ts = AllByRecursion-prop (IsKept now last_serial) (IsKept-one now last_serial) ts
 
 pub timers_of-at_first_place : (ts : List Timer) → timers_of (map at_first_place ts) ≡ ts
 timers_of-at_first_place [] = refl
 timers_of-at_first_place (t ∷ ts) = ap (λ r. t ∷ r) (timers_of-at_first_place ts)
 
-kept_is_pending : (now last_serial : ℕ) (t : Timer) → is_after now t ≡ true → IsKept now last_serial t → IsPending LAST now last_serial t
-kept_is_pending now last_serial t h k = record { later = grind (arith, nat_tests); in_range = k.in_range; serial = k.serial }
+kept_is_pending : (now last_serial : ℕ) (t : Timer) → is_after now t ≡ true → IsKept now last_serial t
+    → IsPending LAST now last_serial t
+kept_is_pending now last_serial t h k = record {
+  later = grind (arith, nat_tests);
+  in_range = k.in_range;
+  serial = k.serial;
+}
 
-kept_is_due : (now last_serial : ℕ) (t : Timer) → is_due_at now t ≡ true → IsKept now last_serial t → t.deadline ≡ now
+kept_is_due : (now last_serial : ℕ) (t : Timer) → is_due_at now t ≡ true → IsKept now last_serial t
+    → t.deadline ≡ now
 kept_is_due now last_serial t h k = grind (arith, nat_tests)
 
-pub plain_state-well_formed : (now last_serial : ℕ) (ts : List Timer) → now ≤ LAST → last_serial ≤ LAST → AreRising 0 ts
+pub plain_state-well_formed : (now last_serial : ℕ) (ts : List Timer) → now ≤ LAST → last_serial ≤ LAST
+    → AreRising 0 ts
     → AllByRecursion (IsKept now last_serial) ts → IsWellFormed (plain_state now last_serial ts)
 plain_state-well_formed now last_serial ts n l r k =
     let pending : List Timer = filter (is_after now) ts in
     let same : timers_of (map at_first_place (in_order itself pending)) ≡ in_order itself pending =
     timers_of-at_first_place (in_order itself pending) in
-    let ordered : IsOrdered (in_order itself pending) = rw (map-itself (in_order itself pending)) at (IsOrdered-in_order itself pending) in
+    let ordered : IsOrdered (in_order itself pending) =
+    rw (map-itself (in_order itself pending)) at (IsOrdered-in_order itself pending) in
     let apart : AreDistinct pending = AreDistinct-rising 0 pending (AreRising-filter (is_after now) 0 ts r) in
     let distinct : AreDistinct (in_order itself pending) =
-    rw (map-itself (in_order itself pending)) at (AreDistinct-in_order itself pending (rw (map-itself pending) apart)) in
+    rw (map-itself (in_order itself pending)) at (AreDistinct-in_order itself pending
+    (rw (map-itself pending) apart)) in
     record {
       last_in_range = omega arith;
       now_in_range = n;
@@ -103,7 +116,11 @@ plain_state-well_formed now last_serial ts n l r k =
       ordered = rw same ordered;
       distinct = rw same distinct;
       each = rw same (All-in_order itself (IsPending LAST now last_serial) pending
-          (All-filter (IsKept now last_serial) (IsPending LAST now last_serial) (is_after now) ts (kept_is_pending now last_serial) k));
-      due_now = rw (timers_of-at_first_place (filter (is_due_at now) ts)) (All-filter (IsKept now last_serial) (λ t. t.deadline ≡ now) (is_due_at now) ts (kept_is_due now last_serial) k);
-      due_rising = rw (timers_of-at_first_place (filter (is_due_at now) ts)) (AreRising-filter (is_due_at now) 0 ts r);
+          (All-filter (IsKept now last_serial) (IsPending LAST now last_serial) (is_after now) ts
+          (kept_is_pending now last_serial) k));
+      due_now = rw (timers_of-at_first_place (filter (is_due_at now) ts))
+          (All-filter (IsKept now last_serial) (λ t. t.deadline
+          ≡ now) (is_due_at now) ts (kept_is_due now last_serial) k);
+      due_rising = rw (timers_of-at_first_place (filter (is_due_at now) ts))
+          (AreRising-filter (is_due_at now) 0 ts r);
     }

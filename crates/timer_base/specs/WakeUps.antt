@@ -4,8 +4,8 @@ use Rattle.std.specs.List.{AllByRecursion}
 use Rattle.timer_base.specs.Pending.{Entry}
 use Rattle.timer_base.specs.WheelState.{WheelState}
 
--- an owner that wakes up at this tick misses nothing: a timer is pending, the tick is after now, and it is at most every
--- pending deadline
+-- an owner that wakes up at this tick misses nothing: a timer is pending, the tick is after now, and it is at
+-- most every pending deadline
 pub record IsWakeUp (tick : ℕ) (w : WheelState) : Type 0 where
   pub some : 0 < length w.pending
   pub later : w.now < tick

@@ -21,11 +21,20 @@ pub record WheelState : Type 0 where
 
 -- a new wheel
 abbrev pub empty_wheel : ℕ → ℕ → WheelState
-empty_wheel last_tick first_tick = record { last_tick = last_tick; now = first_tick; pending = []; due = []; last_serial = 0 }
+empty_wheel last_tick first_tick = record {
+  last_tick = last_tick;
+  now = first_tick;
+  pending = [];
+  due = [];
+  last_serial = 0;
+}
 
 -- a timer is started at a place
 abbrev pub after_start : ℕ → Timer → WheelState → WheelState
-after_start place timer w = record w { pending = put (record { place = place; timer = timer }) w.pending; last_serial = timer.serial }
+after_start place timer w = record w {
+  pending = put (record { place = place; timer = timer }) w.pending;
+  last_serial = timer.serial;
+}
 
 -- the pending timer with exactly this handle
 abbrev pub timer_at : Handle → WheelState → Option Timer

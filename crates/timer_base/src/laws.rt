@@ -14,13 +14,17 @@ ghost use Rattle.timer_base.specs.WheelState.{IsWellFormed, WheelState, after_st
 
 /// A tick makes the front of the pending timers due, and leaves the rest pending.
 pub fn a_tick_cuts_the_front()
-    ensures { (w : WheelState) → IsWellFormed w → w.pending ≡ entries_due (w.now + 1) w.pending ++ entries_left (w.now + 1) w.pending }
+    ensures { (w : WheelState) → IsWellFormed w → w.pending
+        ≡ entries_due (w.now + 1) w.pending ++ entries_left (w.now + 1) w.pending }
 {}
 
 /// A start inserts the new timer at its position in the order of the pending ones.
 pub fn a_start_keeps_the_order()
     ensures { (w : WheelState) (place : ℕ) (t : Timer) → IsWellFormed w → w.last_serial < t.serial
-        → (after_start place t w).pending ≡ in_order timer_of (record { place = place; timer = t } ∷ w.pending) }
+        → (after_start place t w).pending ≡ in_order timer_of (record {
+          place = place;
+          timer = t;
+        } ∷ w.pending) }
 {}
 
 /// A stop that finds a timer removes just that one.
@@ -31,7 +35,8 @@ pub fn a_stop_takes_one()
 
 /// Nothing becomes due before a tick to wake up at: it is safe to sleep until then.
 pub fn nothing_is_due_before_the_wake_up()
-    ensures { (w : WheelState) (tick n : ℕ) → w.due ≡ [] → IsWakeUp tick w → w.now + n < tick → (after_ticks n w).due ≡ [] }
+    ensures { (w : WheelState) (tick n : ℕ) → w.due ≡ [] → IsWakeUp tick w → w.now + n < tick
+        → (after_ticks n w).due ≡ [] }
 {}
 
 /// The last tick, interval, serial and request number as a literal: 2^60 - 1.
@@ -41,5 +46,6 @@ pub fn the_last_number()
 
 /// The order of distinct timers is unique: two ordered lists of the same timers are equal.
 pub fn the_order_is_one()
-    ensures { (xs ys : List Timer) → IsPermutation xs ys → AreDistinct xs → IsOrdered xs → IsOrdered ys → xs ≡ ys }
+    ensures { (xs ys : List Timer) → IsPermutation xs ys → AreDistinct xs → IsOrdered xs → IsOrdered ys
+        → xs ≡ ys }
 {}

@@ -52,7 +52,8 @@ impl PlainWheel {
     /// A wheel with no timer, at a first tick of at most `LAST`. That is its only error: it does
     /// not allocate.
     pub fn new(alloc: Global, first_tick: u64) -> Result<PlainWheel, MakeFault>
-        ensures made { IfOk result (λ wheel. ⟦<PlainWheel as Wheel>⟧.state wheel ≡ empty_wheel LAST first_tick) }
+        ensures made { IfOk result (λ wheel. ⟦<PlainWheel as Wheel>⟧.state wheel
+            ≡ empty_wheel LAST first_tick) }
         ensures fault { IsErr result ↔ (LAST < first_tick) }
         ensures first_tick { IfErr result (λ fault. fault ≡ MakeFault.FirstTick) }
     {
@@ -69,7 +70,8 @@ impl PlainWheel {
 
     /// How far the clock can jump: to the first pending deadline, or by `most` ticks if that is nearer.
     fn ticks_ahead(&self, most: u64) -> u64
-        requires nothing_due { (plain_state self.now.now self.now.last_serial self.now.timers.items).due ≡ [] }
+        requires nothing_due { (plain_state self.now.now self.now.last_serial self.now.timers.items).due
+            ≡ [] }
         requires some { 0 < most }
         ensures { IsJump self.entry.now.now most result self.entry.now.timers.items }
     {
@@ -81,7 +83,8 @@ impl PlainWheel {
 
     /// Sets the clock forward over ticks at which nothing is due.
     fn skip(&mut self, ticks: u64)
-        requires nothing_due { (plain_state self.old.now self.old.last_serial self.old.timers.items).due ≡ [] }
+        requires nothing_due { (plain_state self.old.now self.old.last_serial self.old.timers.items).due
+            ≡ [] }
         requires quiet { AreDueAfter (self.old.now + ticks) self.old.timers.items }
         requires in_range { self.old.now + ticks ≤ LAST }
         ensures timers { self.new.timers.items ≡ self.old.timers.items }
@@ -95,7 +98,8 @@ impl PlainWheel {
 impl Wheel for PlainWheel {
     ghost state = { λ w. plain_state w.now w.last_serial w.timers.items };
 
-    ghost well_formed = { λ w. plain_state-well_formed w.now w.last_serial w.timers.items w.now_in_range w.serial_in_range w.rising w.kept };
+    ghost well_formed = { λ w. plain_state-well_formed w.now w.last_serial w.timers.items w.now_in_range
+        w.serial_in_range w.rising w.kept };
 
     fn last_tick(&self) -> u64 {
         LAST
@@ -124,6 +128,11 @@ impl Wheel for PlainWheel {
             place: 0,
             serial: timer.serial,
         })
+    }
+
+    fn reserve(&mut self, most: usize) -> Result<(), OutOfMemory> {
+        self.timers.reserve(most.saturating_sub(self.timers.len()))?;
+        Ok(())
     }
 
     fn look(&self, handle: Handle) -> Option<Timer> {
@@ -168,8 +177,10 @@ impl Wheel for PlainWheel {
 
     /// Exactly the first pending deadline, found by a scan of all timers.
     fn quiet_until(&self) -> Option<u64>
-        ensures wake_up { IsQuietUntil result (plain_state self.entry.now.now self.entry.now.last_serial self.entry.now.timers.items) }
-        ensures exact { result ≡ next_deadline (plain_state self.entry.now.now self.entry.now.last_serial self.entry.now.timers.items).pending }
+        ensures wake_up { IsQuietUntil result (plain_state self.entry.now.now self.entry.now.last_serial
+            self.entry.now.timers.items) }
+        ensures exact { result ≡ next_deadline (plain_state self.entry.now.now self.entry.now.last_serial
+            self.entry.now.timers.items).pending }
     {
         first_deadline(self.timers.as_slice(), self.now)
     }
@@ -290,7 +301,8 @@ fn find_due_with(timers: &[Timer], serial: u64, tick: u64) -> Option<Timer>
 /// Removes the timer with the serial, and keeps the order of the others.
 fn drop_serial(timers: &mut Vec<Timer>, serial: u64)
     ensures items { timers.new.items ≡ filter (λ t. not (has_serial serial t)) timers.old.items }
-    ensures room { length timers.new.items < length timers.old.items → vec_len timers.new < vec_capacity timers.new }
+    ensures room { length timers.new.items < length timers.old.items
+        → vec_len timers.new < vec_capacity timers.new }
 {
     timers.retain(|t| t.serial != serial);
 }

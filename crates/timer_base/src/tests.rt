@@ -14,7 +14,13 @@ fn settle<W: Wheel>(rt: &impl Abort, wheel: &W)
 
 /// A timer of client 7, whose request number is its serial and whose action is 99.
 fn timer(serial: u64, deadline: u64) -> Timer
-    ensures { result ≡ record { serial = serial; client = 7; number = serial; deadline = deadline; action = 99 } }
+    ensures { result ≡ record {
+      serial = serial;
+      client = 7;
+      number = serial;
+      deadline = deadline;
+      action = 99;
+    } }
 {
     Timer {
         serial,

@@ -38,8 +38,8 @@ pub trait Wheel {
 
     /// How many timers are pending. Those that are due are not counted.
     ///
-    /// A wheel may have to count those that are due, to leave them out: while some wait, it takes time for each of
-    /// them. `has_due` says whether there are any.
+    /// A wheel may have to count those that are due, to leave them out: while some wait, it takes time for
+    /// each of them. `has_due` says whether there are any.
     fn len(&self) -> usize
         ensures { result ≡ length (state self.now).pending };
 
@@ -63,8 +63,21 @@ pub trait Wheel {
         requires fresh { (state self.old).last_serial < timer.serial }
         requires serial { timer.serial ≤ LAST }
         ensures named { IfOk result (λ handle. handle.serial ≡ timer.serial) }
-        ensures started { IfOk result (λ handle. state self.new ≡ after_start handle.place timer (state self.old)) }
+        ensures started { IfOk result (λ handle. state self.new
+            ≡ after_start handle.place timer (state self.old)) }
         ensures err { OnErr result (state self.new ≡ state self.old) };
+
+    /// Makes room for `most` timers at one time, pending or due, those that are here among them. The only
+    /// error is out of memory; no timer changes, either way.
+    ///
+    /// A wheel of this project then starts timers with no allocation while it has fewer than `most`, also
+    /// after others were removed. The contract doesn't say so: the state of a wheel has no memory in it. A
+    /// wheel that doesn't write this call makes no room.
+    fn reserve(&mut self, _most: usize) -> Result<(), OutOfMemory>
+        ensures { state self.new ≡ state self.old }
+    {
+        Ok(())
+    }
 
     /// Returns the pending timer with exactly this handle, place and serial, or None where there is none: a
     /// timer that is due is no longer pending. Does not allocate.
@@ -128,8 +141,8 @@ pub trait Wheel {
 
     /// Returns the first pending deadline, or None exactly when nothing is pending.
     ///
-    /// It is exact where `quiet_until` may be early, and a wheel may have to walk timers to find it. Due timers
-    /// may be waiting: they are not looked at. Does not allocate.
+    /// It is exact where `quiet_until` may be early, and a wheel may have to walk timers to find it. Due
+    /// timers may be waiting: they are not looked at. Does not allocate.
     fn next_deadline(&self) -> Option<u64>
         ensures { result ≡ next_deadline (state self.now).pending };
 

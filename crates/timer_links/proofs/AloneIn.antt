@@ -17,13 +17,25 @@ last_as : (n k y : ℕ) (rows : List (ℕ × Node)) → last (n + y) (places n r
 last_as n k y rows e = let P : ℕ → Type 0 = λ x. In x ((n + y) ∷ places n rows) in subst P e (last_in (n + y) (places n rows))
 
 -- the places on both sides of a row are the same only where they are the root's
-sides_of : (n l : ℕ) (s : Sides) (front rest : List (ℕ × Node)) → l < n → s.before ≡ last l (places n front) → s.after ≡ first n rest l → ((k : ℕ) → Has k front → Has k rest → ⊥) → neighbour_on_both_sides s ≡ list_if_alone l front rest
+sides_of : (n l : ℕ) (s : Sides) (front rest : List (ℕ × Node)) → l < n → s.before ≡ last l (places n front) → s.after ≡ first n rest l
+    → ((k : ℕ) → Has k front → Has k rest → ⊥) → neighbour_on_both_sides s ≡ list_if_alone l front rest
 sides_of n l s [] [] b e f o = rw (e, f, eq-eqb l l refl) refl
 sides_of n l s [] (r ∷ rs) b e f o = rw (e, f, ne_eqb l (n + r.0) (λ (q : l ≡ n + r.0). absurd (omega arith))) refl
-sides_of n l s (y ∷ ys) [] b e f o = rw (e, f, ne_eqb (last (n + y.0) (places n ys)) l (λ (q : last (n + y.0) (places n ys) ≡ l). root_not n l (y ∷ ys) b (last_as n l y.0 ys q))) refl
-sides_of n l s (y ∷ ys) (r ∷ rs) b e f o = rw (e, f, ne_eqb (last (n + y.0) (places n ys)) (n + r.0) (λ (q : last (n + y.0) (places n ys) ≡ n + r.0). o r.0 (has_place n r.0 (y ∷ ys) (last_as n (n + r.0) y.0 ys q)) (inl refl))) refl
+sides_of n l s (y ∷ ys) [] b e f o = rw (
+  e,
+  f,
+  ne_eqb (last (n + y.0) (places n ys)) l
+      (λ (q : last (n + y.0) (places n ys) ≡ l). root_not n l (y ∷ ys) b (last_as n l y.0 ys q)),
+) refl
+sides_of n l s (y ∷ ys) (r ∷ rs) b e f o = rw (
+  e,
+  f,
+  ne_eqb (last (n + y.0) (places n ys)) (n + r.0)
+      (λ (q : last (n + y.0) (places n ys) ≡ n + r.0). o r.0 (has_place n r.0 (y ∷ ys) (last_as n (n + r.0) y.0 ys q)) (inl refl)),
+) refl
 
-pub is_alone_in : (n : ℕ) (nodes : Slab Node) (s : List Sides) (v : List (List (ℕ × Node))) (key : ℕ) (x : Sides) → IsLinked n nodes s v → x ≡ sides_at s (n + key) → IsAloneIn key v (neighbour_on_both_sides x)
+pub is_alone_in : (n : ℕ) (nodes : Slab Node) (s : List Sides) (v : List (List (ℕ × Node))) (key : ℕ) (x : Sides) → IsLinked n nodes s v
+    → x ≡ sides_at s (n + key) → IsAloneIn key v (neighbour_on_both_sides x)
 is_alone_in n nodes s v key x h q l front node rest d e =
     let b : l < n = low n nodes s v h l d in
     let p = distinct_parts front ((key, node) ∷ rest) (distinct_here n s v h.rings key l front node rest b e) in

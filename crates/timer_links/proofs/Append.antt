@@ -27,7 +27,8 @@ module _ (v : List (List (ℕ × Node))) (from to : ℕ) (o : to ≢ from) (bf :
   at_to = get_or-set_same (slice_set v from []) to (list_at to v ++ list_at from v) [] (rw emptied bt)
 
   at_from : list_at from (appended from to v) ≡ []
-  at_from = get_or-set_other (slice_set v from []) to from (list_at to v ++ list_at from v) [] (λ (q : from ≡ to). o (sym q)) ∙ get_or-set_same v from [] [] bf
+  at_from = get_or-set_other (slice_set v from []) to from (list_at to v ++ list_at from v) [] (λ (q : from ≡ to). o (sym q))
+      ∙ get_or-set_same v from [] [] bf
 
   at_other : (m : ℕ) → m ≢ to → m ≢ from → list_at m (appended from to v) ≡ list_at m v
   at_other m n p = get_or-set_other (slice_set v from []) to m (list_at to v ++ list_at from v) [] n ∙ get_or-set_other v from m [] [] p
@@ -42,7 +43,8 @@ module _ (v : List (List (ℕ × Node))) (from to : ℕ) (o : to ≢ from) (bf :
       below = rw many_now bt;
       front = list_at to v ++ f.front;
       rest = f.rest;
-      is = at_to ∙ (ap (λ (x : List (ℕ × Node)). list_at to v ++ x) (at_l f.l from (f.front ++ (k, node) ∷ f.rest) q f.is) ∙ sym (append_assoc (list_at to v) f.front ((k, node) ∷ f.rest)));
+      is = at_to ∙ (ap (λ (x : List (ℕ × Node)). list_at to v ++ x) (at_l f.l from (f.front ++ (k, node) ∷ f.rest) q f.is)
+          ∙ sym (append_assoc (list_at to v) f.front ((k, node) ∷ f.rest)));
     }
     | inr p ↦ elim (cases_eq f.l to) [
       | inl q ↦ record {
@@ -50,7 +52,8 @@ module _ (v : List (List (ℕ × Node))) (from to : ℕ) (o : to ≢ from) (bf :
         below = rw many_now bt;
         front = f.front;
         rest = f.rest ++ list_at from v;
-        is = at_to ∙ (ap (λ (x : List (ℕ × Node)). x ++ list_at from v) (at_l f.l to (f.front ++ (k, node) ∷ f.rest) q f.is) ∙ append_assoc f.front ((k, node) ∷ f.rest) (list_at from v));
+        is = at_to ∙ (ap (λ (x : List (ℕ × Node)). x ++ list_at from v) (at_l f.l to (f.front ++ (k, node) ∷ f.rest) q f.is)
+            ∙ append_assoc f.front ((k, node) ∷ f.rest) (list_at from v));
       }
       | inr n ↦ record { l = f.l; below = rw many_now f.below; front = f.front; rest = f.rest; is = at_other f.l n p ∙ f.is }
     ]
@@ -70,9 +73,13 @@ module _ (v : List (List (ℕ × Node))) (from to : ℕ) (o : to ≢ from) (bf :
   count_now =
       let bt2 : to < length (slice_set v from []) = rw emptied bt in
       let c1 : row_count (slice_set v from []) + length (list_at from v) ≡ row_count v + 0 = row_count-set v from [] bf in
-      let c2 : row_count (slice_set (slice_set v from []) to (list_at to v ++ list_at from v)) + length (list_at to (slice_set v from [])) ≡ row_count (slice_set v from []) + length (list_at to v ++ list_at from v) = row_count-set (slice_set v from []) to (list_at to v ++ list_at from v) bt2 in
-      let c3 : length (list_at to (slice_set v from [])) ≡ length (list_at to v) = ap (λ (z : List (ℕ × Node)). length z) (get_or-set_other v from to [] [] o) in
-      let c4 : length (list_at to v ++ list_at from v) ≡ length (list_at to v) + length (list_at from v) = length-append (list_at to v) (list_at from v) in
+      let c2 : row_count (slice_set (slice_set v from []) to (list_at to v ++ list_at from v)) + length (list_at to (slice_set v from []))
+      ≡ row_count (slice_set v from []) + length (list_at to v ++ list_at from v) =
+      row_count-set (slice_set v from []) to (list_at to v ++ list_at from v) bt2 in
+      let c3 : length (list_at to (slice_set v from [])) ≡ length (list_at to v) =
+      ap (λ (z : List (ℕ × Node)). length z) (get_or-set_other v from to [] [] o) in
+      let c4 : length (list_at to v ++ list_at from v) ≡ length (list_at to v) + length (list_at from v) =
+      length-append (list_at to v) (list_at from v) in
       omega arith
 
   -- each key has the same node as before
@@ -92,8 +99,10 @@ module _ (v : List (List (ℕ × Node))) (from to : ℕ) (o : to ≢ from) (bf :
     pub node_now : (k : ℕ) → node_at k (appended from to v) ≡ node_at k v
     node_now k = by_old k (node_at k v) refl
 
-pub appended_linked : (n : ℕ) (nodes : Slab Node) (s t a u : List Sides) (v : List (List (ℕ × Node))) (from to key : ℕ) → IsLinked n nodes s v → (bf : from < length v) → (bt : to < length v) → (o : to ≢ from) → first_key (list_at from v) ≡ Some key
-    → Joins (sides_at s to).before (sides_at s from).after s t → Joins (sides_at s from).before to t a → Joins from from a u → IsLinked n nodes u (appended from to v)
+pub appended_linked : (n : ℕ) (nodes : Slab Node) (s t a u : List Sides) (v : List (List (ℕ × Node))) (from to key : ℕ)
+    → IsLinked n nodes s v → (bf : from < length v) → (bt : to < length v) → (o : to ≢ from) → first_key (list_at from v) ≡ Some key
+    → Joins (sides_at s to).before (sides_at s from).after s t → Joins (sides_at s from).before to t a → Joins from from a u
+    → IsLinked n nodes u (appended from to v)
 appended_linked n nodes s t a u v from to key h bf bt o e i j k =
     let f = front_of n nodes s v from key h bf e in
     let cf : from < n = low n nodes s v h from bf in
@@ -115,10 +124,13 @@ appended_linked n nodes s t a u v from to key h bf bt o e i j k =
     }
 
 -- the joins, of the sides that were read
-pub joins_between : (s t u : List Sides) (p q : ℕ) (x y : Sides) → t ≡ s → x ≡ sides_at s p → y ≡ sides_at s q → Joins y.before x.after t u → Joins (sides_at s q).before (sides_at s p).after s u
+pub joins_between : (s t u : List Sides) (p q : ℕ) (x y : Sides) → t ≡ s → x ≡ sides_at s p → y ≡ sides_at s q → Joins y.before x.after t u
+    → Joins (sides_at s q).before (sides_at s p).after s u
 joins_between s t u p q x y e f g j =
     let P : List Sides → Type 0 = λ a. Joins y.before x.after a u in
-    joins_as s u y.before x.after (sides_at s q).before (sides_at s p).after (ap (λ (z : Sides). z.before) g) (ap (λ (z : Sides). z.after) f) (subst P e j)
+    joins_as s u y.before x.after (sides_at s q).before (sides_at s p).after (ap (λ (z : Sides). z.before) g)
+    (ap (λ (z : Sides). z.after) f) (subst P e j)
 
-pub joins_behind : (s t u : List Sides) (p to : ℕ) (x : Sides) → x ≡ sides_at s p → Joins x.before to t u → Joins (sides_at s p).before to t u
+pub joins_behind : (s t u : List Sides) (p to : ℕ) (x : Sides) → x ≡ sides_at s p → Joins x.before to t u
+    → Joins (sides_at s p).before to t u
 joins_behind s t u p to x f j = joins_as t u x.before to (sides_at s p).before to (ap (λ (z : Sides). z.before) f) refl j

@@ -79,7 +79,8 @@ apart_both (p ∷ ps) qs a b n = (
 )
 
 -- two chains and the step between them
-pub glue : (s : List Sides) (p : ℕ) (ps : List ℕ) (q : ℕ) (qs : List ℕ) → IsChain s p ps → AreJoined s (last p ps) q → IsChain s q qs → IsChain s p (ps ++ q ∷ qs)
+pub glue : (s : List Sides) (p : ℕ) (ps : List ℕ) (q : ℕ) (qs : List ℕ) → IsChain s p ps → AreJoined s (last p ps) q → IsChain s q qs
+    → IsChain s p (ps ++ q ∷ qs)
 glue s p [] q qs c m d = (m, d)
 glue s p (r ∷ rs) q qs c m d = (c.0, glue s r rs q qs c.1 m d)
 
@@ -101,7 +102,8 @@ chain_same s u p (q ∷ qs) h c = (
 )
 
 -- a join keeps each chain that contains neither a step from its front nor one to its back
-pub kept : (s u : List Sides) (f b p : ℕ) (ps : List ℕ) → Joins f b s u → (In f (starts p ps) → ⊥) → (In b ps → ⊥) → IsChain s p ps → IsChain u p ps
+pub kept : (s u : List Sides) (f b p : ℕ) (ps : List ℕ) → Joins f b s u → (In f (starts p ps) → ⊥) → (In b ps → ⊥) → IsChain s p ps
+    → IsChain u p ps
 kept s u f b p [] j nf nb c = tt
 kept s u f b p (q ∷ qs) j nf nb c = (
   record { forth = j.afters p (λ (e : p ≡ f). nf (inl e)) ∙ c.0.forth; back_to = j.befores q (λ (e : q ≡ b). nb (inl e)) ∙ c.0.back_to },
@@ -109,9 +111,14 @@ kept s u f b p (q ∷ qs) j nf nb c = (
 )
 
 -- so it keeps a ring with neither place
-pub ring_kept : (s u : List Sides) (f b l : ℕ) (ps : List ℕ) → Joins f b s u → (In f (l ∷ ps) → ⊥) → (In b (l ∷ ps) → ⊥) → IsChain s l (ps ++ l ∷ []) → IsChain u l (ps ++ l ∷ [])
+pub ring_kept : (s u : List Sides) (f b l : ℕ) (ps : List ℕ) → Joins f b s u → (In f (l ∷ ps) → ⊥) → (In b (l ∷ ps) → ⊥)
+    → IsChain s l (ps ++ l ∷ []) → IsChain u l (ps ++ l ∷ [])
 ring_kept s u f b l ps j nf nb c = kept s u f b l (ps ++ l ∷ []) j (λ i. nf (starts_ring f l l ps i)) (λ i. nb (in_ring b l ps i)) c
 
 -- a join at the end of a chain goes on from it
-pub extended : (s u : List Sides) (q p : ℕ) (ps : List ℕ) → Joins (last p ps) q s u → IsApart (p ∷ ps) → (In q ps → ⊥) → IsChain s p ps → IsChain u p (ps ++ q ∷ [])
-extended s u q p ps j a n c = glue u p ps q [] (kept s u (last p ps) q p ps j (last_not_start p ps a) n c) (record { forth = j.forth; back_to = j.back_to }) tt
+pub extended : (s u : List Sides) (q p : ℕ) (ps : List ℕ) → Joins (last p ps) q s u → IsApart (p ∷ ps) → (In q ps → ⊥) → IsChain s p ps
+    → IsChain u p (ps ++ q ∷ [])
+extended s u q p ps j a n c = glue u p ps q [] (kept s u (last p ps) q p ps j (last_not_start p ps a) n c) (record {
+  forth = j.forth;
+  back_to = j.back_to;
+}) tt

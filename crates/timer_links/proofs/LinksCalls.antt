@@ -49,7 +49,8 @@ module _ (n : ℕ) (nodes : Slab Node) (s : List Sides) (v : List (List (ℕ × 
   place_in_range l p b (inr i) =
       let k = key_at n p (list_at l v) i in
       let j = split_at k.key (list_at l v) k.has in
-      rw (sym k.is) (h.reached k.key (some_is (get nodes k.key) j.node (h.held k.key ∙ node_at-here n s v h.rings k.key l j.front j.node j.rest b j.is h.many)))
+      rw (sym k.is) (h.reached k.key (some_is (get nodes k.key) j.node (h.held k.key
+      ∙ node_at-here n s v h.rings k.key l j.front j.node j.rest b j.is h.many)))
 
   pub low : (f : ℕ) → f < length v → f < n
   low f b = rw (sym h.many) b
@@ -60,27 +61,31 @@ module _ (n : ℕ) (nodes : Slab Node) (s : List Sides) (v : List (List (ℕ × 
         let x = held (get nodes key) c in
         let f = seat key x.node x.is in
         let b : f.l < n = low f.l f.below in
-        rw (before_is n s v h.rings key f.l f.front x.node f.rest b f.is) (place_in_range f.l (last f.l (places n f.front)) b (last_here n s v h.rings key f.l f.front x.node f.rest b f.is))
+        rw (before_is n s v h.rings key f.l f.front x.node f.rest b f.is)
+        (place_in_range f.l (last f.l (places n f.front)) b (last_here n s v h.rings key f.l f.front x.node f.rest b f.is))
 
     pub after_in : (sides_at s (n + key)).after < length s
     after_in =
         let x = held (get nodes key) c in
         let f = seat key x.node x.is in
         let b : f.l < n = low f.l f.below in
-        rw (after_is n s v h.rings key f.l f.front x.node f.rest b f.is) (place_in_range f.l (first n f.rest f.l) b (first_here n s v h.rings key f.l f.front x.node f.rest b f.is))
+        rw (after_is n s v h.rings key f.l f.front x.node f.rest b f.is)
+        (place_in_range f.l (first n f.rest f.l) b (first_here n s v h.rings key f.l f.front x.node f.rest b f.is))
 
   pub back_in : (l : ℕ) → l < n → (sides_at s l).before < length s
   back_in l b = rw (back_is n s v h.rings l b) (place_in_range l (last l (places n (list_at l v))) b (last_in l (places n (list_at l v))))
 
   pub front_in : (l : ℕ) → l < n → (sides_at s l).after < length s
-  front_in l b = rw (first_is s n l l (list_at l v) (h.rings l b)) (place_in_range l (first n (list_at l v) l) b (first_in_ring n l (list_at l v)))
+  front_in l b = rw (first_is s n l l (list_at l v) (h.rings l b))
+      (place_in_range l (first n (list_at l v) l) b (first_in_ring n l (list_at l v)))
 
   -- what is read off a place's next place
   key_first : (l : ℕ) (rows : List (ℕ × Node)) → l < n → key_of n (first n rows l) ≡ first_key rows
   key_first l [] b = root_low n l b
   key_first l (r ∷ rs) b = key_high n r.0
 
-  pub next_key : (key l : ℕ) (front : List (ℕ × Node)) (node : Node) (rest : List (ℕ × Node)) → l < length v → list_at l v ≡ front ++ (key, node) ∷ rest → key_of n (sides_at s (n + key)).after ≡ first_key rest
+  pub next_key : (key l : ℕ) (front : List (ℕ × Node)) (node : Node) (rest : List (ℕ × Node)) → l < length v
+      → list_at l v ≡ front ++ (key, node) ∷ rest → key_of n (sides_at s (n + key)).after ≡ first_key rest
   next_key key l front node rest d e = let b : l < n = low l d in rw (after_is n s v h.rings key l front node rest b e) (key_first l rest b)
 
   pub is_missing : (key : ℕ) → node_at key v ≡ None → map (without_key key) v ≡ v
@@ -94,21 +99,32 @@ record IsOut (n key : ℕ) (u : List Sides) (v : List (List (ℕ × Node))) : Ty
   pub rings : AreRings n u (map (without_key key) v)
   pub total : row_count (map (without_key key) v) + 1 ≡ row_count v
 
-out : (n : ℕ) (nodes : Slab Node) (s u : List Sides) (v : List (List (ℕ × Node))) (key : ℕ) → IsLinked n nodes s v → ContainsKey nodes key → Joins (sides_at s (n + key)).before (sides_at s (n + key)).after s u → IsOut n key u v
+out : (n : ℕ) (nodes : Slab Node) (s u : List Sides) (v : List (List (ℕ × Node))) (key : ℕ) → IsLinked n nodes s v → ContainsKey nodes key
+    → Joins (sides_at s (n + key)).before (sides_at s (n + key)).after s u → IsOut n key u v
 out n nodes s u v key h c j =
     let x = held (get nodes key) c in
     let f = seat n nodes s v h key x.node x.is in
     let b : f.l < n = low n nodes s v h f.l f.below in
-    let e : map (without_key key) v ≡ slice_set v f.l (f.front ++ f.rest) = without_is n s v h.rings key f.l f.front x.node f.rest b f.is h.many in
-    let j2 : Joins (last f.l (places n f.front)) (first n f.rest f.l) s u = joins_as s u (sides_at s (n + key)).before (sides_at s (n + key)).after (last f.l (places n f.front)) (first n f.rest f.l)
+    let e : map (without_key key) v ≡ slice_set v f.l (f.front ++ f.rest) =
+    without_is n s v h.rings key f.l f.front x.node f.rest b f.is h.many in
+    let j2 : Joins (last f.l (places n f.front)) (first n f.rest f.l) s u =
+    joins_as s u (sides_at s (n + key)).before (sides_at s (n + key)).after (last f.l (places n f.front)) (first n f.rest f.l)
     (before_is n s v h.rings key f.l f.front x.node f.rest b f.is) (after_is n s v h.rings key f.l f.front x.node f.rest b f.is) j in
-    let c1 : row_count (slice_set v f.l (f.front ++ f.rest)) + length (list_at f.l v) ≡ row_count v + length (f.front ++ f.rest) = row_count-set v f.l (f.front ++ f.rest) f.below in
-    let c2 : length (list_at f.l v) ≡ length (f.front ++ f.rest) + 1 = ap (λ (y : List (ℕ × Node)). length y) f.is ∙ length_split key x.node f.rest f.front in
+    let c1 : row_count (slice_set v f.l (f.front ++ f.rest)) + length (list_at f.l v) ≡ row_count v + length (f.front ++ f.rest) =
+    row_count-set v f.l (f.front ++ f.rest) f.below in
+    let c2 : length (list_at f.l v) ≡ length (f.front ++ f.rest) + 1 =
+    ap (λ (y : List (ℕ × Node)). length y) f.is ∙ length_split key x.node f.rest f.front in
     let P : List (List (ℕ × Node)) → Type 0 = λ y. (length y ≡ n) × AreRings n u y × (row_count y + 1 ≡ row_count v) in
-    let p = subst P (sym e) (length-set v f.l (f.front ++ f.rest) ∙ h.many, detached n s v h.rings key f.l f.front x.node f.rest b f.is u h.many j2, omega arith) in
+    let p = subst P (sym e) (
+      length-set v f.l (f.front ++ f.rest)
+          ∙ h.many,
+      detached n s v h.rings key f.l f.front x.node f.rest b f.is u h.many j2,
+      omega arith,
+    ) in
     record { many = p.0; rings = p.1; total = p.2 }
 
-pub unlinked : (n : ℕ) (nodes less : Slab Node) (s u : List Sides) (v : List (List (ℕ × Node))) (key : ℕ) → IsLinked n nodes s v → ContainsKey nodes key → Updates nodes less key None → slab_len less + 1 ≡ slab_len nodes
+pub unlinked : (n : ℕ) (nodes less : Slab Node) (s u : List Sides) (v : List (List (ℕ × Node))) (key : ℕ) → IsLinked n nodes s v
+    → ContainsKey nodes key → Updates nodes less key None → slab_len less + 1 ≡ slab_len nodes
     → Joins (sides_at s (n + key)).before (sides_at s (n + key)).after s u → IsLinked n less u (map (without_key key) v)
 unlinked n nodes less s u v key h c z len j =
     let o = out n nodes s u v key h c j in
@@ -132,35 +148,41 @@ unlinked n nodes less s u v key h c z len j =
       numbered = rw j.size h.numbered;
     }
 
-absent : (n : ℕ) (s : List Sides) (v : List (List (ℕ × Node))) → AreRings n s v → length v ≡ n → (key : ℕ) → node_at key v ≡ None → (m : ℕ) → m < n → Has key (list_at m v) → ⊥
+absent : (n : ℕ) (s : List Sides) (v : List (List (ℕ × Node))) → AreRings n s v → length v ≡ n → (key : ℕ) → node_at key v ≡ None → (m : ℕ)
+    → m < n → Has key (list_at m v) → ⊥
 absent n s v h many key e m b x =
     let i = split_at key (list_at m v) x in
     some_none i.node (sym (node_at-here n s v h key m i.front i.node i.rest b i.is many) ∙ e)
 
 row_pushed : (v : List (List (ℕ × Node))) (l : ℕ) (row : ℕ × Node) → l < length v → row_count (with_row l row v) ≡ row_count v + 1
 row_pushed v l row b =
-    let c1 : row_count (slice_set v l (list_at l v ++ row ∷ [])) + length (list_at l v) ≡ row_count v + length (list_at l v ++ row ∷ []) = row_count-set v l (list_at l v ++ row ∷ []) b in
+    let c1 : row_count (slice_set v l (list_at l v ++ row ∷ [])) + length (list_at l v) ≡ row_count v + length (list_at l v ++ row ∷ []) =
+    row_count-set v l (list_at l v ++ row ∷ []) b in
     let c2 : length (list_at l v ++ row ∷ []) ≡ length (list_at l v) + 1 = length-append (list_at l v) (row ∷ []) in
     omega arith
 
 pub size_last : (root place : ℕ) (s u : List Sides) → JoinsLast root place s u → length u ≡ length s
 size_last root place s u (t, j, k) = k.size ∙ j.size
 
-pub moved : (n : ℕ) (nodes : Slab Node) (s t u : List Sides) (v : List (List (ℕ × Node))) (key l : ℕ) (node : Node) → IsLinked n nodes s v → get nodes key ≡ Some node → l < length v
-    → Joins (sides_at s (n + key)).before (sides_at s (n + key)).after s t → JoinsLast l (n + key) t u → IsLinked n nodes u (moved_back key l node v)
+pub moved : (n : ℕ) (nodes : Slab Node) (s t u : List Sides) (v : List (List (ℕ × Node))) (key l : ℕ) (node : Node) → IsLinked n nodes s v
+    → get nodes key ≡ Some node → l < length v
+    → Joins (sides_at s (n + key)).before (sides_at s (n + key)).after s t → JoinsLast l (n + key) t u
+    → IsLinked n nodes u (moved_back key l node v)
 moved n nodes s t u v key l node h g d j jl =
     let o = out n nodes s t v key h (some_is (get nodes key) node g) j in
     let b : l < n = low n nodes s v h l d in
     let gone : node_at key (map (without_key key) v) ≡ None = without_this key v in
     let d2 : l < length (map (without_key key) v) = rw o.many b in
     let c1 : row_count (map (without_key key) v) + 1 ≡ row_count v = o.total in
-    let c2 : row_count (with_row l (key, node) (map (without_key key) v)) ≡ row_count (map (without_key key) v) + 1 = row_pushed (map (without_key key) v) l (key, node) d2 in
+    let c2 : row_count (with_row l (key, node) (map (without_key key) v)) ≡ row_count (map (without_key key) v) + 1 =
+    row_pushed (map (without_key key) v) l (key, node) d2 in
     let c3 : slab_len nodes ≡ row_count v = h.total in
     let size : length u ≡ length s = size_last l (n + key) t u jl ∙ j.size in
     record {
       many = length-set (map (without_key key) v) l (list_at l (map (without_key key) v) ++ (key, node) ∷ []) ∙ o.many;
       few = h.few;
-      rings = attached n t (map (without_key key) v) o.rings key l node b (absent n t (map (without_key key) v) o.rings o.many key gone) u o.many jl;
+      rings = attached n t (map (without_key key) v) o.rings key l node b
+          (absent n t (map (without_key key) v) o.rings o.many key gone) u o.many jl;
       held = λ k. elim (cases_eq k key) [
         | inl q ↦ rw q (g ∙ sym (push_this key node (map (without_key key) v) l d2 gone))
         | inr m ↦ h.held k ∙ (sym (without_other key k v m) ∙ sym (push_other key k node (map (without_key key) v) l m))
@@ -172,7 +194,8 @@ moved n nodes s t u v key l node h g d j jl =
     }
 
 -- more places change nothing
-pub grown : (n : ℕ) (nodes : Slab Node) (s t : List Sides) (v : List (List (ℕ × Node))) → IsLinked n nodes s v → IsGrown s t → length t ≤ PLACES → IsLinked n nodes t v
+pub grown : (n : ℕ) (nodes : Slab Node) (s t : List Sides) (v : List (List (ℕ × Node))) → IsLinked n nodes s v → IsGrown s t
+    → length t ≤ PLACES → IsLinked n nodes t v
 grown n nodes s t v h g f =
     let more : length s ≤ length t = g.longer in
     record {
@@ -187,13 +210,25 @@ grown n nodes s t v h g f =
     }
 
 -- nor does more room in the slab
-pub roomier : (n c : ℕ) (nodes : Slab Node) (s : List Sides) (v : List (List (ℕ × Node))) → IsLinked n nodes s v → IsLinked n (record nodes { capacity = c }) s v
-roomier n c nodes s v h = record { many = h.many; few = h.few; rings = h.rings; held = h.held; total = h.total; roots = h.roots; reached = h.reached; numbered = h.numbered }
+pub roomier : (n c : ℕ) (nodes : Slab Node) (s : List Sides) (v : List (List (ℕ × Node))) → IsLinked n nodes s v
+    → IsLinked n (record nodes { capacity = c }) s v
+roomier n c nodes s v h = record {
+  many = h.many;
+  few = h.few;
+  rings = h.rings;
+  held = h.held;
+  total = h.total;
+  roots = h.roots;
+  reached = h.reached;
+  numbered = h.numbered;
+}
 
-pub refused : (n : ℕ) (nodes same : Slab Node) (s : List Sides) (v : List (List (ℕ × Node))) → IsLinked n nodes s v → same ≡ record nodes { capacity = same.capacity } → IsLinked n same s v
+pub refused : (n : ℕ) (nodes same : Slab Node) (s : List Sides) (v : List (List (ℕ × Node))) → IsLinked n nodes s v
+    → same ≡ record nodes { capacity = same.capacity } → IsLinked n same s v
 refused n nodes same s v h e = let P : Slab Node → Type 0 = λ x. IsLinked n x s v in subst P (sym e) (roomier n same.capacity nodes s v h)
 
-pub pushed : (n : ℕ) (nodes more : Slab Node) (s u : List Sides) (v : List (List (ℕ × Node))) (key l : ℕ) (node : Node) → IsLinked n nodes s v → l < length v → get nodes key ≡ None → Updates nodes more key (Some node) → slab_len more ≡ slab_len nodes + 1
+pub pushed : (n : ℕ) (nodes more : Slab Node) (s u : List Sides) (v : List (List (ℕ × Node))) (key l : ℕ) (node : Node)
+    → IsLinked n nodes s v → l < length v → get nodes key ≡ None → Updates nodes more key (Some node) → slab_len more ≡ slab_len nodes + 1
     → n + key < length s → JoinsLast l (n + key) s u → IsLinked n more u (with_row l (key, node) v)
 pushed n nodes more s u v key l node h d g z len r jl =
     let b : l < n = low n nodes s v h l d in
@@ -220,7 +255,8 @@ pushed n nodes more s u v key l node h d g z len r jl =
     }
 
 -- the back of a list, once two places were joined
-pub back_after : (n : ℕ) (nodes : Slab Node) (s t : List Sides) (v : List (List (ℕ × Node))) (f b l : ℕ) → IsLinked n nodes s v → l < length v → f < length s → Joins f b s t → (sides_at t l).before < length t
+pub back_after : (n : ℕ) (nodes : Slab Node) (s t : List Sides) (v : List (List (ℕ × Node))) (f b l : ℕ) → IsLinked n nodes s v
+    → l < length v → f < length s → Joins f b s t → (sides_at t l).before < length t
 back_after n nodes s t v f b l h d r j = rw j.size (elim (cases_eq l b) [
   | inl q ↦ rw (q, j.back_to) r
   | inr o ↦ rw (j.befores l o) (back_in n nodes s v h l (low n nodes s v h l d))
@@ -242,22 +278,29 @@ pub record IsRead (s t : List Sides) (p : ℕ) (x : Sides) : Type 0 where
   pub before : x.before < length t
   pub after : x.after < length t
 
-read_as : (s t : List Sides) (p : ℕ) (x : Sides) → t ≡ s → x ≡ sides_at s p → (sides_at s p).before < length s → (sides_at s p).after < length s → IsRead s t p x
+read_as : (s t : List Sides) (p : ℕ) (x : Sides) → t ≡ s → x ≡ sides_at s p → (sides_at s p).before < length s
+    → (sides_at s p).after < length s → IsRead s t p x
 read_as s t p x e f b a = record { is = f; low = b; before = rw (f, e) b; after = rw (f, e) a }
 
-pub read_node : (n : ℕ) (nodes : Slab Node) (s : List Sides) (v : List (List (ℕ × Node))) (key : ℕ) (t : List Sides) (x : Sides) → IsLinked n nodes s v → ContainsKey nodes key → t ≡ s → x ≡ slice_index_or s (n + key) x → IsRead s t (n + key) x
-read_node n nodes s v key t x h c e f = read_as s t (n + key) x e (get_or_read s (n + key) x (h.reached key c) f (record { before = 0; after = 0 })) (before_in n nodes s v h key c) (after_in n nodes s v h key c)
+pub read_node : (n : ℕ) (nodes : Slab Node) (s : List Sides) (v : List (List (ℕ × Node))) (key : ℕ) (t : List Sides) (x : Sides)
+    → IsLinked n nodes s v → ContainsKey nodes key → t ≡ s → x ≡ slice_index_or s (n + key) x → IsRead s t (n + key) x
+read_node n nodes s v key t x h c e f = read_as s t (n + key) x e
+    (get_or_read s (n + key) x (h.reached key c) f (record { before = 0; after = 0 })) (before_in n nodes s v h key c)
+    (after_in n nodes s v h key c)
 
-pub read_root : (n : ℕ) (nodes : Slab Node) (s : List Sides) (v : List (List (ℕ × Node))) (l : ℕ) (t : List Sides) (x : Sides) → IsLinked n nodes s v → l < length v → t ≡ s → x ≡ slice_index_or s l x → IsRead s t l x
+pub read_root : (n : ℕ) (nodes : Slab Node) (s : List Sides) (v : List (List (ℕ × Node))) (l : ℕ) (t : List Sides) (x : Sides)
+    → IsLinked n nodes s v → l < length v → t ≡ s → x ≡ slice_index_or s l x → IsRead s t l x
 read_root n nodes s v l t x h d e f =
     let b : l < n = low n nodes s v h l d in
-    read_as s t l x e (get_or_read s l x (root_in n nodes s v h l b) f (record { before = 0; after = 0 })) (back_in n nodes s v h l b) (front_in n nodes s v h l b)
+    read_as s t l x e (get_or_read s l x (root_in n nodes s v h l b) f (record { before = 0; after = 0 })) (back_in n nodes s v h l b)
+    (front_in n nodes s v h l b)
 
 no_value : (o : Option Node) → (IsSome o → IsTrue false) → o ≡ None
 no_value None h = refl
 no_value (Some x) h = let f : IsTrue false = h refl in cc
 
-pub unused : (n : ℕ) (nodes : Slab Node) (s : List Sides) (v : List (List (ℕ × Node))) (key : ℕ) → IsLinked n nodes s v → (ContainsKey nodes key → IsTrue false) → node_at key v ≡ None
+pub unused : (n : ℕ) (nodes : Slab Node) (s : List Sides) (v : List (List (ℕ × Node))) (key : ℕ) → IsLinked n nodes s v
+    → (ContainsKey nodes key → IsTrue false) → node_at key v ≡ None
 unused n nodes s v key h f = sym (h.held key) ∙ no_value (get nodes key) f
 
 rows_none : (n l : ℕ) (rows : List (ℕ × Node)) → l < n → first n rows l ≡ l → rows ≡ []
@@ -265,7 +308,8 @@ rows_none n l [] b e = refl
 rows_none n l (r ∷ rs) b e = let q : n + r.0 ≡ l = e in absurd (omega arith)
 
 -- a list is empty where its root is its own neighbour
-pub root_alone : (n : ℕ) (nodes : Slab Node) (s : List Sides) (v : List (List (ℕ × Node))) (l : ℕ) (x : Sides) → IsLinked n nodes s v → l < length v → x ≡ slice_index_or s l x → (x.after ≡ l → list_at l v ≡ []) × (list_at l v ≡ [] → x.after ≡ l)
+pub root_alone : (n : ℕ) (nodes : Slab Node) (s : List Sides) (v : List (List (ℕ × Node))) (l : ℕ) (x : Sides) → IsLinked n nodes s v
+    → l < length v → x ≡ slice_index_or s l x → (x.after ≡ l → list_at l v ≡ []) × (list_at l v ≡ [] → x.after ≡ l)
 root_alone n nodes s v l x h d f =
     let b : l < n = low n nodes s v h l d in
     let r = read_root n nodes s v l s x h d refl f in

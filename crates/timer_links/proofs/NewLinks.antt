@@ -19,16 +19,19 @@ pub record AreRoots (n : ℕ) (sides : List Sides) : Type 0 where
 pub no_roots : (sides : List Sides) → sides ≡ [] → AreRoots 0 sides
 no_roots sides e = record { many = rw e refl; each = λ l b. absurd (omega arith) }
 
-pub one_more : (n : ℕ) (sides more : List Sides) → AreRoots n sides → more ≡ sides ++ record { before = n; after = n } ∷ [] → AreRoots (n + 1) more
+pub one_more : (n : ℕ) (sides more : List Sides) → AreRoots n sides → more ≡ sides ++ record { before = n; after = n } ∷ []
+    → AreRoots (n + 1) more
 one_more n sides more h e =
-    let len : length (sides ++ record { before = n; after = n } ∷ []) ≡ length sides + 1 = length-append sides (record { before = n; after = n } ∷ []) in
+    let len : length (sides ++ record { before = n; after = n } ∷ []) ≡ length sides + 1 =
+    length-append sides (record { before = n; after = n } ∷ []) in
     let m : length sides ≡ n = h.many in
     let P : List Sides → Type 0 = λ x. AreRoots (n + 1) x in
     subst P (sym e) (record {
       many = omega arith;
       each = λ l b. elim (cases_eq l n) [
         | inl q ↦ rw q (get_or_push sides (record { before = n; after = n }) (record { before = 0; after = 0 }) n h.many)
-        | inr o ↦ get_or_append_left sides (record { before = n; after = n } ∷ []) (record { before = 0; after = 0 }) l (omega arith) ∙ h.each l (omega arith)
+        | inr o ↦ get_or_append_left sides (record { before = n; after = n } ∷ []) (record { before = 0; after = 0 }) l (omega arith)
+            ∙ h.each l (omega arith)
       ];
     })
 
@@ -44,7 +47,8 @@ none_counted : (n : ℕ) → row_count (no_rows n) ≡ 0
 none_counted zero = refl
 none_counted (suc n) = let h : row_count (no_rows n) ≡ 0 = none_counted n in omega arith
 
-pub empty_linked : (n m : ℕ) (nodes : Slab Node) (sides : List Sides) → nodes.slots ≡ [] → AreRoots m sides → m ≤ n → n ≤ m → n ≤ 65537 → IsLinked n nodes sides (no_rows n)
+pub empty_linked : (n m : ℕ) (nodes : Slab Node) (sides : List Sides) → nodes.slots ≡ [] → AreRoots m sides → m ≤ n → n ≤ m → n ≤ 65537
+    → IsLinked n nodes sides (no_rows n)
 empty_linked n m nodes sides e h a b few =
     let same : m ≡ n = omega arith in
     let len : length sides ≡ m = h.many in
@@ -54,7 +58,13 @@ empty_linked n m nodes sides e h a b few =
       few = few;
       rings = λ l d.
           let inside : l < m = omega arith in
-          rw (list_is_empty n l) (record { forth = ap (λ (x : Sides). x.after) (h.each l inside); back_to = ap (λ (x : Sides). x.before) (h.each l inside) }, tt);
+          rw (list_is_empty n l) (
+            record {
+              forth = ap (λ (x : Sides). x.after) (h.each l inside);
+              back_to = ap (λ (x : Sides). x.before) (h.each l inside);
+            },
+            tt,
+          );
       held = λ k. none k ∙ sym (node_at-none k (no_rows n) (λ l d. rw (list_is_empty n l) refl));
       total = rw (e, none_counted n) refl;
       roots = omega arith;

@@ -32,7 +32,8 @@ none_both : (a b : Option Node) → first_of a b ≡ None → (a ≡ None) × (b
 none_both None b h = (refl, h)
 none_both (Some x) b h = absurd (some_none x h)
 
-in_push_this : (key : ℕ) (node : Node) (rows : List (ℕ × Node)) → node_in key rows ≡ None → node_in key (rows ++ (key, node) ∷ []) ≡ Some node
+in_push_this : (key : ℕ) (node : Node) (rows : List (ℕ × Node)) → node_in key rows ≡ None
+    → node_in key (rows ++ (key, node) ∷ []) ≡ Some node
 in_push_this key node [] h = rw (eq-eqb key key refl) refl
 in_push_this key node (r ∷ rs) h = elim (cases_eq r.0 key) [
   | inl e ↦ absurd (some_none r.1 (rw (eq-eqb r.0 key e) at h))
@@ -43,12 +44,15 @@ in_push_other : (key k : ℕ) (node : Node) (rows : List (ℕ × Node)) → k �
 in_push_other key k node [] n = rw (ne_eqb key k (λ (q : key ≡ k). n (sym q))) refl
 in_push_other key k node (r ∷ rs) n = rw (in_push_other key k node rs n) refl
 
-pub push_this : (key : ℕ) (node : Node) (v : List (List (ℕ × Node))) (l : ℕ) → l < length v → node_at key v ≡ None → node_at key (with_row l (key, node) v) ≡ Some node
+pub push_this : (key : ℕ) (node : Node) (v : List (List (ℕ × Node))) (l : ℕ) → l < length v → node_at key v ≡ None
+    → node_at key (with_row l (key, node) v) ≡ Some node
 push_this key node [] l b h = absurd (omega arith)
 push_this key node (x ∷ xs) zero b h = rw (in_push_this key node x (none_both (node_in key x) (node_at key xs) h).0) refl
-push_this key node (x ∷ xs) (suc l) b h = let z = none_both (node_in key x) (node_at key xs) h in rw z.0 (push_this key node xs l (omega arith) z.1)
+push_this key node (x ∷ xs) (suc l) b h = let z = none_both (node_in key x) (node_at key xs) h
+    in rw z.0 (push_this key node xs l (omega arith) z.1)
 
-pub push_other : (key k : ℕ) (node : Node) (v : List (List (ℕ × Node))) (l : ℕ) → k ≢ key → node_at k (with_row l (key, node) v) ≡ node_at k v
+pub push_other : (key k : ℕ) (node : Node) (v : List (List (ℕ × Node))) (l : ℕ) → k ≢ key
+    → node_at k (with_row l (key, node) v) ≡ node_at k v
 push_other key k node [] l n = refl
 push_other key k node (x ∷ xs) zero n = rw (in_push_other key k node x n) refl
 push_other key k node (x ∷ xs) (suc l) n = rw (push_other key k node xs l n) refl

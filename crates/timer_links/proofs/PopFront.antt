@@ -37,7 +37,8 @@ pub record Front (n : ℕ) (nodes : Slab Node) (s : List Sides) (v : List (List 
   pub without : map (without_key key) v ≡ slice_set v l rest
   pub before : (sides_at s (n + key)).before ≡ l
 
-pub front_of : (n : ℕ) (nodes : Slab Node) (s : List Sides) (v : List (List (ℕ × Node))) (l key : ℕ) → IsLinked n nodes s v → l < length v → first_key (list_at l v) ≡ Some key → Front n nodes s v l key
+pub front_of : (n : ℕ) (nodes : Slab Node) (s : List Sides) (v : List (List (ℕ × Node))) (l key : ℕ) → IsLinked n nodes s v → l < length v
+    → first_key (list_at l v) ≡ Some key → Front n nodes s v l key
 front_of n nodes s v l key h d e =
     let f = front_row key (list_at l v) e in
     let b : l < n = low n nodes s v h l d in
@@ -52,19 +53,23 @@ front_of n nodes s v l key h d e =
       before = before_is n s v h.rings key l [] f.node f.rest b f.is;
     }
 
-pub first_used : (n : ℕ) (nodes : Slab Node) (s : List Sides) (v : List (List (ℕ × Node))) (l : ℕ) (o : Option ℕ) → IsLinked n nodes s v → l < length v → o ≡ first_key (list_at l v) → IfSome o (λ key. IsSome (node_at key v))
+pub first_used : (n : ℕ) (nodes : Slab Node) (s : List Sides) (v : List (List (ℕ × Node))) (l : ℕ) (o : Option ℕ) → IsLinked n nodes s v
+    → l < length v → o ≡ first_key (list_at l v) → IfSome o (λ key. IsSome (node_at key v))
 first_used n nodes s v l None h d e = tt
 first_used n nodes s v l (Some key) h d e = rw (sym (h.held key)) (front_of n nodes s v l key h d (sym e)).used
 
-pub joins_front : (s t u : List Sides) (p l : ℕ) (x : Sides) → t ≡ s → x ≡ sides_at s p → (sides_at s p).before ≡ l → Joins l x.after t u → Joins (sides_at s p).before (sides_at s p).after s u
+pub joins_front : (s t u : List Sides) (p l : ℕ) (x : Sides) → t ≡ s → x ≡ sides_at s p → (sides_at s p).before ≡ l → Joins l x.after t u
+    → Joins (sides_at s p).before (sides_at s p).after s u
 joins_front s t u p l x e f b j =
     let P : List Sides → Type 0 = λ a. Joins l x.after a u in
     joins_as s u l x.after (sides_at s p).before (sides_at s p).after (sym b) (ap (λ (y : Sides). y.after) f) (subst P e j)
 
-pub node_popped : (n : ℕ) (nodes : Slab Node) (s : List Sides) (v : List (List (ℕ × Node))) (l key : ℕ) (node : Node) (f : Front n nodes s v l key) → get nodes key ≡ Some node → list_at l v ≡ (key, node) ∷ f.rest
+pub node_popped : (n : ℕ) (nodes : Slab Node) (s : List Sides) (v : List (List (ℕ × Node))) (l key : ℕ) (node : Node)
+    (f : Front n nodes s v l key) → get nodes key ≡ Some node → list_at l v ≡ (key, node) ∷ f.rest
 node_popped n nodes s v l key node f g = f.is ∙ ap (λ (x : Node). (key, x) ∷ f.rest) (same_node f.node node (sym f.held ∙ g))
 
-pub moves_front : (n : ℕ) (nodes : Slab Node) (s : List Sides) (v : List (List (ℕ × Node))) (from to key : ℕ) (f : Front n nodes s v from key) → moved_back key to f.node v ≡ front_moved from to v
+pub moves_front : (n : ℕ) (nodes : Slab Node) (s : List Sides) (v : List (List (ℕ × Node))) (from to key : ℕ)
+    (f : Front n nodes s v from key) → moved_back key to f.node v ≡ front_moved from to v
 moves_front n nodes s v from to key f =
     ap (λ (x : List (List (ℕ × Node))). with_row to (key, f.node) x) f.without
     ∙ sym (ap (λ (x : List (ℕ × Node)). first_row_moved from to v x) f.is)

@@ -46,7 +46,8 @@ places_both n [] ys = refl
 places_both n (x ∷ xs) ys = ap (λ (z : List ℕ). (n + x.0) ∷ z) (places_both n xs ys)
 
 -- a ring, taken apart at a key
-pub ring_split : (n l key : ℕ) (node : Node) (rest front : List (ℕ × Node)) → places n (front ++ (key, node) ∷ rest) ++ l ∷ [] ≡ places n front ++ (n + key) ∷ (places n rest ++ l ∷ [])
+pub ring_split : (n l key : ℕ) (node : Node) (rest front : List (ℕ × Node))
+    → places n (front ++ (key, node) ∷ rest) ++ l ∷ [] ≡ places n front ++ (n + key) ∷ (places n rest ++ l ∷ [])
 ring_split n l key node rest [] = refl
 ring_split n l key node rest (x ∷ xs) = ap (λ (z : List ℕ). (n + x.0) ∷ z) (ring_split n l key node rest xs)
 
@@ -65,11 +66,13 @@ longer : (key : ℕ) (node : Node) (rest front : List (ℕ × Node)) → length 
 longer key node rest [] = omega arith
 longer key node rest (x ∷ xs) = let h : length rest < length (xs ++ (key, node) ∷ rest) = longer key node rest xs in omega arith
 
-behind : (s : List Sides) (n l key : ℕ) (node : Node) (rest : List (ℕ × Node)) (p : ℕ) (front : List (ℕ × Node)) → IsChain s p (places n (front ++ (key, node) ∷ rest) ++ l ∷ []) → IsChain s (n + key) (places n rest ++ l ∷ [])
+behind : (s : List Sides) (n l key : ℕ) (node : Node) (rest : List (ℕ × Node)) (p : ℕ) (front : List (ℕ × Node))
+    → IsChain s p (places n (front ++ (key, node) ∷ rest) ++ l ∷ []) → IsChain s (n + key) (places n rest ++ l ∷ [])
 behind s n l key node rest p [] c = c.1
 behind s n l key node rest p (x ∷ xs) c = behind s n l key node rest (n + x.0) xs c.1
 
-one_way : (s : List Sides) (n l m : ℕ) → l < n → m < n → (p : ℕ) (xs ys : List (ℕ × Node)) → IsChain s p (places n xs ++ l ∷ []) → IsChain s p (places n ys ++ m ∷ []) → (places n xs ≡ places n ys) × (l ≡ m)
+one_way : (s : List Sides) (n l m : ℕ) → l < n → m < n → (p : ℕ) (xs ys : List (ℕ × Node)) → IsChain s p (places n xs ++ l ∷ [])
+    → IsChain s p (places n ys ++ m ∷ []) → (places n xs ≡ places n ys) × (l ≡ m)
 one_way s n l m bl bm p [] [] c d = (refl, sym c.0.forth ∙ d.0.forth)
 one_way s n l m bl bm p [] (y ∷ ys) c d = let e : l ≡ n + y.0 = sym c.0.forth ∙ d.0.forth in absurd (omega arith)
 one_way s n l m bl bm p (x ∷ xs) [] c d = let e : n + x.0 ≡ m = sym c.0.forth ∙ d.0.forth in absurd (omega arith)
@@ -79,22 +82,28 @@ one_way s n l m bl bm p (x ∷ xs) (y ∷ ys) c d =
     let r = one_way s n l m bl bm (n + x.0) xs ys c.1 (subst P (sym e) d.1) in
     (ap (λ (z : List ℕ). (n + x.0) ∷ z) r.0 ∙ ap (λ (q : ℕ). q ∷ places n ys) e, r.1)
 
-distinct_on : (s : List Sides) (n l : ℕ) → l < n → (p : ℕ) (rows : List (ℕ × Node)) → IsChain s p (places n rows ++ l ∷ []) → IsDistinct rows
+distinct_on : (s : List Sides) (n l : ℕ) → l < n → (p : ℕ) (rows : List (ℕ × Node)) → IsChain s p (places n rows ++ l ∷ [])
+    → IsDistinct rows
 distinct_on s n l b p [] c = tt
 distinct_on s n l b p (r ∷ rs) c = (
   (λ h.
       let i = split_at r.0 rs h in
-      let again : IsChain s (n + r.0) (places n (i.front ++ (r.0, i.node) ∷ i.rest) ++ l ∷ []) = (let P : List (ℕ × Node) → Type 0 = λ x. IsChain s (n + r.0) (places n x ++ l ∷ []) in subst P i.is c.1) in
-      let e = (one_way s n l l b b (n + r.0) (i.front ++ (r.0, i.node) ∷ i.rest) i.rest again (behind s n l r.0 i.node i.rest (n + r.0) i.front again)).0 in
-      let same : length (i.front ++ (r.0, i.node) ∷ i.rest) ≡ length i.rest = sym (length_places n (i.front ++ (r.0, i.node) ∷ i.rest)) ∙ (ap (λ (x : List ℕ). length x) e ∙ length_places n i.rest) in
+      let again : IsChain s (n + r.0) (places n (i.front ++ (r.0, i.node) ∷ i.rest) ++ l ∷ []) =
+      (let P : List (ℕ × Node) → Type 0 = λ x. IsChain s (n + r.0) (places n x ++ l ∷ []) in subst P i.is c.1) in
+      let e = (one_way s n l l b b (n + r.0) (i.front ++ (r.0, i.node) ∷ i.rest) i.rest again
+      (behind s n l r.0 i.node i.rest (n + r.0) i.front again)).0 in
+      let same : length (i.front ++ (r.0, i.node) ∷ i.rest) ≡ length i.rest =
+      sym (length_places n (i.front ++ (r.0, i.node) ∷ i.rest)) ∙ (ap (λ (x : List ℕ). length x) e ∙ length_places n i.rest) in
       let more : length i.rest < length (i.front ++ (r.0, i.node) ∷ i.rest) = longer r.0 i.node i.rest i.front in
       absurd (omega arith)),
   distinct_on s n l b (n + r.0) rs c.1,
 )
 
 module _ (n : ℕ) (s : List Sides) (v : List (List (ℕ × Node))) (h : AreRings n s v) where
-  ring_of : (l key : ℕ) (node : Node) (front rest : List (ℕ × Node)) → l < n → list_at l v ≡ front ++ (key, node) ∷ rest → IsChain s l (places n (front ++ (key, node) ∷ rest) ++ l ∷ [])
-  ring_of l key node front rest b e = chain_as s l (places n (list_at l v) ++ l ∷ []) (places n (front ++ (key, node) ∷ rest) ++ l ∷ []) (ap (λ (x : List (ℕ × Node)). places n x ++ l ∷ []) e) (h l b)
+  ring_of : (l key : ℕ) (node : Node) (front rest : List (ℕ × Node)) → l < n → list_at l v ≡ front ++ (key, node) ∷ rest
+      → IsChain s l (places n (front ++ (key, node) ∷ rest) ++ l ∷ [])
+  ring_of l key node front rest b e = chain_as s l (places n (list_at l v) ++ l ∷ []) (places n (front ++ (key, node) ∷ rest) ++ l ∷ [])
+      (ap (λ (x : List (ℕ × Node)). places n x ++ l ∷ []) e) (h l b)
 
   pub distinct : (l : ℕ) → l < n → IsDistinct (list_at l v)
   distinct l b = distinct_on s n l b l (list_at l v) (h l b)
@@ -111,8 +120,10 @@ module _ (n : ℕ) (s : List Sides) (v : List (List (ℕ × Node))) (h : AreRing
   -- a place of one ring is in no other
   pub elsewhere : (l m p : ℕ) → l < n → m < n → m ≢ l → In p (l ∷ places n (list_at l v)) → In p (m ∷ places n (list_at m v)) → ⊥
   elsewhere l m p bl bm o (inl e) (inl f) = o (f ∙ sym e)
-  elsewhere l m p bl bm o (inl e) (inr j) = let P : ℕ → Type 0 = λ x. In x (places n (list_at m v)) in root_not n l (list_at m v) bl (subst P (sym e) j)
-  elsewhere l m p bl bm o (inr i) (inl f) = let P : ℕ → Type 0 = λ x. In x (places n (list_at l v)) in root_not n m (list_at l v) bm (subst P (sym f) i)
+  elsewhere l m p bl bm o (inl e) (inr j) = let P : ℕ → Type 0 = λ x. In x (places n (list_at m v))
+      in root_not n l (list_at m v) bl (subst P (sym e) j)
+  elsewhere l m p bl bm o (inr i) (inl f) = let P : ℕ → Type 0 = λ x. In x (places n (list_at l v))
+      in root_not n m (list_at l v) bm (subst P (sym f) i)
   elsewhere l m p bl bm o (inr i) (inr j) =
       let k = key_at n p (list_at l v) i in
       let P : ℕ → Type 0 = λ x. In x (places n (list_at m v)) in
@@ -121,9 +132,11 @@ module _ (n : ℕ) (s : List Sides) (v : List (List (ℕ × Node))) (h : AreRing
   pub ring_apart : (l : ℕ) → l < n → IsApart (l ∷ places n (list_at l v))
   ring_apart l b = ((λ i. root_not n l (list_at l v) b i), places_apart n (list_at l v) (distinct l b))
 
-  module _ (key l : ℕ) (front : List (ℕ × Node)) (node : Node) (rest : List (ℕ × Node)) (b : l < n) (e : list_at l v ≡ front ++ (key, node) ∷ rest) where
+  module _ (key l : ℕ) (front : List (ℕ × Node)) (node : Node) (rest : List (ℕ × Node)) (b : l < n) (e : list_at l v
+      ≡ front ++ (key, node) ∷ rest) where
     pub ring_here : IsChain s l (places n front ++ (n + key) ∷ (places n rest ++ l ∷ []))
-    ring_here = chain_as s l (places n (front ++ (key, node) ∷ rest) ++ l ∷ []) (places n front ++ (n + key) ∷ (places n rest ++ l ∷ [])) (ring_split n l key node rest front) (ring_of l key node front rest b e)
+    ring_here = chain_as s l (places n (front ++ (key, node) ∷ rest) ++ l ∷ []) (places n front ++ (n + key) ∷ (places n rest ++ l ∷ []))
+        (ring_split n l key node rest front) (ring_of l key node front rest b e)
 
     pub distinct_here : IsDistinct (front ++ (key, node) ∷ rest)
     distinct_here = distinct_in (list_at l v) (front ++ (key, node) ∷ rest) e (distinct l b)
@@ -142,13 +155,16 @@ module _ (n : ℕ) (s : List Sides) (v : List (List (ℕ × Node))) (h : AreRing
           ∙ ap (slice_set v l) (ap (without_key key) e ∙ without_split key node front rest distinct_here)
 
       pub node_at-here : node_at key v ≡ Some node
-      node_at-here = node_at-some key l node v (rw many b) (ap (node_in key) e ∙ node_in-split key node front rest distinct_here) (λ m d o. node_in-absent key (list_at m v) (not_elsewhere m (rw many at d) o))
+      node_at-here = node_at-some key l node v (rw many b) (ap (node_in key) e
+          ∙ node_in-split key node front rest distinct_here) (λ m d o. node_in-absent key (list_at m v) (not_elsewhere m (rw many at d) o))
 
 pub apart : (n : ℕ) (s : List Sides) (v : List (List (ℕ × Node))) → AreRings n s v → length v ≡ n → AreApart v
-apart n s v h many l front row rest b e = let d : l < n = rw many at b in (node_at-here n s v h row.0 l front row.1 rest d e many, without_is n s v h row.0 l front row.1 rest d e many)
+apart n s v h many l front row rest b e = let d : l < n = rw many at b
+    in (node_at-here n s v h row.0 l front row.1 rest d e many, without_is n s v h row.0 l front row.1 rest d e many)
 
 -- the rings, once one list has changed
-pub rings_set : (n : ℕ) (u : List Sides) (v : List (List (ℕ × Node))) (l : ℕ) (rows : List (ℕ × Node)) → length v ≡ n → IsChain u l (places n rows ++ l ∷ [])
+pub rings_set : (n : ℕ) (u : List Sides) (v : List (List (ℕ × Node))) (l : ℕ) (rows : List (ℕ × Node)) → length v ≡ n
+    → IsChain u l (places n rows ++ l ∷ [])
     → ((m : ℕ) → m < n → m ≢ l → IsChain u m (places n (list_at m v) ++ m ∷ [])) → AreRings n u (slice_set v l rows)
 rings_set n u v l rows many c o m d = elim (cases_eq m l) [
   | inl q ↦ let b : m < length v = rw many d in rw (q, get_or-set_same v l rows [] (rw q at b)) c

@@ -70,9 +70,11 @@ module _ (key : ℕ) (node : Node) (rest : List (ℕ × Node)) where
 
 pub without_absent : (key : ℕ) (rows : List (ℕ × Node)) → (Has key rows → ⊥) → without_key key rows ≡ rows
 without_absent key [] n = refl
-without_absent key (r ∷ rs) n = rw (ne_eqb r.0 key (λ (e : r.0 ≡ key). n (inl e))) (ap (λ (x : List (ℕ × Node)). r ∷ x) (without_absent key rs (λ h. n (inr h))))
+without_absent key (r ∷ rs) n = rw (ne_eqb r.0 key (λ (e : r.0 ≡ key). n (inl e)))
+    (ap (λ (x : List (ℕ × Node)). r ∷ x) (without_absent key rs (λ h. n (inr h))))
 
-pub without_split : (key : ℕ) (node : Node) (front rest : List (ℕ × Node)) → IsDistinct (front ++ (key, node) ∷ rest) → without_key key (front ++ (key, node) ∷ rest) ≡ front ++ rest
+pub without_split : (key : ℕ) (node : Node) (front rest : List (ℕ × Node)) → IsDistinct (front ++ (key, node) ∷ rest)
+    → without_key key (front ++ (key, node) ∷ rest) ≡ front ++ rest
 without_split key node [] rest d = rw (eq-eqb key key refl) (without_absent key rest d.0)
 without_split key node (x ∷ xs) rest d =
     let n : x.0 ≢ key = λ (e : x.0 ≡ key). d.0 (has_as key x.0 (xs ++ (key, node) ∷ rest) (sym e) (has_this key node rest xs)) in
@@ -82,7 +84,8 @@ pub node_in-absent : (k : ℕ) (rows : List (ℕ × Node)) → (Has k rows → �
 node_in-absent k [] n = refl
 node_in-absent k (r ∷ rs) n = rw (ne_eqb r.0 k (λ (e : r.0 ≡ k). n (inl e))) (node_in-absent k rs (λ h. n (inr h)))
 
-pub node_in-split : (key : ℕ) (node : Node) (front rest : List (ℕ × Node)) → IsDistinct (front ++ (key, node) ∷ rest) → node_in key (front ++ (key, node) ∷ rest) ≡ Some node
+pub node_in-split : (key : ℕ) (node : Node) (front rest : List (ℕ × Node)) → IsDistinct (front ++ (key, node) ∷ rest)
+    → node_in key (front ++ (key, node) ∷ rest) ≡ Some node
 node_in-split key node [] rest d = rw (eq-eqb key key refl) refl
 node_in-split key node (x ∷ xs) rest d =
     let n : x.0 ≢ key = λ (e : x.0 ≡ key). d.0 (has_as key x.0 (xs ++ (key, node) ∷ rest) (sym e) (has_this key node rest xs)) in
@@ -150,28 +153,38 @@ found key node (x ∷ xs) h = elim (of_first (node_in key x)) [
       record { l = 0; below = omega arith; front = f.front; rest = f.rest; is = f.is }
 ]
 
-pub map_each : (f : List (ℕ × Node) → List (ℕ × Node)) (lists : List (List (ℕ × Node))) → ((l : ℕ) → l < length lists → f (list_at l lists) ≡ list_at l lists) → map f lists ≡ lists
+pub map_each : (f : List (ℕ × Node) → List (ℕ × Node)) (lists : List (List (ℕ × Node)))
+    → ((l : ℕ) → l < length lists → f (list_at l lists) ≡ list_at l lists) → map f lists ≡ lists
 map_each f [] h = refl
 map_each f (x ∷ xs) h = rw (h 0 (omega arith)) (ap (λ (y : List (List (ℕ × Node))). x ∷ y) (map_each f xs (λ l b. h (suc l) (omega arith))))
 
-pub map_without : (key l : ℕ) (lists : List (List (ℕ × Node))) → ((m : ℕ) → m < length lists → m ≢ l → without_key key (list_at m lists) ≡ list_at m lists) → map (without_key key) lists ≡ slice_set lists l (without_key key (list_at l lists))
+pub map_without : (key l : ℕ) (lists : List (List (ℕ × Node))) → ((m : ℕ) → m < length lists → m ≢ l
+    → without_key key (list_at m lists) ≡ list_at m lists) → map (without_key key) lists
+    ≡ slice_set lists l (without_key key (list_at l lists))
 map_without key l [] h = refl
-map_without key zero (y ∷ ys) h = ap (λ (z : List (List (ℕ × Node))). without_key key y ∷ z) (map_each (without_key key) ys (λ m b. h (suc m) (omega arith) (omega arith)))
-map_without key (suc l) (y ∷ ys) h = rw (h 0 (omega arith) (omega arith)) (ap (λ (z : List (List (ℕ × Node))). y ∷ z) (map_without key l ys (λ m b n. h (suc m) (omega arith) (omega arith))))
+map_without key zero (y ∷ ys) h = ap (λ (z : List (List (ℕ × Node))). without_key key y ∷ z)
+    (map_each (without_key key) ys (λ m b. h (suc m) (omega arith) (omega arith)))
+map_without key (suc l) (y ∷ ys) h = rw (h 0 (omega arith) (omega arith))
+    (ap (λ (z : List (List (ℕ × Node))). y ∷ z) (map_without key l ys (λ m b n. h (suc m) (omega arith) (omega arith))))
 
-pub node_at-none : (k : ℕ) (lists : List (List (ℕ × Node))) → ((l : ℕ) → l < length lists → node_in k (list_at l lists) ≡ None) → node_at k lists ≡ None
+pub node_at-none : (k : ℕ) (lists : List (List (ℕ × Node))) → ((l : ℕ) → l < length lists → node_in k (list_at l lists) ≡ None)
+    → node_at k lists ≡ None
 node_at-none k [] h = refl
 node_at-none k (x ∷ xs) h = rw (h 0 (omega arith)) (node_at-none k xs (λ l b. h (suc l) (omega arith)))
 
-pub node_at-some : (k l : ℕ) (n : Node) (lists : List (List (ℕ × Node))) → l < length lists → node_in k (list_at l lists) ≡ Some n → ((m : ℕ) → m < length lists → m ≢ l → node_in k (list_at m lists) ≡ None) → node_at k lists ≡ Some n
+pub node_at-some : (k l : ℕ) (n : Node) (lists : List (List (ℕ × Node))) → l < length lists → node_in k (list_at l lists) ≡ Some n
+    → ((m : ℕ) → m < length lists → m ≢ l → node_in k (list_at m lists) ≡ None) → node_at k lists ≡ Some n
 node_at-some k l n [] b h o = absurd (omega arith)
 node_at-some k zero n (x ∷ xs) b h o = rw h refl
-node_at-some k (suc l) n (x ∷ xs) b h o = rw (o 0 (omega arith) (omega arith)) (node_at-some k l n xs (omega arith) h (λ m d e. o (suc m) (omega arith) (omega arith)))
+node_at-some k (suc l) n (x ∷ xs) b h o = rw (o 0 (omega arith) (omega arith))
+    (node_at-some k l n xs (omega arith) h (λ m d e. o (suc m) (omega arith) (omega arith)))
 
-pub row_count-set : (lists : List (List (ℕ × Node))) (l : ℕ) (rows : List (ℕ × Node)) → l < length lists → row_count (slice_set lists l rows) + length (list_at l lists) ≡ row_count lists + length rows
+pub row_count-set : (lists : List (List (ℕ × Node))) (l : ℕ) (rows : List (ℕ × Node)) → l < length lists
+    → row_count (slice_set lists l rows) + length (list_at l lists) ≡ row_count lists + length rows
 row_count-set [] l rows h = absurd (omega arith)
 row_count-set (x ∷ xs) zero rows h = omega arith
-row_count-set (x ∷ xs) (suc l) rows h = let e : row_count (slice_set xs l rows) + length (list_at l xs) ≡ row_count xs + length rows = row_count-set xs l rows (omega arith) in omega arith
+row_count-set (x ∷ xs) (suc l) rows h = let e : row_count (slice_set xs l rows) + length (list_at l xs) ≡ row_count xs + length rows =
+    row_count-set xs l rows (omega arith) in omega arith
 
 pub length_list_at : (lists : List (List (ℕ × Node))) (l : ℕ) → length (list_at l lists) ≤ row_count lists
 length_list_at [] l = omega arith

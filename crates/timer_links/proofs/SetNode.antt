@@ -18,13 +18,16 @@ slot_below [] key i = absurd (none_is i)
 slot_below (x ∷ xs) zero i = omega arith
 slot_below (x ∷ xs) (suc key) i = let h : key < length xs = slot_below xs key i in omega arith
 
-same_fold : (slots : List (Option Node)) (key : ℕ) (node : Node) (n : ℕ) → IsSome (slice_index_or slots key None) → fold (λ (a : ℕ) (x : Option Node). a + cond (is_some x) 1 0) n (slice_set slots key (Some node)) ≡ fold (λ (a : ℕ) (x : Option Node). a + cond (is_some x) 1 0) n slots
+same_fold : (slots : List (Option Node)) (key : ℕ) (node : Node) (n : ℕ) → IsSome (slice_index_or slots key None)
+    → fold (λ (a : ℕ) (x : Option Node). a + cond (is_some x) 1 0) n (slice_set slots key (Some node))
+    ≡ fold (λ (a : ℕ) (x : Option Node). a + cond (is_some x) 1 0) n slots
 same_fold [] key node n i = refl
 same_fold (None ∷ xs) zero node n i = absurd (none_is i)
 same_fold (Some x ∷ xs) zero node n i = refl
 same_fold (x ∷ xs) (suc key) node n i = same_fold xs key node (n + cond (is_some x) 1 0) i
 
-same_count : (slots : List (Option Node)) (key : ℕ) (node : Node) → IsSome (slice_index_or slots key None) → count_by is_some (slice_set slots key (Some node)) ≡ count_by is_some slots
+same_count : (slots : List (Option Node)) (key : ℕ) (node : Node) → IsSome (slice_index_or slots key None)
+    → count_by is_some (slice_set slots key (Some node)) ≡ count_by is_some slots
 same_count slots key node i = same_fold slots key node 0 i
 
 module _ (key : ℕ) (was node : Node) (rest : List (ℕ × Node)) where
@@ -36,12 +39,14 @@ module _ (key : ℕ) (was node : Node) (rest : List (ℕ × Node)) where
   other_in k [] n = rw (ne_eqb key k (λ (q : key ≡ k). n (sym q))) refl
   other_in k (x ∷ xs) n = rw (other_in k xs n) refl
 
-other_at : (k l : ℕ) (rows : List (ℕ × Node)) (v : List (List (ℕ × Node))) → node_in k rows ≡ node_in k (list_at l v) → node_at k (slice_set v l rows) ≡ node_at k v
+other_at : (k l : ℕ) (rows : List (ℕ × Node)) (v : List (List (ℕ × Node))) → node_in k rows ≡ node_in k (list_at l v)
+    → node_at k (slice_set v l rows) ≡ node_at k v
 other_at k l rows [] e = refl
 other_at k zero rows (x ∷ xs) e = rw e refl
 other_at k (suc l) rows (x ∷ xs) e = rw (other_at k l rows xs e) refl
 
-pub node_set : (n : ℕ) (nodes : Slab Node) (s : List Sides) (v : List (List (ℕ × Node))) (key l : ℕ) (front : List (ℕ × Node)) (was node : Node) (rest : List (ℕ × Node)) → IsLinked n nodes s v → l < length v → list_at l v ≡ front ++ (key, was) ∷ rest
+pub node_set : (n : ℕ) (nodes : Slab Node) (s : List Sides) (v : List (List (ℕ × Node))) (key l : ℕ) (front : List (ℕ × Node))
+    (was node : Node) (rest : List (ℕ × Node)) → IsLinked n nodes s v → l < length v → list_at l v ≡ front ++ (key, was) ∷ rest
     → IsLinked n (with_value nodes key node) s (slice_set v l (front ++ (key, node) ∷ rest))
 node_set n nodes s v key l front was node rest h d e =
     let b : l < n = low n nodes s v h l d in
@@ -49,11 +54,16 @@ node_set n nodes s v key l front was node rest h d e =
     let len : length (slice_set v l (front ++ (key, node) ∷ rest)) ≡ length v = length-set v l (front ++ (key, node) ∷ rest) in
     let i : ContainsKey nodes key = some_is (get nodes key) was (h.held key ∙ node_at-here n s v h.rings key l front was rest b e h.many) in
     let rings = rings_set n s v l (front ++ (key, node) ∷ rest) h.many
-    (chain_as s l (places n (list_at l v) ++ l ∷ []) (places n (front ++ (key, node) ∷ rest) ++ l ∷ []) (ap (λ (x : List (ℕ × Node)). places n x ++ l ∷ []) e ∙ ap (λ (x : List ℕ). x ++ l ∷ []) (same_places key was node rest n front)) (h.rings l b))
+    (chain_as s l (places n (list_at l v) ++ l ∷ []) (places n (front ++ (key, node) ∷ rest) ++ l ∷ [])
+    (ap (λ (x : List (ℕ × Node)). places n x ++ l ∷ []) e ∙ ap (λ (x : List ℕ). x ++ l ∷ []) (same_places key was node rest n front))
+    (h.rings l b))
     (λ m c o. h.rings m c) in
-    let here : list_at l (slice_set v l (front ++ (key, node) ∷ rest)) ≡ front ++ (key, node) ∷ rest = get_or-set_same v l (front ++ (key, node) ∷ rest) [] d in
-    let c1 : row_count (slice_set v l (front ++ (key, node) ∷ rest)) + length (list_at l v) ≡ row_count v + length (front ++ (key, node) ∷ rest) = row_count-set v l (front ++ (key, node) ∷ rest) d in
-    let c2 : length (list_at l v) ≡ length (front ++ rest) + 1 = ap (λ (x : List (ℕ × Node)). length x) e ∙ length_split key was rest front in
+    let here : list_at l (slice_set v l (front ++ (key, node) ∷ rest)) ≡ front ++ (key, node) ∷ rest =
+    get_or-set_same v l (front ++ (key, node) ∷ rest) [] d in
+    let c1 : row_count (slice_set v l (front ++ (key, node) ∷ rest)) + length (list_at l v)
+    ≡ row_count v + length (front ++ (key, node) ∷ rest) = row_count-set v l (front ++ (key, node) ∷ rest) d in
+    let c2 : length (list_at l v) ≡ length (front ++ rest) + 1 = ap (λ (x : List (ℕ × Node)). length x) e ∙ length_split key was rest front
+    in
     let c3 : length (front ++ (key, node) ∷ rest) ≡ length (front ++ rest) + 1 = length_split key node rest front in
     let c4 : slab_len nodes ≡ row_count v = h.total in
     let c5 : slab_len (with_value nodes key node) ≡ slab_len nodes = same_count nodes.slots key node i in
@@ -62,8 +72,11 @@ node_set n nodes s v key l front was node rest h d e =
       few = h.few;
       rings = rings;
       held = λ k. elim (cases_eq k key) [
-        | inl q ↦ rw q (get_or-set_same nodes.slots key (Some node) None (slot_below nodes.slots key i) ∙ sym (node_at-here n s now rings key l front node rest b here (len ∙ h.many)))
-        | inr o ↦ get_or-set_other nodes.slots key k (Some node) None o ∙ (h.held k ∙ sym (other_at k l (front ++ (key, node) ∷ rest) v (other_in key was node rest k front o ∙ ap (node_in k) (sym e))))
+        | inl q ↦ rw q (get_or-set_same nodes.slots key (Some node) None (slot_below nodes.slots key i)
+            ∙ sym (node_at-here n s now rings key l front node rest b here (len ∙ h.many)))
+        | inr o ↦ get_or-set_other nodes.slots key k (Some node) None o
+            ∙ (h.held k ∙ sym (other_at k l (front ++ (key, node) ∷ rest) v (other_in key was node rest k front o
+            ∙ ap (node_in k) (sym e))))
       ];
       total = omega arith;
       roots = h.roots;
@@ -75,5 +88,8 @@ node_set n nodes s v key l front was node rest h d e =
     }
 
 -- which node stood there
-pub node_was : (n : ℕ) (nodes : Slab Node) (s : List Sides) (v : List (List (ℕ × Node))) (key l : ℕ) (front : List (ℕ × Node)) (was x : Node) (rest : List (ℕ × Node)) → IsLinked n nodes s v → l < length v → list_at l v ≡ front ++ (key, was) ∷ rest → get nodes key ≡ Some x → x ≡ was
-node_was n nodes s v key l front was x rest h d e g = same_node x was (sym g ∙ (h.held key ∙ node_at-here n s v h.rings key l front was rest (low n nodes s v h l d) e h.many))
+pub node_was : (n : ℕ) (nodes : Slab Node) (s : List Sides) (v : List (List (ℕ × Node))) (key l : ℕ) (front : List (ℕ × Node))
+    (was x : Node) (rest : List (ℕ × Node)) → IsLinked n nodes s v → l < length v → list_at l v ≡ front ++ (key, was) ∷ rest
+    → get nodes key ≡ Some x → x ≡ was
+node_was n nodes s v key l front was x rest h d e g = same_node x was (sym g
+    ∙ (h.held key ∙ node_at-here n s v h.rings key l front was rest (low n nodes s v h l d) e h.many))

@@ -30,11 +30,13 @@ AreHeld nodes [] = Unit {0}
 AreHeld nodes (row ∷ rest) = (get nodes row.0 ≡ Some row.1) × AreHeld nodes rest
 
 -- the walk goes along the chain
-walk_is : (m n : ℕ) (nodes : Slab Node) (s : List Sides) (l p : ℕ) (rows : List (ℕ × Node)) → l < n → length rows ≤ m → AreHeld nodes rows → IsChain s p (places n rows ++ l ∷ []) → walk m n nodes s (sides_at s p).after ≡ rows
+walk_is : (m n : ℕ) (nodes : Slab Node) (s : List Sides) (l p : ℕ) (rows : List (ℕ × Node)) → l < n → length rows ≤ m → AreHeld nodes rows
+    → IsChain s p (places n rows ++ l ∷ []) → walk m n nodes s (sides_at s p).after ≡ rows
 walk_is zero n nodes s l p [] b f a c = refl
 walk_is zero n nodes s l p (r ∷ rs) b f a c = absurd (omega arith)
 walk_is (suc m) n nodes s l p [] b f a c = rw (c.0.forth, root_low n l b) refl
-walk_is (suc m) n nodes s l p (r ∷ rs) b f a c = rw (c.0.forth, key_high n r.0, a.0) (ap (λ (x : List (ℕ × Node)). r ∷ x) (walk_is m n nodes s l (n + r.0) rs b (omega arith) a.1 c.1))
+walk_is (suc m) n nodes s l p (r ∷ rs) b f a c = rw (c.0.forth, key_high n r.0, a.0)
+    (ap (λ (x : List (ℕ × Node)). r ∷ x) (walk_is m n nodes s l (n + r.0) rs b (omega arith) a.1 c.1))
 
 module _ (n : ℕ) (nodes : Slab Node) (s : List Sides) (v : List (List (ℕ × Node))) (h : IsLinked n nodes s v) where
   held_from : (l : ℕ) (rows front : List (ℕ × Node)) → l < n → list_at l v ≡ front ++ rows → AreHeld nodes rows
@@ -54,14 +56,18 @@ module _ (n : ℕ) (nodes : Slab Node) (s : List Sides) (v : List (List (ℕ × 
       let e : length (lists_of n nodes s) ≡ n = same in
       let b : l < n = omega arith in
       let k : length (list_at l v) ≤ row_count v = length_list_at v l in
-      get_or-map-range_with_len f 0 n l l [] b (omega arith) ∙ walk_is (slab_len nodes) n nodes s l l (list_at l v) b (omega arith) (held_from l (list_at l v) [] b refl) (h.rings l b))
+      get_or-map-range_with_len f 0 n l l [] b (omega arith) ∙ walk_is (slab_len nodes) n nodes s l l (list_at l v) b (omega arith)
+      (held_from l (list_at l v) [] b refl) (h.rings l b))
 
-pub closed : (n : ℕ) (nodes : Slab Node) (s : List Sides) (v : List (List (ℕ × Node))) → IsLinked n nodes s v → IsLinked n nodes s (lists_of n nodes s)
+pub closed : (n : ℕ) (nodes : Slab Node) (s : List Sides) (v : List (List (ℕ × Node))) → IsLinked n nodes s v
+    → IsLinked n nodes s (lists_of n nodes s)
 closed n nodes s v h = let P : List (List (ℕ × Node)) → Type 0 = λ x. IsLinked n nodes s x in subst P (sym (lists_are n nodes s v h)) h
 
-pub opened : (s : Inside) (v : List (List (ℕ × Node))) → lists_of s.lists s.nodes s.sides.items ≡ v → IsLinked s.lists s.nodes s.sides.items (lists_of s.lists s.nodes s.sides.items) → IsLinked s.lists s.nodes s.sides.items v
+pub opened : (s : Inside) (v : List (List (ℕ × Node))) → lists_of s.lists s.nodes s.sides.items ≡ v
+    → IsLinked s.lists s.nodes s.sides.items (lists_of s.lists s.nodes s.sides.items) → IsLinked s.lists s.nodes s.sides.items v
 opened s v e h = let P : List (List (ℕ × Node)) → Type 0 = λ x. IsLinked s.lists s.nodes s.sides.items x in subst P e h
 
 -- what was written to the slice of a vector is the vector's
-pub written : {Z : Type 0} (n : ℕ) (nodes : Slab Node) (sides : Vec Sides Z) (ws : List Sides) (v : List (List (ℕ × Node))) → length ws ≡ sides.len → IsLinked n nodes ws v → IsLinked n nodes (with_items sides ws).items v
+pub written : {Z : Type 0} (n : ℕ) (nodes : Slab Node) (sides : Vec Sides Z) (ws : List Sides) (v : List (List (ℕ × Node)))
+    → length ws ≡ sides.len → IsLinked n nodes ws v → IsLinked n nodes (with_items sides ws).items v
 written n nodes sides ws v e h = let P : List Sides → Type 0 = λ x. IsLinked n nodes x v in subst P (sym (with_items_is sides ws e)) h

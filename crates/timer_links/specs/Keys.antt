@@ -10,4 +10,5 @@ AreUnused from to lists = (key : ℕ) → from ≤ key → key < to → node_at 
 -- the first key in use from this one on, and none exactly where no such key is in use
 abbrev pub IsFirstUsed : ℕ → List (List (ℕ × Node)) → Option ℕ → Type 0
 IsFirstUsed from lists None = (key : ℕ) → from ≤ key → node_at key lists ≡ None
-IsFirstUsed from lists (Some found) = (from ≤ found) × IsSome (node_at found lists) × AreUnused from found lists
+IsFirstUsed from lists (Some found) = (from ≤ found) × IsSome (node_at found lists)
+    × AreUnused from found lists

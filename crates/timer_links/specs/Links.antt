@@ -20,11 +20,13 @@ rows_of nodes (Some key) rest = row_of key (get nodes key) rest
 -- the rows from a place on to the root, at most that many
 abbrev pub walk : ℕ → ℕ → Slab Node → List Sides → ℕ → List (ℕ × Node)
 walk zero lists nodes sides place = []
-walk (suc n) lists nodes sides place = rows_of nodes (key_of lists place) (walk n lists nodes sides (sides_at sides place).after)
+walk (suc n) lists nodes sides place = rows_of nodes (key_of lists place)
+    (walk n lists nodes sides (sides_at sides place).after)
 
 -- the lists, each walked from the place after its root
 abbrev pub lists_of : ℕ → Slab Node → List Sides → List (List (ℕ × Node))
-lists_of lists nodes sides = map (λ root. walk (slab_len nodes) lists nodes sides (sides_at sides root).after) (range_with_len 0 lists)
+lists_of lists nodes sides = map (λ root. walk (slab_len nodes) lists nodes sides (sides_at sides root).after)
+    (range_with_len 0 lists)
 
 -- the places of these rows
 abbrev pub places : ℕ → List (ℕ × Node) → List ℕ
@@ -36,7 +38,8 @@ abbrev pub AreRings : ℕ → List Sides → List (List (ℕ × Node)) → Type 
 AreRings lists sides v = (l : ℕ) → l < lists → IsChain sides l (places lists (list_at l v) ++ l ∷ [])
 
 -- the nodes under these keys stand in these lists, and each list is a ring
-pub record IsLinked (lists : ℕ) (nodes : Slab Node) (sides : List Sides) (v : List (List (ℕ × Node))) : Type 0 where
+pub record IsLinked (lists : ℕ) (nodes : Slab Node) (sides : List Sides)
+    (v : List (List (ℕ × Node))) : Type 0 where
   pub many : length v ≡ lists
   pub few : lists ≤ 65537
   pub rings : AreRings lists sides v

@@ -42,7 +42,8 @@ row_count (rows ∷ lists) = length rows + row_count lists
 -- the first row of one list is removed, where there is one
 abbrev pub PopsFront : ℕ → List (List (ℕ × Node)) → Option (ℕ × Node) → List (List (ℕ × Node)) → Type 0
 PopsFront l old None new = (list_at l old ≡ []) × (new ≡ old)
-PopsFront l old (Some row) new = (rest : List (ℕ × Node)) × (list_at l old ≡ row ∷ rest) × (new ≡ slice_set old l rest)
+PopsFront l old (Some row) new = (rest : List (ℕ × Node)) × (list_at l old ≡ row ∷ rest)
+    × (new ≡ slice_set old l rest)
 
 -- the node moves to the back of one list, and keeps its key
 abbrev pub moved_back : ℕ → ℕ → Node → List (List (ℕ × Node)) → List (List (ℕ × Node))

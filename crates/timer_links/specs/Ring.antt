@@ -34,7 +34,8 @@ pub record Joins (front back : ℕ) (old new : List Sides) : Type 0 where
 
 -- the place was put after the last one of the root's ring, and before the root
 abbrev pub JoinsLast : ℕ → ℕ → List Sides → List Sides → Type 0
-JoinsLast root place old new = (half : List Sides) × Joins (sides_at old root).before place old half × Joins place root half new
+JoinsLast root place old new = (half : List Sides) × Joins (sides_at old root).before place old half
+    × Joins place root half new
 
 -- there may be more places, and all sides are unchanged
 pub record IsGrown (old new : List Sides) : Type 0 where

@@ -9,9 +9,10 @@
 //!
 //! The nodes are in a `Slab`, whose keys these are. Their order is kept apart from them, as rings in one
 //! array (`ring`), so that changing a neighbour's link never touches the neighbour's node.
-ghost use Rattle.std.specs.Prelude.{◌≡◌, ◌≢◌, ◌<◌, ◌≤◌, ◌↔◌, IsTrue, Some, None, IfOk, OnErr, IfErr, IfSome, IsSome, length, map, [], replicate};
+ghost use Rattle.std.specs.Prelude.{◌≡◌, ◌≢◌, ◌<◌, ◌≤◌, ◌↔◌, ◌+◌, IsTrue, Some, None, IfOk, OnOk, OnErr, IfErr, IfSome, IsSome, length, map, [], replicate};
 ghost use Rattle.timer_links.specs.Lists.{node_at, first_key, with_row, row_count, list_at, without_key, front_moved, appended, PopsFront, AreApart, IsNext, SetsRounds, SetsNode, MovesBack, IsAloneIn, HasRounds};
 ghost use Rattle.timer_links.specs.Keys.{IsFirstUsed};
+ghost use Rattle.timer_links.specs.Ring.{IsGrown};
 ghost use Rattle.timer_links.specs.declared.ring.TheConstants.{PLACES};
 
 use crate::node::Node;
@@ -56,7 +57,8 @@ impl Model for Links {
 
     ghost view = { λ s. lists_of s.lists s.nodes s.sides.items };
 
-    ghost invariant = { λ s. IsLinked s.lists s.nodes s.sides.items (lists_of s.lists s.nodes s.sides.items) };
+    ghost invariant = { λ s. IsLinked s.lists s.nodes s.sides.items
+        (lists_of s.lists s.nodes s.sides.items) };
 }
 
 impl Links {
@@ -168,6 +170,16 @@ impl Links {
         self.nodes.len()
     }
 
+    /// Makes room for `most` nodes at one time, those that are here among them. No list changes.
+    ///
+    /// While fewer nodes are here, `push_back` then needs no memory, also after others were removed. The
+    /// error is out of memory, as that of `push_back`. What was allocated is kept, after an error too.
+    pub fn reserve(&mut self, most: usize) -> Result<(), OutOfMemory>
+        ensures { self.new ≡ self.old }
+    {
+        make_room(&mut self.nodes, &mut self.sides, self.lists, most)
+    }
+
     /// Adds a node at the back of a list, and returns its key, which was not in use.
     ///
     /// On an error nothing changes, and the node is handed back. The error is out of memory: an
@@ -230,8 +242,8 @@ impl Links {
         }
     }
 
-    /// The list in which the node under a key that is in use stands alone, or None where another stands beside it.
-    /// Does not allocate.
+    /// The list in which the node under a key that is in use stands alone, or None where another stands
+    /// beside it. Does not allocate.
     #[inline]
     pub fn alone_in(&self, key: usize) -> Option<usize>
         requires { IsSome (node_at key self.now) }
@@ -341,4 +353,33 @@ impl Links {
         }
         None
     }
+}
+
+/// Makes the arrays long enough for `most` nodes at one time, whatever keys these get: a key is below the
+/// capacity of the nodes. On an error no node and no link changes.
+#[cold]
+#[inline(never)]
+fn make_room(
+    nodes: &mut Slab<Node>,
+    sides: &mut Vec<Sides>,
+    lists: usize,
+    most: usize,
+) -> Result<(), OutOfMemory>
+    requires roots { lists ≤ length sides.old.items }
+    requires few { length sides.old.items ≤ PLACES }
+    ensures nodes { nodes.new ≡ record nodes.old { capacity = nodes.new.capacity } }
+    ensures kept { IsGrown sides.old.items sides.new.items }
+    ensures few { length sides.new.items ≤ PLACES }
+    ensures room { OnOk result (most ≤ nodes.new.capacity) }
+    ensures places { OnOk result (lists + nodes.new.capacity ≤ length sides.new.items) }
+{
+    nodes.reserve(most.saturating_sub(nodes.len()))?;
+    let capacity = nodes.capacity();
+    if capacity > PLACES - lists {
+        return Err(OutOfMemory);
+    }
+    if capacity == 0 {
+        return Ok(());
+    }
+    reserve_place(sides, lists + capacity - 1)
 }

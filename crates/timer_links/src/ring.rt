@@ -26,7 +26,7 @@
 //!
 //! In a ring of no nodes the root is its own neighbour on both sides. The links at the place of a key
 //! that is not in use mean nothing.
-ghost use Rattle.std.specs.Prelude.{◌<◌, ◌≤◌, ◌≡◌, OnOk, length};
+ghost use Rattle.std.specs.Prelude.{◌<◌, ◌≤◌, ◌≡◌, IsOk, OnOk, length};
 ghost use Rattle.timer_links.specs.declared.ring.TheConstants.{PLACES};
 
 use timer_base::OutOfMemory;
@@ -94,10 +94,12 @@ pub fn join_last(sides: &mut [Sides], root: u32, place: u32)
 }
 
 /// Makes the array long enough for a place. On an error no link in it changes; the error is out of memory.
+/// If the place is there already, nothing changes, and there is no error.
 #[inline(always)]
 pub fn reserve_place(sides: &mut Vec<Sides>, place: usize) -> Result<(), OutOfMemory>
     requires place { place < PLACES }
     requires few { length sides.old.items ≤ PLACES }
+    ensures had_place { place < length sides.old.items → IsOk result × (sides.new ≡ sides.old) }
     ensures kept { IsGrown sides.old.items sides.new.items }
     ensures few { length sides.new.items ≤ PLACES }
     ensures reached { OnOk result (place < length sides.new.items) }
@@ -109,7 +111,8 @@ pub fn reserve_place(sides: &mut Vec<Sides>, place: usize) -> Result<(), OutOfMe
     }
 }
 
-/// Adds up to 64 places at a time. So it is rarely called, and kept out of line, which keeps its callers small.
+/// Adds up to 64 places at a time. So it is rarely called, and kept out of line, which keeps its callers
+/// small.
 #[cold]
 #[inline(never)]
 fn grow(sides: &mut Vec<Sides>, place: usize) -> Result<(), OutOfMemory>

@@ -306,6 +306,28 @@ fn nodes_keep_their_order_while_the_links_grow(rt: HostRuntime) {
     same(&rt, links.len(), 0);
 }
 
+#[test]
+fn room_changes_no_list(rt: HostRuntime) -> Result<(), OutOfMemory> {
+    let mut links = lists_of(&rt, rt.alloc(), 3);
+    links.reserve(0)?;
+    for serial in 1..=3 {
+        put(&rt, &mut links, 1, serial);
+    }
+    links.reserve(1000)?;
+    links.reserve(10)?;
+    same(&rt, serials(&links, 1), 123);
+    same(&rt, links.len(), 3);
+    same(&rt, links.lists(), 3);
+    // More nodes than a link can name.
+    same(&rt, links.reserve(usize::MAX), Err(OutOfMemory));
+    same(&rt, serials(&links, 1), 123);
+    for serial in 4..=9 {
+        put(&rt, &mut links, 2, serial);
+    }
+    same(&rt, serials(&links, 2), 456789);
+    Ok(())
+}
+
 /// The nodes of a long list.
 const MANY: u64 = 100000;
 

@@ -5,5 +5,6 @@ use Rattle.timer_base.proofs.sorting.sort_timers.Goals as goal
 
 pub returns : goal.returns
 returns c =
-    sorted_in_order c.args.timers.now.items c.sort_unstable_by_key.new.self.items c.sort_unstable_by_key.ensures.permutation c.requires.distinct
+    sorted_in_order c.args.timers.now.items c.sort_unstable_by_key.new.self.items c.sort_unstable_by_key.ensures.permutation
+    c.requires.distinct
     (c.sort_unstable_by_key.ensures.sorted key_of (answers_always _ _ _ (λ f a r g h. search rules)))

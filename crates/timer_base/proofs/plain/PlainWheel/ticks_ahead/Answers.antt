@@ -9,7 +9,8 @@ use Rattle.timer_base.proofs.plain.PlainWheel.ticks_ahead.Goals as goal
 pub returns-in-Some : goal.returns-in-Some
 returns-in-Some c =
     let s = c.args.self.now in
-    let first : first_after s.now s.timers.items ≡ Some c.in-Some.deadline = first_is_next s.now s.last_serial s.timers.items ∙ sym c.in-Some.ensures.exact in
+    let first : first_after s.now s.timers.items ≡ Some c.in-Some.deadline =
+    first_is_next s.now s.last_serial s.timers.items ∙ sym c.in-Some.ensures.exact in
     jump-some s.now c.args.most c.min.result c.in-Some.deadline s.timers.items c.requires.some
     (all_after s.now s.last_serial s.timers.items s.kept (none_of_them s.now s.last_serial s.timers.items c.requires.nothing_due))
     first c.in-Some.ensures.wake_up.later c.min.ensures

@@ -17,5 +17,6 @@ returns c =
     let n = c.skip.new.self in
     jumped s.now s.last_serial c.args.most c.ticks_ahead-passed.result s.timers.items _ c.ticks_ahead-passed.ensures
     (none_of_them s.now s.last_serial s.timers.items c.requires.nothing_due) s.kept s.rising
-    (c.per_tick.ensures ∙ ap after_tick (state_skipped s.now n.now (c.ticks_ahead-passed.result - 1) s.last_serial n.last_serial s.timers.items n.timers.items
+    (c.per_tick.ensures ∙ ap after_tick (state_skipped s.now n.now
+    (c.ticks_ahead-passed.result - 1) s.last_serial n.last_serial s.timers.items n.timers.items
     c.skip.ensures.now c.skip.ensures.last_serial c.skip.ensures.timers))

@@ -9,35 +9,41 @@ use Rattle.timer_base.proofs.plain.PlainWheelWheel.expire.Goals as goal
 pub returns-in_err-first-clause-first : goal.returns-in_err-first-clause-first
 returns-in_err-first-clause-first c =
     let s = c.args.self.now in
-    let seen : c.find_due.result ≡ find (is_due_at s.now) s.timers.items = c.find_due.ensures ∙ ap (find (is_due_at s.now)) c.as_slice.ensures.value in
+    let seen : c.find_due.result ≡ find (is_due_at s.now) s.timers.items =
+    c.find_due.ensures ∙ ap (find (is_due_at s.now)) c.as_slice.ensures.value in
     c.from_residual.ensures ∙ sym c.in_err-first.was ∙ seen ∙ first_is_due s.now s.last_serial s.timers.items
 
 pub returns-in_err-first-clause-rest : goal.returns-in_err-first-clause-rest
 returns-in_err-first-clause-rest c =
     let s = c.args.self.now in
-    let seen : c.find_due.result ≡ find (is_due_at s.now) s.timers.items = c.find_due.ensures ∙ ap (find (is_due_at s.now)) c.as_slice.ensures.value in
+    let seen : c.find_due.result ≡ find (is_due_at s.now) s.timers.items =
+    c.find_due.ensures ∙ ap (find (is_due_at s.now)) c.as_slice.ensures.value in
     plain_state-none_due s.now s.last_serial s.timers.items (sym seen ∙ c.in_err-first.was)
 
 pub overflow_sub-self : goal.overflow_sub-self
 overflow_sub-self c =
     let s = c.args.self.now in
-    let seen : c.find_due.result ≡ find (is_due_at s.now) s.timers.items = c.find_due.ensures ∙ ap (find (is_due_at s.now)) c.as_slice.ensures.value in
+    let seen : c.find_due.result ≡ find (is_due_at s.now) s.timers.items =
+    c.find_due.ensures ∙ ap (find (is_due_at s.now)) c.as_slice.ensures.value in
     let some : 0 < due_count s.now s.timers.items = some_due s.now s.timers.items c.in_ok-first.first (sym seen ∙ c.in_ok-first.was) in
     let counted : s.due ≡ due_count s.now s.timers.items = s.counted in
     omega arith
 
 pub invariant_of-self-clause-rising : goal.invariant_of-self-clause-rising
-invariant_of-self-clause-rising c = rw c.drop_serial.ensures.items (AreRising-filter _ 0 c.args.self.now.timers.items c.args.self.now.rising)
+invariant_of-self-clause-rising c = rw c.drop_serial.ensures.items
+    (AreRising-filter _ 0 c.args.self.now.timers.items c.args.self.now.rising)
 
 pub invariant_of-self-clause-kept : goal.invariant_of-self-clause-kept
 invariant_of-self-clause-kept c =
     let s = c.args.self.now in
-    rw c.drop_serial.ensures.items (All-filter (IsKept s.now s.last_serial) (IsKept s.now s.last_serial) _ s.timers.items (λ x e k. k) s.kept)
+    rw c.drop_serial.ensures.items (All-filter (IsKept s.now s.last_serial) (IsKept s.now s.last_serial) _ s.timers.items
+    (λ x e k. k) s.kept)
 
 pub invariant_of-self-clause-counted : goal.invariant_of-self-clause-counted
 invariant_of-self-clause-counted c =
     let s = c.args.self.now in
-    let seen : c.find_due.result ≡ find (is_due_at s.now) s.timers.items = c.find_due.ensures ∙ ap (find (is_due_at s.now)) c.as_slice.ensures.value in
+    let seen : c.find_due.result ≡ find (is_due_at s.now) s.timers.items =
+    c.find_due.ensures ∙ ap (find (is_due_at s.now)) c.as_slice.ensures.value in
     let counted : s.due ≡ due_count s.now s.timers.items = s.counted in
     let rest = due_count-after_expiry s.now s.timers.items c.in_ok-first.first (sym seen ∙ c.in_ok-first.was) s.rising in
     rw c.drop_serial.ensures.items (omega arith)
@@ -45,11 +51,14 @@ invariant_of-self-clause-counted c =
 pub returns-clause-first : goal.returns-clause-first
 returns-clause-first c =
     let s = c.args.self.now in
-    let seen : c.find_due.result ≡ find (is_due_at s.now) s.timers.items = c.find_due.ensures ∙ ap (find (is_due_at s.now)) c.as_slice.ensures.value in
+    let seen : c.find_due.result ≡ find (is_due_at s.now) s.timers.items =
+    c.find_due.ensures ∙ ap (find (is_due_at s.now)) c.as_slice.ensures.value in
     sym c.in_ok-first.was ∙ seen ∙ first_is_due s.now s.last_serial s.timers.items
 
 pub returns-clause-rest : goal.returns-clause-rest
 returns-clause-rest c =
     let s = c.args.self.now in
-    let seen : c.find_due.result ≡ find (is_due_at s.now) s.timers.items = c.find_due.ensures ∙ ap (find (is_due_at s.now)) c.as_slice.ensures.value in
-    rw c.drop_serial.ensures.items (plain_state-after_expiry s.now s.last_serial s.timers.items c.in_ok-first.first (sym seen ∙ c.in_ok-first.was) s.rising)
+    let seen : c.find_due.result ≡ find (is_due_at s.now) s.timers.items =
+    c.find_due.ensures ∙ ap (find (is_due_at s.now)) c.as_slice.ensures.value in
+    rw c.drop_serial.ensures.items (plain_state-after_expiry s.now s.last_serial s.timers.items c.in_ok-first.first (sym seen
+    ∙ c.in_ok-first.was) s.rising)

@@ -8,11 +8,17 @@ use Rattle.timer_base.proofs.plain.PlainWheelWheel.list.Goals as goal
 pub sort_timers-requires : goal.sort_timers-requires
 sort_timers-requires c =
     let s = c.args.self.now in
-    let kept : c.keep_pending.new.timers.items ≡ filter (is_after s.now) s.timers.items = c.keep_pending.ensures ∙ ap (filter (is_after s.now)) (c.in_ok-timers.ensures.items ∙ c.as_slice.ensures.value) in
-    record { distinct = rw kept (AreDistinct-rising 0 (filter (is_after s.now) s.timers.items) (AreRising-filter (is_after s.now) 0 s.timers.items s.rising)) }
+    let kept : c.keep_pending.new.timers.items ≡ filter (is_after s.now) s.timers.items =
+    c.keep_pending.ensures ∙ ap (filter (is_after s.now)) (c.in_ok-timers.ensures.items ∙ c.as_slice.ensures.value) in
+    record {
+      distinct = rw kept (AreDistinct-rising 0 (filter (is_after s.now) s.timers.items)
+          (AreRising-filter (is_after s.now) 0 s.timers.items s.rising));
+    }
 
 pub returns : goal.returns
 returns c =
     let s = c.args.self.now in
-    let kept : c.keep_pending.new.timers.items ≡ filter (is_after s.now) s.timers.items = c.keep_pending.ensures ∙ ap (filter (is_after s.now)) (c.in_ok-timers.ensures.items ∙ c.as_slice.ensures.value) in
-    c.sort_timers.ensures ∙ ap (in_order itself) kept ∙ sym (timers_of-at_first_place (in_order itself (filter (is_after s.now) s.timers.items)))
+    let kept : c.keep_pending.new.timers.items ≡ filter (is_after s.now) s.timers.items =
+    c.keep_pending.ensures ∙ ap (filter (is_after s.now)) (c.in_ok-timers.ensures.items ∙ c.as_slice.ensures.value) in
+    c.sort_timers.ensures ∙ ap (in_order itself) kept ∙ sym (timers_of-at_first_place
+    (in_order itself (filter (is_after s.now) s.timers.items)))

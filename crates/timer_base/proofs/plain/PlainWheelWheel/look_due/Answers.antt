@@ -14,4 +14,5 @@ pub returns : goal.returns
 returns c =
     let s = c.args.self.now in
     let z : c.args.handle.place ≡ 0 = omega (arith, c.if-handle-gt0.false) in
-    c.find_due_with.ensures ∙ ap (find (is_due_with s.now c.args.handle.serial)) c.as_slice.ensures.value ∙ due_here s.now s.last_serial s.timers.items c.args.handle z
+    c.find_due_with.ensures ∙ ap (find (is_due_with s.now c.args.handle.serial)) c.as_slice.ensures.value
+    ∙ due_here s.now s.last_serial s.timers.items c.args.handle z

@@ -16,4 +16,5 @@ invariant_of-self-clause-counted c =
 pub returns : goal.returns
 returns c =
     let s = c.args.self.now in
-    plain_state-after_tick s.now s.last_serial s.timers.items s.kept s.rising (none_of_them s.now s.last_serial s.timers.items c.requires.nothing_due)
+    plain_state-after_tick s.now s.last_serial s.timers.items s.kept s.rising
+    (none_of_them s.now s.last_serial s.timers.items c.requires.nothing_due)

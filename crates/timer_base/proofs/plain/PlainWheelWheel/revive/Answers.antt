@@ -12,17 +12,22 @@ pub push_in_room-requires : goal.push_in_room-requires
 push_in_room-requires c =
     let s = c.args.self.now in
     let P : List Timer → Type 0 = λ less. length less < length s.timers.items in
-    c.drop_serial.ensures.room (subst P (sym c.drop_serial.ensures.items) (one_less s.now s.last_serial s.timers.items c.args.handle c.in_ok-old.old (sym c.look_due.ensures ∙ c.in_ok-old.was)))
+    c.drop_serial.ensures.room (subst P (sym c.drop_serial.ensures.items)
+    (one_less s.now s.last_serial s.timers.items c.args.handle c.in_ok-old.old (sym c.look_due.ensures ∙ c.in_ok-old.was)))
 
 pub invariant_of-self-clause-rising : goal.invariant_of-self-clause-rising
 invariant_of-self-clause-rising c =
     let s = c.args.self.now in
-    rw (c.push_in_room.ensures, c.drop_serial.ensures.items) (rising-after_start s.now s.last_serial _ c.args.timer (kept-without s.now s.last_serial c.in_ok-old.old.serial s.timers.items s.kept) (AreRising-filter _ 0 s.timers.items s.rising) c.requires.fresh)
+    rw (c.push_in_room.ensures, c.drop_serial.ensures.items) (rising-after_start s.now s.last_serial _ c.args.timer
+    (kept-without s.now s.last_serial c.in_ok-old.old.serial s.timers.items s.kept)
+    (AreRising-filter _ 0 s.timers.items s.rising) c.requires.fresh)
 
 pub invariant_of-self-clause-kept : goal.invariant_of-self-clause-kept
 invariant_of-self-clause-kept c =
     let s = c.args.self.now in
-    rw (c.push_in_room.ensures, c.drop_serial.ensures.items) (kept-after_start s.now s.last_serial _ c.args.timer (kept-without s.now s.last_serial c.in_ok-old.old.serial s.timers.items s.kept) c.requires.fresh c.requires.later c.requires.deadline)
+    rw (c.push_in_room.ensures, c.drop_serial.ensures.items) (kept-after_start s.now s.last_serial _ c.args.timer
+    (kept-without s.now s.last_serial c.in_ok-old.old.serial s.timers.items s.kept) c.requires.fresh c.requires.later
+    c.requires.deadline)
 
 pub invariant_of-self-clause-counted : goal.invariant_of-self-clause-counted
 invariant_of-self-clause-counted c =
@@ -33,5 +38,7 @@ pub returns-clause-revived : goal.returns-clause-revived
 returns-clause-revived c =
     let s = c.args.self.now in
     rw (c.push_in_room.ensures, c.drop_serial.ensures.items)
-    (plain_state-after_start s.now s.last_serial _ c.args.timer (kept-without s.now s.last_serial c.in_ok-old.old.serial s.timers.items s.kept) c.requires.fresh c.requires.later
-    ∙ ap (after_start 0 c.args.timer) (plain_state-after_withdrawal s.now s.last_serial s.timers.items c.args.handle c.in_ok-old.old s.rising (sym c.look_due.ensures ∙ c.in_ok-old.was)))
+    (plain_state-after_start s.now s.last_serial _ c.args.timer
+    (kept-without s.now s.last_serial c.in_ok-old.old.serial s.timers.items s.kept) c.requires.fresh c.requires.later
+    ∙ ap (after_start 0 c.args.timer) (plain_state-after_withdrawal s.now s.last_serial s.timers.items c.args.handle c.in_ok-old.old
+    s.rising (sym c.look_due.ensures ∙ c.in_ok-old.was)))

@@ -10,7 +10,8 @@ invariant_of-self-2-clause-rising c =
 pub invariant_of-self-2-clause-kept : goal.invariant_of-self-2-clause-kept
 invariant_of-self-2-clause-kept c =
     let s = c.args.self.now in
-    rw c.in_ok-push.ensures.items (kept-after_start s.now s.last_serial s.timers.items c.args.timer s.kept c.requires.fresh c.requires.later c.requires.deadline)
+    rw c.in_ok-push.ensures.items (kept-after_start s.now s.last_serial s.timers.items c.args.timer s.kept c.requires.fresh c.requires.later
+    c.requires.deadline)
 
 pub invariant_of-self-2-clause-counted : goal.invariant_of-self-2-clause-counted
 invariant_of-self-2-clause-counted c =
@@ -20,4 +21,5 @@ invariant_of-self-2-clause-counted c =
 pub returns-clause-started : goal.returns-clause-started
 returns-clause-started c =
     let s = c.args.self.now in
-    rw c.in_ok-push.ensures.items (plain_state-after_start s.now s.last_serial s.timers.items c.args.timer s.kept c.requires.fresh c.requires.later)
+    rw c.in_ok-push.ensures.items (plain_state-after_start s.now s.last_serial s.timers.items c.args.timer s.kept c.requires.fresh
+    c.requires.later)

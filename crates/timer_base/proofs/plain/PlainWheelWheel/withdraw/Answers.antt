@@ -12,12 +12,14 @@ returns-in_err-withdrawn-clause-withdrawn c =
     ap (λ o. record w { due = without_found o w.due }) (sym c.in_err-withdrawn.was ∙ c.look_due.ensures)
 
 pub invariant_of-self-clause-rising : goal.invariant_of-self-clause-rising
-invariant_of-self-clause-rising c = rw c.drop_serial.ensures.items (AreRising-filter _ 0 c.args.self.now.timers.items c.args.self.now.rising)
+invariant_of-self-clause-rising c = rw c.drop_serial.ensures.items
+    (AreRising-filter _ 0 c.args.self.now.timers.items c.args.self.now.rising)
 
 pub invariant_of-self-clause-kept : goal.invariant_of-self-clause-kept
 invariant_of-self-clause-kept c =
     let s = c.args.self.now in
-    rw c.drop_serial.ensures.items (All-filter (IsKept s.now s.last_serial) (IsKept s.now s.last_serial) _ s.timers.items (λ x e k. k) s.kept)
+    rw c.drop_serial.ensures.items (All-filter (IsKept s.now s.last_serial) (IsKept s.now s.last_serial) _ s.timers.items
+    (λ x e k. k) s.kept)
 
 pub invariant_of-self-clause-counted : goal.invariant_of-self-clause-counted
 invariant_of-self-clause-counted c =
@@ -27,4 +29,5 @@ invariant_of-self-clause-counted c =
 pub returns-clause-withdrawn : goal.returns-clause-withdrawn
 returns-clause-withdrawn c =
     let s = c.args.self.now in
-    rw c.drop_serial.ensures.items (plain_state-after_withdrawal s.now s.last_serial s.timers.items c.args.handle c.in_ok-withdrawn.withdrawn s.rising (sym c.look_due.ensures ∙ c.in_ok-withdrawn.was))
+    rw c.drop_serial.ensures.items (plain_state-after_withdrawal s.now s.last_serial s.timers.items c.args.handle
+    c.in_ok-withdrawn.withdrawn s.rising (sym c.look_due.ensures ∙ c.in_ok-withdrawn.was))

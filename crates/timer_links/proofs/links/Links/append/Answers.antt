@@ -27,15 +27,21 @@ invariant_of-self c =
     let h = opened c.self.inside c.args.self.now c.self.view_is c.self.invariant in
     let x = read_root _ _ _ _ c.args.from _ _ h c.requires.from c.as_mut_slice-sides.ensures.value c.index.ensures in
     let y = read_root _ _ _ _ c.args.to _ _ h c.requires.to c.as_mut_slice-sides.ensures.value c.index-2.ensures in
-    closed _ _ _ _ (written _ _ c.self.inside.sides _ _ (c.join-3.ensures.size ∙ (c.join-2.ensures.size ∙ (c.join.ensures.size ∙ c.as_mut_slice-sides.ensures.len)))
-    (appended_linked _ _ _ _ _ _ _ c.args.from c.args.to c.in-Some.field-0 h c.requires.from c.requires.to c.requires.apart (sym c.in-Some.ensures)
-    (joins_between _ _ _ _ _ _ _ c.as_mut_slice-sides.ensures.value x.is y.is c.join.ensures) (joins_behind c.self.inside.sides.items _ _ c.args.from _ _ x.is c.join-2.ensures) c.join-3.ensures))
+    closed _ _ _ _ (written _ _ c.self.inside.sides _ _ (c.join-3.ensures.size
+    ∙ (c.join-2.ensures.size ∙ (c.join.ensures.size ∙ c.as_mut_slice-sides.ensures.len)))
+    (appended_linked _ _ _ _ _ _ _ c.args.from c.args.to c.in-Some.field-0 h c.requires.from c.requires.to c.requires.apart
+    (sym c.in-Some.ensures)
+    (joins_between _ _ _ _ _ _ _ c.as_mut_slice-sides.ensures.value x.is y.is c.join.ensures)
+    (joins_behind c.self.inside.sides.items _ _ c.args.from _ _ x.is c.join-2.ensures) c.join-3.ensures))
 
 pub returns : goal.returns
 returns c =
     let h = opened c.self.inside c.args.self.now c.self.view_is c.self.invariant in
     let x = read_root _ _ _ _ c.args.from _ _ h c.requires.from c.as_mut_slice-sides.ensures.value c.index.ensures in
     let y = read_root _ _ _ _ c.args.to _ _ h c.requires.to c.as_mut_slice-sides.ensures.value c.index-2.ensures in
-    lists_are _ _ _ _ (written _ _ c.self.inside.sides _ _ (c.join-3.ensures.size ∙ (c.join-2.ensures.size ∙ (c.join.ensures.size ∙ c.as_mut_slice-sides.ensures.len)))
-    (appended_linked _ _ _ _ _ _ _ c.args.from c.args.to c.in-Some.field-0 h c.requires.from c.requires.to c.requires.apart (sym c.in-Some.ensures)
-    (joins_between _ _ _ _ _ _ _ c.as_mut_slice-sides.ensures.value x.is y.is c.join.ensures) (joins_behind c.self.inside.sides.items _ _ c.args.from _ _ x.is c.join-2.ensures) c.join-3.ensures))
+    lists_are _ _ _ _ (written _ _ c.self.inside.sides _ _ (c.join-3.ensures.size
+    ∙ (c.join-2.ensures.size ∙ (c.join.ensures.size ∙ c.as_mut_slice-sides.ensures.len)))
+    (appended_linked _ _ _ _ _ _ _ c.args.from c.args.to c.in-Some.field-0 h c.requires.from c.requires.to c.requires.apart
+    (sym c.in-Some.ensures)
+    (joins_between _ _ _ _ _ _ _ c.as_mut_slice-sides.ensures.value x.is y.is c.join.ensures)
+    (joins_behind c.self.inside.sides.items _ _ c.args.from _ _ x.is c.join-2.ensures) c.join-3.ensures))

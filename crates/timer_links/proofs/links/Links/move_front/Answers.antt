@@ -16,21 +16,26 @@ join_last-requires-clause-last c =
     let h = opened c.self.inside c.args.self.now c.self.view_is c.self.invariant in
     let f = front_of _ _ _ _ c.args.from c.in-Some.key h c.requires.from (sym c.in-Some.ensures.key) in
     let r = read_node _ _ _ _ c.in-Some.key _ _ h f.used c.as_mut_slice-sides.ensures.value c.index.ensures in
-    back_after _ _ _ _ _ _ _ c.args.to h c.requires.to r.low (joins_front _ _ _ _ _ _ c.as_mut_slice-sides.ensures.value r.is f.before c.join.ensures)
+    back_after _ _ _ _ _ _ _ c.args.to h c.requires.to r.low (joins_front _ _ _ _ _ _ c.as_mut_slice-sides.ensures.value r.is f.before
+    c.join.ensures)
 
 pub invariant_of-self : goal.invariant_of-self
 invariant_of-self c =
     let h = opened c.self.inside c.args.self.now c.self.view_is c.self.invariant in
     let f = front_of _ _ _ _ c.args.from c.in-Some.key h c.requires.from (sym c.in-Some.ensures.key) in
     let r = read_node _ _ _ _ c.in-Some.key _ _ h f.used c.as_mut_slice-sides.ensures.value c.index.ensures in
-    closed _ _ _ _ (written _ _ c.self.inside.sides _ _ (size_last _ _ _ _ c.join_last.ensures ∙ (c.join.ensures.size ∙ c.as_mut_slice-sides.ensures.len))
-    (moved _ _ _ _ _ _ c.in-Some.key c.args.to f.node h f.held c.requires.to (joins_front _ _ _ _ _ _ c.as_mut_slice-sides.ensures.value r.is f.before c.join.ensures) c.join_last.ensures))
+    closed _ _ _ _ (written _ _ c.self.inside.sides _ _ (size_last _ _ _ _ c.join_last.ensures
+    ∙ (c.join.ensures.size ∙ c.as_mut_slice-sides.ensures.len))
+    (moved _ _ _ _ _ _ c.in-Some.key c.args.to f.node h f.held c.requires.to
+    (joins_front _ _ _ _ _ _ c.as_mut_slice-sides.ensures.value r.is f.before c.join.ensures) c.join_last.ensures))
 
 pub returns : goal.returns
 returns c =
     let h = opened c.self.inside c.args.self.now c.self.view_is c.self.invariant in
     let f = front_of _ _ _ _ c.args.from c.in-Some.key h c.requires.from (sym c.in-Some.ensures.key) in
     let r = read_node _ _ _ _ c.in-Some.key _ _ h f.used c.as_mut_slice-sides.ensures.value c.index.ensures in
-    lists_are _ _ _ _ (written _ _ c.self.inside.sides _ _ (size_last _ _ _ _ c.join_last.ensures ∙ (c.join.ensures.size ∙ c.as_mut_slice-sides.ensures.len))
-    (moved _ _ _ _ _ _ c.in-Some.key c.args.to f.node h f.held c.requires.to (joins_front _ _ _ _ _ _ c.as_mut_slice-sides.ensures.value r.is f.before c.join.ensures) c.join_last.ensures))
+    lists_are _ _ _ _ (written _ _ c.self.inside.sides _ _ (size_last _ _ _ _ c.join_last.ensures
+    ∙ (c.join.ensures.size ∙ c.as_mut_slice-sides.ensures.len))
+    (moved _ _ _ _ _ _ c.in-Some.key c.args.to f.node h f.held c.requires.to
+    (joins_front _ _ _ _ _ _ c.as_mut_slice-sides.ensures.value r.is f.before c.join.ensures) c.join_last.ensures))
     ∙ moves_front _ _ _ _ c.args.from c.args.to c.in-Some.key f

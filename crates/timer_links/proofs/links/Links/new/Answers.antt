@@ -6,10 +6,13 @@ pub loop-list-init : goal.loop-list-init
 loop-list-init c = no_roots c.in_ok-sides.sides.items c.in_ok-sides.ensures.items
 
 pub loop-list-preserved : goal.loop-list-preserved
-loop-list-preserved c = one_more c.loop-list.list c.loop-list.sides.items c.push.new.self.items c.loop-list.invariant c.in_ok-push.ensures.items
+loop-list-preserved c = one_more c.loop-list.list c.loop-list.sides.items c.push.new.self.items c.loop-list.invariant
+    c.in_ok-push.ensures.items
 
 pub invariant_of-result : goal.invariant_of-result
-invariant_of-result c = closed _ _ _ _ (empty_linked c.args.lists c.loop-list.list c.new.result c.loop-list.sides.items c.new.ensures.empty c.loop-list.invariant c.loop-list.auto.list-end c.loop-list-test.false c.requires)
+invariant_of-result c = closed _ _ _ _ (empty_linked c.args.lists c.loop-list.list c.new.result c.loop-list.sides.items c.new.ensures.empty
+    c.loop-list.invariant c.loop-list.auto.list-end c.loop-list-test.false c.requires)
 
 pub returns : goal.returns
-returns c = lists_are _ _ _ _ (empty_linked c.args.lists c.loop-list.list c.new.result c.loop-list.sides.items c.new.ensures.empty c.loop-list.invariant c.loop-list.auto.list-end c.loop-list-test.false c.requires)
+returns c = lists_are _ _ _ _ (empty_linked c.args.lists c.loop-list.list c.new.result c.loop-list.sides.items c.new.ensures.empty
+    c.loop-list.invariant c.loop-list.auto.list-end c.loop-list-test.false c.requires)

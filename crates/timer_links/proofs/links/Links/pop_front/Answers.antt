@@ -16,7 +16,8 @@ invariant_of-self c =
     let f = front_of _ _ _ _ c.args.list c.in_ok-key.key h c.requires (sym c.in_ok-key.ensures.key) in
     let r = read_node _ _ _ _ c.in_ok-key.key _ _ h f.used c.as_mut_slice.ensures.value c.index.ensures in
     closed _ _ _ _ (written _ _ c.self.inside.sides _ _ (c.join.ensures.size ∙ c.as_mut_slice.ensures.len)
-    (unlinked _ _ _ _ _ _ c.in_ok-key.key h f.used c.remove-node.ensures.updates c.remove-node.ensures.len (joins_front _ _ _ _ _ _ c.as_mut_slice.ensures.value r.is f.before c.join.ensures)))
+    (unlinked _ _ _ _ _ _ c.in_ok-key.key h f.used c.remove-node.ensures.updates c.remove-node.ensures.len
+    (joins_front _ _ _ _ _ _ c.as_mut_slice.ensures.value r.is f.before c.join.ensures)))
 
 pub returns : goal.returns
 returns c =
@@ -26,5 +27,6 @@ returns c =
       f.rest,
       node_popped _ _ _ _ _ _ _ f c.remove-node.ensures.value,
       lists_are _ _ _ _ (written _ _ c.self.inside.sides _ _ (c.join.ensures.size ∙ c.as_mut_slice.ensures.len)
-          (unlinked _ _ _ _ _ _ c.in_ok-key.key h f.used c.remove-node.ensures.updates c.remove-node.ensures.len (joins_front _ _ _ _ _ _ c.as_mut_slice.ensures.value r.is f.before c.join.ensures))) ∙ f.without,
+          (unlinked _ _ _ _ _ _ c.in_ok-key.key h f.used c.remove-node.ensures.updates c.remove-node.ensures.len
+          (joins_front _ _ _ _ _ _ c.as_mut_slice.ensures.value r.is f.before c.join.ensures))) ∙ f.without,
     )

@@ -38,7 +38,9 @@ invariant_of-self-2 c =
     let key : c.in-Ok-insert.key ≡ c.vacant_key-key.result = c.in-Ok-insert.ensures.key ∙ sym c.vacant_key-key.ensures.value in
     let room : c.self.inside.lists + c.in-Ok-insert.key < length c.reserve_place.new.sides.items = rw key c.in-Ok.ensures.reached in
     closed _ _ _ _ (written _ _ c.reserve_place.new.sides _ _ (size_last _ _ _ _ c.join_last.ensures ∙ c.as_mut_slice.ensures.len)
-    (pushed _ _ _ _ _ _ c.in-Ok-insert.key c.args.list c.args.node g c.requires c.in-Ok-insert.ensures.was_vacant c.in-Ok-insert.ensures.updates c.in-Ok-insert.ensures.len room (joins_last_read _ _ _ _ _ c.as_mut_slice.ensures.value c.join_last.ensures)))
+    (pushed _ _ _ _ _ _ c.in-Ok-insert.key c.args.list c.args.node g c.requires c.in-Ok-insert.ensures.was_vacant
+    c.in-Ok-insert.ensures.updates c.in-Ok-insert.ensures.len room
+    (joins_last_read _ _ _ _ _ c.as_mut_slice.ensures.value c.join_last.ensures)))
 
 pub returns-clause-pushed : goal.returns-clause-pushed
 returns-clause-pushed c =
@@ -47,4 +49,6 @@ returns-clause-pushed c =
     let key : c.in-Ok-insert.key ≡ c.vacant_key-key.result = c.in-Ok-insert.ensures.key ∙ sym c.vacant_key-key.ensures.value in
     let room : c.self.inside.lists + c.in-Ok-insert.key < length c.reserve_place.new.sides.items = rw key c.in-Ok.ensures.reached in
     lists_are _ _ _ _ (written _ _ c.reserve_place.new.sides _ _ (size_last _ _ _ _ c.join_last.ensures ∙ c.as_mut_slice.ensures.len)
-    (pushed _ _ _ _ _ _ c.in-Ok-insert.key c.args.list c.args.node g c.requires c.in-Ok-insert.ensures.was_vacant c.in-Ok-insert.ensures.updates c.in-Ok-insert.ensures.len room (joins_last_read _ _ _ _ _ c.as_mut_slice.ensures.value c.join_last.ensures)))
+    (pushed _ _ _ _ _ _ c.in-Ok-insert.key c.args.list c.args.node g c.requires c.in-Ok-insert.ensures.was_vacant
+    c.in-Ok-insert.ensures.updates c.in-Ok-insert.ensures.len room
+    (joins_last_read _ _ _ _ _ c.as_mut_slice.ensures.value c.join_last.ensures)))

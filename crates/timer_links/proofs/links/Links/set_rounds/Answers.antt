@@ -10,10 +10,14 @@ pub invariant_of-self : goal.invariant_of-self
 invariant_of-self c =
     let h = opened c.self.inside c.args.self.now c.self.view_is c.self.invariant in
     let f = seat _ _ _ _ h c.args.key _ c.index_mut.ensures.value in
-    closed _ _ _ _ (node_set _ _ _ _ c.args.key f.l f.front _ (record c.index_mut.result.now { rounds = c.args.rounds }) f.rest h f.below f.is)
+    closed _ _ _ _ (node_set _ _ _ _ c.args.key f.l f.front _ (record c.index_mut.result.now {
+      rounds =
+          c.args.rounds;
+    }) f.rest h f.below f.is)
 
 pub returns : goal.returns
 returns c l front node rest b e =
     let h = opened c.self.inside c.args.self.now c.self.view_is c.self.invariant in
     lists_are _ _ _ _ (node_set _ _ _ _ c.args.key l front node (record c.index_mut.result.now { rounds = c.args.rounds }) rest h b e)
-    ∙ ap (λ (x : Node). slice_set c.args.self.now l (front ++ (c.args.key, record x { rounds = c.args.rounds }) ∷ rest)) (node_was _ _ _ _ c.args.key l front node c.index_mut.result.now rest h b e c.index_mut.ensures.value)
+    ∙ ap (λ (x : Node). slice_set c.args.self.now l (front ++ (c.args.key, record x { rounds = c.args.rounds }) ∷ rest))
+    (node_was _ _ _ _ c.args.key l front node c.index_mut.result.now rest h b e c.index_mut.ensures.value)

@@ -22,7 +22,8 @@ invariant_of-self c =
     let i = some_is _ _ c.remove-node.ensures.value in
     let r = read_node _ _ _ _ c.args.key _ _ h i c.as_mut_slice.ensures.value c.index-sides.ensures in
     closed _ _ _ _ (written _ _ c.self.inside.sides _ _ (c.join.ensures.size ∙ c.as_mut_slice.ensures.len)
-    (unlinked _ _ _ _ _ _ c.args.key h i c.remove-node.ensures.updates c.remove-node.ensures.len (joins_read _ _ _ _ _ c.as_mut_slice.ensures.value r.is c.join.ensures)))
+    (unlinked _ _ _ _ _ _ c.args.key h i c.remove-node.ensures.updates c.remove-node.ensures.len
+    (joins_read _ _ _ _ _ c.as_mut_slice.ensures.value r.is c.join.ensures)))
 
 pub returns-clause-taken : goal.returns-clause-taken
 returns-clause-taken c =
@@ -30,11 +31,13 @@ returns-clause-taken c =
     let i = some_is _ _ c.remove-node.ensures.value in
     let r = read_node _ _ _ _ c.args.key _ _ h i c.as_mut_slice.ensures.value c.index-sides.ensures in
     lists_are _ _ _ _ (written _ _ c.self.inside.sides _ _ (c.join.ensures.size ∙ c.as_mut_slice.ensures.len)
-    (unlinked _ _ _ _ _ _ c.args.key h i c.remove-node.ensures.updates c.remove-node.ensures.len (joins_read _ _ _ _ _ c.as_mut_slice.ensures.value r.is c.join.ensures)))
+    (unlinked _ _ _ _ _ _ c.args.key h i c.remove-node.ensures.updates c.remove-node.ensures.len
+    (joins_read _ _ _ _ _ c.as_mut_slice.ensures.value r.is c.join.ensures)))
 
 pub returns-clause-emptied : goal.returns-clause-emptied
 returns-clause-emptied c =
     let h = opened c.self.inside c.args.self.now c.self.view_is c.self.invariant in
-    let r = read_node _ _ _ _ c.args.key _ _ h (some_is _ _ c.remove-node.ensures.value) c.as_mut_slice.ensures.value c.index-sides.ensures in
+    let r = read_node _ _ _ _ c.args.key _ _ h (some_is _ _ c.remove-node.ensures.value) c.as_mut_slice.ensures.value c.index-sides.ensures
+    in
     let P : Option ℕ → Type 0 = IsAloneIn c.args.key c.args.self.now in
     subst P (sym c.only_neighbour.ensures) (is_alone_in _ _ _ _ c.args.key _ h r.is)
