@@ -67,22 +67,32 @@ module _ (a d : ℕ) where
   bucket_second e = rw clock_is (sym (bucket_near 60 (60 ∷ 24 ∷ 100 ∷ []) a d e))
 
   pub bucket_minute : a / 60 ≢ d / 60 → a / 60 / 60 ≡ d / 60 / 60 → 60 + d / 60 % 60 ≡ bucket clock a d
-  bucket_minute n e = rw clock_is (sym (bucket_far 60 (60 ∷ 24 ∷ 100 ∷ []) a d n ∙ ap (λ (x : ℕ). 60 + x) (bucket_near 60 (24 ∷ 100 ∷ []) (a / 60) (d / 60) e)))
+  bucket_minute n e = rw clock_is (sym (bucket_far 60 (60 ∷ 24 ∷ 100 ∷ []) a d n
+      ∙ ap (λ (x : ℕ). 60 + x) (bucket_near 60 (24 ∷ 100 ∷ []) (a / 60) (d / 60) e)))
 
-  pub bucket_hour : a / 60 ≢ d / 60 → a / 60 / 60 ≢ d / 60 / 60 → a / 60 / 60 / 24 ≡ d / 60 / 60 / 24 → 120 + d / 60 / 60 % 24 ≡ bucket clock a d
+  pub bucket_hour : a / 60 ≢ d / 60 → a / 60 / 60 ≢ d / 60 / 60 → a / 60 / 60 / 24 ≡ d / 60 / 60 / 24
+      → 120 + d / 60 / 60 % 24 ≡ bucket clock a d
   bucket_hour n m e =
-      let x : bucket (60 ∷ 24 ∷ 100 ∷ []) (a / 60) (d / 60) ≡ 60 + d / 60 / 60 % 24 = bucket_far 60 (24 ∷ 100 ∷ []) (a / 60) (d / 60) m ∙ ap (λ (x : ℕ). 60 + x) (bucket_near 24 (100 ∷ []) (a / 60 / 60) (d / 60 / 60) e) in
-      let y : bucket (60 ∷ 60 ∷ 24 ∷ 100 ∷ []) a d ≡ 60 + bucket (60 ∷ 24 ∷ 100 ∷ []) (a / 60) (d / 60) = bucket_far 60 (60 ∷ 24 ∷ 100 ∷ []) a d n in
+      let x : bucket (60 ∷ 24 ∷ 100 ∷ []) (a / 60) (d / 60) ≡ 60 + d / 60 / 60 % 24 =
+      bucket_far 60 (24 ∷ 100 ∷ []) (a / 60) (d / 60) m ∙ ap (λ (x : ℕ). 60 + x)
+      (bucket_near 24 (100 ∷ []) (a / 60 / 60) (d / 60 / 60) e) in
+      let y : bucket (60 ∷ 60 ∷ 24 ∷ 100 ∷ []) a d ≡ 60 + bucket (60 ∷ 24 ∷ 100 ∷ []) (a / 60) (d / 60) =
+      bucket_far 60 (60 ∷ 24 ∷ 100 ∷ []) a d n in
       rw clock_is (omega arith)
 
-  pub bucket_day : a < d → d ≤ 8639999 → a / 60 ≢ d / 60 → a / 60 / 60 ≢ d / 60 / 60 → a / 60 / 60 / 24 ≢ d / 60 / 60 / 24 → 144 + d / 60 / 60 / 24 ≡ bucket clock a d
+  pub bucket_day : a < d → d ≤ 8639999 → a / 60 ≢ d / 60 → a / 60 / 60 ≢ d / 60 / 60 → a / 60 / 60 / 24 ≢ d / 60 / 60 / 24
+      → 144 + d / 60 / 60 / 24 ≡ bucket clock a d
   bucket_day l r n m k =
       let e : a / 60 / 60 / 24 / 100 ≡ d / 60 / 60 / 24 / 100 = days_end a (omega arith) ∙ sym (days_end d r) in
-      let z : bucket (100 ∷ []) (a / 60 / 60 / 24) (d / 60 / 60 / 24) ≡ d / 60 / 60 / 24 % 100 = bucket_near 100 [] (a / 60 / 60 / 24) (d / 60 / 60 / 24) e in
+      let z : bucket (100 ∷ []) (a / 60 / 60 / 24) (d / 60 / 60 / 24) ≡ d / 60 / 60 / 24 % 100 =
+      bucket_near 100 [] (a / 60 / 60 / 24) (d / 60 / 60 / 24) e in
       let w : d / 60 / 60 / 24 / 100 ≡ 0 = days_end d r in
-      let x : bucket (24 ∷ 100 ∷ []) (a / 60 / 60) (d / 60 / 60) ≡ 24 + bucket (100 ∷ []) (a / 60 / 60 / 24) (d / 60 / 60 / 24) = bucket_far 24 (100 ∷ []) (a / 60 / 60) (d / 60 / 60) k in
-      let v : bucket (60 ∷ 24 ∷ 100 ∷ []) (a / 60) (d / 60) ≡ 60 + bucket (24 ∷ 100 ∷ []) (a / 60 / 60) (d / 60 / 60) = bucket_far 60 (24 ∷ 100 ∷ []) (a / 60) (d / 60) m in
-      let y : bucket (60 ∷ 60 ∷ 24 ∷ 100 ∷ []) a d ≡ 60 + bucket (60 ∷ 24 ∷ 100 ∷ []) (a / 60) (d / 60) = bucket_far 60 (60 ∷ 24 ∷ 100 ∷ []) a d n in
+      let x : bucket (24 ∷ 100 ∷ []) (a / 60 / 60) (d / 60 / 60) ≡ 24 + bucket (100 ∷ []) (a / 60 / 60 / 24) (d / 60 / 60 / 24) =
+      bucket_far 24 (100 ∷ []) (a / 60 / 60) (d / 60 / 60) k in
+      let v : bucket (60 ∷ 24 ∷ 100 ∷ []) (a / 60) (d / 60) ≡ 60 + bucket (24 ∷ 100 ∷ []) (a / 60 / 60) (d / 60 / 60) =
+      bucket_far 60 (24 ∷ 100 ∷ []) (a / 60) (d / 60) m in
+      let y : bucket (60 ∷ 60 ∷ 24 ∷ 100 ∷ []) a d ≡ 60 + bucket (60 ∷ 24 ∷ 100 ∷ []) (a / 60) (d / 60) =
+      bucket_far 60 (60 ∷ 24 ∷ 100 ∷ []) a d n in
       rw clock_is (omega arith)
 
 module _ (t : ℕ) where
@@ -90,12 +100,15 @@ module _ (t : ℕ) where
   emptied_second n = rw clock_is (sym (emptied_here 60 (60 ∷ 24 ∷ 100 ∷ []) t n))
 
   pub emptied_minute : t % 60 ≡ 0 → t / 60 % 60 ≢ 0 → 60 + t / 60 % 60 ≡ emptied clock t
-  emptied_minute e n = rw clock_is (sym (emptied_above 60 (60 ∷ 24 ∷ 100 ∷ []) t e ∙ ap (λ (x : ℕ). 60 + x) (emptied_here 60 (24 ∷ 100 ∷ []) (t / 60) n)))
+  emptied_minute e n = rw clock_is (sym (emptied_above 60 (60 ∷ 24 ∷ 100 ∷ []) t e
+      ∙ ap (λ (x : ℕ). 60 + x) (emptied_here 60 (24 ∷ 100 ∷ []) (t / 60) n)))
 
   pub emptied_hour : t % 60 ≡ 0 → t / 60 % 60 ≡ 0 → t / 60 / 60 % 24 ≢ 0 → 120 + t / 60 / 60 % 24 ≡ emptied clock t
   emptied_hour e f n =
-      let x : emptied (60 ∷ 24 ∷ 100 ∷ []) (t / 60) ≡ 60 + t / 60 / 60 % 24 = emptied_above 60 (24 ∷ 100 ∷ []) (t / 60) f ∙ ap (λ (x : ℕ). 60 + x) (emptied_here 24 (100 ∷ []) (t / 60 / 60) n) in
-      let y : emptied (60 ∷ 60 ∷ 24 ∷ 100 ∷ []) t ≡ 60 + emptied (60 ∷ 24 ∷ 100 ∷ []) (t / 60) = emptied_above 60 (60 ∷ 24 ∷ 100 ∷ []) t e in
+      let x : emptied (60 ∷ 24 ∷ 100 ∷ []) (t / 60) ≡ 60 + t / 60 / 60 % 24 =
+      emptied_above 60 (24 ∷ 100 ∷ []) (t / 60) f ∙ ap (λ (x : ℕ). 60 + x) (emptied_here 24 (100 ∷ []) (t / 60 / 60) n) in
+      let y : emptied (60 ∷ 60 ∷ 24 ∷ 100 ∷ []) t ≡ 60 + emptied (60 ∷ 24 ∷ 100 ∷ []) (t / 60) = emptied_above 60 (60 ∷ 24 ∷ 100 ∷ []) t e
+      in
       rw clock_is (omega arith)
 
   pub emptied_day : 0 < t → t ≤ 8639999 → t % 60 ≡ 0 → t / 60 % 60 ≡ 0 → t / 60 / 60 % 24 ≡ 0 → 144 + t / 60 / 60 / 24 ≡ emptied clock t
@@ -103,9 +116,12 @@ module _ (t : ℕ) where
       let w : t / 60 / 60 / 24 / 100 ≡ 0 = days_end t r in
       let n : t / 60 / 60 / 24 % 100 ≢ 0 = λ (q : t / 60 / 60 / 24 % 100 ≡ 0). omega arith in
       let z : emptied (100 ∷ []) (t / 60 / 60 / 24) ≡ t / 60 / 60 / 24 % 100 = emptied_here 100 [] (t / 60 / 60 / 24) n in
-      let x : emptied (24 ∷ 100 ∷ []) (t / 60 / 60) ≡ 24 + emptied (100 ∷ []) (t / 60 / 60 / 24) = emptied_above 24 (100 ∷ []) (t / 60 / 60) g in
-      let v : emptied (60 ∷ 24 ∷ 100 ∷ []) (t / 60) ≡ 60 + emptied (24 ∷ 100 ∷ []) (t / 60 / 60) = emptied_above 60 (24 ∷ 100 ∷ []) (t / 60) f in
-      let y : emptied (60 ∷ 60 ∷ 24 ∷ 100 ∷ []) t ≡ 60 + emptied (60 ∷ 24 ∷ 100 ∷ []) (t / 60) = emptied_above 60 (60 ∷ 24 ∷ 100 ∷ []) t e in
+      let x : emptied (24 ∷ 100 ∷ []) (t / 60 / 60) ≡ 24 + emptied (100 ∷ []) (t / 60 / 60 / 24) =
+      emptied_above 24 (100 ∷ []) (t / 60 / 60) g in
+      let v : emptied (60 ∷ 24 ∷ 100 ∷ []) (t / 60) ≡ 60 + emptied (24 ∷ 100 ∷ []) (t / 60 / 60) =
+      emptied_above 60 (24 ∷ 100 ∷ []) (t / 60) f in
+      let y : emptied (60 ∷ 60 ∷ 24 ∷ 100 ∷ []) t ≡ 60 + emptied (60 ∷ 24 ∷ 100 ∷ []) (t / 60) = emptied_above 60 (60 ∷ 24 ∷ 100 ∷ []) t e
+      in
       rw clock_is (omega arith)
 
 module _ (l now : ℕ) where
@@ -113,14 +129,16 @@ module _ (l now : ℕ) where
   clock_visit_second h = rw clock_is (sym (visit_here 60 (60 ∷ 24 ∷ 100 ∷ []) l now h))
 
   pub clock_visit_minute : 60 ≤ l → l < 120 → 60 * (60 * (now / 60 / 60) + (l - 60)) ≡ list_visit clock l now
-  clock_visit_minute a b = rw clock_is (sym (visit_above 60 (60 ∷ 24 ∷ 100 ∷ []) l now a ∙ ap (λ (x : ℕ). 60 * x) (visit_here 60 (24 ∷ 100 ∷ []) (l - 60) (now / 60) (omega arith))))
+  clock_visit_minute a b = rw clock_is (sym (visit_above 60 (60 ∷ 24 ∷ 100 ∷ []) l now a
+      ∙ ap (λ (x : ℕ). 60 * x) (visit_here 60 (24 ∷ 100 ∷ []) (l - 60) (now / 60) (omega arith))))
 
   pub clock_visit_hour : 120 ≤ l → l < 144 → 60 * (60 * (24 * (now / 60 / 60 / 24) + (l - 120))) ≡ list_visit clock l now
   clock_visit_hour a b =
       let e : l - 60 - 60 ≡ l - 120 = omega arith in
       rw clock_is (sym (visit_above 60 (60 ∷ 24 ∷ 100 ∷ []) l now (omega arith)
       ∙ ap (λ (x : ℕ). 60 * x) (visit_above 60 (24 ∷ 100 ∷ []) (l - 60) (now / 60) (omega arith)
-      ∙ ap (λ (x : ℕ). 60 * x) (visit_here 24 (100 ∷ []) (l - 60 - 60) (now / 60 / 60) (omega arith) ∙ ap (λ (x : ℕ). 24 * (now / 60 / 60 / 24) + x) e))))
+      ∙ ap (λ (x : ℕ). 60 * x) (visit_here 24 (100 ∷ []) (l - 60 - 60) (now / 60 / 60) (omega arith)
+      ∙ ap (λ (x : ℕ). 24 * (now / 60 / 60 / 24) + x) e))))
 
   pub clock_visit_day : 144 ≤ l → l < 244 → now ≤ 8639999 → 60 * (60 * (24 * (l - 144))) ≡ list_visit clock l now
   clock_visit_day a b r =

@@ -20,18 +20,22 @@ pub record IsMeasuring (l step : ℕ) (lists : List (List (ℕ × Node))) (at : 
   pub at_most : fewest ≤ most
   pub each : AllByRecursion (HasRoundsLeft fewest) past
 
-pub measured-none : (l : ℕ) (lists : List (List (ℕ × Node))) (at : Option ℕ) (most : ℕ) → at ≡ first_key (list_at l lists) → IsMeasuring l 0 lists at most most
+pub measured-none : (l : ℕ) (lists : List (List (ℕ × Node))) (at : Option ℕ) (most : ℕ) → at ≡ first_key (list_at l lists)
+    → IsMeasuring l 0 lists at most most
 measured-none l lists at most e = record { past = []; walk = begun l lists at e; at_most = omega arith; each = tt }
 
 fewer_left : (a b : ℕ) (rows : List (ℕ × Node)) → b ≤ a → AllByRecursion (HasRoundsLeft a) rows → AllByRecursion (HasRoundsLeft b) rows
 fewer_left a b rows h f = All-weaken (HasRoundsLeft a) (HasRoundsLeft b) rows (λ row k. omega arith) f
 
-pub measured-in_use : (l step : ℕ) (lists : List (List (ℕ × Node))) (b : l < length lists) (a : AreApart lists) (key : ℕ) (at : Option ℕ) (most fewest : ℕ)
+pub measured-in_use : (l step : ℕ) (lists : List (List (ℕ × Node))) (b : l < length lists) (a : AreApart lists) (key : ℕ) (at : Option ℕ)
+    (most fewest : ℕ)
     → (m : IsMeasuring l step lists at most fewest) → at ≡ Some key → IsSome (node_at key lists)
 measured-in_use l step lists b a key at most fewest m e = in_use l step lists b a key m.past (next_row l step lists at key m.past m.walk e)
 
-pub measured-one : (l step : ℕ) (lists : List (List (ℕ × Node))) (b : l < length lists) (a : AreApart lists) (key : ℕ) (at next : Option ℕ) (most fewest rounds less : ℕ)
-    → (m : IsMeasuring l step lists at most fewest) → at ≡ Some key → HasRounds key lists rounds → IsNext key lists next → less ≡ min fewest rounds
+pub measured-one : (l step : ℕ) (lists : List (List (ℕ × Node))) (b : l < length lists) (a : AreApart lists) (key : ℕ) (at next : Option ℕ)
+    (most fewest rounds less : ℕ)
+    → (m : IsMeasuring l step lists at most fewest) → at ≡ Some key → HasRounds key lists rounds → IsNext key lists next
+    → less ≡ min fewest rounds
     → IsMeasuring l (step + 1) lists next most less
 measured-one l step lists b a key at next most fewest rounds less m e r n k =
     let w : IsNextRow l step lists key m.past = next_row l step lists at key m.past m.walk e in
@@ -41,19 +45,25 @@ measured-one l step lists b a key at next most fewest rounds less m e r n k =
       past = m.past ++ (key, w.node) ∷ [];
       walk = walked l step lists b a key m.past w next (n l m.past w.node w.rest b w.rows);
       at_most = omega arith;
-      each = all-append (HasRoundsLeft less) m.past ((key, w.node) ∷ []) (fewer_left fewest less m.past (omega arith) m.each) (omega arith, tt);
+      each = all-append (HasRoundsLeft less) m.past ((key, w.node) ∷ []) (fewer_left fewest less m.past (omega arith) m.each) (
+        omega arith,
+        tt,
+      );
     }
 
-pub measured-end : (l step : ℕ) (lists : List (List (ℕ × Node))) (at : Option ℕ) (most fewest : ℕ) → (m : IsMeasuring l step lists at most fewest)
+pub measured-end : (l step : ℕ) (lists : List (List (ℕ × Node))) (at : Option ℕ) (most fewest : ℕ)
+    → (m : IsMeasuring l step lists at most fewest)
     → list_at l lists ≡ m.past → AllByRecursion (HasRoundsLeft fewest) (list_at l lists)
 measured-end l step lists at most fewest m e =
     let P : List (ℕ × Node) → Type 0 = AllByRecursion (HasRoundsLeft fewest) in subst P (sym e) m.each
 
-pub measured-all : (l step : ℕ) (lists : List (List (ℕ × Node))) (at : Option ℕ) (most fewest : ℕ) → IsMeasuring l step lists at most fewest → at ≡ None
+pub measured-all : (l step : ℕ) (lists : List (List (ℕ × Node))) (at : Option ℕ) (most fewest : ℕ) → IsMeasuring l step lists at most fewest
+    → at ≡ None
     → AllByRecursion (HasRoundsLeft fewest) (list_at l lists)
 measured-all l step lists at most fewest m e = measured-end l step lists at most fewest m (ended_none l step lists at m.past m.walk e)
 
-pub measured-enough : (l step : ℕ) (lists : List (List (ℕ × Node))) (at : Option ℕ) (most fewest : ℕ) → IsMeasuring l step lists at most fewest → row_count lists ≤ step
+pub measured-enough : (l step : ℕ) (lists : List (List (ℕ × Node))) (at : Option ℕ) (most fewest : ℕ)
+    → IsMeasuring l step lists at most fewest → row_count lists ≤ step
     → AllByRecursion (HasRoundsLeft fewest) (list_at l lists)
 measured-enough l step lists at most fewest m h = measured-end l step lists at most fewest m (ended_count l step lists at m.past m.walk h)
 
@@ -123,7 +133,8 @@ left_of l step k old lists key past (x ∷ xs) r i e c =
       steps = c;
     }
 
-pub next_left : (l step k : ℕ) (old lists : List (List (ℕ × Node))) (at : Option ℕ) (key : ℕ) → IsCounting l step k old lists at → at ≡ Some key
+pub next_left : (l step k : ℕ) (old lists : List (List (ℕ × Node))) (at : Option ℕ) (key : ℕ) → IsCounting l step k old lists at
+    → at ≡ Some key
     → IsNextLeft l step k old lists key
 next_left l step k old lists at key s e = left_of l step k old lists key s.past s.left s.rows s.is (sym e ∙ s.next) s.steps
 
@@ -135,7 +146,8 @@ none_counted : (left : List (ℕ × Node)) → length left ≤ 0 → left ≡ []
 none_counted [] h = refl
 none_counted (x ∷ xs) h = absurd (omega arith)
 
-counting-end : (l k : ℕ) (old lists : List (List (ℕ × Node))) (past left : List (ℕ × Node)) → list_at l old ≡ past ++ left → lists ≡ slice_set old l (fewer k past ++ left)
+counting-end : (l k : ℕ) (old lists : List (List (ℕ × Node))) (past left : List (ℕ × Node)) → list_at l old ≡ past ++ left
+    → lists ≡ slice_set old l (fewer k past ++ left)
     → left ≡ [] → lists ≡ slice_set old l (fewer k (list_at l old))
 counting-end l k old lists past left r i e =
     let all : list_at l old ≡ past = r ∙ (ap (λ (y : List (ℕ × Node)). past ++ y) e ∙ append-nil past) in
@@ -146,11 +158,13 @@ pub counting-none : (l step k : ℕ) (old lists : List (List (ℕ × Node))) (at
     → lists ≡ slice_set old l (fewer k (list_at l old))
 counting-none l step k old lists at s e = counting-end l k old lists s.past s.left s.rows s.is (none_there s.left (sym e ∙ s.next))
 
-pub counting-enough : (l step k : ℕ) (old lists : List (List (ℕ × Node))) (at : Option ℕ) → IsCounting l step k old lists at → row_count old ≤ step
+pub counting-enough : (l step k : ℕ) (old lists : List (List (ℕ × Node))) (at : Option ℕ) → IsCounting l step k old lists at
+    → row_count old ≤ step
     → lists ≡ slice_set old l (fewer k (list_at l old))
 counting-enough l step k old lists at s h =
     let a : length (list_at l old) ≤ row_count old = length-list_at old l in
-    let b : length (list_at l old) ≡ length s.past + length s.left = ap (λ (y : List (ℕ × Node)). length y) s.rows ∙ length-append s.past s.left in
+    let b : length (list_at l old) ≡ length s.past + length s.left =
+    ap (λ (y : List (ℕ × Node)). length y) s.rows ∙ length-append s.past s.left in
     let c : length s.past ≡ step = s.steps in
     counting-end l k old lists s.past s.left s.rows s.is (none_counted s.left (omega arith))
 
@@ -167,19 +181,22 @@ module _ (l step k : ℕ) (old lists : List (List (ℕ × Node))) (b : l < lengt
   pub counting-in_use : AreApart lists → IsSome (node_at key lists)
   counting-in_use a = rw (counting-found a) refl
 
-  pub counting-enough_left : (rounds : ℕ) → AreApart lists → HasRounds key lists rounds → AllByRecursion (HasRoundsLeft k) (list_at l old) → k ≤ rounds
+  pub counting-enough_left : (rounds : ℕ) → AreApart lists → HasRounds key lists rounds → AllByRecursion (HasRoundsLeft k) (list_at l old)
+      → k ≤ rounds
   counting-enough_left rounds a r f =
       let same : rounds ≡ w.node.rounds = r w.node (counting-found a) in
       let P : List (ℕ × Node) → Type 0 = AllByRecursion (HasRoundsLeft k) in
       let here : k ≤ w.node.rounds = (all-rest (HasRoundsLeft k) w.past ((key, w.node) ∷ w.rest) (subst P w.rows f)).0 in
       omega arith
 
-  pub counting-one : (rounds less : ℕ) (new : List (List (ℕ × Node))) (next : Option ℕ) → AreApart lists → HasRounds key lists rounds → less ≡ rounds - k
+  pub counting-one : (rounds less : ℕ) (new : List (List (ℕ × Node))) (next : Option ℕ) → AreApart lists → HasRounds key lists rounds
+      → less ≡ rounds - k
       → SetsRounds key less lists new → IsNext key lists next → IsCounting l (step + 1) k old new next
   counting-one rounds less new next a r e t n =
       let same : rounds ≡ w.node.rounds = r w.node (counting-found a) in
       let is_less : less ≡ w.node.rounds - k = omega arith in
-      let row : (key, record w.node { rounds = less }) ≡ with_fewer_rounds k (key, w.node) = ap (λ (x : ℕ). (key, record w.node { rounds = x })) is_less in
+      let row : (key, record w.node { rounds = less }) ≡ with_fewer_rounds k (key, w.node) =
+      ap (λ (x : ℕ). (key, record w.node { rounds = x })) is_less in
       let more : fewer k (w.past ++ (key, w.node) ∷ []) ≡ fewer k w.past ++ with_fewer_rounds k (key, w.node) ∷ [] =
       map-append (with_fewer_rounds k) w.past ((key, w.node) ∷ []) in
       record {
@@ -189,13 +206,15 @@ module _ (l step k : ℕ) (old lists : List (List (ℕ × Node))) (b : l < lengt
         is =
             t l (fewer k w.past) w.node w.rest counting-in_range counting-standing
             ∙ (ap (λ (y : List (List (ℕ × Node))). slice_set y l (fewer k w.past ++ (key, record w.node { rounds = less }) ∷ w.rest)) w.is
-            ∙ (set_twice old l (fewer k w.past ++ (key, w.node) ∷ w.rest) (fewer k w.past ++ (key, record w.node { rounds = less }) ∷ w.rest)
+            ∙ (set_twice old l (fewer k w.past ++ (key, w.node) ∷ w.rest) (fewer k w.past
+            ++ (key, record w.node { rounds = less }) ∷ w.rest)
             ∙ ap (slice_set old l)
             (ap (λ (y : ℕ × Node). fewer k w.past ++ y ∷ w.rest) row
             ∙ (sym (append_assoc (fewer k w.past) (with_fewer_rounds k (key, w.node) ∷ []) w.rest)
             ∙ ap (λ (y : List (ℕ × Node)). y ++ w.rest) (sym more)))));
         next = n l (fewer k w.past) w.node w.rest counting-in_range counting-standing;
-        steps = (let c : length w.past ≡ step = w.steps in let d : length (w.past ++ (key, w.node) ∷ []) ≡ length w.past + 1 = length-append w.past ((key, w.node) ∷ []) in omega arith);
+        steps = (let c : length w.past ≡ step = w.steps in let d : length (w.past ++ (key, w.node) ∷ []) ≡ length w.past + 1 =
+            length-append w.past ((key, w.node) ∷ []) in omega arith);
       }
 
 -- the lists so far have lost their rounds, and the others are unchanged
@@ -207,7 +226,8 @@ pub record AreCounted (count k : ℕ) (old new : List (List (ℕ × Node))) : Ty
 pub none-counted : (k : ℕ) (lists : List (List (ℕ × Node))) → AreCounted 0 k lists lists
 none-counted k lists = record { same_length = refl; counted = λ s h. absurd (omega arith); others = λ s h. refl }
 
-pub one-counted : (l k : ℕ) (old new more : List (List (ℕ × Node))) → l < length old → AreCounted l k old new → more ≡ slice_set new l (fewer k (list_at l new))
+pub one-counted : (l k : ℕ) (old new more : List (List (ℕ × Node))) → l < length old → AreCounted l k old new
+    → more ≡ slice_set new l (fewer k (list_at l new))
     → AreCounted (l + 1) k old more
 one-counted l k old new more b a e = record {
   same_length = ap (λ (y : List (List (ℕ × Node))). length y) e ∙ (length-set new l (fewer k (list_at l new)) ∙ a.same_length);
@@ -219,7 +239,8 @@ one-counted l k old new more b a e = record {
         ∙ (ap (fewer k) (a.others l (omega arith)) ∙ ap (λ (y : ℕ). fewer k (list_at y old)) (sym q))))
     | inr x ↦ ap (list_at s) e ∙ (get_or-set_other new l s (fewer k (list_at l new)) [] x ∙ a.counted s (omega arith))
   ];
-  others = λ s h. ap (list_at s) e ∙ (get_or-set_other new l s (fewer k (list_at l new)) [] (let x : s ≢ l = omega arith in x) ∙ a.others s (omega arith));
+  others = λ s h. ap (list_at s) e ∙ (get_or-set_other new l s (fewer k (list_at l new)) [] (let x : s ≢ l = omega arith in x)
+      ∙ a.others s (omega arith));
 }
 
 pub still_enough : (l count k : ℕ) (old new : List (List (ℕ × Node))) → l < count → AreCounted l k old new

@@ -44,7 +44,8 @@ has-rest : (d : ℕ) (xs ys : List Timer) → HasDeadline d ys → HasDeadline d
 has-rest d [] ys h = h
 has-rest d (x ∷ xs) ys h = inr (has-rest d xs ys h)
 
-not_before-both : (d : ℕ) (xs ys : List Timer) → AllByRecursion (λ t. d ≤ t.deadline) xs → AllByRecursion (λ t. d ≤ t.deadline) ys → AllByRecursion (λ t. d ≤ t.deadline) (xs ++ ys)
+not_before-both : (d : ℕ) (xs ys : List Timer) → AllByRecursion (λ t. d ≤ t.deadline) xs → AllByRecursion (λ t. d ≤ t.deadline) ys
+    → AllByRecursion (λ t. d ≤ t.deadline) (xs ++ ys)
 not_before-both d [] ys a b = b
 not_before-both d (x ∷ xs) ys a b = (a.0, not_before-both d xs ys a.1 b)
 
@@ -53,12 +54,19 @@ not_before-less c d [] h a = tt
 not_before-less c d (t ∷ ts) h a = (let x : d ≤ t.deadline = a.0 in omega arith, not_before-less c d ts h a.1)
 
 least-first : (a b : ℕ) (xs ys : List Timer) → a ≤ b → IsLeast a xs → IsLeast b ys → IsLeast a (xs ++ ys)
-least-first a b xs ys h l m = record { has = has-front a xs ys l.has; none_earlier = not_before-both a xs ys l.none_earlier (not_before-less a b ys h m.none_earlier) }
+least-first a b xs ys h l m = record {
+  has = has-front a xs ys l.has;
+  none_earlier = not_before-both a xs ys l.none_earlier (not_before-less a b ys h m.none_earlier);
+}
 
 least-second : (a b : ℕ) (xs ys : List Timer) → b ≤ a → IsLeast a xs → IsLeast b ys → IsLeast b (xs ++ ys)
-least-second a b xs ys h l m = record { has = has-rest b xs ys m.has; none_earlier = not_before-both b xs ys (not_before-less b a xs h l.none_earlier) m.none_earlier }
+least-second a b xs ys h l m = record {
+  has = has-rest b xs ys m.has;
+  none_earlier = not_before-both b xs ys (not_before-less b a xs h l.none_earlier) m.none_earlier;
+}
 
-pub least-append : (a b : Option ℕ) (xs ys : List Timer) → IsLeastDeadline a xs → IsLeastDeadline b ys → IsLeastDeadline (earliest a b) (xs ++ ys)
+pub least-append : (a b : Option ℕ) (xs ys : List Timer) → IsLeastDeadline a xs → IsLeastDeadline b ys
+    → IsLeastDeadline (earliest a b) (xs ++ ys)
 least-append None b xs ys l m = subst (λ (zs : List Timer). IsLeastDeadline b (zs ++ ys)) (sym l) m
 least-append (Some a) None xs ys l m = subst (λ (zs : List Timer). IsLeast a (xs ++ zs)) (sym m) (subst (IsLeast a) (sym (append-nil xs)) l)
 least-append (Some a) (Some b) xs ys l m = elim (cases_lt a b) [
@@ -76,36 +84,47 @@ pub record IsSeeking (l step : ℕ) (lists : List (List (ℕ × Node))) (at leas
   pub walk : IsWalking l step lists at past
   pub is_least : IsLeastDeadline least (timers_in past)
 
-pub seeking-begun : (l : ℕ) (lists : List (List (ℕ × Node))) (at : Option ℕ) → at ≡ first_key (list_at l lists) → IsSeeking l 0 lists at None
+pub seeking-begun : (l : ℕ) (lists : List (List (ℕ × Node))) (at : Option ℕ) → at ≡ first_key (list_at l lists)
+    → IsSeeking l 0 lists at None
 seeking-begun l lists at e = record { past = []; walk = begun l lists at e; is_least = refl }
 
-pub seeking-one : (l step : ℕ) (lists : List (List (ℕ × Node))) (b : l < length lists) (a : AreApart lists) (key : ℕ) (at next least more : Option ℕ) (node : Node) → (s : IsSeeking l step lists at least) → at ≡ Some key → Some node ≡ node_at key lists → more ≡ earliest least (Some node.timer.deadline)
+pub seeking-one : (l step : ℕ) (lists : List (List (ℕ × Node))) (b : l < length lists) (a : AreApart lists) (key : ℕ)
+    (at next least more : Option ℕ) (node : Node) → (s : IsSeeking l step lists at least) → at ≡ Some key → Some node ≡ node_at key lists
+    → more ≡ earliest least (Some node.timer.deadline)
     → ((w : IsNextRow l step lists key s.past) → next ≡ first_key w.rest) → IsSeeking l (step + 1) lists next more
 seeking-one l step lists b a key at next least more node s e f m n =
     let w : IsNextRow l step lists key s.past = next_row l step lists at key s.past s.walk e in
     let same : node ≡ w.node = same_node node w.node (f ∙ found l step lists b a key s.past w) in
-    let one : IsLeastDeadline (Some node.timer.deadline) (timers_in ((key, w.node) ∷ [])) = subst (λ (y : Node). IsLeast node.timer.deadline (y.timer ∷ [])) same (least-one node.timer) in
-    let both : IsLeastDeadline (earliest least (Some node.timer.deadline)) (timers_in s.past ++ timers_in ((key, w.node) ∷ [])) = least-append least (Some node.timer.deadline) (timers_in s.past) (timers_in ((key, w.node) ∷ [])) s.is_least one in
+    let one : IsLeastDeadline (Some node.timer.deadline) (timers_in ((key, w.node) ∷ [])) =
+    subst (λ (y : Node). IsLeast node.timer.deadline (y.timer ∷ [])) same (least-one node.timer) in
+    let both : IsLeastDeadline (earliest least (Some node.timer.deadline)) (timers_in s.past ++ timers_in ((key, w.node) ∷ [])) =
+    least-append least (Some node.timer.deadline) (timers_in s.past) (timers_in ((key, w.node) ∷ [])) s.is_least one in
     record {
       past = s.past ++ (key, w.node) ∷ [];
       walk = walked l step lists b a key s.past w next (n w);
       is_least = subst (λ (o : Option ℕ). IsLeastDeadline o (timers_in (s.past ++ (key, w.node) ∷ []))) (sym m)
-          (subst (λ (ts : List Timer). IsLeastDeadline (earliest least (Some node.timer.deadline)) ts) (sym (timers-append s.past ((key, w.node) ∷ []))) both);
+          (subst (λ (ts : List Timer). IsLeastDeadline (earliest least (Some node.timer.deadline)) ts)
+          (sym (timers-append s.past ((key, w.node) ∷ []))) both);
     }
 
-pub sought : (l step : ℕ) (lists : List (List (ℕ × Node))) (at least : Option ℕ) → (s : IsSeeking l step lists at least) → list_at l lists ≡ s.past → IsLeastDeadline least (timers_in (list_at l lists))
+pub sought : (l step : ℕ) (lists : List (List (ℕ × Node))) (at least : Option ℕ) → (s : IsSeeking l step lists at least)
+    → list_at l lists ≡ s.past → IsLeastDeadline least (timers_in (list_at l lists))
 sought l step lists at least s e = subst (λ (rows : List (ℕ × Node)). IsLeastDeadline least (timers_in rows)) (sym e) s.is_least
 
 -- Several lists.
 
-pub least-more : (n : ℕ) (lists : List (List (ℕ × Node))) (least one more : Option ℕ) → n < length lists → IsLeastDeadline least (timers_in (rows_below n lists)) → IsLeastDeadline one (timers_in (list_at n lists)) → more ≡ earliest least one
+pub least-more : (n : ℕ) (lists : List (List (ℕ × Node))) (least one more : Option ℕ) → n < length lists
+    → IsLeastDeadline least (timers_in (rows_below n lists)) → IsLeastDeadline one (timers_in (list_at n lists)) → more ≡ earliest least one
     → IsLeastDeadline more (timers_in (rows_below (n + 1) lists))
 least-more n lists least one more b l m e =
     let s : n + 1 ≡ suc n = omega arith in
-    let rows : rows_below (n + 1) lists ≡ rows_below n lists ++ list_at n lists = ap (λ (k : ℕ). rows_below k lists) s ∙ rows_below-more n lists b in
-    let ts : timers_in (rows_below (n + 1) lists) ≡ timers_in (rows_below n lists) ++ timers_in (list_at n lists) = ap (λ (y : List (ℕ × Node)). timers_in y) rows ∙ timers-append (rows_below n lists) (list_at n lists) in
+    let rows : rows_below (n + 1) lists ≡ rows_below n lists ++ list_at n lists =
+    ap (λ (k : ℕ). rows_below k lists) s ∙ rows_below-more n lists b in
+    let ts : timers_in (rows_below (n + 1) lists) ≡ timers_in (rows_below n lists) ++ timers_in (list_at n lists) =
+    ap (λ (y : List (ℕ × Node)). timers_in y) rows ∙ timers-append (rows_below n lists) (list_at n lists) in
     subst (λ (o : Option ℕ). IsLeastDeadline o (timers_in (rows_below (n + 1) lists))) (sym e)
-    (subst (λ (y : List Timer). IsLeastDeadline (earliest least one) y) (sym ts) (least-append least one (timers_in (rows_below n lists)) (timers_in (list_at n lists)) l m))
+    (subst (λ (y : List Timer). IsLeastDeadline (earliest least one) y) (sym ts)
+    (least-append least one (timers_in (rows_below n lists)) (timers_in (list_at n lists)) l m))
 
 -- The least deadline is that of the first pending timer.
 
@@ -115,7 +134,8 @@ least_before t u h = grind (arith, nat_tests)
 least_after : (t u : Timer) → is_before t u ≡ false → u.deadline ≡ min t.deadline u.deadline
 least_after t u h = grind (arith, nat_tests)
 
-next-insert : (e : Entry) (es : List Entry) → next_deadline (insert_in_order timer_of e es) ≡ earliest (Some e.timer.deadline) (next_deadline es)
+next-insert : (e : Entry) (es : List Entry) → next_deadline (insert_in_order timer_of e es)
+    ≡ earliest (Some e.timer.deadline) (next_deadline es)
 next-insert e [] = refl
 next-insert e (f ∷ es) = elim (either (is_before e.timer f.timer)) [
   | inl h ↦ rw h (ap Some (least_before e.timer f.timer h))
@@ -125,7 +145,9 @@ next-insert e (f ∷ es) = elim (either (is_before e.timer f.timer)) [
 next_is_least : (rows : List (ℕ × Node)) → IsLeastDeadline (next_deadline (pending_in rows)) (timers_in rows)
 next_is_least [] = refl
 next_is_least (r ∷ rs) =
-    let both : IsLeastDeadline (earliest (Some (timer_in r).deadline) (next_deadline (pending_in rs))) (timer_in r ∷ timers_in rs) = least-append (Some (timer_in r).deadline) (next_deadline (pending_in rs)) (timer_in r ∷ []) (timers_in rs) (least-one (timer_in r)) (next_is_least rs) in
+    let both : IsLeastDeadline (earliest (Some (timer_in r).deadline) (next_deadline (pending_in rs))) (timer_in r ∷ timers_in rs) =
+    least-append (Some (timer_in r).deadline) (next_deadline (pending_in rs)) (timer_in r ∷ []) (timers_in rs) (least-one (timer_in r))
+    (next_is_least rs) in
     subst (λ (o : Option ℕ). IsLeastDeadline o (timer_in r ∷ timers_in rs)) (sym (next-insert (entry_of r) (pending_in rs))) both
 
 -- There is but one.
@@ -190,12 +212,14 @@ bucket_before (r ∷ rs) a d e t h k b = elim (cases_eq (a / r) (d / r)) [
     | inr q ↦
         let x : bucket (r ∷ rs) a d ≡ r + bucket rs (a / r) (d / r) = bucket_far r rs a d p in
         let y : bucket (r ∷ rs) a e ≡ r + bucket rs (a / r) (e / r) = bucket_far r rs a e q in
-        quotient_less r d e t.0 (bucket_before rs (a / r) (d / r) (e / r) t.1 (less_quotient r a d h t.0 p) (less_quotient r a e k t.0 q) (omega arith))
+        quotient_less r d e t.0 (bucket_before rs (a / r) (d / r) (e / r) t.1 (less_quotient r a d h t.0 p) (less_quotient r a e k t.0 q)
+        (omega arith))
   ]
 ]
 
 -- a slot of the lowest wheel is the tick of its visit
-lowest_visit : (table : List ℕ) (a d l : ℕ) → IsTable table → 0 < length table → a < d → bucket table a d ≡ l → l < lowest_radix table → list_visit table l a ≡ d
+lowest_visit : (table : List ℕ) (a d l : ℕ) → IsTable table → 0 < length table → a < d → bucket table a d ≡ l → l < lowest_radix table
+    → list_visit table l a ≡ d
 lowest_visit [] a d l t n h e b = absurd (omega arith)
 lowest_visit (r ∷ rs) a d l t n h e b = elim (cases_eq (a / r) (d / r)) [
   | inl p ↦
@@ -219,45 +243,69 @@ deadline_in d P [] a h = absurd h
 deadline_in d P (t ∷ ts) a (inl e) = (t, a.0, e)
 deadline_in d P (t ∷ ts) a (inr h) = deadline_in d P ts a.1 h
 
-timers_standing : (table : List ℕ) (now l : ℕ) (rows : List (ℕ × Node)) → AllByRecursion (IsStanding table now l) rows → AllByRecursion (λ (u : Timer). (now < u.deadline) × (bucket table now u.deadline ≡ l)) (timers_in rows)
+timers_standing : (table : List ℕ) (now l : ℕ) (rows : List (ℕ × Node)) → AllByRecursion (IsStanding table now l) rows
+    → AllByRecursion (λ (u : Timer). (now < u.deadline) × (bucket table now u.deadline ≡ l)) (timers_in rows)
 timers_standing table now l [] a = tt
 timers_standing table now l (r ∷ rs) a = ((a.0.later, a.0.placed), timers_standing table now l rs a.1)
 
-of_rows : (d : ℕ) (rows : List (ℕ × Node)) → AllByRecursion (λ t. d ≤ t.deadline) (timers_in rows) → AllByRecursion (λ row. d ≤ (timer_in row).deadline) rows
+of_rows : (d : ℕ) (rows : List (ℕ × Node)) → AllByRecursion (λ t. d ≤ t.deadline) (timers_in rows)
+    → AllByRecursion (λ row. d ≤ (timer_in row).deadline) rows
 of_rows d [] a = tt
 of_rows d (r ∷ rs) a = (a.0, of_rows d rs a.1)
 
-of_timers : (d : ℕ) (rows : List (ℕ × Node)) → AllByRecursion (λ row. d ≤ (timer_in row).deadline) rows → AllByRecursion (λ t. d ≤ t.deadline) (timers_in rows)
+of_timers : (d : ℕ) (rows : List (ℕ × Node)) → AllByRecursion (λ row. d ≤ (timer_in row).deadline) rows
+    → AllByRecursion (λ t. d ≤ t.deadline) (timers_in rows)
 of_timers d [] a = tt
 of_timers d (r ∷ rs) a = (a.0, of_timers d rs a.1)
 
 -- what one list has, all have together
-has_below : (d n l : ℕ) (lists : List (List (ℕ × Node))) → l < n → l < length lists → HasDeadline d (timers_in (list_at l lists)) → HasDeadline d (timers_in (rows_below n lists))
+has_below : (d n l : ℕ) (lists : List (List (ℕ × Node))) → l < n → l < length lists → HasDeadline d (timers_in (list_at l lists))
+    → HasDeadline d (timers_in (rows_below n lists))
 has_below d n l lists k m h =
     let w = around n l lists k m in
-    let mid : HasDeadline d (timers_in (list_at l lists) ++ timers_in w.rest) = has-front d (timers_in (list_at l lists)) (timers_in w.rest) h in
-    let back : HasDeadline d (timers_in (list_at l lists ++ w.rest)) = subst (HasDeadline d) (sym (timers-append (list_at l lists) w.rest)) mid in
-    let all : HasDeadline d (timers_in (w.front ++ (list_at l lists ++ w.rest))) = subst (HasDeadline d) (sym (timers-append w.front (list_at l lists ++ w.rest))) (has-rest d (timers_in w.front) (timers_in (list_at l lists ++ w.rest)) back) in
+    let mid : HasDeadline d (timers_in (list_at l lists) ++ timers_in w.rest) =
+    has-front d (timers_in (list_at l lists)) (timers_in w.rest) h in
+    let back : HasDeadline d (timers_in (list_at l lists ++ w.rest)) =
+    subst (HasDeadline d) (sym (timers-append (list_at l lists) w.rest)) mid in
+    let all : HasDeadline d (timers_in (w.front ++ (list_at l lists ++ w.rest))) =
+    subst (HasDeadline d) (sym (timers-append w.front (list_at l lists ++ w.rest)))
+    (has-rest d (timers_in w.front) (timers_in (list_at l lists ++ w.rest)) back) in
     subst (λ (rows : List (ℕ × Node)). HasDeadline d (timers_in rows)) (sym w.rows) all
 
-all_at : (d : ℕ) (rows : List (ℕ × Node)) → 0 < length rows → AllByRecursion (λ row. (timer_in row).deadline ≡ d) rows → IsLeast d (timers_in rows)
+all_at : (d : ℕ) (rows : List (ℕ × Node)) → 0 < length rows → AllByRecursion (λ row. (timer_in row).deadline ≡ d) rows
+    → IsLeast d (timers_in rows)
 all_at d [] k a = absurd (omega arith)
-all_at d (r ∷ rs) k a = record { has = inl a.0; none_earlier = of_timers d (r ∷ rs) (All-weaken (λ row. (timer_in row).deadline ≡ d) (λ row. d ≤ (timer_in row).deadline) (r ∷ rs) (λ row e. let x : (timer_in row).deadline ≡ d = e in omega arith) a) }
+all_at d (r ∷ rs) k a = record {
+  has = inl a.0;
+  none_earlier = of_timers d (r ∷ rs)
+      (All-weaken (λ row. (timer_in row).deadline ≡ d) (λ row. d ≤ (timer_in row).deadline) (r ∷ rs) (λ row e. let x : (timer_in row).deadline
+      ≡ d = e in omega arith) a);
+}
 
 some_rows : (rows : List (ℕ × Node)) → 0 < length rows → timers_in rows ≡ [] → ⊥
 some_rows [] k e = absurd (omega arith)
 some_rows (r ∷ rs) k e = absurd (cc)
 
-standing-rows : (table : List ℕ) (last_tick now last_serial s : ℕ) (rows : List (ℕ × Node)) → AllByRecursion (λ row. IsPending last_tick now last_serial (timer_in row)) rows → AllByRecursion (IsPlaced table now s) rows → AllByRecursion (IsStanding table now s) rows
+standing-rows : (table : List ℕ) (last_tick now last_serial s : ℕ) (rows : List (ℕ × Node))
+    → AllByRecursion (λ row. IsPending last_tick now last_serial (timer_in row)) rows → AllByRecursion (IsPlaced table now s) rows
+    → AllByRecursion (IsStanding table now s) rows
 standing-rows table last_tick now last_serial s [] p q = tt
-standing-rows table last_tick now last_serial s (r ∷ rs) p q = (record { later = p.0.later; placed = q.0.0 }, standing-rows table last_tick now last_serial s rs p.1 q.1)
+standing-rows table last_tick now last_serial s (r ∷ rs) p q = (
+  record {
+    later = p.0.later;
+    placed = q.0.0;
+  },
+  standing-rows table last_tick now last_serial s rs p.1 q.1,
+)
 
 -- nothing is pending where no bit is set
-pub none_is_next : (t : Table) (b : Buckets) (words : List ℕ) → IsHier t b words → IsFirstSet words None → None ≡ next_deadline (state_of b).pending
+pub none_is_next : (t : Table) (b : Buckets) (words : List ℕ) → IsHier t b words → IsFirstSet words None
+    → None ≡ next_deadline (state_of b).pending
 none_is_next t b words h f =
     let e : b.slots ≡ slots (radices t) = h.has_slots in
     let k : slots (radices t) ≤ 640 = (of_table t).few_slots in
-    let rows : rows_below b.slots b.links ≡ [] = rows_below-none b.slots b.links (λ s c. no_rows_there (list_at s b.links) (sym (h.marked.0 s c) ∙ f s (omega arith))) in
+    let rows : rows_below b.slots b.links ≡ [] = rows_below-none b.slots b.links
+    (λ s c. no_rows_there (list_at s b.links) (sym (h.marked.0 s c) ∙ f s (omega arith))) in
     sym (ap (λ (y : List (ℕ × Node)). next_deadline (pending_in y)) rows)
 
 module _ (t : Table) (b : Buckets) (words : List ℕ) (h : IsHier t b words) (l : ℕ) (f : IsFirstSet words (Some l)) where
@@ -265,27 +313,36 @@ module _ (t : Table) (b : Buckets) (words : List ℕ) (h : IsHier t b words) (l 
   first_below = first_in t b words h l f.0 f.1
 
   standing : (s : ℕ) → s < b.slots → AllByRecursion (IsStanding (radices t) b.tick s) (list_at s b.links)
-  standing s k = standing-rows (radices t) b.last_tick b.tick b.last_serial s (list_at s b.links) (all-list_at (λ row. IsPending b.last_tick b.tick b.last_serial (timer_in row)) b.slots b.links b.pending s k) (h.placed s k)
+  standing s k = standing-rows (radices t) b.last_tick b.tick b.last_serial s (list_at s b.links)
+      (all-list_at (λ row. IsPending b.last_tick b.tick b.last_serial (timer_in row)) b.slots b.links b.pending s k) (h.placed s k)
 
   some_there : 0 < length (list_at l b.links)
   some_there = filled_some t b words h (list_at l b.links) (sym (h.marked.0 l first_below) ∙ f.1)
 
   -- a deadline of the first bucket with a timer is before those of the later buckets
-  not_later : (d s : ℕ) (row : ℕ × Node) → IsLeast d (timers_in (list_at l b.links)) → l < s → IsStanding (radices t) b.tick s row → d ≤ (timer_in row).deadline
+  not_later : (d s : ℕ) (row : ℕ × Node) → IsLeast d (timers_in (list_at l b.links)) → l < s → IsStanding (radices t) b.tick s row
+      → d ≤ (timer_in row).deadline
   not_later d s row m c w =
-      let u = deadline_in d (λ (u : Timer). (b.tick < u.deadline) × (bucket (radices t) b.tick u.deadline ≡ l)) (timers_in (list_at l b.links)) (timers_standing (radices t) b.tick l (list_at l b.links) (standing l first_below)) m.has in
+      let u = deadline_in d (λ (u : Timer). (b.tick < u.deadline)
+      × (bucket (radices t) b.tick u.deadline ≡ l)) (timers_in (list_at l b.links))
+      (timers_standing (radices t) b.tick l (list_at l b.links) (standing l first_below)) m.has in
       let e : u.0.deadline ≡ d = u.2 in
       let p : bucket (radices t) b.tick u.0.deadline ≡ l = u.1.1 in
       let q : bucket (radices t) b.tick (timer_in row).deadline ≡ s = w.placed in
-      let x : u.0.deadline < (timer_in row).deadline = bucket_before (radices t) b.tick u.0.deadline (timer_in row).deadline (of_table t).is_table u.1.0 w.later (omega arith) in
+      let x : u.0.deadline < (timer_in row).deadline = bucket_before (radices t) b.tick u.0.deadline (timer_in row).deadline
+      (of_table t).is_table u.1.0 w.later (omega arith) in
       omega arith
 
-  not_sooner : (d s : ℕ) → IsLeast d (timers_in (list_at l b.links)) → s < b.slots → AllByRecursion (λ row. d ≤ (timer_in row).deadline) (list_at s b.links)
+  not_sooner : (d s : ℕ) → IsLeast d (timers_in (list_at l b.links)) → s < b.slots
+      → AllByRecursion (λ row. d ≤ (timer_in row).deadline) (list_at s b.links)
   not_sooner d s m k = elim (cases_lt s l) [
-    | inl c ↦ let P : List (ℕ × Node) → Type 0 = AllByRecursion (λ row. d ≤ (timer_in row).deadline) in subst P (sym (no_rows_there (list_at s b.links) (sym (h.marked.0 s k) ∙ f.2 s c))) tt
+    | inl c ↦ let P : List (ℕ × Node) → Type 0 = AllByRecursion (λ row. d ≤ (timer_in row).deadline)
+        in subst P (sym (no_rows_there (list_at s b.links) (sym (h.marked.0 s k) ∙ f.2 s c))) tt
     | inr c ↦ elim (cases_eq s l) [
-      | inl e ↦ let P : ℕ → Type 0 = λ n. AllByRecursion (λ row. d ≤ (timer_in row).deadline) (list_at n b.links) in subst P (sym e) (of_rows d (list_at l b.links) m.none_earlier)
-      | inr n ↦ All-weaken (IsStanding (radices t) b.tick s) (λ row. d ≤ (timer_in row).deadline) (list_at s b.links) (λ row w. not_later d s row m (omega arith) w) (standing s k)
+      | inl e ↦ let P : ℕ → Type 0 = λ n. AllByRecursion (λ row. d ≤ (timer_in row).deadline) (list_at n b.links)
+          in subst P (sym e) (of_rows d (list_at l b.links) m.none_earlier)
+      | inr n ↦ All-weaken (IsStanding (radices t) b.tick s) (λ row. d ≤ (timer_in row).deadline) (list_at s b.links)
+          (λ row w. not_later d s row m (omega arith) w) (standing s k)
     ]
   ]
 
@@ -294,7 +351,8 @@ module _ (t : Table) (b : Buckets) (words : List ℕ) (h : IsHier t b words) (l 
       let n : length b.links ≡ b.slots + 1 = b.has_lists in
       least_is_next (Some d) (rows_below b.slots b.links) (record {
         has = has_below d b.slots l b.links first_below (let k : l < b.slots = first_below in omega arith) m.has;
-        none_earlier = of_timers d (rows_below b.slots b.links) (all-rows_below (λ row. d ≤ (timer_in row).deadline) b.slots b.links (λ s k. not_sooner d s m k));
+        none_earlier = of_timers d (rows_below b.slots b.links)
+            (all-rows_below (λ row. d ≤ (timer_in row).deadline) b.slots b.links (λ s k. not_sooner d s m k));
       })
 
   -- its least deadline is the first one of all
@@ -303,8 +361,12 @@ module _ (t : Table) (b : Buckets) (words : List ℕ) (h : IsHier t b words) (l 
   first_is_next (Some d) m = least_of_first d m
 
   -- and on the lowest wheel that is the tick of its visit
-  pub visit_is_next : (visit : ℕ) → visit ≡ list_visit (radices t) l b.tick → l < lowest_radix (radices t) → Some visit ≡ next_deadline (state_of b).pending
+  pub visit_is_next : (visit : ℕ) → visit ≡ list_visit (radices t) l b.tick → l < lowest_radix (radices t)
+      → Some visit ≡ next_deadline (state_of b).pending
   visit_is_next visit e k =
-      least_of_first visit (all_at visit (list_at l b.links) some_there (All-weaken (IsStanding (radices t) b.tick l) (λ row. (timer_in row).deadline ≡ visit) (list_at l b.links)
-      (λ row w. let x : list_visit (radices t) l b.tick ≡ (timer_in row).deadline = lowest_visit (radices t) b.tick (timer_in row).deadline l (of_table t).is_table (of_table t).more_wheels w.later w.placed k in sym (e ∙ x))
+      least_of_first visit (all_at visit (list_at l b.links) some_there
+      (All-weaken (IsStanding (radices t) b.tick l) (λ row. (timer_in row).deadline ≡ visit) (list_at l b.links)
+      (λ row w. let x : list_visit (radices t) l b.tick ≡ (timer_in row).deadline =
+      lowest_visit (radices t) b.tick (timer_in row).deadline l (of_table t).is_table (of_table t).more_wheels w.later w.placed k
+      in sym (e ∙ x))
       (standing l first_below)))

@@ -73,11 +73,13 @@ level-same [] a = refl
 level-same (r ∷ rs) a = level_near r rs a a refl
 
 -- the level is the number of a digit
-pub level-bound : (r : ℕ) (rs : List ℕ) (a b : ℕ) → IsTable (r ∷ rs) → HasDigits (r ∷ rs) a → HasDigits (r ∷ rs) b → level (r ∷ rs) a b ≤ length rs
+pub level-bound : (r : ℕ) (rs : List ℕ) (a b : ℕ) → IsTable (r ∷ rs) → HasDigits (r ∷ rs) a → HasDigits (r ∷ rs) b
+    → level (r ∷ rs) a b ≤ length rs
 level-bound r [] a b t ha hb = rw (level_near r [] a b (ha ∙ sym hb)) (omega arith)
 level-bound r (s ∷ ss) a b t ha hb = elim (cases_eq (a / r) (b / r)) [
   | inl e ↦ rw (level_near r (s ∷ ss) a b e) (omega arith)
-  | inr e ↦ let h : level (s ∷ ss) (a / r) (b / r) ≤ length ss = level-bound s ss (a / r) (b / r) t.1 ha hb in rw (level_far r (s ∷ ss) a b e) (omega arith)
+  | inr e ↦ let h : level (s ∷ ss) (a / r) (b / r) ≤ length ss = level-bound s ss (a / r) (b / r) t.1 ha hb
+      in rw (level_far r (s ∷ ss) a b e) (omega arith)
 ]
 
 -- a lower number has digits too
@@ -94,8 +96,10 @@ pub record LevelAtTick (table : List ℕ) (a d : ℕ) : Type 0 where
   -- the wheels below the lowest digit that is not zero are empty
   pub not_below : lowest table (a + 1) ≤ level table a d
   -- in the bucket that is emptied a timer is due or moves to a lower wheel, and every other timer stays
-  pub is : ((level table a d ≡ lowest table (a + 1)) × ((digit table (lowest table (a + 1)) d ≡ digit table (lowest table (a + 1)) (a + 1)) × ((d ≡ a + 1) ⊎ (level table (a + 1) d < lowest table (a + 1)))))
-      ⊎ (((level table a d ≢ lowest table (a + 1)) ⊎ (digit table (lowest table (a + 1)) d ≢ digit table (lowest table (a + 1)) (a + 1))) × (level table (a + 1) d ≡ level table a d))
+  pub is : ((level table a d ≡ lowest table (a + 1)) × ((digit table (lowest table (a + 1)) d ≡ digit table (lowest table (a + 1)) (a + 1))
+      × ((d ≡ a + 1) ⊎ (level table (a + 1) d < lowest table (a + 1)))))
+      ⊎ (((level table a d ≢ lowest table (a + 1)) ⊎ (digit table (lowest table (a + 1)) d ≢ digit table (lowest table (a + 1)) (a + 1)))
+      × (level table (a + 1) d ≡ level table a d))
 
 -- the tick passes no multiple of the lowest radix
 inner : (r : ℕ) (rs : List ℕ) (a d : ℕ) → 0 < r → a < d → (a + 1) % r ≢ 0 → LevelAtTick (r ∷ rs) a d
@@ -107,17 +111,30 @@ inner r rs a d z h m =
           let l1 : level (r ∷ rs) a d ≡ 0 = level_near r rs a d e in
           let l2 : level (r ∷ rs) (a + 1) d ≡ 0 = level_near r rs (a + 1) d (q ∙ e) in
           elim (cases_eq (d % r) ((a + 1) % r)) [
-            | inl f ↦ record { not_below = rw (low, l1) (omega arith); is = inl (l1 ∙ sym low, (rw low f, inl (same_parts r d (a + 1) (a / r) z (sym e) q f))) }
+            | inl f ↦ record {
+              not_below = rw (low, l1) (omega arith);
+              is = inl (l1 ∙ sym low, (rw low f, inl (same_parts r d (a + 1) (a / r) z (sym e) q f)));
+            }
             | inr f ↦ record { not_below = rw (low, l1) (omega arith); is = inr (inr (rw low f), l2 ∙ sym l1) }
           ]
       | inr e ↦
           let l1 : level (r ∷ rs) a d ≡ suc (level rs (a / r) (d / r)) = level_far r rs a d e in
-          let l2 : level (r ∷ rs) (a + 1) d ≡ suc (level rs ((a + 1) / r) (d / r)) = level_far r rs (a + 1) d (λ (x : (a + 1) / r ≡ d / r). e (sym q ∙ x)) in
-          record { not_below = rw low (omega arith); is = inr (inl (rw (low, l1) (omega arith)), l2 ∙ (ap (λ (x : ℕ). suc (level rs x (d / r))) q ∙ sym l1)) }
+          let l2 : level (r ∷ rs) (a + 1) d ≡ suc (level rs ((a + 1) / r) (d / r)) =
+          level_far r rs (a + 1) d (λ (x : (a + 1) / r ≡ d / r). e (sym q ∙ x)) in
+          record {
+            not_below = rw low (omega arith);
+            is = inr (
+              inl (rw (low, l1) (omega arith)),
+              l2
+                  ∙ (ap (λ (x : ℕ). suc (level rs x (d / r))) q ∙ sym l1),
+            );
+          }
     ]
 
 -- at its deadline a timer is in the bucket that is emptied
-due_is_in : (table : List ℕ) (a d : ℕ) → d ≡ a + 1 → lowest table (a + 1) ≤ level table a d → ((level table a d ≢ lowest table (a + 1)) ⊎ (digit table (lowest table (a + 1)) d ≢ digit table (lowest table (a + 1)) (a + 1))) → level table (a + 1) d ≡ level table a d → ⊥
+due_is_in : (table : List ℕ) (a d : ℕ) → d ≡ a + 1 → lowest table (a + 1) ≤ level table a d
+    → ((level table a d ≢ lowest table (a + 1)) ⊎ (digit table (lowest table (a + 1)) d ≢ digit table (lowest table (a + 1)) (a + 1)))
+    → level table (a + 1) d ≡ level table a d → ⊥
 due_is_in table a d e b (inl f) l =
     let z : level table (a + 1) (a + 1) ≡ 0 = level-same table (a + 1) in
     let y : level table (a + 1) d ≡ level table (a + 1) (a + 1) = ap (level table (a + 1)) e in
@@ -147,7 +164,8 @@ outer r rs a d z h m ih =
               | inr e ↦ elim y.1.1 [
                 | inl f ↦ absurd (e (q ∙ sym f))
                 | inr f ↦
-                    let l2 : level (r ∷ rs) (a + 1) d ≡ suc (level rs (a / r + 1) (d / r)) = level_far r rs (a + 1) d e ∙ ap (λ (x : ℕ). suc (level rs x (d / r))) q in
+                    let l2 : level (r ∷ rs) (a + 1) d ≡ suc (level rs (a / r + 1) (d / r)) =
+                    level_far r rs (a + 1) d e ∙ ap (λ (x : ℕ). suc (level rs x (d / r))) q in
                     rw (low, l2) (omega arith)
               ]
             ]),
@@ -155,7 +173,8 @@ outer r rs a d z h m ih =
         )
         | inr y ↦
             let e : (a + 1) / r ≢ d / r = λ (x : (a + 1) / r ≡ d / r). due_is_in rs (a / r) (d / r) (sym x ∙ q) b y.0 y.1 in
-            let l2 : level (r ∷ rs) (a + 1) d ≡ suc (level rs (a / r + 1) (d / r)) = level_far r rs (a + 1) d e ∙ ap (λ (x : ℕ). suc (level rs x (d / r))) q in
+            let l2 : level (r ∷ rs) (a + 1) d ≡ suc (level rs (a / r + 1) (d / r)) =
+            level_far r rs (a + 1) d e ∙ ap (λ (x : ℕ). suc (level rs x (d / r))) q in
             inr (
               elim y.0 [
                 | inl f ↦ inl (rw (low, l1) (λ (x : suc (level rs (a / r) (d / r)) ≡ suc k). f (omega arith)))
@@ -196,7 +215,8 @@ highest_far r rs a b k ih = record { differs = ih.differs; above = above } where
   above zero h = absurd (omega arith)
   above (suc j) h = ih.above j (omega arith)
 
-pub level_is_highest : (table : List ℕ) (a b : ℕ) → IsTable table → HasDigits table a → HasDigits table b → a ≢ b → IsHighest table a b (level table a b)
+pub level_is_highest : (table : List ℕ) (a b : ℕ) → IsTable table → HasDigits table a → HasDigits table b → a ≢ b
+    → IsHighest table a b (level table a b)
 level_is_highest [] a b t ha hb n = absurd (n (ha ∙ sym hb))
 level_is_highest (r ∷ rs) a b t ha hb n = elim (cases_eq (a / r) (b / r)) [
   | inl e ↦ rw (level_near r rs a b e) (highest_near r rs a b t.0 n e)
@@ -223,7 +243,8 @@ lowest_at_suc r rs t k e ih = record { not_zero = ih.not_zero; below = below } w
 pub lowest_is : (table : List ℕ) (t : ℕ) → IsTable table → HasDigits table t → t ≢ 0 → IsLowest table t (lowest table t)
 lowest_is [] t i h n = absurd (n h)
 lowest_is (r ∷ rs) t i h n = elim (cases_eq (t % r) 0) [
-  | inl e ↦ rw (lowest_above r rs t e) (lowest_at_suc r rs t (lowest rs (t / r)) e (lowest_is rs (t / r) i.1 h (quotient_not_zero r t i.0 n e)))
+  | inl e ↦ rw (lowest_above r rs t e) (lowest_at_suc r rs t (lowest rs (t / r)) e
+      (lowest_is rs (t / r) i.1 h (quotient_not_zero r t i.0 n e)))
   | inr e ↦ rw (lowest_here r rs t e) (lowest_at_zero r rs t e)
 ]
 
@@ -233,38 +254,45 @@ pub digit-bound : (r : ℕ) (rs : List ℕ) (t : ℕ) → 0 < r → digit (r ∷
 digit-bound r rs t z = omega arith
 
 -- a slot of a wheel is below those of the wheels above it
-pub slot_below : (table : List ℕ) (k j t : ℕ) → IsTable table → k < j → k < length table → list_of_slot table k (digit table k t) < slots_below j table
+pub slot_below : (table : List ℕ) (k j t : ℕ) → IsTable table → k < j → k < length table
+    → list_of_slot table k (digit table k t) < slots_below j table
 slot_below [] k j t i h b = absurd (omega arith)
 slot_below (r ∷ rs) k zero t i h b = absurd (omega arith)
 slot_below (r ∷ rs) zero (suc j) t i h b = let z : 0 < r = i.0 in omega arith
-slot_below (r ∷ rs) (suc k) (suc j) t i h b = let x : list_of_slot rs k (digit rs k (t / r)) < slots_below j rs = slot_below rs k j (t / r) i.1 (omega arith) (omega arith) in omega arith
+slot_below (r ∷ rs) (suc k) (suc j) t i h b = let x : list_of_slot rs k (digit rs k (t / r)) < slots_below j rs =
+    slot_below rs k j (t / r) i.1 (omega arith) (omega arith) in omega arith
 
 pub slots_below-mono : (table : List ℕ) (k j : ℕ) → k ≤ j → slots_below k table ≤ slots_below j table
 slots_below-mono [] k j h = omega arith
 slots_below-mono (r ∷ rs) zero j h = omega arith
 slots_below-mono (r ∷ rs) (suc k) zero h = absurd (omega arith)
-slots_below-mono (r ∷ rs) (suc k) (suc j) h = let x : slots_below k rs ≤ slots_below j rs = slots_below-mono rs k j (omega arith) in omega arith
+slots_below-mono (r ∷ rs) (suc k) (suc j) h = let x : slots_below k rs ≤ slots_below j rs = slots_below-mono rs k j (omega arith)
+    in omega arith
 
 -- the number of a slot determines its wheel and its digit
-pub same_slot : (table : List ℕ) (j k x y : ℕ) → IsTable table → j < length table → k < length table → list_of_slot table j (digit table j x) ≡ list_of_slot table k (digit table k y) → (j ≡ k) × (digit table j x ≡ digit table k y)
+pub same_slot : (table : List ℕ) (j k x y : ℕ) → IsTable table → j < length table → k < length table
+    → list_of_slot table j (digit table j x) ≡ list_of_slot table k (digit table k y) → (j ≡ k) × (digit table j x ≡ digit table k y)
 same_slot table j k x y i a b e = elim (cases_eq j k) [
   | inl f ↦ (f, let g : slots_below j table ≡ slots_below k table = ap (λ (v : ℕ). slots_below v table) f in omega arith)
   | inr n ↦ elim (cases_lt j k) [
     | inl l ↦ let g : list_of_slot table j (digit table j x) < slots_below k table = slot_below table j k x i l a in absurd (omega arith)
-    | inr l ↦ let g : list_of_slot table k (digit table k y) < slots_below j table = slot_below table k j y i (omega arith) b in absurd (omega arith)
+    | inr l ↦ let g : list_of_slot table k (digit table k y) < slots_below j table = slot_below table k j y i (omega arith) b
+        in absurd (omega arith)
   ]
 ]
 
 pub lowest-bound : (table : List ℕ) (t : ℕ) → IsTable table → HasDigits table t → t ≢ 0 → lowest table t < length table
 lowest-bound [] t i h n = absurd (n h)
 lowest-bound (r ∷ rs) t i h n = elim (cases_eq (t % r) 0) [
-  | inl e ↦ let x : lowest rs (t / r) < length rs = lowest-bound rs (t / r) i.1 h (quotient_not_zero r t i.0 n e) in rw (lowest_above r rs t e) (omega arith)
+  | inl e ↦ let x : lowest rs (t / r) < length rs = lowest-bound rs (t / r) i.1 h (quotient_not_zero r t i.0 n e)
+      in rw (lowest_above r rs t e) (omega arith)
   | inr e ↦ rw (lowest_here r rs t e) (omega arith)
 ]
 
 pub level_in_table : (table : List ℕ) (a d : ℕ) → IsTable table → HasDigits table d → a < d → level table a d < length table
 level_in_table [] a d i h l = absurd (nothing_above a d l h)
-level_in_table (r ∷ rs) a d i h l = let x : level (r ∷ rs) a d ≤ length rs = level-bound r rs a d i (digits_down (r ∷ rs) a d i (omega arith) h) h in omega arith
+level_in_table (r ∷ rs) a d i h l = let x : level (r ∷ rs) a d ≤ length rs =
+    level-bound r rs a d i (digits_down (r ∷ rs) a d i (omega arith) h) h in omega arith
 
 pub bucket_in_range : (table : List ℕ) (a d : ℕ) → IsTable table → HasDigits table d → a < d → bucket table a d < slots table
 bucket_in_range table a d i h l =
@@ -285,7 +313,8 @@ bucket_at table a d k e = ap (λ (v : ℕ). list_of_slot table v (digit table v 
 level_at_deadline : (table : List ℕ) (a d : ℕ) → d ≡ a + 1 → level table (a + 1) d ≡ 0
 level_at_deadline table a d e = ap (level table (a + 1)) e ∙ level-same table (a + 1)
 
-leaves_or_stays : (table : List ℕ) (a d : ℕ) → IsTable table → HasDigits table d → a < d → LevelAtTick table a d → (LeavesBucket table a d ⊎ StaysInBucket table a d) × (level table (a + 1) d ≤ level table a d)
+leaves_or_stays : (table : List ℕ) (a d : ℕ) → IsTable table → HasDigits table d → a < d → LevelAtTick table a d
+    → (LeavesBucket table a d ⊎ StaysInBucket table a d) × (level table (a + 1) d ≤ level table a d)
 leaves_or_stays table a d i h l t =
     let k : ℕ = lowest table (a + 1) in
     let kb : k < length table = lowest-bound table (a + 1) i (digits_down table (a + 1) d i (omega arith) h) (omega arith) in
@@ -307,8 +336,10 @@ leaves_or_stays table a d i h l t =
           let v : level table (a + 1) d ≡ level table a d = y.1 in
           let apart : bucket table a d ≢ emptied table (a + 1) = λ (e : bucket table a d ≡ emptied table (a + 1)).
           let s = same_slot table (level table a d) k d (a + 1) i vb kb e in
-          elim y.0 [ inl f ↦ f s.0 | inr f ↦ f (ap (λ (u : ℕ). digit table u d) (sym s.0) ∙ s.1) ] in
-          (inr (apart, (λ (e : d ≡ a + 1). due_is_in table a d e nb y.0 v, (v, bucket_at table (a + 1) d (level table a d) v))), omega arith)
+          elim y.0 [ inl f ↦ f s.0 | inr f ↦ f (ap (λ (u : ℕ). digit table u d) (sym s.0) ∙ s.1) ] in (
+            inr (apart, (λ (e : d ≡ a + 1). due_is_in table a d e nb y.0 v, (v, bucket_at table (a + 1) d (level table a d) v))),
+            omega arith,
+          )
     ]
 
 pub bucket_at_tick : (table : List ℕ) (a d : ℕ) → IsTable table → HasDigits table d → a < d → BucketAtTick table a d
@@ -316,7 +347,8 @@ bucket_at_tick table a d i h l =
     let t = level_at_tick table a d i h l in
     let p = leaves_or_stays table a d i h l t in
     let nb : lowest table (a + 1) ≤ level table a d = t.not_below in
-    let m : slots_below (lowest table (a + 1)) table ≤ slots_below (level table a d) table = slots_below-mono table (lowest table (a + 1)) (level table a d) nb in
+    let m : slots_below (lowest table (a + 1)) table ≤ slots_below (level table a d) table =
+    slots_below-mono table (lowest table (a + 1)) (level table a d) nb in
     record {
       in_range = bucket_in_range table a d i h l;
       not_below = omega arith;

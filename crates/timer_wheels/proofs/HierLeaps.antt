@@ -42,21 +42,31 @@ module _ (t : Table) (b : Buckets) (words : List ℕ) (h : IsHier t b words) whe
   slots_fit : b.slots ≤ 640
   slots_fit = let e : b.slots ≡ slots (radices t) = h.has_slots in let f : slots (radices t) ≤ 640 = (of_table t).few_slots in omega arith
 
-  known_row : (s : ℕ) (row : ℕ × Node) → IsPending b.last_tick b.tick b.last_serial (timer_in row) → IsPlaced (radices t) b.tick s row → IsKnown (radices t) b.tick s row
-  known_row s row p q = record { later = p.later; digits = digits_down (radices t) (timer_in row).deadline b.last_tick (of_table t).is_table p.in_range last_digits; placed = q.0 }
+  known_row : (s : ℕ) (row : ℕ × Node) → IsPending b.last_tick b.tick b.last_serial (timer_in row) → IsPlaced (radices t) b.tick s row
+      → IsKnown (radices t) b.tick s row
+  known_row s row p q = record {
+    later = p.later;
+    digits = digits_down (radices t) (timer_in row).deadline b.last_tick
+        (of_table t).is_table p.in_range last_digits;
+    placed = q.0;
+  }
 
-  known_rows : (s : ℕ) (rows : List (ℕ × Node)) → AllByRecursion (λ row. IsPending b.last_tick b.tick b.last_serial (timer_in row)) rows → AllByRecursion (IsPlaced (radices t) b.tick s) rows → AllByRecursion (IsKnown (radices t) b.tick s) rows
+  known_rows : (s : ℕ) (rows : List (ℕ × Node)) → AllByRecursion (λ row. IsPending b.last_tick b.tick b.last_serial (timer_in row)) rows
+      → AllByRecursion (IsPlaced (radices t) b.tick s) rows → AllByRecursion (IsKnown (radices t) b.tick s) rows
   known_rows s [] p q = tt
   known_rows s (r ∷ rs) p q = (known_row s r p.0 q.0, known_rows s rs p.1 q.1)
 
   known : (s : ℕ) → s < b.slots → AllByRecursion (IsKnown (radices t) b.tick s) (list_at s b.links)
-  known s k = known_rows s (list_at s b.links) (all-list_at (λ row. IsPending b.last_tick b.tick b.last_serial (timer_in row)) b.slots b.links b.pending s k) (h.placed s k)
+  known s k = known_rows s (list_at s b.links) (all-list_at (λ row.
+      IsPending b.last_tick b.tick b.last_serial (timer_in row)) b.slots b.links b.pending s k) (h.placed s k)
 
   none_where : (s : ℕ) → s < b.slots → bit_of words s ≡ 0 → list_at s b.links ≡ []
   none_where s k z = no_rows_there (list_at s b.links) (sym (h.marked.0 s k) ∙ z)
 
   pub none_ahead : (visit : ℕ) → ((s : ℕ) → s < 640 → bit_of words s ≡ 0) → AreNotVisitedBefore (radices t) b.slots b.tick visit b.links
-  none_ahead visit f s k = let P : List (ℕ × Node) → Type 0 = AllByRecursion (λ row. visit ≤ timer_visit (radices t) b.tick (timer_in row).deadline) in let r : b.slots ≤ 640 = slots_fit in subst P (sym (none_where s k (f s (omega arith)))) tt
+  none_ahead visit f s k = let P : List (ℕ × Node) → Type 0 = AllByRecursion (λ row. visit
+      ≤ timer_visit (radices t) b.tick (timer_in row).deadline) in let r : b.slots ≤ 640 = slots_fit
+      in subst P (sym (none_where s k (f s (omega arith)))) tt
 
   -- a bit that is set is that of a bucket
   pub first_in : (l : ℕ) → l < 640 → bit_of words l ≡ 1 → l < b.slots
@@ -68,23 +78,30 @@ module _ (t : Table) (b : Buckets) (words : List ℕ) (h : IsHier t b words) whe
   pub first_in_range : (l : ℕ) → IsFirstSet words (Some l) → l < slots (radices t)
   first_in_range l f = let c : l < b.slots = first_in l f.0 f.1 in let e : b.slots ≡ slots (radices t) = h.has_slots in omega arith
 
-  pub first_ahead : (l visit : ℕ) → visit ≡ list_visit (radices t) l b.tick → IsFirstSet words (Some l) → AreNotVisitedBefore (radices t) b.slots b.tick visit b.links
+  pub first_ahead : (l visit : ℕ) → visit ≡ list_visit (radices t) l b.tick → IsFirstSet words (Some l)
+      → AreNotVisitedBefore (radices t) b.slots b.tick visit b.links
   first_ahead l visit e f s k = elim (cases_lt s l) [
-    | inl c ↦ let P : List (ℕ × Node) → Type 0 = AllByRecursion (λ row. visit ≤ timer_visit (radices t) b.tick (timer_in row).deadline) in subst P (sym (none_where s k (f.2 s c))) tt
-    | inr c ↦ All-weaken (IsKnown (radices t) b.tick s) (λ row. visit ≤ timer_visit (radices t) b.tick (timer_in row).deadline) (list_at s b.links)
+    | inl c ↦ let P : List (ℕ × Node) → Type 0 = AllByRecursion (λ row. visit ≤ timer_visit (radices t) b.tick (timer_in row).deadline)
+        in subst P (sym (none_where s k (f.2 s c))) tt
+    | inr c ↦ All-weaken (IsKnown (radices t) b.tick s) (λ row. visit ≤ timer_visit (radices t) b.tick (timer_in row).deadline)
+        (list_at s b.links)
         (λ row w.
         let p : bucket (radices t) b.tick (timer_in row).deadline ≡ s = w.placed in
-        let x : list_visit (radices t) l b.tick ≤ timer_visit (radices t) b.tick (timer_in row).deadline = list_first (radices t) l b.tick (timer_in row).deadline (of_table t).is_table w.digits w.later (omega arith) in
+        let x : list_visit (radices t) l b.tick ≤ timer_visit (radices t) b.tick (timer_in row).deadline =
+        list_first (radices t) l b.tick (timer_in row).deadline (of_table t).is_table w.digits w.later (omega arith) in
         omega arith)
         (known s k)
   ]
 
-  later_by : (l : ℕ) (rows : List (ℕ × Node)) → filled rows ≡ 1 → AllByRecursion (IsKnown (radices t) b.tick l) rows → b.tick < list_visit (radices t) l b.tick
+  later_by : (l : ℕ) (rows : List (ℕ × Node)) → filled rows ≡ 1 → AllByRecursion (IsKnown (radices t) b.tick l) rows
+      → b.tick < list_visit (radices t) l b.tick
   later_by l [] e a = absurd (omega arith)
   later_by l (r ∷ rs) e a =
       let q : list_visit (radices t) l b.tick ≡ timer_visit (radices t) b.tick (timer_in r).deadline =
-      ap (λ (x : ℕ). list_visit (radices t) x b.tick) (sym a.0.placed) ∙ list_is (radices t) b.tick (timer_in r).deadline (of_table t).is_table a.0.digits a.0.later in
-      let x : b.tick < timer_visit (radices t) b.tick (timer_in r).deadline = visit_later (radices t) b.tick (timer_in r).deadline (of_table t).is_table a.0.later in
+      ap (λ (x : ℕ). list_visit (radices t) x b.tick) (sym a.0.placed)
+      ∙ list_is (radices t) b.tick (timer_in r).deadline (of_table t).is_table a.0.digits a.0.later in
+      let x : b.tick < timer_visit (radices t) b.tick (timer_in r).deadline =
+      visit_later (radices t) b.tick (timer_in r).deadline (of_table t).is_table a.0.later in
       omega arith
 
   pub first_later : (l visit : ℕ) → visit ≡ list_visit (radices t) l b.tick → IsFirstSet words (Some l) → b.tick < visit
@@ -101,16 +118,20 @@ module _ (t : Table) (b : Buckets) (words : List ℕ) (h : IsHier t b words) whe
   pub first_wakes : (l visit : ℕ) → visit ≡ list_visit (radices t) l b.tick → IsFirstSet words (Some l) → IsWakeUp visit (state_of b)
   first_wakes l visit e f =
       let c : l < b.slots = first_in l f.0 f.1 in
-      wakes b.slots b.last_tick b.tick b.last_serial b.links visit l c (filled_some (list_at l b.links) (sym (h.marked.0 l c) ∙ f.1)) (first_later l visit e f)
-      (λ s k. All-weaken (λ row. visit ≤ timer_visit (radices t) b.tick (timer_in row).deadline) (λ row. visit ≤ (timer_in row).deadline) (list_at s b.links)
+      wakes b.slots b.last_tick b.tick b.last_serial b.links visit l c (filled_some (list_at l b.links) (sym (h.marked.0 l c) ∙ f.1))
+      (first_later l visit e f)
+      (λ s k. All-weaken (λ row. visit ≤ timer_visit (radices t) b.tick (timer_in row).deadline) (λ row. visit ≤ (timer_in row).deadline)
+      (list_at s b.links)
       (λ row q.
       let p : visit ≤ timer_visit (radices t) b.tick (timer_in row).deadline = q in
-      let x : timer_visit (radices t) b.tick (timer_in row).deadline ≤ (timer_in row).deadline = visit_in_time (radices t) b.tick (timer_in row).deadline (of_table t).is_table in
+      let x : timer_visit (radices t) b.tick (timer_in row).deadline ≤ (timer_in row).deadline =
+      visit_in_time (radices t) b.tick (timer_in row).deadline (of_table t).is_table in
       omega arith)
       (first_ahead l visit e f s k))
 
   pub none_wakes : ((s : ℕ) → s < 640 → bit_of words s ≡ 0) → (state_of b).pending ≡ []
-  none_wakes f = sleeps b.slots b.last_tick b.tick b.last_serial b.links (λ s k. none_where s k (f s (let r : b.slots ≤ 640 = slots_fit in omega arith)))
+  none_wakes f = sleeps b.slots b.last_tick b.tick b.last_serial b.links
+      (λ s k. none_where s k (f s (let r : b.slots ≤ 640 = slots_fit in omega arith)))
 
 -- The clock alone advances.
 
@@ -120,7 +141,8 @@ pub record HasSkipped (t : Table) (b : Buckets) (tick : ℕ) : Type 0 where
   pub leaps : Leaps (radices t) 0 (state_of b) (wheel_state b.slots b.last_tick tick b.last_serial b.links)
 
 module _ (t : Table) (b : Buckets) (words : List ℕ) (h : IsHier t b words) (z : (state_of b).due ≡ []) where
-  skipped_by : (n tick : ℕ) → b.tick + n ≡ tick → AreNotVisitedBefore (radices t) b.slots b.tick (tick + 1) b.links → HasSkipped t b (b.tick + n)
+  skipped_by : (n tick : ℕ) → b.tick + n ≡ tick → AreNotVisitedBefore (radices t) b.slots b.tick (tick + 1) b.links
+      → HasSkipped t b (b.tick + n)
   skipped_by n tick e q =
       let near : b.tick + n < tick + 1 = omega arith in
       let i = (of_table t).is_table in
@@ -132,14 +154,20 @@ module _ (t : Table) (b : Buckets) (words : List ℕ) (h : IsHier t b words) (z 
       }
 
   pub skipped : (tick : ℕ) → b.tick ≤ tick → AreNotVisitedBefore (radices t) b.slots b.tick (tick + 1) b.links → HasSkipped t b tick
-  skipped tick l q = let e : b.tick + (tick - b.tick) ≡ tick = omega arith in let P : ℕ → Type 0 = HasSkipped t b in subst P e (skipped_by (tick - b.tick) tick e q)
+  skipped tick l q = let e : b.tick + (tick - b.tick) ≡ tick = omega arith in let P : ℕ → Type 0 = HasSkipped t b
+      in subst P e (skipped_by (tick - b.tick) tick e q)
 
 -- One leap, and the tick after it.
 
-pub near_end : (table : List ℕ) (b : Buckets) (visit tick : ℕ) → tick < visit → AreNotVisitedBefore table b.slots b.tick visit b.links → AreNotVisitedBefore table b.slots b.tick (tick + 1) b.links
-near_end table b visit tick h a s k = All-weaken (λ row. visit ≤ timer_visit table b.tick (timer_in row).deadline) (λ row. tick + 1 ≤ timer_visit table b.tick (timer_in row).deadline) (list_at s b.links) (λ row q. let x : visit ≤ timer_visit table b.tick (timer_in row).deadline = q in omega arith) (a s k)
+pub near_end : (table : List ℕ) (b : Buckets) (visit tick : ℕ) → tick < visit → AreNotVisitedBefore table b.slots b.tick visit b.links
+    → AreNotVisitedBefore table b.slots b.tick (tick + 1) b.links
+near_end table b visit tick h a s k = All-weaken (λ row. visit ≤ timer_visit table b.tick (timer_in row).deadline) (λ row. tick + 1
+    ≤ timer_visit table b.tick (timer_in row).deadline) (list_at s b.links) (λ row q. let x : visit
+    ≤ timer_visit table b.tick (timer_in row).deadline = q in omega arith) (a s k)
 
-pub leap_and_tick : (table : List ℕ) (moves : ℕ) (old mid new : WheelState) → Leaps table 0 old mid → mid.due ≡ [] → new ≡ after_tick mid → moves ≡ hops_of table mid.now 1 mid.pending → moves + levels_of table new.now new.pending ≤ levels_of table mid.now mid.pending → Leaps table moves old new
+pub leap_and_tick : (table : List ℕ) (moves : ℕ) (old mid new : WheelState) → Leaps table 0 old mid → mid.due ≡ [] → new ≡ after_tick mid
+    → moves ≡ hops_of table mid.now 1 mid.pending → moves + levels_of table new.now new.pending ≤ levels_of table mid.now mid.pending
+    → Leaps table moves old new
 leap_and_tick table moves old mid new a z e m p =
     let none : 0 + moves ≡ moves = omega arith in
     let P : ℕ → Type 0 = λ k. Leaps table k old new in
@@ -153,10 +181,18 @@ pub record IsAdvancing (t : Table) (most moves : ℕ) (first b : Buckets) (words
   pub leaps : Leaps (radices t) moves (state_of first) (state_of b)
   pub not_past : b.tick ≤ first.tick + most
 
-pub advancing_none : (t : Table) (most : ℕ) (b : Buckets) (words : List ℕ) → IsHier t b words → (state_of b).due ≡ [] → IsAdvancing t most 0 b b words
-advancing_none t most b words h z = record { hier = h; nothing_due = z; leaps = leaps_none (radices t) (state_of b); not_past = omega arith }
+pub advancing_none : (t : Table) (most : ℕ) (b : Buckets) (words : List ℕ) → IsHier t b words → (state_of b).due ≡ []
+    → IsAdvancing t most 0 b b words
+advancing_none t most b words h z = record {
+  hier = h;
+  nothing_due = z;
+  leaps = leaps_none (radices t) (state_of b);
+  not_past = omega arith;
+}
 
-pub advancing_leap : (t : Table) (most moves more : ℕ) (first b new : Buckets) (words words2 : List ℕ) → IsAdvancing t most moves first b words → Leaps (radices t) more (state_of b) (state_of new) → IsHier t new words2 → (state_of new).due ≡ [] → new.tick ≤ first.tick + most → IsAdvancing t most (moves + more) first new words2
+pub advancing_leap : (t : Table) (most moves more : ℕ) (first b new : Buckets) (words words2 : List ℕ)
+    → IsAdvancing t most moves first b words → Leaps (radices t) more (state_of b) (state_of new) → IsHier t new words2
+    → (state_of new).due ≡ [] → new.tick ≤ first.tick + most → IsAdvancing t most (moves + more) first new words2
 advancing_leap t most moves more first b new words words2 w l h z e = record {
   hier = h;
   nothing_due = z;
@@ -165,13 +201,15 @@ advancing_leap t most moves more first b new words words2 w l h z e = record {
 }
 
 -- the count of moves does not overflow
-pub moves_fit : (table : List ℕ) (moves more : ℕ) (u v w : WheelState) → Leaps table moves u v → Leaps table more v w → levels_of table u.now u.pending ≤ 9 * LAST → moves + more < 18446744073709551616
+pub moves_fit : (table : List ℕ) (moves more : ℕ) (u v w : WheelState) → Leaps table moves u v → Leaps table more v w
+    → levels_of table u.now u.pending ≤ 9 * LAST → moves + more < 18446744073709551616
 moves_fit table moves more u v w a b r =
     let x : moves + levels_of table v.now v.pending ≤ levels_of table u.now u.pending = a.pays in
     let y : more + levels_of table w.now w.pending ≤ levels_of table v.now v.pending = b.pays in
     omega arith
 
-pub advancing_ends : (table : List ℕ) (most moves : ℕ) (u w : WheelState) → Leaps table moves u w → u.now < w.now → w.now ≤ u.now + most → (w.now < u.now + most → 0 < length w.due) → Advances most (w.now - u.now) u w
+pub advancing_ends : (table : List ℕ) (most moves : ℕ) (u w : WheelState) → Leaps table moves u w → u.now < w.now → w.now ≤ u.now + most
+    → (w.now < u.now + most → 0 < length w.due) → Advances most (w.now - u.now) u w
 advancing_ends table most moves u w l a b f =
     let n : w.now ≡ u.now + l.passed = l.now_is in
     let e : w.now - u.now ≡ l.passed = omega arith in

@@ -26,21 +26,25 @@ use Rattle.std.proofs.lemmas.Nat.{mul-le}
 one_further : (y x r z : ℕ) → z ≡ x + r → y + z ≡ x + (y + r)
 one_further y x r z e = omega arith
 
-levels-put : (table : List ℕ) (now : ℕ) (x : Entry) (ys : List Entry) → levels_of table now (put x ys) ≡ level table now x.timer.deadline + levels_of table now ys
+levels-put : (table : List ℕ) (now : ℕ) (x : Entry) (ys : List Entry)
+    → levels_of table now (put x ys) ≡ level table now x.timer.deadline + levels_of table now ys
 levels-put table now x [] = refl
 levels-put table now x (y ∷ ys) = elim (either (nat_lt x.timer.deadline y.timer.deadline)) [
   | inl h ↦ rw h refl
-  | inr h ↦ rw h (one_further (level table now y.timer.deadline) (level table now x.timer.deadline) (levels_of table now ys) (levels_of table now (put x ys)) (levels-put table now x ys))
+  | inr h ↦ rw h (one_further (level table now y.timer.deadline) (level table now x.timer.deadline) (levels_of table now ys)
+      (levels_of table now (put x ys)) (levels-put table now x ys))
 ]
 
 levels-filter : (table : List ℕ) (now : ℕ) (p : Entry → Bool) (es : List Entry) → levels_of table now (filter p es) ≤ levels_of table now es
 levels-filter table now p [] = omega arith
-levels-filter table now p (e ∷ es) = let h : levels_of table now (filter p es) ≤ levels_of table now es = levels-filter table now p es in elim (either (p e)) [
-  | inl k ↦ rw k (omega arith)
-  | inr k ↦ rw k (omega arith)
-]
+levels-filter table now p (e ∷ es) = let h : levels_of table now (filter p es) ≤ levels_of table now es = levels-filter table now p es
+    in elim (either (p e)) [
+      | inl k ↦ rw k (omega arith)
+      | inr k ↦ rw k (omega arith)
+    ]
 
-levels-without : (table : List ℕ) (now : ℕ) (found : Option Timer) (es : List Entry) → levels_of table now (without_found found es) ≤ levels_of table now es
+levels-without : (table : List ℕ) (now : ℕ) (found : Option Timer) (es : List Entry)
+    → levels_of table now (without_found found es) ≤ levels_of table now es
 levels-without table now None es = omega arith
 levels-without table now (Some t) es = levels-filter table now _ es
 
@@ -53,7 +57,8 @@ times_more (suc k) (suc n) =
     let b : suc k * suc n ≡ k * suc n + suc n = omega arith in
     omega arith
 
-paid_more : (moves new more old top starts : ℕ) → new ≡ more + old → more ≤ top → moves + old ≤ top * starts → moves + new ≤ top * (starts + 1)
+paid_more : (moves new more old top starts : ℕ) → new ≡ more + old → more ≤ top → moves + old ≤ top * starts
+    → moves + new ≤ top * (starts + 1)
 paid_more moves new more old top starts e d p = let x : top * (starts + 1) ≡ top * starts + top = times_more top starts in omega arith
 
 paid_less : (moves new old paid : ℕ) → new ≤ old → moves + old ≤ paid → moves + new ≤ paid
@@ -69,93 +74,145 @@ list_at-replicate (suc s) (suc n) = list_at-replicate s n
 pub new_placed : (table : List ℕ) (b : Buckets) (n : ℕ) → b.links ≡ replicate n [] → EachRow (IsPlaced table b.tick) b.slots b.links
 new_placed table b n e = each-none (IsPlaced table b.tick) b.slots b.links (λ s h. ap (list_at s) e ∙ list_at-replicate s n)
 
-pub new_paid : (table : List ℕ) (b : Buckets) (last first : ℕ) → state_of b ≡ empty_wheel last first → IsPaid table 0 0 b.tick (state_of b).pending
-new_paid table b last first e = let h : levels_of table b.tick (state_of b).pending ≡ 0 = ap (λ (w : WheelState). levels_of table b.tick w.pending) e in omega arith
+pub new_paid : (table : List ℕ) (b : Buckets) (last first : ℕ) → state_of b ≡ empty_wheel last first
+    → IsPaid table 0 0 b.tick (state_of b).pending
+new_paid table b last first e = let h : levels_of table b.tick (state_of b).pending ≡ 0 =
+    ap (λ (w : WheelState). levels_of table b.tick w.pending) e in omega arith
 
 -- A start.
 
 module _ (table : List ℕ) (old new : Buckets) where
-  pub started_placed : (list place : ℕ) (t : Timer) → list < old.slots → list ≡ bucket table old.tick t.deadline → EachRow (IsPlaced table old.tick) old.slots old.links
-      → new.links ≡ with_row list (place, record { timer = t; rounds = 0 }) old.links → IsSameFrame old new → EachRow (IsPlaced table new.tick) new.slots new.links
+  pub started_placed : (list place : ℕ) (t : Timer) → list < old.slots → list ≡ bucket table old.tick t.deadline
+      → EachRow (IsPlaced table old.tick) old.slots old.links
+      → new.links ≡ with_row list (place, record { timer = t; rounds = 0 }) old.links → IsSameFrame old new
+      → EachRow (IsPlaced table new.tick) new.slots new.links
   started_placed list place t h at p e f =
       let Q : ℕ → Type 0 = λ k. EachRow (IsPlaced table k) new.slots new.links in
       let R : ℕ → Type 0 = λ k. EachRow (IsPlaced table old.tick) k new.links in
       let P : List (List (ℕ × Node)) → Type 0 = λ lists. EachRow (IsPlaced table old.tick) old.slots lists in
       let len : length old.links ≡ old.slots + 1 = old.has_lists in
-      subst Q (sym f.tick) (subst R (sym f.slots) (subst P (sym e) (each-with_row (IsPlaced table old.tick) old.slots list (place, record { timer = t; rounds = 0 }) old.links (omega arith) (sym at, refl) p)))
+      subst Q (sym f.tick) (subst R (sym f.slots) (subst P (sym e)
+      (each-with_row (IsPlaced table old.tick) old.slots list (
+        place,
+        record {
+          timer = t;
+          rounds = 0;
+        },
+      ) old.links (omega arith) (sym at, refl) p)))
 
-  pub started_paid : (place starts moves : ℕ) (t : Timer) → IsClock table → IsPaid table starts moves old.tick (state_of old).pending → old.tick < t.deadline → t.deadline ≤ last_of table → state_of new ≡ after_start place t (state_of old) → IsSameFrame old new
+  pub started_paid : (place starts moves : ℕ) (t : Timer) → IsClock table → IsPaid table starts moves old.tick (state_of old).pending
+      → old.tick < t.deadline → t.deadline ≤ last_of table → state_of new ≡ after_start place t (state_of old) → IsSameFrame old new
       → IsPaid table (starts + 1) moves new.tick (state_of new).pending
   started_paid place starts moves t k p later range e f =
-      let x : levels_of table new.tick (state_of new).pending ≡ level table old.tick t.deadline + levels_of table old.tick (state_of old).pending =
-      ap (λ (k : ℕ). levels_of table k (state_of new).pending) f.tick ∙ (ap (λ (w : WheelState). levels_of table old.tick w.pending) e ∙ levels-put table old.tick (record { place = place; timer = t }) (state_of old).pending) in
-      let b : level table old.tick t.deadline < length table = level_in_table table old.tick t.deadline k.is_table (digits_down table t.deadline (last_of table) k.is_table range k.digits) later in
-      paid_more moves (levels_of table new.tick (state_of new).pending) (level table old.tick t.deadline) (levels_of table old.tick (state_of old).pending) (most_moves table) starts x (omega arith) p
+      let x : levels_of table new.tick (state_of new).pending ≡ level table old.tick t.deadline + levels_of table old.tick
+      (state_of old).pending =
+      ap (λ (k : ℕ). levels_of table k (state_of new).pending) f.tick
+      ∙ (ap (λ (w : WheelState). levels_of table old.tick w.pending) e
+      ∙ levels-put table old.tick (record { place = place; timer = t }) (state_of old).pending) in
+      let b : level table old.tick t.deadline < length table = level_in_table table old.tick t.deadline k.is_table
+      (digits_down table t.deadline (last_of table) k.is_table range k.digits) later in
+      paid_more moves (levels_of table new.tick (state_of new).pending) (level table old.tick t.deadline)
+      (levels_of table old.tick (state_of old).pending) (most_moves table) starts x (omega arith) p
 
-  pub started_few : (place starts : ℕ) (t : Timer) → starts ≤ old.last_serial → old.last_serial < t.serial → state_of new ≡ after_start place t (state_of old) → starts + 1 ≤ new.last_serial
+  pub started_few : (place starts : ℕ) (t : Timer) → starts ≤ old.last_serial → old.last_serial < t.serial
+      → state_of new ≡ after_start place t (state_of old) → starts + 1 ≤ new.last_serial
   started_few place starts t h k e = let x : new.last_serial ≡ t.serial = ap (λ (w : WheelState). w.last_serial) e in omega arith
 
   -- A stop.
 
-  placed_lists : (now key n : ℕ) (found : Option Timer) (before after : List (List (ℕ × Node))) → MatchOption found (after ≡ before) (λ t. after ≡ map (without_key key) before) → EachRow (IsPlaced table now) n before → EachRow (IsPlaced table now) n after
-  placed_lists now key n None before after m p = let P : List (List (ℕ × Node)) → Type 0 = λ lists. EachRow (IsPlaced table now) n lists in subst P (sym m) p
-  placed_lists now key n (Some t) before after m p = let P : List (List (ℕ × Node)) → Type 0 = λ lists. EachRow (IsPlaced table now) n lists in subst P (sym m) (each-without_key (IsPlaced table now) n key before p)
+  placed_lists : (now key n : ℕ) (found : Option Timer) (before after : List (List (ℕ × Node)))
+      → MatchOption found (after ≡ before) (λ t. after ≡ map (without_key key) before) → EachRow (IsPlaced table now) n before
+      → EachRow (IsPlaced table now) n after
+  placed_lists now key n None before after m p = let P : List (List (ℕ × Node)) → Type 0 = λ lists. EachRow (IsPlaced table now) n lists
+      in subst P (sym m) p
+  placed_lists now key n (Some t) before after m p = let P : List (List (ℕ × Node)) → Type 0 = λ lists. EachRow (IsPlaced table now) n lists
+      in subst P (sym m) (each-without_key (IsPlaced table now) n key before p)
 
-  pub stopped_placed : (key : ℕ) (found : Option Timer) → MatchOption found (new.links ≡ old.links) (λ t. new.links ≡ map (without_key key) old.links) → EachRow (IsPlaced table old.tick) old.slots old.links → IsSameFrame old new → EachRow (IsPlaced table new.tick) new.slots new.links
+  pub stopped_placed : (key : ℕ) (found : Option Timer) → MatchOption found (new.links ≡ old.links) (λ t. new.links
+      ≡ map (without_key key) old.links) → EachRow (IsPlaced table old.tick) old.slots old.links → IsSameFrame old new
+      → EachRow (IsPlaced table new.tick) new.slots new.links
   stopped_placed key found m p f =
       let Q : ℕ → Type 0 = λ k. EachRow (IsPlaced table k) new.slots new.links in
       let R : ℕ → Type 0 = λ k. EachRow (IsPlaced table old.tick) k new.links in
       subst Q (sym f.tick) (subst R (sym f.slots) (placed_lists old.tick key old.slots found old.links new.links m p))
 
-  pub stopped_paid : (handle : Handle) (starts moves : ℕ) → IsPaid table starts moves old.tick (state_of old).pending → state_of new ≡ after_stop handle (state_of old) → IsSameFrame old new → IsPaid table starts moves new.tick (state_of new).pending
+  pub stopped_paid : (handle : Handle) (starts moves : ℕ) → IsPaid table starts moves old.tick (state_of old).pending
+      → state_of new ≡ after_stop handle (state_of old) → IsSameFrame old new → IsPaid table starts moves new.tick (state_of new).pending
   stopped_paid handle starts moves p e f =
-      let x : levels_of table new.tick (state_of new).pending ≡ levels_of table old.tick (without_found (timer_at handle (state_of old)) (state_of old).pending) =
+      let x : levels_of table new.tick (state_of new).pending ≡ levels_of table old.tick
+      (without_found (timer_at handle (state_of old)) (state_of old).pending) =
       ap (λ (k : ℕ). levels_of table k (state_of new).pending) f.tick ∙ ap (λ (w : WheelState). levels_of table old.tick w.pending) e in
-      let y : levels_of table old.tick (without_found (timer_at handle (state_of old)) (state_of old).pending) ≤ levels_of table old.tick (state_of old).pending = levels-without table old.tick (timer_at handle (state_of old)) (state_of old).pending in
-      paid_less moves (levels_of table new.tick (state_of new).pending) (levels_of table old.tick (state_of old).pending) (most_moves table * starts) (omega arith) p
+      let y : levels_of table old.tick (without_found (timer_at handle (state_of old)) (state_of old).pending)
+      ≤ levels_of table old.tick (state_of old).pending = levels-without table old.tick (timer_at handle (state_of old))
+      (state_of old).pending in
+      paid_less moves (levels_of table new.tick (state_of new).pending) (levels_of table old.tick (state_of old).pending)
+      (most_moves table * starts) (omega arith) p
 
 -- A restart: a stop, and then a start.
 
-levels-after_start : (table : List ℕ) (now place : ℕ) (t : Timer) (w : WheelState) → levels_of table now (after_start place t w).pending ≡ level table now t.deadline + levels_of table now w.pending
+levels-after_start : (table : List ℕ) (now place : ℕ) (t : Timer) (w : WheelState)
+    → levels_of table now (after_start place t w).pending ≡ level table now t.deadline + levels_of table now w.pending
 levels-after_start table now place t w = levels-put table now (record { place = place; timer = t }) w.pending
 
-pub restarted_paid : (table : List ℕ) (old new : Buckets) (handle : Handle) (place starts moves : ℕ) (t : Timer) → IsClock table → IsPaid table starts moves old.tick (state_of old).pending → old.tick < t.deadline → t.deadline ≤ last_of table
-    → state_of new ≡ after_start place t (after_stop handle (state_of old)) → IsSameFrame old new → IsPaid table (starts + 1) moves new.tick (state_of new).pending
+pub restarted_paid : (table : List ℕ) (old new : Buckets) (handle : Handle) (place starts moves : ℕ) (t : Timer) → IsClock table
+    → IsPaid table starts moves old.tick (state_of old).pending → old.tick < t.deadline → t.deadline ≤ last_of table
+    → state_of new ≡ after_start place t (after_stop handle (state_of old)) → IsSameFrame old new
+    → IsPaid table (starts + 1) moves new.tick (state_of new).pending
 restarted_paid table old new handle place starts moves t k p later range e f =
     let rest : WheelState = after_stop handle (state_of old) in
     let x : levels_of table new.tick (state_of new).pending ≡ level table old.tick t.deadline + levels_of table old.tick rest.pending =
-    ap (λ (k : ℕ). levels_of table k (state_of new).pending) f.tick ∙ (ap (λ (w : WheelState). levels_of table old.tick w.pending) e ∙ levels-after_start table old.tick place t rest) in
-    let y : levels_of table old.tick rest.pending ≤ levels_of table old.tick (state_of old).pending = levels-without table old.tick (timer_at handle (state_of old)) (state_of old).pending in
-    let b : level table old.tick t.deadline < length table = level_in_table table old.tick t.deadline k.is_table (digits_down table t.deadline (last_of table) k.is_table range k.digits) later in
-    let q : moves + levels_of table old.tick rest.pending ≤ most_moves table * starts = paid_less moves (levels_of table old.tick rest.pending) (levels_of table old.tick (state_of old).pending) (most_moves table * starts) y p in
-    paid_more moves (levels_of table new.tick (state_of new).pending) (level table old.tick t.deadline) (levels_of table old.tick rest.pending) (most_moves table) starts x (omega arith) q
+    ap (λ (k : ℕ). levels_of table k (state_of new).pending) f.tick
+    ∙ (ap (λ (w : WheelState). levels_of table old.tick w.pending) e ∙ levels-after_start table old.tick place t rest) in
+    let y : levels_of table old.tick rest.pending ≤ levels_of table old.tick (state_of old).pending =
+    levels-without table old.tick (timer_at handle (state_of old)) (state_of old).pending in
+    let b : level table old.tick t.deadline < length table = level_in_table table old.tick t.deadline k.is_table
+    (digits_down table t.deadline (last_of table) k.is_table range k.digits) later in
+    let q : moves + levels_of table old.tick rest.pending ≤ most_moves table * starts =
+    paid_less moves (levels_of table old.tick rest.pending) (levels_of table old.tick (state_of old).pending)
+    (most_moves table * starts) y p in
+    paid_more moves (levels_of table new.tick (state_of new).pending) (level table old.tick t.deadline)
+    (levels_of table old.tick rest.pending) (most_moves table) starts x (omega arith) q
 
-pub restarted_few : (old new : Buckets) (handle : Handle) (place starts : ℕ) (t : Timer) → starts ≤ old.last_serial → old.last_serial < t.serial → state_of new ≡ after_start place t (after_stop handle (state_of old)) → starts + 1 ≤ new.last_serial
-restarted_few old new handle place starts t h k e = let x : new.last_serial ≡ t.serial = ap (λ (w : WheelState). w.last_serial) e in omega arith
+pub restarted_few : (old new : Buckets) (handle : Handle) (place starts : ℕ) (t : Timer) → starts ≤ old.last_serial
+    → old.last_serial < t.serial → state_of new ≡ after_start place t (after_stop handle (state_of old)) → starts + 1 ≤ new.last_serial
+restarted_few old new handle place starts t h k e = let x : new.last_serial ≡ t.serial = ap (λ (w : WheelState). w.last_serial) e
+    in omega arith
 
 -- A revival: a withdrawal, which leaves the pending timers as they are, and then a start.
 
-pub revived_paid : (table : List ℕ) (old new : Buckets) (handle : Handle) (place starts moves : ℕ) (t : Timer) → IsClock table → IsPaid table starts moves old.tick (state_of old).pending → old.tick < t.deadline → t.deadline ≤ last_of table
-    → state_of new ≡ after_start place t (after_withdrawal handle (state_of old)) → IsSameFrame old new → IsPaid table (starts + 1) moves new.tick (state_of new).pending
+pub revived_paid : (table : List ℕ) (old new : Buckets) (handle : Handle) (place starts moves : ℕ) (t : Timer) → IsClock table
+    → IsPaid table starts moves old.tick (state_of old).pending → old.tick < t.deadline → t.deadline ≤ last_of table
+    → state_of new ≡ after_start place t (after_withdrawal handle (state_of old)) → IsSameFrame old new
+    → IsPaid table (starts + 1) moves new.tick (state_of new).pending
 revived_paid table old new handle place starts moves t k p later range e f =
-    let x : levels_of table new.tick (state_of new).pending ≡ level table old.tick t.deadline + levels_of table old.tick (state_of old).pending =
-    ap (λ (k : ℕ). levels_of table k (state_of new).pending) f.tick ∙ (ap (λ (w : WheelState). levels_of table old.tick w.pending) e ∙ levels-after_start table old.tick place t (after_withdrawal handle (state_of old))) in
-    let b : level table old.tick t.deadline < length table = level_in_table table old.tick t.deadline k.is_table (digits_down table t.deadline (last_of table) k.is_table range k.digits) later in
-    paid_more moves (levels_of table new.tick (state_of new).pending) (level table old.tick t.deadline) (levels_of table old.tick (state_of old).pending) (most_moves table) starts x (omega arith) p
+    let x : levels_of table new.tick (state_of new).pending ≡ level table old.tick t.deadline + levels_of table old.tick
+    (state_of old).pending =
+    ap (λ (k : ℕ). levels_of table k (state_of new).pending) f.tick
+    ∙ (ap (λ (w : WheelState). levels_of table old.tick w.pending) e
+    ∙ levels-after_start table old.tick place t (after_withdrawal handle (state_of old))) in
+    let b : level table old.tick t.deadline < length table = level_in_table table old.tick t.deadline k.is_table
+    (digits_down table t.deadline (last_of table) k.is_table range k.digits) later in
+    paid_more moves (levels_of table new.tick (state_of new).pending) (level table old.tick t.deadline)
+    (levels_of table old.tick (state_of old).pending) (most_moves table) starts x (omega arith) p
 
-pub revived_few : (old new : Buckets) (handle : Handle) (place starts : ℕ) (t : Timer) → starts ≤ old.last_serial → old.last_serial < t.serial → state_of new ≡ after_start place t (after_withdrawal handle (state_of old)) → starts + 1 ≤ new.last_serial
-revived_few old new handle place starts t h k e = let x : new.last_serial ≡ t.serial = ap (λ (w : WheelState). w.last_serial) e in omega arith
+pub revived_few : (old new : Buckets) (handle : Handle) (place starts : ℕ) (t : Timer) → starts ≤ old.last_serial
+    → old.last_serial < t.serial → state_of new ≡ after_start place t (after_withdrawal handle (state_of old))
+    → starts + 1 ≤ new.last_serial
+revived_few old new handle place starts t h k e = let x : new.last_serial ≡ t.serial = ap (λ (w : WheelState). w.last_serial) e
+    in omega arith
 
 -- What the buckets show.
 
-pub shown : (table : List ℕ) (b : Buckets) → b.slots ≡ slots table → EachRow (IsPlaced table b.tick) b.slots b.links → ShowsBuckets (slots table) (bucket_at table b.tick) no_rounds (state_of b) b.links
+pub shown : (table : List ℕ) (b : Buckets) → b.slots ≡ slots table → EachRow (IsPlaced table b.tick) b.slots b.links
+    → ShowsBuckets (slots table) (bucket_at table b.tick) no_rounds (state_of b) b.links
 shown table b s p =
     let P : ℕ → Type 0 = λ n. ShowsBuckets n (bucket_at table b.tick) no_rounds (state_of b) b.links in
     subst P s (shows b.slots (bucket_at table b.tick) no_rounds b.links b.has_lists p b.last_tick b.tick b.last_serial b.in_order)
 
 -- Counts that do not overflow.
 
-pub paid_bound : (table : List ℕ) (starts moves last_serial now : ℕ) (es : List Entry) → IsClock table → starts ≤ last_serial → last_serial ≤ LAST → IsPaid table starts moves now es → moves + levels_of table now es ≤ 9 * LAST
+pub paid_bound : (table : List ℕ) (starts moves last_serial now : ℕ) (es : List Entry) → IsClock table → starts ≤ last_serial
+    → last_serial ≤ LAST → IsPaid table starts moves now es → moves + levels_of table now es ≤ 9 * LAST
 paid_bound table starts moves last_serial now es k f r p =
     let t : most_moves table ≤ 9 = k.few_wheels in
     let s : starts ≤ LAST = omega arith in

@@ -39,7 +39,8 @@ record KnownRow (table : List ℕ) (last_tick a last_serial s : ℕ) (row : ℕ 
   pending : IsPending last_tick a last_serial (timer_in row)
   bucket_at_tick : BucketAtTick table a (timer_in row).deadline
 
-all-both : (P Q R : ℕ × Node → Type 0) (xs : List (ℕ × Node)) → ((x : ℕ × Node) → P x → Q x → R x) → AllByRecursion P xs → AllByRecursion Q xs → AllByRecursion R xs
+all-both : (P Q R : ℕ × Node → Type 0) (xs : List (ℕ × Node)) → ((x : ℕ × Node) → P x → Q x → R x) → AllByRecursion P xs
+    → AllByRecursion Q xs → AllByRecursion R xs
 all-both P Q R [] f a b = tt
 all-both P Q R (x ∷ xs) f a b = (f x a.0 b.0, all-both P Q R xs f a.1 b.1)
 
@@ -64,13 +65,17 @@ is_left tick t h = ne_eqb t.deadline tick h
 
 -- a row of the list that is emptied: it is due, or moves below the wheels that have timers
 abbrev RowLeaves : List ℕ → ℕ → ℕ → ℕ × Node → Type 0
-RowLeaves table a m row = ((timer_in row).deadline ≡ a + 1) ⊎ (((timer_in row).deadline ≢ a + 1) × ((level table (a + 1) (timer_in row).deadline < level table a (timer_in row).deadline) × (bucket table (a + 1) (timer_in row).deadline < m)))
+RowLeaves table a m row = ((timer_in row).deadline ≡ a + 1) ⊎ (((timer_in row).deadline ≢ a + 1)
+    × ((level table (a + 1) (timer_in row).deadline < level table a (timer_in row).deadline)
+    × (bucket table (a + 1) (timer_in row).deadline < m)))
 
 -- a row of another list: it stays
 abbrev RowStays : List ℕ → ℕ → ℕ → ℕ × Node → Type 0
-RowStays table a s row = ((timer_in row).deadline ≢ a + 1) × ((level table (a + 1) (timer_in row).deadline ≡ level table a (timer_in row).deadline) × (bucket table (a + 1) (timer_in row).deadline ≡ s))
+RowStays table a s row = ((timer_in row).deadline ≢ a + 1) × ((level table (a + 1) (timer_in row).deadline
+    ≡ level table a (timer_in row).deadline) × (bucket table (a + 1) (timer_in row).deadline ≡ s))
 
-row_leaves : (table : List ℕ) (last_tick a last_serial : ℕ) (row : ℕ × Node) → KnownRow table last_tick a last_serial (emptied table (a + 1)) row → RowLeaves table a (slots_below (lowest table (a + 1)) table) row
+row_leaves : (table : List ℕ) (last_tick a last_serial : ℕ) (row : ℕ × Node)
+    → KnownRow table last_tick a last_serial (emptied table (a + 1)) row → RowLeaves table a (slots_below (lowest table (a + 1)) table) row
 row_leaves table last_tick a last_serial row h = elim (cases_eq (timer_in row).deadline (a + 1)) [
   | inl e ↦ inl e
   | inr n ↦ elim h.bucket_at_tick.is [
@@ -79,29 +84,38 @@ row_leaves table last_tick a last_serial row h = elim (cases_eq (timer_in row).d
   ]
 ]
 
-row_stays : (table : List ℕ) (last_tick a last_serial s : ℕ) (row : ℕ × Node) → s ≢ emptied table (a + 1) → KnownRow table last_tick a last_serial s row → RowStays table a s row
+row_stays : (table : List ℕ) (last_tick a last_serial s : ℕ) (row : ℕ × Node) → s ≢ emptied table (a + 1)
+    → KnownRow table last_tick a last_serial s row → RowStays table a s row
 row_stays table last_tick a last_serial s row n h = elim h.bucket_at_tick.is [
   | inl y ↦ absurd (n (sym h.placed.0 ∙ y.0))
   | inr y ↦ (y.1.0, (y.1.1.0, y.1.1.1 ∙ h.placed.0))
 ]
 
 -- where a row that moves can't go
-not_above : (table : List ℕ) (a m s : ℕ) (row : ℕ × Node) → RowLeaves table a m row → m ≤ s → s < slots table → (target table (a + 1) row == s) ≡ false
-not_above table a m s row (inl e) h b = rw (target_due table (a + 1) row (is_due (a + 1) (timer_in row) e)) (ne_eqb (slots table) s (λ (x : slots table ≡ s). omega arith))
+not_above : (table : List ℕ) (a m s : ℕ) (row : ℕ × Node) → RowLeaves table a m row → m ≤ s → s < slots table
+    → (target table (a + 1) row == s) ≡ false
+not_above table a m s row (inl e) h b = rw (target_due table (a + 1) row (is_due (a + 1) (timer_in row) e))
+    (ne_eqb (slots table) s (λ (x : slots table ≡ s). omega arith))
 not_above table a m s row (inr y) h b =
     let z : bucket table (a + 1) (timer_in row).deadline < m = y.1.1 in
-    rw (target_left table (a + 1) row (is_left (a + 1) (timer_in row) y.0)) (ne_eqb (bucket table (a + 1) (timer_in row).deadline) s (λ (x : bucket table (a + 1) (timer_in row).deadline ≡ s). omega arith))
+    rw (target_left table (a + 1) row (is_left (a + 1) (timer_in row) y.0))
+    (ne_eqb (bucket table (a + 1) (timer_in row).deadline) s (λ (x : bucket table (a + 1) (timer_in row).deadline ≡ s). omega arith))
 
-none_to : (table : List ℕ) (a m s : ℕ) (rows : List (ℕ × Node)) → AllByRecursion (RowLeaves table a m) rows → m ≤ s → s < slots table → to_list table (a + 1) s rows ≡ []
+none_to : (table : List ℕ) (a m s : ℕ) (rows : List (ℕ × Node)) → AllByRecursion (RowLeaves table a m) rows → m ≤ s → s < slots table
+    → to_list table (a + 1) s rows ≡ []
 none_to table a m s [] g h b = refl
 none_to table a m s (x ∷ xs) g h b = rw (not_above table a m s x g.0 h b) (none_to table a m s xs g.1 h b)
 
 -- the due rows are those that move to the last list
-last_test : (table : List ℕ) (a m : ℕ) (row : ℕ × Node) → RowLeaves table a m row → m ≤ slots table → (target table (a + 1) row == slots table) ≡ is_due_at (a + 1) (timer_in row)
-last_test table a m row (inl e) h = rw (target_due table (a + 1) row (is_due (a + 1) (timer_in row) e)) (eq-eqb (slots table) (slots table) refl ∙ sym (is_due (a + 1) (timer_in row) e))
+last_test : (table : List ℕ) (a m : ℕ) (row : ℕ × Node) → RowLeaves table a m row → m ≤ slots table
+    → (target table (a + 1) row == slots table) ≡ is_due_at (a + 1) (timer_in row)
+last_test table a m row (inl e) h = rw (target_due table (a + 1) row (is_due (a + 1) (timer_in row) e))
+    (eq-eqb (slots table) (slots table) refl ∙ sym (is_due (a + 1) (timer_in row) e))
 last_test table a m row (inr y) h =
     let z : bucket table (a + 1) (timer_in row).deadline < m = y.1.1 in
-    rw (target_left table (a + 1) row (is_left (a + 1) (timer_in row) y.0)) (ne_eqb (bucket table (a + 1) (timer_in row).deadline) (slots table) (λ (x : bucket table (a + 1) (timer_in row).deadline ≡ slots table). omega arith) ∙ sym (is_left (a + 1) (timer_in row) y.0))
+    rw (target_left table (a + 1) row (is_left (a + 1) (timer_in row) y.0))
+    (ne_eqb (bucket table (a + 1) (timer_in row).deadline) (slots table)
+    (λ (x : bucket table (a + 1) (timer_in row).deadline ≡ slots table). omega arith) ∙ sym (is_left (a + 1) (timer_in row) y.0))
 
 filter_alike : (p q : ℕ × Node → Bool) (xs : List (ℕ × Node)) → AllByRecursion (λ x. p x ≡ q x) xs → filter p xs ≡ filter q xs
 filter_alike p q [] e = refl
@@ -165,34 +179,46 @@ row_hops table a rows = hops_of table a 1 (entries_of rows)
 
 hops-append : (table : List ℕ) (a : ℕ) (xs ys : List (ℕ × Node)) → row_hops table a (xs ++ ys) ≡ row_hops table a xs + row_hops table a ys
 hops-append table a [] ys = omega arith
-hops-append table a (x ∷ xs) ys = let h : row_hops table a (xs ++ ys) ≡ row_hops table a xs + row_hops table a ys = hops-append table a xs ys in omega (arith, h)
+hops-append table a (x ∷ xs) ys = let h : row_hops table a (xs ++ ys) ≡ row_hops table a xs + row_hops table a ys =
+    hops-append table a xs ys in omega (arith, h)
 
-hops-insert : (table : List ℕ) (a k : ℕ) (x : Entry) (ys : List Entry) → hops_of table a k (insert_in_order timer_of x ys) ≡ hops table a k x.timer.deadline + hops_of table a k ys
+hops-insert : (table : List ℕ) (a k : ℕ) (x : Entry) (ys : List Entry)
+    → hops_of table a k (insert_in_order timer_of x ys) ≡ hops table a k x.timer.deadline + hops_of table a k ys
 hops-insert table a k x [] = refl
 hops-insert table a k x (y ∷ ys) = elim (either (is_before x.timer y.timer)) [
   | inl h ↦ rw h refl
-  | inr h ↦ rw h (let ih : hops_of table a k (insert_in_order timer_of x ys) ≡ hops table a k x.timer.deadline + hops_of table a k ys = hops-insert table a k x ys in swap_sum (hops table a k y.timer.deadline) (hops table a k x.timer.deadline) (hops_of table a k ys) (hops_of table a k (insert_in_order timer_of x ys)) ih)
+  | inr h ↦ rw h (let ih : hops_of table a k (insert_in_order timer_of x ys) ≡ hops table a k x.timer.deadline + hops_of table a k ys =
+      hops-insert table a k x ys in swap_sum (hops table a k y.timer.deadline) (hops table a k x.timer.deadline) (hops_of table a k ys)
+      (hops_of table a k (insert_in_order timer_of x ys)) ih)
 ]
 
 -- the sum is that of the rows, in whatever order
 pub hops_of-in_order : (table : List ℕ) (a k : ℕ) (xs : List Entry) → hops_of table a k (in_order timer_of xs) ≡ hops_of table a k xs
 hops_of-in_order table a k [] = refl
-hops_of-in_order table a k (x ∷ xs) = hops-insert table a k x (in_order timer_of xs) ∙ ap (λ (v : ℕ). hops table a k x.timer.deadline + v) (hops_of-in_order table a k xs)
+hops_of-in_order table a k (x ∷ xs) = hops-insert table a k x (in_order timer_of xs)
+    ∙ ap (λ (v : ℕ). hops table a k x.timer.deadline + v) (hops_of-in_order table a k xs)
 
-no_row_hops : (table : List ℕ) (a : ℕ) (xs : List (ℕ × Node)) → AllByRecursion (λ row. hops table a 1 (timer_in row).deadline ≡ 0) xs → row_hops table a xs ≡ 0
+no_row_hops : (table : List ℕ) (a : ℕ) (xs : List (ℕ × Node)) → AllByRecursion (λ row. hops table a 1 (timer_in row).deadline ≡ 0) xs
+    → row_hops table a xs ≡ 0
 no_row_hops table a [] h = refl
-no_row_hops table a (x ∷ xs) h = let ih : row_hops table a xs ≡ 0 = no_row_hops table a xs h.1 in let e : hops table a 1 (timer_in x).deadline ≡ 0 = h.0 in none_and_none (hops table a 1 (timer_in x).deadline) (row_hops table a xs) e ih
+no_row_hops table a (x ∷ xs) h = let ih : row_hops table a xs ≡ 0 = no_row_hops table a xs h.1
+    in let e : hops table a 1 (timer_in x).deadline ≡ 0 = h.0 in
+    none_and_none (hops table a 1 (timer_in x).deadline) (row_hops table a xs) e ih
 
-all_row_hops : (table : List ℕ) (a : ℕ) (xs : List (ℕ × Node)) → AllByRecursion (λ row. hops table a 1 (timer_in row).deadline ≡ (if is_due_at (a + 1) (timer_in row) then 0 else 1)) xs → row_hops table a xs ≡ length (left_rows (a + 1) xs)
+all_row_hops : (table : List ℕ) (a : ℕ) (xs : List (ℕ × Node)) → AllByRecursion (λ row. hops table a 1 (timer_in row).deadline
+    ≡ (if is_due_at (a + 1) (timer_in row) then 0 else 1)) xs → row_hops table a xs ≡ length (left_rows (a + 1) xs)
 all_row_hops table a [] h = refl
 all_row_hops table a (x ∷ xs) h = elim (either (is_due_at (a + 1) (timer_in x))) [
-  | inl k ↦ rw (h.0, k) (let ih : row_hops table a xs ≡ length (left_rows (a + 1) xs) = all_row_hops table a xs h.1 in one_of_none (row_hops table a xs) (length (left_rows (a + 1) xs)) ih)
-  | inr k ↦ rw (h.0, k) (let ih : row_hops table a xs ≡ length (left_rows (a + 1) xs) = all_row_hops table a xs h.1 in one_of_one (row_hops table a xs) (length (left_rows (a + 1) xs)) ih)
+  | inl k ↦ rw (h.0, k) (let ih : row_hops table a xs ≡ length (left_rows (a + 1) xs) = all_row_hops table a xs h.1
+      in one_of_none (row_hops table a xs) (length (left_rows (a + 1) xs)) ih)
+  | inr k ↦ rw (h.0, k) (let ih : row_hops table a xs ≡ length (left_rows (a + 1) xs) = all_row_hops table a xs h.1
+      in one_of_one (row_hops table a xs) (length (left_rows (a + 1) xs)) ih)
 ]
 
 -- The tick.
 
-module _ (table : List ℕ) (last_tick a last_serial : ℕ) (lists : List (List (ℕ × Node))) (b : IsBefore table last_tick a last_serial lists) where
+module _ (table : List ℕ) (last_tick a last_serial : ℕ) (lists : List (List (ℕ × Node)))
+    (b : IsBefore table last_tick a last_serial lists) where
   -- the list that is emptied, its rows, and how many slots the wheels below it have
   abbrev l : ℕ
   l = emptied table (a + 1)
@@ -220,22 +246,32 @@ module _ (table : List ℕ) (last_tick a last_serial : ℕ) (lists : List (List 
 
   known_rows : (s : ℕ) → s < slots table → AllByRecursion (KnownRow table last_tick a last_serial s) (list_at s lists)
   known_rows s h =
-      all-both (IsPlaced table a s) (λ row. IsPending last_tick a last_serial (timer_in row)) (KnownRow table last_tick a last_serial s) (list_at s lists)
-      (λ row p q. record { placed = p; pending = q; bucket_at_tick = bucket_at_tick table a (timer_in row).deadline b.is_table (digits_down table (timer_in row).deadline last_tick b.is_table q.in_range b.digits) q.later })
+      all-both (IsPlaced table a s) (λ row. IsPending last_tick a last_serial (timer_in row)) (KnownRow table last_tick a last_serial s)
+      (list_at s lists)
+      (λ row p q. record {
+        placed = p;
+        pending = q;
+        bucket_at_tick =
+            bucket_at_tick table a (timer_in row).deadline b.is_table
+            (digits_down table (timer_in row).deadline last_tick b.is_table q.in_range b.digits) q.later;
+      })
       (b.placed s h)
       (all-list_at (λ row. IsPending last_tick a last_serial (timer_in row)) (slots table) lists b.pending s h)
 
   all_going : AllByRecursion (RowLeaves table a m) rows_l
-  all_going = All-weaken (KnownRow table last_tick a last_serial l) (RowLeaves table a m) rows_l (λ row h. row_leaves table last_tick a last_serial row h) (known_rows l l_in_range)
+  all_going = All-weaken (KnownRow table last_tick a last_serial l) (RowLeaves table a m) rows_l
+      (λ row h. row_leaves table last_tick a last_serial row h) (known_rows l l_in_range)
 
   all_staying : (s : ℕ) → s < slots table → s ≢ l → AllByRecursion (RowStays table a s) (list_at s lists)
-  all_staying s h n = All-weaken (KnownRow table last_tick a last_serial s) (RowStays table a s) (list_at s lists) (λ row k. row_stays table last_tick a last_serial s row n k) (known_rows s h)
+  all_staying s h n = All-weaken (KnownRow table last_tick a last_serial s) (RowStays table a s) (list_at s lists)
+      (λ row k. row_stays table last_tick a last_serial s row n k) (known_rows s h)
 
   list_at-base : (s : ℕ) → s ≢ l → list_at s base ≡ list_at s lists
   list_at-base s n = get_or-set_other lists l s [] [] n
 
   list_at-l : list_at l base ≡ []
-  list_at-l = get_or-set_same lists l [] [] (let h : length lists ≡ slots table + 1 = b.has_lists in let k : l < slots table = l_in_range in omega arith)
+  list_at-l = get_or-set_same lists l [] [] (let h : length lists ≡ slots table + 1 = b.has_lists in let k : l < slots table = l_in_range
+      in omega arith)
 
   base-length : length base ≡ slots table + 1
   base-length = length-set lists l [] ∙ b.has_lists
@@ -252,12 +288,15 @@ module _ (table : List ℕ) (last_tick a last_serial : ℕ) (lists : List (List 
       let k : l < slots table = l_in_range in
       let q : m ≤ l = not_below_m in
       let n : s ≢ l = λ (e : s ≡ l). omega arith in
-      let z : list_at s lists ≡ [] = none_known (KnownRow table last_tick a last_serial s) (list_at s lists) (known_rows s (omega arith)) (λ row w. let x : m ≤ bucket table a (timer_in row).deadline = w.bucket_at_tick.not_below in let y : bucket table a (timer_in row).deadline ≡ s = w.placed.0 in omega arith) in
+      let z : list_at s lists ≡ [] = none_known (KnownRow table last_tick a last_serial s) (list_at s lists) (known_rows s (omega arith))
+      (λ row w. let x : m ≤ bucket table a (timer_in row).deadline = w.bucket_at_tick.not_below
+      in let y : bucket table a (timer_in row).deadline ≡ s = w.placed.0 in omega arith) in
       list_at-after s (omega arith) ∙ ap (λ (r : List (ℕ × Node)). r ++ to_list table (a + 1) s rows_l) (list_at-base s n ∙ z)
 
   -- every other list is unchanged, and the emptied one is empty
   above : (s : ℕ) → m ≤ s → s < slots table → list_at s after ≡ list_at s base
-  above s h k = list_at-after s (omega arith) ∙ (ap (λ (r : List (ℕ × Node)). list_at s base ++ r) (none_to table a m s rows_l all_going h k) ∙ append-nil (list_at s base))
+  above s h k = list_at-after s (omega arith) ∙ (ap (λ (r : List (ℕ × Node)). list_at s base ++ r)
+      (none_to table a m s rows_l all_going h k) ∙ append-nil (list_at s base))
 
   pub due_list : list_at (slots table) after ≡ due_rows (a + 1) rows_l
   due_list =
@@ -266,7 +305,9 @@ module _ (table : List ℕ) (last_tick a last_serial : ℕ) (lists : List (List 
       let n : slots table ≢ l = λ (e : slots table ≡ l). omega arith in
       list_at-after (slots table) (omega arith)
       ∙ (ap (λ (r : List (ℕ × Node)). r ++ to_list table (a + 1) (slots table) rows_l) (list_at-base (slots table) n ∙ b.none_due)
-      ∙ filter_alike (λ row. target table (a + 1) row == slots table) (λ row. is_due_at (a + 1) (timer_in row)) rows_l (All-weaken (RowLeaves table a m) (λ row. (target table (a + 1) row == slots table) ≡ is_due_at (a + 1) (timer_in row)) rows_l (λ row g. last_test table a m row g (omega arith)) all_going))
+      ∙ filter_alike (λ row. target table (a + 1) row == slots table) (λ row. is_due_at (a + 1) (timer_in row)) rows_l
+      (All-weaken (RowLeaves table a m) (λ row. (target table (a + 1) row == slots table)
+      ≡ is_due_at (a + 1) (timer_in row)) rows_l (λ row g. last_test table a m row g (omega arith)) all_going))
 
   -- Each list is in order of starting.
 
@@ -289,7 +330,8 @@ module _ (table : List ℕ) (last_tick a last_serial : ℕ) (lists : List (List 
       ])
       | inr j ↦
           let e : slots table ≡ s = omega arith in
-          subst Rising (sym (ap (λ (v : ℕ). list_at v after) (sym e) ∙ due_list)) (AreRising-part (λ row. is_due_at (a + 1) (timer_in row)) 0 rows_l rising_l)
+          subst Rising (sym (ap (λ (v : ℕ). list_at v after) (sym e) ∙ due_list))
+          (AreRising-part (λ row. is_due_at (a + 1) (timer_in row)) 0 rows_l rising_l)
     ]
   ]
 
@@ -298,50 +340,64 @@ module _ (table : List ℕ) (last_tick a last_serial : ℕ) (lists : List (List 
   abbrev Fits : ℕ → ℕ × Node → Type 0
   Fits s row = IsPlaced table (a + 1) s row × IsPending last_tick (a + 1) last_serial (timer_in row)
 
-  later : (row : ℕ × Node) → IsPending last_tick a last_serial (timer_in row) → (timer_in row).deadline ≢ a + 1 → IsPending last_tick (a + 1) last_serial (timer_in row)
-  later row p n = record { later = (let h : a < (timer_in row).deadline = p.later in omega arith); in_range = p.in_range; serial = p.serial }
+  later : (row : ℕ × Node) → IsPending last_tick a last_serial (timer_in row) → (timer_in row).deadline ≢ a + 1
+      → IsPending last_tick (a + 1) last_serial (timer_in row)
+  later row p n = record {
+    later = (let h : a < (timer_in row).deadline = p.later in omega arith);
+    in_range = p.in_range;
+    serial = p.serial;
+  }
 
   fits_staying : (s : ℕ) → s ≢ l → (row : ℕ × Node) → KnownRow table last_tick a last_serial s row → Fits s row
   fits_staying s n row h =
       let k = row_stays table last_tick a last_serial s row n h in
       ((k.1.1, h.placed.1), later row h.pending k.0)
 
-  fits_going : (s : ℕ) → s < slots table → (row : ℕ × Node) → (target table (a + 1) row == s) ≡ true → KnownRow table last_tick a last_serial l row → Fits s row
+  fits_going : (s : ℕ) → s < slots table → (row : ℕ × Node) → (target table (a + 1) row == s) ≡ true
+      → KnownRow table last_tick a last_serial l row → Fits s row
   fits_going s h row e k =
       let f : target table (a + 1) row ≡ s = eqb-true (target table (a + 1) row) s e in
       elim (cases_eq (timer_in row).deadline (a + 1)) [
-        | inl d ↦ absurd (let g : target table (a + 1) row ≡ slots table = target_due table (a + 1) row (is_due (a + 1) (timer_in row) d) in omega arith)
+        | inl d ↦ absurd (let g : target table (a + 1) row ≡ slots table = target_due table (a + 1) row (is_due (a + 1) (timer_in row) d)
+            in omega arith)
         | inr n ↦ ((sym (target_left table (a + 1) row (is_left (a + 1) (timer_in row) n)) ∙ f, k.placed.1), later row k.pending n)
       ]
 
   base_fits : (s : ℕ) → s < slots table → AllByRecursion (Fits s) (list_at s base)
   base_fits s h = elim (cases_eq s l) [
     | inl e ↦ subst (AllByRecursion (Fits s)) (sym (ap (λ (v : ℕ). list_at v base) e ∙ list_at-l)) tt
-    | inr n ↦ subst (AllByRecursion (Fits s)) (sym (list_at-base s n)) (All-weaken (KnownRow table last_tick a last_serial s) (Fits s) (list_at s lists) (fits_staying s n) (known_rows s h))
+    | inr n ↦ subst (AllByRecursion (Fits s)) (sym (list_at-base s n))
+        (All-weaken (KnownRow table last_tick a last_serial s) (Fits s) (list_at s lists) (fits_staying s n) (known_rows s h))
   ]
 
   after_fits : (s : ℕ) → s < slots table → AllByRecursion (Fits s) (list_at s after)
   after_fits s h =
       subst (AllByRecursion (Fits s)) (sym (list_at-after s (omega arith)))
       (all-append (Fits s) (list_at s base) (to_list table (a + 1) s rows_l) (base_fits s h)
-      (All-filter (KnownRow table last_tick a last_serial l) (Fits s) (λ row. target table (a + 1) row == s) rows_l (fits_going s h) (known_rows l l_in_range)))
+      (All-filter (KnownRow table last_tick a last_serial l) (Fits s) (λ row. target table (a + 1) row == s) rows_l (fits_going s h)
+      (known_rows l l_in_range)))
 
   pub after-placed : EachRow (IsPlaced table (a + 1)) (slots table) after
   after-placed s h = All-weaken (Fits s) (IsPlaced table (a + 1) s) (list_at s after) (λ row f. f.0) (after_fits s h)
 
   pub after-pending : ArePending last_tick (a + 1) last_serial (rows_below (slots table) after)
-  after-pending = all-rows_below (λ row. IsPending last_tick (a + 1) last_serial (timer_in row)) (slots table) after (λ s h. All-weaken (Fits s) (λ row. IsPending last_tick (a + 1) last_serial (timer_in row)) (list_at s after) (λ row f. f.1) (after_fits s h))
+  after-pending = all-rows_below (λ row. IsPending last_tick (a + 1) last_serial (timer_in row)) (slots table) after
+      (λ s h. All-weaken (Fits s) (λ row. IsPending last_tick (a + 1) last_serial (timer_in row)) (list_at s after) (λ row f. f.1)
+      (after_fits s h))
 
   -- The pending timers, and the due ones.
 
   around_l : IsAround (slots table) l lists
-  around_l = around (slots table) l lists l_in_range (let h : length lists ≡ slots table + 1 = b.has_lists in let k : l < slots table = l_in_range in omega arith)
+  around_l = around (slots table) l lists l_in_range (let h : length lists ≡ slots table + 1 = b.has_lists
+      in let k : l < slots table = l_in_range in omega arith)
 
   base_rows : rows_below (slots table) base ≡ around_l.front ++ around_l.rest
   base_rows = around_l.with_rows []
 
   not_due_base : AllByRecursion (λ row. (timer_in row).deadline ≢ a + 1) (rows_below (slots table) base)
-  not_due_base = all-rows_below (λ row. (timer_in row).deadline ≢ a + 1) (slots table) base (λ s h. All-weaken (Fits s) (λ row. (timer_in row).deadline ≢ a + 1) (list_at s base) (λ row f (e : (timer_in row).deadline ≡ a + 1). let g : a + 1 < (timer_in row).deadline = f.1.later in omega arith) (base_fits s h))
+  not_due_base = all-rows_below (λ row. (timer_in row).deadline ≢ a + 1) (slots table) base
+      (λ s h. All-weaken (Fits s) (λ row. (timer_in row).deadline ≢ a + 1) (list_at s base)
+      (λ row f (e : (timer_in row).deadline ≡ a + 1). let g : a + 1 < (timer_in row).deadline = f.1.later in omega arith) (base_fits s h))
 
   not_due_around : AllByRecursion (λ row. (timer_in row).deadline ≢ a + 1) (around_l.front ++ around_l.rest)
   not_due_around = subst (AllByRecursion (λ row. (timer_in row).deadline ≢ a + 1)) base_rows not_due_base
@@ -366,22 +422,27 @@ module _ (table : List ℕ) (last_tick a last_serial : ℕ) (lists : List (List 
   keeps : AreMigrated table (a + 1) rows_l base
   keeps = migrate_rows_keeps table (a + 1) rows_l base base-length
       (All-weaken (RowLeaves table a m) (GoesDown table (a + 1)) rows_l goes_down all_going)
-      (let P : List (ℕ × Node) → Type 0 = λ rows. Distinct (rows_l ++ rows) in subst P (sym base_rows) (distinct-pulled around_l.front rows_l around_l.rest distinct_around))
+      (let P : List (ℕ × Node) → Type 0 = λ rows. Distinct (rows_l ++ rows)
+      in subst P (sym base_rows) (distinct-pulled around_l.front rows_l around_l.rest distinct_around))
 
   pub after-distinct : AreDistinct (timers_in (rows_below (slots table) after))
   after-distinct = keeps.distinct
 
-  parts : (p : ℕ × Node → Bool) → filter p (rows_below (slots table) lists) ≡ filter p around_l.front ++ (filter p rows_l ++ filter p around_l.rest)
-  parts p = ap (filter p) around_l.rows ∙ (filter-append p around_l.front (rows_l ++ around_l.rest) ∙ ap (λ (r : List (ℕ × Node)). filter p around_l.front ++ r) (filter-append p rows_l around_l.rest))
+  parts : (p : ℕ × Node → Bool) → filter p (rows_below (slots table) lists)
+      ≡ filter p around_l.front ++ (filter p rows_l ++ filter p around_l.rest)
+  parts p = ap (filter p) around_l.rows ∙ (filter-append p around_l.front (rows_l ++ around_l.rest)
+      ∙ ap (λ (r : List (ℕ × Node)). filter p around_l.front ++ r) (filter-append p rows_l around_l.rest))
 
   left_parts : left_rows (a + 1) (rows_below (slots table) lists) ≡ around_l.front ++ (left_rows (a + 1) rows_l ++ around_l.rest)
   left_parts = parts (λ row. not (is_due_at (a + 1) (timer_in row)))
-      ∙ (ap (λ (r : List (ℕ × Node)). r ++ (left_rows (a + 1) rows_l ++ left_rows (a + 1) around_l.rest)) (all_left_rows (a + 1) around_l.front not_due_front)
+      ∙ (ap (λ (r : List (ℕ × Node)). r ++ (left_rows (a + 1) rows_l ++ left_rows (a + 1) around_l.rest))
+      (all_left_rows (a + 1) around_l.front not_due_front)
       ∙ ap (λ (r : List (ℕ × Node)). around_l.front ++ (left_rows (a + 1) rows_l ++ r)) (all_left_rows (a + 1) around_l.rest not_due_rest))
 
   due_parts : due_rows (a + 1) (rows_below (slots table) lists) ≡ due_rows (a + 1) rows_l
   due_parts = parts (λ row. is_due_at (a + 1) (timer_in row))
-      ∙ (ap (λ (r : List (ℕ × Node)). r ++ (due_rows (a + 1) rows_l ++ due_rows (a + 1) around_l.rest)) (none_due_rows (a + 1) around_l.front not_due_front)
+      ∙ (ap (λ (r : List (ℕ × Node)). r ++ (due_rows (a + 1) rows_l ++ due_rows (a + 1) around_l.rest))
+      (none_due_rows (a + 1) around_l.front not_due_front)
       ∙ (ap (λ (r : List (ℕ × Node)). due_rows (a + 1) rows_l ++ r) (none_due_rows (a + 1) around_l.rest not_due_rest)
       ∙ append-nil (due_rows (a + 1) rows_l)))
 
@@ -389,7 +450,9 @@ module _ (table : List ℕ) (last_tick a last_serial : ℕ) (lists : List (List 
   left_ordered =
       keeps.pending
       ∙ (ap (λ (r : List (ℕ × Node)). in_order timer_in (left_rows (a + 1) rows_l ++ r)) base_rows
-      ∙ (sym (in_order-pulled around_l.front (left_rows (a + 1) rows_l) around_l.rest (subst Distinct left_parts (distinct-filter (λ row. not (is_due_at (a + 1) (timer_in row))) (rows_below (slots table) lists) b.distinct)))
+      ∙ (sym (in_order-pulled around_l.front (left_rows (a + 1) rows_l) around_l.rest
+      (subst Distinct left_parts (distinct-filter (λ row. not (is_due_at (a + 1) (timer_in row)))
+      (rows_below (slots table) lists) b.distinct)))
       ∙ ap (in_order timer_in) (sym left_parts)))
 
   pub after-left : pending_in (rows_below (slots table) after) ≡ entries_left (a + 1) (pending_in (rows_below (slots table) lists))
@@ -400,7 +463,8 @@ module _ (table : List ℕ) (last_tick a last_serial : ℕ) (lists : List (List 
       ∙ sym (filter-pending_in (λ entry. not (is_due_at (a + 1) entry.timer)) (rows_below (slots table) lists))))
 
   due_ordered : in_order timer_in (due_rows (a + 1) rows_l) ≡ due_rows (a + 1) rows_l
-  due_ordered = in_order-same timer_in (a + 1) 0 (due_rows (a + 1) rows_l) (all_due_at (a + 1) rows_l) (AreRising-part (λ row. is_due_at (a + 1) (timer_in row)) 0 rows_l rising_l)
+  due_ordered = in_order-same timer_in (a + 1) 0 (due_rows (a + 1) rows_l) (all_due_at (a + 1) rows_l)
+      (AreRising-part (λ row. is_due_at (a + 1) (timer_in row)) 0 rows_l rising_l)
 
   pub after-due : entries_of (list_at (slots table) after) ≡ entries_due (a + 1) (pending_in (rows_below (slots table) lists))
   after-due =
@@ -411,30 +475,44 @@ module _ (table : List ℕ) (last_tick a last_serial : ℕ) (lists : List (List 
 
   -- How many timers move.
 
-  going_hop : (row : ℕ × Node) → KnownRow table last_tick a last_serial l row → hops table a 1 (timer_in row).deadline ≡ (if is_due_at (a + 1) (timer_in row) then 0 else 1)
+  going_hop : (row : ℕ × Node) → KnownRow table last_tick a last_serial l row
+      → hops table a 1 (timer_in row).deadline ≡ (if is_due_at (a + 1) (timer_in row) then 0 else 1)
   going_hop row h = elim (row_leaves table last_tick a last_serial row h) [
     | inl e ↦ rw (is_due (a + 1) (timer_in row) e) (no_hop_due table a (timer_in row).deadline e)
-    | inr y ↦ rw (is_left (a + 1) (timer_in row) y.0) (hop_when table a (timer_in row).deadline (let n : (timer_in row).deadline ≢ a + 1 = y.0 in let p : a < (timer_in row).deadline = h.pending.later in omega arith) y.1.0)
+    | inr y ↦ rw (is_left (a + 1) (timer_in row) y.0) (hop_when table a (timer_in row).deadline (let n : (timer_in row).deadline ≢ a + 1 =
+        y.0 in let p : a < (timer_in row).deadline = h.pending.later in omega arith) y.1.0)
   ]
 
   base_hop : (s : ℕ) → s < slots table → AllByRecursion (λ row. hops table a 1 (timer_in row).deadline ≡ 0) (list_at s base)
   base_hop s h = elim (cases_eq s l) [
-    | inl e ↦ subst (AllByRecursion (λ row. hops table a 1 (timer_in row).deadline ≡ 0)) (sym (ap (λ (v : ℕ). list_at v base) e ∙ list_at-l)) tt
-    | inr n ↦ subst (AllByRecursion (λ row. hops table a 1 (timer_in row).deadline ≡ 0)) (sym (list_at-base s n)) (All-weaken (RowStays table a s) (λ row. hops table a 1 (timer_in row).deadline ≡ 0) (list_at s lists) (λ row k. no_hop_same table a (timer_in row).deadline k.1.0) (all_staying s h n))
+    | inl e ↦ subst (AllByRecursion (λ row. hops table a 1 (timer_in row).deadline ≡ 0))
+        (sym (ap (λ (v : ℕ). list_at v base) e ∙ list_at-l)) tt
+    | inr n ↦ subst (AllByRecursion (λ row. hops table a 1 (timer_in row).deadline ≡ 0)) (sym (list_at-base s n))
+        (All-weaken (RowStays table a s) (λ row. hops table a 1 (timer_in row).deadline
+        ≡ 0) (list_at s lists) (λ row k. no_hop_same table a (timer_in row).deadline k.1.0) (all_staying s h n))
   ]
 
   no_hops_around : AllByRecursion (λ row. hops table a 1 (timer_in row).deadline ≡ 0) (around_l.front ++ around_l.rest)
-  no_hops_around = subst (AllByRecursion (λ row. hops table a 1 (timer_in row).deadline ≡ 0)) base_rows (all-rows_below (λ row. hops table a 1 (timer_in row).deadline ≡ 0) (slots table) base base_hop)
+  no_hops_around = subst (AllByRecursion (λ row. hops table a 1 (timer_in row).deadline ≡ 0)) base_rows
+      (all-rows_below (λ row. hops table a 1 (timer_in row).deadline ≡ 0) (slots table) base base_hop)
 
   pub after-moves : length (left_rows (a + 1) rows_l) ≡ hops_of table a 1 (pending_in (rows_below (slots table) lists))
   after-moves =
-      let f : row_hops table a around_l.front ≡ 0 = no_row_hops table a around_l.front (all-front (λ row. hops table a 1 (timer_in row).deadline ≡ 0) around_l.front around_l.rest no_hops_around) in
-      let r : row_hops table a around_l.rest ≡ 0 = no_row_hops table a around_l.rest (all-rest (λ row. hops table a 1 (timer_in row).deadline ≡ 0) around_l.front around_l.rest no_hops_around) in
-      let g : row_hops table a rows_l ≡ length (left_rows (a + 1) rows_l) = all_row_hops table a rows_l (All-weaken (KnownRow table last_tick a last_serial l) (λ row. hops table a 1 (timer_in row).deadline ≡ (if is_due_at (a + 1) (timer_in row) then 0 else 1)) rows_l going_hop (known_rows l l_in_range)) in
-      let p : row_hops table a (rows_below (slots table) lists) ≡ row_hops table a around_l.front + (row_hops table a rows_l + row_hops table a around_l.rest) =
-      ap (row_hops table a) around_l.rows ∙ (hops-append table a around_l.front (rows_l ++ around_l.rest) ∙ ap (λ (v : ℕ). row_hops table a around_l.front + v) (hops-append table a rows_l around_l.rest)) in
-      let q : hops_of table a 1 (pending_in (rows_below (slots table) lists)) ≡ row_hops table a (rows_below (slots table) lists) = hops_of-in_order table a 1 (entries_of (rows_below (slots table) lists)) in
-      only_middle (row_hops table a around_l.front) (row_hops table a rows_l) (row_hops table a around_l.rest) (hops_of table a 1 (pending_in (rows_below (slots table) lists))) (length (left_rows (a + 1) rows_l)) f r g (q ∙ p)
+      let f : row_hops table a around_l.front ≡ 0 = no_row_hops table a around_l.front
+      (all-front (λ row. hops table a 1 (timer_in row).deadline ≡ 0) around_l.front around_l.rest no_hops_around) in
+      let r : row_hops table a around_l.rest ≡ 0 = no_row_hops table a around_l.rest
+      (all-rest (λ row. hops table a 1 (timer_in row).deadline ≡ 0) around_l.front around_l.rest no_hops_around) in
+      let g : row_hops table a rows_l ≡ length (left_rows (a + 1) rows_l) =
+      all_row_hops table a rows_l (All-weaken (KnownRow table last_tick a last_serial l) (λ row. hops table a 1 (timer_in row).deadline
+      ≡ (if is_due_at (a + 1) (timer_in row) then 0 else 1)) rows_l going_hop (known_rows l l_in_range)) in
+      let p : row_hops table a (rows_below (slots table) lists)
+      ≡ row_hops table a around_l.front + (row_hops table a rows_l + row_hops table a around_l.rest) =
+      ap (row_hops table a) around_l.rows ∙ (hops-append table a around_l.front (rows_l ++ around_l.rest)
+      ∙ ap (λ (v : ℕ). row_hops table a around_l.front + v) (hops-append table a rows_l around_l.rest)) in
+      let q : hops_of table a 1 (pending_in (rows_below (slots table) lists)) ≡ row_hops table a (rows_below (slots table) lists) =
+      hops_of-in_order table a 1 (entries_of (rows_below (slots table) lists)) in
+      only_middle (row_hops table a around_l.front) (row_hops table a rows_l) (row_hops table a around_l.rest)
+      (hops_of table a 1 (pending_in (rows_below (slots table) lists))) (length (left_rows (a + 1) rows_l)) f r g (q ∙ p)
 
   -- The preconditions of the emptying.
 
@@ -445,11 +523,15 @@ module _ (table : List ℕ) (last_tick a last_serial : ℕ) (lists : List (List 
     in_range = (let p : (timer_in row).deadline ≤ last_tick = h.pending.in_range in omega arith);
   } where
     elsewhere : RowLeaves table a m row → target table (a + 1) row ≢ l
-    elsewhere (inl e) = λ (x : target table (a + 1) row ≡ l). let g : target table (a + 1) row ≡ slots table = target_due table (a + 1) row (is_due (a + 1) (timer_in row) e) in let k : l < slots table = l_in_range in omega arith
-    elsewhere (inr y) = λ (x : target table (a + 1) row ≡ l). let g : target table (a + 1) row ≡ bucket table (a + 1) (timer_in row).deadline = target_left table (a + 1) row (is_left (a + 1) (timer_in row) y.0) in let z : bucket table (a + 1) (timer_in row).deadline < m = y.1.1 in let q : m ≤ l = not_below_m in omega arith
+    elsewhere (inl e) = λ (x : target table (a + 1) row ≡ l). let g : target table (a + 1) row ≡ slots table =
+        target_due table (a + 1) row (is_due (a + 1) (timer_in row) e) in let k : l < slots table = l_in_range in omega arith
+    elsewhere (inr y) = λ (x : target table (a + 1) row ≡ l). let g : target table (a + 1) row
+        ≡ bucket table (a + 1) (timer_in row).deadline = target_left table (a + 1) row (is_left (a + 1) (timer_in row) y.0)
+        in let z : bucket table (a + 1) (timer_in row).deadline < m = y.1.1 in let q : m ≤ l = not_below_m in omega arith
 
   pub all_may_migrate : last_tick ≤ last_of table → AllByRecursion (MayMigrate table (a + 1) l) rows_l
-  all_may_migrate range = All-weaken (KnownRow table last_tick a last_serial l) (MayMigrate table (a + 1) l) rows_l (may_migrate range) (known_rows l l_in_range)
+  all_may_migrate range = All-weaken (KnownRow table last_tick a last_serial l) (MayMigrate table (a + 1) l) rows_l (may_migrate range)
+      (known_rows l l_in_range)
 
   -- A bucket of the lowest wheel has only timers of this tick.
 
@@ -471,33 +553,47 @@ paid_step h l2 l1 hs ls2 ls1 p q = omega arith
 paid_less : (h l2 l1 hs ls2 ls1 : ℕ) → h + l2 ≤ l1 → hs + ls2 ≤ ls1 → (h + hs) + ls2 ≤ l1 + ls1
 paid_less h l2 l1 hs ls2 ls1 p q = omega arith
 
-pub levels_pay : (table : List ℕ) (a : ℕ) (es : List Entry) → AllByRecursion (FallsAt table a) es → hops_of table a 1 es + levels_of table (a + 1) (entries_left (a + 1) es) ≤ levels_of table a es
+pub levels_pay : (table : List ℕ) (a : ℕ) (es : List Entry) → AllByRecursion (FallsAt table a) es
+    → hops_of table a 1 es + levels_of table (a + 1) (entries_left (a + 1) es) ≤ levels_of table a es
 levels_pay table a [] h = omega arith
 levels_pay table a (e ∷ es) h =
     let d : ℕ = e.timer.deadline in
     let p : hops table a 1 d + level table (a + 1) d ≤ level table a d = hop_pays table a d h.0 in
     let ih : hops_of table a 1 es + levels_of table (a + 1) (entries_left (a + 1) es) ≤ levels_of table a es = levels_pay table a es h.1 in
     elim (either (is_due_at (a + 1) e.timer)) [
-      | inl k ↦ rw k (paid_less (hops table a 1 d) (level table (a + 1) d) (level table a d) (hops_of table a 1 es) (levels_of table (a + 1) (entries_left (a + 1) es)) (levels_of table a es) p ih)
-      | inr k ↦ rw k (paid_step (hops table a 1 d) (level table (a + 1) d) (level table a d) (hops_of table a 1 es) (levels_of table (a + 1) (entries_left (a + 1) es)) (levels_of table a es) p ih)
+      | inl k ↦ rw k (paid_less (hops table a 1 d) (level table (a + 1) d) (level table a d) (hops_of table a 1 es)
+          (levels_of table (a + 1) (entries_left (a + 1) es)) (levels_of table a es) p ih)
+      | inr k ↦ rw k (paid_step (hops table a 1 d) (level table (a + 1) d) (level table a d) (hops_of table a 1 es)
+          (levels_of table (a + 1) (entries_left (a + 1) es)) (levels_of table a es) p ih)
     ]
 
-falls_at : (table : List ℕ) (last_tick a last_serial : ℕ) (row : ℕ × Node) → IsTable table → HasDigits table last_tick → IsPending last_tick a last_serial (timer_in row) → FallsAt table a (entry_of row)
-falls_at table last_tick a last_serial row i h p = (bucket_at_tick table a (timer_in row).deadline i (digits_down table (timer_in row).deadline last_tick i p.in_range h) p.later).falls
+falls_at : (table : List ℕ) (last_tick a last_serial : ℕ) (row : ℕ × Node) → IsTable table → HasDigits table last_tick
+    → IsPending last_tick a last_serial (timer_in row) → FallsAt table a (entry_of row)
+falls_at table last_tick a last_serial row i h p = (bucket_at_tick table a (timer_in row).deadline i
+    (digits_down table (timer_in row).deadline last_tick i p.in_range h) p.later).falls
 
-all-entries : (P : Entry → Type 0) (rows : List (ℕ × Node)) → AllByRecursion (λ row. P (entry_of row)) rows → AllByRecursion P (entries_of rows)
+all-entries : (P : Entry → Type 0) (rows : List (ℕ × Node)) → AllByRecursion (λ row. P (entry_of row)) rows
+    → AllByRecursion P (entries_of rows)
 all-entries P [] a = tt
 all-entries P (x ∷ xs) a = (a.0, all-entries P xs a.1)
 
-all_fall : (table : List ℕ) (last_tick a last_serial : ℕ) (rows : List (ℕ × Node)) → IsTable table → HasDigits table last_tick → ArePending last_tick a last_serial rows → AllByRecursion (FallsAt table a) (pending_in rows)
+all_fall : (table : List ℕ) (last_tick a last_serial : ℕ) (rows : List (ℕ × Node)) → IsTable table → HasDigits table last_tick
+    → ArePending last_tick a last_serial rows → AllByRecursion (FallsAt table a) (pending_in rows)
 all_fall table last_tick a last_serial rows i h p =
     All-in_order timer_of (FallsAt table a) (entries_of rows) (all-entries (FallsAt table a) rows
-    (All-weaken (λ row. IsPending last_tick a last_serial (timer_in row)) (λ row. FallsAt table a (entry_of row)) rows (λ row q. falls_at table last_tick a last_serial row i h q) p))
+    (All-weaken (λ row. IsPending last_tick a last_serial (timer_in row)) (λ row. FallsAt table a (entry_of row)) rows
+    (λ row q. falls_at table last_tick a last_serial row i h q) p))
 
 -- A hierarchical wheel with n buckets after a tick.
 
 abbrev state : ℕ → ℕ → ℕ → List Entry → List Entry → WheelState
-state last_tick tick last_serial pending due = record { last_tick = last_tick; now = tick; pending = pending; due = due; last_serial = last_serial }
+state last_tick tick last_serial pending due = record {
+  last_tick = last_tick;
+  now = tick;
+  pending = pending;
+  due = due;
+  last_serial = last_serial;
+}
 
 pub record IsNext (table : List ℕ) (n last_tick a last_serial moves : ℕ) (lists new : List (List (ℕ × Node))) : Type 0 where
   pub has_lists : length new ≡ n + 1
@@ -509,32 +605,51 @@ pub record IsNext (table : List ℕ) (n last_tick a last_serial moves : ℕ) (li
   pub moves_are : moves ≡ hops_of table a 1 (pending_in (rows_below n lists))
   pub pays : moves + levels_of table (a + 1) (pending_in (rows_below n new)) ≤ levels_of table a (pending_in (rows_below n lists))
 
-same_state : (last_tick tick last_serial : ℕ) (p q d e : List Entry) → p ≡ q → d ≡ e → state last_tick tick last_serial p d ≡ state last_tick tick last_serial q e
+same_state : (last_tick tick last_serial : ℕ) (p q d e : List Entry) → p ≡ q → d ≡ e
+    → state last_tick tick last_serial p d ≡ state last_tick tick last_serial q e
 same_state last_tick tick last_serial p q d e h k = cc
 
-next_here : (table : List ℕ) (last_tick a last_serial moves : ℕ) (lists new : List (List (ℕ × Node))) → IsBefore table last_tick a last_serial lists
-    → new ≡ migrated table (a + 1) (emptied table (a + 1)) lists → moves ≡ length (left_rows (a + 1) (list_at (emptied table (a + 1)) lists))
+next_here : (table : List ℕ) (last_tick a last_serial moves : ℕ) (lists new : List (List (ℕ × Node)))
+    → IsBefore table last_tick a last_serial lists
+    → new ≡ migrated table (a + 1) (emptied table (a + 1)) lists
+    → moves ≡ length (left_rows (a + 1) (list_at (emptied table (a + 1)) lists))
     → IsNext table (slots table) last_tick a last_serial moves lists new
 next_here table last_tick a last_serial moves lists new b e g =
-    let hops : moves ≡ hops_of table a 1 (pending_in (rows_below (slots table) lists)) = g ∙ after-moves table last_tick a last_serial lists b in
-    let left : pending_in (rows_below (slots table) new) ≡ entries_left (a + 1) (pending_in (rows_below (slots table) lists)) = ap (λ (y : List (List (ℕ × Node))). pending_in (rows_below (slots table) y)) e ∙ after-left table last_tick a last_serial lists b in
-    let due_is : entries_of (list_at (slots table) new) ≡ entries_due (a + 1) (pending_in (rows_below (slots table) lists)) = ap (λ (y : List (List (ℕ × Node))). entries_of (list_at (slots table) y)) e ∙ after-due table last_tick a last_serial lists b in
-    let levels : levels_of table (a + 1) (pending_in (rows_below (slots table) new)) ≡ levels_of table (a + 1) (entries_left (a + 1) (pending_in (rows_below (slots table) lists))) = ap (levels_of table (a + 1)) left in
-    let pay : hops_of table a 1 (pending_in (rows_below (slots table) lists)) + levels_of table (a + 1) (entries_left (a + 1) (pending_in (rows_below (slots table) lists))) ≤ levels_of table a (pending_in (rows_below (slots table) lists))
-    = levels_pay table a (pending_in (rows_below (slots table) lists)) (all_fall table last_tick a last_serial (rows_below (slots table) lists) b.is_table b.digits b.pending) in
+    let hops : moves ≡ hops_of table a 1 (pending_in (rows_below (slots table) lists)) =
+    g ∙ after-moves table last_tick a last_serial lists b in
+    let left : pending_in (rows_below (slots table) new) ≡ entries_left (a + 1) (pending_in (rows_below (slots table) lists)) =
+    ap (λ (y : List (List (ℕ × Node))). pending_in (rows_below (slots table) y)) e ∙ after-left table last_tick a last_serial lists b in
+    let due_is : entries_of (list_at (slots table) new) ≡ entries_due (a + 1) (pending_in (rows_below (slots table) lists)) =
+    ap (λ (y : List (List (ℕ × Node))). entries_of (list_at (slots table) y)) e ∙ after-due table last_tick a last_serial lists b in
+    let levels : levels_of table (a + 1) (pending_in (rows_below (slots table) new))
+    ≡ levels_of table (a + 1) (entries_left (a + 1) (pending_in (rows_below (slots table) lists))) = ap (levels_of table (a + 1)) left
+    in
+    let pay : hops_of table a 1 (pending_in (rows_below (slots table) lists)) + levels_of table (a + 1)
+    (entries_left (a + 1) (pending_in (rows_below (slots table) lists)))
+    ≤ levels_of table a (pending_in (rows_below (slots table) lists))
+    = levels_pay table a (pending_in (rows_below (slots table) lists))
+    (all_fall table last_tick a last_serial (rows_below (slots table) lists) b.is_table b.digits b.pending) in
     record {
       has_lists = ap (λ (y : List (List (ℕ × Node))). length y) e ∙ after-length table last_tick a last_serial lists b;
-      pending = (let P : List (List (ℕ × Node)) → Type 0 = λ y. ArePending last_tick (a + 1) last_serial (rows_below (slots table) y) in subst P (sym e) (after-pending table last_tick a last_serial lists b));
-      distinct = (let P : List (List (ℕ × Node)) → Type 0 = λ y. AreDistinct (timers_in (rows_below (slots table) y)) in subst P (sym e) (after-distinct table last_tick a last_serial lists b));
-      in_order = (let P : List (List (ℕ × Node)) → Type 0 = AreInOrder (slots table + 1) in subst P (sym e) (after-in_order table last_tick a last_serial lists b));
-      placed = (let P : List (List (ℕ × Node)) → Type 0 = EachRow (IsPlaced table (a + 1)) (slots table) in subst P (sym e) (after-placed table last_tick a last_serial lists b));
-      ticked = same_state last_tick (a + 1) last_serial (pending_in (rows_below (slots table) new)) (entries_left (a + 1) (pending_in (rows_below (slots table) lists))) (entries_of (list_at (slots table) new)) (entries_due (a + 1) (pending_in (rows_below (slots table) lists))) left due_is;
+      pending = (let P : List (List (ℕ × Node)) → Type 0 = λ y. ArePending last_tick (a + 1) last_serial (rows_below (slots table) y)
+          in subst P (sym e) (after-pending table last_tick a last_serial lists b));
+      distinct = (let P : List (List (ℕ × Node)) → Type 0 = λ y. AreDistinct (timers_in (rows_below (slots table) y))
+          in subst P (sym e) (after-distinct table last_tick a last_serial lists b));
+      in_order = (let P : List (List (ℕ × Node)) → Type 0 = AreInOrder (slots table + 1)
+          in subst P (sym e) (after-in_order table last_tick a last_serial lists b));
+      placed = (let P : List (List (ℕ × Node)) → Type 0 = EachRow (IsPlaced table (a + 1)) (slots table)
+          in subst P (sym e) (after-placed table last_tick a last_serial lists b));
+      ticked = same_state last_tick (a + 1) last_serial (pending_in (rows_below (slots table) new))
+          (entries_left (a + 1) (pending_in (rows_below (slots table) lists))) (entries_of (list_at (slots table) new))
+          (entries_due (a + 1) (pending_in (rows_below (slots table) lists))) left due_is;
       moves_are = hops;
       pays = omega arith;
     }
 
-pub next_of : (table : List ℕ) (n last_tick a last_serial moves : ℕ) (lists new : List (List (ℕ × Node))) → n ≡ slots table → IsBefore table last_tick a last_serial lists
-    → new ≡ migrated table (a + 1) (emptied table (a + 1)) lists → moves ≡ length (left_rows (a + 1) (list_at (emptied table (a + 1)) lists))
+pub next_of : (table : List ℕ) (n last_tick a last_serial moves : ℕ) (lists new : List (List (ℕ × Node))) → n ≡ slots table
+    → IsBefore table last_tick a last_serial lists
+    → new ≡ migrated table (a + 1) (emptied table (a + 1)) lists
+    → moves ≡ length (left_rows (a + 1) (list_at (emptied table (a + 1)) lists))
     → IsNext table n last_tick a last_serial moves lists new
 next_of table n last_tick a last_serial moves lists new s b e g =
     let P : ℕ → Type 0 = λ k. IsNext table k last_tick a last_serial moves lists new in
@@ -544,8 +659,10 @@ no_rows : (rows : List (ℕ × Node)) → entries_of rows ≡ [] → rows ≡ []
 no_rows [] e = refl
 no_rows (x ∷ xs) e = cc
 
-pub before_of : (table : List ℕ) (n last_tick a last_serial : ℕ) (lists : List (List (ℕ × Node))) → n ≡ slots table → IsTable table → HasDigits table last_tick → a < last_tick
-    → length lists ≡ n + 1 → EachRow (IsPlaced table a) n lists → ArePending last_tick a last_serial (rows_below n lists) → AreDistinct (timers_in (rows_below n lists)) → AreInOrder (n + 1) lists → entries_of (list_at n lists) ≡ []
+pub before_of : (table : List ℕ) (n last_tick a last_serial : ℕ) (lists : List (List (ℕ × Node))) → n ≡ slots table → IsTable table
+    → HasDigits table last_tick → a < last_tick
+    → length lists ≡ n + 1 → EachRow (IsPlaced table a) n lists → ArePending last_tick a last_serial (rows_below n lists)
+    → AreDistinct (timers_in (rows_below n lists)) → AreInOrder (n + 1) lists → entries_of (list_at n lists) ≡ []
     → IsBefore table last_tick a last_serial lists
 before_of table n last_tick a last_serial lists s i h l len p q d o z = record {
   is_table = i;

@@ -32,10 +32,12 @@ hops-add table (suc p) q a c d e =
     let w : hops table a (suc p + q) d ≡ hops table a (suc (p + q)) d = ap (λ (v : ℕ). hops table a v d) x in
     omega arith
 
-pub hops_of-add : (table : List ℕ) (p q a c : ℕ) (es : List Entry) → c ≡ a + p → hops_of table a (p + q) es ≡ hops_of table a p es + hops_of table c q es
+pub hops_of-add : (table : List ℕ) (p q a c : ℕ) (es : List Entry) → c ≡ a + p
+    → hops_of table a (p + q) es ≡ hops_of table a p es + hops_of table c q es
 hops_of-add table p q a c [] e = omega arith
 hops_of-add table p q a c (x ∷ xs) e =
-    let h : hops table a (p + q) x.timer.deadline ≡ hops table a p x.timer.deadline + hops table c q x.timer.deadline = hops-add table p q a c x.timer.deadline e in
+    let h : hops table a (p + q) x.timer.deadline ≡ hops table a p x.timer.deadline + hops table c q x.timer.deadline =
+    hops-add table p q a c x.timer.deadline e in
     let ih : hops_of table a (p + q) xs ≡ hops_of table a p xs + hops_of table c q xs = hops_of-add table p q a c xs e in
     omega arith
 
@@ -65,22 +67,27 @@ record Waits (table : List ℕ) (last a visit d : ℕ) : Type 0 where
 
 module _ (table : List ℕ) (last a visit n : ℕ) (i : IsTable table) (h : HasDigits table last) (near : a + n < visit) where
   keeps_level : (d : ℕ) → Waits table last a visit d → (c : ℕ) → a ≤ c → c ≤ a + n → level table c d ≡ level table a d
-  keeps_level d w c p q = level_stays table a c d i (digits_down table d last i w.in_range h) w.later p (let x : visit ≤ timer_visit table a d = w.not_before in let y : a + n < visit = near in omega arith)
+  keeps_level d w c p q = level_stays table a c d i (digits_down table d last i w.in_range h) w.later p (let x : visit
+      ≤ timer_visit table a d = w.not_before in let y : a + n < visit = near in omega arith)
 
   still_later : (d : ℕ) → Waits table last a visit d → a + n < d
-  still_later d w = let x : visit ≤ timer_visit table a d = w.not_before in let y : timer_visit table a d ≤ d = visit_in_time table a d i in let z : a + n < visit = near in omega arith
+  still_later d w = let x : visit ≤ timer_visit table a d = w.not_before in let y : timer_visit table a d ≤ d = visit_in_time table a d i
+      in let z : a + n < visit = near in omega arith
 
   no_hops : (es : List Entry) → AllByRecursion (λ e. Waits table last a visit e.timer.deadline) es → hops_of table a n es ≡ 0
   no_hops [] f = refl
   no_hops (e ∷ es) f =
-      let x : hops table a n e.timer.deadline ≡ 0 = still table n a (level table a e.timer.deadline) e.timer.deadline (keeps_level e.timer.deadline f.0) in
+      let x : hops table a n e.timer.deadline ≡ 0 = still table n a (level table a e.timer.deadline) e.timer.deadline
+      (keeps_level e.timer.deadline f.0) in
       let ih : hops_of table a n es ≡ 0 = no_hops es f.1 in
       omega arith
 
-  same_levels : (es : List Entry) → AllByRecursion (λ e. Waits table last a visit e.timer.deadline) es → levels_of table (a + n) es ≡ levels_of table a es
+  same_levels : (es : List Entry) → AllByRecursion (λ e. Waits table last a visit e.timer.deadline) es
+      → levels_of table (a + n) es ≡ levels_of table a es
   same_levels [] f = refl
   same_levels (e ∷ es) f =
-      let x : level table (a + n) e.timer.deadline ≡ level table a e.timer.deadline = keeps_level e.timer.deadline f.0 (a + n) (omega arith) (omega arith) in
+      let x : level table (a + n) e.timer.deadline ≡ level table a e.timer.deadline =
+      keeps_level e.timer.deadline f.0 (a + n) (omega arith) (omega arith) in
       let ih : levels_of table (a + n) es ≡ levels_of table a es = same_levels es f.1 in
       omega arith
 
@@ -88,22 +95,32 @@ module _ (table : List ℕ) (last a visit n : ℕ) (i : IsTable table) (h : HasD
   all_after [] f = tt
   all_after (e ∷ es) f = (still_later e.timer.deadline f.0, all_after es f.1)
 
-  waiting_row : (last_serial : ℕ) (row : ℕ × Node) → IsPending last a last_serial (timer_in row) → visit ≤ timer_visit table a (timer_in row).deadline → Waits table last a visit (timer_in row).deadline
+  waiting_row : (last_serial : ℕ) (row : ℕ × Node) → IsPending last a last_serial (timer_in row)
+      → visit ≤ timer_visit table a (timer_in row).deadline → Waits table last a visit (timer_in row).deadline
   waiting_row last_serial row p q = record { later = p.later; in_range = p.in_range; not_before = q }
 
-  all_waiting : (k last_serial : ℕ) (lists : List (List (ℕ × Node))) → ArePending last a last_serial (rows_below k lists) → AreNotVisitedBefore table k a visit lists → (s : ℕ) → s < k → AllByRecursion (λ row. Waits table last a visit (timer_in row).deadline) (list_at s lists)
-  all_waiting k last_serial lists p q s b = both (list_at s lists) (all-list_at (λ row. IsPending last a last_serial (timer_in row)) k lists p s b) (q s b) where
-    both : (rows : List (ℕ × Node)) → AllByRecursion (λ row. IsPending last a last_serial (timer_in row)) rows → AllByRecursion (λ row. visit ≤ timer_visit table a (timer_in row).deadline) rows → AllByRecursion (λ row. Waits table last a visit (timer_in row).deadline) rows
-    both [] x y = tt
-    both (r ∷ rs) x y = (waiting_row last_serial r x.0 y.0, both rs x.1 y.1)
+  all_waiting : (k last_serial : ℕ) (lists : List (List (ℕ × Node))) → ArePending last a last_serial (rows_below k lists)
+      → AreNotVisitedBefore table k a visit lists → (s : ℕ) → s < k
+      → AllByRecursion (λ row. Waits table last a visit (timer_in row).deadline) (list_at s lists)
+  all_waiting k last_serial lists p q s b = both (list_at s lists)
+      (all-list_at (λ row. IsPending last a last_serial (timer_in row)) k lists p s b) (q s b) where
+        both : (rows : List (ℕ × Node)) → AllByRecursion (λ row. IsPending last a last_serial (timer_in row)) rows
+            → AllByRecursion (λ row. visit ≤ timer_visit table a (timer_in row).deadline) rows
+            → AllByRecursion (λ row. Waits table last a visit (timer_in row).deadline) rows
+        both [] x y = tt
+        both (r ∷ rs) x y = (waiting_row last_serial r x.0 y.0, both rs x.1 y.1)
 
-  entries_wait : (rows : List (ℕ × Node)) → AllByRecursion (λ row. Waits table last a visit (timer_in row).deadline) rows → AllByRecursion (λ e. Waits table last a visit e.timer.deadline) (entries_of rows)
+  entries_wait : (rows : List (ℕ × Node)) → AllByRecursion (λ row. Waits table last a visit (timer_in row).deadline) rows
+      → AllByRecursion (λ e. Waits table last a visit e.timer.deadline) (entries_of rows)
   entries_wait [] f = tt
   entries_wait (r ∷ rs) f = (f.0, entries_wait rs f.1)
 
-  module _ (k last_serial : ℕ) (lists : List (List (ℕ × Node))) (p : ArePending last a last_serial (rows_below k lists)) (q : AreNotVisitedBefore table k a visit lists) where
+  module _ (k last_serial : ℕ) (lists : List (List (ℕ × Node))) (p : ArePending last a last_serial (rows_below k lists))
+      (q : AreNotVisitedBefore table k a visit lists) where
     pending_wait : AllByRecursion (λ e. Waits table last a visit e.timer.deadline) (pending_in (rows_below k lists))
-    pending_wait = All-in_order timer_of (λ e. Waits table last a visit e.timer.deadline) (entries_of (rows_below k lists)) (entries_wait (rows_below k lists) (all-rows_below (λ row. Waits table last a visit (timer_in row).deadline) k lists (all_waiting k last_serial lists p q)))
+    pending_wait = All-in_order timer_of (λ e. Waits table last a visit e.timer.deadline) (entries_of (rows_below k lists))
+        (entries_wait (rows_below k lists) (all-rows_below (λ row. Waits table last a visit (timer_in row).deadline) k lists
+        (all_waiting k last_serial lists p q)))
 
     -- and none of them moves
     pub leapt_hops : hops_of table a n (pending_in (rows_below k lists)) ≡ 0
@@ -111,18 +128,36 @@ module _ (table : List ℕ) (last a visit n : ℕ) (i : IsTable table) (h : HasD
 
     pub leapt_placed : EachRow (IsPlaced table a) k lists → EachRow (IsPlaced table (a + n)) k lists
     leapt_placed f s b = over (list_at s lists) (all_waiting k last_serial lists p q s b) (f s b) where
-      over : (rows : List (ℕ × Node)) → AllByRecursion (λ row. Waits table last a visit (timer_in row).deadline) rows → AllByRecursion (IsPlaced table a s) rows → AllByRecursion (IsPlaced table (a + n) s) rows
+      over : (rows : List (ℕ × Node)) → AllByRecursion (λ row. Waits table last a visit (timer_in row).deadline) rows
+          → AllByRecursion (IsPlaced table a s) rows → AllByRecursion (IsPlaced table (a + n) s) rows
       over [] x y = tt
-      over (r ∷ rs) x y = ((bucket_stays table a (a + n) (timer_in r).deadline (keeps_level (timer_in r).deadline x.0 (a + n) (omega arith) (omega arith)) ∙ y.0.0, y.0.1), over rs x.1 y.1)
+      over (r ∷ rs) x y = (
+        (
+          bucket_stays table a (a + n) (timer_in r).deadline
+              (keeps_level (timer_in r).deadline x.0 (a + n) (omega arith) (omega arith)) ∙ y.0.0,
+          y.0.1,
+        ),
+        over rs x.1 y.1,
+      )
 
     pub leapt_pending : ArePending last (a + n) last_serial (rows_below k lists)
-    leapt_pending = over (rows_below k lists) (all-rows_below (λ row. Waits table last a visit (timer_in row).deadline) k lists (all_waiting k last_serial lists p q)) p where
-      over : (rows : List (ℕ × Node)) → AllByRecursion (λ row. Waits table last a visit (timer_in row).deadline) rows → ArePending last a last_serial rows → ArePending last (a + n) last_serial rows
-      over [] x y = tt
-      over (r ∷ rs) x y = (record { later = still_later (timer_in r).deadline x.0; in_range = y.0.in_range; serial = y.0.serial }, over rs x.1 y.1)
+    leapt_pending = over (rows_below k lists) (all-rows_below (λ row. Waits table last a visit (timer_in row).deadline) k lists
+        (all_waiting k last_serial lists p q)) p where
+          over : (rows : List (ℕ × Node)) → AllByRecursion (λ row. Waits table last a visit (timer_in row).deadline) rows
+              → ArePending last a last_serial rows → ArePending last (a + n) last_serial rows
+          over [] x y = tt
+          over (r ∷ rs) x y = (
+            record {
+              later = still_later (timer_in r).deadline x.0;
+              in_range = y.0.in_range;
+              serial = y.0.serial;
+            },
+            over rs x.1 y.1,
+          )
 
     -- only the clock advances
-    pub leapt : (wheel_state k last a last_serial lists).due ≡ [] → Leaps table 0 (wheel_state k last a last_serial lists) (wheel_state k last (a + n) last_serial lists)
+    pub leapt : (wheel_state k last a last_serial lists).due ≡ []
+        → Leaps table 0 (wheel_state k last a last_serial lists) (wheel_state k last (a + n) last_serial lists)
     leapt z =
         let w : WheelState = wheel_state k last a last_serial lists in
         let c = passing_quiet n w z (all_after (pending_in (rows_below k lists)) pending_wait) in
@@ -158,7 +193,9 @@ none_at_all : (w : WheelState) → w.due ≡ [] → (n : ℕ) → n < 1 → (aft
 none_at_all w e zero h = e
 none_at_all w e (suc n) h = absurd (omega arith)
 
-pub leaps_tick : (table : List ℕ) (moves : ℕ) (old new : WheelState) → old.due ≡ [] → new ≡ after_tick old → moves ≡ hops_of table old.now 1 old.pending → moves + levels_of table new.now new.pending ≤ levels_of table old.now old.pending → Leaps table moves old new
+pub leaps_tick : (table : List ℕ) (moves : ℕ) (old new : WheelState) → old.due ≡ [] → new ≡ after_tick old
+    → moves ≡ hops_of table old.now 1 old.pending → moves + levels_of table new.now new.pending ≤ levels_of table old.now old.pending
+    → Leaps table moves old new
 leaps_tick table moves old new z e m p = record {
   passed = 1;
   now_is = ap (λ (w : WheelState). w.now) e;
@@ -188,7 +225,9 @@ module _ (table : List ℕ) (m1 m2 : ℕ) (u v w : WheelState) (a : Leaps table 
       let bm : m2 ≡ hops_of table v.now b.passed v.pending = b.moves_are in
       let same : v.pending ≡ u.pending = a.kept z in
       let bm2 : m2 ≡ hops_of table v.now b.passed u.pending = bm ∙ ap (hops_of table v.now b.passed) same in
-      let add : hops_of table u.now (a.passed + b.passed) u.pending ≡ hops_of table u.now a.passed u.pending + hops_of table v.now b.passed u.pending = hops_of-add table a.passed b.passed u.now v.now u.pending an in
+      let add : hops_of table u.now (a.passed + b.passed) u.pending
+      ≡ hops_of table u.now a.passed u.pending + hops_of table v.now b.passed u.pending =
+      hops_of-add table a.passed b.passed u.now v.now u.pending an in
       let ap1 : m1 + levels_of table v.now v.pending ≤ levels_of table u.now u.pending = a.pays in
       let bp1 : m2 + levels_of table w.now w.pending ≤ levels_of table v.now v.pending = b.pays in
       record {

@@ -22,38 +22,46 @@ Row = ℕ × Node
 pub target_due : (table : List ℕ) (tick : ℕ) (row : ℕ × Node) → is_due_at tick (timer_in row) ≡ true → target table tick row ≡ slots table
 target_due table tick row h = rw h refl
 
-pub target_left : (table : List ℕ) (tick : ℕ) (row : ℕ × Node) → is_due_at tick (timer_in row) ≡ false → target table tick row ≡ bucket table tick (timer_in row).deadline
+pub target_left : (table : List ℕ) (tick : ℕ) (row : ℕ × Node) → is_due_at tick (timer_in row) ≡ false
+    → target table tick row ≡ bucket table tick (timer_in row).deadline
 target_left table tick row h = rw h refl
 
-pub migrate_rows-length : (table : List ℕ) (tick : ℕ) (rows : List (ℕ × Node)) (lists : List (List (ℕ × Node))) → length (migrate_rows table tick rows lists) ≡ length lists
+pub migrate_rows-length : (table : List ℕ) (tick : ℕ) (rows : List (ℕ × Node)) (lists : List (List (ℕ × Node)))
+    → length (migrate_rows table tick rows lists) ≡ length lists
 migrate_rows-length table tick [] lists = refl
-migrate_rows-length table tick (x ∷ xs) lists = migrate_rows-length table tick xs (with_row (target table tick x) x lists) ∙ length-set lists (target table tick x) (list_at (target table tick x) lists ++ x ∷ [])
+migrate_rows-length table tick (x ∷ xs) lists = migrate_rows-length table tick xs (with_row (target table tick x) x lists)
+    ∙ length-set lists (target table tick x) (list_at (target table tick x) lists ++ x ∷ [])
 
 -- the rows that go to one list
 abbrev pub to_list : List ℕ → ℕ → ℕ → List (ℕ × Node) → List (ℕ × Node)
 to_list table tick s rows = filter (λ row. target table tick row == s) rows
 
 -- each list afterwards
-pub list_at-migrate_rows : (table : List ℕ) (tick s : ℕ) (rows : List (ℕ × Node)) (lists : List (List (ℕ × Node))) → s < length lists → list_at s (migrate_rows table tick rows lists) ≡ list_at s lists ++ to_list table tick s rows
+pub list_at-migrate_rows : (table : List ℕ) (tick s : ℕ) (rows : List (ℕ × Node)) (lists : List (List (ℕ × Node))) → s < length lists
+    → list_at s (migrate_rows table tick rows lists) ≡ list_at s lists ++ to_list table tick s rows
 list_at-migrate_rows table tick s [] lists b = sym (append-nil (list_at s lists))
 list_at-migrate_rows table tick s (x ∷ xs) lists b =
     let lists2 : List (List (ℕ × Node)) = with_row (target table tick x) x lists in
     let b2 : s < length lists2 = rw (length-set lists (target table tick x) (list_at (target table tick x) lists ++ x ∷ [])) b in
-    let ih : list_at s (migrate_rows table tick xs lists2) ≡ list_at s lists2 ++ to_list table tick s xs = list_at-migrate_rows table tick s xs lists2 b2 in
+    let ih : list_at s (migrate_rows table tick xs lists2) ≡ list_at s lists2 ++ to_list table tick s xs =
+    list_at-migrate_rows table tick s xs lists2 b2 in
     elim (cases_eq (target table tick x) s) [
       | inl e ↦
-          let here : list_at s lists2 ≡ list_at s lists ++ x ∷ [] = ap (λ (v : ℕ). list_at s (with_row v x lists)) e ∙ get_or-set_same lists s (list_at s lists ++ x ∷ []) [] b in
+          let here : list_at s lists2 ≡ list_at s lists ++ x ∷ [] =
+          ap (λ (v : ℕ). list_at s (with_row v x lists)) e ∙ get_or-set_same lists s (list_at s lists ++ x ∷ []) [] b in
           ih ∙ (ap (λ (v : List (ℕ × Node)). v ++ to_list table tick s xs) here
           ∙ (append_assoc (list_at s lists) (x ∷ []) (to_list table tick s xs) ∙ rw (eq-eqb (target table tick x) s e) refl))
       | inr n ↦
-          let other : list_at s lists2 ≡ list_at s lists = get_or-set_other lists (target table tick x) s (list_at (target table tick x) lists ++ x ∷ []) [] (λ (e : s ≡ target table tick x). n (sym e)) in
+          let other : list_at s lists2 ≡ list_at s lists = get_or-set_other lists (target table tick x) s
+          (list_at (target table tick x) lists ++ x ∷ []) [] (λ (e : s ≡ target table tick x). n (sym e)) in
           ih ∙ (ap (λ (v : List (ℕ × Node)). v ++ to_list table tick s xs) other ∙ rw (ne_eqb (target table tick x) s n) refl)
     ]
 
 -- The order of the rows does not matter.
 
 module _ (serial : ℕ) where
-  among-append : (xs ys : List (ℕ × Node)) → IsNotAmong serial (timers_in xs) → IsNotAmong serial (timers_in ys) → IsNotAmong serial (timers_in (xs ++ ys))
+  among-append : (xs ys : List (ℕ × Node)) → IsNotAmong serial (timers_in xs) → IsNotAmong serial (timers_in ys)
+      → IsNotAmong serial (timers_in (xs ++ ys))
   among-append [] ys a b = b
   among-append (x ∷ xs) ys a b = (a.0, among-append xs ys a.1 b)
 
@@ -65,17 +73,20 @@ module _ (serial : ℕ) where
   among-rest [] ys a = a
   among-rest (x ∷ xs) ys a = among-rest xs ys a.1
 
-  among-filter : (p : ℕ × Node → Bool) (xs : List (ℕ × Node)) → IsNotAmong serial (timers_in xs) → IsNotAmong serial (timers_in (filter p xs))
+  among-filter : (p : ℕ × Node → Bool) (xs : List (ℕ × Node)) → IsNotAmong serial (timers_in xs)
+      → IsNotAmong serial (timers_in (filter p xs))
   among-filter p [] a = tt
   among-filter p (x ∷ xs) a = elim (either (p x)) [
     | inl k ↦ rw k (a.0, among-filter p xs a.1)
     | inr k ↦ rw k (among-filter p xs a.1)
   ]
 
-  among-pulled : (front xs rest : List (ℕ × Node)) → IsNotAmong serial (timers_in (front ++ (xs ++ rest))) → IsNotAmong serial (timers_in (xs ++ (front ++ rest)))
+  among-pulled : (front xs rest : List (ℕ × Node)) → IsNotAmong serial (timers_in (front ++ (xs ++ rest)))
+      → IsNotAmong serial (timers_in (xs ++ (front ++ rest)))
   among-pulled front xs rest a =
       let b = among-rest front (xs ++ rest) a in
-      among-append xs (front ++ rest) (among-front xs rest b) (among-append front rest (among-front front (xs ++ rest) a) (among-rest xs rest b))
+      among-append xs (front ++ rest) (among-front xs rest b) (among-append front rest (among-front front (xs ++ rest) a)
+      (among-rest xs rest b))
 
 abbrev pub Distinct : List (ℕ × Node) → Type 0
 Distinct rows = AreDistinct (timers_in rows)
@@ -87,15 +98,19 @@ distinct-filter p (x ∷ xs) d = elim (either (p x)) [
   | inr k ↦ rw k (distinct-filter p xs d.1)
 ]
 
-split_rows : (xs : List (ℕ × Node)) (x : ℕ × Node) (ys : List (ℕ × Node)) → Distinct (xs ++ x ∷ ys) → AreDistinct (timers_in xs ++ timer_in x ∷ timers_in ys)
+split_rows : (xs : List (ℕ × Node)) (x : ℕ × Node) (ys : List (ℕ × Node)) → Distinct (xs ++ x ∷ ys)
+    → AreDistinct (timers_in xs ++ timer_in x ∷ timers_in ys)
 split_rows xs x ys d = rw timers-append at d
 
 -- removing a row
-distinct-taken : (xs : List (ℕ × Node)) (x : ℕ × Node) (ys : List (ℕ × Node)) → Distinct (xs ++ x ∷ ys) → IsNotAmong (timer_in x).serial (timers_in (xs ++ ys)) × Distinct (xs ++ ys)
+distinct-taken : (xs : List (ℕ × Node)) (x : ℕ × Node) (ys : List (ℕ × Node)) → Distinct (xs ++ x ∷ ys)
+    → IsNotAmong (timer_in x).serial (timers_in (xs ++ ys)) × Distinct (xs ++ ys)
 distinct-taken xs x ys d =
     let e : timers_in (xs ++ ys) ≡ timers_in xs ++ timers_in ys = timers-append xs ys in
-    let d2 : AreDistinct (timers_in xs ++ timer_in x ∷ timers_in ys) = let P : List Timer → Type 0 = AreDistinct in subst P (timers-append xs (x ∷ ys)) d in (
-      let P : List Timer → Type 0 = IsNotAmong (timer_in x).serial in subst P (sym e) (IsNotAmong-others (timer_in x) (timers_in xs) (timers_in ys) d2),
+    let d2 : AreDistinct (timers_in xs ++ timer_in x ∷ timers_in ys) = let P : List Timer → Type 0 = AreDistinct
+    in subst P (timers-append xs (x ∷ ys)) d in (
+      let P : List Timer → Type 0 = IsNotAmong (timer_in x).serial
+          in subst P (sym e) (IsNotAmong-others (timer_in x) (timers_in xs) (timers_in ys) d2),
       let P : List Timer → Type 0 = AreDistinct in subst P (sym e) (AreDistinct-taken (timer_in x) (timers_in xs) (timers_in ys) d2),
     )
 
@@ -108,7 +123,8 @@ distinct-inserted (z ∷ zs) x ys d =
     (among-append (timer_in z).serial zs (x ∷ ys) a ((λ e. d.0.0 (sym e)), b), distinct-inserted zs x ys (d.0.1, d.1.1))
 
 -- moving rows to the front
-pub in_order-pulled : (front xs rest : List (ℕ × Node)) → Distinct (front ++ (xs ++ rest)) → in_order timer_in (front ++ (xs ++ rest)) ≡ in_order timer_in (xs ++ (front ++ rest))
+pub in_order-pulled : (front xs rest : List (ℕ × Node)) → Distinct (front ++ (xs ++ rest))
+    → in_order timer_in (front ++ (xs ++ rest)) ≡ in_order timer_in (xs ++ (front ++ rest))
 in_order-pulled front [] rest d = refl
 in_order-pulled front (x ∷ xs) rest d =
     let t = distinct-taken front x (xs ++ rest) d in
@@ -125,16 +141,20 @@ distinct-pulled front (x ∷ xs) rest d =
 
 pub record AreMigrated (table : List ℕ) (tick : ℕ) (rows : List (ℕ × Node)) (lists : List (List (ℕ × Node))) : Type 0 where
   pub distinct : AreDistinct (timers_in (rows_below (slots table) (migrate_rows table tick rows lists)))
-  pub pending : in_order timer_in (rows_below (slots table) (migrate_rows table tick rows lists)) ≡ in_order timer_in (left_rows tick rows ++ rows_below (slots table) lists)
+  pub pending : in_order timer_in (rows_below (slots table) (migrate_rows table tick rows lists))
+      ≡ in_order timer_in (left_rows tick rows ++ rows_below (slots table) lists)
 
 -- where a row that is not due goes to
 abbrev pub GoesDown : List ℕ → ℕ → ℕ × Node → Type 0
 GoesDown table tick row = is_due_at tick (timer_in row) ≡ false → bucket table tick (timer_in row).deadline < slots table
 
-migrate_rows_due : (table : List ℕ) (tick : ℕ) (x : ℕ × Node) (xs : List (ℕ × Node)) (lists : List (List (ℕ × Node))) → is_due_at tick (timer_in x) ≡ true → Distinct ((x ∷ xs) ++ rows_below (slots table) lists)
-    → (Distinct (xs ++ rows_below (slots table) (with_row (slots table) x lists)) → AreMigrated table tick xs (with_row (slots table) x lists)) → AreMigrated table tick (x ∷ xs) lists
+migrate_rows_due : (table : List ℕ) (tick : ℕ) (x : ℕ × Node) (xs : List (ℕ × Node)) (lists : List (List (ℕ × Node)))
+    → is_due_at tick (timer_in x) ≡ true → Distinct ((x ∷ xs) ++ rows_below (slots table) lists)
+    → (Distinct (xs ++ rows_below (slots table) (with_row (slots table) x lists))
+    → AreMigrated table tick xs (with_row (slots table) x lists)) → AreMigrated table tick (x ∷ xs) lists
 migrate_rows_due table tick x xs lists k d ih =
-    let e : rows_below (slots table) (with_row (slots table) x lists) ≡ rows_below (slots table) lists = rows_below-above (slots table) (slots table) lists (list_at (slots table) lists ++ x ∷ []) (omega arith) in
+    let e : rows_below (slots table) (with_row (slots table) x lists) ≡ rows_below (slots table) lists =
+    rows_below-above (slots table) (slots table) lists (list_at (slots table) lists ++ x ∷ []) (omega arith) in
     let P : List (ℕ × Node) → Type 0 = λ rows. Distinct (xs ++ rows) in
     let s = ih (subst P (sym e) d.1) in
     record {
@@ -142,11 +162,15 @@ migrate_rows_due table tick x xs lists k d ih =
       pending = rw k (s.pending ∙ ap (λ (rows : List (ℕ × Node)). in_order timer_in (left_rows tick xs ++ rows)) e);
     }
 
-kept_left : (tick : ℕ) (x : ℕ × Node) (xs rows : List (ℕ × Node)) → is_due_at tick (timer_in x) ≡ false → in_order timer_in (left_rows tick (x ∷ xs) ++ rows) ≡ insert_in_order timer_in x (in_order timer_in (left_rows tick xs ++ rows))
+kept_left : (tick : ℕ) (x : ℕ × Node) (xs rows : List (ℕ × Node)) → is_due_at tick (timer_in x) ≡ false
+    → in_order timer_in (left_rows tick (x ∷ xs) ++ rows) ≡ insert_in_order timer_in x (in_order timer_in (left_rows tick xs ++ rows))
 kept_left tick x xs rows k = rw k refl
 
-migrate_rows_left : (table : List ℕ) (tick : ℕ) (x : ℕ × Node) (xs : List (ℕ × Node)) (lists : List (List (ℕ × Node))) (l : ℕ) → l ≡ bucket table tick (timer_in x).deadline → l < slots table → length lists ≡ slots table + 1 → is_due_at tick (timer_in x) ≡ false → Distinct ((x ∷ xs) ++ rows_below (slots table) lists)
-    → (Distinct (xs ++ rows_below (slots table) (with_row l x lists)) → AreMigrated table tick xs (with_row l x lists)) → AreMigrated table tick (x ∷ xs) lists
+migrate_rows_left : (table : List ℕ) (tick : ℕ) (x : ℕ × Node) (xs : List (ℕ × Node)) (lists : List (List (ℕ × Node))) (l : ℕ)
+    → l ≡ bucket table tick (timer_in x).deadline → l < slots table → length lists ≡ slots table + 1 → is_due_at tick (timer_in x) ≡ false
+    → Distinct ((x ∷ xs) ++ rows_below (slots table) lists)
+    → (Distinct (xs ++ rows_below (slots table) (with_row l x lists)) → AreMigrated table tick xs (with_row l x lists))
+    → AreMigrated table tick (x ∷ xs) lists
 migrate_rows_left table tick x xs lists l le b len k d ih =
     let i = rows_below-with_row (slots table) l x lists b (omega arith) in
     let P : List (ℕ × Node) → Type 0 = Distinct in
@@ -155,14 +179,18 @@ migrate_rows_left table tick x xs lists l le b len k d ih =
     let R : List (ℕ × Node) → Type 0 = λ rows. Distinct (x ∷ rows) in
     let d2 : Distinct (x ∷ ((xs ++ i.front) ++ i.rest)) = subst R (sym (append_assoc xs i.front i.rest)) d1 in
     let d3 : Distinct ((xs ++ i.front) ++ x ∷ i.rest) = distinct-inserted (xs ++ i.front) x i.rest d2 in
-    let e3 : (xs ++ i.front) ++ x ∷ i.rest ≡ xs ++ rows_below (slots table) (with_row l x lists) = append_assoc xs i.front (x ∷ i.rest) ∙ ap (λ (rows : List (ℕ × Node)). xs ++ rows) (sym i.new_is) in
+    let e3 : (xs ++ i.front) ++ x ∷ i.rest ≡ xs ++ rows_below (slots table) (with_row l x lists) =
+    append_assoc xs i.front (x ∷ i.rest) ∙ ap (λ (rows : List (ℕ × Node)). xs ++ rows) (sym i.new_is) in
     let s = ih (subst P e3 d3) in
     let ls : List (ℕ × Node) = left_rows tick xs in
-    let n1 = among-filter (timer_in x).serial (λ row. not (is_due_at tick (timer_in row))) xs (among-front (timer_in x).serial xs (i.front ++ i.rest) d1.0) in
+    let n1 = among-filter (timer_in x).serial (λ row. not (is_due_at tick (timer_in row))) xs
+    (among-front (timer_in x).serial xs (i.front ++ i.rest) d1.0) in
     let n2 = among-front (timer_in x).serial i.front i.rest (among-rest (timer_in x).serial xs (i.front ++ i.rest) d1.0) in
-    let w : with_row (target table tick x) x lists ≡ with_row l x lists = ap (λ (v : ℕ). with_row v x lists) (target_left table tick x k ∙ sym le) in
+    let w : with_row (target table tick x) x lists ≡ with_row l x lists =
+    ap (λ (v : ℕ). with_row v x lists) (target_left table tick x k ∙ sym le) in
     let S : List (List (ℕ × Node)) → Type 0 = λ ys. Distinct (rows_below (slots table) (migrate_rows table tick xs ys)) in
-    let T : List (List (ℕ × Node)) → Type 0 = λ ys. in_order timer_in (rows_below (slots table) (migrate_rows table tick xs ys)) ≡ in_order timer_in (ls ++ rows_below (slots table) (with_row l x lists)) in
+    let T : List (List (ℕ × Node)) → Type 0 = λ ys. in_order timer_in (rows_below (slots table) (migrate_rows table tick xs ys))
+    ≡ in_order timer_in (ls ++ rows_below (slots table) (with_row l x lists)) in
     record {
       distinct = subst S (sym w) s.distinct;
       pending =
@@ -175,11 +203,14 @@ migrate_rows_left table tick x xs lists l le b len k d ih =
           ∙ sym (kept_left tick x xs (rows_below (slots table) lists) k))))));
     }
 
-pub migrate_rows_keeps : (table : List ℕ) (tick : ℕ) (rows : List (ℕ × Node)) (lists : List (List (ℕ × Node))) → length lists ≡ slots table + 1 → AllByRecursion (GoesDown table tick) rows → Distinct (rows ++ rows_below (slots table) lists) → AreMigrated table tick rows lists
+pub migrate_rows_keeps : (table : List ℕ) (tick : ℕ) (rows : List (ℕ × Node)) (lists : List (List (ℕ × Node)))
+    → length lists ≡ slots table + 1 → AllByRecursion (GoesDown table tick) rows → Distinct (rows ++ rows_below (slots table) lists)
+    → AreMigrated table tick rows lists
 migrate_rows_keeps table tick [] lists len g d = record { distinct = d; pending = refl }
 migrate_rows_keeps table tick (x ∷ xs) lists len g d = elim (either (is_due_at tick (timer_in x))) [
   | inl k ↦ migrate_rows_due table tick x xs lists k d
-      (λ d2. migrate_rows_keeps table tick xs (with_row (slots table) x lists) (length-set lists (slots table) (list_at (slots table) lists ++ x ∷ []) ∙ len) g.1 d2)
+      (λ d2. migrate_rows_keeps table tick xs (with_row (slots table) x lists)
+      (length-set lists (slots table) (list_at (slots table) lists ++ x ∷ []) ∙ len) g.1 d2)
   | inr k ↦
       let l : ℕ = bucket table tick (timer_in x).deadline in
       migrate_rows_left table tick x xs lists l refl (g.0 k) len k d

@@ -20,12 +20,14 @@ set_twice [] i a b = refl
 set_twice (x ∷ xs) zero a b = refl
 set_twice (x ∷ xs) (suc i) a b = ap (λ (y : List (List (ℕ × Node))). x ∷ y) (set_twice xs i a b)
 
-set_swapped : (v : List (List (ℕ × Node))) (i j : ℕ) (a b : List (ℕ × Node)) → i ≢ j → slice_set (slice_set v i a) j b ≡ slice_set (slice_set v j b) i a
+set_swapped : (v : List (List (ℕ × Node))) (i j : ℕ) (a b : List (ℕ × Node)) → i ≢ j
+    → slice_set (slice_set v i a) j b ≡ slice_set (slice_set v j b) i a
 set_swapped [] i j a b n = refl
 set_swapped (x ∷ xs) zero zero a b n = absurd (n refl)
 set_swapped (x ∷ xs) zero (suc j) a b n = refl
 set_swapped (x ∷ xs) (suc i) zero a b n = refl
-set_swapped (x ∷ xs) (suc i) (suc j) a b n = ap (λ (y : List (List (ℕ × Node))). x ∷ y) (set_swapped xs i j a b (λ (e : i ≡ j). n (ap (λ (k : ℕ). suc k) e)))
+set_swapped (x ∷ xs) (suc i) (suc j) a b n = ap (λ (y : List (List (ℕ × Node))). x ∷ y)
+    (set_swapped xs i j a b (λ (e : i ≡ j). n (ap (λ (k : ℕ). suc k) e)))
 
 pub length_list_at : (lists : List (List (ℕ × Node))) (l : ℕ) → length (list_at l lists) ≤ row_count lists
 length_list_at [] l = omega arith
@@ -41,10 +43,19 @@ pub record IsEmptying (table : List ℕ) (l tick step moves : ℕ) (old lists : 
   pub few : moves ≤ step
   pub count : step + length (list_at l lists) ≡ length (list_at l old)
 
-pub begun : (table : List ℕ) (l tick : ℕ) (old : List (List (ℕ × Node))) → AllByRecursion (MayMigrate table tick l) (list_at l old) → IsEmptying table l tick 0 0 old old
-begun table l tick old a = record { leads = refl; has_lists = refl; rows = a; moves_are = omega arith; few = omega arith; count = omega arith }
+pub begun : (table : List ℕ) (l tick : ℕ) (old : List (List (ℕ × Node))) → AllByRecursion (MayMigrate table tick l) (list_at l old)
+    → IsEmptying table l tick 0 0 old old
+begun table l tick old a = record {
+  leads = refl;
+  has_lists = refl;
+  rows = a;
+  moves_are = omega arith;
+  few = omega arith;
+  count = omega arith;
+}
 
-module _ (table : List ℕ) (l tick : ℕ) (lists : List (List (ℕ × Node))) (row : ℕ × Node) (rest : List (ℕ × Node)) (b : l < length lists) (at : list_at l lists ≡ row ∷ rest) (n : target table tick row ≢ l) where
+module _ (table : List ℕ) (l tick : ℕ) (lists : List (List (ℕ × Node))) (row : ℕ
+    × Node) (rest : List (ℕ × Node)) (b : l < length lists) (at : list_at l lists ≡ row ∷ rest) (n : target table tick row ≢ l) where
   abbrev to : ℕ
   to = target table tick row
 
@@ -77,10 +88,12 @@ module _ (table : List ℕ) (l tick : ℕ) (lists : List (List (ℕ × Node))) (
   length_same : length after ≡ length lists
   length_same = length-set (slice_set lists l rest) to (list_at to (slice_set lists l rest) ++ row ∷ []) ∙ length-set lists l rest
 
-due_more : (tick : ℕ) (row : ℕ × Node) (rest : List (ℕ × Node)) → is_due_at tick (timer_in row) ≡ true → length (left_rows tick (row ∷ rest)) ≡ length (left_rows tick rest)
+due_more : (tick : ℕ) (row : ℕ × Node) (rest : List (ℕ × Node)) → is_due_at tick (timer_in row) ≡ true
+    → length (left_rows tick (row ∷ rest)) ≡ length (left_rows tick rest)
 due_more tick row rest k = rw k refl
 
-left_more : (tick : ℕ) (row : ℕ × Node) (rest : List (ℕ × Node)) → is_due_at tick (timer_in row) ≡ false → length (left_rows tick (row ∷ rest)) ≡ suc (length (left_rows tick rest))
+left_more : (tick : ℕ) (row : ℕ × Node) (rest : List (ℕ × Node)) → is_due_at tick (timer_in row) ≡ false
+    → length (left_rows tick (row ∷ rest)) ≡ suc (length (left_rows tick rest))
 left_more tick row rest k = rw k refl
 
 -- the first row, where there is one
@@ -98,11 +111,20 @@ some_same a b e = cc
 some_none : (a : ℕ) → Some a ≡ None → ⊥
 some_none a e = cc
 
-first_in : (table : List ℕ) (l tick d : ℕ) (lists : List (List (ℕ × Node))) (rows : List (ℕ × Node)) → list_at l lists ≡ rows → AllByRecursion (MayMigrate table tick l) rows → first_deadline rows ≡ Some d → IsFirstRow table l tick d lists
+first_in : (table : List ℕ) (l tick d : ℕ) (lists : List (List (ℕ × Node))) (rows : List (ℕ × Node)) → list_at l lists ≡ rows
+    → AllByRecursion (MayMigrate table tick l) rows → first_deadline rows ≡ Some d → IsFirstRow table l tick d lists
 first_in table l tick d lists [] at a e = absurd (some_none d (sym e))
-first_in table l tick d lists (row ∷ rest) at a e = record { row = row; rest = rest; at = at; deadline = some_same (timer_in row).deadline d e; first = a.0; others = a.1 }
+first_in table l tick d lists (row ∷ rest) at a e = record {
+  row = row;
+  rest = rest;
+  at = at;
+  deadline = some_same (timer_in row).deadline d e;
+  first = a.0;
+  others = a.1;
+}
 
-pub first_row : (table : List ℕ) (l tick step moves d : ℕ) (old lists : List (List (ℕ × Node))) → IsEmptying table l tick step moves old lists → Some d ≡ first_deadline (list_at l lists) → IsFirstRow table l tick d lists
+pub first_row : (table : List ℕ) (l tick step moves d : ℕ) (old lists : List (List (ℕ × Node)))
+    → IsEmptying table l tick step moves old lists → Some d ≡ first_deadline (list_at l lists) → IsFirstRow table l tick d lists
 first_row table l tick step moves d old lists s e = first_in table l tick d lists (list_at l lists) refl s.rows (sym e)
 
 none_first : (rows : List (ℕ × Node)) → first_deadline rows ≡ None → rows ≡ []
@@ -118,33 +140,39 @@ pub record IsEmptied (table : List ℕ) (l tick moves : ℕ) (old lists : List (
   pub moves_are : moves ≡ length (left_rows tick (list_at l old))
   pub emptied : list_at l lists ≡ []
 
-at_end : (table : List ℕ) (l tick step moves : ℕ) (old lists : List (List (ℕ × Node))) → IsEmptying table l tick step moves old lists → list_at l lists ≡ [] → IsEmptied table l tick moves old lists
+at_end : (table : List ℕ) (l tick step moves : ℕ) (old lists : List (List (ℕ × Node))) → IsEmptying table l tick step moves old lists
+    → list_at l lists ≡ [] → IsEmptied table l tick moves old lists
 at_end table l tick step moves old lists s e =
     let y : length (left_rows tick (list_at l lists)) ≡ 0 = ap (λ (y : List (ℕ × Node)). length (left_rows tick y)) e in
     let q : moves + length (left_rows tick (list_at l lists)) ≡ length (left_rows tick (list_at l old)) = s.moves_are in
     record {
-      lists_are = sym (ap (λ (y : List (ℕ × Node)). migrate_rows table tick y (slice_set lists l [])) e ∙ (ap (slice_set lists l) (sym e) ∙ set-get_or lists l [])) ∙ s.leads;
+      lists_are = sym (ap (λ (y : List (ℕ × Node)). migrate_rows table tick y (slice_set lists l [])) e
+          ∙ (ap (slice_set lists l) (sym e) ∙ set-get_or lists l [])) ∙ s.leads;
       moves_are = omega arith;
       emptied = e;
     }
 
-pub ended_none : (table : List ℕ) (l tick step moves : ℕ) (old lists : List (List (ℕ × Node))) → IsEmptying table l tick step moves old lists → None ≡ first_deadline (list_at l lists) → IsEmptied table l tick moves old lists
+pub ended_none : (table : List ℕ) (l tick step moves : ℕ) (old lists : List (List (ℕ × Node)))
+    → IsEmptying table l tick step moves old lists → None ≡ first_deadline (list_at l lists) → IsEmptied table l tick moves old lists
 ended_none table l tick step moves old lists s e = at_end table l tick step moves old lists s (none_first (list_at l lists) (sym e))
 
-pub ended_count : (table : List ℕ) (l tick step moves : ℕ) (old lists : List (List (ℕ × Node))) → IsEmptying table l tick step moves old lists → row_count old ≤ step → IsEmptied table l tick moves old lists
+pub ended_count : (table : List ℕ) (l tick step moves : ℕ) (old lists : List (List (ℕ × Node)))
+    → IsEmptying table l tick step moves old lists → row_count old ≤ step → IsEmptied table l tick moves old lists
 ended_count table l tick step moves old lists s h =
     let a : length (list_at l old) ≤ row_count old = length_list_at old l in
     let c : step + length (list_at l lists) ≡ length (list_at l old) = s.count in
     at_end table l tick step moves old lists s (none_long (list_at l lists) (omega arith))
 
-module _ (table : List ℕ) (l tick step moves d : ℕ) (old lists new : List (List (ℕ × Node))) (b : l < length old) (s : IsEmptying table l tick step moves old lists) (f : IsFirstRow table l tick d lists) where
+module _ (table : List ℕ) (l tick step moves d : ℕ) (old lists new : List (List (ℕ × Node))) (b : l < length old)
+    (s : IsEmptying table l tick step moves old lists) (f : IsFirstRow table l tick d lists) where
   b2 : l < length lists
   b2 = let e : length lists ≡ length old = s.has_lists in omega arith
 
   count_is : length (list_at l lists) ≡ suc (length f.rest)
   count_is = ap (λ (y : List (ℕ × Node)). length y) f.at
 
-  new_is : (to : ℕ) → to ≡ target table tick f.row → new ≡ front_moved l to lists → new ≡ with_row (target table tick f.row) f.row (slice_set lists l f.rest)
+  new_is : (to : ℕ) → to ≡ target table tick f.row → new ≡ front_moved l to lists
+      → new ≡ with_row (target table tick f.row) f.row (slice_set lists l f.rest)
   new_is dest q e = e ∙ (ap (λ (v : ℕ). front_moved l v lists) q ∙ moved_is table l tick lists f.row f.rest b2 f.at f.first.elsewhere)
 
   rest_at : (to : ℕ) → to ≡ target table tick f.row → new ≡ front_moved l to lists → list_at l new ≡ f.rest
@@ -159,57 +187,73 @@ module _ (table : List ℕ) (l tick step moves d : ℕ) (old lists new : List (L
       let c : step + length (list_at l lists) ≡ length (list_at l old) = s.count in
       let k : length (list_at l lists) ≡ suc (length f.rest) = count_is in
       record {
-        leads = ap (migrated table tick l) (new_is to q e) ∙ (leads_same table l tick lists f.row f.rest b2 f.at f.first.elsewhere ∙ s.leads);
-        has_lists = ap (λ (y : List (List (ℕ × Node))). length y) (new_is to q e) ∙ (length_same table l tick lists f.row f.rest b2 f.at f.first.elsewhere ∙ s.has_lists);
+        leads = ap (migrated table tick l) (new_is to q e) ∙ (leads_same table l tick lists f.row f.rest b2 f.at f.first.elsewhere
+            ∙ s.leads);
+        has_lists = ap (λ (y : List (List (ℕ × Node))). length y) (new_is to q e)
+            ∙ (length_same table l tick lists f.row f.rest b2 f.at f.first.elsewhere ∙ s.has_lists);
         rows = subst (AllByRecursion (MayMigrate table tick l)) (sym r) f.others;
-        moves_are = ap (λ (y : List (ℕ × Node)). moves2 + length (left_rows tick y)) r ∙ (h ∙ (ap (λ (y : List (ℕ × Node)). moves + length (left_rows tick y)) (sym f.at) ∙ s.moves_are));
+        moves_are = ap (λ (y : List (ℕ × Node)). moves2 + length (left_rows tick y)) r
+            ∙ (h ∙ (ap (λ (y : List (ℕ × Node)). moves + length (left_rows tick y)) (sym f.at) ∙ s.moves_are));
         few = w;
         count = ap (λ (y : List (ℕ × Node)). step + 1 + length y) r ∙ omega arith;
       }
 
-  pub next_due : (to moves2 : ℕ) → to ≡ slots table → d ≡ tick → new ≡ front_moved l to lists → moves2 ≡ moves → IsEmptying table l tick (step + 1) moves2 old new
+  pub next_due : (to moves2 : ℕ) → to ≡ slots table → d ≡ tick → new ≡ front_moved l to lists → moves2 ≡ moves
+      → IsEmptying table l tick (step + 1) moves2 old new
   next_due to moves2 q e p y =
       let w : moves ≤ step = s.few in
       let k : is_due_at tick (timer_in f.row) ≡ true = eq-eqb (timer_in f.row).deadline tick (f.deadline ∙ e) in
       let m1 : length (left_rows tick (f.row ∷ f.rest)) ≡ length (left_rows tick f.rest) = due_more tick f.row f.rest k in
       next to moves2 (q ∙ sym (target_due table tick f.row k)) p (omega arith) (omega arith)
 
-  pub next_left : (to moves2 : ℕ) → to ≡ bucket table tick d → d ≢ tick → new ≡ front_moved l to lists → moves2 ≡ moves + 1 → IsEmptying table l tick (step + 1) moves2 old new
+  pub next_left : (to moves2 : ℕ) → to ≡ bucket table tick d → d ≢ tick → new ≡ front_moved l to lists → moves2 ≡ moves + 1
+      → IsEmptying table l tick (step + 1) moves2 old new
   next_left to moves2 q n p y =
       let w : moves ≤ step = s.few in
-      let k : is_due_at tick (timer_in f.row) ≡ false = ne_eqb (timer_in f.row).deadline tick (λ (e : (timer_in f.row).deadline ≡ tick). n (sym f.deadline ∙ e)) in
+      let k : is_due_at tick (timer_in f.row) ≡ false = ne_eqb (timer_in f.row).deadline tick
+      (λ (e : (timer_in f.row).deadline ≡ tick). n (sym f.deadline ∙ e)) in
       let m1 : length (left_rows tick (f.row ∷ f.rest)) ≡ suc (length (left_rows tick f.rest)) = left_more tick f.row f.rest k in
       next to moves2 (q ∙ (ap (bucket table tick) (sym f.deadline) ∙ sym (target_left table tick f.row k))) p (omega arith) (omega arith)
 
-  ahead_after : (to : ℕ) (o : Option ℕ) → to ≡ target table tick f.row → new ≡ front_moved l to lists → o ≡ second_deadline (list_at l lists) → o ≡ first_deadline (list_at l new)
+  ahead_after : (to : ℕ) (o : Option ℕ) → to ≡ target table tick f.row → new ≡ front_moved l to lists
+      → o ≡ second_deadline (list_at l lists) → o ≡ first_deadline (list_at l new)
   ahead_after to o q p h = h ∙ (ap second_deadline f.at ∙ ap first_deadline (sym (rest_at to q p)))
 
-  pub ahead_due : (to : ℕ) (o : Option ℕ) → to ≡ slots table → d ≡ tick → new ≡ front_moved l to lists → o ≡ second_deadline (list_at l lists) → o ≡ first_deadline (list_at l new)
+  pub ahead_due : (to : ℕ) (o : Option ℕ) → to ≡ slots table → d ≡ tick → new ≡ front_moved l to lists
+      → o ≡ second_deadline (list_at l lists) → o ≡ first_deadline (list_at l new)
   ahead_due to o q e p h =
       let k : is_due_at tick (timer_in f.row) ≡ true = eq-eqb (timer_in f.row).deadline tick (f.deadline ∙ e) in
       ahead_after to o (q ∙ sym (target_due table tick f.row k)) p h
 
-  pub ahead_left : (to : ℕ) (o : Option ℕ) → to ≡ bucket table tick d → d ≢ tick → new ≡ front_moved l to lists → o ≡ second_deadline (list_at l lists) → o ≡ first_deadline (list_at l new)
+  pub ahead_left : (to : ℕ) (o : Option ℕ) → to ≡ bucket table tick d → d ≢ tick → new ≡ front_moved l to lists
+      → o ≡ second_deadline (list_at l lists) → o ≡ first_deadline (list_at l new)
   ahead_left to o q n p h =
-      let k : is_due_at tick (timer_in f.row) ≡ false = ne_eqb (timer_in f.row).deadline tick (λ (e : (timer_in f.row).deadline ≡ tick). n (sym f.deadline ∙ e)) in
+      let k : is_due_at tick (timer_in f.row) ≡ false = ne_eqb (timer_in f.row).deadline tick
+      (λ (e : (timer_in f.row).deadline ≡ tick). n (sym f.deadline ∙ e)) in
       ahead_after to o (q ∙ (ap (bucket table tick) (sym f.deadline) ∙ sym (target_left table tick f.row k))) p h
 
   pub goes_elsewhere : (to : ℕ) → to ≡ bucket table tick d → d ≢ tick → to ≢ l
   goes_elsewhere to q n =
-      let k : is_due_at tick (timer_in f.row) ≡ false = ne_eqb (timer_in f.row).deadline tick (λ (e : (timer_in f.row).deadline ≡ tick). n (sym f.deadline ∙ e)) in
+      let k : is_due_at tick (timer_in f.row) ≡ false = ne_eqb (timer_in f.row).deadline tick
+      (λ (e : (timer_in f.row).deadline ≡ tick). n (sym f.deadline ∙ e)) in
       let t : to ≡ target table tick f.row = q ∙ (ap (bucket table tick) (sym f.deadline) ∙ sym (target_left table tick f.row k)) in
       λ (e : to ≡ l). f.first.elsewhere (sym t ∙ e)
 
   pub later_than : d ≢ tick → tick < d
-  later_than n = let a : tick ≤ (timer_in f.row).deadline = f.first.not_past in let e : (timer_in f.row).deadline ≡ d = f.deadline in omega arith
+  later_than n = let a : tick ≤ (timer_in f.row).deadline = f.first.not_past in let e : (timer_in f.row).deadline ≡ d = f.deadline
+      in omega arith
 
   pub not_beyond : d ≤ last_of table
-  not_beyond = let a : (timer_in f.row).deadline ≤ last_of table = f.first.in_range in let e : (timer_in f.row).deadline ≡ d = f.deadline in omega arith
+  not_beyond = let a : (timer_in f.row).deadline ≤ last_of table = f.first.in_range in let e : (timer_in f.row).deadline ≡ d = f.deadline
+      in omega arith
 
 -- A bucket whose rows are all due moves as a whole.
 
-migrate_rows_whole : (table : List ℕ) (tick : ℕ) (rows : List (ℕ × Node)) (lists : List (List (ℕ × Node))) → slots table < length lists → AllByRecursion (IsOfTick tick) rows → migrate_rows table tick rows lists ≡ slice_set lists (slots table) (list_at (slots table) lists ++ rows)
-migrate_rows_whole table tick [] lists b a = sym (ap (slice_set lists (slots table)) (append-nil (list_at (slots table) lists)) ∙ set-get_or lists (slots table) [])
+migrate_rows_whole : (table : List ℕ) (tick : ℕ) (rows : List (ℕ × Node)) (lists : List (List (ℕ × Node))) → slots table < length lists
+    → AllByRecursion (IsOfTick tick) rows → migrate_rows table tick rows lists
+    ≡ slice_set lists (slots table) (list_at (slots table) lists ++ rows)
+migrate_rows_whole table tick [] lists b a = sym (ap (slice_set lists (slots table)) (append-nil (list_at (slots table) lists))
+    ∙ set-get_or lists (slots table) [])
 migrate_rows_whole table tick (x ∷ xs) lists b a =
     let to : target table tick x ≡ slots table = target_due table tick x (eq-eqb (timer_in x).deadline tick a.0) in
     let had : List (ℕ × Node) = list_at (slots table) lists in
@@ -221,12 +265,15 @@ migrate_rows_whole table tick (x ∷ xs) lists b a =
     ∙ (set_twice lists (slots table) (had ++ x ∷ []) ((had ++ x ∷ []) ++ xs)
     ∙ ap (slice_set lists (slots table)) (append_assoc had (x ∷ []) xs))))
 
-migrated_whole : (table : List ℕ) (tick l : ℕ) (lists : List (List (ℕ × Node))) → slots table < length lists → slots table ≢ l → AllByRecursion (IsOfTick tick) (list_at l lists) → migrated table tick l lists ≡ appended l (slots table) lists
+migrated_whole : (table : List ℕ) (tick l : ℕ) (lists : List (List (ℕ × Node))) → slots table < length lists → slots table ≢ l
+    → AllByRecursion (IsOfTick tick) (list_at l lists) → migrated table tick l lists ≡ appended l (slots table) lists
 migrated_whole table tick l lists b n a =
     migrate_rows_whole table tick (list_at l lists) (slice_set lists l []) (rw (length-set lists l []) b) a
-    ∙ ap (λ (y : List (ℕ × Node)). slice_set (slice_set lists l []) (slots table) (y ++ list_at l lists)) (get_or-set_other lists l (slots table) [] [] n)
+    ∙ ap (λ (y : List (ℕ × Node)). slice_set (slice_set lists l []) (slots table) (y ++ list_at l lists))
+    (get_or-set_other lists l (slots table) [] [] n)
 
-pub append_whole : (table : List ℕ) (k tick l : ℕ) (lists : List (List (ℕ × Node))) → k ≡ slots table → length lists ≡ slots table + 1 → l < slots table → AllByRecursion (IsOfTick tick) (list_at l lists) → appended l k lists ≡ migrated table tick l lists
+pub append_whole : (table : List ℕ) (k tick l : ℕ) (lists : List (List (ℕ × Node))) → k ≡ slots table → length lists ≡ slots table + 1
+    → l < slots table → AllByRecursion (IsOfTick tick) (list_at l lists) → appended l k lists ≡ migrated table tick l lists
 append_whole table k tick l lists e b h a =
     let n : slots table ≢ l = λ (x : slots table ≡ l). omega arith in
     ap (λ (y : ℕ). appended l y lists) e ∙ sym (migrated_whole table tick l lists (omega arith) n a)
@@ -242,7 +289,8 @@ pub record IsFront (l key : ℕ) (lists : List (List (ℕ × Node))) : Type 0 wh
   pub found : node_at key lists ≡ Some node
   pub first : first_deadline (list_at l lists) ≡ Some node.timer.deadline
 
-front_in : (l key : ℕ) (lists : List (List (ℕ × Node))) (rows : List (ℕ × Node)) → list_at l lists ≡ rows → AreApart lists → l < length lists → first_key rows ≡ Some key → IsFront l key lists
+front_in : (l key : ℕ) (lists : List (List (ℕ × Node))) (rows : List (ℕ × Node)) → list_at l lists ≡ rows → AreApart lists
+    → l < length lists → first_key rows ≡ Some key → IsFront l key lists
 front_in l key lists [] at a b e = absurd (some_none key (sym e))
 front_in l key lists (row ∷ rest) at a b e =
     let k : row.0 ≡ key = some_same row.0 key e in
@@ -252,7 +300,8 @@ front_in l key lists (row ∷ rest) at a b e =
       first = ap first_deadline at;
     }
 
-pub front_of : (l key : ℕ) (lists : List (List (ℕ × Node))) → AreApart lists → l < length lists → Some key ≡ first_key (list_at l lists) → IsFront l key lists
+pub front_of : (l key : ℕ) (lists : List (List (ℕ × Node))) → AreApart lists → l < length lists → Some key ≡ first_key (list_at l lists)
+    → IsFront l key lists
 front_of l key lists a b e = front_in l key lists (list_at l lists) refl a b (sym e)
 
 pub no_front : (rows : List (ℕ × Node)) → None ≡ first_key rows → None ≡ first_deadline rows
@@ -268,7 +317,8 @@ some_node m n e = cc
 pub never_none : (l key : ℕ) (lists : List (List (ℕ × Node))) → IsFront l key lists → None ≡ node_at key lists → ⊥
 never_none l key lists f e = none_some_node f.node (e ∙ f.found)
 
-pub front_deadline_is : (l key : ℕ) (node : Node) (lists : List (List (ℕ × Node))) → IsFront l key lists → Some node ≡ node_at key lists → Some node.timer.deadline ≡ first_deadline (list_at l lists)
+pub front_deadline_is : (l key : ℕ) (node : Node) (lists : List (List (ℕ × Node))) → IsFront l key lists → Some node ≡ node_at key lists
+    → Some node.timer.deadline ≡ first_deadline (list_at l lists)
 front_deadline_is l key node lists f e = ap (λ (n : Node). Some n.timer.deadline) (some_node node f.node (e ∙ f.found)) ∙ sym f.first
 
 pub front_in_use : (l key : ℕ) (lists : List (List (ℕ × Node))) → IsFront l key lists → IsSome (node_at key lists)
@@ -282,7 +332,8 @@ pub record IsSecond (l key : ℕ) (lists : List (List (ℕ × Node))) : Type 0 w
   pub second : second_deadline (list_at l lists) ≡ Some node.timer.deadline
 
 -- the row behind the first one, under this key
-second_in : (l first : ℕ) (next : Option ℕ) (lists : List (List (ℕ × Node))) (rows : List (ℕ × Node)) → list_at l lists ≡ rows → AreApart lists → l < length lists → first_key rows ≡ Some first → IsNext first lists next
+second_in : (l first : ℕ) (next : Option ℕ) (lists : List (List (ℕ × Node))) (rows : List (ℕ × Node)) → list_at l lists ≡ rows
+    → AreApart lists → l < length lists → first_key rows ≡ Some first → IsNext first lists next
     → (key : ℕ) → next ≡ Some key → IsSecond l key lists
 second_in l first next lists [] at a b e n key w = absurd (some_none first (sym e))
 second_in l first next lists (row ∷ []) at a b e n key w =
@@ -290,25 +341,29 @@ second_in l first next lists (row ∷ []) at a b e n key w =
     absurd (some_none key (sym w ∙ n l [] row.1 [] b (at ∙ ap (λ (x : ℕ). (x, row.1) ∷ []) k)))
 second_in l first next lists (row ∷ other ∷ rest) at a b e n key w =
     let k : row.0 ≡ first = some_same row.0 first e in
-    let m : other.0 ≡ key = some_same other.0 key (sym (n l [] row.1 (other ∷ rest) b (at ∙ ap (λ (x : ℕ). (x, row.1) ∷ other ∷ rest) k)) ∙ w) in
+    let m : other.0 ≡ key = some_same other.0 key (sym (n l [] row.1 (other ∷ rest) b (at ∙ ap (λ (x : ℕ). (x, row.1) ∷ other ∷ rest) k))
+    ∙ w) in
     record {
       node = other.1;
       found = ap (λ (v : ℕ). node_at v lists) (sym m) ∙ (a l (row ∷ []) other rest b at).0;
       second = ap second_deadline at;
     }
 
-pub second_of : (l first key : ℕ) (next : Option ℕ) (lists : List (List (ℕ × Node))) → AreApart lists → l < length lists → Some first ≡ first_key (list_at l lists) → IsNext first lists next → next ≡ Some key → IsSecond l key lists
+pub second_of : (l first key : ℕ) (next : Option ℕ) (lists : List (List (ℕ × Node))) → AreApart lists → l < length lists
+    → Some first ≡ first_key (list_at l lists) → IsNext first lists next → next ≡ Some key → IsSecond l key lists
 second_of l first key next lists a b e n w = second_in l first next lists (list_at l lists) refl a b (sym e) n key w
 
 -- no row is behind the first one
-none_second : (l first : ℕ) (next : Option ℕ) (lists : List (List (ℕ × Node))) (rows : List (ℕ × Node)) → list_at l lists ≡ rows → l < length lists → first_key rows ≡ Some first → IsNext first lists next → next ≡ None → None ≡ second_deadline rows
+none_second : (l first : ℕ) (next : Option ℕ) (lists : List (List (ℕ × Node))) (rows : List (ℕ × Node)) → list_at l lists ≡ rows
+    → l < length lists → first_key rows ≡ Some first → IsNext first lists next → next ≡ None → None ≡ second_deadline rows
 none_second l first next lists [] at b e n w = refl
 none_second l first next lists (row ∷ []) at b e n w = refl
 none_second l first next lists (row ∷ other ∷ rest) at b e n w =
     let k : row.0 ≡ first = some_same row.0 first e in
     absurd (some_none other.0 (sym (n l [] row.1 (other ∷ rest) b (at ∙ ap (λ (x : ℕ). (x, row.1) ∷ other ∷ rest) k)) ∙ w))
 
-pub no_second : (l first : ℕ) (next : Option ℕ) (lists : List (List (ℕ × Node))) → l < length lists → Some first ≡ first_key (list_at l lists) → IsNext first lists next → next ≡ None → None ≡ second_deadline (list_at l lists)
+pub no_second : (l first : ℕ) (next : Option ℕ) (lists : List (List (ℕ × Node))) → l < length lists
+    → Some first ≡ first_key (list_at l lists) → IsNext first lists next → next ≡ None → None ≡ second_deadline (list_at l lists)
 no_second l first next lists b e n w = none_second l first next lists (list_at l lists) refl b (sym e) n w
 
 pub no_row : (rows : List (ℕ × Node)) → None ≡ first_key rows → None ≡ second_deadline rows
@@ -318,5 +373,6 @@ no_row (x ∷ xs) e = absurd (some_none x.0 (sym e))
 pub second_there : (l key : ℕ) (lists : List (List (ℕ × Node))) → IsSecond l key lists → None ≡ node_at key lists → ⊥
 second_there l key lists f e = none_some_node f.node (e ∙ f.found)
 
-pub next_deadline_is : (l key : ℕ) (node : Node) (lists : List (List (ℕ × Node))) → IsSecond l key lists → Some node ≡ node_at key lists → Some node.timer.deadline ≡ second_deadline (list_at l lists)
+pub next_deadline_is : (l key : ℕ) (node : Node) (lists : List (List (ℕ × Node))) → IsSecond l key lists → Some node ≡ node_at key lists
+    → Some node.timer.deadline ≡ second_deadline (list_at l lists)
 next_deadline_is l key node lists f e = ap (λ (n : Node). Some n.timer.deadline) (some_node node f.node (e ∙ f.found)) ∙ sym f.second

@@ -22,16 +22,19 @@ module _ (t : Table) (b : Buckets) (words : List ℕ) (h : IsHier t b words) (z 
       before_of (radices t) b.slots b.last_tick b.tick b.last_serial b.links h.has_slots k.is_table (subst P (sym h.clock) k.digits) l
       b.has_lists h.placed b.pending b.distinct b.in_order z
 
-  pub may_migrate_at : (list : ℕ) → list ≡ emptied (radices t) (b.tick + 1) → AllByRecursion (MayMigrate (radices t) (b.tick + 1) list) (list_at list b.links)
+  pub may_migrate_at : (list : ℕ) → list ≡ emptied (radices t) (b.tick + 1)
+      → AllByRecursion (MayMigrate (radices t) (b.tick + 1) list) (list_at list b.links)
   may_migrate_at list e =
       let P : ℕ → Type 0 = λ k. AllByRecursion (MayMigrate (radices t) (b.tick + 1) k) (list_at k b.links) in
       let c : b.last_tick ≡ last_of (radices t) = h.clock in
       subst P (sym e) (all_may_migrate (radices t) b.last_tick b.tick b.last_serial b.links before_tick (omega arith))
 
-  pub all_of_tick_at : (list : ℕ) → list ≡ emptied (radices t) (b.tick + 1) → list < lowest_radix (radices t) → AllByRecursion (IsOfTick (b.tick + 1)) (list_at list b.links)
+  pub all_of_tick_at : (list : ℕ) → list ≡ emptied (radices t) (b.tick + 1) → list < lowest_radix (radices t)
+      → AllByRecursion (IsOfTick (b.tick + 1)) (list_at list b.links)
   all_of_tick_at list e k =
       let P : ℕ → Type 0 = λ k. AllByRecursion (IsOfTick (b.tick + 1)) (list_at k b.links) in
-      subst P (sym e) (all_of_tick (radices t) b.last_tick b.tick b.last_serial b.links before_tick (none_below (radices t) (b.tick + 1) (omega arith)))
+      subst P (sym e) (all_of_tick (radices t) b.last_tick b.tick b.last_serial b.links before_tick
+      (none_below (radices t) (b.tick + 1) (omega arith)))
 
   pub next_at : (list moves : ℕ) (new : List (List (ℕ × Node))) → list ≡ emptied (radices t) (b.tick + 1)
       → new ≡ migrated (radices t) (b.tick + 1) list b.links → moves ≡ length (left_rows (b.tick + 1) (list_at list b.links))

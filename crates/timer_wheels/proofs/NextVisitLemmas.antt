@@ -33,7 +33,8 @@ use Rattle.timer_wheels.proofs.VisitLaws.{visit_near, visit_far, visit_in_time, 
 product_quotient : (r x : ℕ) → 0 < r → r * x / r ≡ x
 product_quotient r x z = let e : r * x ≡ x * r + 0 = omega arith in ap (λ (y : ℕ). y / r) e ∙ div-mul-add x r 0 z
 
-falls_far : (r : ℕ) (rs : List ℕ) (a d : ℕ) → 0 < r → a / r ≢ d / r → (timer_visit rs (a / r) (d / r) ≢ d / r → level rs (timer_visit rs (a / r) (d / r)) (d / r) < level rs (a / r) (d / r))
+falls_far : (r : ℕ) (rs : List ℕ) (a d : ℕ) → 0 < r → a / r ≢ d / r
+    → (timer_visit rs (a / r) (d / r) ≢ d / r → level rs (timer_visit rs (a / r) (d / r)) (d / r) < level rs (a / r) (d / r))
     → level (r ∷ rs) (r * timer_visit rs (a / r) (d / r)) d < level (r ∷ rs) a d
 falls_far r rs a d z e ih =
     let v : ℕ = timer_visit rs (a / r) (d / r) in
@@ -43,11 +44,13 @@ falls_far r rs a d z e ih =
       | inl k ↦ let l2 : level (r ∷ rs) (r * v) d ≡ 0 = level_near r rs (r * v) d (q ∙ k) in omega arith
       | inr k ↦
           let f : level rs v (d / r) < level rs (a / r) (d / r) = ih k in
-          let l2 : level (r ∷ rs) (r * v) d ≡ suc (level rs v (d / r)) = level_far r rs (r * v) d (λ (x : r * v / r ≡ d / r). k (sym q ∙ x)) ∙ ap (λ (x : ℕ). suc (level rs x (d / r))) q in
+          let l2 : level (r ∷ rs) (r * v) d ≡ suc (level rs v (d / r)) =
+          level_far r rs (r * v) d (λ (x : r * v / r ≡ d / r). k (sym q ∙ x)) ∙ ap (λ (x : ℕ). suc (level rs x (d / r))) q in
           omega arith
     ]
 
-level_falls : (table : List ℕ) (a d : ℕ) → IsTable table → HasDigits table d → a < d → timer_visit table a d ≢ d → level table (timer_visit table a d) d < level table a d
+level_falls : (table : List ℕ) (a d : ℕ) → IsTable table → HasDigits table d → a < d → timer_visit table a d ≢ d
+    → level table (timer_visit table a d) d < level table a d
 level_falls [] a d t i h n = absurd (let z : d ≡ 0 = i in omega arith)
 level_falls (r ∷ rs) a d t i h n = elim (cases_eq (a / r) (d / r)) [
   | inl e ↦ absurd (n (visit_near r rs a d e))
@@ -63,7 +66,8 @@ hop_now table a d h k = rw (before (a + 1) h, ne_eqb (level table a d) (level ta
 moved : (table : List ℕ) (n a c d : ℕ) → c ≡ a + n → c < d → level table c d ≢ level table a d → 0 < hops table a n d
 moved table zero a c d e h m = absurd (m (ap (λ (x : ℕ). level table x d) (let f : c ≡ a = omega arith in f)))
 moved table (suc n) a c d e h m = elim (cases_eq (level table a d) (level table (a + 1) d)) [
-  | inl k ↦ let ih : 0 < hops table (a + 1) n d = moved table n (a + 1) c d (omega arith) h (λ (x : level table c d ≡ level table (a + 1) d). m (x ∙ sym k)) in omega arith
+  | inl k ↦ let ih : 0 < hops table (a + 1) n d = moved table n (a + 1) c d (omega arith) h
+      (λ (x : level table c d ≡ level table (a + 1) d). m (x ∙ sym k)) in omega arith
   | inr k ↦ let f : hop_at table a d ≡ 1 = hop_now table a d (omega arith) k in omega arith
 ]
 
@@ -74,27 +78,32 @@ pub record MayMove (table : List ℕ) (now : ℕ) (entry : Entry) : Type 0 where
   pub later : now < entry.timer.deadline
   pub digits : HasDigits table entry.timer.deadline
 
-module _ (table : List ℕ) (now visit l n : ℕ) (t : IsTable table) (after : visit ≡ now + n) (is : (d : ℕ) → HasDigits table d → now < d → bucket table now d ≡ l → visit ≡ timer_visit table now d) where
-  one_moves : (entry : Entry) → MayMove table now entry → bucket table now entry.timer.deadline ≡ l → entry.timer.deadline ≢ visit → 0 < hops table now n entry.timer.deadline
+module _ (table : List ℕ) (now visit l n : ℕ) (t : IsTable table) (after : visit ≡ now + n) (is : (d : ℕ) → HasDigits table d → now < d
+    → bucket table now d ≡ l → visit ≡ timer_visit table now d) where
+  one_moves : (entry : Entry) → MayMove table now entry → bucket table now entry.timer.deadline ≡ l → entry.timer.deadline ≢ visit
+      → 0 < hops table now n entry.timer.deadline
   one_moves entry k b m =
       let d : ℕ = entry.timer.deadline in
       let v : visit ≡ timer_visit table now d = is d k.digits k.later b in
       let s : timer_visit table now d ≤ d = visit_in_time table now d t in
-      let f : level table (timer_visit table now d) d < level table now d = level_falls table now d t k.digits k.later (λ (x : timer_visit table now d ≡ d). m (sym (v ∙ x))) in
+      let f : level table (timer_visit table now d) d < level table now d =
+      level_falls table now d t k.digits k.later (λ (x : timer_visit table now d ≡ d). m (sym (v ∙ x))) in
       let g : level table visit d ≡ level table (timer_visit table now d) d = ap (λ (x : ℕ). level table x d) v in
       moved table n now visit d after (omega arith) (omega arith)
 
-  pub some_move : (entries : List Entry) → AllByRecursion (MayMove table now) entries → 0 < length (filter (λ entry. bucket table now entry.timer.deadline == l) entries)
+  pub some_move : (entries : List Entry) → AllByRecursion (MayMove table now) entries
+      → 0 < length (filter (λ entry. bucket table now entry.timer.deadline == l) entries)
       → (0 < length (entries_due visit entries)) ⊎ (0 < hops_of table now n entries)
   some_move [] a h = absurd (omega arith)
   some_move (e ∷ es) a h = elim (cases_eq e.timer.deadline visit) [
     | inl d ↦ inl (rw (eq-eqb e.timer.deadline visit d) (omega arith))
     | inr d ↦ rw (ne_eqb e.timer.deadline visit d) (elim (cases_eq (bucket table now e.timer.deadline) l) [
       | inl b ↦ inr (let x : 0 < hops table now n e.timer.deadline = one_moves e a.0 b d in omega arith)
-      | inr b ↦ (let h2 : 0 < length (filter (λ entry. bucket table now entry.timer.deadline == l) es) = rw (ne_eqb (bucket table now e.timer.deadline) l b) at h in elim (some_move es a.1 h2) [
-        | inl k ↦ inl k
-        | inr k ↦ inr (omega arith)
-      ])
+      | inr b ↦ (let h2 : 0 < length (filter (λ entry. bucket table now entry.timer.deadline == l) es) =
+          rw (ne_eqb (bucket table now e.timer.deadline) l b) at h in elim (some_move es a.1 h2) [
+            | inl k ↦ inl k
+            | inr k ↦ inr (omega arith)
+          ])
     ])
   ]
 
@@ -110,7 +119,8 @@ same_pending (suc n) w f =
     let g : AreAfter (x.now + 1) w.pending = let P : ℕ → Type 0 = λ k. AreAfter k w.pending in subst P u (f n (omega arith)) in
     ap (λ (y : List Entry). entries_left (x.now + 1) y) p ∙ left_all (x.now + 1) w.pending g
 
-pub due_then : (n visit : ℕ) (w : WheelState) → visit ≡ w.now + (n + 1) → ((k : ℕ) → k < n → AreAfter (w.now + k + 1) w.pending) → (after_ticks (n + 1) w).due ≡ entries_due visit w.pending
+pub due_then : (n visit : ℕ) (w : WheelState) → visit ≡ w.now + (n + 1) → ((k : ℕ) → k < n → AreAfter (w.now + k + 1) w.pending)
+    → (after_ticks (n + 1) w).due ≡ entries_due visit w.pending
 due_then n visit w e f =
     let x : WheelState = after_ticks n w in
     let p : x.pending ≡ w.pending = same_pending n w f in
@@ -122,36 +132,53 @@ due_then n visit w e f =
 
 -- The first bucket with a timer.
 
-may_move : (table : List ℕ) (last now last_serial : ℕ) (entries : List Entry) → IsTable table → HasDigits table last → AllByRecursion (IsPending last now last_serial) (timers_of entries) → AllByRecursion (MayMove table now) entries
+may_move : (table : List ℕ) (last now last_serial : ℕ) (entries : List Entry) → IsTable table → HasDigits table last
+    → AllByRecursion (IsPending last now last_serial) (timers_of entries) → AllByRecursion (MayMove table now) entries
 may_move table last now last_serial [] i h a = tt
-may_move table last now last_serial (e ∷ es) i h a = (record { later = a.0.later; digits = digits_down table e.timer.deadline last i a.0.in_range h }, may_move table last now last_serial es i h a.1)
+may_move table last now last_serial (e ∷ es) i h a = (
+  record {
+    later = a.0.later;
+    digits = digits_down table e.timer.deadline last i a.0.in_range h;
+  },
+  may_move table last now last_serial es i h a.1,
+)
 
-module _ (t : Table) (b : Buckets) (words : List ℕ) (h : IsHier t b words) (l visit : ℕ) (e : visit ≡ list_visit (radices t) l b.tick) (f : IsFirstSet words (Some l)) where
+module _ (t : Table) (b : Buckets) (words : List ℕ) (h : IsHier t b words) (l visit : ℕ) (e : visit
+    ≡ list_visit (radices t) l b.tick) (f : IsFirstSet words (Some l)) where
   first_some : 0 < length (entries_at (bucket_at (radices t) b.tick) l (state_of b).pending)
   first_some =
       let c : l < b.slots = first_in t b words h l f.0 f.1 in
       let s : l < slots (radices t) = first_in_range t b words h l f in
       let r : 0 < length (list_at l b.links) = filled_some t b words h (list_at l b.links) (sym (h.marked.0 l c) ∙ f.1) in
-      some_at (slots (radices t)) (bucket_at (radices t) b.tick) no_rounds (state_of b) b.links (shown (radices t) b h.has_slots h.placed) l s r
+      some_at (slots (radices t)) (bucket_at (radices t) b.tick) no_rounds (state_of b) b.links
+      (shown (radices t) b h.has_slots h.placed) l s r
 
-  first_moves : (n : ℕ) → visit ≡ b.tick + n → (0 < length (entries_due visit (state_of b).pending)) ⊎ (0 < hops_of (radices t) b.tick n (state_of b).pending)
+  first_moves : (n : ℕ) → visit ≡ b.tick + n → (0 < length (entries_due visit (state_of b).pending))
+      ⊎ (0 < hops_of (radices t) b.tick n (state_of b).pending)
   first_moves n g =
       some_move (radices t) b.tick visit l n (of_table t).is_table g
       (λ d k p q. e ∙ (ap (λ (x : ℕ). list_visit (radices t) x b.tick) (sym q) ∙ list_is (radices t) b.tick d (of_table t).is_table k p))
       (state_of b).pending
-      (may_move (radices t) b.last_tick b.tick b.last_serial (state_of b).pending (of_table t).is_table (last_digits t b words h) (state_of-well_formed b).each)
+      (may_move (radices t) b.last_tick b.tick b.last_serial (state_of b).pending (of_table t).is_table (last_digits t b words h)
+      (state_of-well_formed b).each)
       first_some
 
   after_them : (k : ℕ) → b.tick + k < visit → AreAfter (b.tick + k) (state_of b).pending
-  after_them k g = All-weaken (λ entry. visit ≤ entry.timer.deadline) (λ entry. b.tick + k < entry.timer.deadline) (state_of b).pending (λ entry q. let x : visit ≤ entry.timer.deadline = q in omega arith) (first_wakes t b words h l visit e f).in_time
+  after_them k g = All-weaken (λ entry. visit ≤ entry.timer.deadline) (λ entry. b.tick + k < entry.timer.deadline) (state_of b).pending
+      (λ entry q. let x : visit ≤ entry.timer.deadline = q in omega arith) (first_wakes t b words h l visit e f).in_time
 
-  next_by : (n : ℕ) → visit ≡ b.tick + (n + 1) → (0 < length (after_ticks (n + 1) (state_of b)).due) ⊎ (0 < hops_of (radices t) b.tick (n + 1) (state_of b).pending)
+  next_by : (n : ℕ) → visit ≡ b.tick + (n + 1) → (0 < length (after_ticks (n + 1) (state_of b)).due)
+      ⊎ (0 < hops_of (radices t) b.tick (n + 1) (state_of b).pending)
   next_by n g = elim (first_moves (n + 1) g) [
-    | inl k ↦ inl (let d : (after_ticks (n + 1) (state_of b)).due ≡ entries_due visit (state_of b).pending = due_then n visit (state_of b) g (λ m r. after_later m n r g) in let y : length (after_ticks (n + 1) (state_of b)).due ≡ length (entries_due visit (state_of b).pending) = ap length d in omega arith)
+    | inl k ↦ inl (let d : (after_ticks (n + 1) (state_of b)).due ≡ entries_due visit (state_of b).pending =
+        due_then n visit (state_of b) g (λ m r. after_later m n r g)
+        in let y : length (after_ticks (n + 1) (state_of b)).due ≡ length (entries_due visit (state_of b).pending) = ap length d
+        in omega arith)
     | inr k ↦ inr k
   ] where
     after_later : (m n : ℕ) → m < n → visit ≡ b.tick + (n + 1) → AreAfter (b.tick + m + 1) (state_of b).pending
-    after_later m n r g = let u : b.tick + (m + 1) ≡ b.tick + m + 1 = omega arith in let P : ℕ → Type 0 = λ k. AreAfter k (state_of b).pending in subst P u (after_them (m + 1) (omega arith))
+    after_later m n r g = let u : b.tick + (m + 1) ≡ b.tick + m + 1 = omega arith in let P : ℕ
+        → Type 0 = λ k. AreAfter k (state_of b).pending in subst P u (after_them (m + 1) (omega arith))
 
   -- its visit is the first tick ahead at which a timer is due or moves
   pub first_next : IsNextVisit (radices t) visit (state_of b)
@@ -161,6 +188,7 @@ module _ (t : Table) (b : Buckets) (words : List ℕ) (h : IsHier t b words) (l 
       let s : n + 1 ≡ visit - b.tick = omega arith in
       let P : ℕ → Type 0 = λ k. (0 < length (after_ticks k (state_of b)).due) ⊎ (0 < hops_of (radices t) b.tick k (state_of b).pending) in
       record {
-        none_before = leapt_hops (radices t) b.last_tick b.tick visit n (of_table t).is_table (last_digits t b words h) (omega arith) b.slots b.last_serial b.links b.pending (first_ahead t b words h l visit e f);
+        none_before = leapt_hops (radices t) b.last_tick b.tick visit n (of_table t).is_table (last_digits t b words h)
+            (omega arith) b.slots b.last_serial b.links b.pending (first_ahead t b words h l visit e f);
         some = subst P s (next_by n (omega arith));
       }

@@ -21,7 +21,8 @@ module _ (words : List ℕ) (l v : ℕ) (len : length words ≡ 10) (h : l < 640
   pub written_here : bit_of written l ≡ bit_at v (l % 64)
   written_here = ap (λ (x : ℕ). bit_at x (l % 64)) word_here
 
-  pub written_others : (s : ℕ) → s ≢ l → ((i : ℕ) → i < 64 → i ≢ l % 64 → bit_at v i ≡ bit_at (slice_index_or words (l / 64) 0) i) → bit_of written s ≡ bit_of words s
+  pub written_others : (s : ℕ) → s ≢ l → ((i : ℕ) → i < 64 → i ≢ l % 64 → bit_at v i ≡ bit_at (slice_index_or words (l / 64) 0) i)
+      → bit_of written s ≡ bit_of words s
   written_others s n f = elim (cases_eq (s / 64) (l / 64)) [
     | inl e ↦
         let p : s % 64 ≢ l % 64 = λ (x : s % 64 ≡ l % 64). n (omega arith) in
@@ -35,17 +36,30 @@ module _ (words : List ℕ) (l v : ℕ) (len : length words ≡ 10) (h : l < 640
 in_word : (l : ℕ) → l % 64 < 64
 in_word l = omega arith
 
-pub set_here : (words : List ℕ) (l : ℕ) → length words ≡ 10 → l < 640 → bit_of (slice_set words (l / 64) (bit_or (slice_index_or words (l / 64) 0) (1 * 2 ^ (l % 64) % 18446744073709551616))) l ≡ 1
-set_here words l len h = written_here words l (bit_or (slice_index_or words (l / 64) 0) (1 * 2 ^ (l % 64) % 18446744073709551616)) len h ∙ bit_at_set_same w64 (slice_index_or words (l / 64) 0) (l % 64) (in_word l)
+pub set_here : (words : List ℕ) (l : ℕ) → length words ≡ 10 → l < 640
+    → bit_of (slice_set words (l / 64) (bit_or (slice_index_or words (l / 64) 0) (1 * 2 ^ (l % 64) % 18446744073709551616))) l ≡ 1
+set_here words l len h = written_here words l (bit_or (slice_index_or words (l / 64) 0) (1 * 2 ^ (l % 64) % 18446744073709551616)) len h
+    ∙ bit_at_set_same w64 (slice_index_or words (l / 64) 0) (l % 64) (in_word l)
 
-pub set_others : (words : List ℕ) (l : ℕ) → length words ≡ 10 → l < 640 → (s : ℕ) → s ≢ l → bit_of (slice_set words (l / 64) (bit_or (slice_index_or words (l / 64) 0) (1 * 2 ^ (l % 64) % 18446744073709551616))) s ≡ bit_of words s
-set_others words l len h s n = written_others words l (bit_or (slice_index_or words (l / 64) 0) (1 * 2 ^ (l % 64) % 18446744073709551616)) len h s n (λ i b m. bit_at_set_other w64 (slice_index_or words (l / 64) 0) (l % 64) (in_word l) i m)
+pub set_others : (words : List ℕ) (l : ℕ) → length words ≡ 10 → l < 640 → (s : ℕ) → s ≢ l
+    → bit_of (slice_set words (l / 64) (bit_or (slice_index_or words (l / 64) 0) (1 * 2 ^ (l % 64) % 18446744073709551616))) s
+    ≡ bit_of words s
+set_others words l len h s n = written_others words l (bit_or (slice_index_or words (l / 64) 0) (1 * 2 ^ (l % 64) % 18446744073709551616))
+    len h s n (λ i b m. bit_at_set_other w64 (slice_index_or words (l / 64) 0) (l % 64) (in_word l) i m)
 
-pub clear_here : (words : List ℕ) (l : ℕ) → length words ≡ 10 → l < 640 → bit_of (slice_set words (l / 64) (bit_and (slice_index_or words (l / 64) 0) (18446744073709551615 - 1 * 2 ^ (l % 64) % 18446744073709551616))) l ≡ 0
-clear_here words l len h = written_here words l (bit_and (slice_index_or words (l / 64) 0) (18446744073709551615 - 1 * 2 ^ (l % 64) % 18446744073709551616)) len h ∙ bit_at_clear_same w64 (slice_index_or words (l / 64) 0) (l % 64) (in_word l)
+pub clear_here : (words : List ℕ) (l : ℕ) → length words ≡ 10 → l < 640
+    → bit_of (slice_set words (l / 64) (bit_and (slice_index_or words (l / 64) 0)
+    (18446744073709551615 - 1 * 2 ^ (l % 64) % 18446744073709551616))) l ≡ 0
+clear_here words l len h = written_here words l (bit_and (slice_index_or words (l / 64) 0)
+    (18446744073709551615 - 1 * 2 ^ (l % 64) % 18446744073709551616)) len h
+    ∙ bit_at_clear_same w64 (slice_index_or words (l / 64) 0) (l % 64) (in_word l)
 
-pub clear_others : (words : List ℕ) (l : ℕ) → length words ≡ 10 → l < 640 → (s : ℕ) → s ≢ l → bit_of (slice_set words (l / 64) (bit_and (slice_index_or words (l / 64) 0) (18446744073709551615 - 1 * 2 ^ (l % 64) % 18446744073709551616))) s ≡ bit_of words s
-clear_others words l len h s n = written_others words l (bit_and (slice_index_or words (l / 64) 0) (18446744073709551615 - 1 * 2 ^ (l % 64) % 18446744073709551616)) len h s n (λ i b m. bit_at_clear_other w64 (slice_index_or words (l / 64) 0) (l % 64) (in_word l) i b m)
+pub clear_others : (words : List ℕ) (l : ℕ) → length words ≡ 10 → l < 640 → (s : ℕ) → s ≢ l
+    → bit_of (slice_set words (l / 64) (bit_and (slice_index_or words (l / 64) 0)
+    (18446744073709551615 - 1 * 2 ^ (l % 64) % 18446744073709551616))) s ≡ bit_of words s
+clear_others words l len h s n = written_others words l (bit_and (slice_index_or words (l / 64) 0)
+    (18446744073709551615 - 1 * 2 ^ (l % 64) % 18446744073709551616)) len h s n
+    (λ i b m. bit_at_clear_other w64 (slice_index_or words (l / 64) 0) (l % 64) (in_word l) i b m)
 
 -- The first bit.
 
@@ -65,15 +79,19 @@ place_of : (k j : ℕ) → j < 64 → ((64 * k + j) / 64 ≡ k) × ((64 * k + j)
 place_of k j h = (omega arith, omega arith)
 
 bit_there : (k j : ℕ) (words : List ℕ) → j < 64 → bit_of words (64 * k + j) ≡ bit_at (slice_index_or words k 0) j
-bit_there k j words h = let p = place_of k j h in ap (λ (x : ℕ). bit_at (slice_index_or words x 0) ((64 * k + j) % 64)) p.0 ∙ ap (bit_at (slice_index_or words k 0)) p.1
+bit_there k j words h = let p = place_of k j h in ap (λ (x : ℕ). bit_at (slice_index_or words x 0) ((64 * k + j) % 64)) p.0
+    ∙ ap (bit_at (slice_index_or words k 0)) p.1
 
-before_bit : (k : ℕ) (words : List ℕ) (s : ℕ) → 64 * k ≤ s → s < 64 * k + 64 → bit_of words s ≡ bit_at (slice_index_or words k 0) (s - 64 * k)
-before_bit k words s a b = let e : s ≡ 64 * k + (s - 64 * k) = omega arith in ap (bit_of words) e ∙ bit_there k (s - 64 * k) words (omega arith)
+before_bit : (k : ℕ) (words : List ℕ) (s : ℕ) → 64 * k ≤ s → s < 64 * k + 64
+    → bit_of words s ≡ bit_at (slice_index_or words k 0) (s - 64 * k)
+before_bit k words s a b = let e : s ≡ 64 * k + (s - 64 * k) = omega arith
+    in ap (bit_of words) e ∙ bit_there k (s - 64 * k) words (omega arith)
 
 pub lowest_set : (word : ℕ) → word ≢ 0 → word < 2 ^ 64 → IsLowestSet word (trailing_zeros w64 word)
 lowest_set word n r = let t = bit_at-trailing_zeros w64 word (omega arith) r in record { in_range = t.0; is_set = t.1; below = t.2 }
 
-pub first_bit : (k j : ℕ) (words : List ℕ) → k < 10 → IsLowestSet (slice_index_or words k 0) j → AreClear k words → IsFirstSet words (Some (64 * k + j))
+pub first_bit : (k j : ℕ) (words : List ℕ) → k < 10 → IsLowestSet (slice_index_or words k 0) j → AreClear k words
+    → IsFirstSet words (Some (64 * k + j))
 first_bit k j words h t c =
     let b : j < 64 = t.in_range in (
       omega arith,
@@ -89,7 +107,8 @@ first_bit k j words h t c =
 abbrev Lists : Type 0
 Lists = List (List (ℕ × Node))
 
-pub marked_none : (n : ℕ) (words : List ℕ) (lists : Lists) → ((s : ℕ) → bit_of words s ≡ 0) → ((s : ℕ) → s < n → list_at s lists ≡ []) → AreMarked n words lists
+pub marked_none : (n : ℕ) (words : List ℕ) (lists : Lists) → ((s : ℕ) → bit_of words s ≡ 0) → ((s : ℕ) → s < n → list_at s lists ≡ [])
+    → AreMarked n words lists
 marked_none n words lists w e = ((λ s h. w s ∙ sym (ap filled (e s h))), (λ s a b. w s))
 
 pub no_rows_there : (rows : List (ℕ × Node)) → filled rows ≡ 0 → rows ≡ []
@@ -101,38 +120,47 @@ filled_behind [] row = refl
 filled_behind (x ∷ xs) row = refl
 
 -- the bits are those of the same lists
-pub marked_same : (n : ℕ) (words : List ℕ) (old new : Lists) → ((s : ℕ) → s < n → list_at s new ≡ list_at s old) → AreMarked n words old → AreMarked n words new
+pub marked_same : (n : ℕ) (words : List ℕ) (old new : Lists) → ((s : ℕ) → s < n → list_at s new ≡ list_at s old) → AreMarked n words old
+    → AreMarked n words new
 marked_same n words old new e t = ((λ s h. t.0 s h ∙ sym (ap filled (e s h))), t.1)
 
 -- the bits from n on stay clear
-clear_too : (n l : ℕ) (words words2 : List ℕ) → l < n → ((s : ℕ) → s ≢ l → bit_of words2 s ≡ bit_of words s) → IsClearFrom n words → IsClearFrom n words2
+clear_too : (n l : ℕ) (words words2 : List ℕ) → l < n → ((s : ℕ) → s ≢ l → bit_of words2 s ≡ bit_of words s) → IsClearFrom n words
+    → IsClearFrom n words2
 clear_too n l words words2 h o c s a b = o s (λ (e : s ≡ l). omega arith) ∙ c s a b
 
 -- one bit is set, and one row inserted
-pub marked_with_row : (n : ℕ) (words words2 : List ℕ) (l : ℕ) (row : ℕ × Node) (lists : Lists) → l < n → l < length lists → bit_of words2 l ≡ 1 → ((s : ℕ) → s ≢ l → bit_of words2 s ≡ bit_of words s) → AreMarked n words lists → AreMarked n words2 (with_row l row lists)
+pub marked_with_row : (n : ℕ) (words words2 : List ℕ) (l : ℕ) (row : ℕ × Node) (lists : Lists) → l < n → l < length lists
+    → bit_of words2 l ≡ 1 → ((s : ℕ) → s ≢ l → bit_of words2 s ≡ bit_of words s) → AreMarked n words lists
+    → AreMarked n words2 (with_row l row lists)
 marked_with_row n words words2 l row lists f b h o t = (
   (λ (s : ℕ) (k : s < n). elim (cases_eq s l) [
-    | inl e ↦ ap (bit_of words2) e ∙ (h ∙ sym (ap (λ (v : ℕ). filled (list_at v (with_row l row lists))) e ∙ (ap filled (get_or-set_same lists l (list_at l lists ++ row ∷ []) [] b) ∙ filled_behind (list_at l lists) row)))
+    | inl e ↦ ap (bit_of words2) e ∙ (h ∙ sym (ap (λ (v : ℕ). filled (list_at v (with_row l row lists))) e
+        ∙ (ap filled (get_or-set_same lists l (list_at l lists ++ row ∷ []) [] b) ∙ filled_behind (list_at l lists) row)))
     | inr m ↦ o s m ∙ (t.0 s k ∙ sym (ap filled (get_or-set_other lists l s (list_at l lists ++ row ∷ []) [] m)))
   ]),
   clear_too n l words words2 f o t.1,
 )
 
 -- one bit is set, and one row added
-pub marked_added : (n : ℕ) (words words2 : List ℕ) (l : ℕ) (row : ℕ × Node) (old new : Lists) → l < n → AddsRow n l row old new → bit_of words2 l ≡ 1 → ((s : ℕ) → s ≢ l → bit_of words2 s ≡ bit_of words s) → AreMarked n words old → AreMarked n words2 new
+pub marked_added : (n : ℕ) (words words2 : List ℕ) (l : ℕ) (row : ℕ × Node) (old new : Lists) → l < n → AddsRow n l row old new
+    → bit_of words2 l ≡ 1 → ((s : ℕ) → s ≢ l → bit_of words2 s ≡ bit_of words s) → AreMarked n words old → AreMarked n words2 new
 marked_added n words words2 l row old new f d h o t = (
   (λ (s : ℕ) (k : s < n). elim (cases_eq s l) [
-    | inl e ↦ ap (bit_of words2) e ∙ (h ∙ sym (ap (λ (v : ℕ). filled (list_at v new)) e ∙ (ap filled d.here ∙ filled_behind (list_at l old) row)))
+    | inl e ↦ ap (bit_of words2) e ∙ (h ∙ sym (ap (λ (v : ℕ). filled (list_at v new)) e
+        ∙ (ap filled d.here ∙ filled_behind (list_at l old) row)))
     | inr m ↦ o s m ∙ (t.0 s k ∙ sym (ap filled (d.others s k m)))
   ]),
   clear_too n l words words2 f o t.1,
 )
 
 -- but one
-pub marked_but : (n : ℕ) (words words2 : List ℕ) (l : ℕ) (lists : Lists) → l < n → ((s : ℕ) → s ≢ l → bit_of words2 s ≡ bit_of words s) → AreMarked n words lists → AreMarkedBut n l words2 lists
+pub marked_but : (n : ℕ) (words words2 : List ℕ) (l : ℕ) (lists : Lists) → l < n → ((s : ℕ) → s ≢ l → bit_of words2 s ≡ bit_of words s)
+    → AreMarked n words lists → AreMarkedBut n l words2 lists
 marked_but n words words2 l lists f o t = ((λ s h m. o s m ∙ t.0 s h), clear_too n l words words2 f o t.1)
 
-pub marked_all : (n : ℕ) (words : List ℕ) (l : ℕ) (lists : Lists) → bit_of words l ≡ filled (list_at l lists) → AreMarkedBut n l words lists → AreMarked n words lists
+pub marked_all : (n : ℕ) (words : List ℕ) (l : ℕ) (lists : Lists) → bit_of words l ≡ filled (list_at l lists) → AreMarkedBut n l words lists
+    → AreMarked n words lists
 marked_all n words l lists e t = (
   (λ (s : ℕ) (h : s < n). elim (cases_eq s l) [
     | inl q ↦ ap (bit_of words) q ∙ (e ∙ sym (ap (λ (v : ℕ). filled (list_at v lists)) q))
@@ -142,29 +170,37 @@ marked_all n words l lists e t = (
 )
 
 -- a whole list moves to the one after the buckets
-pub marked_appended : (n : ℕ) (words words2 : List ℕ) (l : ℕ) (lists : Lists) → l < n → length lists ≡ n + 1 → bit_of words2 l ≡ 0 → ((s : ℕ) → s ≢ l → bit_of words2 s ≡ bit_of words s) → AreMarked n words lists → AreMarked n words2 (appended l n lists)
+pub marked_appended : (n : ℕ) (words words2 : List ℕ) (l : ℕ) (lists : Lists) → l < n → length lists ≡ n + 1 → bit_of words2 l ≡ 0
+    → ((s : ℕ) → s ≢ l → bit_of words2 s ≡ bit_of words s) → AreMarked n words lists → AreMarked n words2 (appended l n lists)
 marked_appended n words words2 l lists h len z o t = (
   (λ (s : ℕ) (k : s < n).
       let ne : s ≢ n = λ (e : s ≡ n). omega arith in
-      let other : list_at s (appended l n lists) ≡ list_at s (slice_set lists l []) = get_or-set_other (slice_set lists l []) n s (list_at n lists ++ list_at l lists) [] ne in
+      let other : list_at s (appended l n lists) ≡ list_at s (slice_set lists l []) =
+      get_or-set_other (slice_set lists l []) n s (list_at n lists ++ list_at l lists) [] ne in
       elim (cases_eq s l) [
-        | inl e ↦ ap (bit_of words2) e ∙ (z ∙ sym (ap filled (other ∙ (ap (λ (v : ℕ). list_at v (slice_set lists l [])) e ∙ get_or-set_same lists l [] [] (omega arith)))))
+        | inl e ↦ ap (bit_of words2) e ∙ (z ∙ sym (ap filled (other
+            ∙ (ap (λ (v : ℕ). list_at v (slice_set lists l [])) e ∙ get_or-set_same lists l [] [] (omega arith)))))
         | inr m ↦ o s m ∙ (t.0 s k ∙ sym (ap filled (other ∙ get_or-set_other lists l s [] [] m)))
       ]),
   clear_too n l words words2 h o t.1,
 )
 
 -- the first row of a list moves to another
-moved_same : (l to s : ℕ) (lists : Lists) (rows : List (ℕ × Node)) → s ≢ l → s ≢ to → list_at s (first_row_moved l to lists rows) ≡ list_at s lists
+moved_same : (l to s : ℕ) (lists : Lists) (rows : List (ℕ × Node)) → s ≢ l → s ≢ to
+    → list_at s (first_row_moved l to lists rows) ≡ list_at s lists
 moved_same l to s lists [] n m = refl
-moved_same l to s lists (row ∷ rest) n m = get_or-set_other (slice_set lists l rest) to s (list_at to (slice_set lists l rest) ++ row ∷ []) [] m ∙ get_or-set_other lists l s rest [] n
+moved_same l to s lists (row ∷ rest) n m = get_or-set_other (slice_set lists l rest) to s (list_at to (slice_set lists l rest)
+    ++ row ∷ []) [] m ∙ get_or-set_other lists l s rest [] n
 
-moved_there : (l to : ℕ) (lists : Lists) (row : ℕ × Node) (rest : List (ℕ × Node)) → to < length lists → filled (list_at to (first_row_moved l to lists (row ∷ rest))) ≡ 1
+moved_there : (l to : ℕ) (lists : Lists) (row : ℕ × Node) (rest : List (ℕ × Node)) → to < length lists
+    → filled (list_at to (first_row_moved l to lists (row ∷ rest))) ≡ 1
 moved_there l to lists row rest b =
-    ap filled (get_or-set_same (slice_set lists l rest) to (list_at to (slice_set lists l rest) ++ row ∷ []) [] (rw (length-set lists l rest) b))
+    ap filled (get_or-set_same (slice_set lists l rest) to (list_at to (slice_set lists l rest) ++ row ∷ []) []
+    (rw (length-set lists l rest) b))
     ∙ filled_behind (list_at to (slice_set lists l rest)) row
 
-pub marked_due : (n : ℕ) (words : List ℕ) (l to : ℕ) (lists new : Lists) → to ≡ n → new ≡ front_moved l to lists → AreMarkedBut n l words lists → AreMarkedBut n l words new
+pub marked_due : (n : ℕ) (words : List ℕ) (l to : ℕ) (lists new : Lists) → to ≡ n → new ≡ front_moved l to lists
+    → AreMarkedBut n l words lists → AreMarkedBut n l words new
 marked_due n words l to lists new q e t = (
   (λ (s : ℕ) (h : s < n) (d : s ≢ l).
       let m : s ≢ to = λ (x : s ≡ to). omega arith in
@@ -172,13 +208,16 @@ marked_due n words l to lists new q e t = (
   t.1,
 )
 
-pub marked_left : (n : ℕ) (words words2 : List ℕ) (l to : ℕ) (row : ℕ × Node) (rest : List (ℕ × Node)) (lists new : Lists) → to < n → to < length lists → bit_of words2 to ≡ 1 → ((s : ℕ) → s ≢ to → bit_of words2 s ≡ bit_of words s)
+pub marked_left : (n : ℕ) (words words2 : List ℕ) (l to : ℕ) (row : ℕ × Node) (rest : List (ℕ × Node)) (lists new : Lists) → to < n
+    → to < length lists → bit_of words2 to ≡ 1 → ((s : ℕ) → s ≢ to → bit_of words2 s ≡ bit_of words s)
     → list_at l lists ≡ row ∷ rest → new ≡ front_moved l to lists → AreMarkedBut n l words lists → AreMarkedBut n l words2 new
 marked_left n words words2 l to row rest lists new f b z o at e t =
     let is : new ≡ first_row_moved l to lists (row ∷ rest) = e ∙ ap (first_row_moved l to lists) at in (
       (λ (s : ℕ) (h : s < n) (d : s ≢ l). elim (cases_eq s to) [
-        | inl q ↦ ap (bit_of words2) q ∙ (z ∙ sym (ap (λ (v : ℕ). filled (list_at v new)) q ∙ (ap (λ (y : Lists). filled (list_at to y)) is ∙ moved_there l to lists row rest b)))
-        | inr m ↦ o s m ∙ (t.0 s h d ∙ sym (ap (λ (y : Lists). filled (list_at s y)) is ∙ ap filled (moved_same l to s lists (row ∷ rest) d m)))
+        | inl q ↦ ap (bit_of words2) q ∙ (z ∙ sym (ap (λ (v : ℕ). filled (list_at v new)) q
+            ∙ (ap (λ (y : Lists). filled (list_at to y)) is ∙ moved_there l to lists row rest b)))
+        | inr m ↦ o s m ∙ (t.0 s h d ∙ sym (ap (λ (y : Lists). filled (list_at s y)) is
+            ∙ ap filled (moved_same l to s lists (row ∷ rest) d m)))
       ]),
       clear_too n to words words2 f o t.1,
     )

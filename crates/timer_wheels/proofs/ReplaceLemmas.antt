@@ -49,7 +49,13 @@ pub stands_in : (key : ℕ) (node : Node) (lists : List (List (ℕ × Node))) �
 stands_in key node [] e = absurd (some_none node e)
 stands_in key node (rows ∷ lists) e = elim (first_is (node_in key rows) (node_at key lists) node e) [
   | inl f ↦ let s = among key node rows f in record { l = 0; in_range = omega arith; front = s.front; rest = s.rest; at = s.at }
-  | inr f ↦ let s = stands_in key node lists f in record { l = suc s.l; in_range = (let h : s.l < length lists = s.in_range in omega arith); front = s.front; rest = s.rest; at = s.at }
+  | inr f ↦ let s = stands_in key node lists f in record {
+    l = suc s.l;
+    in_range = (let h : s.l < length lists = s.in_range in omega arith);
+    front = s.front;
+    rest = s.rest;
+    at = s.at;
+  }
 ]
 
 -- Another node under the key, at the back of a list.
@@ -66,7 +72,8 @@ used_by (Some n) h = (n, refl)
 pub used : (key : ℕ) (lists : List (List (ℕ × Node))) → IsSome (node_at key lists) → IsUsed key lists
 used key lists h = let u = used_by (node_at key lists) h in record { node = u.0; at = u.1 }
 
-module _ (key list : ℕ) (node : Node) (old mid : List (List (ℕ × Node))) (u : IsUsed key old) (apart : AreApart old) (set : SetsNode key node old mid) (apart2 : AreApart mid) where
+module _ (key list : ℕ) (node : Node) (old mid : List (List (ℕ × Node))) (u : IsUsed key old) (apart : AreApart old)
+    (set : SetsNode key node old mid) (apart2 : AreApart mid) where
   was : StandsIn key u.node old
   was = stands_in key u.node old u.at
 
@@ -80,7 +87,8 @@ module _ (key list : ℕ) (node : Node) (old mid : List (List (ℕ × Node))) (u
   mid_at = ap (list_at was.l) mid_is ∙ get_or-set_same old was.l (was.front ++ (key, node) ∷ was.rest) [] was.in_range
 
   mid_apart : (node_at key mid ≡ Some node) × (map (without_key key) mid ≡ slice_set mid was.l (was.front ++ was.rest))
-  mid_apart = apart2 was.l was.front (key, node) was.rest (let h : was.l < length old = was.in_range in let e : length mid ≡ length old = mid_length in omega arith) mid_at
+  mid_apart = apart2 was.l was.front (key, node) was.rest (let h : was.l < length old = was.in_range
+      in let e : length mid ≡ length old = mid_length in omega arith) mid_at
 
   pub now_under : node_at key mid ≡ Some node
   now_under = mid_apart.0

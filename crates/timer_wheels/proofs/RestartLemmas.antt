@@ -21,7 +21,8 @@ pub record MayRestart (b : Buckets) (bucket : ℕ) (timer : Timer) : Type 0 wher
   pub in_range : timer.deadline ≤ b.last_tick
   pub fresh : b.last_serial < timer.serial
 
-module _ (b : Buckets) (handle : Handle) (bucket rounds : ℕ) (timer : Timer) (m : MayRestart b bucket timer) (apart : AreApart b.links) (old : Timer) (e : timer_at handle (state_of b) ≡ Some old) where
+module _ (b : Buckets) (handle : Handle) (bucket rounds : ℕ) (timer : Timer) (m : MayRestart b bucket timer) (apart : AreApart b.links)
+    (old : Timer) (e : timer_at handle (state_of b) ≡ Some old) where
   abbrev rest : List (List (ℕ × Node))
   rest = map (without_key handle.place) b.links
 
@@ -41,32 +42,43 @@ module _ (b : Buckets) (handle : Handle) (bucket rounds : ℕ) (timer : Timer) (
   rest_pending = stopped-pending b.slots b.last_tick b.tick b.last_serial handle.place b.links b.pending
 
   pub restart_used : IsSome (node_at handle.place b.links)
-  restart_used = let f = look-has b.tick b.slots handle b.links b.has_lists parts apart old b.distinct e in is_used handle.place f.node b.links f.at
+  restart_used = let f = look-has b.tick b.slots handle b.links b.has_lists parts apart old b.distinct e
+      in is_used handle.place f.node b.links f.at
 
   pub restart_length : length (with_row bucket (handle.place, node) rest) ≡ b.slots + 1
   restart_length = length-set rest bucket (list_at bucket rest ++ (handle.place, node) ∷ []) ∙ rest_length
 
   pub restart_pending : ArePending b.last_tick b.tick timer.serial (rows_below b.slots (with_row bucket (handle.place, node) rest))
-  restart_pending = started-pending b.slots b.last_tick b.tick b.last_serial bucket handle.place node rest m.in_slots in_rest m.fresh rest_pending m.later m.in_range
+  restart_pending = started-pending b.slots b.last_tick b.tick b.last_serial bucket handle.place node rest m.in_slots in_rest m.fresh
+      rest_pending m.later m.in_range
 
   pub restart_distinct : AreDistinct (timers_in (rows_below b.slots (with_row bucket (handle.place, node) rest)))
-  restart_distinct = started-distinct b.slots b.last_tick b.tick b.last_serial bucket handle.place node rest m.in_slots in_rest m.fresh rest_pending (stopped-distinct b.slots handle.place b.links b.distinct)
+  restart_distinct = started-distinct b.slots b.last_tick b.tick b.last_serial bucket handle.place node rest m.in_slots in_rest m.fresh
+      rest_pending (stopped-distinct b.slots handle.place b.links b.distinct)
 
   pub restart_past : AreDue b.tick (list_at b.slots (with_row bucket (handle.place, node) rest))
-  restart_past = past-with_row b.tick b.slots bucket (handle.place, node) rest m.in_slots (past-without_key b.tick b.slots handle.place b.links b.due)
+  restart_past = past-with_row b.tick b.slots bucket (handle.place, node) rest m.in_slots
+      (past-without_key b.tick b.slots handle.place b.links b.due)
 
   pub restart_in_order : AreInOrder (b.slots + 1) (with_row bucket (handle.place, node) rest)
   restart_in_order =
       let f : b.last_serial < timer.serial = m.fresh in
       in_order-with_row (b.slots + 1) bucket (handle.place, node) rest in_rest (omega arith)
-      (AreBelow-pending b.last_tick b.tick b.last_serial timer.serial (list_at bucket rest) m.fresh (all-list_at (λ row. IsPending b.last_tick b.tick b.last_serial (timer_in row)) b.slots rest rest_pending bucket m.in_slots))
+      (AreBelow-pending b.last_tick b.tick b.last_serial timer.serial (list_at bucket rest) m.fresh
+      (all-list_at (λ row. IsPending b.last_tick b.tick b.last_serial (timer_in row)) b.slots rest rest_pending bucket m.in_slots))
       (stopped-in_order (b.slots + 1) handle.place b.links b.in_order)
 
-  pub restart_state : wheel_state b.slots b.last_tick b.tick timer.serial (with_row bucket (handle.place, node) rest) ≡ after_start handle.place timer (after_stop handle (state_of b))
+  pub restart_state : wheel_state b.slots b.last_tick b.tick timer.serial (with_row bucket (handle.place, node) rest)
+      ≡ after_start handle.place timer (after_stop handle (state_of b))
   restart_state =
       started b.slots b.last_tick b.tick b.last_serial bucket handle.place node rest m.in_slots in_rest m.fresh rest_pending
-      ∙ ap (after_start handle.place timer) (stop-found b.tick b.slots handle b.links b.has_lists parts apart b.last_tick b.last_serial old rest b.distinct e refl)
+      ∙ ap (after_start handle.place timer) (stop-found b.tick b.slots handle b.links b.has_lists parts apart b.last_tick b.last_serial old
+      rest b.distinct e refl)
 
 -- each row satisfies the wheel's own invariant
-pub each_restarted : (fact : ℕ → ℕ × Node → Type 0) (n key bucket : ℕ) (node : Node) (lists : List (List (ℕ × Node))) → bucket < length lists → fact bucket (key, node) → EachRow fact n lists → EachRow fact n (with_row bucket (key, node) (map (without_key key) lists))
-each_restarted fact n key bucket node lists h f a = each-with_row fact n bucket (key, node) (map (without_key key) lists) (let e : length (map (without_key key) lists) ≡ length lists = length-map lists (without_key key) in omega arith) f (each-without_key fact n key lists a)
+pub each_restarted : (fact : ℕ → ℕ × Node → Type 0) (n key bucket : ℕ) (node : Node) (lists : List (List (ℕ × Node)))
+    → bucket < length lists → fact bucket (key, node) → EachRow fact n lists
+    → EachRow fact n (with_row bucket (key, node) (map (without_key key) lists))
+each_restarted fact n key bucket node lists h f a = each-with_row fact n bucket (key, node) (map (without_key key) lists)
+    (let e : length (map (without_key key) lists) ≡ length lists = length-map lists (without_key key)
+    in omega arith) f (each-without_key fact n key lists a)

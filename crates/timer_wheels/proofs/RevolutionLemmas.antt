@@ -46,7 +46,8 @@ timers-fewer k [] = refl
 timers-fewer k (x ∷ xs) = ap (λ (r : List Timer). timer_in x ∷ r) (timers-fewer k xs)
 
 entries_below-same : (n : ℕ) (old new : List (List (ℕ × Node))) → length old ≡ length new
-    → ((t : ℕ) → t < n → entries_of (list_at t new) ≡ entries_of (list_at t old)) → entries_of (rows_below n new) ≡ entries_of (rows_below n old)
+    → ((t : ℕ) → t < n → entries_of (list_at t new) ≡ entries_of (list_at t old))
+    → entries_of (rows_below n new) ≡ entries_of (rows_below n old)
 entries_below-same zero old new e h = refl
 entries_below-same (suc n) [] [] e h = refl
 entries_below-same (suc n) [] (y ∷ ys) e h = absurd (omega arith)
@@ -74,11 +75,16 @@ after_row n last_tick now last k s tick row z e c =
     (record { later = f.0; in_range = c.0.0.in_range; serial = c.0.0.serial }, (c.0.1.0, less ∙ sym f.1))
 
 after_rows : (n last_tick now last k s tick : ℕ) (rows : List (ℕ × Node)) → 0 < n → tick ≡ now + k * n
-    → AllByRecursion (CanWait n last_tick now last k s) rows → AllByRecursion (StaysIn n last_tick tick last s) (map (with_fewer_rounds k) rows)
+    → AllByRecursion (CanWait n last_tick now last k s) rows → AllByRecursion (StaysIn n last_tick tick last s)
+    (map (with_fewer_rounds k) rows)
 after_rows n last_tick now last k s tick [] z e a = tt
-after_rows n last_tick now last k s tick (x ∷ xs) z e a = (after_row n last_tick now last k s tick x z e a.0, after_rows n last_tick now last k s tick xs z e a.1)
+after_rows n last_tick now last k s tick (x ∷ xs) z e a = (
+  after_row n last_tick now last k s tick x z e a.0,
+  after_rows n last_tick now last k s tick xs z e a.1,
+)
 
-later_entries : (tick : ℕ) (rows : List (ℕ × Node)) → AllByRecursion (λ row. tick < (timer_in row).deadline) rows → AreAfter tick (entries_of rows)
+later_entries : (tick : ℕ) (rows : List (ℕ × Node)) → AllByRecursion (λ row. tick < (timer_in row).deadline) rows
+    → AreAfter tick (entries_of rows)
 later_entries tick [] a = tt
 later_entries tick (x ∷ xs) a = (a.0, later_entries tick xs a.1)
 
@@ -86,18 +92,23 @@ pub quiet_now : (n last_tick now last : ℕ) (lists : List (List (ℕ × Node)))
     → AreAfter (now + 0) (pending_in (rows_below n lists))
 quiet_now n last_tick now last lists p =
     All-in_order timer_of (λ entry. now + 0 < entry.timer.deadline) (entries_of (rows_below n lists))
-    (later_entries (now + 0) (rows_below n lists) (All-weaken (λ row. IsPending last_tick now last (timer_in row)) (λ row. now + 0 < (timer_in row).deadline) (rows_below n lists) (λ row q. let l : now < (timer_in row).deadline = q.later in omega arith) p))
+    (later_entries (now + 0) (rows_below n lists) (All-weaken (λ row. IsPending last_tick now last (timer_in row)) (λ row. now + 0
+    < (timer_in row).deadline) (rows_below n lists) (λ row q. let l : now < (timer_in row).deadline = q.later in omega arith) p))
 
 none_due : (tick : ℕ) (rows : List (ℕ × Node)) → rows ≡ [] → AreDue tick rows
 none_due tick rows e = let P : List (ℕ × Node) → Type 0 = AreDue tick in subst P (sym e) tt
 
 -- All lists.
 
-module _ (n last_tick now last k tick : ℕ) (old new : List (List (ℕ × Node))) (z : 0 < n) (e : tick ≡ now + k * n) (len : length new ≡ length old) (p : ArePending last_tick now last (rows_below n old)) (b : AreInBuckets n now old) (enough : (s : ℕ) → s < n → AllByRecursion (HasRoundsLeft k) (list_at s old)) (counted : (s : ℕ) → s < n → list_at s new ≡ map (with_fewer_rounds k) (list_at s old)) (others : list_at n new ≡ list_at n old) where
+module _ (n last_tick now last k tick : ℕ) (old new : List (List (ℕ × Node))) (z : 0 < n) (e : tick ≡ now + k * n) (len : length new
+    ≡ length old) (p : ArePending last_tick now last (rows_below n old)) (b : AreInBuckets n now old) (enough : (s : ℕ) → s < n
+    → AllByRecursion (HasRoundsLeft k) (list_at s old)) (counted : (s : ℕ) → s < n
+    → list_at s new ≡ map (with_fewer_rounds k) (list_at s old)) (others : list_at n new ≡ list_at n old) where
   waits : (s : ℕ) → s < n → AllByRecursion (CanWait n last_tick now last k s) (list_at s old)
   waits s h =
       both (StaysIn n last_tick now last s) (HasRoundsLeft k) (list_at s old)
-      (both (λ row. IsPending last_tick now last (timer_in row)) (IsInBucket n now s) (list_at s old) (all-list_at (λ row. IsPending last_tick now last (timer_in row)) n old p s h) (b s h))
+      (both (λ row. IsPending last_tick now last (timer_in row)) (IsInBucket n now s) (list_at s old)
+      (all-list_at (λ row. IsPending last_tick now last (timer_in row)) n old p s h) (b s h))
       (enough s h)
 
   after : (s : ℕ) → s < n → AllByRecursion (StaysIn n last_tick tick last s) (list_at s new)
@@ -113,7 +124,9 @@ module _ (n last_tick now last k tick : ℕ) (old new : List (List (ℕ × Node)
   skipped = rw (ap (in_order timer_of) entries, ap entries_of others) refl
 
   pub skipped-pending : ArePending last_tick tick last (rows_below n new)
-  skipped-pending = all-rows_below (λ row. IsPending last_tick tick last (timer_in row)) n new (λ s h. All-weaken (StaysIn n last_tick tick last s) (λ row. IsPending last_tick tick last (timer_in row)) (list_at s new) (λ row q. q.0) (after s h))
+  skipped-pending = all-rows_below (λ row. IsPending last_tick tick last (timer_in row)) n new
+      (λ s h. All-weaken (StaysIn n last_tick tick last s) (λ row. IsPending last_tick tick last (timer_in row)) (list_at s new)
+      (λ row q. q.0) (after s h))
 
   pub skipped-in_buckets : AreInBuckets n tick new
   skipped-in_buckets s h = All-weaken (StaysIn n last_tick tick last s) (IsInBucket n tick s) (list_at s new) (λ row q. q.1) (after s h)
@@ -125,7 +138,8 @@ module _ (n last_tick now last k tick : ℕ) (old new : List (List (ℕ × Node)
   skipped-in_order o s h = elim (cases_eq s n) [
     | inl q ↦ rw (q, others) (o n (omega arith))
     | inr x ↦ (
-        let same : timers_in (list_at s new) ≡ timers_in (list_at s old) = ap timers_in (counted s (omega arith)) ∙ timers-fewer k (list_at s old) in
+        let same : timers_in (list_at s new) ≡ timers_in (list_at s old) =
+        ap timers_in (counted s (omega arith)) ∙ timers-fewer k (list_at s old) in
         rw same (o s h))
   ]
 
@@ -137,7 +151,8 @@ module _ (n last_tick now last k tick : ℕ) (old new : List (List (ℕ × Node)
       let P : List Entry → Type 0 = AreAfter tick in
       subst P (ap (in_order timer_of) entries)
       (All-in_order timer_of (λ entry. tick < entry.timer.deadline) (entries_of (rows_below n new))
-      (later_entries tick (rows_below n new) (All-weaken (λ row. IsPending last_tick tick last (timer_in row)) (λ row. tick < (timer_in row).deadline) (rows_below n new) (λ row q. q.later) skipped-pending)))
+      (later_entries tick (rows_below n new) (All-weaken (λ row. IsPending last_tick tick last (timer_in row)) (λ row. tick
+      < (timer_in row).deadline) (rows_below n new) (λ row q. q.later) skipped-pending)))
 
 -- Stretches of ticks, one after another.
 
@@ -169,11 +184,13 @@ passing_from most q old new a d = record {
   ];
 }
 
-pub passing_skip : (q : ℕ) (old new : WheelState) → old.due ≡ [] → AreAfter (old.now + q) old.pending → new ≡ record old { now = old.now + q } → IsPassing q old new
+pub passing_skip : (q : ℕ) (old new : WheelState) → old.due ≡ [] → AreAfter (old.now + q) old.pending
+    → new ≡ record old { now = old.now + q } → IsPassing q old new
 passing_skip q old new d a e = let P : WheelState → Type 0 = λ w. IsPassing q old w in subst P (sym e) (passing_quiet q old d a)
 
 -- something is due at the end of the second stretch
-pub advances_on : (p m q most : ℕ) (old mid new : WheelState) → IsPassing p old mid → Advances m q mid new → p + q ≤ most → 0 < length new.due → Advances most (p + q) old new
+pub advances_on : (p m q most : ℕ) (old mid new : WheelState) → IsPassing p old mid → Advances m q mid new → p + q ≤ most
+    → 0 < length new.due → Advances most (p + q) old new
 advances_on p m q most old mid new a b h d = record {
   some = (let s : 0 < q = b.some in omega arith);
   at_most = h;
@@ -189,7 +206,8 @@ advances_on p m q most old mid new a b h d = record {
 }
 
 -- the clock has room for the ticks that are left
-pub room_left : (p most : ℕ) (old mid : WheelState) → IsPassing p old mid → p ≤ most → most ≤ old.last_tick - old.now → most - p ≤ mid.last_tick - mid.now
+pub room_left : (p most : ℕ) (old mid : WheelState) → IsPassing p old mid → p ≤ most → most ≤ old.last_tick - old.now
+    → most - p ≤ mid.last_tick - mid.now
 room_left p most old mid a h m =
     let n : mid.now ≡ old.now + p = ap (λ (w : WheelState). w.now) a.ticked ∙ after_ticks-now p old in
     let l : mid.last_tick ≡ old.last_tick = ap (λ (w : WheelState). w.last_tick) a.ticked ∙ after_ticks-last p old in

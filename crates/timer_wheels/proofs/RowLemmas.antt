@@ -25,13 +25,16 @@ all-rest P [] ys a = a
 all-rest P (x ∷ xs) ys a = all-rest P xs ys a.1
 
 -- what holds of each row of each list, holds of all rows
-pub all-rows_below : (P : ℕ × Node → Type 0) (n : ℕ) (lists : List (List (ℕ × Node))) → ((s : ℕ) → s < n → AllByRecursion P (list_at s lists)) → AllByRecursion P (rows_below n lists)
+pub all-rows_below : (P : ℕ × Node → Type 0) (n : ℕ) (lists : List (List (ℕ × Node)))
+    → ((s : ℕ) → s < n → AllByRecursion P (list_at s lists)) → AllByRecursion P (rows_below n lists)
 all-rows_below P zero lists h = tt
 all-rows_below P (suc n) [] h = tt
-all-rows_below P (suc n) (x ∷ xs) h = all-append P x (rows_below n xs) (h 0 (omega arith)) (all-rows_below P n xs (λ s b. h (suc s) (omega arith)))
+all-rows_below P (suc n) (x ∷ xs) h = all-append P x (rows_below n xs) (h 0 (omega arith))
+    (all-rows_below P n xs (λ s b. h (suc s) (omega arith)))
 
 -- and back
-pub all-list_at : (P : ℕ × Node → Type 0) (n : ℕ) (lists : List (List (ℕ × Node))) → AllByRecursion P (rows_below n lists) → (s : ℕ) → s < n → AllByRecursion P (list_at s lists)
+pub all-list_at : (P : ℕ × Node → Type 0) (n : ℕ) (lists : List (List (ℕ × Node))) → AllByRecursion P (rows_below n lists) → (s : ℕ) → s < n
+    → AllByRecursion P (list_at s lists)
 all-list_at P zero lists a s b = absurd (omega arith)
 all-list_at P (suc n) [] a s b = tt
 all-list_at P (suc n) (x ∷ xs) a zero b = all-front P x (rows_below n xs) a
@@ -60,14 +63,16 @@ around (suc n) (suc l) (x ∷ xs) h b =
     }
 
 -- a list after the first n is none of them
-pub rows_below-above : (n l : ℕ) (lists : List (List (ℕ × Node))) (rows : List (ℕ × Node)) → n ≤ l → rows_below n (slice_set lists l rows) ≡ rows_below n lists
+pub rows_below-above : (n l : ℕ) (lists : List (List (ℕ × Node))) (rows : List (ℕ × Node)) → n ≤ l
+    → rows_below n (slice_set lists l rows) ≡ rows_below n lists
 rows_below-above zero l lists rows h = refl
 rows_below-above (suc n) l [] rows h = refl
 rows_below-above (suc n) zero (x ∷ xs) rows h = absurd (omega arith)
 rows_below-above (suc n) (suc l) (x ∷ xs) rows h = ap (λ (y : List (ℕ × Node)). x ++ y) (rows_below-above n l xs rows (omega arith))
 
 -- lists that are alike in the first n have the same rows there
-pub rows_below-same : (n : ℕ) (old new : List (List (ℕ × Node))) → length old ≡ length new → ((s : ℕ) → s < n → list_at s new ≡ list_at s old) → rows_below n new ≡ rows_below n old
+pub rows_below-same : (n : ℕ) (old new : List (List (ℕ × Node))) → length old ≡ length new
+    → ((s : ℕ) → s < n → list_at s new ≡ list_at s old) → rows_below n new ≡ rows_below n old
 rows_below-same zero old new e h = refl
 rows_below-same (suc n) [] [] e h = refl
 rows_below-same (suc n) [] (y ∷ ys) e h = absurd (omega arith)
@@ -94,15 +99,19 @@ pub record IsInserted (row : ℕ × Node) (old new : List (ℕ × Node)) : Type 
   pub new_is : new ≡ front ++ row ∷ rest
 
 -- a row is inserted into one list, anywhere
-pub rows_below-inserted : (n l : ℕ) (row : ℕ × Node) (before after : List (ℕ × Node)) (lists : List (List (ℕ × Node))) → l < n → l < length lists → list_at l lists ≡ before ++ after
+pub rows_below-inserted : (n l : ℕ) (row : ℕ × Node) (before after : List (ℕ × Node)) (lists : List (List (ℕ × Node))) → l < n
+    → l < length lists → list_at l lists ≡ before ++ after
     → IsInserted row (rows_below n lists) (rows_below n (slice_set lists l (before ++ row ∷ after)))
 rows_below-inserted n l row before after lists h b e =
     let a = around n l lists h b in
     record {
       front = a.front ++ before;
       rest = after ++ a.rest;
-      old_is = a.rows ∙ (ap (λ (y : List (ℕ × Node)). a.front ++ (y ++ a.rest)) e ∙ (ap (λ (y : List (ℕ × Node)). a.front ++ y) (append_assoc before after a.rest) ∙ sym (append_assoc a.front before (after ++ a.rest))));
-      new_is = a.with_rows (before ++ row ∷ after) ∙ (ap (λ (y : List (ℕ × Node)). a.front ++ y) (append_assoc before (row ∷ after) a.rest) ∙ sym (append_assoc a.front before (row ∷ (after ++ a.rest))));
+      old_is = a.rows ∙ (ap (λ (y : List (ℕ × Node)). a.front ++ (y ++ a.rest)) e
+          ∙ (ap (λ (y : List (ℕ × Node)). a.front ++ y) (append_assoc before after a.rest)
+          ∙ sym (append_assoc a.front before (after ++ a.rest))));
+      new_is = a.with_rows (before ++ row ∷ after) ∙ (ap (λ (y : List (ℕ × Node)). a.front ++ y) (append_assoc before (row ∷ after) a.rest)
+          ∙ sym (append_assoc a.front before (row ∷ (after ++ a.rest))));
     }
 
 pub append-nil : {X : Type 0} (xs : List X) → xs ++ [] ≡ xs
@@ -110,7 +119,8 @@ append-nil [] = refl
 append-nil (x ∷ xs) = ap (λ r. x ∷ r) (append-nil xs)
 
 -- a row is pushed to the back of one list
-pub rows_below-with_row : (n l : ℕ) (row : ℕ × Node) (lists : List (List (ℕ × Node))) → l < n → l < length lists → IsInserted row (rows_below n lists) (rows_below n (with_row l row lists))
+pub rows_below-with_row : (n l : ℕ) (row : ℕ × Node) (lists : List (List (ℕ × Node))) → l < n → l < length lists
+    → IsInserted row (rows_below n lists) (rows_below n (with_row l row lists))
 rows_below-with_row n l row lists h b = rows_below-inserted n l row (list_at l lists) [] lists h b (sym (append-nil (list_at l lists)))
 
 -- A row is removed.
@@ -122,12 +132,15 @@ filter-append p (x ∷ xs) ys = elim (either (p x)) [
   | inr k ↦ rw k (filter-append p xs ys)
 ]
 
-pub rows_below-without_key : (n key : ℕ) (lists : List (List (ℕ × Node))) → rows_below n (map (without_key key) lists) ≡ without_key key (rows_below n lists)
+pub rows_below-without_key : (n key : ℕ) (lists : List (List (ℕ × Node)))
+    → rows_below n (map (without_key key) lists) ≡ without_key key (rows_below n lists)
 rows_below-without_key zero key lists = refl
 rows_below-without_key (suc n) key [] = refl
-rows_below-without_key (suc n) key (x ∷ xs) = ap (λ (y : List (ℕ × Node)). without_key key x ++ y) (rows_below-without_key n key xs) ∙ sym (filter-append (λ r. not (r.0 == key)) x (rows_below n xs))
+rows_below-without_key (suc n) key (x ∷ xs) = ap (λ (y : List (ℕ × Node)). without_key key x ++ y) (rows_below-without_key n key xs)
+    ∙ sym (filter-append (λ r. not (r.0 == key)) x (rows_below n xs))
 
-pub list_at-without_key : (s key : ℕ) (lists : List (List (ℕ × Node))) → list_at s (map (without_key key) lists) ≡ without_key key (list_at s lists)
+pub list_at-without_key : (s key : ℕ) (lists : List (List (ℕ × Node)))
+    → list_at s (map (without_key key) lists) ≡ without_key key (list_at s lists)
 list_at-without_key s key [] = refl
 list_at-without_key zero key (x ∷ xs) = refl
 list_at-without_key (suc s) key (x ∷ xs) = list_at-without_key s key xs
@@ -142,7 +155,8 @@ pub entries-append : (xs ys : List (ℕ × Node)) → entries_of (xs ++ ys) ≡ 
 entries-append [] ys = refl
 entries-append (x ∷ xs) ys = ap (λ r. entry_of x ∷ r) (entries-append xs ys)
 
-pub filter-entries : (p : Entry → Bool) (rows : List (ℕ × Node)) → filter p (entries_of rows) ≡ entries_of (filter (λ r. p (entry_of r)) rows)
+pub filter-entries : (p : Entry → Bool) (rows : List (ℕ × Node))
+    → filter p (entries_of rows) ≡ entries_of (filter (λ r. p (entry_of r)) rows)
 filter-entries p [] = refl
 filter-entries p (x ∷ xs) = elim (either (p (entry_of x))) [
   | inl k ↦ rw k (ap (λ r. entry_of x ∷ r) (filter-entries p xs))
@@ -158,7 +172,8 @@ filter-timers p (x ∷ xs) = elim (either (p (timer_in x))) [
 
 -- Serials.
 
-pub AreBelow-timers : (high : ℕ) (rows : List (ℕ × Node)) → AllByRecursion (λ row. (timer_in row).serial < high) rows → AreBelow high (timers_in rows)
+pub AreBelow-timers : (high : ℕ) (rows : List (ℕ × Node)) → AllByRecursion (λ row. (timer_in row).serial < high) rows
+    → AreBelow high (timers_in rows)
 AreBelow-timers high [] a = tt
 AreBelow-timers high (x ∷ xs) a = (a.0, AreBelow-timers high xs a.1)
 
@@ -190,19 +205,28 @@ AreDistinct-filter p (t ∷ ts) d = elim (either (p t)) [
 
 pub IsNotAmong-below : (high : ℕ) (ts : List Timer) → AreBelow high ts → IsNotAmong high ts
 IsNotAmong-below high [] b = tt
-IsNotAmong-below high (t ∷ ts) b = ((λ e. let b0 : t.serial < high = b.0 in let e0 : t.serial ≡ high = e in omega arith), IsNotAmong-below high ts b.1)
+IsNotAmong-below high (t ∷ ts) b = (
+  (λ e. let b0 : t.serial < high = b.0 in let e0 : t.serial ≡ high = e
+      in omega arith),
+  IsNotAmong-below high ts b.1,
+)
 
 -- a timer with a distinct serial may be inserted anywhere
-pub AreDistinct-inserted : (t : Timer) (xs ys : List Timer) → IsNotAmong t.serial (xs ++ ys) → AreDistinct (xs ++ ys) → AreDistinct (xs ++ t ∷ ys)
+pub AreDistinct-inserted : (t : Timer) (xs ys : List Timer) → IsNotAmong t.serial (xs ++ ys) → AreDistinct (xs ++ ys)
+    → AreDistinct (xs ++ t ∷ ys)
 AreDistinct-inserted t [] ys n d = (n, d)
-AreDistinct-inserted t (x ∷ xs) ys n d =
-    (IsNotAmong-append x.serial xs (t ∷ ys) (IsNotAmong-front x.serial xs ys d.0) ((λ e. n.0 (sym e)), IsNotAmong-rest x.serial xs ys d.0), AreDistinct-inserted t xs ys n.1 d.1)
+AreDistinct-inserted t (x ∷ xs) ys n d = (
+  IsNotAmong-append x.serial xs (t ∷ ys) (IsNotAmong-front x.serial xs ys d.0) ((λ e. n.0 (sym e)), IsNotAmong-rest x.serial xs ys d.0),
+  AreDistinct-inserted t xs ys n.1 d.1,
+)
 
 -- and may be removed
 pub AreDistinct-taken : (t : Timer) (xs ys : List Timer) → AreDistinct (xs ++ t ∷ ys) → AreDistinct (xs ++ ys)
 AreDistinct-taken t [] ys d = d.1
-AreDistinct-taken t (x ∷ xs) ys d =
-    (IsNotAmong-append x.serial xs ys (IsNotAmong-front x.serial xs (t ∷ ys) d.0) (IsNotAmong-rest x.serial xs (t ∷ ys) d.0).1, AreDistinct-taken t xs ys d.1)
+AreDistinct-taken t (x ∷ xs) ys d = (
+  IsNotAmong-append x.serial xs ys (IsNotAmong-front x.serial xs (t ∷ ys) d.0) (IsNotAmong-rest x.serial xs (t ∷ ys) d.0).1,
+  AreDistinct-taken t xs ys d.1,
+)
 
 -- no other of the timers has its serial
 pub IsNotAmong-others : (t : Timer) (xs ys : List Timer) → AreDistinct (xs ++ t ∷ ys) → IsNotAmong t.serial (xs ++ ys)
@@ -210,14 +234,17 @@ IsNotAmong-others t [] ys d = d.0
 IsNotAmong-others t (x ∷ xs) ys d = ((λ e. (IsNotAmong-rest x.serial xs (t ∷ ys) d.0).0 (sym e)), IsNotAmong-others t xs ys d.1)
 
 -- one more list
-pub rows_below-more : (n : ℕ) (lists : List (List (ℕ × Node))) → n < length lists → rows_below (suc n) lists ≡ rows_below n lists ++ list_at n lists
+pub rows_below-more : (n : ℕ) (lists : List (List (ℕ × Node))) → n < length lists
+    → rows_below (suc n) lists ≡ rows_below n lists ++ list_at n lists
 rows_below-more zero [] h = absurd (omega arith)
 rows_below-more zero (x ∷ xs) h = append-nil x
 rows_below-more (suc n) [] h = absurd (omega arith)
-rows_below-more (suc n) (x ∷ xs) h = ap (λ (y : List (ℕ × Node)). x ++ y) (rows_below-more n xs (omega arith)) ∙ sym (append_assoc x (rows_below n xs) (list_at n xs))
+rows_below-more (suc n) (x ∷ xs) h = ap (λ (y : List (ℕ × Node)). x ++ y) (rows_below-more n xs (omega arith))
+    ∙ sym (append_assoc x (rows_below n xs) (list_at n xs))
 
 -- the timers copied from one more list
-pub timers_below-more : (n : ℕ) (lists : List (List (ℕ × Node))) (old new : List Timer) → n < length lists → old ≡ timers_in (rows_below n lists) → new ≡ old ++ timers_in (list_at n lists) → new ≡ timers_in (rows_below (n + 1) lists)
+pub timers_below-more : (n : ℕ) (lists : List (List (ℕ × Node))) (old new : List Timer) → n < length lists
+    → old ≡ timers_in (rows_below n lists) → new ≡ old ++ timers_in (list_at n lists) → new ≡ timers_in (rows_below (n + 1) lists)
 timers_below-more n lists old new h a b =
     let e : n + 1 ≡ suc n = omega arith in
     b ∙ (ap (λ (y : List Timer). y ++ timers_in (list_at n lists)) a

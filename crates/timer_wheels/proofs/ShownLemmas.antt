@@ -28,13 +28,17 @@ filter-each p [] a = refl
 filter-each p (x ∷ xs) a = rw a.0 (ap (λ r. x ∷ r) (filter-each p xs a.1))
 
 -- no row of the lists satisfies the test
-pub filter-no_list : (p : ℕ × Node → Bool) (n : ℕ) (lists : List (List (ℕ × Node))) → ((t : ℕ) → t < n → AllByRecursion (λ row. p row ≡ false) (list_at t lists)) → filter p (rows_below n lists) ≡ []
+pub filter-no_list : (p : ℕ × Node → Bool) (n : ℕ) (lists : List (List (ℕ × Node)))
+    → ((t : ℕ) → t < n → AllByRecursion (λ row. p row ≡ false) (list_at t lists)) → filter p (rows_below n lists) ≡ []
 filter-no_list p zero lists h = refl
 filter-no_list p (suc n) [] h = refl
-filter-no_list p (suc n) (x ∷ xs) h = filter-append p x (rows_below n xs) ∙ rw (filter-none p x (h 0 (omega arith)), filter-no_list p n xs (λ t b. h (suc t) (omega arith))) refl
+filter-no_list p (suc n) (x ∷ xs) h = filter-append p x (rows_below n xs)
+    ∙ rw (filter-none p x (h 0 (omega arith)), filter-no_list p n xs (λ t b. h (suc t) (omega arith))) refl
 
 -- only rows of one list do
-pub filter-one_list : (p : ℕ × Node → Bool) (n s : ℕ) (lists : List (List (ℕ × Node))) → s < n → s < length lists → ((t : ℕ) → t < n → t ≢ s → AllByRecursion (λ row. p row ≡ false) (list_at t lists)) → filter p (rows_below n lists) ≡ filter p (list_at s lists)
+pub filter-one_list : (p : ℕ × Node → Bool) (n s : ℕ) (lists : List (List (ℕ × Node))) → s < n → s < length lists
+    → ((t : ℕ) → t < n → t ≢ s → AllByRecursion (λ row. p row ≡ false) (list_at t lists))
+    → filter p (rows_below n lists) ≡ filter p (list_at s lists)
 filter-one_list p zero s lists h b o = absurd (omega arith)
 filter-one_list p (suc n) s [] h b o = absurd (omega arith)
 filter-one_list p (suc n) zero (x ∷ xs) h b o =
@@ -56,7 +60,8 @@ in_order-insert_step f g x y ys n ih = elim (either (is_before (f x) (f y))) [
   | inr k ↦ rw k (ap (insert_in_order g y) ih ∙ insert_in_order-commutes g y x (in_order g ys) (λ e. n (sym e)))
 ]
 
-in_order-insert_in_order : {X : Type 0} (f g : X → Timer) (x : X) (ys : List X) → IsNotAmong (g x).serial (map g ys) → in_order g (insert_in_order f x ys) ≡ insert_in_order g x (in_order g ys)
+in_order-insert_in_order : {X : Type 0} (f g : X → Timer) (x : X) (ys : List X) → IsNotAmong (g x).serial (map g ys)
+    → in_order g (insert_in_order f x ys) ≡ insert_in_order g x (in_order g ys)
 in_order-insert_in_order f g x [] n = refl
 in_order-insert_in_order f g x (y ∷ ys) n = in_order-insert_step f g x y ys (λ e. n.0 (sym e)) (in_order-insert_in_order f g x ys n.1)
 
@@ -68,7 +73,8 @@ among-without_deadline serial (e ∷ es) n = (n.0, among-without_deadline serial
 by_serial-in_order : (es : List Entry) → AreDistinct (map timer_of es) → by_serial (in_order timer_of es) ≡ by_serial es
 by_serial-in_order [] d = refl
 by_serial-in_order (e ∷ es) d =
-    in_order-insert_in_order timer_of without_deadline e (in_order timer_of es) (among-without_deadline e.timer.serial (in_order timer_of es) (IsNotAmong-in_order timer_of e.timer.serial es d.0))
+    in_order-insert_in_order timer_of without_deadline e (in_order timer_of es)
+    (among-without_deadline e.timer.serial (in_order timer_of es) (IsNotAmong-in_order timer_of e.timer.serial es d.0))
     ∙ ap (insert_in_order without_deadline e) (by_serial-in_order es d.1)
 
 at_zero : (rows : List (ℕ × Node)) → AllAt 0 (map without_deadline (entries_of rows))
@@ -91,26 +97,33 @@ by_serial-pending_in rows r =
 abbrev pub IsAt : (Timer → ℕ) → (Timer → ℕ) → ℕ → ℕ × Node → Type 0
 IsAt bucket_of rounds_of s row = (bucket_of (timer_in row) ≡ s) × (row.1.rounds ≡ rounds_of (timer_in row))
 
-rows_again : (bucket_of rounds_of : Timer → ℕ) (s : ℕ) (rows : List (ℕ × Node)) → AllByRecursion (IsAt bucket_of rounds_of s) rows → map (row_of rounds_of) (entries_of rows) ≡ rows
+rows_again : (bucket_of rounds_of : Timer → ℕ) (s : ℕ) (rows : List (ℕ × Node)) → AllByRecursion (IsAt bucket_of rounds_of s) rows
+    → map (row_of rounds_of) (entries_of rows) ≡ rows
 rows_again bucket_of rounds_of s [] a = refl
 rows_again bucket_of rounds_of s (x ∷ xs) a =
     ap (λ (k : ℕ). (x.0, record x.1 { rounds = k }) ∷ map (row_of rounds_of) (entries_of xs)) (sym a.0.1)
     ∙ ap (λ (r : List (ℕ × Node)). x ∷ r) (rows_again bucket_of rounds_of s xs a.1)
 
-module _ (n : ℕ) (bucket_of rounds_of : Timer → ℕ) (lists : List (List (ℕ × Node))) (len : length lists ≡ n + 1) (each : EachRow (IsAt bucket_of rounds_of) n lists) where
+module _ (n : ℕ) (bucket_of rounds_of : Timer → ℕ) (lists : List (List (ℕ × Node))) (len : length lists
+    ≡ n + 1) (each : EachRow (IsAt bucket_of rounds_of) n lists) where
   other_rows : (s t : ℕ) → t < n → t ≢ s → AllByRecursion (λ row. (bucket_of (timer_in row) == s) ≡ false) (list_at t lists)
-  other_rows s t h e = All-weaken (IsAt bucket_of rounds_of t) (λ row. (bucket_of (timer_in row) == s) ≡ false) (list_at t lists) (λ row a. ne_eqb (bucket_of (timer_in row)) s (λ (q : bucket_of (timer_in row) ≡ s). e (sym a.0 ∙ q))) (each t h)
+  other_rows s t h e = All-weaken (IsAt bucket_of rounds_of t) (λ row. (bucket_of (timer_in row) == s)
+      ≡ false) (list_at t lists) (λ row a. ne_eqb (bucket_of (timer_in row)) s (λ (q : bucket_of (timer_in row) ≡ s). e (sym a.0 ∙ q)))
+      (each t h)
 
   these_rows : (s : ℕ) → s < n → AllByRecursion (λ row. (bucket_of (timer_in row) == s) ≡ true) (list_at s lists)
-  these_rows s h = All-weaken (IsAt bucket_of rounds_of s) (λ row. (bucket_of (timer_in row) == s) ≡ true) (list_at s lists) (λ row a. eq-eqb (bucket_of (timer_in row)) s a.0) (each s h)
+  these_rows s h = All-weaken (IsAt bucket_of rounds_of s) (λ row. (bucket_of (timer_in row) == s)
+      ≡ true) (list_at s lists) (λ row a. eq-eqb (bucket_of (timer_in row)) s a.0) (each s h)
 
   -- the pending timers of one bucket are those of its list
   pub entries_at-pending : (s : ℕ) → s < n → entries_at bucket_of s (pending_in (rows_below n lists)) ≡ pending_in (list_at s lists)
   entries_at-pending s h =
       filter-pending_in (λ (entry : Entry). bucket_of entry.timer == s) (rows_below n lists)
-      ∙ ap pending_in (filter-one_list (λ (row : ℕ × Node). bucket_of (timer_in row) == s) n s lists h (omega arith) (other_rows s) ∙ filter-each (λ (row : ℕ × Node). bucket_of (timer_in row) == s) (list_at s lists) (these_rows s h))
+      ∙ ap pending_in (filter-one_list (λ (row : ℕ × Node). bucket_of (timer_in row) == s) n s lists h (omega arith) (other_rows s)
+      ∙ filter-each (λ (row : ℕ × Node). bucket_of (timer_in row) == s) (list_at s lists) (these_rows s h))
 
-  pub shows : (last_tick now last : ℕ) → AreInOrder (n + 1) lists → ShowsBuckets n bucket_of rounds_of (wheel_state n last_tick now last lists) lists
+  pub shows : (last_tick now last : ℕ) → AreInOrder (n + 1) lists
+      → ShowsBuckets n bucket_of rounds_of (wheel_state n last_tick now last lists) lists
   shows last_tick now last o = record {
     count = len;
     buckets = λ s h. sym (
@@ -121,8 +134,11 @@ module _ (n : ℕ) (bucket_of rounds_of : Timer → ℕ) (lists : List (List (�
   }
 
 -- a list with rows is of a bucket with pending timers
-pub some_at : (n : ℕ) (bucket_of rounds_of : Timer → ℕ) (w : WheelState) (lists : List (List (ℕ × Node))) → ShowsBuckets n bucket_of rounds_of w lists → (s : ℕ) → s < n → 0 < length (list_at s lists) → 0 < length (entries_at bucket_of s w.pending)
+pub some_at : (n : ℕ) (bucket_of rounds_of : Timer → ℕ) (w : WheelState) (lists : List (List (ℕ × Node)))
+    → ShowsBuckets n bucket_of rounds_of w lists → (s : ℕ) → s < n → 0 < length (list_at s lists)
+    → 0 < length (entries_at bucket_of s w.pending)
 some_at n bucket_of rounds_of w lists h s b k =
     let entries : List Entry = entries_at bucket_of s w.pending in
-    let x : length (list_at s lists) ≡ length entries = ap length (h.buckets s b) ∙ (length-map (by_serial entries) (row_of rounds_of) ∙ length-in_order without_deadline entries) in
+    let x : length (list_at s lists) ≡ length entries = ap length (h.buckets s b)
+    ∙ (length-map (by_serial entries) (row_of rounds_of) ∙ length-in_order without_deadline entries) in
     omega arith

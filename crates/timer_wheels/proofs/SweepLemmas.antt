@@ -9,15 +9,18 @@ use Rattle.timer_wheels.specs.Sweep.{due_now, due_later, half_swept, swept}
 use Rattle.timer_wheels.proofs.RowLemmas.{append-nil}
 use Rattle.timer_wheels.proofs.WalkLemmas.{some_none, same_key, length-list_at, set_twice}
 
-set_swapped : (v : List (List (ℕ × Node))) (i j : ℕ) (a b : List (ℕ × Node)) → i ≢ j → slice_set (slice_set v i a) j b ≡ slice_set (slice_set v j b) i a
+set_swapped : (v : List (List (ℕ × Node))) (i j : ℕ) (a b : List (ℕ × Node)) → i ≢ j
+    → slice_set (slice_set v i a) j b ≡ slice_set (slice_set v j b) i a
 set_swapped [] i j a b n = refl
 set_swapped (x ∷ xs) zero zero a b n = absurd (n refl)
 set_swapped (x ∷ xs) zero (suc j) a b n = refl
 set_swapped (x ∷ xs) (suc i) zero a b n = refl
-set_swapped (x ∷ xs) (suc i) (suc j) a b n = ap (λ (y : List (List (ℕ × Node))). x ∷ y) (set_swapped xs i j a b (λ (e : i ≡ j). n (ap (λ (k : ℕ). suc k) e)))
+set_swapped (x ∷ xs) (suc i) (suc j) a b n = ap (λ (y : List (List (ℕ × Node))). x ∷ y)
+    (set_swapped xs i j a b (λ (e : i ≡ j). n (ap (λ (k : ℕ). suc k) e)))
 
 -- both lists are replaced
-rewritten : (v : List (List (ℕ × Node))) (i j : ℕ) (a b c : List (ℕ × Node)) → i ≢ j → slice_set (slice_set (slice_set v i a) j b) i c ≡ slice_set (slice_set v i c) j b
+rewritten : (v : List (List (ℕ × Node))) (i j : ℕ) (a b c : List (ℕ × Node)) → i ≢ j
+    → slice_set (slice_set (slice_set v i a) j b) i c ≡ slice_set (slice_set v i c) j b
 rewritten v i j a b c n =
     set_swapped (slice_set v i a) j i b c (λ (e : j ≡ i). n (sym e))
     ∙ ap (λ (y : List (List (ℕ × Node))). slice_set y j b) (set_twice v i a c)
@@ -43,25 +46,31 @@ later-now (x ∷ xs) r h = elim (cases_eq x.1.rounds 0) [
   | inr e ↦ rw (ne_eqb x.1.rounds 0 e) (ap (λ (y : List (ℕ × Node)). (x.0, record x.1 { rounds = x.1.rounds - 1 }) ∷ y) (later-now xs r h))
 ]
 
-later-append : (rows : List (ℕ × Node)) (r : ℕ × Node) → r.1.rounds ≢ 0 → due_later (rows ++ r ∷ []) ≡ due_later rows ++ (r.0, record r.1 { rounds = r.1.rounds - 1 }) ∷ []
+later-append : (rows : List (ℕ × Node)) (r : ℕ × Node) → r.1.rounds ≢ 0
+    → due_later (rows ++ r ∷ []) ≡ due_later rows ++ (r.0, record r.1 { rounds = r.1.rounds - 1 }) ∷ []
 later-append [] r h = rw (ne_eqb r.1.rounds 0 h) refl
 later-append (x ∷ xs) r h = elim (cases_eq x.1.rounds 0) [
   | inl e ↦ rw (eq-eqb x.1.rounds 0 e) (later-append xs r h)
-  | inr e ↦ rw (ne_eqb x.1.rounds 0 e) (ap (λ (y : List (ℕ × Node)). (x.0, record x.1 { rounds = x.1.rounds - 1 }) ∷ y) (later-append xs r h))
+  | inr e ↦ rw (ne_eqb x.1.rounds 0 e) (ap (λ (y : List (ℕ × Node)). (x.0, record x.1 { rounds = x.1.rounds - 1 }) ∷ y)
+      (later-append xs r h))
 ]
 
 module _ (l due : ℕ) (old : List (List (ℕ × Node))) (n : l ≢ due) (lb : l < length old) (db : due < length old) where
   pub at_list : (past left : List (ℕ × Node)) → list_at l (half_swept l due past left old) ≡ due_later past ++ left
-  at_list past left = get_or-set_other (slice_set old l (due_later past ++ left)) due l (list_at due old ++ due_now past) [] n ∙ get_or-set_same old l (due_later past ++ left) [] lb
+  at_list past left = get_or-set_other (slice_set old l (due_later past ++ left)) due l (list_at due old ++ due_now past) [] n
+      ∙ get_or-set_same old l (due_later past ++ left) [] lb
 
   pub same_length : (past left : List (ℕ × Node)) → length (half_swept l due past left old) ≡ length old
-  same_length past left = length-set (slice_set old l (due_later past ++ left)) due (list_at due old ++ due_now past) ∙ length-set old l (due_later past ++ left)
+  same_length past left = length-set (slice_set old l (due_later past ++ left)) due (list_at due old ++ due_now past)
+      ∙ length-set old l (due_later past ++ left)
 
   at_due : (past left : List (ℕ × Node)) → list_at due (half_swept l due past left old) ≡ list_at due old ++ due_now past
-  at_due past left = get_or-set_same (slice_set old l (due_later past ++ left)) due (list_at due old ++ due_now past) [] (rw (length-set old l (due_later past ++ left)) db)
+  at_due past left = get_or-set_same (slice_set old l (due_later past ++ left)) due (list_at due old ++ due_now past) []
+      (rw (length-set old l (due_later past ++ left)) db)
 
   -- a row that is due
-  pub due_step : (past rest : List (ℕ × Node)) (r : ℕ × Node) → r.1.rounds ≡ 0 → AreApart (half_swept l due past (r ∷ rest) old) → moved_back r.0 due r.1 (half_swept l due past (r ∷ rest) old) ≡ half_swept l due (past ++ r ∷ []) rest old
+  pub due_step : (past rest : List (ℕ × Node)) (r : ℕ × Node) → r.1.rounds ≡ 0 → AreApart (half_swept l due past (r ∷ rest) old)
+      → moved_back r.0 due r.1 (half_swept l due past (r ∷ rest) old) ≡ half_swept l due (past ++ r ∷ []) rest old
   due_step past rest r z a =
       let w : List (List (ℕ × Node)) = half_swept l due past (r ∷ rest) old in
       let m : map (without_key r.0) w ≡ half_swept l due past rest old =
@@ -69,14 +78,23 @@ module _ (l due : ℕ) (old : List (List (ℕ × Node))) (n : l ≢ due) (lb : l
       ∙ rewritten old l due (due_later past ++ r ∷ rest) (list_at due old ++ due_now past) (due_later past ++ rest) n in
       ap (with_row due r) m
       ∙ (ap (λ (y : List (ℕ × Node)). slice_set (half_swept l due past rest old) due (y ++ r ∷ [])) (at_due past rest)
-      ∙ (set_twice (slice_set old l (due_later past ++ rest)) due (list_at due old ++ due_now past) ((list_at due old ++ due_now past) ++ r ∷ [])
+      ∙ (set_twice (slice_set old l (due_later past ++ rest)) due (list_at due old ++ due_now past) ((list_at due old ++ due_now past)
+      ++ r ∷ [])
       ∙ rw (now-append past r z, later-now past r z, append_assoc (list_at due old) (due_now past) (r ∷ [])) refl))
 
   -- a row that stays
-  pub later_step : (past rest : List (ℕ × Node)) (r : ℕ × Node) → r.1.rounds ≢ 0 → slice_set (half_swept l due past (r ∷ rest) old) l (due_later past ++ (r.0, record r.1 { rounds = r.1.rounds - 1 }) ∷ rest) ≡ half_swept l due (past ++ r ∷ []) rest old
+  pub later_step : (past rest : List (ℕ × Node)) (r : ℕ × Node) → r.1.rounds ≢ 0
+      → slice_set (half_swept l due past (r ∷ rest) old) l (due_later past ++ (r.0, record r.1 { rounds = r.1.rounds - 1 }) ∷ rest)
+      ≡ half_swept l due (past ++ r ∷ []) rest old
   later_step past rest r z =
-      rewritten old l due (due_later past ++ r ∷ rest) (list_at due old ++ due_now past) (due_later past ++ (r.0, record r.1 { rounds = r.1.rounds - 1 }) ∷ rest) n
-      ∙ rw (now-later past r z, later-append past r z, append_assoc (due_later past) ((r.0, record r.1 { rounds = r.1.rounds - 1 }) ∷ []) rest) refl
+      rewritten old l due (due_later past ++ r ∷ rest) (list_at due old ++ due_now past) (due_later past
+      ++ (r.0, record r.1 { rounds = r.1.rounds - 1 }) ∷ rest) n
+      ∙ rw (
+        now-later past r z,
+        later-append past r z,
+        append_assoc (due_later past)
+            ((r.0, record r.1 { rounds = r.1.rounds - 1 }) ∷ []) rest,
+      ) refl
 
 -- some rows of the list were swept, and the key is that of the next one
 pub record IsSweeping (l due step : ℕ) (old lists : List (List (ℕ × Node))) (at : Option ℕ) : Type 0 where
@@ -92,7 +110,8 @@ begun l due old at e = record {
   past = [];
   left = list_at l old;
   rows = refl;
-  is = sym (ap (λ (y : List (List (ℕ × Node))). slice_set y due (list_at due old ++ [])) (set-get_or old l []) ∙ (ap (slice_set old due) (append-nil (list_at due old)) ∙ set-get_or old due []));
+  is = sym (ap (λ (y : List (List (ℕ × Node))). slice_set y due (list_at due old ++ [])) (set-get_or old l [])
+      ∙ (ap (slice_set old due) (append-nil (list_at due old)) ∙ set-get_or old due []));
   next = e;
   steps = refl;
 }
@@ -106,46 +125,61 @@ pub record IsNext (l due step : ℕ) (old lists : List (List (ℕ × Node))) (ke
   pub is : lists ≡ half_swept l due past ((key, node) ∷ rest) old
   pub steps : length past ≡ step
 
-next_of : (l due step : ℕ) (old lists : List (List (ℕ × Node))) (key : ℕ) (past left : List (ℕ × Node)) → list_at l old ≡ past ++ left → lists ≡ half_swept l due past left old → Some key ≡ first_key left → length past ≡ step → IsNext l due step old lists key
+next_of : (l due step : ℕ) (old lists : List (List (ℕ × Node))) (key : ℕ) (past left : List (ℕ × Node)) → list_at l old ≡ past ++ left
+    → lists ≡ half_swept l due past left old → Some key ≡ first_key left → length past ≡ step → IsNext l due step old lists key
 next_of l due step old lists key past [] r i e c = absurd (some_none key e)
 next_of l due step old lists key past (x ∷ xs) r i e c =
     let k : x.0 ≡ key = same_key x.0 key (sym e) in
     let q : x ∷ xs ≡ (key, x.1) ∷ xs = ap (λ (y : ℕ). (y, x.1) ∷ xs) k in
-    record { past = past; node = x.1; rest = xs; rows = r ∙ ap (λ (y : List (ℕ × Node)). past ++ y) q; is = i ∙ ap (λ (y : List (ℕ × Node)). half_swept l due past y old) q; steps = c }
+    record {
+      past = past;
+      node = x.1;
+      rest = xs;
+      rows = r ∙ ap (λ (y : List (ℕ × Node)). past ++ y) q;
+      is = i ∙ ap (λ (y : List (ℕ × Node)). half_swept l due past y old) q;
+      steps = c;
+    }
 
-pub next_row : (l due step : ℕ) (old lists : List (List (ℕ × Node))) (at : Option ℕ) (key : ℕ) → IsSweeping l due step old lists at → at ≡ Some key → IsNext l due step old lists key
+pub next_row : (l due step : ℕ) (old lists : List (List (ℕ × Node))) (at : Option ℕ) (key : ℕ) → IsSweeping l due step old lists at
+    → at ≡ Some key → IsNext l due step old lists key
 next_row l due step old lists at key s e = next_of l due step old lists key s.past s.left s.rows s.is (sym e ∙ s.next) s.steps
 
 -- the end of the walk
 pub record IsSwept (l due : ℕ) (old lists : List (List (ℕ × Node))) : Type 0 where
   pub is : lists ≡ swept l due old
 
-ended : (l due : ℕ) (old lists : List (List (ℕ × Node))) (past left : List (ℕ × Node)) → list_at l old ≡ past ++ left → lists ≡ half_swept l due past left old → left ≡ [] → IsSwept l due old lists
+ended : (l due : ℕ) (old lists : List (List (ℕ × Node))) (past left : List (ℕ × Node)) → list_at l old ≡ past ++ left
+    → lists ≡ half_swept l due past left old → left ≡ [] → IsSwept l due old lists
 ended l due old lists past left r i e =
     let q : list_at l old ≡ past = r ∙ (ap (λ (y : List (ℕ × Node)). past ++ y) e ∙ append-nil past) in
     record {
-      is = i ∙ (ap (λ (y : List (ℕ × Node)). half_swept l due past y old) e ∙ ap (λ (y : List (ℕ × Node)). half_swept l due y [] old) (sym q));
+      is = i ∙ (ap (λ (y : List (ℕ × Node)). half_swept l due past y old) e
+          ∙ ap (λ (y : List (ℕ × Node)). half_swept l due y [] old) (sym q));
     }
 
 none_left : (left : List (ℕ × Node)) → None ≡ first_key left → left ≡ []
 none_left [] e = refl
 none_left (x ∷ xs) e = absurd (some_none x.0 (sym e))
 
-pub ended_none : (l due step : ℕ) (old lists : List (List (ℕ × Node))) (at : Option ℕ) → IsSweeping l due step old lists at → at ≡ None → IsSwept l due old lists
+pub ended_none : (l due step : ℕ) (old lists : List (List (ℕ × Node))) (at : Option ℕ) → IsSweeping l due step old lists at → at ≡ None
+    → IsSwept l due old lists
 ended_none l due step old lists at s e = ended l due old lists s.past s.left s.rows s.is (none_left s.left (sym e ∙ s.next))
 
 empty_when : (left : List (ℕ × Node)) → length left ≤ 0 → left ≡ []
 empty_when [] h = refl
 empty_when (x ∷ xs) h = absurd (omega arith)
 
-pub ended_count : (l due step : ℕ) (old lists : List (List (ℕ × Node))) (at : Option ℕ) → IsSweeping l due step old lists at → row_count old ≤ step → IsSwept l due old lists
+pub ended_count : (l due step : ℕ) (old lists : List (List (ℕ × Node))) (at : Option ℕ) → IsSweeping l due step old lists at
+    → row_count old ≤ step → IsSwept l due old lists
 ended_count l due step old lists at s h =
     let a : length (list_at l old) ≤ row_count old = length-list_at old l in
-    let b : length (list_at l old) ≡ length s.past + length s.left = ap (λ (y : List (ℕ × Node)). length y) s.rows ∙ length-append s.past s.left in
+    let b : length (list_at l old) ≡ length s.past + length s.left =
+    ap (λ (y : List (ℕ × Node)). length y) s.rows ∙ length-append s.past s.left in
     let c : length s.past ≡ step = s.steps in
     ended l due old lists s.past s.left s.rows s.is (empty_when s.left (omega arith))
 
-module _ (l due step : ℕ) (old lists : List (List (ℕ × Node))) (n : l ≢ due) (lb : l < length old) (db : due < length old) (key : ℕ) (w : IsNext l due step old lists key) where
+module _ (l due step : ℕ) (old lists : List (List (ℕ × Node))) (n : l ≢ due) (lb : l < length old) (db : due < length old) (key : ℕ)
+    (w : IsNext l due step old lists key) where
   pub in_range : l < length lists
   in_range = rw (w.is, same_length l due old n lb db w.past ((key, w.node) ∷ w.rest)) lb
 
@@ -162,29 +196,34 @@ module _ (l due step : ℕ) (old lists : List (List (ℕ × Node))) (n : l ≢ d
   in_use a = rw (found a) refl
 
   more : length (w.past ++ (key, w.node) ∷ []) ≡ step + 1
-  more = let c : length w.past ≡ step = w.steps in let d : length (w.past ++ (key, w.node) ∷ []) ≡ length w.past + 1 = length-append w.past ((key, w.node) ∷ []) in omega arith
+  more = let c : length w.past ≡ step = w.steps in let d : length (w.past ++ (key, w.node) ∷ []) ≡ length w.past + 1 =
+      length-append w.past ((key, w.node) ∷ []) in omega arith
 
   rows_more : list_at l old ≡ (w.past ++ (key, w.node) ∷ []) ++ w.rest
   rows_more = w.rows ∙ sym (append_assoc w.past ((key, w.node) ∷ []) w.rest)
 
-  after_due : (new : List (List (ℕ × Node))) (at : Option ℕ) → AreApart lists → w.node.rounds ≡ 0 → new ≡ moved_back key due w.node lists → at ≡ first_key w.rest → IsSweeping l due (step + 1) old new at
+  after_due : (new : List (List (ℕ × Node))) (at : Option ℕ) → AreApart lists → w.node.rounds ≡ 0 → new ≡ moved_back key due w.node lists
+      → at ≡ first_key w.rest → IsSweeping l due (step + 1) old new at
   after_due new at a z e f = record {
     past = w.past ++ (key, w.node) ∷ [];
     left = w.rest;
     rows = rows_more;
-    is = e ∙ (ap (moved_back key due w.node) w.is ∙ due_step l due old n lb db w.past w.rest (key, w.node) z (let P : List (List (ℕ × Node)) → Type 0 = AreApart in subst P w.is a));
+    is = e ∙ (ap (moved_back key due w.node) w.is ∙ due_step l due old n lb db w.past w.rest (key, w.node) z (let P : List (List (ℕ × Node))
+        → Type 0 = AreApart in subst P w.is a));
     next = f;
     steps = more;
   }
 
-  after_later : (new : List (List (ℕ × Node))) (at : Option ℕ) → w.node.rounds ≢ 0 → SetsRounds key (w.node.rounds - 1) lists new → at ≡ first_key w.rest → IsSweeping l due (step + 1) old new at
+  after_later : (new : List (List (ℕ × Node))) (at : Option ℕ) → w.node.rounds ≢ 0 → SetsRounds key (w.node.rounds - 1) lists new
+      → at ≡ first_key w.rest → IsSweeping l due (step + 1) old new at
   after_later new at z e f = record {
     past = w.past ++ (key, w.node) ∷ [];
     left = w.rest;
     rows = rows_more;
     is =
         e l (due_later w.past) w.node w.rest in_range standing
-        ∙ (ap (λ (y : List (List (ℕ × Node))). slice_set y l (due_later w.past ++ (key, record w.node { rounds = w.node.rounds - 1 }) ∷ w.rest)) w.is
+        ∙ (ap (λ (y : List (List (ℕ × Node))). slice_set y l (due_later w.past
+        ++ (key, record w.node { rounds = w.node.rounds - 1 }) ∷ w.rest)) w.is
         ∙ later_step l due old n lb db w.past w.rest (key, w.node) z);
     next = f;
     steps = more;

@@ -36,13 +36,29 @@ both Wide =
     let b : lowest_radix wide ≡ 64 = lowest_radix-wide in
     let s : slots wide ≡ 640 = slots-wide in
     let n : length wide ≡ 10 = length-wide in
-    record { is_table = wide_is_table; digits = in_wide (last_of wide) (omega arith); few_slots = omega arith; in_range = omega arith; some_slots = omega arith; few_wheels = omega arith; more_wheels = omega arith }
+    record {
+      is_table = wide_is_table;
+      digits = in_wide (last_of wide) (omega arith);
+      few_slots = omega arith;
+      in_range = omega arith;
+      some_slots = omega arith;
+      few_wheels = omega arith;
+      more_wheels = omega arith;
+    }
 both Clock =
     let a : last_of clock ≡ 8639999 = last-clock in
     let b : lowest_radix clock ≡ 60 = lowest_radix-clock in
     let s : slots clock ≡ 244 = slots-clock in
     let n : length clock ≡ 4 = length-clock in
-    record { is_table = clock_is_table; digits = in_clock (last_of clock) (omega arith); few_slots = omega arith; in_range = omega arith; some_slots = omega arith; few_wheels = omega arith; more_wheels = omega arith }
+    record {
+      is_table = clock_is_table;
+      digits = in_clock (last_of clock) (omega arith);
+      few_slots = omega arith;
+      in_range = omega arith;
+      some_slots = omega arith;
+      few_wheels = omega arith;
+      more_wheels = omega arith;
+    }
 
 pub of_table : (table : Table) → IsClock (radices table)
 of_table table = both table

@@ -71,7 +71,8 @@ visit_in_time (r ∷ rs) a d t = elim (cases_eq (a / r) (d / r)) [
 ]
 
 -- until then the timer keeps its level
-pub level_stays : (table : List ℕ) (a b d : ℕ) → IsTable table → HasDigits table d → a < d → a ≤ b → b < timer_visit table a d → level table b d ≡ level table a d
+pub level_stays : (table : List ℕ) (a b d : ℕ) → IsTable table → HasDigits table d → a < d → a ≤ b → b < timer_visit table a d
+    → level table b d ≡ level table a d
 level_stays [] a b d t i h k s = refl
 level_stays (r ∷ rs) a b d t i h k s = elim (cases_eq (a / r) (d / r)) [
   | inl e ↦
@@ -84,7 +85,8 @@ level_stays (r ∷ rs) a b d t i h k s = elim (cases_eq (a / r) (d / r)) [
       let s3 : b / r < timer_visit rs (a / r) (d / r) = quotient_below r b (timer_visit rs (a / r) (d / r)) t.0 s2 in
       let s4 : timer_visit rs (a / r) (d / r) ≤ d / r = visit_in_time rs (a / r) (d / r) t.1 in
       let l : a / r < d / r = less_quotient r a d h t.0 e in
-      let ih : level rs (b / r) (d / r) ≡ level rs (a / r) (d / r) = level_stays rs (a / r) (b / r) (d / r) t.1 i l (quotient_mono r a b t.0 k) s3 in
+      let ih : level rs (b / r) (d / r) ≡ level rs (a / r) (d / r) =
+      level_stays rs (a / r) (b / r) (d / r) t.1 i l (quotient_mono r a b t.0 k) s3 in
       level_far r rs b d (λ (x : b / r ≡ d / r). omega arith) ∙ (ap (λ (x : ℕ). suc x) ih ∙ sym (level_far r rs a d e))
 ]
 
@@ -94,7 +96,8 @@ bucket_stays table a b d e = ap (λ (v : ℕ). list_of_slot table v (digit table
 -- Lists.
 
 -- a list that does not come after the timer's is not emptied later
-pub list_first : (table : List ℕ) (l a d : ℕ) → IsTable table → HasDigits table d → a < d → l ≤ bucket table a d → list_visit table l a ≤ timer_visit table a d
+pub list_first : (table : List ℕ) (l a d : ℕ) → IsTable table → HasDigits table d → a < d → l ≤ bucket table a d
+    → list_visit table l a ≤ timer_visit table a d
 list_first [] l a d t i h b = omega arith
 list_first (r ∷ rs) l a d t i h b = elim (cases_eq (a / r) (d / r)) [
   | inl e ↦
@@ -110,17 +113,21 @@ list_first (r ∷ rs) l a d t i h b = elim (cases_eq (a / r) (d / r)) [
       elim (cases_lt l r) [
         | inl k ↦
             let m : a / r < timer_visit rs (a / r) (d / r) = visit_later rs (a / r) (d / r) t.1 less in
-            let p : r * suc (a / r) ≤ r * timer_visit rs (a / r) (d / r) = product_mono r (suc (a / r)) (timer_visit rs (a / r) (d / r)) m in
+            let p : r * suc (a / r) ≤ r * timer_visit rs (a / r) (d / r) = product_mono r (suc (a / r)) (timer_visit rs (a / r) (d / r)) m
+            in
             let q : r * suc (a / r) ≡ r * (a / r) + r = omega arith in
             rw (visit_far r rs a d e, visit_here r rs l a k) (omega arith)
         | inr k ↦
-            let ih : list_visit rs (l - r) (a / r) ≤ timer_visit rs (a / r) (d / r) = list_first rs (l - r) (a / r) (d / r) t.1 i less (omega arith) in
-            rw (visit_far r rs a d e, visit_above r rs l a k) (product_mono r (list_visit rs (l - r) (a / r)) (timer_visit rs (a / r) (d / r)) ih)
+            let ih : list_visit rs (l - r) (a / r) ≤ timer_visit rs (a / r) (d / r) =
+            list_first rs (l - r) (a / r) (d / r) t.1 i less (omega arith) in
+            rw (visit_far r rs a d e, visit_above r rs l a k) (product_mono r (list_visit rs (l - r) (a / r))
+            (timer_visit rs (a / r) (d / r)) ih)
       ]
 ]
 
 -- a list's tick is that of its timers
-pub list_is : (table : List ℕ) (a d : ℕ) → IsTable table → HasDigits table d → a < d → list_visit table (bucket table a d) a ≡ timer_visit table a d
+pub list_is : (table : List ℕ) (a d : ℕ) → IsTable table → HasDigits table d → a < d
+    → list_visit table (bucket table a d) a ≡ timer_visit table a d
 list_is [] a d t i h = absurd (let z : d ≡ 0 = i in omega arith)
 list_is (r ∷ rs) a d t i h = elim (cases_eq (a / r) (d / r)) [
   | inl e ↦
@@ -128,9 +135,11 @@ list_is (r ∷ rs) a d t i h = elim (cases_eq (a / r) (d / r)) [
       let m : d % r < r = omega arith in
       let q : r * (d / r) + d % r ≡ d = omega arith in
       let q2 : r * (a / r) ≡ r * (d / r) = ap (λ (x : ℕ). r * x) e in
-      ap (λ (x : ℕ). list_visit (r ∷ rs) x a) (bucket_near r rs a d e) ∙ (visit_here r rs (d % r) a m ∙ (omega arith ∙ sym (visit_near r rs a d e)))
+      ap (λ (x : ℕ). list_visit (r ∷ rs) x a) (bucket_near r rs a d e)
+      ∙ (visit_here r rs (d % r) a m ∙ (omega arith ∙ sym (visit_near r rs a d e)))
   | inr e ↦
-      let ih : list_visit rs (bucket rs (a / r) (d / r)) (a / r) ≡ timer_visit rs (a / r) (d / r) = list_is rs (a / r) (d / r) t.1 i (less_quotient r a d h t.0 e) in
+      let ih : list_visit rs (bucket rs (a / r) (d / r)) (a / r) ≡ timer_visit rs (a / r) (d / r) =
+      list_is rs (a / r) (d / r) t.1 i (less_quotient r a d h t.0 e) in
       let f : r + bucket rs (a / r) (d / r) - r ≡ bucket rs (a / r) (d / r) = omega arith in
       ap (λ (x : ℕ). list_visit (r ∷ rs) x a) (bucket_far r rs a d e)
       ∙ (visit_above r rs (r + bucket rs (a / r) (d / r)) a (omega arith)

@@ -20,14 +20,19 @@ use Rattle.timer_wheels.proofs.RowLemmas.{all-rows_below}
 use Rattle.timer_wheels.proofs.WithdrawLemmas.{all_later, due-some}
 
 -- each row stands under its key
-under_from : (lists : List (List (ℕ × Node))) (l : ℕ) (front rows : List (ℕ × Node)) → AreApart lists → l < length lists → list_at l lists ≡ front ++ rows → AllByRecursion (λ row. node_at row.0 lists ≡ Some row.1) rows
+under_from : (lists : List (List (ℕ × Node))) (l : ℕ) (front rows : List (ℕ × Node)) → AreApart lists → l < length lists
+    → list_at l lists ≡ front ++ rows → AllByRecursion (λ row. node_at row.0 lists ≡ Some row.1) rows
 under_from lists l front [] a b e = tt
-under_from lists l front (x ∷ xs) a b e = ((a l front x xs b e).0, under_from lists l (front ++ x ∷ []) xs a b (e ∙ sym (append_assoc front (x ∷ []) xs)))
+under_from lists l front (x ∷ xs) a b e = (
+  (a l front x xs b e).0,
+  under_from lists l (front ++ x ∷ []) xs a b (e ∙ sym (append_assoc front (x ∷ []) xs)),
+)
 
 none_some : (node : Node) → None ≡ Some node → ⊥
 none_some node e = absurd (cc)
 
-elsewhere : (from to : ℕ) (lists : List (List (ℕ × Node))) → AreUnused from to lists → (row : ℕ × Node) → node_at row.0 lists ≡ Some row.1 → (row.0 < from) ⊎ (to ≤ row.0)
+elsewhere : (from to : ℕ) (lists : List (List (ℕ × Node))) → AreUnused from to lists → (row : ℕ × Node) → node_at row.0 lists ≡ Some row.1
+    → (row.0 < from) ⊎ (to ≤ row.0)
 elsewhere from to lists u row e = elim (cases_lt row.0 from) [
   | inl h ↦ inl h
   | inr h ↦ elim (cases_lt row.0 to) [
@@ -36,13 +41,15 @@ elsewhere from to lists u row e = elim (cases_lt row.0 from) [
   ]
 ]
 
-before : (from : ℕ) (lists : List (List (ℕ × Node))) → ((key : ℕ) → from ≤ key → node_at key lists ≡ None) → (row : ℕ × Node) → node_at row.0 lists ≡ Some row.1 → row.0 < from
+before : (from : ℕ) (lists : List (List (ℕ × Node))) → ((key : ℕ) → from ≤ key → node_at key lists ≡ None) → (row : ℕ × Node)
+    → node_at row.0 lists ≡ Some row.1 → row.0 < from
 before from lists u row e = elim (cases_lt row.0 from) [
   | inl h ↦ h
   | inr h ↦ absurd (none_some row.1 (sym (u row.0 h) ∙ e))
 ]
 
-all-entries : (P : Entry → Type 0) (rows : List (ℕ × Node)) → AllByRecursion (λ row. P (entry_of row)) rows → AllByRecursion P (entries_of rows)
+all-entries : (P : Entry → Type 0) (rows : List (ℕ × Node)) → AllByRecursion (λ row. P (entry_of row)) rows
+    → AllByRecursion P (entries_of rows)
 all-entries P [] a = tt
 all-entries P (r ∷ rs) a = (a.0, all-entries P rs a.1)
 
@@ -57,23 +64,36 @@ module _ (b : Buckets) (apart : AreApart b.links) where
   under_below = all-rows_below (λ row. node_at row.0 b.links ≡ Some row.1) b.slots b.links (λ s h. under s (omega arith))
 
   -- what holds of the places of all rows, holds of those of the pending timers
-  of_pending : (P : Entry → Type 0) → ((row : ℕ × Node) → node_at row.0 b.links ≡ Some row.1 → P (entry_of row)) → AllByRecursion P (state_of b).pending
-  of_pending P f = All-in_order timer_of P (entries_of (rows_below b.slots b.links)) (all-entries P (rows_below b.slots b.links) (All-weaken (λ row. node_at row.0 b.links ≡ Some row.1) (λ row. P (entry_of row)) (rows_below b.slots b.links) f under_below))
+  of_pending : (P : Entry → Type 0) → ((row : ℕ × Node) → node_at row.0 b.links ≡ Some row.1 → P (entry_of row))
+      → AllByRecursion P (state_of b).pending
+  of_pending P f = All-in_order timer_of P (entries_of (rows_below b.slots b.links))
+      (all-entries P (rows_below b.slots b.links) (All-weaken (λ row. node_at row.0 b.links
+      ≡ Some row.1) (λ row. P (entry_of row)) (rows_below b.slots b.links) f under_below))
 
   -- and of those of the due timers
-  of_due : (P : Entry → Type 0) → ((row : ℕ × Node) → node_at row.0 b.links ≡ Some row.1 → P (entry_of row)) → AllByRecursion P (state_of b).due
-  of_due P f = all-entries P (list_at b.slots b.links) (All-weaken (λ row. node_at row.0 b.links ≡ Some row.1) (λ row. P (entry_of row)) (list_at b.slots b.links) f (under b.slots (omega arith)))
+  of_due : (P : Entry → Type 0) → ((row : ℕ × Node) → node_at row.0 b.links ≡ Some row.1 → P (entry_of row))
+      → AllByRecursion P (state_of b).due
+  of_due P f = all-entries P (list_at b.slots b.links) (All-weaken (λ row. node_at row.0 b.links
+      ≡ Some row.1) (λ row. P (entry_of row)) (list_at b.slots b.links) f (under b.slots (omega arith)))
 
-  held_under : (handle : Handle) (node : Node) → Some node ≡ node_at handle.place b.links → node.timer.serial ≡ handle.serial → IsHeld handle (state_of b)
+  held_under : (handle : Handle) (node : Node) → Some node ≡ node_at handle.place b.links → node.timer.serial ≡ handle.serial
+      → IsHeld handle (state_of b)
   held_under handle node e s = elim (cases_lt b.tick node.timer.deadline) [
-    | inl h ↦ inl (some_timer node.timer (timer_at handle (state_of b)) (look-some b.tick b.slots handle b.links b.has_lists (separated b.last_tick b.tick b.last_serial b.slots b.links b.pending b.due) apart node e s h b.distinct))
-    | inr h ↦ inr (some_timer node.timer (due_at handle (state_of b)) (due-some b.tick b.slots handle b.links b.has_lists (all_later b) b.due apart node e s h))
+    | inl h ↦ inl (some_timer node.timer (timer_at handle (state_of b))
+        (look-some b.tick b.slots handle b.links b.has_lists (separated b.last_tick b.tick b.last_serial b.slots b.links b.pending b.due)
+        apart node e s h b.distinct))
+    | inr h ↦ inr (some_timer node.timer (due_at handle (state_of b))
+        (due-some b.tick b.slots handle b.links b.has_lists (all_later b) b.due apart node e s h))
   ]
 
   pub none_held : (from : ℕ) → IsFirstUsed from b.links None → IsFirstHeld from (state_of b) None
-  none_held from u = (of_pending (λ entry. entry.place < from) (λ row e. before from b.links u row e), of_due (λ entry. entry.place < from) (λ row e. before from b.links u row e))
+  none_held from u = (
+    of_pending (λ entry. entry.place < from) (λ row e. before from b.links u row e),
+    of_due (λ entry. entry.place < from) (λ row e. before from b.links u row e),
+  )
 
-  pub first_held : (from : ℕ) (handle : Handle) (node : Node) → IsFirstUsed from b.links (Some handle.place) → Some node ≡ node_at handle.place b.links → node.timer.serial ≡ handle.serial → IsFirstHeld from (state_of b) (Some handle)
+  pub first_held : (from : ℕ) (handle : Handle) (node : Node) → IsFirstUsed from b.links (Some handle.place)
+      → Some node ≡ node_at handle.place b.links → node.timer.serial ≡ handle.serial → IsFirstHeld from (state_of b) (Some handle)
   first_held from handle node u e s = (
     u.0,
     held_under handle node e s,

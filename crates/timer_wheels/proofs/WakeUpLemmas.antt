@@ -28,25 +28,30 @@ none_left : (rows : List (ℕ × Node)) → AllByRecursion (λ row. ⊥) rows �
 none_left [] a h = omega arith
 none_left (r ∷ rs) a h = a.0
 
-some_pending : (n l : ℕ) (lists : List (List (ℕ × Node))) → l < n → 0 < length (list_at l lists) → 0 < length (pending_in (rows_below n lists))
+some_pending : (n l : ℕ) (lists : List (List (ℕ × Node))) → l < n → 0 < length (list_at l lists)
+    → 0 < length (pending_in (rows_below n lists))
 some_pending n l lists b h = elim (some_or_none (rows_below n lists)) [
   | inl e ↦ absurd (
       let P : List (ℕ × Node) → Type 0 = AllByRecursion (λ row. ⊥) in
       none_left (list_at l lists) (all-list_at (λ row. ⊥) n lists (subst P (sym e) tt) l b) h)
-  | inr k ↦ (let e : length (pending_in (rows_below n lists)) ≡ length (rows_below n lists) = length-pending_in (rows_below n lists) in omega arith)
+  | inr k ↦ (let e : length (pending_in (rows_below n lists)) ≡ length (rows_below n lists) = length-pending_in (rows_below n lists)
+      in omega arith)
 ]
 
-entries_each : (visit : ℕ) (rows : List (ℕ × Node)) → AllByRecursion (λ row. visit ≤ (timer_in row).deadline) rows → AllByRecursion (λ entry. visit ≤ entry.timer.deadline) (entries_of rows)
+entries_each : (visit : ℕ) (rows : List (ℕ × Node)) → AllByRecursion (λ row. visit ≤ (timer_in row).deadline) rows
+    → AllByRecursion (λ entry. visit ≤ entry.timer.deadline) (entries_of rows)
 entries_each visit [] a = tt
 entries_each visit (r ∷ rs) a = (a.0, entries_each visit rs a.1)
 
 module _ (n last now last_serial : ℕ) (lists : List (List (ℕ × Node))) where
   -- some bucket has a timer, and no deadline is before this tick
-  pub wakes : (visit l : ℕ) → l < n → 0 < length (list_at l lists) → now < visit → EachRow (λ s row. visit ≤ (timer_in row).deadline) n lists → IsWakeUp visit (wheel_state n last now last_serial lists)
+  pub wakes : (visit l : ℕ) → l < n → 0 < length (list_at l lists) → now < visit
+      → EachRow (λ s row. visit ≤ (timer_in row).deadline) n lists → IsWakeUp visit (wheel_state n last now last_serial lists)
   wakes visit l b h k a = record {
     some = some_pending n l lists b h;
     later = k;
-    in_time = All-in_order timer_of (λ entry. visit ≤ entry.timer.deadline) (entries_of (rows_below n lists)) (entries_each visit (rows_below n lists) (all-rows_below (λ row. visit ≤ (timer_in row).deadline) n lists a));
+    in_time = All-in_order timer_of (λ entry. visit ≤ entry.timer.deadline) (entries_of (rows_below n lists))
+        (entries_each visit (rows_below n lists) (all-rows_below (λ row. visit ≤ (timer_in row).deadline) n lists a));
   }
 
   -- no bucket has a timer
@@ -64,7 +69,8 @@ no_length [] e = refl
 no_length (x ∷ xs) e = absurd (omega arith)
 
 -- where the lists have no row nothing is pending
-pub none_at_all : (n : ℕ) (lists : List (List (ℕ × Node))) → length lists ≡ n + 1 → row_count lists ≡ 0 → pending_in (rows_below n lists) ≡ []
+pub none_at_all : (n : ℕ) (lists : List (List (ℕ × Node))) → length lists ≡ n + 1 → row_count lists ≡ 0
+    → pending_in (rows_below n lists) ≡ []
 none_at_all n lists e z =
     let parts : row_count lists ≡ length (rows_below n lists) + length (list_at n lists) = row_count-parts n lists e in
     let rows : length (pending_in (rows_below n lists)) ≡ length (rows_below n lists) = length-pending_in (rows_below n lists) in
@@ -80,7 +86,8 @@ none_ahead n slot lists j a b = absurd (omega arith)
 which : (j step : ℕ) → j ≤ step + 1 → (j ≤ step) ⊎ (j ≡ step + 1)
 which j step h = elim (cases_lt j (step + 1)) [ inl k ↦ inl (omega arith) | inr k ↦ inr (omega arith) ]
 
-pub one_ahead : (n slot step bucket : ℕ) (lists : List (List (ℕ × Node))) → bucket ≡ (slot + (step + 1)) % n → list_at bucket lists ≡ [] → AreEmptyAhead n slot step lists → AreEmptyAhead n slot (step + 1) lists
+pub one_ahead : (n slot step bucket : ℕ) (lists : List (List (ℕ × Node))) → bucket ≡ (slot + (step + 1)) % n → list_at bucket lists ≡ []
+    → AreEmptyAhead n slot step lists → AreEmptyAhead n slot (step + 1) lists
 one_ahead n slot step bucket lists e z f j a b = elim (which j step b) [
   | inl k ↦ f j a k
   | inr k ↦ ap (λ (x : ℕ). list_at ((slot + x) % n) lists) k ∙ (ap (λ (x : ℕ). list_at x lists) (sym e) ∙ z)
@@ -93,14 +100,16 @@ ahead_of n slot s a b = elim (cases_lt slot s) [
 ]
 
 -- after a full turn no slot is left
-pub all_ahead : (n slot : ℕ) (lists : List (List (ℕ × Node))) → slot < n → AreEmptyAhead n slot n lists → (s : ℕ) → s < n → list_at s lists ≡ []
+pub all_ahead : (n slot : ℕ) (lists : List (List (ℕ × Node))) → slot < n → AreEmptyAhead n slot n lists → (s : ℕ) → s < n
+    → list_at s lists ≡ []
 all_ahead n slot lists a f s b = let j = ahead_of n slot s a b in ap (λ (x : ℕ). list_at x lists) (sym j.3) ∙ f j.0 j.1 j.2
 
 slot_of_deadline : (n now j d : ℕ) → d ≡ now + j → (now % n + j) % n ≡ d % n
 slot_of_deadline n now j d e = mod-add-mod now n j ∙ ap (λ (x : ℕ). x % n) (sym e)
 
 -- a timer of a slot that has one is not before the first such slot
-row_in_time : (n now slot step s d : ℕ) (lists : List (List (ℕ × Node))) → slot ≡ now % n → AreEmptyAhead n slot step lists → d % n ≡ s → now < d → 0 < length (list_at s lists) → now + (step + 1) ≤ d
+row_in_time : (n now slot step s d : ℕ) (lists : List (List (ℕ × Node))) → slot ≡ now % n → AreEmptyAhead n slot step lists → d % n ≡ s
+    → now < d → 0 < length (list_at s lists) → now + (step + 1) ≤ d
 row_in_time n now slot step s d lists a f m k h = elim (cases_lt d (now + (step + 1))) [
   | inl b ↦ absurd (
       let e : (slot + (d - now)) % n ≡ s = ap (λ (x : ℕ). (x + (d - now)) % n) a ∙ (slot_of_deadline n now (d - now) d (omega arith) ∙ m) in
@@ -110,19 +119,27 @@ row_in_time n now slot step s d lists a f m k h = elim (cases_lt d (now + (step 
   | inr b ↦ b
 ]
 
-module _ (n last now last_serial slot step : ℕ) (lists : List (List (ℕ × Node))) (a : slot ≡ now % n) (f : AreEmptyAhead n slot step lists) where
-  rows_in_time : (s : ℕ) (rows : List (ℕ × Node)) → 0 < length (list_at s lists) → AllByRecursion (λ row. IsPending last now last_serial (timer_in row)) rows → AllByRecursion (IsInBucket n now s) rows → AllByRecursion (λ row. now + (step + 1) ≤ (timer_in row).deadline) rows
+module _ (n last now last_serial slot step : ℕ) (lists : List (List (ℕ × Node))) (a : slot
+    ≡ now % n) (f : AreEmptyAhead n slot step lists) where
+  rows_in_time : (s : ℕ) (rows : List (ℕ × Node)) → 0 < length (list_at s lists)
+      → AllByRecursion (λ row. IsPending last now last_serial (timer_in row)) rows → AllByRecursion (IsInBucket n now s) rows
+      → AllByRecursion (λ row. now + (step + 1) ≤ (timer_in row).deadline) rows
   rows_in_time s [] h p q = tt
-  rows_in_time s (r ∷ rs) h p q = (row_in_time n now slot step s (timer_in r).deadline lists a f q.0.0 p.0.later h, rows_in_time s rs h p.1 q.1)
+  rows_in_time s (r ∷ rs) h p q = (
+    row_in_time n now slot step s (timer_in r).deadline lists a f q.0.0 p.0.later h,
+    rows_in_time s rs h p.1 q.1,
+  )
 
-  lists_in_time : ArePending last now last_serial (rows_below n lists) → AreInBuckets n now lists → EachRow (λ s row. now + (step + 1) ≤ (timer_in row).deadline) n lists
+  lists_in_time : ArePending last now last_serial (rows_below n lists) → AreInBuckets n now lists
+      → EachRow (λ s row. now + (step + 1) ≤ (timer_in row).deadline) n lists
   lists_in_time p q s b = elim (some_or_none (list_at s lists)) [
     | inl e ↦ (let P : List (ℕ × Node) → Type 0 = AllByRecursion (λ row. now + (step + 1) ≤ (timer_in row).deadline) in subst P (sym e) tt)
     | inr h ↦ rows_in_time s (list_at s lists) h (all-list_at (λ row. IsPending last now last_serial (timer_in row)) n lists p s b) (q s b)
   ]
 
   -- the first slot ahead that has a timer
-  pub wakes_at : (bucket : ℕ) → bucket < n → 0 < length (list_at bucket lists) → ArePending last now last_serial (rows_below n lists) → AreInBuckets n now lists → IsWakeUp (now + (step + 1)) (wheel_state n last now last_serial lists)
+  pub wakes_at : (bucket : ℕ) → bucket < n → 0 < length (list_at bucket lists) → ArePending last now last_serial (rows_below n lists)
+      → AreInBuckets n now lists → IsWakeUp (now + (step + 1)) (wheel_state n last now last_serial lists)
   wakes_at bucket b h p q = wakes n last now last_serial lists (now + (step + 1)) bucket b h (omega arith) (lists_in_time p q)
 
 -- The first slot ahead that has a timer.
@@ -131,19 +148,23 @@ module _ (n last now last_serial slot step : ℕ) (lists : List (List (ℕ × No
 slot_ahead : (n now slot j t : ℕ) → slot ≡ now % n → t ≡ now + j → (slot + j) % n ≡ t % n
 slot_ahead n now slot j t a e = ap (λ (x : ℕ). (x + j) % n) a ∙ slot_of_deadline n now j t e
 
-module _ (n last now last_serial slot step : ℕ) (lists : List (List (ℕ × Node))) (z : 0 < n) (a : slot ≡ now % n) (f : AreEmptyAhead n slot step lists) (len : length lists ≡ n + 1) (o : AreInOrder (n + 1) lists) (q : AreInBuckets n now lists) where
+module _ (n last now last_serial slot step : ℕ) (lists : List (List (ℕ × Node))) (z : 0 < n) (a : slot
+    ≡ now % n) (f : AreEmptyAhead n slot step lists) (len : length lists
+    ≡ n + 1) (o : AreInOrder (n + 1) lists) (q : AreInBuckets n now lists) where
   passed_none : (t : ℕ) → now < t → t < now + (step + 1) → entries_at (slot_of n) (t % n) (pending_in (rows_below n lists)) ≡ []
   passed_none t h k =
       let s : (slot + (t - now)) % n ≡ t % n = slot_ahead n now slot (t - now) t a (omega arith) in
       let r : list_at (t % n) lists ≡ [] = ap (λ (x : ℕ). list_at x lists) (sym s) ∙ f (t - now) (omega arith) (omega arith) in
       entries_at-pending n (slot_of n) (rounds_of n now) lists len q (t % n) (omega arith) ∙ ap pending_in r
 
-  pub sweeps_next : (bucket : ℕ) → bucket ≡ (slot + (step + 1)) % n → step < n → 0 < length (list_at bucket lists) → IsNextSweep n (now + (step + 1)) (wheel_state n last now last_serial lists)
+  pub sweeps_next : (bucket : ℕ) → bucket ≡ (slot + (step + 1)) % n → step < n → 0 < length (list_at bucket lists)
+      → IsNextSweep n (now + (step + 1)) (wheel_state n last now last_serial lists)
   sweeps_next bucket e b h =
       let s : bucket ≡ (now + (step + 1)) % n = e ∙ slot_ahead n now slot (step + 1) (now + (step + 1)) a refl in
       let r : 0 < length (list_at ((now + (step + 1)) % n) lists) = let P : ℕ → Type 0 = λ x. 0 < length (list_at x lists) in subst P s h in
       record {
         in_turn = omega arith;
-        some = some_at n (slot_of n) (rounds_of n now) (wheel_state n last now last_serial lists) lists (shows n (slot_of n) (rounds_of n now) lists len q last now last_serial o) ((now + (step + 1)) % n) (omega arith) r;
+        some = some_at n (slot_of n) (rounds_of n now) (wheel_state n last now last_serial lists) lists
+            (shows n (slot_of n) (rounds_of n now) lists len q last now last_serial o) ((now + (step + 1)) % n) (omega arith) r;
         none_before = passed_none;
       }

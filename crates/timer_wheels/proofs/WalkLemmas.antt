@@ -44,13 +44,15 @@ pub record IsNextRow (l step : ℕ) (lists : List (List (ℕ × Node))) (key : �
   pub rows : list_at l lists ≡ past ++ (key, node) ∷ rest
   pub count : length past ≡ step
 
-next_of : (l step : ℕ) (lists : List (List (ℕ × Node))) (key : ℕ) (past left : List (ℕ × Node)) → list_at l lists ≡ past ++ left → Some key ≡ first_key left → length past ≡ step → IsNextRow l step lists key past
+next_of : (l step : ℕ) (lists : List (List (ℕ × Node))) (key : ℕ) (past left : List (ℕ × Node)) → list_at l lists ≡ past ++ left
+    → Some key ≡ first_key left → length past ≡ step → IsNextRow l step lists key past
 next_of l step lists key past [] r e c = absurd (some_none key e)
 next_of l step lists key past (x ∷ xs) r e c =
     let k : x.0 ≡ key = same_key x.0 key (sym e) in
     record { node = x.1; rest = xs; rows = r ∙ ap (λ (y : ℕ). past ++ (y, x.1) ∷ xs) k; count = c }
 
-pub next_row : (l step : ℕ) (lists : List (List (ℕ × Node))) (at : Option ℕ) (key : ℕ) (past : List (ℕ × Node)) → IsWalking l step lists at past → at ≡ Some key → IsNextRow l step lists key past
+pub next_row : (l step : ℕ) (lists : List (List (ℕ × Node))) (at : Option ℕ) (key : ℕ) (past : List (ℕ × Node))
+    → IsWalking l step lists at past → at ≡ Some key → IsNextRow l step lists key past
 next_row l step lists at key past w e = next_of l step lists key past w.left w.rows (sym e ∙ w.next) w.count
 
 none_left : (left : List (ℕ × Node)) → None ≡ first_key left → left ≡ []
@@ -61,22 +63,27 @@ empty_when : (left : List (ℕ × Node)) → length left ≤ 0 → left ≡ []
 empty_when [] h = refl
 empty_when (x ∷ xs) h = absurd (omega arith)
 
-all_past : (l : ℕ) (lists : List (List (ℕ × Node))) (past left : List (ℕ × Node)) → list_at l lists ≡ past ++ left → left ≡ [] → list_at l lists ≡ past
+all_past : (l : ℕ) (lists : List (List (ℕ × Node))) (past left : List (ℕ × Node)) → list_at l lists ≡ past ++ left → left ≡ []
+    → list_at l lists ≡ past
 all_past l lists past left r e = r ∙ (ap (λ (y : List (ℕ × Node)). past ++ y) e ∙ append-nil past)
 
 -- the walk is over where no key is left
-pub ended_none : (l step : ℕ) (lists : List (List (ℕ × Node))) (at : Option ℕ) (past : List (ℕ × Node)) → IsWalking l step lists at past → at ≡ None → list_at l lists ≡ past
+pub ended_none : (l step : ℕ) (lists : List (List (ℕ × Node))) (at : Option ℕ) (past : List (ℕ × Node)) → IsWalking l step lists at past
+    → at ≡ None → list_at l lists ≡ past
 ended_none l step lists at past w e = all_past l lists past w.left w.rows (none_left w.left (sym e ∙ w.next))
 
 -- and after as many steps as there are rows
-pub ended_count : (l step : ℕ) (lists : List (List (ℕ × Node))) (at : Option ℕ) (past : List (ℕ × Node)) → IsWalking l step lists at past → row_count lists ≤ step → list_at l lists ≡ past
+pub ended_count : (l step : ℕ) (lists : List (List (ℕ × Node))) (at : Option ℕ) (past : List (ℕ × Node)) → IsWalking l step lists at past
+    → row_count lists ≤ step → list_at l lists ≡ past
 ended_count l step lists at past w h =
     let a : length (list_at l lists) ≤ row_count lists = length-list_at lists l in
-    let b : length (list_at l lists) ≡ length past + length w.left = ap (λ (y : List (ℕ × Node)). length y) w.rows ∙ length-append past w.left in
+    let b : length (list_at l lists) ≡ length past + length w.left =
+    ap (λ (y : List (ℕ × Node)). length y) w.rows ∙ length-append past w.left in
     let c : length past ≡ step = w.count in
     all_past l lists past w.left w.rows (empty_when w.left (omega arith))
 
-module _ (l step : ℕ) (lists : List (List (ℕ × Node))) (b : l < length lists) (a : AreApart lists) (key : ℕ) (past : List (ℕ × Node)) (w : IsNextRow l step lists key past) where
+module _ (l step : ℕ) (lists : List (List (ℕ × Node))) (b : l < length lists) (a : AreApart lists) (key : ℕ) (past : List (ℕ × Node))
+    (w : IsNextRow l step lists key past) where
   pub found : node_at key lists ≡ Some w.node
   found = (a l past (key, w.node) w.rest b w.rows).0
 
@@ -88,7 +95,8 @@ module _ (l step : ℕ) (lists : List (List (ℕ × Node))) (b : l < length list
     left = w.rest;
     rows = w.rows ∙ sym (append_assoc past ((key, w.node) ∷ []) w.rest);
     next = e;
-    count = (let c : length past ≡ step = w.count in let d : length (past ++ (key, w.node) ∷ []) ≡ length past + 1 = length-append past ((key, w.node) ∷ []) in omega arith);
+    count = (let c : length past ≡ step = w.count in let d : length (past ++ (key, w.node) ∷ []) ≡ length past + 1 =
+        length-append past ((key, w.node) ∷ []) in omega arith);
   }
 
 -- the rows so far are counted
@@ -99,19 +107,25 @@ pub record IsCounting (l step : ℕ) (lists : List (List (ℕ × Node))) (at : O
 pub counted-none : (l : ℕ) (lists : List (List (ℕ × Node))) (at : Option ℕ) → at ≡ first_key (list_at l lists) → IsCounting l 0 lists at
 counted-none l lists at e = record { past = []; walk = begun l lists at e }
 
-pub counted-one : (l step : ℕ) (lists : List (List (ℕ × Node))) (b : l < length lists) (a : AreApart lists) (key : ℕ) (at next : Option ℕ) → (c : IsCounting l step lists at) → at ≡ Some key → IsNext key lists next → IsCounting l (step + 1) lists next
+pub counted-one : (l step : ℕ) (lists : List (List (ℕ × Node))) (b : l < length lists) (a : AreApart lists) (key : ℕ) (at next : Option ℕ)
+    → (c : IsCounting l step lists at) → at ≡ Some key → IsNext key lists next → IsCounting l (step + 1) lists next
 counted-one l step lists b a key at next c e n =
     let w : IsNextRow l step lists key c.past = next_row l step lists at key c.past c.walk e in
     record { past = c.past ++ (key, w.node) ∷ []; walk = walked l step lists b a key c.past w next (n l c.past w.node w.rest b w.rows) }
 
-pub counted-in_use : (l step : ℕ) (lists : List (List (ℕ × Node))) (b : l < length lists) (a : AreApart lists) (key : ℕ) (at : Option ℕ) → (c : IsCounting l step lists at) → at ≡ Some key → IsSome (node_at key lists)
+pub counted-in_use : (l step : ℕ) (lists : List (List (ℕ × Node))) (b : l < length lists) (a : AreApart lists) (key : ℕ) (at : Option ℕ)
+    → (c : IsCounting l step lists at) → at ≡ Some key → IsSome (node_at key lists)
 counted-in_use l step lists b a key at c e = in_use l step lists b a key c.past (next_row l step lists at key c.past c.walk e)
 
-pub counted-all : (l step : ℕ) (lists : List (List (ℕ × Node))) (at : Option ℕ) → IsCounting l step lists at → at ≡ None → step ≡ length (list_at l lists)
-counted-all l step lists at c e = sym c.walk.count ∙ ap (λ (y : List (ℕ × Node)). length y) (sym (ended_none l step lists at c.past c.walk e))
+pub counted-all : (l step : ℕ) (lists : List (List (ℕ × Node))) (at : Option ℕ) → IsCounting l step lists at → at ≡ None
+    → step ≡ length (list_at l lists)
+counted-all l step lists at c e = sym c.walk.count ∙ ap (λ (y : List (ℕ × Node)). length y)
+    (sym (ended_none l step lists at c.past c.walk e))
 
-pub counted-enough : (l step : ℕ) (lists : List (List (ℕ × Node))) (at : Option ℕ) → IsCounting l step lists at → row_count lists ≤ step → step ≡ length (list_at l lists)
-counted-enough l step lists at c h = sym c.walk.count ∙ ap (λ (y : List (ℕ × Node)). length y) (sym (ended_count l step lists at c.past c.walk h))
+pub counted-enough : (l step : ℕ) (lists : List (List (ℕ × Node))) (at : Option ℕ) → IsCounting l step lists at → row_count lists ≤ step
+    → step ≡ length (list_at l lists)
+counted-enough l step lists at c h = sym c.walk.count ∙ ap (λ (y : List (ℕ × Node)). length y)
+    (sym (ended_count l step lists at c.past c.walk h))
 
 -- the rows copied so far
 pub record IsCopying (l step : ℕ) (lists : List (List (ℕ × Node))) (at : Option ℕ) (old new : List Timer) : Type 0 where
@@ -119,7 +133,9 @@ pub record IsCopying (l step : ℕ) (lists : List (List (ℕ × Node))) (at : Op
   pub walk : IsWalking l step lists at past
   pub timers : new ≡ old ++ timers_in past
 
-pub copied : (l step : ℕ) (lists : List (List (ℕ × Node))) (b : l < length lists) (a : AreApart lists) (key : ℕ) (at next : Option ℕ) (node : Node) (old new more : List Timer) → (c : IsCopying l step lists at old new) → at ≡ Some key → Some node ≡ node_at key lists → more ≡ new ++ node.timer ∷ []
+pub copied : (l step : ℕ) (lists : List (List (ℕ × Node))) (b : l < length lists) (a : AreApart lists) (key : ℕ) (at next : Option ℕ)
+    (node : Node) (old new more : List Timer) → (c : IsCopying l step lists at old new) → at ≡ Some key → Some node ≡ node_at key lists
+    → more ≡ new ++ node.timer ∷ []
     → ((w : IsNextRow l step lists key c.past) → next ≡ first_key w.rest) → IsCopying l (step + 1) lists next old more
 copied l step lists b a key at next node old new more c e f m n =
     let w : IsNextRow l step lists key c.past = next_row l step lists at key c.past c.walk e in
@@ -130,10 +146,12 @@ copied l step lists b a key at next node old new more c e f m n =
       timers =
           m ∙ (ap (λ (y : List Timer). y ++ node.timer ∷ []) c.timers
           ∙ (append_assoc old (timers_in c.past) (node.timer ∷ [])
-          ∙ ap (λ (y : List Timer). old ++ y) (ap (λ (y : Node). timers_in c.past ++ y.timer ∷ []) same ∙ sym (timers-append c.past ((key, w.node) ∷ [])))));
+          ∙ ap (λ (y : List Timer). old ++ y) (ap (λ (y : Node). timers_in c.past ++ y.timer ∷ []) same
+          ∙ sym (timers-append c.past ((key, w.node) ∷ [])))));
     }
 
-pub copied-all : (l step : ℕ) (lists : List (List (ℕ × Node))) (at : Option ℕ) (old new : List Timer) → (c : IsCopying l step lists at old new) → list_at l lists ≡ c.past → new ≡ old ++ timers_in (list_at l lists)
+pub copied-all : (l step : ℕ) (lists : List (List (ℕ × Node))) (at : Option ℕ) (old new : List Timer)
+    → (c : IsCopying l step lists at old new) → list_at l lists ≡ c.past → new ≡ old ++ timers_in (list_at l lists)
 copied-all l step lists at old new c e = c.timers ∙ ap (λ (y : List (ℕ × Node)). old ++ timers_in y) (sym e)
 
 -- One list is emptied.
@@ -152,24 +170,29 @@ set_twice [] i a b = refl
 set_twice (x ∷ xs) zero a b = refl
 set_twice (x ∷ xs) (suc i) a b = ap (λ (y : List (List (ℕ × Node))). x ∷ y) (set_twice xs i a b)
 
-left_there : (l : ℕ) (old new : List (List (ℕ × Node))) (left : List (ℕ × Node)) → l < length old → new ≡ slice_set old l left → list_at l new ≡ left
+left_there : (l : ℕ) (old new : List (List (ℕ × Node))) (left : List (ℕ × Node)) → l < length old → new ≡ slice_set old l left
+    → list_at l new ≡ left
 left_there l old new left b e = ap (list_at l) e ∙ get_or-set_same old l left [] b
 
-pub emptied-one : (l step : ℕ) (old new more : List (List (ℕ × Node))) (row : ℕ × Node) → l < length old → IsEmptying l step old new → PopsFront l new (Some row) more → IsEmptying l (step + 1) old more
+pub emptied-one : (l step : ℕ) (old new more : List (List (ℕ × Node))) (row : ℕ × Node) → l < length old → IsEmptying l step old new
+    → PopsFront l new (Some row) more → IsEmptying l (step + 1) old more
 emptied-one l step old new more row b s p =
     let e : s.left ≡ row ∷ p.0 = sym (left_there l old new s.left b s.is) ∙ p.1 in
     record {
       left = p.0;
       is = p.2 ∙ (ap (λ (y : List (List (ℕ × Node))). slice_set y l p.0) s.is ∙ set_twice old l s.left p.0);
-      count = (let c : length s.left + step ≡ length (list_at l old) = s.count in let d : length s.left ≡ suc (length p.0) = ap (λ (y : List (ℕ × Node)). length y) e in omega arith);
+      count = (let c : length s.left + step ≡ length (list_at l old) = s.count
+          in let d : length s.left ≡ suc (length p.0) = ap (λ (y : List (ℕ × Node)). length y) e in omega arith);
     }
 
-pub emptied-none : (l step : ℕ) (old new more : List (List (ℕ × Node))) → l < length old → IsEmptying l step old new → PopsFront l new None more → more ≡ slice_set old l []
+pub emptied-none : (l step : ℕ) (old new more : List (List (ℕ × Node))) → l < length old → IsEmptying l step old new
+    → PopsFront l new None more → more ≡ slice_set old l []
 emptied-none l step old new more b s p =
     let e : s.left ≡ [] = sym (left_there l old new s.left b s.is) ∙ p.0 in
     p.1 ∙ (s.is ∙ ap (slice_set old l) e)
 
-pub emptied-count : (l step : ℕ) (old new : List (List (ℕ × Node))) → IsEmptying l step old new → row_count old ≤ step → new ≡ slice_set old l []
+pub emptied-count : (l step : ℕ) (old new : List (List (ℕ × Node))) → IsEmptying l step old new → row_count old ≤ step
+    → new ≡ slice_set old l []
 emptied-count l step old new s h =
     let a : length (list_at l old) ≤ row_count old = length-list_at old l in
     let c : length s.left + step ≡ length (list_at l old) = s.count in
@@ -187,7 +210,8 @@ pub record AreEmptied (count : ℕ) (old new : List (List (ℕ × Node))) : Type
 pub none-emptied : (lists : List (List (ℕ × Node))) → AreEmptied 0 lists lists
 none-emptied lists = record { same_length = refl; emptied = λ s h. absurd (omega arith); others = λ s h. refl }
 
-pub one-emptied : (l : ℕ) (old new more : List (List (ℕ × Node))) → l < length old → AreEmptied l old new → more ≡ slice_set new l [] → AreEmptied (l + 1) old more
+pub one-emptied : (l : ℕ) (old new more : List (List (ℕ × Node))) → l < length old → AreEmptied l old new → more ≡ slice_set new l []
+    → AreEmptied (l + 1) old more
 one-emptied l old new more b a e = record {
   same_length = ap (λ (y : List (List (ℕ × Node))). length y) e ∙ (length-set new l [] ∙ a.same_length);
   emptied = λ s h. elim (cases_eq s l) [
@@ -197,6 +221,7 @@ one-emptied l old new more b a e = record {
   others = λ s h. ap (list_at s) e ∙ (get_or-set_other new l s [] [] (let x : s ≢ l = omega arith in x) ∙ a.others s (omega arith));
 }
 
-pub emptied-some : (l step : ℕ) (old new more : List (List (ℕ × Node))) (popped : Option (ℕ × Node)) → l < length old → IsEmptying l step old new → is_some popped ≡ true → PopsFront l new popped more → IsEmptying l (step + 1) old more
+pub emptied-some : (l step : ℕ) (old new more : List (List (ℕ × Node))) (popped : Option (ℕ × Node)) → l < length old
+    → IsEmptying l step old new → is_some popped ≡ true → PopsFront l new popped more → IsEmptying l (step + 1) old more
 emptied-some l step old new more None b s e p = absurd (cc)
 emptied-some l step old new more (Some row) b s e p = emptied-one l step old new more row b s p

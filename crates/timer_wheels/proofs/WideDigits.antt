@@ -22,7 +22,19 @@ wide_is = refl
 
 pub wide_is_table : IsTable wide
 unfolding wide
-wide_is_table = (omega arith, (omega arith, (omega arith, (omega arith, (omega arith, (omega arith, (omega arith, (omega arith, (omega arith, (omega arith, tt))))))))))
+wide_is_table = (
+  omega arith,
+  (
+    omega arith,
+    (
+      omega arith,
+      (
+        omega arith,
+        (omega arith, (omega arith, (omega arith, (omega arith, (omega arith, (omega arith, tt)))))),
+      ),
+    ),
+  ),
+)
 
 pub length-wide : length wide ≡ 10
 unfolding wide
@@ -60,7 +72,8 @@ above_div : (p w x : ℕ) → w ≡ p * 64 → x < w → x / 64 < p
 above_div p w x e h = omega arith
 
 equal_when : (a b : ℕ) → bit_xor a b ≡ 0 → a ≡ b
-equal_when a b h = sym (xor_zero_r a) ∙ (ap (bit_xor a) (sym (xor_self b)) ∙ (sym (xor_assoc a b b) ∙ (ap (λ (x : ℕ). bit_xor x b) h ∙ xor_zero_l b)))
+equal_when a b h = sym (xor_zero_r a) ∙ (ap (bit_xor a) (sym (xor_self b))
+    ∙ (sym (xor_assoc a b b) ∙ (ap (λ (x : ℕ). bit_xor x b) h ∙ xor_zero_l b)))
 
 no_high : (x : ℕ) → x < 64 → x / 64 ≡ 0
 no_high x h = omega arith
@@ -77,7 +90,8 @@ nothing_differs a b j ha hb lo =
     let p : 0 < 2 ^ j = pow_pos j in
     omega arith
 
-top_level : (n a b j : ℕ) → HasDigits (wides n) a → HasDigits (wides n) b → 2 ^ j ≤ bit_xor a b → bit_xor a b < 2 ^ suc j → level (wides n) a b ≡ j / 6
+top_level : (n a b j : ℕ) → HasDigits (wides n) a → HasDigits (wides n) b → 2 ^ j ≤ bit_xor a b → bit_xor a b < 2 ^ suc j
+    → level (wides n) a b ≡ j / 6
 top_level zero a b j ha hb lo hi = absurd (nothing_differs a b j ha hb lo)
 top_level (suc n) a b j ha hb lo hi =
     let shr : bit_xor a b / 64 ≡ bit_xor (a / 64) (b / 64) = xor_shr a b 6 in
@@ -93,7 +107,9 @@ top_level (suc n) a b j ha hb lo hi =
           let q : 2 ^ suc j ≡ 2 ^ (suc j - 6) * 64 = split_pow (suc j) (omega arith) in
           let r : suc j - 6 ≡ suc (j - 6) = omega arith in
           let q2 : 2 ^ suc j ≡ 2 ^ suc (j - 6) * 64 = q ∙ ap (λ (y : ℕ). 2 ^ y * 64) r in
-          let ih : level (wides n) (a / 64) (b / 64) ≡ (j - 6) / 6 = top_level n (a / 64) (b / 64) (j - 6) ha hb (rw (← shr) (below_div (2 ^ (j - 6)) (2 ^ j) (bit_xor a b) p lo)) (rw (← shr) (above_div (2 ^ suc (j - 6)) (2 ^ suc j) (bit_xor a b) q2 hi)) in
+          let ih : level (wides n) (a / 64) (b / 64) ≡ (j - 6) / 6 =
+          top_level n (a / 64) (b / 64) (j - 6) ha hb (rw (← shr) (below_div (2 ^ (j - 6)) (2 ^ j) (bit_xor a b) p lo))
+          (rw (← shr) (above_div (2 ^ suc (j - 6)) (2 ^ suc j) (bit_xor a b) q2 hi)) in
           level_far 64 (wides n) a b e ∙ omega arith
     ]
 
@@ -125,14 +141,16 @@ pub level_by_top : (a b : ℕ) → a < b → b ≤ 1152921504606846975 → level
 level_by_top a b h r =
     let t = has_top a b h r in
     let z : count_leading_zeros 64 (bit_xor a b) + suc t.top ≡ 64 = t.zeros in
-    let e : level (wides 10) a b ≡ t.top / 6 = top_level 10 a b t.top (has_digits 10 a (omega arith)) (has_digits 10 b (omega arith)) t.low t.high in
+    let e : level (wides 10) a b ≡ t.top / 6 = top_level 10 a b t.top (has_digits 10 a (omega arith))
+    (has_digits 10 b (omega arith)) t.low t.high in
     rw wide_is (e ∙ ap (λ (y : ℕ). y / 6) (omega arith))
 
 pub zeros_bound : (a b : ℕ) → a < b → b ≤ 1152921504606846975 → count_leading_zeros 64 (bit_xor a b) ≤ 63
 zeros_bound a b h r = let t = has_top a b h r in let z : count_leading_zeros 64 (bit_xor a b) + suc t.top ≡ 64 = t.zeros in omega arith
 
 pub level_below_ten : (a b : ℕ) → a < b → b ≤ 1152921504606846975 → level wide a b < 10
-level_below_ten a b h r = let x : level wide a b < length wide = level_in_table wide a b wide_is_table (in_wide b r) h in let y : length wide ≡ 10 = length-wide in omega arith
+level_below_ten a b h r = let x : level wide a b < length wide = level_in_table wide a b wide_is_table (in_wide b r) h
+    in let y : length wide ≡ 10 = length-wide in omega arith
 
 -- Digits by shifts.
 
@@ -142,7 +160,8 @@ digit_step (suc n) zero t h = omega arith
 digit_step (suc n) (suc k) t h =
     let e : 6 * suc k ≡ 6 + 6 * k = omega arith in
     let p : 2 ^ (6 * suc k) ≡ 64 * 2 ^ (6 * k) = ap (λ (x : ℕ). 2 ^ x) e ∙ pow-add 2 6 (6 * k) in
-    ap (λ (x : ℕ). t / x % 64) p ∙ (ap (λ (x : ℕ). x % 64) (sym (div-div-eq-div-mul t 64 (2 ^ (6 * k)))) ∙ digit_step n k (t / 64) (omega arith))
+    ap (λ (x : ℕ). t / x % 64) p ∙ (ap (λ (x : ℕ). x % 64) (sym (div-div-eq-div-mul t 64 (2 ^ (6 * k))))
+    ∙ digit_step n k (t / 64) (omega arith))
 
 pub digit_by_shift : (k t : ℕ) → k < 10 → bit_and (t / 2 ^ (6 * k)) 63 ≡ digit wide k t
 digit_by_shift k t h = rw wide_is (and_mask (t / 2 ^ (6 * k)) 6 ∙ digit_step 10 k t h)
@@ -259,13 +278,16 @@ digit_in_wide k t h = let e : digit wide k t ≡ t / 64 ^ k % 64 = digit_by_quot
 one_slot : (v k x s : ℕ) → x < 64 → s < 64 → 64 * v + x ≡ 64 * k + s → (v ≡ k) × (x ≡ s)
 one_slot v k x s a b e = (omega arith, omega arith)
 
-pub list_is_slot : (now deadline k s : ℕ) → now < deadline → deadline ≤ 1152921504606846975 → k < 10 → s < 64 → (bucket wide now deadline ≡ 64 * k + s) ↔ ((level wide now deadline ≡ k) × (digit wide k deadline ≡ s))
+pub list_is_slot : (now deadline k s : ℕ) → now < deadline → deadline ≤ 1152921504606846975 → k < 10 → s < 64
+    → (bucket wide now deadline ≡ 64 * k + s) ↔ ((level wide now deadline ≡ k) × (digit wide k deadline ≡ s))
 list_is_slot now deadline k s h r b c =
     let v : ℕ = level wide now deadline in
     let vb : level wide now deadline < 10 = level_below_ten now deadline h r in
-    let at : 64 * level wide now deadline + digit wide (level wide now deadline) deadline ≡ bucket wide now deadline = slot_by_product (level wide now deadline) (digit wide (level wide now deadline) deadline) vb in (
+    let at : 64 * level wide now deadline + digit wide (level wide now deadline) deadline ≡ bucket wide now deadline =
+    slot_by_product (level wide now deadline) (digit wide (level wide now deadline) deadline) vb in (
       (λ (e : bucket wide now deadline ≡ 64 * k + s).
-          let o = one_slot (level wide now deadline) k (digit wide (level wide now deadline) deadline) s (digit_in_wide (level wide now deadline) deadline vb) c (at ∙ e) in
+          let o = one_slot (level wide now deadline) k (digit wide (level wide now deadline) deadline) s
+          (digit_in_wide (level wide now deadline) deadline vb) c (at ∙ e) in
           (o.0, ap (λ (x : ℕ). digit wide x deadline) (sym o.0) ∙ o.1)),
       (λ (e : (level wide now deadline ≡ k) × (digit wide k deadline ≡ s)).
           sym at ∙ (ap (λ (x : ℕ). 64 * x + digit wide x deadline) e.0 ∙ ap (λ (x : ℕ). 64 * k + x) e.1)),

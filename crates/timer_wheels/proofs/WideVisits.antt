@@ -66,8 +66,10 @@ in_word k s a h b r =
 mod_small : (x : ℕ) → x < 18446744073709551616 → x % 18446744073709551616 ≡ x
 mod_small x h = omega arith
 
-pub visit_by_shift : (k s a : ℕ) → k < 10 → s < 64 → a ≤ 1152921504606846975 → above (a / 2 ^ (6 * k)) s * 2 ^ (6 * k) % 18446744073709551616 ≡ slot_visit wide k s a
-visit_by_shift k s a h b r = mod_small (above (a / 2 ^ (6 * k)) s * 2 ^ (6 * k)) (in_word k s a h b r) ∙ rw wide_is (sym (visit_step 10 k s a h))
+pub visit_by_shift : (k s a : ℕ) → k < 10 → s < 64 → a ≤ 1152921504606846975
+    → above (a / 2 ^ (6 * k)) s * 2 ^ (6 * k) % 18446744073709551616 ≡ slot_visit wide k s a
+visit_by_shift k s a h b r = mod_small (above (a / 2 ^ (6 * k)) s * 2 ^ (6 * k)) (in_word k s a h b r)
+    ∙ rw wide_is (sym (visit_step 10 k s a h))
 
 list_step : (n l a : ℕ) → l < 64 * n → slot_visit (wides n) (l / 64) (l % 64) a ≡ list_visit (wides n) l a
 list_step zero l a h = absurd (omega arith)
@@ -75,7 +77,8 @@ list_step (suc n) l a h = elim (cases_lt l 64) [
   | inl k ↦
       let q : l / 64 ≡ zero = omega arith in
       let m : l % 64 ≡ l = omega arith in
-      ap (λ (x : ℕ). slot_visit (wides (suc n)) x (l % 64) a) q ∙ (ap (λ (x : ℕ). 64 * (a / 64) + x) m ∙ sym (visit_here 64 (wides n) l a k))
+      ap (λ (x : ℕ). slot_visit (wides (suc n)) x (l % 64) a) q
+      ∙ (ap (λ (x : ℕ). 64 * (a / 64) + x) m ∙ sym (visit_here 64 (wides n) l a k))
   | inr k ↦
       let q : l / 64 ≡ suc ((l - 64) / 64) = omega arith in
       let m : l % 64 ≡ (l - 64) % 64 = omega arith in

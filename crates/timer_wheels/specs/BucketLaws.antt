@@ -1,4 +1,5 @@
--- Lemmas about the state that lists represent. They are in specs/ since `Buckets.state_of-well_formed` cites them.
+-- Lemmas about the state that lists represent. They are in specs/ since `Buckets.state_of-well_formed` cites
+-- them.
 use Rattle.std.specs.Prelude.{◌≡◌, ◌+◌, ℕ, ◌≤◌, List, [], ◌∷◌, map, refl}
 use Rattle.std.proofs.Common.{◌∙◌, ap, arith}
 use Rattle.std.specs.List.{AllByRecursion}
@@ -18,17 +19,21 @@ timers_of-entries (x ∷ xs) = ap (λ r. timer_in x ∷ r) (timers_of-entries xs
 
 -- The invariant of each wheel.
 
-pub timers_of-pending : (rows : List (ℕ × Node)) → timers_of (pending_in rows) ≡ in_order itself (timers_in rows)
-timers_of-pending rows = map-in_order timer_of itself timer_of (λ e. refl) (entries_of rows) ∙ ap (in_order itself) (timers_of-entries rows)
+pub timers_of-pending : (rows : List (ℕ × Node)) → timers_of (pending_in rows)
+    ≡ in_order itself (timers_in rows)
+timers_of-pending rows = map-in_order timer_of itself timer_of (λ e. refl) (entries_of rows)
+    ∙ ap (in_order itself) (timers_of-entries rows)
 
-all-timers : (P : Timer → Type 0) (rows : List (ℕ × Node)) → AllByRecursion (λ row. P (timer_in row)) rows → AllByRecursion P (timers_in rows)
+all-timers : (P : Timer → Type 0) (rows : List (ℕ × Node)) → AllByRecursion (λ row. P (timer_in row)) rows
+    → AllByRecursion P (timers_in rows)
 all-timers P [] a = tt
 all-timers P (x ∷ xs) a = (a.0, all-timers P xs a.1)
 
 pub wheel_state-well_formed : (n last_tick now last : ℕ) (lists : List (List (ℕ × Node)))
     → last_tick ≤ LAST → now ≤ last_tick → last ≤ LAST
     → ArePending last_tick now last (rows_below n lists) → AreDistinct (timers_in (rows_below n lists))
-    → AreDue now (list_at n lists) → AreInOrder (n + 1) lists → IsWellFormed (wheel_state n last_tick now last lists)
+    → AreDue now (list_at n lists) → AreInOrder (n + 1) lists
+    → IsWellFormed (wheel_state n last_tick now last lists)
 wheel_state-well_formed n last_tick now last lists a b c p d q o =
     let rows : List (ℕ × Node) = rows_below n lists in
     record {
@@ -38,7 +43,9 @@ wheel_state-well_formed n last_tick now last lists a b c p d q o =
       ordered = IsOrdered-in_order timer_of (entries_of rows);
       distinct = AreDistinct-in_order timer_of (entries_of rows) (rw (timers_of-entries rows) d);
       each = rw (timers_of-pending rows)
-          (All-in_order itself (IsPending last_tick now last) (timers_in rows) (all-timers (IsPending last_tick now last) rows p));
-      due_now = rw (timers_of-entries (list_at n lists)) (all-timers (λ t. t.deadline ≡ now) (list_at n lists) q);
+          (All-in_order itself (IsPending last_tick now last) (timers_in rows)
+          (all-timers (IsPending last_tick now last) rows p));
+      due_now = rw (timers_of-entries (list_at n lists))
+          (all-timers (λ t. t.deadline ≡ now) (list_at n lists) q);
       due_rising = rw (timers_of-entries (list_at n lists)) (o n (omega arith));
     }

@@ -1,4 +1,5 @@
--- The state that the lists of a wheel represent: the first n are its buckets, and the next one has what is due.
+-- The state that the lists of a wheel represent: the first n are its buckets, and the next one has what is
+-- due.
 use Rattle.std.specs.Prelude.{◌≡◌, ℕ, ◌<◌, zero, suc, List, [], ◌∷◌, ◌++◌, map}
 use Rattle.std.specs.List.{AllByRecursion, AllByRecursion-prop}
 use Rattle.std.specs.Coded.{Π_prop}
@@ -49,7 +50,8 @@ wheel_state n last_tick now last_serial lists = record {
 
 -- each row is of a pending timer
 abbrev pub ArePending : ℕ → ℕ → ℕ → List (ℕ × Node) → Type 0
-ArePending last_tick now last_serial rows = AllByRecursion (λ row. IsPending last_tick now last_serial (timer_in row)) rows
+ArePending last_tick now last_serial rows = AllByRecursion
+    (λ row. IsPending last_tick now last_serial (timer_in row)) rows
 
 -- each row of the first n lists is of a pending timer
 abbrev pub ArePendingBelow : ℕ → ℕ → ℕ → ℕ → List (List (ℕ × Node)) → Type 0
@@ -84,7 +86,8 @@ AreInOrder-prop n lists = Π_prop (λ s. Π_prop (λ b. AreRising-prop 0 (timers
 
 pub EachRow-prop : (fact : ℕ → ℕ × Node → Type 0) → ((s : ℕ) (row : ℕ × Node) → IsProp (fact s row))
     → (n : ℕ) (lists : List (List (ℕ × Node))) → IsProp (EachRow fact n lists)
-EachRow-prop fact prop n lists = Π_prop (λ s. Π_prop (λ b. AllByRecursion-prop (fact s) (prop s) (list_at s lists)))
+EachRow-prop fact prop n lists = Π_prop (λ s. Π_prop
+    (λ b. AllByRecursion-prop (fact s) (prop s) (list_at s lists)))
 
 IsNotAmong-prop : (serial : ℕ) (ts : List Timer) → IsProp (IsNotAmong serial ts)
 IsNotAmong-prop serial [] = hlevel props

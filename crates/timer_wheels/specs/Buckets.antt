@@ -31,10 +31,12 @@ row_at place timer rounds = (place, record { timer = timer; rounds = rounds })
 abbrev pub RemovesRow : {X : Type 0} → Option X → ℕ → List (List (ℕ × Node)) → List (List (ℕ × Node)) → Type 0
 RemovesRow found key old new = MatchOption found (new ≡ old) (λ r. new ≡ map (without_key key) old)
 
--- where a timer was found, the row under its key is removed, and this row is pushed to the back of a list; else the lists
--- are unchanged
-abbrev pub ReplacesRow : {X : Type 0} → Option X → ℕ → ℕ × Node → List (List (ℕ × Node)) → List (List (ℕ × Node)) → Type 0
-ReplacesRow found l row old new = MatchOption found (new ≡ old) (λ r. new ≡ with_row l row (map (without_key row.0) old))
+-- where a timer was found, the row under its key is removed, and this row is pushed to the back of a list;
+-- else the lists are unchanged
+abbrev pub ReplacesRow : {X : Type 0} → Option X → ℕ → ℕ × Node → List (List (ℕ × Node))
+    → List (List (ℕ × Node)) → Type 0
+ReplacesRow found l row old new = MatchOption found (new ≡ old) (λ r. new
+    ≡ with_row l row (map (without_key row.0) old))
 
 -- the row is pushed to the back of list l; the others of the first n lists are unchanged
 pub record AddsRow (n l : ℕ) (row : ℕ × Node) (old new : List (List (ℕ × Node))) : Type 0 where
@@ -45,4 +47,5 @@ pub record AddsRow (n l : ℕ) (row : ℕ × Node) (old new : List (List (ℕ ×
 pub state_of-well_formed : (buckets : Buckets) → IsWellFormed (state_of buckets)
 state_of-well_formed buckets =
     wheel_state-well_formed buckets.slots buckets.last_tick buckets.tick buckets.last_serial buckets.links
-    buckets.last_in_range buckets.tick_in_range buckets.serial_in_range buckets.pending buckets.distinct buckets.due buckets.in_order
+    buckets.last_in_range buckets.tick_in_range buckets.serial_in_range buckets.pending buckets.distinct
+    buckets.due buckets.in_order

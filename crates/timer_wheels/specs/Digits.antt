@@ -1,4 +1,5 @@
--- The digits of a tick, and the bucket of a timer. A table has the radix of each digit, the lowest digit first.
+-- The digits of a tick, and the bucket of a timer. A table has the radix of each digit, the lowest digit
+-- first.
 use Rattle.std.specs.Prelude.{◌≡◌, ◌≢◌, ◌⊎◌, ℕ, ◌+◌, ◌-◌, ◌*◌, ◌/◌, ◌%◌, ◌<◌, ◌≤◌, zero, suc, ◌==◌, ◌&&◌, nat_lt, not, if◌then◌else◌, List, [], ◌∷◌, length}
 
 -- ten digits in base 64
@@ -75,9 +76,11 @@ slots table = slots_below (length table) table
 abbrev pub list_of_slot : List ℕ → ℕ → ℕ → ℕ
 list_of_slot table k s = slots_below k table + s
 
--- the list of a timer: the wheel is the highest digit in which its deadline differs from now, the slot is that digit of the deadline
+-- the list of a timer: the wheel is the highest digit in which its deadline differs from now, the slot is
+-- that digit of the deadline
 abbrev pub bucket : List ℕ → ℕ → ℕ → ℕ
-bucket table now deadline = list_of_slot table (level table now deadline) (digit table (level table now deadline) deadline)
+bucket table now deadline = list_of_slot table (level table now deadline)
+    (digit table (level table now deadline) deadline)
 
 -- the list that is emptied at a tick: the wheel is its lowest digit that is not zero, the slot is that digit
 abbrev pub emptied : List ℕ → ℕ → ℕ
@@ -106,13 +109,15 @@ pub record IsLowest (table : List ℕ) (t k : ℕ) : Type 0 where
 abbrev pub LeavesBucket : List ℕ → ℕ → ℕ → Type 0
 LeavesBucket table a d =
     (bucket table a d ≡ emptied table (a + 1))
-    × ((d ≡ a + 1) ⊎ ((level table (a + 1) d < level table a d) × (bucket table (a + 1) d < slots_below (lowest table (a + 1)) table)))
+    × ((d ≡ a + 1) ⊎ ((level table (a + 1) d < level table a d)
+    × (bucket table (a + 1) d < slots_below (lowest table (a + 1)) table)))
 
 -- it is in another one, and stays there
 abbrev pub StaysInBucket : List ℕ → ℕ → ℕ → Type 0
 StaysInBucket table a d =
     (bucket table a d ≢ emptied table (a + 1))
-    × ((d ≢ a + 1) × ((level table (a + 1) d ≡ level table a d) × (bucket table (a + 1) d ≡ bucket table a d)))
+    × ((d ≢ a + 1) × ((level table (a + 1) d ≡ level table a d)
+    × (bucket table (a + 1) d ≡ bucket table a d)))
 
 -- a timer's bucket before and after the tick
 pub record BucketAtTick (table : List ℕ) (a d : ℕ) : Type 0 where

@@ -1,4 +1,5 @@
--- The slot and the rounds of a timer in a hashed wheel, what its `links` shows, and the invariant of its rows.
+-- The slot and the rounds of a timer in a hashed wheel, what its `links` shows, and the invariant of its
+-- rows.
 use Rattle.std.specs.Prelude.{◌≡◌, ℕ, ◌+◌, ◌-◌, ◌/◌, ◌%◌, ◌<◌, ◌≤◌, List, [], length}
 use Rattle.std.specs.Coded.{×_prop}
 use Rattle.std.proofs.Props.{props}
@@ -16,8 +17,8 @@ slot_of n t = t.deadline % n
 abbrev pub rounds_of : ℕ → ℕ → Timer → ℕ
 rounds_of n now t = (t.deadline - now - 1) / n
 
--- list s, for s below n, has the pending timers with deadline mod n = s, by serial, each under its place with its
--- rounds, and list n has what is due
+-- list s, for s below n, has the pending timers with deadline mod n = s, by serial, each under its place with
+-- its rounds, and list n has what is due
 abbrev pub IsHashed : ℕ → WheelState → List (List (ℕ × Node)) → Type 0
 IsHashed n w lists = ShowsBuckets n (slot_of n) (rounds_of n w.now) w lists
 

@@ -15,7 +15,8 @@ hashed_state wheel = state_of wheel.buckets
 abbrev pub slots_of : HashedWheel → ℕ
 slots_of wheel = wheel.buckets.slots
 
--- why a hashed wheel can't be made, other than out of memory: the number of slots is tested before the first tick
+-- why a hashed wheel can't be made, other than out of memory: the number of slots is tested before the first
+-- tick
 abbrev pub fault_of : ℕ → ℕ → Option MakeFault
 fault_of slots first_tick =
     if slots == 0 || nat_lt 65536 slots then Some Slots

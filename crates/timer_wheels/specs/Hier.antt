@@ -14,7 +14,8 @@ abbrev pub ArePlaced : Table → Buckets → Type 0
 ArePlaced table b = EachRow (IsPlaced (radices table) b.tick) b.slots b.links
 
 pub ArePlaced-prop : (table : Table) (b : Buckets) → IsProp (ArePlaced table b)
-ArePlaced-prop table b = EachRow-prop (IsPlaced (radices table) b.tick) (IsPlaced-prop (radices table) b.tick) b.slots b.links
+ArePlaced-prop table b = EachRow-prop (IsPlaced (radices table) b.tick)
+    (IsPlaced-prop (radices table) b.tick) b.slots b.links
 
 -- the potential of the pending timers: the sum of their levels
 abbrev pub potential : Table → Buckets → ℕ

@@ -46,7 +46,10 @@ with_start counts = record counts { starts = counts.starts + 1 }
 
 -- the counts after some ticks, with their moves and visits
 abbrev pub with_ticks : ℕ → ℕ → WheelCounts → WheelCounts
-with_ticks moves visits counts = record counts { moves = counts.moves + moves; visits = counts.visits + visits }
+with_ticks moves visits counts = record counts {
+  moves = counts.moves + moves;
+  visits = counts.visits + visits;
+}
 
 -- how often the next ticks move a timer to a lower wheel
 abbrev pub hops_ahead : HierWheel → ℕ → ℕ
@@ -56,4 +59,5 @@ hops_ahead wheel ticks =
 -- how many buckets are visited from one state of a wheel to a later one
 abbrev pub visits_to : HierWheel → HierWheel → ℕ
 visits_to old new =
-    visited_between (lowest_radix (radices (table_of old))) (hier_state old).now (hier_state new).now (has_any (hier_state new).due)
+    visited_between (lowest_radix (radices (table_of old))) (hier_state old).now (hier_state new).now
+    (has_any (hier_state new).due)

@@ -5,7 +5,8 @@ use Rattle.timer_links.specs.declared.node.Node.{Node}
 use Rattle.timer_wheels.specs.BucketLists.{timer_in, EachRow}
 use Rattle.timer_wheels.specs.Placement.{hops_of, levels_of}
 
--- now with s as its digit k, and zeros below: the next visit of slot s of wheel k, where that holds a pending timer
+-- now with s as its digit k, and zeros below: the next visit of slot s of wheel k, where that holds a pending
+-- timer
 abbrev pub slot_visit : List ℕ → ℕ → ℕ → ℕ → ℕ
 slot_visit [] k s now = now
 slot_visit (r ∷ rs) zero s now = r * (now / r) + s
@@ -14,7 +15,8 @@ slot_visit (r ∷ rs) (suc k) s now = r * slot_visit rs k s (now / r)
 -- the next visit of the bucket of a pending timer: its deadline, with zeros below its level
 abbrev pub timer_visit : List ℕ → ℕ → ℕ → ℕ
 timer_visit [] now deadline = deadline
-timer_visit (r ∷ rs) now deadline = if (now / r) == (deadline / r) then deadline else r * timer_visit rs (now / r) (deadline / r)
+timer_visit (r ∷ rs) now deadline = if (now / r) == (deadline / r) then deadline else r * timer_visit rs
+    (now / r) (deadline / r)
 
 -- the same of a list: its next visit, where it holds a pending timer
 abbrev pub list_visit : List ℕ → ℕ → ℕ → ℕ
@@ -23,7 +25,8 @@ list_visit (r ∷ rs) l now = if nat_lt l r then r * (now / r) + l else r * list
 
 -- no bucket with a timer is visited before this tick
 abbrev pub AreNotVisitedBefore : List ℕ → ℕ → ℕ → ℕ → List (List (ℕ × Node)) → Type 0
-AreNotVisitedBefore table n now visit lists = EachRow (λ s row. visit ≤ timer_visit table now (timer_in row).deadline) n lists
+AreNotVisitedBefore table n now visit lists = EachRow (λ s row. visit
+    ≤ timer_visit table now (timer_in row).deadline) n lists
 
 -- the same of a tick that is found, and of every tick where none is
 abbrev pub IsVisitBound : List ℕ → ℕ → ℕ → Option ℕ → List (List (ℕ × Node)) → Type 0
@@ -36,7 +39,8 @@ pub record IsNextVisit (table : List ℕ) (tick : ℕ) (w : WheelState) : Type 0
   -- none moves before it
   pub none_before : hops_of table w.now (tick - w.now - 1) w.pending ≡ 0
   -- and at it one is due or moves
-  pub some : (0 < length (after_ticks (tick - w.now) w).due) ⊎ (0 < hops_of table w.now (tick - w.now) w.pending)
+  pub some : (0 < length (after_ticks (tick - w.now) w).due)
+      ⊎ (0 < hops_of table w.now (tick - w.now) w.pending)
 
 -- some ticks were passed, with their moves counted, and nothing was due before the last of them
 pub record Leaps (table : List ℕ) (moves : ℕ) (old new : WheelState) : Type 0 where

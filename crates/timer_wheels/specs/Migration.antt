@@ -1,4 +1,5 @@
--- The lists of a hierarchy of wheels after one bucket is emptied: each row, from the front, moves to its new list.
+-- The lists of a hierarchy of wheels after one bucket is emptied: each row, from the front, moves to its new
+-- list.
 use Rattle.std.specs.Prelude.{◌≡◌, ◌≢◌, ℕ, ◌≤◌, not, if◌then◌else◌, List, [], ◌∷◌, filter, slice_set, Option, Some, None}
 use Rattle.timer_base.specs.Pending.{is_due_at}
 use Rattle.timer_links.specs.declared.node.Node.{Node}
@@ -8,12 +9,14 @@ use Rattle.timer_wheels.specs.BucketLists.{timer_in}
 
 -- the list that a row moves to at this tick: that of the due timers at its deadline, else its bucket
 abbrev pub target : List ℕ → ℕ → ℕ × Node → ℕ
-target table tick row = if is_due_at tick (timer_in row) then slots table else bucket table tick (timer_in row).deadline
+target table tick row = if is_due_at tick (timer_in row) then slots table else bucket table tick
+    (timer_in row).deadline
 
 -- the rows move, one after another, to the back of their lists
 abbrev pub migrate_rows : List ℕ → ℕ → List (ℕ × Node) → List (List (ℕ × Node)) → List (List (ℕ × Node))
 migrate_rows table tick [] lists = lists
-migrate_rows table tick (row ∷ rows) lists = migrate_rows table tick rows (with_row (target table tick row) row lists)
+migrate_rows table tick (row ∷ rows) lists = migrate_rows table tick rows
+    (with_row (target table tick row) row lists)
 
 -- one list is emptied from its front
 abbrev pub migrated : List ℕ → ℕ → ℕ → List (List (ℕ × Node)) → List (List (ℕ × Node))

@@ -36,14 +36,16 @@ AreMarked n words lists = ((s : ℕ) → s < n → bit_of words s ≡ filled (li
 
 -- the same but for the bit of one list
 abbrev pub AreMarkedBut : ℕ → ℕ → List ℕ → List (List (ℕ × Node)) → Type 0
-AreMarkedBut n l words lists = ((s : ℕ) → s < n → s ≢ l → bit_of words s ≡ filled (list_at s lists)) × IsClearFrom n words
+AreMarkedBut n l words lists = ((s : ℕ) → s < n → s ≢ l → bit_of words s ≡ filled (list_at s lists))
+    × IsClearFrom n words
 
 -- the bit of a list that became empty, if one did, is cleared, and all others stay
 abbrev pub Clears : Option ℕ → List ℕ → List ℕ → Type 0
 Clears None old new = new ≡ old
 Clears (Some l) old new = (bit_of new l ≡ 0) × ((s : ℕ) → s ≢ l → bit_of new s ≡ bit_of old s)
 
-pub AreMarked-prop : (n : ℕ) (words : List ℕ) (lists : List (List (ℕ × Node))) → IsProp (AreMarked n words lists)
+pub AreMarked-prop : (n : ℕ) (words : List ℕ) (lists : List (List (ℕ × Node)))
+    → IsProp (AreMarked n words lists)
 AreMarked-prop n words lists =
     ×_prop (Π_prop (λ s. Π_prop (λ b. ℕ_set (bit_of words s) (filled (list_at s lists)))))
     (Π_prop (λ s. Π_prop (λ a. Π_prop (λ b. ℕ_set (bit_of words s) 0))))

@@ -24,9 +24,11 @@ row_of rounds_of entry = (entry.place, record { timer = entry.timer; rounds = ro
 abbrev pub entries_at : (Timer → ℕ) → ℕ → List Entry → List Entry
 entries_at bucket_of s entries = filter (λ entry. bucket_of entry.timer == s) entries
 
--- of n + 1 lists each of the first n has the pending timers of its bucket, by serial, each under its place with its
--- rounds, and the next one has what is due
-pub record ShowsBuckets (n : ℕ) (bucket_of rounds_of : Timer → ℕ) (w : WheelState) (lists : List (List (ℕ × Node))) : Type 0 where
+-- of n + 1 lists each of the first n has the pending timers of its bucket, by serial, each under its place
+-- with its rounds, and the next one has what is due
+pub record ShowsBuckets (n : ℕ) (bucket_of rounds_of : Timer
+    → ℕ) (w : WheelState) (lists : List (List (ℕ × Node))) : Type 0 where
   pub count : length lists ≡ n + 1
-  pub buckets : (s : ℕ) → s < n → list_at s lists ≡ map (row_of rounds_of) (by_serial (entries_at bucket_of s w.pending))
+  pub buckets : (s : ℕ) → s < n → list_at s lists ≡ map (row_of rounds_of)
+      (by_serial (entries_at bucket_of s w.pending))
   pub due : entries_of (list_at n lists) ≡ w.due

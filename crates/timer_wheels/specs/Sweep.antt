@@ -11,11 +11,19 @@ due_now (row ∷ rows) = if row.1.rounds == 0 then row ∷ due_now rows else due
 -- the other rows, each with one round fewer
 abbrev pub due_later : List (ℕ × Node) → List (ℕ × Node)
 due_later [] = []
-due_later (row ∷ rows) = if row.1.rounds == 0 then due_later rows else (row.0, record row.1 { rounds = row.1.rounds - 1 }) ∷ due_later rows
+due_later (row ∷ rows) = if row.1.rounds == 0 then due_later rows else (
+  row.0,
+  record row.1 {
+    rounds =
+        row.1.rounds - 1;
+  },
+) ∷ due_later rows
 
 -- the lists where these rows of one list were swept, and those not yet
-abbrev pub half_swept : ℕ → ℕ → List (ℕ × Node) → List (ℕ × Node) → List (List (ℕ × Node)) → List (List (ℕ × Node))
-half_swept l due past left lists = slice_set (slice_set lists l (due_later past ++ left)) due (list_at due lists ++ due_now past)
+abbrev pub half_swept : ℕ → ℕ → List (ℕ × Node) → List (ℕ × Node) → List (List (ℕ × Node))
+    → List (List (ℕ × Node))
+half_swept l due past left lists = slice_set (slice_set lists l (due_later past ++ left)) due
+    (list_at due lists ++ due_now past)
 
 -- one list was swept
 abbrev pub swept : ℕ → ℕ → List (List (ℕ × Node)) → List (List (ℕ × Node))

@@ -1,8 +1,8 @@
 //! The first deadline of a wheel, exactly.
 //!
-//! A bucket is in order of starting and not of deadlines, so that its first deadline takes a walk along it. In
-//! a hierarchy every deadline of a bucket comes before those of the buckets after it: the first one with a timer
-//! is enough.
+//! A bucket is in order of starting and not of deadlines, so that its first deadline takes a walk along it.
+//! In a hierarchy every deadline of a bucket comes before those of the buckets after it: the first one with a
+//! timer is enough.
 ghost use Rattle.std.specs.Prelude.{◌≡◌, ◌<◌, length};
 ghost use Rattle.timer_base.specs.PlainState.{earliest};
 ghost use Rattle.timer_base.specs.WakeUps.{next_deadline};
@@ -25,7 +25,8 @@ pub fn first_of_all(buckets: &Buckets) -> Option<u64>
     least_below(&buckets.links, buckets.slots)
 }
 
-/// The first pending deadline of a hierarchy of wheels, found in its first bucket with a timer. Does not allocate.
+/// The first pending deadline of a hierarchy of wheels, found in its first bucket with a timer. Does not
+/// allocate.
 ///
 /// A slot of wheel 0 is one tick, and so its deadline needs no walk.
 pub fn first_of_wheels(table: Table, buckets: &Buckets, occupied: &Occupied) -> Option<u64>

@@ -168,12 +168,20 @@ impl Wheel for HashedWheel {
         requires fresh { (hashed_state self.old).last_serial < timer.serial }
         requires serial { timer.serial ≤ LAST }
         ensures named { IfOk result (λ handle. handle.serial ≡ timer.serial) }
-        ensures started { IfOk result (λ handle. hashed_state self.new ≡ after_start handle.place timer (hashed_state self.old)) }
+        ensures started { IfOk result (λ handle. hashed_state self.new
+            ≡ after_start handle.place timer (hashed_state self.old)) }
         ensures err { OnErr result (hashed_state self.new ≡ hashed_state self.old) }
         ensures slots { slots_of self.new ≡ slots_of self.old }
     {
         let (bucket, rounds) = self.bucket_and_rounds(timer);
         self.buckets.start(bucket, timer, rounds)
+    }
+
+    fn reserve(&mut self, most: usize) -> Result<(), OutOfMemory>
+        ensures same { hashed_state self.new ≡ hashed_state self.old }
+        ensures slots { slots_of self.new ≡ slots_of self.old }
+    {
+        self.buckets.reserve(most)
     }
 
     fn look(&self, handle: Handle) -> Option<Timer> {
@@ -195,7 +203,8 @@ impl Wheel for HashedWheel {
         requires serial { timer.serial ≤ LAST }
         ensures old { old_timer result ≡ timer_at handle (hashed_state self.old) }
         ensures named { MatchOption result (Unit {0}) (λ r. r.0.serial ≡ timer.serial) }
-        ensures restarted { hashed_state self.new ≡ after_restart result handle timer (hashed_state self.old) }
+        ensures restarted { hashed_state self.new ≡ after_restart result handle timer
+            (hashed_state self.old) }
         ensures slots { slots_of self.new ≡ slots_of self.old }
     {
         let (bucket, rounds) = self.bucket_and_rounds(timer);

@@ -30,8 +30,8 @@ fn rows_of(
     Ok(rows)
 }
 
-/// A tick, the serials that are due then, what stands in bucket 0 and in bucket 1 from then on, and the tick of
-/// the next of these two buckets that has a timer.
+/// A tick, the serials that are due then, what stands in bucket 0 and in bucket 1 from then on, and the tick
+/// of the next of these two buckets that has a timer.
 type Turn = (
     u64,
     &'static [u64],

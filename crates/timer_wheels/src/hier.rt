@@ -133,7 +133,11 @@ impl HierWheel {
     /// Errors, in this order: `FirstTick` above `LAST`; `OutOfMemory`.
     pub fn new(alloc: Global, first_tick: u64) -> Result<HierWheel, MakeFault>
         ensures state { IfOk result (λ wheel. hier_state wheel ≡ empty_wheel LAST first_tick) }
-        ensures counts { IfOk result (λ wheel. counts_of wheel ≡ record { starts = 0; moves = 0; visits = 0 }) }
+        ensures counts { IfOk result (λ wheel. counts_of wheel ≡ record {
+          starts = 0;
+          moves = 0;
+          visits = 0;
+        }) }
         ensures table { IfOk result (λ wheel. table_of wheel ≡ Wide) }
         ensures in_range { IfOk result (λ wheel. first_tick ≤ LAST) }
         ensures fault { IfErr result (λ fault. IsHierFault LAST first_tick fault) }
@@ -146,8 +150,13 @@ impl HierWheel {
     /// Errors, in this order: `FirstTick` above the table's last tick, which is `LAST` or
     /// `LAST_OF_CLOCK`; `OutOfMemory`.
     pub fn with_table(alloc: Global, table: Table, first_tick: u64) -> Result<HierWheel, MakeFault>
-        ensures state { IfOk result (λ wheel. hier_state wheel ≡ empty_wheel (last_of_table table) first_tick) }
-        ensures counts { IfOk result (λ wheel. counts_of wheel ≡ record { starts = 0; moves = 0; visits = 0 }) }
+        ensures state { IfOk result (λ wheel. hier_state wheel
+            ≡ empty_wheel (last_of_table table) first_tick) }
+        ensures counts { IfOk result (λ wheel. counts_of wheel ≡ record {
+          starts = 0;
+          moves = 0;
+          visits = 0;
+        }) }
         ensures table { IfOk result (λ wheel. table_of wheel ≡ table) }
         ensures in_range { IfOk result (λ wheel. first_tick ≤ last_of_table table) }
         ensures fault { IfErr result (λ fault. IsHierFault (last_of_table table) first_tick fault) }
@@ -210,8 +219,8 @@ impl HierWheel {
         self.buckets.tick - self.counts.skipped
     }
 
-    /// The handle of the timer, pending or due, at this place or the first later one that has a timer, or None
-    /// when there is none. Does not allocate.
+    /// The handle of the timer, pending or due, at this place or the first later one that has a timer, or
+    /// None when there is none. Does not allocate.
     ///
     /// It looks at each place on the way: there are no more places than there ever were timers at one time.
     pub fn held_from(&self, place: usize) -> Option<Handle>
@@ -255,7 +264,8 @@ impl Wheel for HierWheel {
         requires fresh { (hier_state self.old).last_serial < timer.serial }
         requires serial { timer.serial ≤ LAST }
         ensures named { IfOk result (λ handle. handle.serial ≡ timer.serial) }
-        ensures started { IfOk result (λ handle. hier_state self.new ≡ after_start handle.place timer (hier_state self.old)) }
+        ensures started { IfOk result (λ handle. hier_state self.new
+            ≡ after_start handle.place timer (hier_state self.old)) }
         ensures err { OnErr result (hier_state self.new ≡ hier_state self.old) }
         ensures counted { IfOk result (λ handle. counts_of self.new ≡ with_start (counts_of self.old)) }
         ensures not_counted { OnErr result (counts_of self.new ≡ counts_of self.old) }
@@ -267,6 +277,14 @@ impl Wheel for HierWheel {
         let counts = &mut self.counts;
         counts.starts += 1;
         Ok(handle)
+    }
+
+    fn reserve(&mut self, most: usize) -> Result<(), OutOfMemory>
+        ensures same { hier_state self.new ≡ hier_state self.old }
+        ensures counts { counts_of self.new ≡ counts_of self.old }
+        ensures table { table_of self.new ≡ table_of self.old }
+    {
+        self.buckets.reserve(most)
     }
 
     fn look(&self, handle: Handle) -> Option<Timer> {
@@ -290,7 +308,8 @@ impl Wheel for HierWheel {
         ensures old { old_timer result ≡ timer_at handle (hier_state self.old) }
         ensures named { MatchOption result (Unit {0}) (λ r. r.0.serial ≡ timer.serial) }
         ensures restarted { hier_state self.new ≡ after_restart result handle timer (hier_state self.old) }
-        ensures counted { MatchOption result (counts_of self.new ≡ counts_of self.old) (λ r. counts_of self.new ≡ with_start (counts_of self.old)) }
+        ensures counted { MatchOption result (counts_of self.new
+            ≡ counts_of self.old) (λ r. counts_of self.new ≡ with_start (counts_of self.old)) }
         ensures table { table_of self.new ≡ table_of self.old }
     {
         let restarted = restart_timer(
@@ -322,7 +341,8 @@ impl Wheel for HierWheel {
         requires some { 0 < most }
         requires before_last { most ≤ (hier_state self.old).last_tick - (hier_state self.old).now }
         ensures advances { Advances most result (hier_state self.old) (hier_state self.new) }
-        ensures counted { counts_of self.new ≡ with_ticks (hops_ahead self.old result) (visits_to self.old self.new) (counts_of self.old) }
+        ensures counted { counts_of self.new ≡ with_ticks (hops_ahead self.old result)
+            (visits_to self.old self.new) (counts_of self.old) }
         ensures table { table_of self.new ≡ table_of self.old }
     {
         let first = self.buckets.tick;
@@ -336,17 +356,18 @@ impl Wheel for HierWheel {
         passed
     }
 
-    /// The next tick at which a bucket with a timer is emptied: a timer is due then, or moves to a lower wheel.
-    /// None moves before it.
+    /// The next tick at which a bucket with a timer is emptied: a timer is due then, or moves to a lower
+    /// wheel. None moves before it.
     fn quiet_until(&self) -> Option<u64>
-        ensures next { IfSome result (λ tick. IsNextVisit (radices (table_of self.now)) tick (hier_state self.now)) }
+        ensures next { IfSome result (λ tick. IsNextVisit (radices (table_of self.now)) tick
+            (hier_state self.now)) }
         ensures quiet { IsQuietUntil result (hier_state self.now) }
     {
         first_visit(self.table, &self.buckets, &self.occupied)
     }
 
-    /// Found in the first bucket with a timer: on wheel 0 without a look at its timers, and on a higher wheel by a
-    /// walk along that bucket alone.
+    /// Found in the first bucket with a timer: on wheel 0 without a look at its timers, and on a higher wheel
+    /// by a walk along that bucket alone.
     fn next_deadline(&self) -> Option<u64> {
         first_of_wheels(self.table, &self.buckets, &self.occupied)
     }
@@ -381,7 +402,8 @@ impl Wheel for HierWheel {
         ensures old { old_timer result ≡ due_at handle (hier_state self.old) }
         ensures named { MatchOption result (Unit {0}) (λ r. r.0.serial ≡ timer.serial) }
         ensures revived { hier_state self.new ≡ after_revival result handle timer (hier_state self.old) }
-        ensures counted { MatchOption result (counts_of self.new ≡ counts_of self.old) (λ r. counts_of self.new ≡ with_start (counts_of self.old)) }
+        ensures counted { MatchOption result (counts_of self.new
+            ≡ counts_of self.old) (λ r. counts_of self.new ≡ with_start (counts_of self.old)) }
         ensures table { table_of self.new ≡ table_of self.old }
     {
         let revived = revive_timer(

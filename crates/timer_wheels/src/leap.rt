@@ -38,7 +38,8 @@ pub fn advance_until_due(
     requires few { potential table buckets.old ≤ most_moves (radices Wide) * LAST }
     ensures hier { IsHier table buckets.new occupied.new }
     ensures leaps { Leaps (radices table) result (state_of buckets.old) (state_of buckets.new) }
-    ensures advances { Advances most (buckets.new.tick - buckets.old.tick) (state_of buckets.old) (state_of buckets.new) }
+    ensures advances { Advances most (buckets.new.tick - buckets.old.tick) (state_of buckets.old)
+        (state_of buckets.new) }
 {
     let end = buckets.tick + most;
     let mut moves = 0;
@@ -78,7 +79,8 @@ fn next_visit(table: Table, buckets: &Buckets, occupied: &Occupied, end: u64) ->
     requires before_end { buckets.now.tick < end }
     requires end { end ≤ buckets.now.last_tick }
     ensures later { buckets.now.tick < result }
-    ensures not_before { AreNotVisitedBefore (radices table) buckets.now.slots buckets.now.tick result buckets.now.links }
+    ensures not_before { AreNotVisitedBefore (radices table) buckets.now.slots buckets.now.tick result
+        buckets.now.links }
 {
     match first_visit(table, buckets, occupied) {
         Some(visit) => visit,
@@ -92,7 +94,8 @@ pub fn first_visit(table: Table, buckets: &Buckets, occupied: &Occupied) -> Opti
     requires { IsHier table buckets.now occupied.now }
     ensures quiet { IsQuietUntil result (state_of buckets.now) }
     ensures next { IfSome result (λ tick. IsNextVisit (radices table) tick (state_of buckets.now)) }
-    ensures not_before { IsVisitBound (radices table) buckets.now.slots buckets.now.tick result buckets.now.links }
+    ensures not_before { IsVisitBound (radices table) buckets.now.slots buckets.now.tick result
+        buckets.now.links }
 {
     match occupied.first() {
         Some(list) => Some(visit_of(table, list, buckets.tick)),
@@ -106,7 +109,8 @@ fn skip_to(table: Table, buckets: &mut Buckets, occupied: &Occupied, tick: u64)
     requires nothing_due { (state_of buckets.old).due ≡ [] }
     requires later { buckets.old.tick ≤ tick }
     requires in_range { tick ≤ buckets.old.last_tick }
-    requires not_before { AreNotVisitedBefore (radices table) buckets.old.slots buckets.old.tick (tick + 1) buckets.old.links }
+    requires not_before { AreNotVisitedBefore (radices table) buckets.old.slots buckets.old.tick
+        (tick + 1) buckets.old.links }
     ensures leaps { Leaps (radices table) 0 (state_of buckets.old) (state_of buckets.new) }
     ensures hier { IsHier table buckets.new occupied.now }
     ensures tick { buckets.new.tick ≡ tick }

@@ -55,7 +55,8 @@ fn empty_bucket(
     requires lists { length links.old ≡ slots (radices table) + 1 }
     requires list { list < slots (radices table) }
     requires rows { AllByRecursion (MayMigrate (radices table) tick list) (list_at list links.old) }
-    requires lowest { list < lowest_radix (radices table) → AllByRecursion (IsOfTick tick) (list_at list links.old) }
+    requires lowest { list < lowest_radix (radices table)
+        → AllByRecursion (IsOfTick tick) (list_at list links.old) }
     requires marked { AreMarked (slots (radices table)) occupied.old links.old }
     ensures migrated { links.new ≡ migrated (radices table) tick list links.old }
     ensures moves { result ≡ length (left_rows tick (list_at list links.old)) }

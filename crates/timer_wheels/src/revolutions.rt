@@ -31,7 +31,10 @@ pub fn skip_revolutions(buckets: &mut Buckets, most: u64) -> u64
     requires has_slots { 0 < buckets.old.slots }
     requires in_buckets { AreInBuckets buckets.old.slots buckets.old.tick buckets.old.links }
     ensures at_most { result ≤ most }
-    ensures skipped { state_of buckets.new ≡ record (state_of buckets.old) { now = buckets.old.tick + result } }
+    ensures skipped { state_of buckets.new ≡ record (state_of buckets.old) {
+      now =
+          buckets.old.tick + result;
+    } }
     ensures quiet { AreAfter (buckets.old.tick + result) (state_of buckets.old).pending }
     ensures tick { buckets.new.tick ≡ buckets.old.tick + result }
     ensures same_slot { buckets.new.tick % buckets.old.slots ≡ buckets.old.tick % buckets.old.slots }
@@ -41,6 +44,10 @@ pub fn skip_revolutions(buckets: &mut Buckets, most: u64) -> u64
 {
     let slots = buckets.slots;
     let revolution = slots as u64;
+    // Without this, each jump that ends within a revolution would walk along all slots and timers.
+    if most < revolution {
+        return 0;
+    }
     let revolutions = fewest_rounds(&buckets.links, slots, most / revolution);
     if revolutions == 0 {
         return 0;
@@ -89,7 +96,8 @@ fn count_down_lists(links: &mut Links, count: usize, rounds: u64)
     requires count { count ≤ length links.old }
     requires enough { (s : ℕ) → s < count → AllByRecursion (HasRoundsLeft rounds) (list_at s links.old) }
     ensures length { length links.new ≡ length links.old }
-    ensures counted { (s : ℕ) → s < count → list_at s links.new ≡ map (with_fewer_rounds rounds) (list_at s links.old) }
+    ensures counted { (s : ℕ) → s < count → list_at s links.new
+        ≡ map (with_fewer_rounds rounds) (list_at s links.old) }
     ensures others { (s : ℕ) → count ≤ s → list_at s links.new ≡ list_at s links.old }
 {
     for list in 0..count {

@@ -22,6 +22,8 @@ pub enum Call {
     List(&'static [u64]),
     /// Drops the pending timers.
     Clear,
+    /// Makes room for this many timers.
+    Reserve(usize),
     /// Goes on to the tick. Each pair is a tick and the serial of a timer that expires then.
     Until(u64, &'static [(u64, u64)]),
     /// Goes on to the tick, at which something is due, and takes nothing.
@@ -54,7 +56,13 @@ pub fn settle<W: Wheel>(rt: &impl Abort, wheel: &W)
 
 /// A timer of client 7, whose request number is its serial and whose action is 99.
 pub fn timer(serial: u64, deadline: u64) -> Timer
-    ensures { result ≡ record { serial = serial; client = 7; number = serial; deadline = deadline; action = 99 } }
+    ensures { result ≡ record {
+      serial = serial;
+      client = 7;
+      number = serial;
+      deadline = deadline;
+      action = 99;
+    } }
 {
     Timer {
         serial,
@@ -192,6 +200,7 @@ pub fn play<W: Wheel>(
                 assert_eq!(rt; wheel.len(), serials.len());
             }
             Call::Clear => wheel.clear(),
+            Call::Reserve(most) => wheel.reserve(most)?,
             Call::Until(tick, expired) => expires(rt, wheel, tick, expired, pace),
             Call::Reach(tick) => {
                 go_on(rt, wheel, tick, tick, pace);

@@ -12,7 +12,7 @@ const SIZES: [usize; 4] = [1, 8, 256, 65536];
 /// A name, the first tick, and the calls.
 type Row = (&'static str, u64, &'static [Call]);
 
-const ROWS: [Row; 19] = [
+const ROWS: [Row; 20] = [
     (
         "rollover",
         0,
@@ -56,6 +56,25 @@ const ROWS: [Row; 19] = [
             Call::Start(10),
             Call::Stop(2),
             Call::Until(10, &[(10, 1), (10, 3)]),
+        ],
+    ),
+    (
+        "room",
+        0,
+        &[
+            Call::Reserve(3),
+            Call::Start(9),
+            Call::Start(5),
+            Call::Reserve(100),
+            Call::List(&[2, 1]),
+            Call::Start(5),
+            Call::Stop(2),
+            Call::Reach(5),
+            Call::Reserve(200),
+            Call::Start(7),
+            Call::Reserve(0),
+            Call::Take(&[3]),
+            Call::Until(9, &[(7, 4), (9, 1)]),
         ],
     ),
     (

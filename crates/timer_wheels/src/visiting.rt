@@ -1,8 +1,8 @@
 //! A visit of every timer that is held, pending or due, in the order of their places.
 //!
-//! A timer keeps its place until it is stopped or taken, and a restart keeps it too. So a visit that goes from
-//! place to place finds each timer that is there all the time exactly once, whatever is started and stopped
-//! meanwhile.
+//! A timer keeps its place until it is stopped or taken, and a restart keeps it too. So a visit that goes
+//! from place to place finds each timer that is there all the time exactly once, whatever is started and
+//! stopped meanwhile.
 ghost use Rattle.std.specs.Prelude.{◌<◌};
 ghost use Rattle.std.specs.Option.{IfSome};
 ghost use Rattle.timer_wheels.specs.Buckets.{state_of};

@@ -11,7 +11,9 @@ pub returns-then-list-lowest_slots : goal.returns-then-list-lowest_slots
 returns-then-list-lowest_slots c =
     let e : c.lowest_slots.result ≡ lowest_radix (radices c.args.table) = c.lowest_slots.ensures.value in
     let k : c.in-Some.list < c.lowest_slots.result = c.if-list-lowest_slots.true in
-    visit_is_next c.args.table c.args.buckets.now c.args.occupied.now c.requires c.in-Some.list c.in-Some.ensures c.visit_of.result c.visit_of.ensures (omega arith)
+    visit_is_next c.args.table c.args.buckets.now c.args.occupied.now c.requires c.in-Some.list c.in-Some.ensures c.visit_of.result
+    c.visit_of.ensures (omega arith)
 
 pub returns : goal.returns
-returns c = first_is_next c.args.table c.args.buckets.now c.args.occupied.now c.requires c.in-Some.list c.in-Some.ensures c.least_in.result c.least_in.ensures
+returns c = first_is_next c.args.table c.args.buckets.now c.args.occupied.now c.requires c.in-Some.list c.in-Some.ensures c.least_in.result
+    c.least_in.ensures

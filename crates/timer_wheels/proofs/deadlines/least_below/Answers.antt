@@ -6,4 +6,5 @@ pub loop-list-preserved : goal.loop-list-preserved
 loop-list-preserved c =
     let r : c.args.count < length c.args.links.now = c.requires in
     let t : c.loop-list.list < c.args.count = c.loop-list-test.true in
-    least-more c.loop-list.list c.args.links.now c.loop-list.least c.least_in.result c.earlier-least.result (omega arith) c.loop-list.invariant c.least_in.ensures c.earlier-least.ensures
+    least-more c.loop-list.list c.args.links.now c.loop-list.least c.least_in.result c.earlier-least.result
+    (omega arith) c.loop-list.invariant c.least_in.ensures c.earlier-least.ensures

@@ -5,13 +5,17 @@ use Rattle.timer_wheels.proofs.TableLaws.{wide_last, clock_last, wide_slots, clo
 use Rattle.timer_wheels.proofs.digits.bucket_of.Goals as goal
 
 pub wide_bucket-requires-clause-deadline : goal.wide_bucket-requires-clause-deadline
-wide_bucket-requires-clause-deadline c = at_most c.args.deadline (last_of (radices c.args.table)) 1152921504606846975 (wide_last c.args.table c.in-Wide.is) c.requires.deadline
+wide_bucket-requires-clause-deadline c = at_most c.args.deadline (last_of (radices c.args.table)) 1152921504606846975
+    (wide_last c.args.table c.in-Wide.is) c.requires.deadline
 
 pub returns-in-Wide-clause-in_range : goal.returns-in-Wide-clause-in_range
-returns-in-Wide-clause-in_range c = below c.wide_bucket.result 640 (slots (radices c.args.table)) (sym (wide_slots c.args.table c.in-Wide.is)) c.wide_bucket.ensures.in_range
+returns-in-Wide-clause-in_range c = below c.wide_bucket.result 640 (slots (radices c.args.table))
+    (sym (wide_slots c.args.table c.in-Wide.is)) c.wide_bucket.ensures.in_range
 
 pub clock_bucket-requires-clause-deadline : goal.clock_bucket-requires-clause-deadline
-clock_bucket-requires-clause-deadline c = at_most c.args.deadline (last_of (radices c.args.table)) 8639999 (clock_last c.args.table c.in-Clock.is) c.requires.deadline
+clock_bucket-requires-clause-deadline c = at_most c.args.deadline (last_of (radices c.args.table)) 8639999
+    (clock_last c.args.table c.in-Clock.is) c.requires.deadline
 
 pub returns-in-Clock-clause-in_range : goal.returns-in-Clock-clause-in_range
-returns-in-Clock-clause-in_range c = below c.clock_bucket.result 244 (slots (radices c.args.table)) (sym (clock_slots c.args.table c.in-Clock.is)) c.clock_bucket.ensures.in_range
+returns-in-Clock-clause-in_range c = below c.clock_bucket.result 244 (slots (radices c.args.table))
+    (sym (clock_slots c.args.table c.in-Clock.is)) c.clock_bucket.ensures.in_range

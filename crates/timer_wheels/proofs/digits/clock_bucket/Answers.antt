@@ -11,4 +11,5 @@ pub returns-then-now-day-clause-value : goal.returns-then-now-day-clause-value
 returns-then-now-day-clause-value c = bucket_hour c.args.now c.args.deadline c.if-now-minute.false c.if-now-hour.false c.if-now-day.true
 
 pub returns-clause-value : goal.returns-clause-value
-returns-clause-value c = bucket_day c.args.now c.args.deadline c.requires.later c.requires.deadline c.if-now-minute.false c.if-now-hour.false c.if-now-day.false
+returns-clause-value c = bucket_day c.args.now c.args.deadline c.requires.later c.requires.deadline c.if-now-minute.false
+    c.if-now-hour.false c.if-now-day.false

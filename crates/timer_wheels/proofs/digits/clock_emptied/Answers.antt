@@ -11,4 +11,5 @@ pub returns-then-hour-ne0-clause-value : goal.returns-then-hour-ne0-clause-value
 returns-then-hour-ne0-clause-value c = emptied_hour c.args.tick c.if-tick-ne0.false c.if-minute-ne0.false c.if-hour-ne0.true
 
 pub returns-clause-value : goal.returns-clause-value
-returns-clause-value c = emptied_day c.args.tick c.requires.later c.requires.in_range c.if-tick-ne0.false c.if-minute-ne0.false c.if-hour-ne0.false
+returns-clause-value c = emptied_day c.args.tick c.requires.later c.requires.in_range c.if-tick-ne0.false c.if-minute-ne0.false
+    c.if-hour-ne0.false

@@ -9,4 +9,6 @@ pub returns-clause-value : goal.returns-clause-value
 returns-clause-value c = sym (level_by_top c.args.now c.args.deadline c.requires.later c.requires.deadline)
 
 pub returns-clause-in_range : goal.returns-clause-in_range
-returns-clause-in_range c = let P : ℕ → Type 0 = λ n. n < 10 in subst P (level_by_top c.args.now c.args.deadline c.requires.later c.requires.deadline) (level_below_ten c.args.now c.args.deadline c.requires.later c.requires.deadline)
+returns-clause-in_range c = let P : ℕ → Type 0 = λ n. n < 10 in
+    subst P (level_by_top c.args.now c.args.deadline c.requires.later c.requires.deadline)
+    (level_below_ten c.args.now c.args.deadline c.requires.later c.requires.deadline)

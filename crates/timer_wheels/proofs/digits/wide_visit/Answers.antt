@@ -9,4 +9,6 @@ slot_in : (l : ℕ) → l % 64 < 64
 slot_in l = omega arith
 
 pub returns : goal.returns
-returns c = visit_of_list c.args.list c.args.now c.requires.list (visit_by_shift (c.args.list / 64) (c.args.list % 64) c.args.now (wheel_of c.args.list c.requires.list) (slot_in c.args.list) c.requires.now)
+returns c = visit_of_list c.args.list c.args.now c.requires.list
+    (visit_by_shift (c.args.list / 64) (c.args.list % 64) c.args.now (wheel_of c.args.list c.requires.list)
+    (slot_in c.args.list) c.requires.now)

@@ -8,4 +8,5 @@ pub returns-clause-table : goal.returns-clause-table
 returns-clause-table c = λ table. (of_table table).is_table
 
 pub returns-clause-digits : goal.returns-clause-digits
-returns-clause-digits c = λ table tick h. digits_down (radices table) tick (last_of (radices table)) (of_table table).is_table h (of_table table).digits
+returns-clause-digits c = λ table tick h. digits_down (radices table) tick (last_of (radices table)) (of_table table).is_table h
+    (of_table table).digits

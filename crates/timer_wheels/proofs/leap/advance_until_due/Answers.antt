@@ -13,13 +13,18 @@ pub overflow_add-moves : goal.overflow_add-moves
 unfolding Rattle.timer_wheels.specs.Digits.wide
 overflow_add-moves c =
     let w = c.loop-buckets.invariant in
-    let h : c.loop-buckets.moves + c.leap_to_visit-moves.result < 18446744073709551616 = moves_fit (radices c.args.table) c.loop-buckets.moves c.leap_to_visit-moves.result (state_of c.args.buckets.now) (state_of c.loop-buckets.buckets) (state_of c.leap_to_visit-moves.new.buckets) w.leaps c.leap_to_visit-moves.ensures.leaps c.requires.few in
+    let h : c.loop-buckets.moves + c.leap_to_visit-moves.result < 18446744073709551616 =
+    moves_fit (radices c.args.table) c.loop-buckets.moves c.leap_to_visit-moves.result (state_of c.args.buckets.now)
+    (state_of c.loop-buckets.buckets) (state_of c.leap_to_visit-moves.new.buckets) w.leaps c.leap_to_visit-moves.ensures.leaps
+    c.requires.few in
     search rules
 
 pub returns-then-has_due-clause-leaps : goal.returns-then-has_due-clause-leaps
 returns-then-has_due-clause-leaps c =
     let w = c.loop-buckets.invariant in
-    leaps_on (radices c.args.table) c.loop-buckets.moves c.leap_to_visit-moves.result (state_of c.args.buckets.now) (state_of c.loop-buckets.buckets) (state_of c.leap_to_visit-moves.new.buckets) w.leaps w.nothing_due c.leap_to_visit-moves.ensures.leaps
+    leaps_on (radices c.args.table) c.loop-buckets.moves c.leap_to_visit-moves.result (state_of c.args.buckets.now)
+    (state_of c.loop-buckets.buckets) (state_of c.leap_to_visit-moves.new.buckets) w.leaps w.nothing_due
+    c.leap_to_visit-moves.ensures.leaps
 
 passed_on : (a p b c : ℕ) → b ≡ a + p → b < c → a < c
 passed_on a p b c e h = omega arith
@@ -30,14 +35,18 @@ returns-then-has_due-clause-advances c =
     let u = state_of c.args.buckets.now in
     let v = state_of c.leap_to_visit-moves.new.buckets in
     advancing_ends (radices c.args.table) c.args.most (c.loop-buckets.moves + c.leap_to_visit-moves.result) u v
-    (leaps_on (radices c.args.table) c.loop-buckets.moves c.leap_to_visit-moves.result u (state_of c.loop-buckets.buckets) v w.leaps w.nothing_due c.leap_to_visit-moves.ensures.leaps)
-    (passed_on c.args.buckets.now.tick w.leaps.passed c.loop-buckets.buckets.tick c.leap_to_visit-moves.new.buckets.tick w.leaps.now_is c.leap_to_visit-moves.ensures.later)
+    (leaps_on (radices c.args.table) c.loop-buckets.moves c.leap_to_visit-moves.result u
+    (state_of c.loop-buckets.buckets) v w.leaps w.nothing_due c.leap_to_visit-moves.ensures.leaps)
+    (passed_on c.args.buckets.now.tick w.leaps.passed c.loop-buckets.buckets.tick c.leap_to_visit-moves.new.buckets.tick w.leaps.now_is
+    c.leap_to_visit-moves.ensures.later)
     c.leap_to_visit-moves.ensures.end
     (λ h. c.has_due.ensures.0 c.if-has_due.true)
 
 pub loop-buckets-preserved : goal.loop-buckets-preserved
 loop-buckets-preserved c =
-    advancing_leap c.args.table c.args.most c.loop-buckets.moves c.leap_to_visit-moves.result c.args.buckets.now c.loop-buckets.buckets c.leap_to_visit-moves.new.buckets c.loop-buckets.occupied c.leap_to_visit-moves.new.occupied c.loop-buckets.invariant c.leap_to_visit-moves.ensures.leaps c.leap_to_visit-moves.ensures.hier
+    advancing_leap c.args.table c.args.most c.loop-buckets.moves c.leap_to_visit-moves.result c.args.buckets.now c.loop-buckets.buckets
+    c.leap_to_visit-moves.new.buckets c.loop-buckets.occupied c.leap_to_visit-moves.new.occupied c.loop-buckets.invariant
+    c.leap_to_visit-moves.ensures.leaps c.leap_to_visit-moves.ensures.hier
     (not_due (state_of c.leap_to_visit-moves.new.buckets).due c.has_due.result c.has_due.ensures c.if-has_due.false)
     c.leap_to_visit-moves.ensures.end
 
@@ -47,4 +56,5 @@ returns-clause-advances c =
     let p : 0 < c.args.most = c.requires.some in
     let n : c.loop-buckets.buckets.tick ≤ c.args.buckets.now.tick + c.args.most = w.not_past in
     let t : c.args.buckets.now.tick + c.args.most ≤ c.loop-buckets.buckets.tick = c.loop-buckets-test.false in
-    advancing_ends (radices c.args.table) c.args.most c.loop-buckets.moves (state_of c.args.buckets.now) (state_of c.loop-buckets.buckets) w.leaps (omega arith) n (λ h. absurd (omega arith))
+    advancing_ends (radices c.args.table) c.args.most c.loop-buckets.moves (state_of c.args.buckets.now)
+    (state_of c.loop-buckets.buckets) w.leaps (omega arith) n (λ h. absurd (omega arith))

@@ -6,7 +6,8 @@ use Rattle.timer_wheels.proofs.NextVisitLemmas.{first_next}
 use Rattle.timer_wheels.proofs.leap.first_visit.Goals as goal
 
 pub visit_of-requires-clause-list : goal.visit_of-requires-clause-list
-visit_of-requires-clause-list c = first_in_range c.args.table c.args.buckets.now c.args.occupied.now c.requires c.in-Some.list c.in-Some.ensures
+visit_of-requires-clause-list c = first_in_range c.args.table c.args.buckets.now c.args.occupied.now c.requires c.in-Some.list
+    c.in-Some.ensures
 
 pub visit_of-requires-clause-now : goal.visit_of-requires-clause-now
 visit_of-requires-clause-now c =
@@ -16,16 +17,20 @@ visit_of-requires-clause-now c =
     omega arith
 
 pub returns-in-Some-clause-quiet : goal.returns-in-Some-clause-quiet
-returns-in-Some-clause-quiet c = first_wakes c.args.table c.args.buckets.now c.args.occupied.now c.requires c.in-Some.list c.visit_of.result c.visit_of.ensures c.in-Some.ensures
+returns-in-Some-clause-quiet c = first_wakes c.args.table c.args.buckets.now c.args.occupied.now c.requires c.in-Some.list c.visit_of.result
+    c.visit_of.ensures c.in-Some.ensures
 
 pub returns-in-Some-clause-next : goal.returns-in-Some-clause-next
-returns-in-Some-clause-next c = first_next c.args.table c.args.buckets.now c.args.occupied.now c.requires c.in-Some.list c.visit_of.result c.visit_of.ensures c.in-Some.ensures
+returns-in-Some-clause-next c = first_next c.args.table c.args.buckets.now c.args.occupied.now c.requires c.in-Some.list c.visit_of.result
+    c.visit_of.ensures c.in-Some.ensures
 
 pub returns-in-Some-clause-not_before : goal.returns-in-Some-clause-not_before
-returns-in-Some-clause-not_before c = first_ahead c.args.table c.args.buckets.now c.args.occupied.now c.requires c.in-Some.list c.visit_of.result c.visit_of.ensures c.in-Some.ensures
+returns-in-Some-clause-not_before c = first_ahead c.args.table c.args.buckets.now c.args.occupied.now c.requires c.in-Some.list
+    c.visit_of.result c.visit_of.ensures c.in-Some.ensures
 
 pub returns-in-None-clause-quiet : goal.returns-in-None-clause-quiet
 returns-in-None-clause-quiet c = none_wakes c.args.table c.args.buckets.now c.args.occupied.now c.requires c.in-None.ensures
 
 pub returns-in-None-clause-not_before : goal.returns-in-None-clause-not_before
-returns-in-None-clause-not_before c = λ visit. none_ahead c.args.table c.args.buckets.now c.args.occupied.now c.requires visit c.in-None.ensures
+returns-in-None-clause-not_before c = λ visit. none_ahead c.args.table c.args.buckets.now c.args.occupied.now c.requires visit
+    c.in-None.ensures

@@ -14,11 +14,13 @@ pub returns-then-not-is_rollover-clause-few : goal.returns-then-not-is_rollover-
 returns-then-not-is_rollover-clause-few c =
     let r : ℕ = lowest_radix (radices c.args.table) in
     let n = no_multiple (c.args.last % r) c.is_rollover.result c.is_rollover.ensures c.if-not-is_rollover.true in
-    let h : c.args.last / r - c.args.first / r + 1 ≤ c.args.last - c.args.first = fewer_multiples r c.args.first c.args.last (of_table c.args.table).some_slots c.requires.later n in
+    let h : c.args.last / r - c.args.first / r + 1 ≤ c.args.last - c.args.first =
+    fewer_multiples r c.args.first c.args.last (of_table c.args.table).some_slots c.requires.later n in
     omega (arith, c.revolutions.ensures, c.revolutions-2.ensures)
 
 pub returns-else-due-clause-few : goal.returns-else-due-clause-few
 returns-else-due-clause-few c =
     let r : ℕ = lowest_radix (radices c.args.table) in
-    let h : c.args.last / r - c.args.first / r ≤ c.args.last - c.args.first = few_multiples r c.args.first c.args.last (of_table c.args.table).some_slots c.requires.later in
+    let h : c.args.last / r - c.args.first / r ≤ c.args.last - c.args.first =
+    few_multiples r c.args.first c.args.last (of_table c.args.table).some_slots c.requires.later in
     omega (arith, c.revolutions.ensures, c.revolutions-2.ensures)

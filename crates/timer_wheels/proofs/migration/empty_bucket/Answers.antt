@@ -21,10 +21,13 @@ remove-requires c = in_word c.args.list (slots (radices c.args.table)) c.require
 
 pub returns-then-list-lowest_slots-clause-migrated : goal.returns-then-list-lowest_slots-clause-migrated
 returns-then-list-lowest_slots-clause-migrated c =
-    c.append.ensures ∙ append_whole (radices c.args.table) c.buckets_of.result c.args.tick c.args.list c.args.links.now c.buckets_of.ensures.value c.requires.lists c.requires.list
-    (c.requires.lowest (below c.args.list c.lowest_slots.result (lowest_radix (radices c.args.table)) c.lowest_slots.ensures.value c.if-list-lowest_slots.true))
+    c.append.ensures ∙ append_whole (radices c.args.table) c.buckets_of.result c.args.tick c.args.list c.args.links.now
+    c.buckets_of.ensures.value c.requires.lists c.requires.list
+    (c.requires.lowest (below c.args.list c.lowest_slots.result
+    (lowest_radix (radices c.args.table)) c.lowest_slots.ensures.value c.if-list-lowest_slots.true))
 
 pub returns-then-list-lowest_slots-clause-moves : goal.returns-then-list-lowest_slots-clause-moves
 returns-then-list-lowest_slots-clause-moves c =
     ap (λ (y : List (ℕ × Node)). length y) (sym (none_left_over c.args.tick (list_at c.args.list c.args.links.now)
-    (c.requires.lowest (below c.args.list c.lowest_slots.result (lowest_radix (radices c.args.table)) c.lowest_slots.ensures.value c.if-list-lowest_slots.true))))
+    (c.requires.lowest (below c.args.list c.lowest_slots.result
+    (lowest_radix (radices c.args.table)) c.lowest_slots.ensures.value c.if-list-lowest_slots.true))))

@@ -21,43 +21,68 @@ loop-step-preserved c =
     let n = slots (radices c.args.table) in
     let i = c.loop-step.invariant in
     let b = in_lists c.args.list n c.args.links.now c.requires.lists c.requires.list in
-    let f = first_row t c.args.list c.args.tick c.loop-step.step c.loop-step.moves c.in-Some.deadline c.args.links.now c.loop-step.links i.emptying (sym c.in-Some.is ∙ i.ahead) in
+    let f = first_row t c.args.list c.args.tick c.loop-step.step c.loop-step.moves c.in-Some.deadline c.args.links.now c.loop-step.links
+    i.emptying (sym c.in-Some.is ∙ i.ahead) in
     elim c.if-deadline-tick.branch [
       | then-deadline-tick w ↦ record {
-        emptying = next_due t c.args.list c.args.tick c.loop-step.step c.loop-step.moves c.in-Some.deadline c.args.links.now c.loop-step.links c.if-deadline-tick.links b i.emptying f c.buckets_of-due.result c.if-deadline-tick.moves c.buckets_of-due.ensures.value w.if-deadline-tick.true (w.links-is ∙ w.move_front.ensures) w.moves-is;
-        ahead = ahead_due t c.args.list c.args.tick c.loop-step.step c.loop-step.moves c.in-Some.deadline c.args.links.now c.loop-step.links c.if-deadline-tick.links b i.emptying f c.buckets_of-due.result c.next_deadline-ahead.result c.buckets_of-due.ensures.value w.if-deadline-tick.true (w.links-is ∙ w.move_front.ensures) c.next_deadline-ahead.ensures;
+        emptying = next_due t c.args.list c.args.tick c.loop-step.step c.loop-step.moves c.in-Some.deadline c.args.links.now
+            c.loop-step.links c.if-deadline-tick.links b i.emptying f c.buckets_of-due.result c.if-deadline-tick.moves
+            c.buckets_of-due.ensures.value w.if-deadline-tick.true (w.links-is ∙ w.move_front.ensures) w.moves-is;
+        ahead = ahead_due t c.args.list c.args.tick c.loop-step.step c.loop-step.moves c.in-Some.deadline c.args.links.now c.loop-step.links
+            c.if-deadline-tick.links b i.emptying f c.buckets_of-due.result c.next_deadline-ahead.result c.buckets_of-due.ensures.value
+            w.if-deadline-tick.true (w.links-is ∙ w.move_front.ensures) c.next_deadline-ahead.ensures;
         clear = ap (λ (o : List ℕ). bit_of o c.args.list) w.occupied-is ∙ i.clear;
-        marked = let P : List ℕ → Type 0 = λ o. AreMarkedBut n c.args.list o c.if-deadline-tick.links in subst P (sym w.occupied-is) (marked_due n c.loop-step.occupied c.args.list c.buckets_of-due.result c.loop-step.links c.if-deadline-tick.links c.buckets_of-due.ensures.value (w.links-is ∙ w.move_front.ensures) i.marked);
+        marked = let P : List ℕ → Type 0 = λ o. AreMarkedBut n c.args.list o c.if-deadline-tick.links
+            in subst P (sym w.occupied-is) (marked_due n c.loop-step.occupied c.args.list c.buckets_of-due.result c.loop-step.links
+            c.if-deadline-tick.links c.buckets_of-due.ensures.value (w.links-is ∙ w.move_front.ensures) i.marked);
       }
       | else-deadline-tick w ↦ record {
-        emptying = next_left t c.args.list c.args.tick c.loop-step.step c.loop-step.moves c.in-Some.deadline c.args.links.now c.loop-step.links c.if-deadline-tick.links b i.emptying f w.bucket_of-to.result c.if-deadline-tick.moves w.bucket_of-to.ensures.value w.if-deadline-tick.false (w.links-is ∙ w.move_front-else-deadline-tick.ensures) w.moves-is;
-        ahead = ahead_left t c.args.list c.args.tick c.loop-step.step c.loop-step.moves c.in-Some.deadline c.args.links.now c.loop-step.links c.if-deadline-tick.links b i.emptying f w.bucket_of-to.result c.next_deadline-ahead.result w.bucket_of-to.ensures.value w.if-deadline-tick.false (w.links-is ∙ w.move_front-else-deadline-tick.ensures) c.next_deadline-ahead.ensures;
+        emptying = next_left t c.args.list c.args.tick c.loop-step.step c.loop-step.moves c.in-Some.deadline c.args.links.now
+            c.loop-step.links c.if-deadline-tick.links b i.emptying f w.bucket_of-to.result c.if-deadline-tick.moves
+            w.bucket_of-to.ensures.value w.if-deadline-tick.false (w.links-is ∙ w.move_front-else-deadline-tick.ensures) w.moves-is;
+        ahead = ahead_left t c.args.list c.args.tick c.loop-step.step c.loop-step.moves c.in-Some.deadline c.args.links.now
+            c.loop-step.links c.if-deadline-tick.links b i.emptying f w.bucket_of-to.result c.next_deadline-ahead.result
+            w.bucket_of-to.ensures.value w.if-deadline-tick.false (w.links-is
+            ∙ w.move_front-else-deadline-tick.ensures) c.next_deadline-ahead.ensures;
         clear =
-            let n = goes_elsewhere t c.args.list c.args.tick c.loop-step.step c.loop-step.moves c.in-Some.deadline c.args.links.now c.loop-step.links c.if-deadline-tick.links b i.emptying f w.bucket_of-to.result w.bucket_of-to.ensures.value w.if-deadline-tick.false in
+            let n = goes_elsewhere t c.args.list c.args.tick c.loop-step.step c.loop-step.moves c.in-Some.deadline c.args.links.now
+            c.loop-step.links c.if-deadline-tick.links b i.emptying f w.bucket_of-to.result w.bucket_of-to.ensures.value
+            w.if-deadline-tick.false in
             ap (λ (o : List ℕ). bit_of o c.args.list) w.occupied-is ∙ (w.insert.ensures.others c.args.list (λ e. n (sym e)) ∙ i.clear);
         marked =
             let P : List ℕ → Type 0 = λ o. AreMarkedBut n c.args.list o c.if-deadline-tick.links in
-            subst P (sym w.occupied-is) (marked_left n c.loop-step.occupied w.insert.new.self c.args.list w.bucket_of-to.result f.row f.rest c.loop-step.links c.if-deadline-tick.links w.bucket_of-to.ensures.in_range (in_new w.bucket_of-to.result n c.loop-step.links c.args.links.now w.bucket_of-to.ensures.in_range c.requires.lists i.emptying.has_lists) w.insert.ensures.here w.insert.ensures.others f.at (w.links-is ∙ w.move_front-else-deadline-tick.ensures) i.marked);
+            subst P (sym w.occupied-is) (marked_left n c.loop-step.occupied w.insert.new.self c.args.list w.bucket_of-to.result f.row f.rest
+            c.loop-step.links c.if-deadline-tick.links w.bucket_of-to.ensures.in_range
+            (in_new w.bucket_of-to.result n c.loop-step.links c.args.links.now w.bucket_of-to.ensures.in_range c.requires.lists
+            i.emptying.has_lists) w.insert.ensures.here w.insert.ensures.others f.at (w.links-is
+            ∙ w.move_front-else-deadline-tick.ensures) i.marked);
       }
     ]
 
-ended : (table : List ℕ) (list tick step moves : ℕ) (old links : List (List (ℕ × Node))) → IsEmptying table list tick step moves old links → (n : ℕ) → n ≡ row_count old → n ≤ step → IsEmptied table list tick moves old links
+ended : (table : List ℕ) (list tick step moves : ℕ) (old links : List (List (ℕ × Node))) → IsEmptying table list tick step moves old links
+    → (n : ℕ) → n ≡ row_count old → n ≤ step → IsEmptied table list tick moves old links
 ended table list tick step moves old links i n e h = ended_count table list tick step moves old links i (omega arith)
 
 pub returns-after-loop-step-clause-migrated : goal.returns-after-loop-step-clause-migrated
-returns-after-loop-step-clause-migrated c = (ended (radices c.args.table) c.args.list c.args.tick c.loop-step.step c.loop-step.moves c.args.links.now c.loop-step.links c.loop-step.invariant.emptying c.len-step-end.result c.len-step-end.ensures c.loop-step-test.false).lists_are
+returns-after-loop-step-clause-migrated c = (ended (radices c.args.table) c.args.list c.args.tick c.loop-step.step c.loop-step.moves
+    c.args.links.now c.loop-step.links c.loop-step.invariant.emptying c.len-step-end.result c.len-step-end.ensures
+    c.loop-step-test.false).lists_are
 
 pub returns-after-loop-step-clause-moves : goal.returns-after-loop-step-clause-moves
-returns-after-loop-step-clause-moves c = (ended (radices c.args.table) c.args.list c.args.tick c.loop-step.step c.loop-step.moves c.args.links.now c.loop-step.links c.loop-step.invariant.emptying c.len-step-end.result c.len-step-end.ensures c.loop-step-test.false).moves_are
+returns-after-loop-step-clause-moves c = (ended (radices c.args.table) c.args.list c.args.tick c.loop-step.step c.loop-step.moves
+    c.args.links.now c.loop-step.links c.loop-step.invariant.emptying c.len-step-end.result c.len-step-end.ensures
+    c.loop-step-test.false).moves_are
 
 pub returns-after-loop-step-clause-marked : goal.returns-after-loop-step-clause-marked
 returns-after-loop-step-clause-marked c =
     let i = c.loop-step.invariant in
-    let z = (ended (radices c.args.table) c.args.list c.args.tick c.loop-step.step c.loop-step.moves c.args.links.now c.loop-step.links i.emptying c.len-step-end.result c.len-step-end.ensures c.loop-step-test.false).emptied in
+    let z = (ended (radices c.args.table) c.args.list c.args.tick c.loop-step.step c.loop-step.moves c.args.links.now c.loop-step.links
+    i.emptying c.len-step-end.result c.len-step-end.ensures c.loop-step-test.false).emptied in
     marked_all (slots (radices c.args.table)) c.loop-step.occupied c.args.list c.loop-step.links (i.clear ∙ sym (ap filled z)) i.marked
 
 pub returns-in_default-clause-marked : goal.returns-in_default-clause-marked
 returns-in_default-clause-marked c =
     let i = c.loop-step.invariant in
-    let z = (ended_none (radices c.args.table) c.args.list c.args.tick c.loop-step.step c.loop-step.moves c.args.links.now c.loop-step.links i.emptying (sym c.in_default.is ∙ i.ahead)).emptied in
+    let z = (ended_none (radices c.args.table) c.args.list c.args.tick c.loop-step.step c.loop-step.moves c.args.links.now c.loop-step.links
+    i.emptying (sym c.in_default.is ∙ i.ahead)).emptied in
     marked_all (slots (radices c.args.table)) c.loop-step.occupied c.args.list c.loop-step.links (i.clear ∙ sym (ap filled z)) i.marked

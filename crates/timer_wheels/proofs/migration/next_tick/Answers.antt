@@ -8,15 +8,19 @@ use Rattle.timer_wheels.proofs.MigrationTick.{may_migrate_at, all_of_tick_at, ne
 use Rattle.timer_wheels.proofs.migration.next_tick.Goals as goal
 
 pub empty_bucket-moves-requires-clause-rows : goal.empty_bucket-moves-requires-clause-rows
-empty_bucket-moves-requires-clause-rows c = may_migrate_at c.args.table c.args.buckets.now c.args.occupied.now c.requires.hier c.requires.nothing_due c.requires.before_last c.emptied_at-list.result c.emptied_at-list.ensures.value
+empty_bucket-moves-requires-clause-rows c = may_migrate_at c.args.table c.args.buckets.now c.args.occupied.now c.requires.hier
+    c.requires.nothing_due c.requires.before_last c.emptied_at-list.result c.emptied_at-list.ensures.value
 
 pub empty_bucket-moves-requires-clause-lowest : goal.empty_bucket-moves-requires-clause-lowest
-empty_bucket-moves-requires-clause-lowest c = all_of_tick_at c.args.table c.args.buckets.now c.args.occupied.now c.requires.hier c.requires.nothing_due c.requires.before_last c.emptied_at-list.result c.emptied_at-list.ensures.value
+empty_bucket-moves-requires-clause-lowest c = all_of_tick_at c.args.table c.args.buckets.now c.args.occupied.now c.requires.hier
+    c.requires.nothing_due c.requires.before_last c.emptied_at-list.result c.emptied_at-list.ensures.value
 
 pub invariant_of-buckets : goal.invariant_of-buckets
 invariant_of-buckets c =
     let b = c.args.buckets.now in
-    let n = next_at c.args.table b c.args.occupied.now c.requires.hier c.requires.nothing_due c.requires.before_last c.emptied_at-list.result c.empty_bucket-moves.result c.empty_bucket-moves.new.links c.emptied_at-list.ensures.value c.empty_bucket-moves.ensures.migrated c.empty_bucket-moves.ensures.moves in
+    let n = next_at c.args.table b c.args.occupied.now c.requires.hier c.requires.nothing_due c.requires.before_last
+    c.emptied_at-list.result c.empty_bucket-moves.result c.empty_bucket-moves.new.links c.emptied_at-list.ensures.value
+    c.empty_bucket-moves.ensures.migrated c.empty_bucket-moves.ensures.moves in
     record {
       last_in_range = b.last_in_range;
       tick_in_range = omega arith;
@@ -24,18 +28,23 @@ invariant_of-buckets c =
       has_lists = n.has_lists;
       pending = n.pending;
       distinct = n.distinct;
-      due = due_past (b.tick + 1) (state_of b).pending (list_at b.slots c.empty_bucket-moves.new.links) (ap (λ (w : WheelState). w.due) n.ticked);
+      due = due_past (b.tick + 1) (state_of b).pending (list_at b.slots c.empty_bucket-moves.new.links)
+          (ap (λ (w : WheelState). w.due) n.ticked);
       in_order = n.in_order;
     }
 
 pub returns-clause-ticked : goal.returns-clause-ticked
-returns-clause-ticked c = (next_at c.args.table c.args.buckets.now c.args.occupied.now c.requires.hier c.requires.nothing_due c.requires.before_last c.emptied_at-list.result c.empty_bucket-moves.result c.empty_bucket-moves.new.links c.emptied_at-list.ensures.value c.empty_bucket-moves.ensures.migrated c.empty_bucket-moves.ensures.moves).ticked
+returns-clause-ticked c = (next_at c.args.table c.args.buckets.now c.args.occupied.now c.requires.hier c.requires.nothing_due
+    c.requires.before_last c.emptied_at-list.result c.empty_bucket-moves.result c.empty_bucket-moves.new.links
+    c.emptied_at-list.ensures.value c.empty_bucket-moves.ensures.migrated c.empty_bucket-moves.ensures.moves).ticked
 
 pub returns-clause-hier : goal.returns-clause-hier
 returns-clause-hier c =
     let b = c.args.buckets.now in
     let h = c.requires.hier in
-    let n = next_at c.args.table b c.args.occupied.now h c.requires.nothing_due c.requires.before_last c.emptied_at-list.result c.empty_bucket-moves.result c.empty_bucket-moves.new.links c.emptied_at-list.ensures.value c.empty_bucket-moves.ensures.migrated c.empty_bucket-moves.ensures.moves in
+    let n = next_at c.args.table b c.args.occupied.now h c.requires.nothing_due c.requires.before_last c.emptied_at-list.result
+    c.empty_bucket-moves.result c.empty_bucket-moves.new.links c.emptied_at-list.ensures.value c.empty_bucket-moves.ensures.migrated
+    c.empty_bucket-moves.ensures.moves in
     let P : ℕ → Type 0 = λ k. AreMarked k c.empty_bucket-moves.new.occupied c.empty_bucket-moves.new.links in
     record {
       has_slots = h.has_slots;
@@ -45,7 +54,11 @@ returns-clause-hier c =
     }
 
 pub returns-clause-moves : goal.returns-clause-moves
-returns-clause-moves c = (next_at c.args.table c.args.buckets.now c.args.occupied.now c.requires.hier c.requires.nothing_due c.requires.before_last c.emptied_at-list.result c.empty_bucket-moves.result c.empty_bucket-moves.new.links c.emptied_at-list.ensures.value c.empty_bucket-moves.ensures.migrated c.empty_bucket-moves.ensures.moves).moves_are
+returns-clause-moves c = (next_at c.args.table c.args.buckets.now c.args.occupied.now c.requires.hier c.requires.nothing_due
+    c.requires.before_last c.emptied_at-list.result c.empty_bucket-moves.result c.empty_bucket-moves.new.links
+    c.emptied_at-list.ensures.value c.empty_bucket-moves.ensures.migrated c.empty_bucket-moves.ensures.moves).moves_are
 
 pub returns-clause-falls : goal.returns-clause-falls
-returns-clause-falls c = (next_at c.args.table c.args.buckets.now c.args.occupied.now c.requires.hier c.requires.nothing_due c.requires.before_last c.emptied_at-list.result c.empty_bucket-moves.result c.empty_bucket-moves.new.links c.emptied_at-list.ensures.value c.empty_bucket-moves.ensures.migrated c.empty_bucket-moves.ensures.moves).pays
+returns-clause-falls c = (next_at c.args.table c.args.buckets.now c.args.occupied.now c.requires.hier c.requires.nothing_due
+    c.requires.before_last c.emptied_at-list.result c.empty_bucket-moves.result c.empty_bucket-moves.new.links
+    c.emptied_at-list.ensures.value c.empty_bucket-moves.ensures.migrated c.empty_bucket-moves.ensures.moves).pays

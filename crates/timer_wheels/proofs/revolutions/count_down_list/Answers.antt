@@ -16,7 +16,8 @@ pub overflow_sub-here : goal.overflow_sub-here
 overflow_sub-here c =
     let s = c.loop-step in
     let w = next_left c.args.list s.step c.args.rounds c.args.links.now s.links s.at c.in-Some.key s.invariant c.in-Some.is in
-    counting-enough_left c.args.list s.step c.args.rounds c.args.links.now s.links c.requires.list c.in-Some.key w c.step-here.result.rounds c.keys_are_apart.ensures c.step-here.ensures.rounds c.requires.enough
+    counting-enough_left c.args.list s.step c.args.rounds c.args.links.now s.links c.requires.list c.in-Some.key w c.step-here.result.rounds
+    c.keys_are_apart.ensures c.step-here.ensures.rounds c.requires.enough
 
 pub set_rounds-requires : goal.set_rounds-requires
 set_rounds-requires c =
@@ -28,7 +29,8 @@ pub loop-step-preserved : goal.loop-step-preserved
 loop-step-preserved c =
     let s = c.loop-step in
     let w = next_left c.args.list s.step c.args.rounds c.args.links.now s.links s.at c.in-Some.key s.invariant c.in-Some.is in
-    counting-one c.args.list s.step c.args.rounds c.args.links.now s.links c.requires.list c.in-Some.key w c.step-here.result.rounds (c.step-here.result.rounds - c.args.rounds) c.set_rounds.new.self c.step-here.result.next
+    counting-one c.args.list s.step c.args.rounds c.args.links.now s.links c.requires.list c.in-Some.key w c.step-here.result.rounds
+    (c.step-here.result.rounds - c.args.rounds) c.set_rounds.new.self c.step-here.result.next
     c.keys_are_apart.ensures c.step-here.ensures.rounds refl c.set_rounds.ensures c.step-here.ensures.next
 
 pub returns-after-loop-step : goal.returns-after-loop-step

@@ -13,4 +13,5 @@ count_down_list-requires-clause-enough c =
 pub loop-list-preserved : goal.loop-list-preserved
 loop-list-preserved c =
     let s = c.loop-list in
-    one-counted s.list c.args.rounds c.args.links.now s.links c.count_down_list.new.links (let m : c.args.count ≤ length c.args.links.now = c.requires.count in let t : s.list < c.args.count = c.loop-list-test.true in omega arith) s.invariant c.count_down_list.ensures
+    one-counted s.list c.args.rounds c.args.links.now s.links c.count_down_list.new.links (let m : c.args.count ≤ length c.args.links.now =
+    c.requires.count in let t : s.list < c.args.count = c.loop-list-test.true in omega arith) s.invariant c.count_down_list.ensures

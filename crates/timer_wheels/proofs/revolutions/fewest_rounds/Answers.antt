@@ -7,4 +7,5 @@ loop-list-init c = none-measured c.args.links.now c.args.most
 pub loop-list-preserved : goal.loop-list-preserved
 loop-list-preserved c =
     let s = c.loop-list in
-    one-measured s.list c.args.links.now c.args.most s.fewest c.fewest_in_list-fewest.result s.invariant c.fewest_in_list-fewest.ensures.at_most c.fewest_in_list-fewest.ensures.fewest
+    one-measured s.list c.args.links.now c.args.most s.fewest c.fewest_in_list-fewest.result s.invariant
+    c.fewest_in_list-fewest.ensures.at_most c.fewest_in_list-fewest.ensures.fewest

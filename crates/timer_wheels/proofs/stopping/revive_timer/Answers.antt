@@ -14,7 +14,8 @@ in_word : (l n : ℕ) → l < n → n ≤ 640 → l < 640
 in_word l n a b = omega arith
 
 pub insert-requires : goal.insert-requires
-insert-requires c = in_word c.bucket_of-bucket.result (slots (radices c.args.table)) c.bucket_of-bucket.ensures.in_range (of_table c.args.table).few_slots
+insert-requires c = in_word c.bucket_of-bucket.result (slots (radices c.args.table)) c.bucket_of-bucket.ensures.in_range
+    (of_table c.args.table).few_slots
 
 pub returns-clause-hier : goal.returns-clause-hier
 returns-clause-hier c =
@@ -32,6 +33,11 @@ returns-clause-hier c =
     record {
       has_slots = f.slots ∙ h.has_slots;
       clock = f.last_tick ∙ h.clock;
-      placed = subst U (sym f.tick) (subst T (sym f.slots) (each-added (IsPlaced t b.tick) b.slots to row b.links new.links c.in_ok-revived.ensures.lists (sym c.bucket_of-bucket.ensures.value, refl) h.placed));
-      marked = subst R (sym f.slots) (marked_added b.slots c.args.occupied.now c.insert.new.self to row b.links new.links in_slots c.in_ok-revived.ensures.lists c.insert.ensures.here c.insert.ensures.others h.marked);
+      placed = subst U (sym f.tick) (subst T (sym f.slots) (each-added
+          (IsPlaced t b.tick) b.slots to row b.links new.links c.in_ok-revived.ensures.lists (
+            sym c.bucket_of-bucket.ensures.value,
+            refl,
+          ) h.placed));
+      marked = subst R (sym f.slots) (marked_added b.slots c.args.occupied.now c.insert.new.self to row b.links new.links in_slots
+          c.in_ok-revived.ensures.lists c.insert.ensures.here c.insert.ensures.others h.marked);
     }

@@ -10,7 +10,9 @@ use Rattle.timer_wheels.proofs.StoppingLemmas.{marked_after, emptied_in}
 use Rattle.timer_wheels.proofs.stopping.stop_timer.Goals as goal
 
 pub clear_emptied-requires : goal.clear_emptied-requires
-clear_emptied-requires c = emptied_in c.args.table c.args.buckets.now c.args.occupied.now c.requires.hier c.keys_are_apart.ensures c.args.handle c.in_ok-timer.timer c.in_ok-timer.emptied (sym c.take.ensures.timer ∙ ap taken_timer c.in_ok-timer.was) c.in_ok-timer.ensures.emptied
+clear_emptied-requires c = emptied_in c.args.table c.args.buckets.now c.args.occupied.now c.requires.hier c.keys_are_apart.ensures
+    c.args.handle c.in_ok-timer.timer c.in_ok-timer.emptied (sym c.take.ensures.timer
+    ∙ ap taken_timer c.in_ok-timer.was) c.in_ok-timer.ensures.emptied
 
 pub returns-clause-hier : goal.returns-clause-hier
 returns-clause-hier c =
@@ -24,5 +26,7 @@ returns-clause-hier c =
       has_slots = f.slots ∙ h.has_slots;
       clock = f.last_tick ∙ h.clock;
       placed = stopped_placed (radices c.args.table) b c.take.new.self c.args.handle.place (Some c.in_ok-timer.timer) links h.placed f;
-      marked = subst R (sym f.slots) (subst P (sym links) (marked_after c.args.table c.args.buckets.now c.args.occupied.now c.requires.hier c.keys_are_apart.ensures c.args.handle c.in_ok-timer.timer c.in_ok-timer.emptied c.clear_emptied.new.occupied (sym c.take.ensures.timer ∙ ap taken_timer c.in_ok-timer.was) c.in_ok-timer.ensures.emptied c.clear_emptied.ensures));
+      marked = subst R (sym f.slots) (subst P (sym links) (marked_after c.args.table c.args.buckets.now c.args.occupied.now c.requires.hier
+          c.keys_are_apart.ensures c.args.handle c.in_ok-timer.timer c.in_ok-timer.emptied c.clear_emptied.new.occupied
+          (sym c.take.ensures.timer ∙ ap taken_timer c.in_ok-timer.was) c.in_ok-timer.ensures.emptied c.clear_emptied.ensures));
     }

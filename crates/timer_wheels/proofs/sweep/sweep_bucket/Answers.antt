@@ -11,20 +11,26 @@ pub step-here-requires : goal.step-here-requires
 step-here-requires c =
     let s = c.loop-step in
     let w = next_row c.args.bucket c.args.due s.step c.args.links.now s.links s.at c.in-Some.key s.invariant c.in-Some.is in
-    in_use c.args.bucket c.args.due s.step c.args.links.now s.links c.requires.other c.requires.bucket c.requires.due c.in-Some.key w c.keys_are_apart.ensures
+    in_use c.args.bucket c.args.due s.step c.args.links.now s.links c.requires.other c.requires.bucket c.requires.due c.in-Some.key w
+    c.keys_are_apart.ensures
 
 pub sweep_node-requires-clause-used : goal.sweep_node-requires-clause-used
 sweep_node-requires-clause-used c =
     let s = c.loop-step in
     let w = next_row c.args.bucket c.args.due s.step c.args.links.now s.links s.at c.in-Some.key s.invariant c.in-Some.is in
-    in_use c.args.bucket c.args.due s.step c.args.links.now s.links c.requires.other c.requires.bucket c.requires.due c.in-Some.key w c.keys_are_apart.ensures
+    in_use c.args.bucket c.args.due s.step c.args.links.now s.links c.requires.other c.requires.bucket c.requires.due c.in-Some.key w
+    c.keys_are_apart.ensures
 
 pub loop-step-preserved : goal.loop-step-preserved
 loop-step-preserved c =
     let s = c.loop-step in
     let w = next_row c.args.bucket c.args.due s.step c.args.links.now s.links s.at c.in-Some.key s.invariant c.in-Some.is in
-    passed c.args.bucket c.args.due s.step c.args.links.now s.links c.requires.other c.requires.bucket c.requires.due c.in-Some.key w c.sweep_node.new.links c.step-here.result.next c.keys_are_apart.ensures c.sweep_node.ensures.due c.sweep_node.ensures.later
-    (c.step-here.ensures.next c.args.bucket (due_later w.past) w.node w.rest (in_range c.args.bucket c.args.due s.step c.args.links.now s.links c.requires.other c.requires.bucket c.requires.due c.in-Some.key w) (standing c.args.bucket c.args.due s.step c.args.links.now s.links c.requires.other c.requires.bucket c.requires.due c.in-Some.key w))
+    passed c.args.bucket c.args.due s.step c.args.links.now s.links c.requires.other c.requires.bucket c.requires.due c.in-Some.key w
+    c.sweep_node.new.links c.step-here.result.next c.keys_are_apart.ensures c.sweep_node.ensures.due c.sweep_node.ensures.later
+    (c.step-here.ensures.next c.args.bucket (due_later w.past) w.node w.rest
+    (in_range c.args.bucket c.args.due s.step c.args.links.now s.links c.requires.other c.requires.bucket c.requires.due c.in-Some.key
+    w) (standing c.args.bucket c.args.due s.step c.args.links.now s.links c.requires.other c.requires.bucket c.requires.due
+    c.in-Some.key w))
 
 pub returns-after-loop-step : goal.returns-after-loop-step
 returns-after-loop-step c =

@@ -6,4 +6,7 @@ pub returns-in_default-clause-first : goal.returns-in_default-clause-first
 returns-in_default-clause-first c = none_held c.args.buckets.now c.keys_are_apart.ensures c.args.place c.in_default.ensures.found
 
 pub returns-clause-first : goal.returns-clause-first
-returns-clause-first c = first_held c.args.buckets.now c.keys_are_apart.ensures c.args.place (record { place = c.in-Some.key; serial = c.in-Some-get.node.timer.serial }) c.in-Some-get.node c.in-Some.ensures.found c.in-Some-get.ensures refl
+returns-clause-first c = first_held c.args.buckets.now c.keys_are_apart.ensures c.args.place (record {
+  place = c.in-Some.key;
+  serial = c.in-Some-get.node.timer.serial;
+}) c.in-Some-get.node c.in-Some.ensures.found c.in-Some-get.ensures refl

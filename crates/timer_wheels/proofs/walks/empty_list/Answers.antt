@@ -8,7 +8,8 @@ pub loop-step-init : goal.loop-step-init
 loop-step-init c = emptying-begun c.args.list c.args.links.now
 
 pub loop-step-preserved : goal.loop-step-preserved
-loop-step-preserved c = emptied-some c.args.list c.loop-step.step c.args.links.now c.loop-step.links c.pop_front.new.self c.pop_front.result c.requires c.loop-step.invariant (c.is_none.ensures ∙ ap not c.if-is_none.false) c.pop_front.ensures
+loop-step-preserved c = emptied-some c.args.list c.loop-step.step c.args.links.now c.loop-step.links c.pop_front.new.self c.pop_front.result
+    c.requires c.loop-step.invariant (c.is_none.ensures ∙ ap not c.if-is_none.false) c.pop_front.ensures
 
 pub returns-after-loop-step : goal.returns-after-loop-step
 returns-after-loop-step c =

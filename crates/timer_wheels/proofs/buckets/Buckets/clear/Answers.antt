@@ -26,9 +26,11 @@ invariant_of-self-clause-due c =
 pub invariant_of-self-clause-in_order : goal.invariant_of-self-clause-in_order
 invariant_of-self-clause-in_order c =
     let b = c.args.self.now in
-    cleared-in_order b.slots b.links c.empty_lists.new.links c.empty_lists.ensures.emptied (c.empty_lists.ensures.others b.slots (not_below b.slots)) b.in_order
+    cleared-in_order b.slots b.links c.empty_lists.new.links c.empty_lists.ensures.emptied
+    (c.empty_lists.ensures.others b.slots (not_below b.slots)) b.in_order
 
 pub returns-clause-cleared : goal.returns-clause-cleared
 returns-clause-cleared c =
     let b = c.args.self.now in
-    cleared b.slots b.last_tick b.tick b.last_serial b.links c.empty_lists.new.links c.empty_lists.ensures.emptied (c.empty_lists.ensures.others b.slots (not_below b.slots))
+    cleared b.slots b.last_tick b.tick b.last_serial b.links c.empty_lists.new.links c.empty_lists.ensures.emptied
+    (c.empty_lists.ensures.others b.slots (not_below b.slots))

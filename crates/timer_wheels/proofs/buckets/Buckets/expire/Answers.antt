@@ -14,7 +14,8 @@ record KeepsBuckets (now n : ℕ) (old new : List (List (ℕ × Node))) : Type 0
   in_order : AreInOrder (n + 1) new
   past : AreDue now (list_at n new)
 
-popped : (now n : ℕ) (found : Option (ℕ × Node)) (old new : List (List (ℕ × Node))) → length old ≡ n + 1 → AreInOrder (n + 1) old → AreDue now (list_at n old) → PopsFront n old found new → KeepsBuckets now n old new
+popped : (now n : ℕ) (found : Option (ℕ × Node)) (old new : List (List (ℕ × Node))) → length old ≡ n + 1 → AreInOrder (n + 1) old
+    → AreDue now (list_at n old) → PopsFront n old found new → KeepsBuckets now n old new
 popped now n None old new h o q p = record {
   has_lists = ap (λ (y : List (List (ℕ × Node))). length y) p.1 ∙ h;
   rows = ap (rows_below n) p.1;
@@ -25,7 +26,8 @@ popped now n (Some row) old new h o q p = record {
   has_lists = ap (λ (y : List (List (ℕ × Node))). length y) p.2 ∙ (length-set old n p.0 ∙ h);
   rows = ap (rows_below n) p.2 ∙ expired-rows n row p.0 old h p.1;
   in_order = let P : List (List (ℕ × Node)) → Type 0 = AreInOrder (n + 1) in subst P (sym p.2) (expired-in_order n row p.0 old h p.1 o);
-  past = let P : List (List (ℕ × Node)) → Type 0 = λ lists. AreDue now (list_at n lists) in subst P (sym p.2) (expired-past n row p.0 old h p.1 now q);
+  past = let P : List (List (ℕ × Node)) → Type 0 = λ lists. AreDue now (list_at n lists)
+      in subst P (sym p.2) (expired-past n row p.0 old h p.1 now q);
 }
 
 pub invariant_of-self-clause-has_lists : goal.invariant_of-self-clause-has_lists
@@ -37,13 +39,15 @@ pub invariant_of-self-clause-pending : goal.invariant_of-self-clause-pending
 invariant_of-self-clause-pending c =
     let b = c.args.self.now in
     let P : List (ℕ × Node) → Type 0 = ArePending b.last_tick b.tick b.last_serial in
-    subst P (sym (popped b.tick b.slots c.pop_front.result b.links c.pop_front.new.self b.has_lists b.in_order b.due c.pop_front.ensures).rows) b.pending
+    subst P (sym (popped b.tick b.slots c.pop_front.result b.links c.pop_front.new.self b.has_lists b.in_order b.due
+    c.pop_front.ensures).rows) b.pending
 
 pub invariant_of-self-clause-distinct : goal.invariant_of-self-clause-distinct
 invariant_of-self-clause-distinct c =
     let b = c.args.self.now in
     let P : List (ℕ × Node) → Type 0 = λ rows. AreDistinct (timers_in rows) in
-    subst P (sym (popped b.tick b.slots c.pop_front.result b.links c.pop_front.new.self b.has_lists b.in_order b.due c.pop_front.ensures).rows) b.distinct
+    subst P (sym (popped b.tick b.slots c.pop_front.result b.links c.pop_front.new.self b.has_lists b.in_order b.due
+    c.pop_front.ensures).rows) b.distinct
 
 pub invariant_of-self-clause-in_order : goal.invariant_of-self-clause-in_order
 invariant_of-self-clause-in_order c =

@@ -15,7 +15,8 @@ rows_new : (n k : ℕ) (lists : List (List (ℕ × Node))) → lists ≡ replica
 rows_new n k lists e = rows_below-none n lists (λ s h. at_new n k s lists e)
 
 pub invariant_of-result-clause-has_lists : goal.invariant_of-result-clause-has_lists
-invariant_of-result-clause-has_lists c = ap (λ (y : List (List (ℕ × Node))). length y) c.in_ok-new.ensures ∙ length-replicate (c.args.slots + 1) []
+invariant_of-result-clause-has_lists c = ap (λ (y : List (List (ℕ × Node))). length y) c.in_ok-new.ensures
+    ∙ length-replicate (c.args.slots + 1) []
 
 pub invariant_of-result-clause-pending : goal.invariant_of-result-clause-pending
 invariant_of-result-clause-pending c = rw (rows_new c.args.slots (c.args.slots + 1) c.in_ok-new.field-0 c.in_ok-new.ensures) tt
@@ -30,4 +31,7 @@ pub invariant_of-result-clause-in_order : goal.invariant_of-result-clause-in_ord
 invariant_of-result-clause-in_order c = λ s h. rw (at_new c.args.slots (c.args.slots + 1) s c.in_ok-new.field-0 c.in_ok-new.ensures) tt
 
 pub returns-clause-state : goal.returns-clause-state
-returns-clause-state c = rw (rows_new c.args.slots (c.args.slots + 1) c.in_ok-new.field-0 c.in_ok-new.ensures, at_new c.args.slots (c.args.slots + 1) c.args.slots c.in_ok-new.field-0 c.in_ok-new.ensures) refl
+returns-clause-state c = rw (
+  rows_new c.args.slots (c.args.slots + 1) c.in_ok-new.field-0 c.in_ok-new.ensures,
+  at_new c.args.slots (c.args.slots + 1) c.args.slots c.in_ok-new.field-0 c.in_ok-new.ensures,
+) refl

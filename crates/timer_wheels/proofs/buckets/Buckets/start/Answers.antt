@@ -16,32 +16,62 @@ in_range n bucket lists h e = omega arith
 pub invariant_of-self-2-clause-has_lists : goal.invariant_of-self-2-clause-has_lists
 invariant_of-self-2-clause-has_lists c =
     let b = c.args.self.now in
-    ap (λ (y : List (List (ℕ × Node))). length y) c.in-Ok.ensures.pushed ∙ (length-with_row c.args.bucket (c.in-Ok.place, record { timer = c.args.timer; rounds = c.args.rounds }) b.links ∙ b.has_lists)
+    ap (λ (y : List (List (ℕ × Node))). length y) c.in-Ok.ensures.pushed
+    ∙ (length-with_row c.args.bucket (c.in-Ok.place, record { timer = c.args.timer; rounds = c.args.rounds }) b.links ∙ b.has_lists)
 
 pub invariant_of-self-2-clause-pending : goal.invariant_of-self-2-clause-pending
 invariant_of-self-2-clause-pending c =
     let b = c.args.self.now in
-    rw c.in-Ok.ensures.pushed (started-pending b.slots b.last_tick b.tick b.last_serial c.args.bucket c.in-Ok.place (record { timer = c.args.timer; rounds = c.args.rounds }) b.links c.requires.bucket (in_range b.slots c.args.bucket b.links c.requires.bucket b.has_lists) c.requires.fresh b.pending c.requires.later c.requires.deadline)
+    rw c.in-Ok.ensures.pushed (started-pending b.slots b.last_tick b.tick b.last_serial c.args.bucket c.in-Ok.place (record {
+      timer =
+          c.args.timer;
+      rounds = c.args.rounds;
+    }) b.links c.requires.bucket
+    (in_range b.slots c.args.bucket b.links c.requires.bucket b.has_lists) c.requires.fresh b.pending c.requires.later
+    c.requires.deadline)
 
 pub invariant_of-self-2-clause-distinct : goal.invariant_of-self-2-clause-distinct
 invariant_of-self-2-clause-distinct c =
     let b = c.args.self.now in
-    rw c.in-Ok.ensures.pushed (started-distinct b.slots b.last_tick b.tick b.last_serial c.args.bucket c.in-Ok.place (record { timer = c.args.timer; rounds = c.args.rounds }) b.links c.requires.bucket (in_range b.slots c.args.bucket b.links c.requires.bucket b.has_lists) c.requires.fresh b.pending b.distinct)
+    rw c.in-Ok.ensures.pushed (started-distinct b.slots b.last_tick b.tick b.last_serial c.args.bucket c.in-Ok.place (record {
+      timer =
+          c.args.timer;
+      rounds = c.args.rounds;
+    }) b.links c.requires.bucket
+    (in_range b.slots c.args.bucket b.links c.requires.bucket b.has_lists) c.requires.fresh b.pending b.distinct)
 
 pub invariant_of-self-2-clause-due : goal.invariant_of-self-2-clause-due
 invariant_of-self-2-clause-due c =
     let b = c.args.self.now in
-    rw c.in-Ok.ensures.pushed (past-with_row b.tick b.slots c.args.bucket (c.in-Ok.place, record { timer = c.args.timer; rounds = c.args.rounds }) b.links c.requires.bucket b.due)
+    rw c.in-Ok.ensures.pushed (past-with_row b.tick b.slots c.args.bucket (
+      c.in-Ok.place,
+      record {
+        timer = c.args.timer;
+        rounds = c.args.rounds;
+      },
+    ) b.links c.requires.bucket b.due)
 
 pub invariant_of-self-2-clause-in_order : goal.invariant_of-self-2-clause-in_order
 invariant_of-self-2-clause-in_order c =
     let b = c.args.self.now in
     let positive : 0 < c.args.timer.serial = omega (arith, c.requires.fresh) in
-    rw c.in-Ok.ensures.pushed (in_order-with_row (b.slots + 1) c.args.bucket (c.in-Ok.place, record { timer = c.args.timer; rounds = c.args.rounds }) b.links (in_range b.slots c.args.bucket b.links c.requires.bucket b.has_lists) positive
-    (AreBelow-pending b.last_tick b.tick b.last_serial c.args.timer.serial (list_at c.args.bucket b.links) c.requires.fresh (all-list_at (λ row. IsPending b.last_tick b.tick b.last_serial (timer_in row)) b.slots b.links b.pending c.args.bucket c.requires.bucket))
+    rw c.in-Ok.ensures.pushed (in_order-with_row (b.slots + 1) c.args.bucket (
+      c.in-Ok.place,
+      record {
+        timer = c.args.timer;
+        rounds = c.args.rounds;
+      },
+    ) b.links (in_range b.slots c.args.bucket b.links c.requires.bucket b.has_lists) positive
+    (AreBelow-pending b.last_tick b.tick b.last_serial c.args.timer.serial (list_at c.args.bucket b.links) c.requires.fresh
+    (all-list_at (λ row. IsPending b.last_tick b.tick b.last_serial (timer_in row)) b.slots b.links b.pending c.args.bucket
+    c.requires.bucket))
     b.in_order)
 
 pub returns-clause-started : goal.returns-clause-started
 returns-clause-started c =
     let b = c.args.self.now in
-    rw c.in-Ok.ensures.pushed (started b.slots b.last_tick b.tick b.last_serial c.args.bucket c.in-Ok.place (record { timer = c.args.timer; rounds = c.args.rounds }) b.links c.requires.bucket (in_range b.slots c.args.bucket b.links c.requires.bucket b.has_lists) c.requires.fresh b.pending)
+    rw c.in-Ok.ensures.pushed (started b.slots b.last_tick b.tick b.last_serial c.args.bucket c.in-Ok.place (record {
+      timer = c.args.timer;
+      rounds = c.args.rounds;
+    }) b.links c.requires.bucket (in_range b.slots c.args.bucket b.links c.requires.bucket b.has_lists)
+    c.requires.fresh b.pending)

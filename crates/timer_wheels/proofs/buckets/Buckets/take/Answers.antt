@@ -9,7 +9,8 @@ use Rattle.timer_wheels.proofs.buckets.Buckets.take.Goals as goal
 pub invariant_of-self-clause-has_lists : goal.invariant_of-self-clause-has_lists
 invariant_of-self-clause-has_lists c =
     let b = c.args.self.now in
-    ap (λ (y : List (List (ℕ × Node))). length y) c.take-taken.ensures.taken ∙ (length-map b.links (without_key c.args.handle.place) ∙ b.has_lists)
+    ap (λ (y : List (List (ℕ × Node))). length y) c.take-taken.ensures.taken
+    ∙ (length-map b.links (without_key c.args.handle.place) ∙ b.has_lists)
 
 pub invariant_of-self-clause-pending : goal.invariant_of-self-clause-pending
 invariant_of-self-clause-pending c =
@@ -34,10 +35,14 @@ invariant_of-self-clause-in_order c =
 pub returns-clause-stopped : goal.returns-clause-stopped
 returns-clause-stopped c =
     let b = c.args.self.now in
-    stop-found b.tick b.slots c.args.handle b.links b.has_lists (separated b.last_tick b.tick b.last_serial b.slots b.links b.pending b.due) c.keys_are_apart.ensures b.last_tick b.last_serial c.in_ok-timer.timer c.take-taken.new.self b.distinct (sym c.look.ensures ∙ c.in_ok-timer.was) c.take-taken.ensures.taken
+    stop-found b.tick b.slots c.args.handle b.links b.has_lists
+    (separated b.last_tick b.tick b.last_serial b.slots b.links b.pending b.due) c.keys_are_apart.ensures b.last_tick b.last_serial
+    c.in_ok-timer.timer c.take-taken.new.self b.distinct (sym c.look.ensures ∙ c.in_ok-timer.was) c.take-taken.ensures.taken
 
 pub take-taken-requires : goal.take-taken-requires
 take-taken-requires c =
     let b = c.args.self.now in
-    let f = look-has b.tick b.slots c.args.handle b.links b.has_lists (separated b.last_tick b.tick b.last_serial b.slots b.links b.pending b.due) c.keys_are_apart.ensures c.in_ok-timer.timer b.distinct (sym c.look.ensures ∙ c.in_ok-timer.was) in
+    let f = look-has b.tick b.slots c.args.handle b.links b.has_lists
+    (separated b.last_tick b.tick b.last_serial b.slots b.links b.pending b.due) c.keys_are_apart.ensures c.in_ok-timer.timer b.distinct
+    (sym c.look.ensures ∙ c.in_ok-timer.was) in
     is_used c.args.handle.place f.node b.links f.at

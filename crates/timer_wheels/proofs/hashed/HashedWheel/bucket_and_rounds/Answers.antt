@@ -6,4 +6,5 @@ pub returns-clause-bucket : goal.returns-clause-bucket
 returns-clause-bucket c =
     let w = c.args.self.now in
     let b = w.buckets in
-    sym (slot_from b.slots b.tick c.args.timer.deadline w.slot c.slot_after.result w.has_slots c.requires.later w.at_tick c.slot_after.ensures)
+    sym (slot_from b.slots b.tick c.args.timer.deadline w.slot c.slot_after.result w.has_slots c.requires.later w.at_tick
+    c.slot_after.ensures)

@@ -13,7 +13,8 @@ in_buckets : (n now bucket rounds key : ℕ) (t : Timer) (old new : List (List (
     → MatchOption result (new ≡ old) (λ r. new ≡ with_row bucket (key, record { timer = t; rounds = rounds }) (map (without_key key) old))
     → bucket < length old → t.deadline % n ≡ bucket → rounds ≡ rounds_of n now t → AreInBuckets n now old → AreInBuckets n now new
 in_buckets n now bucket rounds key t old new None e b s r a = rw e a
-in_buckets n now bucket rounds key t old new (Some found) e b s r a = rw e (each_restarted (IsInBucket n now) n key bucket (record { timer = t; rounds = rounds }) old b (s, r) a)
+in_buckets n now bucket rounds key t old new (Some found) e b s r a =
+    rw e (each_restarted (IsInBucket n now) n key bucket (record { timer = t; rounds = rounds }) old b (s, r) a)
 
 pub invariant_of-self-clause-in_buckets : goal.invariant_of-self-clause-in_buckets
 invariant_of-self-clause-in_buckets c =
@@ -22,5 +23,7 @@ invariant_of-self-clause-in_buckets c =
     let found = c.bucket_and_rounds-bucket in
     let in_range : found.result.0 < b.slots = found.ensures.in_range in
     let lists : length b.links ≡ b.slots + 1 = b.has_lists in
-    same_frame b.slots b.tick c.restart.new.self.slots c.restart.new.self.tick c.restart.new.self.links c.restart.ensures.frame.slots c.restart.ensures.frame.tick
-    (in_buckets b.slots b.tick found.result.0 found.result.1 c.args.handle.place c.args.timer b.links c.restart.new.self.links c.restart.result c.restart.ensures.lists (omega arith) (sym found.ensures.bucket) found.ensures.rounds w.in_buckets)
+    same_frame b.slots b.tick c.restart.new.self.slots c.restart.new.self.tick c.restart.new.self.links c.restart.ensures.frame.slots
+    c.restart.ensures.frame.tick
+    (in_buckets b.slots b.tick found.result.0 found.result.1 c.args.handle.place c.args.timer b.links c.restart.new.self.links
+    c.restart.result c.restart.ensures.lists (omega arith) (sym found.ensures.bucket) found.ensures.rounds w.in_buckets)

@@ -13,12 +13,15 @@ in_buckets : (n now bucket rounds key : ℕ) (t : Timer) (old new : List (List (
     → MatchOption result (new ≡ old) (λ r. AddsRow n bucket (row_at key t rounds) old new)
     → t.deadline % n ≡ bucket → rounds ≡ rounds_of n now t → AreInBuckets n now old → AreInBuckets n now new
 in_buckets n now bucket rounds key t old new None e s r a = rw e a
-in_buckets n now bucket rounds key t old new (Some found) e s r a = each-added (IsInBucket n now) n bucket (row_at key t rounds) old new e (s, r) a
+in_buckets n now bucket rounds key t old new (Some found) e s r a =
+    each-added (IsInBucket n now) n bucket (row_at key t rounds) old new e (s, r) a
 
 pub invariant_of-self-clause-in_buckets : goal.invariant_of-self-clause-in_buckets
 invariant_of-self-clause-in_buckets c =
     let w = c.args.self.now in
     let b = w.buckets in
     let found = c.bucket_and_rounds-bucket in
-    same_frame b.slots b.tick c.revive.new.self.slots c.revive.new.self.tick c.revive.new.self.links c.revive.ensures.frame.slots c.revive.ensures.frame.tick
-    (in_buckets b.slots b.tick found.result.0 found.result.1 c.args.handle.place c.args.timer b.links c.revive.new.self.links c.revive.result c.revive.ensures.lists (sym found.ensures.bucket) found.ensures.rounds w.in_buckets)
+    same_frame b.slots b.tick c.revive.new.self.slots c.revive.new.self.tick c.revive.new.self.links c.revive.ensures.frame.slots
+    c.revive.ensures.frame.tick
+    (in_buckets b.slots b.tick found.result.0 found.result.1 c.args.handle.place c.args.timer b.links c.revive.new.self.links
+    c.revive.result c.revive.ensures.lists (sym found.ensures.bucket) found.ensures.rounds w.in_buckets)

@@ -9,7 +9,8 @@ use Rattle.timer_wheels.proofs.HashedTicks.{same_frame}
 use Rattle.timer_wheels.proofs.hashed.HashedWheelWheel.stop.Goals as goal
 
 -- each row that a stop leaves stays in its bucket
-in_buckets : (n now key : ℕ) (old new : List (List (ℕ × Node))) (result : Option Timer) → MatchOption result (new ≡ old) (λ timer. new ≡ map (without_key key) old) → AreInBuckets n now old → AreInBuckets n now new
+in_buckets : (n now key : ℕ) (old new : List (List (ℕ × Node))) (result : Option Timer)
+    → MatchOption result (new ≡ old) (λ timer. new ≡ map (without_key key) old) → AreInBuckets n now old → AreInBuckets n now new
 in_buckets n now key old new None e a = rw e a
 in_buckets n now key old new (Some t) e a = rw e (each-without_key (IsInBucket n now) n key old a)
 
@@ -17,5 +18,6 @@ pub invariant_of-self-clause-in_buckets : goal.invariant_of-self-clause-in_bucke
 invariant_of-self-clause-in_buckets c =
     let w = c.args.self.now in
     let b = w.buckets in
-    same_frame b.slots b.tick c.stop.new.self.slots c.stop.new.self.tick c.stop.new.self.links c.stop.ensures.frame.slots c.stop.ensures.frame.tick
+    same_frame b.slots b.tick c.stop.new.self.slots c.stop.new.self.tick c.stop.new.self.links c.stop.ensures.frame.slots
+    c.stop.ensures.frame.tick
     (in_buckets b.slots b.tick c.args.handle.place b.links c.stop.new.self.links c.stop.result c.stop.ensures.lists w.in_buckets)

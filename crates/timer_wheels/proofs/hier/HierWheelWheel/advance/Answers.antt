@@ -13,14 +13,18 @@ pub invariant_of-self-clause-few_starts : goal.invariant_of-self-clause-few_star
 invariant_of-self-clause-few_starts c =
     let b = c.args.self.now.buckets in
     let n = c.advance_until_due-moves.new.buckets in
-    let e : n.last_serial ≡ b.last_serial = advanced_serial c.args.most (n.tick - b.tick) (state_of b) (state_of n) c.advance_until_due-moves.ensures.advances in
+    let e : n.last_serial ≡ b.last_serial = advanced_serial c.args.most (n.tick - b.tick) (state_of b)
+    (state_of n) c.advance_until_due-moves.ensures.advances in
     let f : c.args.self.now.counts.starts ≤ b.last_serial = c.args.self.now.few_starts in
     omega arith
 
 pub invariant_of-self-clause-paid : goal.invariant_of-self-clause-paid
-invariant_of-self-clause-paid c = leapt_paid (radices c.args.self.now.table) c.args.self.now.counts.starts c.args.self.now.counts.moves c.advance_until_due-moves.result (state_of c.args.self.now.buckets) (state_of c.advance_until_due-moves.new.buckets) c.advance_until_due-moves.ensures.leaps c.args.self.now.paid
+invariant_of-self-clause-paid c = leapt_paid (radices c.args.self.now.table) c.args.self.now.counts.starts c.args.self.now.counts.moves
+    c.advance_until_due-moves.result (state_of c.args.self.now.buckets)
+    (state_of c.advance_until_due-moves.new.buckets) c.advance_until_due-moves.ensures.leaps c.args.self.now.paid
 
-visits_add : (first last skipped visits : ℕ) → skipped ≤ first → 0 < last - first → visits ≤ last - first → last - (skipped + (last - first - visits)) ≡ first - skipped + visits
+visits_add : (first last skipped visits : ℕ) → skipped ≤ first → 0 < last - first → visits ≤ last - first
+    → last - (skipped + (last - first - visits)) ≡ first - skipped + visits
 visits_add first last skipped visits s l v = omega arith
 
 abbrev counts : ℕ → ℕ → ℕ → WheelCounts
@@ -31,13 +35,16 @@ returns-clause-counted c =
     let b = c.args.self.now.buckets in
     let n = c.advance_until_due-moves.new.buckets in
     let k = c.args.self.now.counts in
-    let m = leapt_moves (radices c.args.self.now.table) c.advance_until_due-moves.result (state_of b) (state_of n) c.advance_until_due-moves.ensures.leaps in
+    let m = leapt_moves (radices c.args.self.now.table) c.advance_until_due-moves.result (state_of b)
+    (state_of n) c.advance_until_due-moves.ensures.leaps in
     let d = any_of (state_of n).due c.has_due.result c.has_due.ensures in
     let v = c.visits_between-visits.ensures.value ∙ ap (visited_between (lowest_radix (radices c.args.self.now.table)) b.tick n.tick) d in
-    let w = visits_add b.tick n.tick k.skipped c.visits_between-visits.result c.args.self.now.few_skipped c.advance_until_due-moves.ensures.advances.some c.visits_between-visits.ensures.few in
+    let w = visits_add b.tick n.tick k.skipped c.visits_between-visits.result c.args.self.now.few_skipped
+    c.advance_until_due-moves.ensures.advances.some c.visits_between-visits.ensures.few in
     ap (counts k.starts (k.moves + c.advance_until_due-moves.result)) w
     ∙ ap (λ (x : ℕ). counts k.starts (k.moves + x) (b.tick - k.skipped + c.visits_between-visits.result)) m
-    ∙ ap (λ (x : ℕ). counts k.starts (k.moves + hops_of (radices c.args.self.now.table) b.tick (n.tick - b.tick) (state_of b).pending) (b.tick - k.skipped + x)) v
+    ∙ ap (λ (x : ℕ). counts k.starts (k.moves + hops_of (radices c.args.self.now.table) b.tick (n.tick - b.tick) (state_of b).pending)
+    (b.tick - k.skipped + x)) v
 
 least : (moves levels n : ℕ) → moves + levels ≤ n → levels ≤ n
 least moves levels n h = omega arith
@@ -47,7 +54,8 @@ unfolding Rattle.timer_wheels.specs.Digits.wide
 advance_until_due-moves-requires-clause-few c =
     let w = c.args.self.now in
     let t = radices w.table in
-    let p = paid_bound t w.counts.starts w.counts.moves w.buckets.last_serial w.buckets.tick (state_of w.buckets).pending (of_table w.table) w.few_starts w.buckets.serial_in_range w.paid in
+    let p = paid_bound t w.counts.starts w.counts.moves w.buckets.last_serial w.buckets.tick (state_of w.buckets).pending
+    (of_table w.table) w.few_starts w.buckets.serial_in_range w.paid in
     least w.counts.moves (levels_of t w.buckets.tick (state_of w.buckets).pending) 10376293541461622775 p
 
 pub overflow_add-counts : goal.overflow_add-counts
@@ -55,7 +63,9 @@ overflow_add-counts c =
     let w = c.args.self.now in
     let t = radices w.table in
     let n = c.advance_until_due-moves.new.buckets in
-    let p = paid_bound t w.counts.starts w.counts.moves w.buckets.last_serial w.buckets.tick (state_of w.buckets).pending (of_table w.table) w.few_starts w.buckets.serial_in_range w.paid in
+    let p = paid_bound t w.counts.starts w.counts.moves w.buckets.last_serial w.buckets.tick (state_of w.buckets).pending
+    (of_table w.table) w.few_starts w.buckets.serial_in_range w.paid in
     let h : c.args.self.now.counts.moves + c.advance_until_due-moves.result < 18446744073709551616 =
-    moves_fit w.counts.moves c.advance_until_due-moves.result (levels_of t n.tick (state_of n).pending) (levels_of t w.buckets.tick (state_of w.buckets).pending) p c.advance_until_due-moves.ensures.leaps.pays in
+    moves_fit w.counts.moves c.advance_until_due-moves.result (levels_of t n.tick (state_of n).pending)
+    (levels_of t w.buckets.tick (state_of w.buckets).pending) p c.advance_until_due-moves.ensures.leaps.pays in
     search rules

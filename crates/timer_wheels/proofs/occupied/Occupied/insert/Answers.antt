@@ -7,4 +7,5 @@ pub returns-clause-here : goal.returns-clause-here
 returns-clause-here c = set_here c.self.inside.words c.args.list c.self.invariant c.requires
 
 pub returns-clause-others : goal.returns-clause-others
-returns-clause-others c = λ s n. set_others c.self.inside.words c.args.list c.self.invariant c.requires s n ∙ ap (λ (words : List ℕ). bit_of words s) c.self.view_is
+returns-clause-others c = λ s n. set_others c.self.inside.words c.args.list c.self.invariant c.requires s n
+    ∙ ap (λ (words : List ℕ). bit_of words s) c.self.view_is
