@@ -42,21 +42,25 @@ is_there (suc n) [] t e = absurd (none_some t e)
 is_there zero (x ∷ due) t e = omega arith
 is_there (suc n) (x ∷ due) t e = let h : n < length due = is_there n due t e in omega arith
 
-with_due : (w : WheelState) (xs ys : List Entry) → xs ≡ ys → (let a : WheelState = record w { due = xs } in let b : WheelState = record w { due = ys } in a ≡ b)
+with_due : (w : WheelState) (xs ys : List Entry) → xs ≡ ys → (let a : WheelState = record w { due = xs }
+    in let b : WheelState = record w { due = ys } in a ≡ b)
 with_due w xs ys e = cc
 
 pub taken_none : (out : List Expired) (w : WheelState) → IsTaken 0 out w out w
 taken_none out w = record { some = omega arith; told = refl; rest = refl }
 
 -- one more
-pub taken_next : (n : ℕ) (out out' : List Expired) (old here new : WheelState) (t : Timer) → IsTaken n out old out' here → first_due here ≡ Some t → n < length out
+pub taken_next : (n : ℕ) (out out' : List Expired) (old here new : WheelState) (t : Timer) → IsTaken n out old out' here
+    → first_due here ≡ Some t → n < length out
     → new ≡ after_expiry here → IsTaken (n + 1) out old (slice_set out' n (tell t)) new
 taken_next n out out' old here new t taken first room e =
-    let at : slice_get (timers_of (drop n old.due)) 0 ≡ Some t = sym (ap (λ (w : WheelState). slice_get (timers_of w.due) 0) taken.rest) ∙ first in
+    let at : slice_get (timers_of (drop n old.due)) 0 ≡ Some t =
+    sym (ap (λ (w : WheelState). slice_get (timers_of w.due) 0) taken.rest) ∙ first in
     let below : n < length old.due = is_there n old.due t at in
     let written : slice_set out' n (tell t) ≡ map tell (take (suc n) (timers_of old.due)) ++ drop (suc n) out =
     ap (λ (o : List Expired). slice_set o n (tell t)) taken.told ∙ next n old.due out t at room in
-    let left : new ≡ after_expiries (suc n) old = e ∙ ap after_expiry taken.rest ∙ with_due old (drop 1 (drop n old.due)) (drop (suc n) old.due) (drop_next n old.due) in
+    let left : new ≡ after_expiries (suc n) old = e ∙ ap after_expiry taken.rest
+    ∙ with_due old (drop 1 (drop n old.due)) (drop (suc n) old.due) (drop_next n old.due) in
     let one : suc n ≡ n + 1 = sym (add-one n) in
     record {
       some = omega arith;

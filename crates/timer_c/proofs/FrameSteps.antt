@@ -23,7 +23,8 @@ kept t slot state e f = ap (λ (w : WheelState). holding t (with_state slot w)) 
 none_of : (t : Timer) → (Some t ≡ None) → ⊥
 none_of t e = cc
 
-nothing_left : (w : WheelState) (due : List Entry) → first_due (record w { due = due }) ≡ None → (let a : WheelState = after_expiry (record w { due = due }) in let b : WheelState = record w { due = due } in a ≡ b)
+nothing_left : (w : WheelState) (due : List Entry) → first_due (record w { due = due }) ≡ None
+    → (let a : WheelState = after_expiry (record w { due = due }) in let b : WheelState = record w { due = due } in a ≡ b)
 nothing_left w [] e = refl
 nothing_left w (t ∷ due) e = absurd (none_of t.timer e)
 

@@ -1,4 +1,5 @@
--- What each call returns, and the state of the wheel after it. A status is that of the first reason that holds.
+-- What each call returns, and the state of the wheel after it. A status is that of the first reason that
+-- holds.
 use Rattle.std.specs.Prelude.{ℕ, ◌≡◌, ◌+◌, ◌<◌, ◌≤◌, ◌⊎◌, [], length, drop, Option, Some, None}
 use Rattle.timer_base.specs.declared.limits.TheConstants.{LAST}
 use Rattle.timer_base.specs.declared.timer.Timer.{Timer}
@@ -17,29 +18,34 @@ use Rattle.timer_c.specs.declared.status.TheConstants.{NO_TABLE, NO_MEMORY, DUE,
 abbrev pub IsEmptyAt : ℕ → ℕ → ℕ → WheelState → Type 0
 IsEmptyAt table first_tick serial new =
     ((table ≡ WIDE) × (first_tick ≤ LAST) × (new ≡ numbered serial (empty_wheel LAST first_tick)))
-    ⊎ ((table ≡ CLOCK) × (first_tick ≤ LAST_OF_CLOCK) × (new ≡ numbered serial (empty_wheel LAST_OF_CLOCK first_tick)))
+    ⊎ ((table ≡ CLOCK) × (first_tick ≤ LAST_OF_CLOCK)
+    × (new ≡ numbered serial (empty_wheel LAST_OF_CLOCK first_tick)))
 
 -- there is such a table, and it has the first tick
 abbrev pub IsOpenable : ℕ → ℕ → Type 0
-IsOpenable table first_tick = ((table ≡ WIDE) × (first_tick ≤ LAST)) ⊎ ((table ≡ CLOCK) × (first_tick ≤ LAST_OF_CLOCK))
+IsOpenable table first_tick = ((table ≡ WIDE) × (first_tick ≤ LAST))
+    ⊎ ((table ≡ CLOCK) × (first_tick ≤ LAST_OF_CLOCK))
 
 -- why no wheel is made
 abbrev pub WhyNoWheel : ℕ → ℕ → ℕ → Type 0
 WhyNoWheel table first_tick status =
     ((status ≡ NO_TABLE) × (CLOCK < table))
-    ⊎ ((status ≡ TOO_LATE) × (((table ≡ WIDE) × (LAST < first_tick)) ⊎ ((table ≡ CLOCK) × (LAST_OF_CLOCK < first_tick))))
+    ⊎ ((status ≡ TOO_LATE) × (((table ≡ WIDE) × (LAST < first_tick))
+    ⊎ ((table ≡ CLOCK) × (LAST_OF_CLOCK < first_tick))))
     ⊎ ((status ≡ NO_MEMORY) × IsOpenable table first_tick)
 
 -- a start was done: the state is that after the start, at a place that is a free choice
 abbrev pub IsStarted : ℕ → ℕ → WheelState → WheelState → Handle → Type 0
 IsStarted interval action old new handle =
-    IsStartable interval old × (handle.serial ≡ old.last_serial + 1) × (new ≡ after_start handle.place (next_timer interval action old) old)
+    IsStartable interval old × (handle.serial ≡ old.last_serial + 1)
+    × (new ≡ after_start handle.place (next_timer interval action old) old)
 
 abbrev pub WhyNotStarted : ℕ → WheelState → ℕ → Type 0
 WhyNotStarted interval old status =
     ((status ≡ ZERO_INTERVAL) × (interval ≡ 0))
     ⊎ ((status ≡ TOO_LATE) × (0 < interval) × (old.last_tick < old.now + interval))
-    ⊎ ((status ≡ SERIALS_SPENT) × (0 < interval) × (old.now + interval ≤ old.last_tick) × (LAST ≤ old.last_serial))
+    ⊎ ((status ≡ SERIALS_SPENT) × (0 < interval) × (old.now + interval ≤ old.last_tick)
+    × (LAST ≤ old.last_serial))
     ⊎ ((status ≡ NO_MEMORY) × IsStartable interval old)
 
 -- the handle as the wheel's type
@@ -49,7 +55,8 @@ named handle = record { place = handle.place; serial = handle.serial }
 -- a start for this tick was done
 abbrev pub IsStartedAt : ℕ → ℕ → WheelState → WheelState → Handle → Type 0
 IsStartedAt deadline action old new handle =
-    IsStartable (left_until deadline old) old × (handle.serial ≡ old.last_serial + 1) × (new ≡ after_start handle.place (timer_due deadline action old) old)
+    IsStartable (left_until deadline old) old × (handle.serial ≡ old.last_serial + 1)
+    × (new ≡ after_start handle.place (timer_due deadline action old) old)
 
 -- a restart was done: the old timer is removed, and the new one started under the next serial
 abbrev pub IsRestarted : Handle → ℕ → ℕ → WheelState → WheelState → Handle → Type 0
@@ -60,7 +67,8 @@ IsRestarted handle interval action old new restarted =
 -- a restart for this tick was done
 abbrev pub IsRestartedAt : Handle → ℕ → ℕ → WheelState → WheelState → Handle → Type 0
 IsRestartedAt handle deadline action old new restarted =
-    IsAt (named handle) old × IsStartable (left_until deadline old) old × (restarted.serial ≡ old.last_serial + 1)
+    IsAt (named handle) old × IsStartable (left_until deadline old) old
+    × (restarted.serial ≡ old.last_serial + 1)
     × (new ≡ after_start restarted.place (timer_due deadline action old) (after_removal (named handle) old))
 
 abbrev pub WhyNotRestarted : Handle → ℕ → WheelState → ℕ → Type 0
@@ -68,7 +76,8 @@ WhyNotRestarted handle interval old status =
     ((status ≡ NOT_PENDING) × (held_at (named handle) old ≡ None))
     ⊎ ((status ≡ ZERO_INTERVAL) × IsAt (named handle) old × (interval ≡ 0))
     ⊎ ((status ≡ TOO_LATE) × IsAt (named handle) old × (0 < interval) × (old.last_tick < old.now + interval))
-    ⊎ ((status ≡ SERIALS_SPENT) × IsAt (named handle) old × (0 < interval) × (old.now + interval ≤ old.last_tick) × (LAST ≤ old.last_serial))
+    ⊎ ((status ≡ SERIALS_SPENT) × IsAt (named handle) old × (0 < interval)
+    × (old.now + interval ≤ old.last_tick) × (LAST ≤ old.last_serial))
 
 -- the action that a start was given
 abbrev pub action_of : Option Timer → Option ℕ
@@ -115,7 +124,8 @@ IsSeen handle w out = told (held_at (named handle) w) ≡ Some out
 abbrev pub after_expiries : ℕ → WheelState → WheelState
 after_expiries count w = record w { due = drop count w.due }
 
--- the tick until which the caller may sleep: now where an expired timer waits, else one before which nothing expires
+-- the tick until which the caller may sleep: now where an expired timer waits, else one before which nothing
+-- expires
 abbrev pub IsNextCall : ℕ → WheelState → Type 0
 IsNextCall tick w =
     ((tick ≡ w.now) × (0 < length w.due))

@@ -4,7 +4,7 @@ ghost use Rattle.timer_base.specs.Pending.{timers_of};
 ghost use Rattle.timer_base.specs.WheelState.{first_due, after_tick, after_expiry};
 ghost use Rattle.timer_c.specs.Outcomes.{IsStarted, IsStartedAt, WhyNotStarted, IsRestarted, IsRestartedAt, WhyNotRestarted, IsSeen, IsStopped, WhyNotStopped, IsTicked, IsAdvanced, WhyNotTicked, IsNextCall, IsNextDeadline, IsVisited, IsAllVisited, told, tell, after_expiries};
 ghost use Rattle.timer_total.specs.Refusals.{left_until};
-ghost use Rattle.timer_c.specs.declared.status.TheConstants.{OK};
+ghost use Rattle.timer_c.specs.declared.status.TheConstants.{OK, NO_MEMORY};
 
 use crate::shapes::{Expired, Handle};
 use crate::status::{
@@ -13,6 +13,17 @@ use crate::status::{
 use timer_base::{Timer, Wheel};
 use timer_total::{RestartFault, StartFault, TickFault, Timers};
 use timer_wheels::HierWheel;
+
+/// Makes room for `most` timers at one time, pending and expired ones together.
+pub(crate) fn reserve<W: Wheel + Drop>(timers: &mut Timers<W>, most: usize) -> u32
+    ensures refused { 0 < result → result ≡ NO_MEMORY }
+    ensures same { timers.new ≡ timers.old }
+{
+    match timers.reserve(most) {
+        Ok(()) => OK,
+        Err(_) => NO_MEMORY,
+    }
+}
 
 pub(crate) fn start<W: Wheel + Drop>(
     timers: &mut Timers<W>,

@@ -8,7 +8,7 @@ ghost use Rattle.timer_base.specs.Pending.{timers_of};
 ghost use Rattle.timer_base.specs.WheelState.{first_due, after_expiry};
 ghost use Rattle.timer_c.specs.Frames.{IsOpen, IsShut, with_timers};
 ghost use Rattle.timer_c.specs.Outcomes.{IsEmptyAt, IsOpenable, WhyNoWheel, IsStarted, IsStartedAt, WhyNotStarted, IsRestarted, IsRestartedAt, WhyNotRestarted, IsSeen, IsStopped, WhyNotStopped, IsTicked, IsAdvanced, WhyNotTicked, IsNextCall, IsNextDeadline, IsVisited, IsAllVisited, told, tell, after_expiries};
-ghost use Rattle.timer_c.specs.declared.status.TheConstants.{OK, NOT_OPEN, OPEN, NEVER};
+ghost use Rattle.timer_c.specs.declared.status.TheConstants.{OK, NOT_OPEN, OPEN, NO_MEMORY, NEVER};
 ghost use Rattle.timer_total.specs.Refusals.{left_until};
 
 use crate::calls;
@@ -24,8 +24,10 @@ use timer_total::Timers;
 /// `timers_free`. Serials continue after those of the timers that `t` held before.
 #[unsafe(no_mangle)]
 pub extern "C" fn timers_new(alloc: Global, t: &mut Held, table: u32, first_tick: u64) -> u32
-    ensures made { result ≡ OK → IsShut t.old × IsOpen t.new × IsEmptyAt table first_tick t.old.last_serial t.new.slot.state }
-    ensures refused { 0 < result → ((result ≡ OPEN) × IsOpen t.old) ⊎ (IsShut t.old × WhyNoWheel table first_tick result) }
+    ensures made { result ≡ OK → IsShut t.old × IsOpen t.new
+        × IsEmptyAt table first_tick t.old.last_serial t.new.slot.state }
+    ensures refused { 0 < result → ((result ≡ OPEN) × IsOpen t.old)
+        ⊎ (IsShut t.old × WhyNoWheel table first_tick result) }
     ensures kept { 0 < result → t.new ≡ t.old }
     ensures serial { t.new.last_serial ≡ t.old.last_serial }
 {
@@ -58,11 +60,27 @@ pub extern "C" fn timers_free(alloc: Global, t: &mut Held)
     }
 }
 
+/// Makes room for `most` timers at one time, pending and expired ones together. Nothing else changes.
+#[unsafe(no_mangle)]
+pub extern "C" fn timers_reserve(t: &mut Held, most: usize) -> u32
+    ensures reserved { result ≡ OK → IsOpen t.old }
+    ensures refused { 0 < result → ((result ≡ NOT_OPEN) × IsShut t.old)
+        ⊎ (IsOpen t.old × (result ≡ NO_MEMORY)) }
+    ensures same { t.new ≡ t.old }
+{
+    if !t.slot.holds() {
+        return NOT_OPEN;
+    }
+    calls::reserve(t.slot.timers(), most)
+}
+
 /// Starts a timer that expires after `interval` ticks, and writes its handle.
 #[unsafe(no_mangle)]
 pub extern "C" fn timers_start(t: &mut Held, interval: u64, action: u64, handle: &mut Handle) -> u32
-    ensures started { result ≡ OK → IsOpen t.old × IsStarted interval action t.old.slot.state t.new.slot.state handle.new }
-    ensures refused { 0 < result → ((result ≡ NOT_OPEN) × IsShut t.old) ⊎ (IsOpen t.old × WhyNotStarted interval t.old.slot.state result) }
+    ensures started { result ≡ OK → IsOpen t.old × IsStarted interval action t.old.slot.state t.new.slot.state
+        handle.new }
+    ensures refused { 0 < result → ((result ≡ NOT_OPEN) × IsShut t.old)
+        ⊎ (IsOpen t.old × WhyNotStarted interval t.old.slot.state result) }
     ensures kept { 0 < result → (t.new ≡ t.old) × (handle.new ≡ handle.old) }
     ensures only { t.new ≡ with_timers t.old t.new.slot.state }
 {
@@ -80,7 +98,8 @@ pub extern "C" fn timers_start_at(
     action: u64,
     handle: &mut Handle,
 ) -> u32
-    ensures started { result ≡ OK → IsOpen t.old × IsStartedAt deadline action t.old.slot.state t.new.slot.state handle.new }
+    ensures started { result ≡ OK → IsOpen t.old × IsStartedAt deadline action t.old.slot.state
+        t.new.slot.state handle.new }
     ensures refused { 0 < result → ((result ≡ NOT_OPEN) × IsShut t.old)
         ⊎ (IsOpen t.old × WhyNotStarted (left_until deadline t.old.slot.state) t.old.slot.state result) }
     ensures kept { 0 < result → (t.new ≡ t.old) × (handle.new ≡ handle.old) }
@@ -102,7 +121,8 @@ pub extern "C" fn timers_restart(
     action: u64,
     restarted: &mut Handle,
 ) -> u32
-    ensures restarted { result ≡ OK → IsOpen t.old × IsRestarted handle interval action t.old.slot.state t.new.slot.state restarted.new }
+    ensures restarted { result ≡ OK → IsOpen t.old
+        × IsRestarted handle interval action t.old.slot.state t.new.slot.state restarted.new }
     ensures refused { 0 < result → ((result ≡ NOT_OPEN) × IsShut t.old)
         ⊎ (IsOpen t.old × WhyNotRestarted handle interval t.old.slot.state result) }
     ensures kept { 0 < result → (t.new ≡ t.old) × (restarted.new ≡ restarted.old) }
@@ -123,9 +143,11 @@ pub extern "C" fn timers_restart_at(
     action: u64,
     restarted: &mut Handle,
 ) -> u32
-    ensures restarted { result ≡ OK → IsOpen t.old × IsRestartedAt handle deadline action t.old.slot.state t.new.slot.state restarted.new }
+    ensures restarted { result ≡ OK → IsOpen t.old
+        × IsRestartedAt handle deadline action t.old.slot.state t.new.slot.state restarted.new }
     ensures refused { 0 < result → ((result ≡ NOT_OPEN) × IsShut t.old)
-        ⊎ (IsOpen t.old × WhyNotRestarted handle (left_until deadline t.old.slot.state) t.old.slot.state result) }
+        ⊎ (IsOpen t.old × WhyNotRestarted handle (left_until deadline t.old.slot.state) t.old.slot.state
+        result) }
     ensures kept { 0 < result → (t.new ≡ t.old) × (restarted.new ≡ restarted.old) }
     ensures only { t.new ≡ with_timers t.old t.new.slot.state }
 {
@@ -139,7 +161,8 @@ pub extern "C" fn timers_restart_at(
 #[unsafe(no_mangle)]
 pub extern "C" fn timers_look(t: &mut Held, handle: Handle, out: &mut Expired) -> u32
     ensures seen { result ≡ OK → IsOpen t.old × IsSeen handle t.old.slot.state out.new }
-    ensures refused { 0 < result → ((result ≡ NOT_OPEN) × IsShut t.old) ⊎ (IsOpen t.old × WhyNotStopped handle t.old.slot.state result) }
+    ensures refused { 0 < result → ((result ≡ NOT_OPEN) × IsShut t.old)
+        ⊎ (IsOpen t.old × WhyNotStopped handle t.old.slot.state result) }
     ensures kept { 0 < result → out.new ≡ out.old }
     ensures same { t.new ≡ t.old }
 {
@@ -152,8 +175,10 @@ pub extern "C" fn timers_look(t: &mut Held, handle: Handle, out: &mut Expired) -
 /// Stops the timer with exactly this handle, pending or expired and not yet taken, and writes its action.
 #[unsafe(no_mangle)]
 pub extern "C" fn timers_stop(t: &mut Held, handle: Handle, action: &mut u64) -> u32
-    ensures stopped { result ≡ OK → IsOpen t.old × IsStopped handle t.old.slot.state t.new.slot.state action.new }
-    ensures refused { 0 < result → ((result ≡ NOT_OPEN) × IsShut t.old) ⊎ (IsOpen t.old × WhyNotStopped handle t.old.slot.state result) }
+    ensures stopped { result ≡ OK → IsOpen t.old × IsStopped handle t.old.slot.state t.new.slot.state
+        action.new }
+    ensures refused { 0 < result → ((result ≡ NOT_OPEN) × IsShut t.old)
+        ⊎ (IsOpen t.old × WhyNotStopped handle t.old.slot.state result) }
     ensures kept { 0 < result → (t.new ≡ t.old) × (action.new ≡ action.old) }
     ensures only { t.new ≡ with_timers t.old t.new.slot.state }
 {
@@ -167,7 +192,8 @@ pub extern "C" fn timers_stop(t: &mut Held, handle: Handle, action: &mut u64) ->
 #[unsafe(no_mangle)]
 pub extern "C" fn timers_tick(t: &mut Held) -> u32
     ensures ticked { result ≡ OK → IsOpen t.old × IsTicked t.old.slot.state t.new.slot.state }
-    ensures refused { 0 < result → ((result ≡ NOT_OPEN) × IsShut t.old) ⊎ (IsOpen t.old × WhyNotTicked t.old.slot.state result) }
+    ensures refused { 0 < result → ((result ≡ NOT_OPEN) × IsShut t.old)
+        ⊎ (IsOpen t.old × WhyNotTicked t.old.slot.state result) }
     ensures kept { 0 < result → t.new ≡ t.old }
     ensures only { t.new ≡ with_timers t.old t.new.slot.state }
 {
@@ -181,8 +207,10 @@ pub extern "C" fn timers_tick(t: &mut Held) -> u32
 /// passed: 0 only where `most` is 0.
 #[unsafe(no_mangle)]
 pub extern "C" fn timers_advance(t: &mut Held, most: u64, passed: &mut u64) -> u32
-    ensures advanced { result ≡ OK → IsOpen t.old × IsAdvanced most passed.new t.old.slot.state t.new.slot.state }
-    ensures refused { 0 < result → ((result ≡ NOT_OPEN) × IsShut t.old) ⊎ (IsOpen t.old × WhyNotTicked t.old.slot.state result) }
+    ensures advanced { result ≡ OK → IsOpen t.old × IsAdvanced most passed.new t.old.slot.state
+        t.new.slot.state }
+    ensures refused { 0 < result → ((result ≡ NOT_OPEN) × IsShut t.old)
+        ⊎ (IsOpen t.old × WhyNotTicked t.old.slot.state result) }
     ensures kept { 0 < result → (t.new ≡ t.old) × (passed.new ≡ passed.old) }
     ensures only { t.new ≡ with_timers t.old t.new.slot.state }
 {
@@ -211,7 +239,8 @@ pub extern "C" fn timers_expire(t: &mut Held, out: &mut Expired) -> bool
 #[unsafe(no_mangle)]
 pub extern "C" fn timers_expire_batch(t: &mut Held, out: &mut [Expired]) -> usize
     ensures count { IsOpen t.old → result ≡ min (length out.old) (length t.old.slot.state.due) }
-    ensures told { IsOpen t.old → out.new ≡ map tell (take result (timers_of t.old.slot.state.due)) ++ drop result out.old }
+    ensures told { IsOpen t.old → out.new ≡ map tell (take result (timers_of t.old.slot.state.due))
+        ++ drop result out.old }
     ensures rest { IsOpen t.old → t.new.slot.state ≡ after_expiries result t.old.slot.state }
     ensures not_open { IsShut t.old → (result ≡ 0) × (t.new ≡ t.old) × (out.new ≡ out.old) }
     ensures only { t.new ≡ with_timers t.old t.new.slot.state }
@@ -276,8 +305,8 @@ pub extern "C" fn timers_wakeup(t: &mut Held) -> u64
     calls::wakeup(t.slot.timers())
 }
 
-/// The deadline of the timer that is handed out next: the present tick when an expired one waits, `NEVER` when
-/// no timer is held, and otherwise exactly the first pending deadline.
+/// The deadline of the timer that is handed out next: the present tick when an expired one waits, `NEVER`
+/// when no timer is held, and otherwise exactly the first pending deadline.
 #[unsafe(no_mangle)]
 pub extern "C" fn timers_next(t: &mut Held) -> u64
     ensures deadline { IsOpen t.old → IsNextDeadline result t.old.slot.state }
@@ -290,8 +319,8 @@ pub extern "C" fn timers_next(t: &mut Held) -> u64
     calls::next(t.slot.timers())
 }
 
-/// Writes the first timer from the cursor's place on, pending or expired and not yet taken, with its handle, and
-/// moves the cursor past it. Returns whether there was one.
+/// Writes the first timer from the cursor's place on, pending or expired and not yet taken, with its handle,
+/// and moves the cursor past it. Returns whether there was one.
 #[unsafe(no_mangle)]
 pub extern "C" fn timers_each(
     t: &mut Held,

@@ -7,7 +7,8 @@
 //!     calls      the calls over any wheel, with C's statuses and structs
 //!     opening    a wheel by C's number for its table
 //!     held       `struct timers`: the slot, and the last serial while the slot is empty
-//!     slot       the two machine words by which it owns the timers on the heap; its four methods are proved by hand
+//!     slot       the two machine words by which it owns the timers on the heap; its four methods are proved
+//!                by hand
 //!     parked     a box as its address, on its way into the slot and out of it; its two methods are too
 //!     shapes     the structs of the header
 //!     status     the statuses of the header

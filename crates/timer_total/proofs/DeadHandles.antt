@@ -28,7 +28,8 @@ serial_is a b e = grind (arith, nat_tests)
 found_serial : (handle : Handle) (es : List Entry) (t : Timer) → first_timer (has_handle handle) es ≡ Some t → t.serial ≡ handle.serial
 found_serial handle [] t e = absurd (no_timer t e)
 found_serial handle (x ∷ xs) t e = elim (either (has_handle handle x)) [
-  | inl h ↦ ap (λ (u : Timer). u.serial) (sym (same_timer x.timer t (rw h at e))) ∙ serial_is x.timer.serial handle.serial (second (x.place == handle.place) (x.timer.serial == handle.serial) h)
+  | inl h ↦ ap (λ (u : Timer). u.serial) (sym (same_timer x.timer t (rw h at e)))
+      ∙ serial_is x.timer.serial handle.serial (second (x.place == handle.place) (x.timer.serial == handle.serial) h)
   | inr h ↦ found_serial handle xs t (rw h at e)
 ]
 
@@ -44,21 +45,26 @@ gone handle (x ∷ xs) = elim (either (has_serial handle.serial x.timer)) [
   | inr h ↦ rw h (rw (other_serial (x.place == handle.place) (x.timer.serial == handle.serial) h) (gone handle xs))
 ]
 
-gone_by : (handle : Handle) (es : List Entry) (o : Option Timer) → first_timer (has_handle handle) es ≡ o → first_timer (has_handle handle) (without_found o es) ≡ None
+gone_by : (handle : Handle) (es : List Entry) (o : Option Timer) → first_timer (has_handle handle) es ≡ o
+    → first_timer (has_handle handle) (without_found o es) ≡ None
 gone_by handle es None e = e
-gone_by handle es (Some t) e = ap (λ (k : ℕ). first_timer (has_handle handle) (without_serial k es)) (found_serial handle es t e) ∙ gone handle es
+gone_by handle es (Some t) e = ap (λ (k : ℕ). first_timer (has_handle handle) (without_serial k es)) (found_serial handle es t e)
+    ∙ gone handle es
 
 both_none : (a b : Option Timer) → a ≡ None → b ≡ None → first_found a b ≡ None
 both_none a b e f = ap (λ (p : Option Timer). first_found p b) e ∙ f
 
 -- after a stop that found a pending timer
-pub stopped_is_dead : (handle : Handle) (t : Timer) (serial : ℕ) (w new : WheelState) → NamesOne handle w → Some t ≡ timer_at handle w → new ≡ after_stop handle w → held_at handle (numbered serial new) ≡ None
+pub stopped_is_dead : (handle : Handle) (t : Timer) (serial : ℕ) (w new : WheelState) → NamesOne handle w → Some t ≡ timer_at handle w
+    → new ≡ after_stop handle w → held_at handle (numbered serial new) ≡ None
 stopped_is_dead handle t serial w new n f e =
     ap (λ (v : WheelState). held_at handle (numbered serial v)) e
     ∙ both_none (timer_at handle (after_stop handle w)) (due_at handle w) (gone_by handle w.pending (timer_at handle w) refl) (n t (sym f))
 
 -- and after one that found none, and a withdrawal
-pub withdrawn_is_dead : (handle : Handle) (serial : ℕ) (w stopped new : WheelState) → stopped ≡ after_stop handle w → new ≡ after_withdrawal handle stopped → held_at handle (numbered serial new) ≡ None
+pub withdrawn_is_dead : (handle : Handle) (serial : ℕ) (w stopped new : WheelState) → stopped ≡ after_stop handle w
+    → new ≡ after_withdrawal handle stopped → held_at handle (numbered serial new) ≡ None
 withdrawn_is_dead handle serial w stopped new d e =
     ap (λ (v : WheelState). held_at handle (numbered serial v)) e
-    ∙ both_none (timer_at handle stopped) (due_at handle (after_withdrawal handle stopped)) (ap (timer_at handle) d ∙ gone_by handle w.pending (timer_at handle w) refl) (gone_by handle stopped.due (due_at handle stopped) refl)
+    ∙ both_none (timer_at handle stopped) (due_at handle (after_withdrawal handle stopped)) (ap (timer_at handle) d
+    ∙ gone_by handle w.pending (timer_at handle w) refl) (gone_by handle stopped.due (due_at handle stopped) refl)

@@ -13,7 +13,13 @@ use Rattle.timer_total.specs.declared.fault.TickFault.TheVariants as tick
 
 -- the timer that a start adds: the next serial, and the action under the client 0 and the number 0
 abbrev pub next_timer : ℕ → ℕ → WheelState → Timer
-next_timer interval action w = record { serial = w.last_serial + 1; client = 0; number = 0; deadline = w.now + interval; action = action }
+next_timer interval action w = record {
+  serial = w.last_serial + 1;
+  client = 0;
+  number = 0;
+  deadline = w.now + interval;
+  action = action;
+}
 
 -- how many ticks are left until this one, 0 where it is not after now
 abbrev pub left_until : ℕ → WheelState → ℕ
@@ -21,7 +27,13 @@ left_until deadline w = deadline - w.now
 
 -- the timer that a start for this tick adds
 abbrev pub timer_due : ℕ → ℕ → WheelState → Timer
-timer_due deadline action w = record { serial = w.last_serial + 1; client = 0; number = 0; deadline = deadline; action = action }
+timer_due deadline action w = record {
+  serial = w.last_serial + 1;
+  client = 0;
+  number = 0;
+  deadline = deadline;
+  action = action;
+}
 
 -- a timer with this interval may be started where memory is available
 abbrev pub IsStartable : ℕ → WheelState → Type 0
@@ -32,7 +44,8 @@ abbrev pub WhyNotStarted : ℕ → WheelState → StartFault → Type 0
 WhyNotStarted interval w fault =
     ((fault ≡ start.ZeroInterval) × (interval ≡ 0))
     ⊎ ((fault ≡ start.TooLate) × (0 < interval) × (w.last_tick < w.now + interval))
-    ⊎ ((fault ≡ start.SerialsSpent) × (0 < interval) × (w.now + interval ≤ w.last_tick) × (LAST ≤ w.last_serial))
+    ⊎ ((fault ≡ start.SerialsSpent) × (0 < interval) × (w.now + interval ≤ w.last_tick)
+    × (LAST ≤ w.last_serial))
 
 -- a pending timer, or where there is none a due one
 abbrev pub first_found : Option Timer → Option Timer → Option Timer
@@ -61,7 +74,8 @@ WhyNotRestarted handle interval w fault =
     ((fault ≡ restart.NotPending) × (held_at handle w ≡ None))
     ⊎ ((fault ≡ restart.ZeroInterval) × IsAt handle w × (interval ≡ 0))
     ⊎ ((fault ≡ restart.TooLate) × IsAt handle w × (0 < interval) × (w.last_tick < w.now + interval))
-    ⊎ ((fault ≡ restart.SerialsSpent) × IsAt handle w × (0 < interval) × (w.now + interval ≤ w.last_tick) × (LAST ≤ w.last_serial))
+    ⊎ ((fault ≡ restart.SerialsSpent) × IsAt handle w × (0 < interval) × (w.now + interval ≤ w.last_tick)
+    × (LAST ≤ w.last_serial))
 
 -- why the clock does not advance; at its end nothing is left, neither due nor pending
 abbrev pub WhyNotTicked : WheelState → TickFault → Type 0

@@ -21,7 +21,8 @@ pub record Passes (most passed : ℕ) (old new : WheelState) : Type 0 where
   pub early : passed < most → (0 < length new.due) ⊎ (new.now ≡ new.last_tick)
 
 -- ticks use no serial
-pub after_ticks-numbered : (n serial : ℕ) (w : WheelState) → numbered serial (after_ticks n w) ≡ after_ticks n (numbered serial w)
+pub after_ticks-numbered : (n serial : ℕ) (w : WheelState)
+    → numbered serial (after_ticks n w) ≡ after_ticks n (numbered serial w)
 after_ticks-numbered zero serial w = refl
 after_ticks-numbered (suc n) serial w = ap after_tick (after_ticks-numbered n serial w)
 
@@ -36,11 +37,13 @@ passes_none most w e = record {
 }
 
 -- the clock is at its end where all that was left of it was passed
-at_the_end : (passed : ℕ) (old new : WheelState) → new ≡ after_ticks passed old → passed ≡ old.last_tick - old.now
+at_the_end : (passed : ℕ) (old new : WheelState) → new ≡ after_ticks passed old
+    → passed ≡ old.last_tick - old.now
     → old.now ≤ old.last_tick → new.now ≡ new.last_tick
 at_the_end passed old new t p b =
     let now : new.now ≡ old.now + passed = ap (λ (w : WheelState). w.now) t ∙ after_ticks-now passed old in
-    let last : new.last_tick ≡ old.last_tick = ap (λ (w : WheelState). w.last_tick) t ∙ after_ticks-last passed old in
+    let last : new.last_tick ≡ old.last_tick = ap (λ (w : WheelState). w.last_tick) t
+    ∙ after_ticks-last passed old in
     omega arith
 
 -- a wheel's advance by at most what is left of the clock, with the serial counted beside it
@@ -62,10 +65,12 @@ advanced most asked passed serial old new v e least more b a =
     subst (λ (w : WheelState). Passes most passed w (numbered serial new)) e here
 
 -- a wheel that was advanced has the same last serial
-pub still_counted : (asked passed serial : ℕ) (old new : WheelState) → Advances asked passed old new → old.last_serial ≤ serial
+pub still_counted : (asked passed serial : ℕ) (old new : WheelState) → Advances asked passed old new
+    → old.last_serial ≤ serial
     → new.last_serial ≤ serial
 still_counted asked passed serial old new a h =
-    let e : new.last_serial ≡ old.last_serial = ap (λ (w : WheelState). w.last_serial) a.ticked ∙ after_ticks-serial passed old in
+    let e : new.last_serial ≡ old.last_serial = ap (λ (w : WheelState). w.last_serial) a.ticked
+    ∙ after_ticks-serial passed old in
     omega arith
 
 -- nothing is due
@@ -74,9 +79,15 @@ none_due serial w v e d = sym (ap (λ (u : WheelState). u.due) e) ∙ d
 
 -- at the last tick nothing is pending
 
-none_later : (last_tick now last_serial : ℕ) (entries : List Entry) → AllByRecursion (IsPending last_tick now last_serial) (timers_of entries) → now ≡ last_tick → entries ≡ []
+none_later : (last_tick now last_serial : ℕ) (entries : List Entry)
+    → AllByRecursion (IsPending last_tick now last_serial) (timers_of entries) → now ≡ last_tick
+    → entries ≡ []
 none_later last_tick now last_serial [] a e = refl
-none_later last_tick now last_serial (x ∷ xs) a e = absurd (let l : now < x.timer.deadline = a.0.later in let r : x.timer.deadline ≤ last_tick = a.0.in_range in omega arith)
+none_later last_tick now last_serial (x ∷ xs) a e =
+    absurd (let l : now < x.timer.deadline = a.0.later in let r : x.timer.deadline ≤ last_tick = a.0.in_range
+    in omega arith)
 
-pub none_pending : (serial : ℕ) (w v : WheelState) → numbered serial w ≡ v → IsWellFormed w → w.now ≡ w.last_tick → v.pending ≡ []
-none_pending serial w v e f h = sym (ap (λ (u : WheelState). u.pending) e) ∙ none_later w.last_tick w.now w.last_serial w.pending f.each h
+pub none_pending : (serial : ℕ) (w v : WheelState) → numbered serial w ≡ v → IsWellFormed w
+    → w.now ≡ w.last_tick → v.pending ≡ []
+none_pending serial w v e f h = sym (ap (λ (u : WheelState). u.pending) e)
+    ∙ none_later w.last_tick w.now w.last_serial w.pending f.each h

@@ -74,6 +74,19 @@ fn starts_restarts_stops_and_expires(rt: HostRuntime) -> Result<(), Fail> {
 }
 
 #[test]
+fn room_changes_nothing(rt: HostRuntime) -> Result<(), Fail> {
+    let mut timers = Timers::over(PlainWheel::new(rt.alloc(), 100)?, 0);
+    let first = timers.start(3, 11)?;
+    timers.reserve(1000)?;
+    assert!(rt; timers.reserve(usize::MAX).is_err());
+    assert!(rt; timers.now() == 100);
+    assert!(rt; timers.len() == 1);
+    assert!(rt; action_of(timers.look(first)) == Some(11));
+    assert!(rt; timers.start(3, 22)?.serial == 2);
+    Ok(())
+}
+
+#[test]
 fn the_clock_ends(rt: HostRuntime) -> Result<(), Fail> {
     let mut timers = Timers::over(PlainWheel::new(rt.alloc(), LAST - 2)?, 0);
     assert!(rt; timers.advance(10)? == 2);

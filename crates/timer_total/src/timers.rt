@@ -8,7 +8,7 @@ ghost use Rattle.timer_total.specs.Ticks.{Passes, numbered};
 
 use crate::fault::{RestartFault, StartFault, TickFault};
 use std::marker::Model;
-use timer_base::{Handle, LAST, Timer, Wheel};
+use timer_base::{Handle, LAST, OutOfMemory, Timer, Wheel};
 
 /// A wheel and the last serial that was used. Its model is the state of the wheel, with that serial.
 #[derive(Drop)]
@@ -90,9 +90,18 @@ impl<W: Wheel + Drop> Timers<W> {
         self.wheel.next_deadline()
     }
 
+    /// Makes room for `most` timers at one time, pending ones and those that expired and were not yet taken.
+    /// No timer changes. The only error is out of memory, and what was allocated is kept then too.
+    pub fn reserve(&mut self, most: usize) -> Result<(), OutOfMemory>
+        ensures { self.new ≡ self.old }
+    {
+        self.wheel.reserve(most)
+    }
+
     /// Starts a timer that expires after `interval` ticks, under the next serial.
     pub fn start(&mut self, interval: u64, action: u64) -> Result<Handle, StartFault>
-        ensures started { IfOk result (λ handle. self.new ≡ after_start handle.place (next_timer interval action self.old) self.old) }
+        ensures started { IfOk result (λ handle. self.new
+            ≡ after_start handle.place (next_timer interval action self.old) self.old) }
         ensures named { IfOk result (λ handle. handle.serial ≡ self.old.last_serial + 1) }
         ensures in_order { IfOk result (λ _. IsStartable interval self.old) }
         ensures fault { IfErr result (λ fault. WhyNotStarted interval self.old fault
@@ -141,10 +150,11 @@ impl<W: Wheel + Drop> Timers<W> {
         }
     }
 
-    /// Starts a timer that expires at the tick `deadline`, under the next serial. A tick that is not after the
-    /// present one is refused as `ZeroInterval`, and the other errors are those of `start`.
+    /// Starts a timer that expires at the tick `deadline`, under the next serial. A tick that is not after
+    /// the present one is refused as `ZeroInterval`, and the other errors are those of `start`.
     pub fn start_at(&mut self, deadline: u64, action: u64) -> Result<Handle, StartFault>
-        ensures started { IfOk result (λ handle. self.new ≡ after_start handle.place (timer_due deadline action self.old) self.old) }
+        ensures started { IfOk result (λ handle. self.new
+            ≡ after_start handle.place (timer_due deadline action self.old) self.old) }
         ensures named { IfOk result (λ handle. handle.serial ≡ self.old.last_serial + 1) }
         ensures in_order { IfOk result (λ _. IsStartable (left_until deadline self.old) self.old) }
         ensures fault { IfErr result (λ fault. WhyNotStarted (left_until deadline self.old) self.old fault
@@ -187,8 +197,8 @@ impl<W: Wheel + Drop> Timers<W> {
         }
     }
 
-    /// Removes the timer with exactly this handle, pending or expired and not yet taken, and starts another in
-    /// its place, under the next serial. Does not allocate.
+    /// Removes the timer with exactly this handle, pending or expired and not yet taken, and starts another
+    /// in its place, under the next serial. Does not allocate.
     pub fn restart(
         &mut self,
         handle: Handle,
@@ -196,7 +206,8 @@ impl<W: Wheel + Drop> Timers<W> {
         action: u64,
     ) -> Result<Handle, RestartFault>
         ensures restarted { IfOk result (λ made.
-            self.new ≡ after_start made.place (next_timer interval action self.old) (after_removal handle self.old)) }
+            self.new ≡ after_start made.place (next_timer interval action self.old)
+            (after_removal handle self.old)) }
         ensures named { IfOk result (λ made. made.serial ≡ self.old.last_serial + 1) }
         ensures in_order { IfOk result (λ _. IsAt handle self.old × IsStartable interval self.old) }
         ensures fault { IfErr result (WhyNotRestarted handle interval self.old) }
@@ -226,9 +237,11 @@ impl<W: Wheel + Drop> Timers<W> {
         action: u64,
     ) -> Result<Handle, RestartFault>
         ensures restarted { IfOk result (λ made.
-            self.new ≡ after_start made.place (timer_due deadline action self.old) (after_removal handle self.old)) }
+            self.new ≡ after_start made.place (timer_due deadline action self.old)
+            (after_removal handle self.old)) }
         ensures named { IfOk result (λ made. made.serial ≡ self.old.last_serial + 1) }
-        ensures in_order { IfOk result (λ _. IsAt handle self.old × IsStartable (left_until deadline self.old) self.old) }
+        ensures in_order { IfOk result (λ _. IsAt handle self.old
+            × IsStartable (left_until deadline self.old) self.old) }
         ensures fault { IfErr result (WhyNotRestarted handle (left_until deadline self.old) self.old) }
         ensures err { OnErr result (self.new ≡ self.old) }
     {

@@ -13,7 +13,9 @@ loop-count-preserved g c =
     let n = c.loop-count.count in let out = c.loop-count.out in let test = c.loop-count-test.true in
     let room : n < length c.args.out.now = omega arith in
     let first : first_due c.loop-count.timers ≡ Some c.in-Some.timer = sym c.expire.ensures.first ∙ c.in-Some.is in
-    let next = taken_next n c.args.out.now out c.args.timers.now c.loop-count.timers c.expire.new.self c.in-Some.timer c.loop-count.invariant.taken first room c.expire.ensures.rest in
+    let next = taken_next n c.args.out.now out c.args.timers.now c.loop-count.timers c.expire.new.self c.in-Some.timer
+    c.loop-count.invariant.taken first room c.expire.ensures.rest in
     record {
-      taken = subst (λ (e : Expired). IsTaken (n + 1) c.args.out.now c.args.timers.now (slice_set out n e) c.expire.new.self) (sym c.expired.ensures) next;
+      taken = subst (λ (e : Expired). IsTaken (n + 1) c.args.out.now c.args.timers.now (slice_set out n e) c.expire.new.self)
+          (sym c.expired.ensures) next;
     }

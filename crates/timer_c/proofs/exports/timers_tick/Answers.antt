@@ -6,4 +6,5 @@ pub returns-then-not-holds-clause-only : goal.returns-then-not-holds-clause-only
 returns-then-not-holds-clause-only c = looked c.args.t.now c.holds.new.self c.holds.ensures.same
 
 pub returns-clause-kept : goal.returns-clause-kept
-returns-clause-kept c = λ refused. kept c.args.t.now c.holds.new.self c.tick.new.timers c.holds.ensures.same (c.tick.ensures.kept refused ∙ c.timers.ensures.value)
+returns-clause-kept c = λ refused. kept c.args.t.now c.holds.new.self c.tick.new.timers c.holds.ensures.same (c.tick.ensures.kept refused
+    ∙ c.timers.ensures.value)

@@ -36,4 +36,5 @@ returns-then-left-eq0-clause-fault g c =
     let told_last = c.last_tick.ensures in
     let told_now = c.now.ensures in
     let ends : w.now ≡ w.last_tick = omega arith in
-    at_end c.self.inside.last_serial w c.args.self.now c.self.view_is f (not_due w.due c.has_due.result c.has_due.ensures c.if-has_due.false) ends
+    at_end c.self.inside.last_serial w c.args.self.now c.self.view_is f
+    (not_due w.due c.has_due.result c.has_due.ensures c.if-has_due.false) ends

@@ -8,4 +8,5 @@ returns-then-now-last_tick-clause-fault g c =
     let w = g.W.Wheel.state c.self.inside.wheel in
     let f = g.met.W.Wheel.well_formed c.self.inside.wheel in
     let ends : w.now ≡ w.last_tick = sym c.now.ensures ∙ c.if-now-last_tick.true ∙ c.last_tick.ensures in
-    at_end c.self.inside.last_serial w c.args.self.now c.self.view_is f (not_due w.due c.has_due.result c.has_due.ensures c.if-has_due.false) ends
+    at_end c.self.inside.last_serial w c.args.self.now c.self.view_is f
+    (not_due w.due c.has_due.result c.has_due.ensures c.if-has_due.false) ends
