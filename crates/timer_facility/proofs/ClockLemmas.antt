@@ -31,28 +31,37 @@ numbered s u client number e n = record {
   clients_are = length-set u.numbers client (number + 1) ∙ ap (λ ns. length ns) n;
 }
 
-clock_started : (s : FacilityState) (o : Option Reason) (place client number : ℕ) (t : Timer) → IsSameClock s (with_number client number (after_start o place t s))
+clock_started : (s : FacilityState) (o : Option Reason) (place client number : ℕ) (t : Timer)
+    → IsSameClock s (with_number client number (after_start o place t s))
 clock_started s (Some reason) place client number t = numbered s (after_start (Some reason) place t s) client number refl refl
 clock_started s None place client number t = numbered s (after_start None place t s) client number refl refl
 
-clock_stopped : (s : FacilityState) (found : Option Timer) (client number : ℕ) → IsSameClock s (with_number client number (after_stop found s))
+clock_stopped : (s : FacilityState) (found : Option Timer) (client number : ℕ)
+    → IsSameClock s (with_number client number (after_stop found s))
 clock_stopped s found client number = numbered s (after_stop found s) client number refl refl
 
-clock_restarted : (s : FacilityState) (found : Option Timer) (o : Option Reason) (place client number : ℕ) (t : Timer) → IsSameClock s (with_number client number (after_restart found o place t s))
+clock_restarted : (s : FacilityState) (found : Option Timer) (o : Option Reason) (place client number : ℕ) (t : Timer)
+    → IsSameClock s (with_number client number (after_restart found o place t s))
 clock_restarted s None o place client number t = numbered s (after_restart None o place t s) client number refl refl
-clock_restarted s (Some old) (Some reason) place client number t = numbered s (after_restart (Some old) (Some reason) place t s) client number refl refl
+clock_restarted s (Some old) (Some reason) place client number t =
+    numbered s (after_restart (Some old) (Some reason) place t s) client number refl refl
 clock_restarted s (Some old) None place client number t = numbered s (after_restart (Some old) None place t s) client number refl refl
 
-clock_taken : (s : FacilityState) (client number : ℕ) (wanted : Wanted) (place : ℕ) → IsSameClock s (after_taken s client number wanted place)
-clock_taken s client number (Start interval action) place = clock_started s (start_refusal s interval) place client number (new_timer s client number interval action)
+clock_taken : (s : FacilityState) (client number : ℕ) (wanted : Wanted) (place : ℕ)
+    → IsSameClock s (after_taken s client number wanted place)
+clock_taken s client number (Start interval action) place = clock_started s (start_refusal s interval) place client number
+    (new_timer s client number interval action)
 clock_taken s client number (Stop handle) place = clock_stopped s (named s client (Stop handle)) client number
 clock_taken s client number (StopSerial serial) place = clock_stopped s (named s client (StopSerial serial)) client number
 clock_taken s client number (Restart handle interval action) place =
-    clock_restarted s (named s client (Restart handle interval action)) (interval_refusal s interval) place client number (new_timer s client number interval action)
+    clock_restarted s (named s client (Restart handle interval action)) (interval_refusal s interval) place client number
+    (new_timer s client number interval action)
 clock_taken s client number (RestartSerial serial interval action) place =
-    clock_restarted s (named s client (RestartSerial serial interval action)) (interval_refusal s interval) place client number (new_timer s client number interval action)
+    clock_restarted s (named s client (RestartSerial serial interval action)) (interval_refusal s interval) place client number
+    (new_timer s client number interval action)
 
-clock_asked : (s : FacilityState) (client number : ℕ) (wanted : Wanted) (place : ℕ) (o : Option NotTaken) → IsSameClock s (step_of_request s client number wanted place o).state
+clock_asked : (s : FacilityState) (client number : ℕ) (wanted : Wanted) (place : ℕ) (o : Option NotTaken)
+    → IsSameClock s (step_of_request s client number wanted place o).state
 clock_asked s client number wanted place (Some reason) = record { now_is = refl; clients_are = refl }
 clock_asked s client number wanted place None = clock_taken s client number wanted place
 
@@ -66,8 +75,10 @@ now_closed : (s : FacilityState) (b : Bool) → (step_of_close s b).state.now �
 now_closed s true = refl
 now_closed s false = refl
 
-now_step : (s : FacilityState) (event : SingleEvent) (place : ℕ) → (step s event place).state.now ≡ s.now + ticks_by event (step s event place).outs
-now_step s (Asked client number wanted) place = let h = (clock_asked s client number wanted place (not_taken s client number)).now_is in omega arith
+now_step : (s : FacilityState) (event : SingleEvent) (place : ℕ)
+    → (step s event place).state.now ≡ s.now + ticks_by event (step s event place).outs
+now_step s (Asked client number wanted) place = let h = (clock_asked s client number wanted place (not_taken s client number)).now_is
+    in omega arith
 now_step s Tick place = now_ticked s (tick_refusal s)
 now_step s Close place = let h = now_closed s s.is_closed in omega arith
 
@@ -81,9 +92,12 @@ now-run s (p ∷ ps) =
 
 -- The clients that there are not.
 
-not_among : (s : FacilityState) (client number : ℕ) (wanted : Wanted) (place : ℕ) → length s.numbers ≤ client → (b : Bool) → s.is_closed ≡ b → (step s (Asked client number wanted) place).state ≡ s
-not_among s client number wanted place l true h = ap (λ o. (step_of_request s client number wanted place o).state) (not_taken-closed s client number h)
-not_among s client number wanted place l false h = ap (λ o. (step_of_request s client number wanted place o).state) (not_taken-no_client s client number h l)
+not_among : (s : FacilityState) (client number : ℕ) (wanted : Wanted) (place : ℕ) → length s.numbers ≤ client → (b : Bool) → s.is_closed ≡ b
+    → (step s (Asked client number wanted) place).state ≡ s
+not_among s client number wanted place l true h = ap (λ o. (step_of_request s client number wanted place o).state)
+    (not_taken-closed s client number h)
+not_among s client number wanted place l false h = ap (λ o. (step_of_request s client number wanted place o).state)
+    (not_taken-no_client s client number h l)
 
 -- no timer of this client, which there is not
 record HasNone (client : ℕ) (s : FacilityState) : Type 0 where
@@ -98,14 +112,16 @@ clients_closed : (s : FacilityState) (b : Bool) → length (step_of_close s b).s
 clients_closed s true = refl
 clients_closed s false = refl
 
-none_asked : (s : FacilityState) (client c number : ℕ) (wanted : Wanted) (place : ℕ) → HasNone c s → (b : Bool) → (client == c) ≡ b → HasNone c (step s (Asked client number wanted) place).state
+none_asked : (s : FacilityState) (client c number : ℕ) (wanted : Wanted) (place : ℕ) → HasNone c s → (b : Bool) → (client == c) ≡ b
+    → HasNone c (step s (Asked client number wanted) place).state
 none_asked s client c number wanted place h true e =
     let same : client ≡ c = grind (arith, nat_tests) in
     let less : length s.numbers ≤ client = subst (λ k. length s.numbers ≤ k) (sym same) h.no_client in
     subst (λ t. HasNone c t) (sym (not_among s client number wanted place less s.is_closed refl)) h
 none_asked s client c number wanted place h false e =
     let after : FacilityState = (step s (Asked client number wanted) place).state in
-    let n : pending_of after c ≤ pending_of s c + 0 = subst (λ b. pending_of after c ≤ pending_of s c + (if b then 1 else 0)) e ((adds_at_most_one s client number wanted place).of_client c) in
+    let n : pending_of after c ≤ pending_of s c + 0 = subst (λ b. pending_of after c ≤ pending_of s c + (if b then 1 else 0)) e
+    ((adds_at_most_one s client number wanted place).of_client c) in
     let z = h.none in
     let l = h.no_client in
     let m = (clock_asked s client number wanted place (not_taken s client number)).clients_are in
@@ -131,5 +147,6 @@ none_run s c [] h = h
 none_run s c (p ∷ ps) h = none_run (step s p.event p.place).state c ps (none_step s c p.event p.place h)
 
 -- where no timer of a client that there is not is pending, none ever will be
-pub pending-no_client : (s : FacilityState) (ps : List Placed) (client : ℕ) → length s.numbers ≤ client → pending_of s client ≡ 0 → pending_of (state_after s ps) client ≡ 0
+pub pending-no_client : (s : FacilityState) (ps : List Placed) (client : ℕ) → length s.numbers ≤ client → pending_of s client ≡ 0
+    → pending_of (state_after s ps) client ≡ 0
 pending-no_client s ps client l h = (none_run s client ps (record { no_client = l; none = h })).none

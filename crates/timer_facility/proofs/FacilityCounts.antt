@@ -14,7 +14,8 @@ pub count-append : (client : ℕ) (xs ys : List Timer) → count_of client (xs +
 count-append client [] ys = omega arith
 count-append client (x ∷ xs) ys = let n = count-append client xs ys in omega arith
 
-pub count-kept : (client : ℕ) (p : Parts) → count_of client (kept p) ≡ count_of client (timers_of p.wheel.pending) + (count_of client (timers_of p.wheel.due) + count_of client (drop p.handed p.returned))
+pub count-kept : (client : ℕ) (p : Parts) → count_of client (kept p)
+    ≡ count_of client (timers_of p.wheel.pending) + (count_of client (timers_of p.wheel.due) + count_of client (drop p.handed p.returned))
 count-kept client p =
     let outer = count-append client (timers_of p.wheel.pending) (timers_of p.wheel.due ++ drop p.handed p.returned) in
     let inner = count-append client (timers_of p.wheel.due) (drop p.handed p.returned) in
@@ -22,30 +23,39 @@ count-kept client p =
 
 -- Pending timers.
 
-pub count-put : (client : ℕ) (e : Entry) (es : List Entry) → count_of client (timers_of (put e es)) ≡ one_of client e.timer + count_of client (timers_of es)
+pub count-put : (client : ℕ) (e : Entry) (es : List Entry) → count_of client (timers_of (put e es))
+    ≡ one_of client e.timer + count_of client (timers_of es)
 count-put client e [] = omega arith
 count-put client e (x ∷ xs) = elim (either (nat_lt e.timer.deadline x.timer.deadline)) [
   | inl h ↦ rw h refl
-  | inr h ↦ rw h (let n : count_of client (timers_of (put e xs)) ≡ one_of client e.timer + count_of client (timers_of xs) = count-put client e xs in omega arith)
+  | inr h ↦ rw h (let n : count_of client (timers_of (put e xs)) ≡ one_of client e.timer + count_of client (timers_of xs) =
+      count-put client e xs in omega arith)
 ]
 
 tick_step : (client tick : ℕ) (x : Entry) (xs : List Entry) → (is_due_at tick x.timer ≡ true) ⊎ (is_due_at tick x.timer ≡ false)
-    → count_of client (timers_of (entries_left tick xs)) + count_of client (timers_of (entries_due tick xs)) ≡ count_of client (timers_of xs)
-    → count_of client (timers_of (entries_left tick (x ∷ xs))) + count_of client (timers_of (entries_due tick (x ∷ xs))) ≡ count_of client (timers_of (x ∷ xs))
+    → count_of client (timers_of (entries_left tick xs)) + count_of client (timers_of (entries_due tick xs))
+    ≡ count_of client (timers_of xs)
+    → count_of client (timers_of (entries_left tick (x ∷ xs))) + count_of client (timers_of (entries_due tick (x ∷ xs)))
+    ≡ count_of client (timers_of (x ∷ xs))
 tick_step client tick x xs (inl h) n =
     let left : entries_left tick (x ∷ xs) ≡ entries_left tick xs = rw h refl in
     let due : entries_due tick (x ∷ xs) ≡ x ∷ entries_due tick xs = rw h refl in
-    let a : count_of client (timers_of (entries_left tick (x ∷ xs))) ≡ count_of client (timers_of (entries_left tick xs)) = ap (λ es. count_of client (timers_of es)) left in
-    let b : count_of client (timers_of (entries_due tick (x ∷ xs))) ≡ one_of client x.timer + count_of client (timers_of (entries_due tick xs)) = ap (λ es. count_of client (timers_of es)) due in
+    let a : count_of client (timers_of (entries_left tick (x ∷ xs))) ≡ count_of client (timers_of (entries_left tick xs)) =
+    ap (λ es. count_of client (timers_of es)) left in
+    let b : count_of client (timers_of (entries_due tick (x ∷ xs)))
+    ≡ one_of client x.timer + count_of client (timers_of (entries_due tick xs)) = ap (λ es. count_of client (timers_of es)) due in
     omega arith
 tick_step client tick x xs (inr h) n =
     let left : entries_left tick (x ∷ xs) ≡ x ∷ entries_left tick xs = rw h refl in
     let due : entries_due tick (x ∷ xs) ≡ entries_due tick xs = rw h refl in
-    let a : count_of client (timers_of (entries_left tick (x ∷ xs))) ≡ one_of client x.timer + count_of client (timers_of (entries_left tick xs)) = ap (λ es. count_of client (timers_of es)) left in
-    let b : count_of client (timers_of (entries_due tick (x ∷ xs))) ≡ count_of client (timers_of (entries_due tick xs)) = ap (λ es. count_of client (timers_of es)) due in
+    let a : count_of client (timers_of (entries_left tick (x ∷ xs)))
+    ≡ one_of client x.timer + count_of client (timers_of (entries_left tick xs)) = ap (λ es. count_of client (timers_of es)) left in
+    let b : count_of client (timers_of (entries_due tick (x ∷ xs))) ≡ count_of client (timers_of (entries_due tick xs)) =
+    ap (λ es. count_of client (timers_of es)) due in
     omega arith
 
-pub count-tick : (client tick : ℕ) (es : List Entry) → count_of client (timers_of (entries_left tick es)) + count_of client (timers_of (entries_due tick es)) ≡ count_of client (timers_of es)
+pub count-tick : (client tick : ℕ) (es : List Entry) → count_of client (timers_of (entries_left tick es)) + count_of client
+    (timers_of (entries_due tick es)) ≡ count_of client (timers_of es)
 count-tick client tick [] = refl
 count-tick client tick (x ∷ xs) = tick_step client tick x xs (either (is_due_at tick x.timer)) (count-tick client tick xs)
 
@@ -66,7 +76,8 @@ count_without_first client t x xs n h =
     let rest : without_serial serial (x ∷ xs) ≡ without_serial serial xs = rw (serial_is serial x.timer refl) refl in
     let here : one_of client x.timer + count_of client (timers_of (without_serial serial (x ∷ xs))) ≡ count_of client (timers_of (x ∷ xs)) =
     ap (λ r. one_of client x.timer + count_of client (timers_of r)) (rest ∙ without-none serial xs n) in
-    subst (λ (u : Timer). one_of client u + count_of client (timers_of (without_serial u.serial (x ∷ xs))) ≡ count_of client (timers_of (x ∷ xs))) (sym h) here
+    subst (λ (u : Timer). one_of client u + count_of client (timers_of (without_serial u.serial (x ∷ xs)))
+    ≡ count_of client (timers_of (x ∷ xs))) (sym h) here
 
 pub count-without : (client : ℕ) (t : Timer) (es : List Entry) → AreDistinct (timers_of es) → Among t (timers_of es)
     → one_of client t + count_of client (timers_of (without_serial t.serial es)) ≡ count_of client (timers_of es)
@@ -76,13 +87,16 @@ count-without client t (x ∷ xs) d a = elim a [
   | inr h ↦
       let other : x.timer.serial ≢ t.serial = λ e. not_among x.timer.serial t (timers_of xs) d.0 h (sym e) in
       let rest : without_serial t.serial (x ∷ xs) ≡ x ∷ without_serial t.serial xs = rw (serial_is_not t.serial x.timer other) refl in
-      let a : count_of client (timers_of (without_serial t.serial (x ∷ xs))) ≡ one_of client x.timer + count_of client (timers_of (without_serial t.serial xs)) = ap (λ es. count_of client (timers_of es)) rest in
+      let a : count_of client (timers_of (without_serial t.serial (x ∷ xs)))
+      ≡ one_of client x.timer + count_of client (timers_of (without_serial t.serial xs)) =
+      ap (λ es. count_of client (timers_of es)) rest in
       let n = count-without client t xs d.1 h in
       omega arith
 ]
 
 -- what is handed out comes from the front
-pub count-front : (client : ℕ) (t : Timer) (ts : List Timer) → slice_get ts 0 ≡ Some t → count_of client ts ≡ one_of client t + count_of client (drop 1 ts)
+pub count-front : (client : ℕ) (t : Timer) (ts : List Timer) → slice_get ts 0 ≡ Some t
+    → count_of client ts ≡ one_of client t + count_of client (drop 1 ts)
 count-front client t [] h = absurd (cc)
 count-front client t (x ∷ xs) h = let e : x ≡ t = cc in ap (λ u. one_of client u + count_of client xs) e
 
@@ -100,7 +114,8 @@ counted-none clients = record {
     | inr h ↦ get_or_past (replicate 64 0) client 0 (grind (arith, nat_tests))
   ]
 
-pub counted-as : {clients : ℕ} {counts : List ℕ} {ts : List Timer} → AreCounted clients counts ts → (us : List Timer) → ((client : ℕ) → count_of client us ≡ count_of client ts) → AreCounted clients counts us
+pub counted-as : {clients : ℕ} {counts : List ℕ} {ts : List Timer} → AreCounted clients counts ts → (us : List Timer)
+    → ((client : ℕ) → count_of client us ≡ count_of client ts) → AreCounted clients counts us
 counted-as a us h = record { all_counts = a.all_counts; each = λ client. a.each client ∙ sym (h client); no_others = a.no_others }
 
 is_same : (n k : ℕ) → (n == k) ≡ true → k ≡ n
@@ -113,8 +128,10 @@ same_is : (n : ℕ) → (n == n) ≡ true
 same_is n = grind (arith, nat_tests)
 
 -- one more timer
-pub counted-more : {clients : ℕ} {counts : List ℕ} {ts : List Timer} → AreCounted clients counts ts → (t : Timer) (us : List Timer) → t.client < clients → clients ≤ 64
-    → ((client : ℕ) → count_of client us ≡ one_of client t + count_of client ts) → AreCounted clients (slice_set counts t.client (slice_index counts t.client + 1)) us
+pub counted-more : {clients : ℕ} {counts : List ℕ} {ts : List Timer} → AreCounted clients counts ts → (t : Timer) (us : List Timer)
+    → t.client < clients → clients ≤ 64
+    → ((client : ℕ) → count_of client us ≡ one_of client t + count_of client ts)
+    → AreCounted clients (slice_set counts t.client (slice_index counts t.client + 1)) us
 counted-more {clients} {counts} {ts} a t us l few h =
     let all : length counts ≡ 64 = a.all_counts in
     let within : t.client < length counts = omega arith in record {
@@ -129,11 +146,14 @@ counted-more {clients} {counts} {ts} a t us l few h =
             ∙ ap (λ n. slice_index counts n + 1) (sym same)
             ∙ (let m : slice_index counts client + 1 ≡ count_of client us = omega arith in m)
         | inr k ↦
-            let zero_more : count_of client us ≡ 0 + count_of client ts = h client ∙ ap (λ b. (if b then 1 else 0) + count_of client ts) k in
+            let zero_more : count_of client us ≡ 0 + count_of client ts = h client ∙ ap (λ b. (if b then 1 else 0) + count_of client ts) k
+            in
             let none : count_of client us ≡ count_of client ts = omega arith in
-            get_or-set_other counts t.client client (slice_index counts t.client + 1) 0 (is_other t.client client k) ∙ a.each client ∙ sym none
+            get_or-set_other counts t.client client (slice_index counts t.client + 1) 0 (is_other t.client client k) ∙ a.each client
+            ∙ sym none
       ];
-      no_others = λ client m. get_or-set_other counts t.client client (slice_index counts t.client + 1) 0 (λ (e : client ≡ t.client). let x : clients ≤ client = m in absurd (omega arith)) ∙ a.no_others client m;
+      no_others = λ client m. get_or-set_other counts t.client client (slice_index counts t.client + 1) 0
+          (λ (e : client ≡ t.client). let x : clients ≤ client = m in absurd (omega arith)) ∙ a.no_others client m;
     }
 
 not_le : {m n : ℕ} → ¬ (m ≤ n) → n < m
@@ -148,7 +168,8 @@ pub record IsCounted (clients : ℕ) (counts : List ℕ) (t : Timer) : Type 0 wh
 pub is_counted : {clients : ℕ} {counts : List ℕ} {ts : List Timer} → AreCounted clients counts ts → (t : Timer) (us : List Timer)
     → ((client : ℕ) → count_of client ts ≡ one_of client t + count_of client us) → IsCounted clients counts t
 is_counted {clients} {counts} {ts} a t us h =
-    let one : count_of t.client ts ≡ 1 + count_of t.client us = h t.client ∙ ap (λ b. (if b then 1 else 0) + count_of t.client us) (same_is t.client) in
+    let one : count_of t.client ts ≡ 1 + count_of t.client us =
+    h t.client ∙ ap (λ b. (if b then 1 else 0) + count_of t.client us) (same_is t.client) in
     let each : slice_index counts t.client ≡ count_of t.client ts = a.each t.client in
     let all : length counts ≡ 64 = a.all_counts in
     let some : 0 < slice_index counts t.client = omega arith in
@@ -160,7 +181,8 @@ is_counted {clients} {counts} {ts} a t us h =
 
 -- one fewer timer
 pub counted-less : {clients : ℕ} {counts : List ℕ} {ts : List Timer} → AreCounted clients counts ts → (t : Timer) (us : List Timer)
-    → ((client : ℕ) → count_of client ts ≡ one_of client t + count_of client us) → AreCounted clients (slice_set counts t.client (slice_index counts t.client - 1)) us
+    → ((client : ℕ) → count_of client ts ≡ one_of client t + count_of client us)
+    → AreCounted clients (slice_set counts t.client (slice_index counts t.client - 1)) us
 counted-less {clients} {counts} {ts} a t us h =
     let all : length counts ≡ 64 = a.all_counts in
     let there = is_counted a t us h in
@@ -177,11 +199,14 @@ counted-less {clients} {counts} {ts} a t us h =
             ∙ ap (λ n. slice_index counts n - 1) (sym same)
             ∙ (let m : slice_index counts client - 1 ≡ count_of client us = omega arith in m)
         | inr k ↦
-            let zero_more : count_of client ts ≡ 0 + count_of client us = h client ∙ ap (λ b. (if b then 1 else 0) + count_of client us) k in
+            let zero_more : count_of client ts ≡ 0 + count_of client us = h client ∙ ap (λ b. (if b then 1 else 0) + count_of client us) k
+            in
             let none : count_of client ts ≡ count_of client us = omega arith in
             get_or-set_other counts t.client client (slice_index counts t.client - 1) 0 (is_other t.client client k) ∙ a.each client ∙ none
       ];
-      no_others = λ client m. get_or-set_other counts t.client client (slice_index counts t.client - 1) 0 (λ (e : client ≡ t.client). let x : clients ≤ client = m in let y : t.client < clients = there.is_client in absurd (omega arith)) ∙ a.no_others client m;
+      no_others = λ client m. get_or-set_other counts t.client client (slice_index counts t.client - 1) 0
+          (λ (e : client ≡ t.client). let x : clients ≤ client = m in let y : t.client < clients = there.is_client in absurd (omega arith))
+          ∙ a.no_others client m;
     }
 
 pub count_in_range : (client : ℕ) (ts : List Timer) → count_of client ts ≤ length ts

@@ -79,9 +79,11 @@ nothing_due {p} {v} a e h =
     let x : (view_of p).waiting ≡ [] = ap (λ (u : FacilityView). u.waiting) e ∙ h in
     no_entries p.wheel.due (no_front (timers_of p.wheel.due) (map (λ t. Returned t) (drop p.handed p.returned)) x)
 
-pub nothing_returned : {p : Parts} {v : FacilityView} → AreParts p → view_of p ≡ v → v.waiting ≡ [] → map (λ t. Returned t) (drop p.handed p.returned) ≡ []
+pub nothing_returned : {p : Parts} {v : FacilityView} → AreParts p → view_of p ≡ v → v.waiting ≡ []
+    → map (λ t. Returned t) (drop p.handed p.returned) ≡ []
 nothing_returned {p} {v} a e h =
-    no_back (map (λ t. Expired t) (timers_of p.wheel.due)) (map (λ t. Returned t) (drop p.handed p.returned)) (ap (λ (u : FacilityView). u.waiting) e ∙ h)
+    no_back (map (λ t. Expired t) (timers_of p.wheel.due)) (map (λ t. Returned t) (drop p.handed p.returned))
+    (ap (λ (u : FacilityView). u.waiting) e ∙ h)
 
 pub is_open : {p : Parts} {v : FacilityView} → AreParts p → view_of p ≡ v → p.is_closed ≡ false → v.state.is_closed ≡ false
 is_open {p} {v} a e h = subst (λ (u : FacilityView). u.state.is_closed ≡ false) e h
@@ -95,14 +97,21 @@ pub record Tells (p : Parts) (s : FacilityState) : Type 0 where
   pub capacity_is : s.capacity ≡ p.capacity
 
 pub tells : {p : Parts} {v : FacilityView} → AreParts p → view_of p ≡ v → Tells p v.state
-tells {p} {v} a e = subst (λ (u : FacilityView). Tells p u.state) e (record { last_is = refl; now_is = refl; serial_is = refl; length_is = refl; capacity_is = refl })
+tells {p} {v} a e = subst (λ (u : FacilityView). Tells p u.state) e (record {
+  last_is = refl;
+  now_is = refl;
+  serial_is = refl;
+  length_is = refl;
+  capacity_is = refl;
+})
 
 -- the wheel's answers on its clock are those of the state
 pub record ReadsClock (s : FacilityState) (last now : ℕ) : Type 0 where
   pub last_is : s.last ≡ last
   pub now_is : s.now ≡ now
 
-pub reads_clock : {p : Parts} {v : FacilityView} → AreParts p → view_of p ≡ v → (last now : ℕ) → last ≡ p.wheel.last_tick → now ≡ p.wheel.now → ReadsClock v.state last now
+pub reads_clock : {p : Parts} {v : FacilityView} → AreParts p → view_of p ≡ v → (last now : ℕ) → last ≡ p.wheel.last_tick
+    → now ≡ p.wheel.now → ReadsClock v.state last now
 reads_clock a e last now l n = let t = tells a e in record { last_is = t.last_is ∙ sym l; now_is = t.now_is ∙ sym n }
 
 pub clients_are : {p : Parts} {v : FacilityView} → AreParts p → view_of p ≡ v → length v.state.numbers ≡ p.clients
@@ -112,7 +121,8 @@ clients_are {p} {v} a e =
     subst (λ (u : FacilityView). length u.state.numbers ≡ p.clients) e (length-take-le p.clients p.numbers (omega arith))
 
 -- a client of an open facility, and its next number
-pub known : {p : Parts} {v : FacilityView} → AreParts p → view_of p ≡ v → (client : ℕ) → p.is_closed ≡ false → client < p.clients → IsKnown v.state client (slice_index p.numbers client)
+pub known : {p : Parts} {v : FacilityView} → AreParts p → view_of p ≡ v → (client : ℕ) → p.is_closed ≡ false → client < p.clients
+    → IsKnown v.state client (slice_index p.numbers client)
 known {p} {v} a e client h k =
     let all : length p.numbers ≡ 64 = a.all_numbers in
     let few : p.clients ≤ 64 = a.few_clients in
@@ -131,7 +141,8 @@ pub record IsNext (p : Parts) (client number : ℕ) : Type 0 where
   pub all_numbers : length p.numbers ≡ 64
   pub in_range : number ≤ LAST
 
-pub next_when : {p : Parts} {v : FacilityView} → AreParts p → view_of p ≡ v → (client number : ℕ) → not_taken v.state client number ≡ None → IsNext p client number
+pub next_when : {p : Parts} {v : FacilityView} → AreParts p → view_of p ≡ v → (client number : ℕ) → not_taken v.state client number ≡ None
+    → IsNext p client number
 next_when {p} {v} a e client number h =
     let t = takable v.state client number h in
     let c : client < length v.state.numbers = t.is_client in
@@ -141,7 +152,8 @@ next_when {p} {v} a e client number h =
     record { is_client = omega arith; few_clients = a.few_clients; all_numbers = a.all_numbers; in_range = omega arith }
 
 -- so the arrays have an element for it
-pub in_arrays : {p : Parts} {v : FacilityView} → AreParts p → view_of p ≡ v → (client number : ℕ) → not_taken v.state client number ≡ None → client < 64
+pub in_arrays : {p : Parts} {v : FacilityView} → AreParts p → view_of p ≡ v → (client number : ℕ) → not_taken v.state client number ≡ None
+    → client < 64
 in_arrays a e client number h =
     let n = next_when a e client number h in
     let is_client = n.is_client in
@@ -155,7 +167,8 @@ pub record IsInTime (p : Parts) (deadline : ℕ) : Type 0 where
   pub in_range : deadline ≤ LAST
   pub unspent : p.next_serial ≤ LAST
 
-pub in_time : {p : Parts} {v : FacilityView} → AreParts p → view_of p ≡ v → Wheels.IsWellFormed p.wheel → (interval now : ℕ) → IsTimely v.state interval → now ≡ p.wheel.now
+pub in_time : {p : Parts} {v : FacilityView} → AreParts p → view_of p ≡ v → Wheels.IsWellFormed p.wheel → (interval now : ℕ)
+    → IsTimely v.state interval → now ≡ p.wheel.now
     → IsInTime p (now + interval)
 in_time a e w interval now timely told =
     let t = tells a e in
@@ -171,9 +184,11 @@ in_time a e w interval now timely told =
 -- The request numbers.
 
 numbers-take : (n : ℕ) (numbers : List ℕ) → AllByRecursion (λ k. k ≤ LAST + 1) numbers → AllByRecursion (λ k. k ≤ LAST + 1) (take n numbers)
-numbers-take n numbers h = recursion_from_All (λ k. k ≤ LAST + 1) (take n numbers) (All-take (λ k. k ≤ LAST + 1) n numbers (All-from_recursion (λ k. k ≤ LAST + 1) numbers h))
+numbers-take n numbers h = recursion_from_All (λ k. k ≤ LAST + 1) (take n numbers)
+    (All-take (λ k. k ≤ LAST + 1) n numbers (All-from_recursion (λ k. k ≤ LAST + 1) numbers h))
 
-numbers-used : (numbers : List ℕ) (client number : ℕ) → number ≤ LAST → AllByRecursion (λ k. k ≤ LAST + 1) numbers → AllByRecursion (λ k. k ≤ LAST + 1) (slice_set numbers client (number + 1))
+numbers-used : (numbers : List ℕ) (client number : ℕ) → number ≤ LAST → AllByRecursion (λ k. k ≤ LAST + 1) numbers
+    → AllByRecursion (λ k. k ≤ LAST + 1) (slice_set numbers client (number + 1))
 numbers-used numbers client number l h =
     recursion_from_All (λ k. k ≤ LAST + 1) (slice_set numbers client (number + 1))
     (All-set (λ k. k ≤ LAST + 1) numbers client (number + 1) (omega arith) (All-from_recursion (λ k. k ≤ LAST + 1) numbers h))
@@ -184,9 +199,14 @@ numbers-first first l =
     recursion_from_All (λ k. k ≤ LAST + 1) (replicate 64 first) (All-replicate (λ k. k ≤ LAST + 1) 64 first one)
 
 -- the state is sound, since the wheel is well formed
-below_next : (last now serial next : ℕ) (ts : List Timer) → AllByRecursion (Wheels.IsPending last now serial) ts → serial < next → AreBelow next ts
+below_next : (last now serial next : ℕ) (ts : List Timer) → AllByRecursion (Wheels.IsPending last now serial) ts → serial < next
+    → AreBelow next ts
 below_next last now serial next [] a h = tt
-below_next last now serial next (t ∷ ts) a h = (let s : t.serial ≤ serial = a.0.serial in omega arith, below_next last now serial next ts a.1 h)
+below_next last now serial next (t ∷ ts) a h = (
+  let s : t.serial ≤ serial = a.0.serial
+      in omega arith,
+  below_next last now serial next ts a.1 h,
+)
 
 pub sound : {p : Parts} {v : FacilityView} → AreParts p → view_of p ≡ v → Wheels.IsWellFormed p.wheel → IsSound v.state
 sound {p} {v} a e i =
@@ -204,7 +224,8 @@ sound {p} {v} a e i =
       few_pending = a.few_pending;
       ordered = i.ordered;
       distinct = i.distinct;
-      later = All_timers-weaken (Wheels.IsPending w.last_tick w.now w.last_serial) (λ t. w.now < t.deadline) (timers_of w.pending) (λ t q. q.later) i.each;
+      later = All_timers-weaken (Wheels.IsPending w.last_tick w.now w.last_serial) (λ t. w.now < t.deadline) (timers_of w.pending)
+          (λ t q. q.later) i.each;
       below = below_next w.last_tick w.now w.last_serial p.next_serial (timers_of w.pending) i.each a.serial_unused;
     } in
     subst (λ (u : FacilityView). IsSound u.state) e here
@@ -216,9 +237,26 @@ take-replicate zero k x h = refl
 take-replicate (suc n) zero x h = absurd (omega arith)
 take-replicate (suc n) (suc k) x h = ap (λ xs. x ∷ xs) (take-replicate n k x (omega arith))
 
-opened_is : (capacity last next : ℕ) (now now' : ℕ) (pending pending' : List Entry) (numbers numbers' : List ℕ) (xs ys : List Notice) → now ≡ now' → pending ≡ pending' → numbers ≡ numbers' → xs ≡ ys
-    → let s : FacilityState = record { capacity = capacity; last = last; now = now; next_serial = next; pending = pending; numbers = numbers; is_closed = false } in
-    let s' : FacilityState = record { capacity = capacity; last = last; now = now'; next_serial = next; pending = pending'; numbers = numbers'; is_closed = false } in
+opened_is : (capacity last next : ℕ) (now now' : ℕ) (pending pending' : List Entry) (numbers numbers' : List ℕ) (xs ys : List Notice)
+    → now ≡ now' → pending ≡ pending' → numbers ≡ numbers' → xs ≡ ys
+    → let s : FacilityState = record {
+      capacity = capacity;
+      last = last;
+      now = now;
+      next_serial = next;
+      pending = pending;
+      numbers = numbers;
+      is_closed = false;
+    } in
+    let s' : FacilityState = record {
+      capacity = capacity;
+      last = last;
+      now = now';
+      next_serial = next;
+      pending = pending';
+      numbers = numbers';
+      is_closed = false;
+    } in
     let a : FacilityView = record { state = s; waiting = xs } in
     let b : FacilityView = record { state = s'; waiting = ys } in a ≡ b
 opened_is capacity last next now now' pending pending' numbers numbers' xs ys e f g h = cc
@@ -237,22 +275,28 @@ first_parts w c returned = record {
   handed = 0;
 }
 
-pub view-open : (w : Wheels.WheelState) (c : Config) (returned : List Timer) → w.pending ≡ [] → w.due ≡ [] → w.now ≡ c.first_tick → c.clients ≤ 64 → returned ≡ []
+pub view-open : (w : Wheels.WheelState) (c : Config) (returned : List Timer) → w.pending ≡ [] → w.due ≡ [] → w.now ≡ c.first_tick
+    → c.clients ≤ 64 → returned ≡ []
     → view_of (first_parts w c returned) ≡ with_nothing_waiting (opened c w.last_tick)
 view-open w c returned p d n few r =
-    opened_is c.capacity w.last_tick c.first_serial w.now c.first_tick w.pending [] (take c.clients (replicate 64 c.first_number)) (replicate c.clients c.first_number)
-    (map (λ t. Expired t) (timers_of w.due) ++ map (λ t. Returned t) (drop 0 returned)) [] n p (take-replicate c.clients 64 c.first_number few)
+    opened_is c.capacity w.last_tick c.first_serial w.now c.first_tick w.pending [] (take c.clients (replicate 64 c.first_number))
+    (replicate c.clients c.first_number)
+    (map (λ t. Expired t) (timers_of w.due) ++ map (λ t. Returned t) (drop 0 returned)) [] n p
+    (take-replicate c.clients 64 c.first_number few)
     (ap (λ ds. map (λ t. Expired t) (timers_of ds) ++ map (λ t. Returned t) (drop 0 returned)) d ∙ ap (map (λ t. Returned t)) r)
 
 -- Ticks.
 
-pub view_by_waiting : (s : FacilityState) (xs ys : List Notice) → xs ≡ ys → let a : FacilityView = record { state = s; waiting = xs } in let b : FacilityView = record { state = s; waiting = ys } in a ≡ b
+pub view_by_waiting : (s : FacilityState) (xs ys : List Notice) → xs ≡ ys → let a : FacilityView = record { state = s; waiting = xs }
+    in let b : FacilityView = record { state = s; waiting = ys } in a ≡ b
 view_by_waiting s xs ys h = cc
 
-timers_due : (now : ℕ) (es : List Entry) → timers_of (filter (λ x. is_due_at (now + 1) x.timer) es) ≡ filter (is_due_at (now + 1)) (timers_of es)
+timers_due : (now : ℕ) (es : List Entry) → timers_of (filter (λ x. is_due_at (now + 1) x.timer) es)
+    ≡ filter (is_due_at (now + 1)) (timers_of es)
 timers_due now es = timers_of-filter (is_due_at (now + 1)) es
 
-pub view-tick : {p : Parts} {v : FacilityView} → AreParts p → view_of p ≡ v → v.waiting ≡ [] → p.is_closed ≡ false → p.wheel.now ≢ p.wheel.last_tick
+pub view-tick : {p : Parts} {v : FacilityView} → AreParts p → view_of p ≡ v → v.waiting ≡ [] → p.is_closed ≡ false
+    → p.wheel.now ≢ p.wheel.last_tick
     → (w' : Wheels.WheelState) → w' ≡ Wheels.after_tick p.wheel → view_of (record p { wheel = w' }) ≡ view_after (step v.state Tick 0)
 view-tick {p} {v} a e h c n w' t =
     let ts : List Timer = filter (is_due_at (p.wheel.now + 1)) (timers_of p.wheel.pending) in
@@ -264,11 +308,13 @@ view-tick {p} {v} a e h c n w' t =
     ∙ ap (map (λ t. Expired t)) (timers_due p.wheel.now p.wheel.pending)
     ∙ sym (notices_in-map (λ t. Expired t) ts) in
     ap (λ u. view_of (record p { wheel = u })) t
-    ∙ view_by_waiting (step_of_tick s None).state (map (λ t. Expired t) us ++ map (λ t. Returned t) (drop p.handed p.returned)) (notices_in (step_of_tick s None).outs) waits
+    ∙ view_by_waiting (step_of_tick s None).state (map (λ t. Expired t) us ++ map (λ t. Returned t) (drop p.handed p.returned))
+    (notices_in (step_of_tick s None).outs) waits
     ∙ ap (λ r. view_after (step_of_tick s r)) (sym (tick_refusal-none s c n))
     ∙ ap (λ (u : FacilityView). view_after (step u.state Tick 0)) e
 
-kept_after_tick : (p : Parts) → p.wheel.due ≡ [] → (client : ℕ) → count_of client (kept (record p { wheel = Wheels.after_tick p.wheel })) ≡ count_of client (kept p)
+kept_after_tick : (p : Parts) → p.wheel.due ≡ [] → (client : ℕ)
+    → count_of client (kept (record p { wheel = Wheels.after_tick p.wheel })) ≡ count_of client (kept p)
 kept_after_tick p h client =
     let due : count_of client (timers_of p.wheel.due) ≡ 0 = ap (λ es. count_of client (timers_of es)) h in
     let before = count-kept client p in
@@ -276,13 +322,15 @@ kept_after_tick p h client =
     let cut = count-tick client (p.wheel.now + 1) p.wheel.pending in
     omega arith
 
-pub parts-tick : {p : Parts} → AreParts p → p.wheel.due ≡ [] → (w' : Wheels.WheelState) → w' ≡ Wheels.after_tick p.wheel → AreParts (record p { wheel = w' })
+pub parts-tick : {p : Parts} → AreParts p → p.wheel.due ≡ [] → (w' : Wheels.WheelState) → w' ≡ Wheels.after_tick p.wheel
+    → AreParts (record p { wheel = w' })
 parts-tick {p} a h w' t =
     let here : AreParts (record p { wheel = Wheels.after_tick p.wheel }) = record {
       all_numbers = a.all_numbers;
       few_clients = a.few_clients;
       capacity_in_range = a.capacity_in_range;
-      few_pending = let n = length-filter (λ x. not (is_due_at (p.wheel.now + 1) x.timer)) p.wheel.pending in let m = a.few_pending in omega arith;
+      few_pending = let n = length-filter (λ x. not (is_due_at (p.wheel.now + 1) x.timer)) p.wheel.pending in let m = a.few_pending
+          in omega arith;
       serial_unused = a.serial_unused;
       serial_in_range = a.serial_in_range;
       numbers_in_range = a.numbers_in_range;
@@ -292,24 +340,30 @@ parts-tick {p} a h w' t =
     subst (λ (u : Wheels.WheelState). AreParts (record p { wheel = u })) (sym t) here
 
 -- a refused tick changes nothing
-pub refused_tick : (v : FacilityView) (fault : TickFault) → v.waiting ≡ [] → tick_refusal v.state ≡ Some fault → v ≡ view_after (step v.state Tick 0)
+pub refused_tick : (v : FacilityView) (fault : TickFault) → v.waiting ≡ [] → tick_refusal v.state ≡ Some fault
+    → v ≡ view_after (step v.state Tick 0)
 refused_tick v fault h r = view_by_waiting v.state v.waiting [] h ∙ sym (ap (λ x. view_after (step_of_tick v.state x)) r)
 
 -- The close.
 
 close_core : (p : Parts) (list : List Timer) → p.is_closed ≡ false → p.wheel.due ≡ [] → list ≡ timers_of p.wheel.pending
-    → view_of (record p { wheel = Wheels.after_clear p.wheel; is_closed = true; returned = list; handed = 0 }) ≡ view_after (step (view_of p).state Close 0)
+    → view_of (record p { wheel = Wheels.after_clear p.wheel; is_closed = true; returned = list; handed = 0 })
+    ≡ view_after (step (view_of p).state Close 0)
 close_core p list c d l =
     let s : FacilityState = (view_of p).state in
-    let waits : map (λ t. Expired t) (timers_of p.wheel.due) ++ map (λ t. Returned t) (drop 0 list) ≡ notices_in (step_of_close s false).outs =
+    let waits : map (λ t. Expired t) (timers_of p.wheel.due) ++ map (λ t. Returned t) (drop 0 list)
+    ≡ notices_in (step_of_close s false).outs =
     ap (λ xs. map (λ t. Expired t) (timers_of xs) ++ map (λ t. Returned t) (drop 0 list)) d
     ∙ ap (map (λ t. Returned t)) l
     ∙ sym (notices_in-map (λ t. Returned t) (timers_of p.wheel.pending)) in
-    view_by_waiting (step_of_close s false).state (map (λ t. Expired t) (timers_of p.wheel.due) ++ map (λ t. Returned t) (drop 0 list)) (notices_in (step_of_close s false).outs) waits
+    view_by_waiting (step_of_close s false).state (map (λ t. Expired t) (timers_of p.wheel.due) ++ map (λ t. Returned t) (drop 0 list))
+    (notices_in (step_of_close s false).outs) waits
     ∙ ap (λ b. view_after (step_of_close s b)) (sym c)
 
-pub view-close : {p : Parts} {v : FacilityView} → AreParts p → view_of p ≡ v → v.waiting ≡ [] → p.is_closed ≡ false → (list : List Timer) → list ≡ timers_of p.wheel.pending
-    → (w' : Wheels.WheelState) → w' ≡ Wheels.after_clear p.wheel → view_of (record p { wheel = w'; is_closed = true; returned = list; handed = 0 }) ≡ view_after (step v.state Close 0)
+pub view-close : {p : Parts} {v : FacilityView} → AreParts p → view_of p ≡ v → v.waiting ≡ [] → p.is_closed ≡ false → (list : List Timer)
+    → list ≡ timers_of p.wheel.pending
+    → (w' : Wheels.WheelState) → w' ≡ Wheels.after_clear p.wheel
+    → view_of (record p { wheel = w'; is_closed = true; returned = list; handed = 0 }) ≡ view_after (step v.state Close 0)
 view-close {p} {v} a e h c list l w' t =
     ap (λ u. view_of (record p { wheel = u; is_closed = true; returned = list; handed = 0 })) t
     ∙ close_core p list c (nothing_due a e h) l
@@ -327,42 +381,70 @@ abbrev pub with_used : ℕ → ℕ → Parts → Parts
 with_used client number p = record p { numbers = slice_set p.numbers client (number + 1) }
 
 -- a start that is refused uses up the number
-refused_core : (p : Parts) (client number interval action : ℕ) (reason : Reason) → client < p.clients → (view_of p).waiting ≡ [] → start_refusal (view_of p).state interval ≡ Some reason
+refused_core : (p : Parts) (client number interval action : ℕ) (reason : Reason) → client < p.clients → (view_of p).waiting ≡ []
+    → start_refusal (view_of p).state interval ≡ Some reason
     → view_of (with_used client number p) ≡ with_nothing_waiting (after_taken (view_of p).state client number (Start interval action) 0)
 refused_core p client number interval action reason l h r =
     let s : FacilityState = (view_of p).state in
     let t : Timer = new_timer s client number interval action in
-    numbered_is s (take p.clients (slice_set p.numbers client (number + 1))) (slice_set (take p.clients p.numbers) client (number + 1)) (view_of p).waiting []
+    numbered_is s (take p.clients (slice_set p.numbers client (number + 1))) (slice_set (take p.clients p.numbers) client (number + 1))
+    (view_of p).waiting []
     (take-set-lt p.clients p.numbers client (number + 1) l) h
     ∙ ap (λ v. with_nothing_waiting (with_number client number (after_start v 0 t s))) (sym r)
 
-pub view-refused : {p : Parts} {v : FacilityView} → AreParts p → view_of p ≡ v → (client number interval action : ℕ) (reason : Reason) → client < p.clients → v.waiting ≡ [] → start_refusal v.state interval ≡ Some reason
+pub view-refused : {p : Parts} {v : FacilityView} → AreParts p → view_of p ≡ v → (client number interval action : ℕ) (reason : Reason)
+    → client < p.clients → v.waiting ≡ [] → start_refusal v.state interval ≡ Some reason
     → view_of (with_used client number p) ≡ with_nothing_waiting (after_taken v.state client number (Start interval action) 0)
 view-refused {p} {v} a e client number interval action reason l =
-    subst (λ (u : FacilityView). u.waiting ≡ [] → start_refusal u.state interval ≡ Some reason → view_of (with_used client number p) ≡ with_nothing_waiting (after_taken u.state client number (Start interval action) 0))
+    subst (λ (u : FacilityView). u.waiting ≡ [] → start_refusal u.state interval ≡ Some reason
+    → view_of (with_used client number p) ≡ with_nothing_waiting (after_taken u.state client number (Start interval action) 0))
     e (refused_core p client number interval action reason l)
 
 -- an accepted start
-start_core : (p : Parts) (client number interval action place : ℕ) → client < p.clients → (view_of p).waiting ≡ [] → start_refusal (view_of p).state interval ≡ None
-    → view_of (with_used client number (record p { wheel = Wheels.after_start place (new_timer (view_of p).state client number interval action) p.wheel; next_serial = p.next_serial + 1 }))
+start_core : (p : Parts) (client number interval action place : ℕ) → client < p.clients → (view_of p).waiting ≡ []
+    → start_refusal (view_of p).state interval ≡ None
+    → view_of (with_used client number (record p {
+      wheel = Wheels.after_start place
+          (new_timer (view_of p).state client number interval action) p.wheel;
+      next_serial = p.next_serial + 1;
+    }))
     ≡ with_nothing_waiting (after_taken (view_of p).state client number (Start interval action) place)
 start_core p client number interval action place l h r =
     let s : FacilityState = (view_of p).state in
     let t : Timer = new_timer s client number interval action in
-    numbered_is (after_start None place t s) (take p.clients (slice_set p.numbers client (number + 1))) (slice_set (take p.clients p.numbers) client (number + 1)) (view_of p).waiting []
+    numbered_is (after_start None place t s) (take p.clients (slice_set p.numbers client (number + 1)))
+    (slice_set (take p.clients p.numbers) client (number + 1)) (view_of p).waiting []
     (take-set-lt p.clients p.numbers client (number + 1) l) h
     ∙ ap (λ v. with_nothing_waiting (with_number client number (after_start v place t s))) (sym r)
 
-pub view-start : {p : Parts} {v : FacilityView} → AreParts p → view_of p ≡ v → (client number interval action place : ℕ) → client < p.clients → v.waiting ≡ [] → start_refusal v.state interval ≡ None
+pub view-start : {p : Parts} {v : FacilityView} → AreParts p → view_of p ≡ v → (client number interval action place : ℕ)
+    → client < p.clients → v.waiting ≡ [] → start_refusal v.state interval ≡ None
     → (now : ℕ) → now ≡ p.wheel.now → (w' : Wheels.WheelState)
-    → w' ≡ Wheels.after_start place (record { serial = p.next_serial; client = client; number = number; deadline = now + interval; action = action }) p.wheel
-    → view_of (with_used client number (record p { wheel = w'; next_serial = p.next_serial + 1 })) ≡ with_nothing_waiting (after_taken v.state client number (Start interval action) place)
+    → w' ≡ Wheels.after_start place (record {
+      serial = p.next_serial;
+      client = client;
+      number = number;
+      deadline = now + interval;
+      action = action;
+    }) p.wheel
+    → view_of (with_used client number (record p { wheel = w'; next_serial = p.next_serial + 1 }))
+    ≡ with_nothing_waiting (after_taken v.state client number (Start interval action) place)
 view-start {p} {v} a e client number interval action place l h r now n w' t =
     let x : w' ≡ Wheels.after_start place (new_timer (view_of p).state client number interval action) p.wheel =
-    t ∙ ap (λ m. Wheels.after_start place (record { serial = p.next_serial; client = client; number = number; deadline = m + interval; action = action }) p.wheel) n in
+    t ∙ ap (λ m. Wheels.after_start place (record {
+      serial = p.next_serial;
+      client = client;
+      number = number;
+      deadline = m + interval;
+      action = action;
+    }) p.wheel) n in
     ap (λ u. view_of (with_used client number (record p { wheel = u; next_serial = p.next_serial + 1 }))) x
     ∙ subst (λ (u : FacilityView). u.waiting ≡ [] → start_refusal u.state interval ≡ None
-    → view_of (with_used client number (record p { wheel = Wheels.after_start place (new_timer (view_of p).state client number interval action) p.wheel; next_serial = p.next_serial + 1 }))
+    → view_of (with_used client number (record p {
+      wheel = Wheels.after_start place
+          (new_timer (view_of p).state client number interval action) p.wheel;
+      next_serial = p.next_serial + 1;
+    }))
     ≡ with_nothing_waiting (after_taken u.state client number (Start interval action) place))
     e (start_core p client number interval action place l) h r
 
@@ -379,7 +461,8 @@ parts-used {p} a client number in_range = record {
   counted = a.counted;
 }
 
-kept_after_start : (p : Parts) (place : ℕ) (t : Timer) (client : ℕ) → count_of client (kept (record p { wheel = Wheels.after_start place t p.wheel })) ≡ one_of client t + count_of client (kept p)
+kept_after_start : (p : Parts) (place : ℕ) (t : Timer) (client : ℕ)
+    → count_of client (kept (record p { wheel = Wheels.after_start place t p.wheel })) ≡ one_of client t + count_of client (kept p)
 kept_after_start p place t client =
     let before = count-kept client p in
     let after = count-kept client (record p { wheel = Wheels.after_start place t p.wheel }) in
@@ -394,11 +477,16 @@ with_one_more client p = record p { counts = slice_set p.counts client (slice_in
 abbrev pub with_one_less : ℕ → Parts → Parts
 with_one_less client p = record p { counts = slice_set p.counts client (slice_index p.counts client - 1) }
 
-pub parts-start : {p : Parts} → AreParts p → p.next_serial ≤ LAST → length p.wheel.pending ≢ p.capacity → (place : ℕ) (t : Timer) → t.serial ≡ p.next_serial → t.client < p.clients
-    → (w' : Wheels.WheelState) → w' ≡ Wheels.after_start place t p.wheel → AreParts (with_one_more t.client (record p { wheel = w'; next_serial = p.next_serial + 1 }))
+pub parts-start : {p : Parts} → AreParts p → p.next_serial ≤ LAST → length p.wheel.pending ≢ p.capacity → (place : ℕ) (t : Timer)
+    → t.serial ≡ p.next_serial → t.client < p.clients
+    → (w' : Wheels.WheelState) → w' ≡ Wheels.after_start place t p.wheel
+    → AreParts (with_one_more t.client (record p { wheel = w'; next_serial = p.next_serial + 1 }))
 parts-start {p} a unspent room place t fresh known w' e =
     let entry : Entry = record { place = place; timer = t } in
-    let here : AreParts (with_one_more t.client (record p { wheel = Wheels.after_start place t p.wheel; next_serial = p.next_serial + 1 })) = record {
+    let here : AreParts (with_one_more t.client (record p {
+      wheel = Wheels.after_start place t p.wheel;
+      next_serial = p.next_serial + 1;
+    })) = record {
       all_numbers = a.all_numbers;
       few_clients = a.few_clients;
       capacity_in_range = a.capacity_in_range;
@@ -407,30 +495,38 @@ parts-start {p} a unspent room place t fresh known w' e =
       serial_in_range = omega arith;
       numbers_in_range = a.numbers_in_range;
       handed_in_range = a.handed_in_range;
-      counted = counted-more a.counted t (kept (record p { wheel = Wheels.after_start place t p.wheel })) known a.few_clients (kept_after_start p place t);
+      counted = counted-more a.counted t (kept (record p { wheel = Wheels.after_start place t p.wheel })) known a.few_clients
+          (kept_after_start p place t);
     } in
-    subst (λ (u : Wheels.WheelState). AreParts (with_one_more t.client (record p { wheel = u; next_serial = p.next_serial + 1 }))) (sym e) here
+    subst (λ (u : Wheels.WheelState). AreParts (with_one_more t.client (record p { wheel = u; next_serial = p.next_serial + 1 })))
+    (sym e) here
 
 -- a stop, whether it finds its timer or not
-stop_core : (p : Parts) (client number : ℕ) (handle : Handle) (found : Option Timer) → client < p.clients → (view_of p).waiting ≡ [] → named (view_of p).state client (Stop handle) ≡ found
-    → view_of (with_used client number (record p { wheel = record p.wheel { pending = without_found found p.wheel.pending } })) ≡ with_nothing_waiting (after_taken (view_of p).state client number (Stop handle) 0)
+stop_core : (p : Parts) (client number : ℕ) (handle : Handle) (found : Option Timer) → client < p.clients → (view_of p).waiting ≡ []
+    → named (view_of p).state client (Stop handle) ≡ found
+    → view_of (with_used client number (record p { wheel = record p.wheel { pending = without_found found p.wheel.pending } }))
+    ≡ with_nothing_waiting (after_taken (view_of p).state client number (Stop handle) 0)
 stop_core p client number handle found l h r =
     let s : FacilityState = (view_of p).state in
-    numbered_is (after_stop found s) (take p.clients (slice_set p.numbers client (number + 1))) (slice_set (take p.clients p.numbers) client (number + 1)) (view_of p).waiting []
+    numbered_is (after_stop found s) (take p.clients (slice_set p.numbers client (number + 1)))
+    (slice_set (take p.clients p.numbers) client (number + 1)) (view_of p).waiting []
     (take-set-lt p.clients p.numbers client (number + 1) l) h
     ∙ ap (λ v. with_nothing_waiting (with_number client number (after_stop v s))) (sym r)
 
-pub view-stop : {p : Parts} {v : FacilityView} → AreParts p → view_of p ≡ v → (client number : ℕ) (handle : Handle) (found : Option Timer) → client < p.clients → v.waiting ≡ [] → named v.state client (Stop handle) ≡ found
+pub view-stop : {p : Parts} {v : FacilityView} → AreParts p → view_of p ≡ v → (client number : ℕ) (handle : Handle) (found : Option Timer)
+    → client < p.clients → v.waiting ≡ [] → named v.state client (Stop handle) ≡ found
     → (w' : Wheels.WheelState) → w' ≡ record p.wheel { pending = without_found found p.wheel.pending }
     → view_of (with_used client number (record p { wheel = w' })) ≡ with_nothing_waiting (after_taken v.state client number (Stop handle) 0)
 view-stop {p} {v} a e client number handle found l h r w' t =
     ap (λ u. view_of (with_used client number (record p { wheel = u }))) t
     ∙ subst (λ (u : FacilityView). u.waiting ≡ [] → named u.state client (Stop handle) ≡ found
-    → view_of (with_used client number (record p { wheel = record p.wheel { pending = without_found found p.wheel.pending } })) ≡ with_nothing_waiting (after_taken u.state client number (Stop handle) 0))
+    → view_of (with_used client number (record p { wheel = record p.wheel { pending = without_found found p.wheel.pending } }))
+    ≡ with_nothing_waiting (after_taken u.state client number (Stop handle) 0))
     e (stop_core p client number handle found l) h r
 
 kept_after_stop : (p : Parts) (t : Timer) → AreDistinct (timers_of p.wheel.pending) → Among t (timers_of p.wheel.pending) → (client : ℕ)
-    → count_of client (kept p) ≡ one_of client t + count_of client (kept (record p { wheel = record p.wheel { pending = without_found (Some t) p.wheel.pending } }))
+    → count_of client (kept p) ≡ one_of client t + count_of client
+    (kept (record p { wheel = record p.wheel { pending = without_found (Some t) p.wheel.pending } }))
 kept_after_stop p t d m client =
     let before = count-kept client p in
     let after = count-kept client (record p { wheel = record p.wheel { pending = without_found (Some t) p.wheel.pending } }) in
@@ -438,9 +534,11 @@ kept_after_stop p t d m client =
     omega arith
 
 pub parts-stop : {p : Parts} → AreParts p → (t : Timer) → AreDistinct (timers_of p.wheel.pending) → Among t (timers_of p.wheel.pending)
-    → (w' : Wheels.WheelState) → w' ≡ record p.wheel { pending = without_found (Some t) p.wheel.pending } → AreParts (with_one_less t.client (record p { wheel = w' }))
+    → (w' : Wheels.WheelState) → w' ≡ record p.wheel { pending = without_found (Some t) p.wheel.pending }
+    → AreParts (with_one_less t.client (record p { wheel = w' }))
 parts-stop {p} a t d m w' e =
-    let here : AreParts (with_one_less t.client (record p { wheel = record p.wheel { pending = without_found (Some t) p.wheel.pending } })) = record {
+    let here : AreParts (with_one_less t.client (record p { wheel = record p.wheel { pending = without_found (Some t) p.wheel.pending } }))
+    = record {
       all_numbers = a.all_numbers;
       few_clients = a.few_clients;
       capacity_in_range = a.capacity_in_range;
@@ -449,25 +547,30 @@ parts-stop {p} a t d m w' e =
       serial_in_range = a.serial_in_range;
       numbers_in_range = a.numbers_in_range;
       handed_in_range = a.handed_in_range;
-      counted = counted-less a.counted t (kept (record p { wheel = record p.wheel { pending = without_found (Some t) p.wheel.pending } })) (kept_after_stop p t d m);
+      counted = counted-less a.counted t (kept (record p { wheel = record p.wheel { pending = without_found (Some t) p.wheel.pending } }))
+          (kept_after_stop p t d m);
     } in
     subst (λ (u : Wheels.WheelState). AreParts (with_one_less t.client (record p { wheel = u }))) (sym e) here
 
 -- what is found for a client is the timer with the handle
-pub found_there : {p : Parts} {v : FacilityView} → AreParts p → view_of p ≡ v → (client : ℕ) (handle : Handle) (t : Timer) → named v.state client (Stop handle) ≡ Some t → Wheels.timer_at handle p.wheel ≡ Some t
+pub found_there : {p : Parts} {v : FacilityView} → AreParts p → view_of p ≡ v → (client : ℕ) (handle : Handle) (t : Timer)
+    → named v.state client (Stop handle) ≡ Some t → Wheels.timer_at handle p.wheel ≡ Some t
 found_there {p} {v} a e client handle t h =
-    let here : named (view_of p).state client (Stop handle) ≡ Some t = ap (λ (u : FacilityView). named u.state client (Stop handle)) e ∙ h in
+    let here : named (view_of p).state client (Stop handle) ≡ Some t = ap (λ (u : FacilityView). named u.state client (Stop handle)) e ∙ h
+    in
     of_client_some client (Wheels.timer_at handle p.wheel) t here
 
 of_client_is : (client : ℕ) (o : Option Timer) (t : Timer) → of_client client o ≡ Some t → t.client ≡ client
 of_client_is client None t h = absurd (cc)
 of_client_is client (Some x) t h = found_client client x t (either (x.client == client)) h
   where
-    found_client : (client : ℕ) (x t : Timer) → ((x.client == client) ≡ true) ⊎ ((x.client == client) ≡ false) → of_client client (Some x) ≡ Some t → t.client ≡ client
+    found_client : (client : ℕ) (x t : Timer) → ((x.client == client) ≡ true) ⊎ ((x.client == client) ≡ false)
+        → of_client client (Some x) ≡ Some t → t.client ≡ client
     found_client client x t (inl k) h = let e : x ≡ t = cc (rw k at h) in ap (λ (u : Timer). u.client) (sym e) ∙ is_equal x.client client k
     found_client client x t (inr k) h = let e = rw k at h in absurd (cc)
 
-pub answer_started : (h : Handle) (serial deadline told : ℕ) → h.serial ≡ serial → told ≡ deadline → Started h told ≡ Started (record { place = h.place; serial = serial }) deadline
+pub answer_started : (h : Handle) (serial deadline told : ℕ) → h.serial ≡ serial → told ≡ deadline
+    → Started h told ≡ Started (record { place = h.place; serial = serial }) deadline
 answer_started h serial deadline told e f = rw (← e, f) refl
 
 -- The counts.
@@ -491,16 +594,19 @@ timers_of-drop [] = refl
 timers_of-drop (e ∷ es) = refl
 
 -- the counts, in a state in which nothing waits
-pub pending_is : {p : Parts} {v : FacilityView} → AreParts p → view_of p ≡ v → v.waiting ≡ [] → (client : ℕ) → slice_index p.counts client ≡ pending_of v.state client
+pub pending_is : {p : Parts} {v : FacilityView} → AreParts p → view_of p ≡ v → v.waiting ≡ [] → (client : ℕ)
+    → slice_index p.counts client ≡ pending_of v.state client
 pending_is {p} {v} a e h client =
     let due : count_of client (timers_of p.wheel.due) ≡ 0 = ap (λ es. count_of client (timers_of es)) (nothing_due a e h) in
-    let back : count_of client (drop p.handed p.returned) ≡ 0 = ap (count_of client) (unmapped (drop p.handed p.returned) (nothing_returned a e h)) in
+    let back : count_of client (drop p.handed p.returned) ≡ 0 =
+    ap (count_of client) (unmapped (drop p.handed p.returned) (nothing_returned a e h)) in
     let all = count-kept client p in
     let each : slice_index p.counts client ≡ count_of client (kept p) = a.counted.each client in
     let here : slice_index p.counts client ≡ count_of client (timers_of p.wheel.pending) = omega arith in
     here ∙ ap (λ (u : FacilityView). pending_of u.state client) e
 
-pub pending_of_none : {p : Parts} {v : FacilityView} → AreParts p → view_of p ≡ v → v.waiting ≡ [] → (client : ℕ) → p.clients ≤ client → pending_of v.state client ≡ 0
+pub pending_of_none : {p : Parts} {v : FacilityView} → AreParts p → view_of p ≡ v → v.waiting ≡ [] → (client : ℕ) → p.clients ≤ client
+    → pending_of v.state client ≡ 0
 pending_of_none {p} {v} a e h client l = sym (pending_is a e h client) ∙ a.counted.no_others client l
 
 kept_after_expiry : (p : Parts) (t : Timer) → Wheels.first_due p.wheel ≡ Some t → (client : ℕ)
@@ -509,7 +615,8 @@ kept_after_expiry p t h client =
     let before = count-kept client p in
     let after = count-kept client (record p { wheel = Wheels.after_expiry p.wheel }) in
     let less = count-front client t (timers_of p.wheel.due) h in
-    let rest : count_of client (timers_of (drop 1 p.wheel.due)) ≡ count_of client (drop 1 (timers_of p.wheel.due)) = ap (count_of client) (timers_of-drop p.wheel.due) in
+    let rest : count_of client (timers_of (drop 1 p.wheel.due)) ≡ count_of client (drop 1 (timers_of p.wheel.due)) =
+    ap (count_of client) (timers_of-drop p.wheel.due) in
     omega arith
 
 kept_after_return : (p : Parts) (t : Timer) → slice_get p.returned p.handed ≡ Some t → (client : ℕ)
@@ -524,7 +631,8 @@ kept_after_return p t h client =
 nothing_first : (w : Wheels.WheelState) → Wheels.first_due w ≡ None → Wheels.after_expiry w ≡ w
 nothing_first w h = ap (λ ds. let v : Wheels.WheelState = record w { due = ds } in v) (none_at w.due h)
 
-pub parts-expiry : {p : Parts} → AreParts p → (t : Timer) → Wheels.first_due p.wheel ≡ Some t → (w' : Wheels.WheelState) → w' ≡ Wheels.after_expiry p.wheel
+pub parts-expiry : {p : Parts} → AreParts p → (t : Timer) → Wheels.first_due p.wheel ≡ Some t → (w' : Wheels.WheelState)
+    → w' ≡ Wheels.after_expiry p.wheel
     → AreParts (with_one_less t.client (record p { wheel = w' }))
 parts-expiry {p} a t h w' e =
     let here : AreParts (with_one_less t.client (record p { wheel = Wheels.after_expiry p.wheel })) = record {
@@ -541,10 +649,12 @@ parts-expiry {p} a t h w' e =
     subst (λ (u : Wheels.WheelState). AreParts (with_one_less t.client (record p { wheel = u }))) (sym e) here
 
 -- where nothing is due, removing the first due timer changes nothing
-pub parts-nothing_due : {p : Parts} → AreParts p → Wheels.first_due p.wheel ≡ None → (w' : Wheels.WheelState) → w' ≡ Wheels.after_expiry p.wheel → AreParts (record p { wheel = w' })
+pub parts-nothing_due : {p : Parts} → AreParts p → Wheels.first_due p.wheel ≡ None → (w' : Wheels.WheelState)
+    → w' ≡ Wheels.after_expiry p.wheel → AreParts (record p { wheel = w' })
 parts-nothing_due {p} a h w' e = subst (λ (u : Wheels.WheelState). AreParts (record p { wheel = u })) (sym (e ∙ nothing_first p.wheel h)) a
 
-pub parts-returned : {p : Parts} → AreParts p → (t : Timer) → slice_get p.returned p.handed ≡ Some t → AreParts (with_one_less t.client (record p { handed = p.handed + 1 }))
+pub parts-returned : {p : Parts} → AreParts p → (t : Timer) → slice_get p.returned p.handed ≡ Some t
+    → AreParts (with_one_less t.client (record p { handed = p.handed + 1 }))
 parts-returned {p} a t h = record {
   all_numbers = a.all_numbers;
   few_clients = a.few_clients;
@@ -565,8 +675,10 @@ pub returned_counted : {p : Parts} → AreParts p → (t : Timer) → slice_get 
 returned_counted {p} a t h = is_counted a.counted t (kept (record p { handed = p.handed + 1 })) (kept_after_return p t h)
 
 -- a close: the pending timers are returned
-kept_after_close : (p : Parts) (list : List Timer) → p.wheel.due ≡ [] → drop p.handed p.returned ≡ [] → list ≡ timers_of p.wheel.pending → (client : ℕ)
-    → count_of client (kept (record p { wheel = Wheels.after_clear p.wheel; is_closed = true; returned = list; handed = 0 })) ≡ count_of client (kept p)
+kept_after_close : (p : Parts) (list : List Timer) → p.wheel.due ≡ [] → drop p.handed p.returned ≡ [] → list ≡ timers_of p.wheel.pending
+    → (client : ℕ)
+    → count_of client (kept (record p { wheel = Wheels.after_clear p.wheel; is_closed = true; returned = list; handed = 0 }))
+    ≡ count_of client (kept p)
 kept_after_close p list d b l client =
     let due : count_of client (timers_of p.wheel.due) ≡ 0 = ap (λ es. count_of client (timers_of es)) d in
     let back : count_of client (drop p.handed p.returned) ≡ 0 = ap (count_of client) b in
@@ -575,7 +687,8 @@ kept_after_close p list d b l client =
     let after = count-kept client (record p { wheel = Wheels.after_clear p.wheel; is_closed = true; returned = list; handed = 0 }) in
     omega arith
 
-pub parts-close : {p : Parts} {v : FacilityView} → AreParts p → view_of p ≡ v → v.waiting ≡ [] → (list : List Timer) → list ≡ timers_of p.wheel.pending → (w' : Wheels.WheelState) → w' ≡ Wheels.after_clear p.wheel
+pub parts-close : {p : Parts} {v : FacilityView} → AreParts p → view_of p ≡ v → v.waiting ≡ [] → (list : List Timer)
+    → list ≡ timers_of p.wheel.pending → (w' : Wheels.WheelState) → w' ≡ Wheels.after_clear p.wheel
     → AreParts (record p { wheel = w'; is_closed = true; returned = list; handed = 0 })
 parts-close {p} {v} a e h list l w' t =
     let here : AreParts (record p { wheel = Wheels.after_clear p.wheel; is_closed = true; returned = list; handed = 0 }) = record {
@@ -593,9 +706,11 @@ parts-close {p} {v} a e h list l w' t =
     subst (λ (u : Wheels.WheelState). AreParts (record p { wheel = u; is_closed = true; returned = list; handed = 0 })) (sym t) here
 
 -- a new facility
-pub parts-open : (w : Wheels.WheelState) (c : Config) (returned : List Timer) → IsInRange c → w.pending ≡ [] → w.due ≡ [] → w.last_serial < c.first_serial → returned ≡ [] → AreParts (first_parts w c returned)
+pub parts-open : (w : Wheels.WheelState) (c : Config) (returned : List Timer) → IsInRange c → w.pending ≡ [] → w.due ≡ []
+    → w.last_serial < c.first_serial → returned ≡ [] → AreParts (first_parts w c returned)
 parts-open w c returned i p d l r =
-    let none : kept (first_parts w c returned) ≡ [] = ap (λ es. timers_of es ++ (timers_of w.due ++ drop 0 returned)) p ∙ ap (λ ds. timers_of ds ++ drop 0 returned) d ∙ r in
+    let none : kept (first_parts w c returned) ≡ [] = ap (λ es. timers_of es ++ (timers_of w.due ++ drop 0 returned)) p
+    ∙ ap (λ ds. timers_of ds ++ drop 0 returned) d ∙ r in
     let few : c.clients ≤ 64 = i.few_clients in
     let serial : c.first_serial ≤ LAST = i.serial_in_range in
     let empty : length w.pending ≡ 0 = ap (λ es. length es) p in
@@ -612,16 +727,21 @@ parts-open w c returned i p d l r =
     }
 
 -- a stop of a client's timer
-pub parts-stopped : {p : Parts} {v : FacilityView} → AreParts p → view_of p ≡ v → Wheels.IsWellFormed p.wheel → (client : ℕ) (handle : Handle) (t : Timer) → named v.state client (Stop handle) ≡ Some t
-    → (w' : Wheels.WheelState) → w' ≡ record p.wheel { pending = without_found (Some t) p.wheel.pending } → AreParts (with_one_less client (record p { wheel = w' }))
+pub parts-stopped : {p : Parts} {v : FacilityView} → AreParts p → view_of p ≡ v → Wheels.IsWellFormed p.wheel
+    → (client : ℕ) (handle : Handle) (t : Timer) → named v.state client (Stop handle) ≡ Some t
+    → (w' : Wheels.WheelState) → w' ≡ record p.wheel { pending = without_found (Some t) p.wheel.pending }
+    → AreParts (with_one_less client (record p { wheel = w' }))
 parts-stopped {p} {v} a e i client handle t h w' s =
-    let here : named (view_of p).state client (Stop handle) ≡ Some t = ap (λ (u : FacilityView). named u.state client (Stop handle)) e ∙ h in
+    let here : named (view_of p).state client (Stop handle) ≡ Some t = ap (λ (u : FacilityView). named u.state client (Stop handle)) e ∙ h
+    in
     let owner : t.client ≡ client = of_client_is client (Wheels.timer_at handle p.wheel) t here in
     let there : Wheels.timer_at handle p.wheel ≡ Some t = of_client_some client (Wheels.timer_at handle p.wheel) t here in
-    subst (λ k. AreParts (with_one_less k (record p { wheel = w' }))) owner (parts-stop a t i.distinct (first_timer-among (has_handle handle) t p.wheel.pending there) w' s)
+    subst (λ k. AreParts (with_one_less k (record p { wheel = w' }))) owner
+    (parts-stop a t i.distinct (first_timer-among (has_handle handle) t p.wheel.pending there) w' s)
 
 -- how many a client has when nothing waits, at most as many as are pending
-pub few_counted : {p : Parts} {v : FacilityView} → AreParts p → view_of p ≡ v → v.waiting ≡ [] → (client : ℕ) → slice_index p.counts client ≤ MOST_PENDING
+pub few_counted : {p : Parts} {v : FacilityView} → AreParts p → view_of p ≡ v → v.waiting ≡ [] → (client : ℕ)
+    → slice_index p.counts client ≤ MOST_PENDING
 few_counted {p} {v} a e h client =
     let n = pending_is a e h client in
     let k = count_in_range client (timers_of v.state.pending) in
@@ -631,13 +751,16 @@ few_counted {p} {v} a e h client =
     let l = length_timers v.state.pending in
     omega arith
 
-pub stopped_counted : {p : Parts} {v : FacilityView} → AreParts p → view_of p ≡ v → Wheels.IsWellFormed p.wheel → (client : ℕ) (handle : Handle) (t : Timer) → named v.state client (Stop handle) ≡ Some t
+pub stopped_counted : {p : Parts} {v : FacilityView} → AreParts p → view_of p ≡ v → Wheels.IsWellFormed p.wheel
+    → (client : ℕ) (handle : Handle) (t : Timer) → named v.state client (Stop handle) ≡ Some t
     → IsCounted p.clients p.counts (record t { client = client })
 stopped_counted {p} {v} a e i client handle t h =
-    let here : named (view_of p).state client (Stop handle) ≡ Some t = ap (λ (u : FacilityView). named u.state client (Stop handle)) e ∙ h in
+    let here : named (view_of p).state client (Stop handle) ≡ Some t = ap (λ (u : FacilityView). named u.state client (Stop handle)) e ∙ h
+    in
     let owner : t.client ≡ client = of_client_is client (Wheels.timer_at handle p.wheel) t here in
     let there : Wheels.timer_at handle p.wheel ≡ Some t = of_client_some client (Wheels.timer_at handle p.wheel) t here in
-    let counted : IsCounted p.clients p.counts t = is_counted a.counted t (kept (record p { wheel = record p.wheel { pending = without_found (Some t) p.wheel.pending } }))
+    let counted : IsCounted p.clients p.counts t = is_counted a.counted t
+    (kept (record p { wheel = record p.wheel { pending = without_found (Some t) p.wheel.pending } }))
     (kept_after_stop p t i.distinct (first_timer-among (has_handle handle) t p.wheel.pending there)) in
     record {
       some = subst (λ k. 0 < slice_index p.counts k) owner counted.some;
@@ -646,64 +769,87 @@ stopped_counted {p} {v} a e i client handle t h =
     }
 
 -- the timer that is handed out next of those that a close returned
-pub returned_next : {p : Parts} → AreParts p → (n : ℕ) → n ≡ length p.returned → p.handed ≢ n → (t : Timer) → t ≡ get_or p.returned p.handed t → slice_get p.returned p.handed ≡ Some t
+pub returned_next : {p : Parts} → AreParts p → (n : ℕ) → n ≡ length p.returned → p.handed ≢ n → (t : Timer)
+    → t ≡ get_or p.returned p.handed t → slice_get p.returned p.handed ≡ Some t
 returned_next {p} a n e o t h =
     let k = a.handed_in_range in
     slice_get_read p.returned n p.handed t e (omega arith) h
 
 -- and it is counted
-pub next_counted : {p : Parts} → AreParts p → (n : ℕ) → n ≡ length p.returned → p.handed ≢ n → (t : Timer) → t ≡ get_or p.returned p.handed t → IsCounted p.clients p.counts t
+pub next_counted : {p : Parts} → AreParts p → (n : ℕ) → n ≡ length p.returned → p.handed ≢ n → (t : Timer)
+    → t ≡ get_or p.returned p.handed t → IsCounted p.clients p.counts t
 next_counted {p} a n e o t h = returned_counted a t (returned_next a n e o t h)
 
 -- Restarts.
 
 -- a restart that is refused uses up the number
-pub view-unchanged : {p : Parts} {v : FacilityView} → AreParts p → view_of p ≡ v → (client number : ℕ) → client < p.clients → v.waiting ≡ [] → (c : FacilityState) → c ≡ v.state
+pub view-unchanged : {p : Parts} {v : FacilityView} → AreParts p → view_of p ≡ v → (client number : ℕ) → client < p.clients → v.waiting ≡ []
+    → (c : FacilityState) → c ≡ v.state
     → view_of (with_used client number p) ≡ with_nothing_waiting (with_number client number c)
 view-unchanged {p} {v} a e client number l h c f =
     let here : (view_of p).waiting ≡ [] = ap (λ (u : FacilityView). u.waiting) e ∙ h in
-    numbered_is (view_of p).state (take p.clients (slice_set p.numbers client (number + 1))) (slice_set (take p.clients p.numbers) client (number + 1)) (view_of p).waiting []
+    numbered_is (view_of p).state (take p.clients (slice_set p.numbers client (number + 1)))
+    (slice_set (take p.clients p.numbers) client (number + 1)) (view_of p).waiting []
     (take-set-lt p.clients p.numbers client (number + 1) l) here
     ∙ ap (λ (u : FacilityView). with_nothing_waiting (with_number client number u.state)) e
     ∙ ap (λ d. with_nothing_waiting (with_number client number d)) (sym f)
 
-pub restart_idle : (found : Option Timer) (reason : Option Reason) (r : Reason) (place : ℕ) (t : Timer) (s : FacilityState) → reason ≡ Some r → after_restart found reason place t s ≡ s
+pub restart_idle : (found : Option Timer) (reason : Option Reason) (r : Reason) (place : ℕ) (t : Timer) (s : FacilityState)
+    → reason ≡ Some r → after_restart found reason place t s ≡ s
 restart_idle None reason r place t s h = refl
 restart_idle (Some old) (Some reason) r place t s h = refl
 restart_idle (Some old) None r place t s h = absurd (cc)
 
-restart_core : (p : Parts) (client number : ℕ) (handle : Handle) (interval action : ℕ) (old : Timer) (place : ℕ) → client < p.clients → (view_of p).waiting ≡ []
+restart_core : (p : Parts) (client number : ℕ) (handle : Handle) (interval action : ℕ) (old : Timer) (place : ℕ) → client < p.clients
+    → (view_of p).waiting ≡ []
     → named (view_of p).state client (Restart handle interval action) ≡ Some old → interval_refusal (view_of p).state interval ≡ None
     → let w : Wheels.WheelState = record p.wheel { pending = without_found (Some old) p.wheel.pending } in
-    view_of (with_used client number (record p { wheel = Wheels.after_start place (new_timer (view_of p).state client number interval action) w; next_serial = p.next_serial + 1 }))
+    view_of (with_used client number (record p {
+      wheel = Wheels.after_start place
+          (new_timer (view_of p).state client number interval action) w;
+      next_serial = p.next_serial + 1;
+    }))
     ≡ with_nothing_waiting (after_taken (view_of p).state client number (Restart handle interval action) place)
 restart_core p client number handle interval action old place l h f r =
     let s : FacilityState = (view_of p).state in
     let t : Timer = new_timer s client number interval action in
-    numbered_is (after_restart (Some old) None place t s) (take p.clients (slice_set p.numbers client (number + 1))) (slice_set (take p.clients p.numbers) client (number + 1)) (view_of p).waiting []
+    numbered_is (after_restart (Some old) None place t s) (take p.clients (slice_set p.numbers client (number + 1)))
+    (slice_set (take p.clients p.numbers) client (number + 1)) (view_of p).waiting []
     (take-set-lt p.clients p.numbers client (number + 1) l) h
     ∙ ap (λ o. with_nothing_waiting (with_number client number (after_restart o None place t s))) (sym f)
-    ∙ ap (λ v. with_nothing_waiting (with_number client number (after_restart (named s client (Restart handle interval action)) v place t s))) (sym r)
+    ∙ ap (λ v. with_nothing_waiting (with_number client number (after_restart
+    (named s client (Restart handle interval action)) v place t s))) (sym r)
 
 -- an accepted restart: what the wheel restarted, and under which number and serial
-pub record IsRenewed (p : Parts) (client number : ℕ) (handle : Handle) (interval action : ℕ) (now : ℕ) (old : Timer) (place : ℕ) (w' : Wheels.WheelState) : Type 0 where
+pub record IsRenewed (p : Parts) (client number : ℕ) (handle : Handle) (interval action : ℕ) (now : ℕ) (old : Timer) (place : ℕ)
+    (w' : Wheels.WheelState) : Type 0 where
   pub is_client : client < p.clients
   pub now_is : now ≡ p.wheel.now
   pub there : Wheels.timer_at handle p.wheel ≡ Some old
-  pub restarted : w' ≡ Wheels.after_start place (record { serial = p.next_serial; client = client; number = number; deadline = now + interval; action = action }) (Wheels.after_stop handle p.wheel)
+  pub restarted : w' ≡ Wheels.after_start place (record {
+    serial = p.next_serial;
+    client = client;
+    number = number;
+    deadline = now + interval;
+    action = action;
+  }) (Wheels.after_stop handle p.wheel)
 
-pub view-restart : {p : Parts} {v : FacilityView} → AreParts p → view_of p ≡ v → (client number : ℕ) (handle : Handle) (interval action now : ℕ) (old : Timer) (place : ℕ) (w' : Wheels.WheelState)
+pub view-restart : {p : Parts} {v : FacilityView} → AreParts p → view_of p ≡ v
+    → (client number : ℕ) (handle : Handle) (interval action now : ℕ) (old : Timer) (place : ℕ) (w' : Wheels.WheelState)
     → IsRenewed p client number handle interval action now old place w' → v.waiting ≡ []
     → named v.state client (Restart handle interval action) ≡ Some old → interval_refusal v.state interval ≡ None
-    → view_of (with_used client number (record p { wheel = w'; next_serial = p.next_serial + 1 })) ≡ with_nothing_waiting (after_taken v.state client number (Restart handle interval action) place)
+    → view_of (with_used client number (record p { wheel = w'; next_serial = p.next_serial + 1 }))
+    ≡ with_nothing_waiting (after_taken v.state client number (Restart handle interval action) place)
 view-restart {p} {v} a e client number handle interval action now old place w' i h f r =
-    let t : ℕ → Timer = λ m. record { serial = p.next_serial; client = client; number = number; deadline = m + interval; action = action } in
+    let t : ℕ → Timer = λ m. record { serial = p.next_serial; client = client; number = number; deadline = m + interval; action = action }
+    in
     let w : Wheels.WheelState = record p.wheel { pending = without_found (Some old) p.wheel.pending } in
     let x : w' ≡ Wheels.after_start place (t p.wheel.now) w =
     i.restarted ∙ ap (λ m. Wheels.after_start place (t m) (Wheels.after_stop handle p.wheel)) i.now_is
     ∙ ap (λ o. Wheels.after_start place (t p.wheel.now) (record p.wheel { pending = without_found o p.wheel.pending })) i.there in
     ap (λ u. view_of (with_used client number (record p { wheel = u; next_serial = p.next_serial + 1 }))) x
-    ∙ subst (λ (u : FacilityView). u.waiting ≡ [] → named u.state client (Restart handle interval action) ≡ Some old → interval_refusal u.state interval ≡ None
+    ∙ subst (λ (u : FacilityView). u.waiting ≡ [] → named u.state client (Restart handle interval action) ≡ Some old
+    → interval_refusal u.state interval ≡ None
     → view_of (with_used client number (record p { wheel = Wheels.after_start place (t p.wheel.now) w; next_serial = p.next_serial + 1 }))
     ≡ with_nothing_waiting (after_taken u.state client number (Restart handle interval action) place))
     e (restart_core p client number handle interval action old place i.is_client) h f r
@@ -715,7 +861,8 @@ same_serial x t h = let e : x.serial ≡ t.serial = ap (λ (o : Timer). o.serial
     the_timer x t h = cc
 
 -- a timer that was found is removed
-length-found : (test : Entry → Bool) (t : Timer) (es : List Entry) → first_timer test es ≡ Some t → length (without_found (Some t) es) + 1 ≤ length es
+length-found : (test : Entry → Bool) (t : Timer) (es : List Entry) → first_timer test es ≡ Some t
+    → length (without_found (Some t) es) + 1 ≤ length es
 length-found test t [] h = absurd (cc)
 length-found test t (e ∷ es) h = elim (either (test e)) [
   | inl k ↦ let f : Some e.timer ≡ Some t = rw k at h in
@@ -730,28 +877,41 @@ length-found test t (e ∷ es) h = elim (either (test e)) [
 ]
 
 -- a restart starts a timer of the client whose timer it stops: no client has more or fewer
-kept_after_restart : (p : Parts) (old : Timer) (place : ℕ) (t : Timer) → AreDistinct (timers_of p.wheel.pending) → Among old (timers_of p.wheel.pending) → old.client ≡ t.client → (client : ℕ)
-    → count_of client (kept (record p { wheel = Wheels.after_start place t (record p.wheel { pending = without_found (Some old) p.wheel.pending }) })) ≡ count_of client (kept p)
+kept_after_restart : (p : Parts) (old : Timer) (place : ℕ) (t : Timer) → AreDistinct (timers_of p.wheel.pending)
+    → Among old (timers_of p.wheel.pending) → old.client ≡ t.client → (client : ℕ)
+    → count_of client (kept (record p {
+      wheel = Wheels.after_start place t (record p.wheel {
+        pending =
+            without_found (Some old) p.wheel.pending;
+      });
+    })) ≡ count_of client (kept p)
 kept_after_restart p old place t d m o client =
     let w : Wheels.WheelState = record p.wheel { pending = without_found (Some old) p.wheel.pending } in
-    let less : count_of client (kept p) ≡ one_of client old + count_of client (kept (record p { wheel = w })) = kept_after_stop p old d m client in
-    let more : count_of client (kept (record p { wheel = Wheels.after_start place t w })) ≡ one_of client t + count_of client (kept (record p { wheel = w })) =
+    let less : count_of client (kept p) ≡ one_of client old + count_of client (kept (record p { wheel = w })) =
+    kept_after_stop p old d m client in
+    let more : count_of client (kept (record p { wheel = Wheels.after_start place t w }))
+    ≡ one_of client t + count_of client (kept (record p { wheel = w })) =
     kept_after_start (record p { wheel = w }) place t client in
     let same : one_of client old ≡ one_of client t = ap (λ k. if k == client then 1 else 0) o in
     omega arith
 
-pub parts-restart : {p : Parts} {v : FacilityView} → AreParts p → view_of p ≡ v → Wheels.IsWellFormed p.wheel → (client number : ℕ) (handle : Handle) (interval action now : ℕ) (old : Timer) (place : ℕ) (w' : Wheels.WheelState)
-    → IsRenewed p client number handle interval action now old place w' → named v.state client (Stop handle) ≡ Some old → p.next_serial ≤ LAST → AreParts (record p { wheel = w'; next_serial = p.next_serial + 1 })
+pub parts-restart : {p : Parts} {v : FacilityView} → AreParts p → view_of p ≡ v → Wheels.IsWellFormed p.wheel
+    → (client number : ℕ) (handle : Handle) (interval action now : ℕ) (old : Timer) (place : ℕ) (w' : Wheels.WheelState)
+    → IsRenewed p client number handle interval action now old place w' → named v.state client (Stop handle) ≡ Some old
+    → p.next_serial ≤ LAST → AreParts (record p { wheel = w'; next_serial = p.next_serial + 1 })
 parts-restart {p} {v} a e i client number handle interval action now old place w' r h unspent =
     let t : Timer = record { serial = p.next_serial; client = client; number = number; deadline = now + interval; action = action } in
     let left : List Entry = without_found (Some old) p.wheel.pending in
     let w : Wheels.WheelState = record p.wheel { pending = left } in
-    let x : w' ≡ Wheels.after_start place t w = r.restarted ∙ ap (λ o. Wheels.after_start place t (record p.wheel { pending = without_found o p.wheel.pending })) r.there in
-    let one : length (put (record { place = place; timer = t }) left) ≡ length left + 1 = length-put (record { place = place; timer = t }) left in
+    let x : w' ≡ Wheels.after_start place t w = r.restarted ∙ ap
+    (λ o. Wheels.after_start place t (record p.wheel { pending = without_found o p.wheel.pending })) r.there in
+    let one : length (put (record { place = place; timer = t }) left) ≡ length left + 1 =
+    length-put (record { place = place; timer = t }) left in
     let less : length left + 1 ≤ length p.wheel.pending = length-found (has_handle handle) old p.wheel.pending r.there in
     let few : length p.wheel.pending ≤ p.capacity = a.few_pending in
     let among : Among old (timers_of p.wheel.pending) = first_timer-among (has_handle handle) old p.wheel.pending r.there in
-    let owner : old.client ≡ client = of_client_is client (Wheels.timer_at handle p.wheel) old (ap (λ (u : FacilityView). named u.state client (Stop handle)) e ∙ h) in
+    let owner : old.client ≡ client = of_client_is client (Wheels.timer_at handle p.wheel) old
+    (ap (λ (u : FacilityView). named u.state client (Stop handle)) e ∙ h) in
     let here : AreParts (record p { wheel = Wheels.after_start place t w; next_serial = p.next_serial + 1 }) = record {
       all_numbers = a.all_numbers;
       few_clients = a.few_clients;
@@ -761,10 +921,12 @@ parts-restart {p} {v} a e i client number handle interval action now old place w
       serial_in_range = omega arith;
       numbers_in_range = a.numbers_in_range;
       handed_in_range = a.handed_in_range;
-      counted = counted-as a.counted (kept (record p { wheel = Wheels.after_start place t w })) (kept_after_restart p old place t i.distinct among owner);
+      counted = counted-as a.counted (kept (record p { wheel = Wheels.after_start place t w }))
+          (kept_after_restart p old place t i.distinct among owner);
     } in
     subst (λ (u : Wheels.WheelState). AreParts (record p { wheel = u; next_serial = p.next_serial + 1 })) (sym x) here
 
 -- the answer that an accepted restart gives
-pub answer_restarted : (h : Handle) (serial deadline told old : ℕ) → h.serial ≡ serial → told ≡ deadline → Restarted h told old ≡ Restarted (record { place = h.place; serial = serial }) deadline old
+pub answer_restarted : (h : Handle) (serial deadline told old : ℕ) → h.serial ≡ serial → told ≡ deadline
+    → Restarted h told old ≡ Restarted (record { place = h.place; serial = serial }) deadline old
 answer_restarted h serial deadline told old e f = rw (← e, f) refl

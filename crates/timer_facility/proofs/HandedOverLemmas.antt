@@ -42,17 +42,20 @@ length_put e (x ∷ xs) = elim (either (nat_lt e.timer.deadline x.timer.deadline
   | inr h ↦ rw h (let n = length_put e xs in omega arith)
 ]
 
-adds_start : (s : FacilityState) (o : Option Reason) (place client number : ℕ) (t : Timer) → t.client ≡ client → AddsAtMostOne client s (with_number client number (after_start o place t s))
+adds_start : (s : FacilityState) (o : Option Reason) (place client number : ℕ) (t : Timer) → t.client ≡ client
+    → AddsAtMostOne client s (with_number client number (after_start o place t s))
 adds_start s (Some reason) place client number t h = record { of_client = λ c. omega arith; all = omega arith }
 adds_start s None place client number t h = record {
   of_client = λ c.
-      let n : count_of c (timers_of (put (record { place = place; timer = t }) s.pending)) ≡ one_of c t + count_of c (timers_of s.pending) = count-put c (record { place = place; timer = t }) s.pending in
+      let n : count_of c (timers_of (put (record { place = place; timer = t }) s.pending)) ≡ one_of c t + count_of c (timers_of s.pending) =
+      count-put c (record { place = place; timer = t }) s.pending in
       let m : one_of c t ≡ (if client == c then 1 else 0) = ap (λ k. if k == c then 1 else 0) h in
       omega arith;
   all = let n = length_put (record { place = place; timer = t }) s.pending in omega arith;
 }
 
-adds_stop : (s : FacilityState) (found : Option Timer) (client number : ℕ) → AddsAtMostOne client s (with_number client number (after_stop found s))
+adds_stop : (s : FacilityState) (found : Option Timer) (client number : ℕ)
+    → AddsAtMostOne client s (with_number client number (after_stop found s))
 adds_stop s None client number = record { of_client = λ c. omega arith; all = omega arith }
 adds_stop s (Some t) client number = record {
   of_client = λ c. let n = filter_fewer c (λ e. not (has_serial t.serial e.timer)) s.pending in omega arith;
@@ -60,7 +63,8 @@ adds_stop s (Some t) client number = record {
 }
 
 -- at most one more than after the stop, after which there are no more than before
-adds_restart : (s : FacilityState) (found : Option Timer) (o : Option Reason) (place client number : ℕ) (t : Timer) → t.client ≡ client → AddsAtMostOne client s (with_number client number (after_restart found o place t s))
+adds_restart : (s : FacilityState) (found : Option Timer) (o : Option Reason) (place client number : ℕ) (t : Timer) → t.client ≡ client
+    → AddsAtMostOne client s (with_number client number (after_restart found o place t s))
 adds_restart s None o place client number t h = record { of_client = λ c. omega arith; all = omega arith }
 adds_restart s (Some old) (Some reason) place client number t h = record { of_client = λ c. omega arith; all = omega arith }
 adds_restart s (Some old) None place client number t h =
@@ -75,17 +79,22 @@ adds_restart s (Some old) None place client number t h =
           omega arith;
     }
 
-adds : (s : FacilityState) (client number : ℕ) (wanted : Wanted) (place : ℕ) (o : Option NotTaken) → AddsAtMostOne client s (step_of_request s client number wanted place o).state
+adds : (s : FacilityState) (client number : ℕ) (wanted : Wanted) (place : ℕ) (o : Option NotTaken)
+    → AddsAtMostOne client s (step_of_request s client number wanted place o).state
 adds s client number wanted place (Some reason) = record { of_client = λ c. omega arith; all = omega arith }
-adds s client number (Start interval action) place None = adds_start s (start_refusal s interval) place client number (new_timer s client number interval action) refl
+adds s client number (Start interval action) place None = adds_start s (start_refusal s interval) place client number
+    (new_timer s client number interval action) refl
 adds s client number (Stop handle) place None = adds_stop s (named s client (Stop handle)) client number
 adds s client number (StopSerial serial) place None = adds_stop s (named s client (StopSerial serial)) client number
 adds s client number (Restart handle interval action) place None =
-    adds_restart s (named s client (Restart handle interval action)) (interval_refusal s interval) place client number (new_timer s client number interval action) refl
+    adds_restart s (named s client (Restart handle interval action)) (interval_refusal s interval) place client number
+    (new_timer s client number interval action) refl
 adds s client number (RestartSerial serial interval action) place None =
-    adds_restart s (named s client (RestartSerial serial interval action)) (interval_refusal s interval) place client number (new_timer s client number interval action) refl
+    adds_restart s (named s client (RestartSerial serial interval action)) (interval_refusal s interval) place client number
+    (new_timer s client number interval action) refl
 
-pub adds_at_most_one : (s : FacilityState) (client number : ℕ) (wanted : Wanted) (place : ℕ) → AddsAtMostOne client s (step s (Asked client number wanted) place).state
+pub adds_at_most_one : (s : FacilityState) (client number : ℕ) (wanted : Wanted) (place : ℕ)
+    → AddsAtMostOne client s (step s (Asked client number wanted) place).state
 adds_at_most_one s client number wanted place = adds s client number wanted place (not_taken s client number)
 
 -- Ticks and closes.
@@ -94,7 +103,8 @@ unwrapped : (f : Timer → Notice) → ((t : Timer) → timer_handed (f t) ≡ t
 unwrapped f h [] = refl
 unwrapped f h (t ∷ ts) = ap (λ u. u ∷ map timer_handed (map f ts)) (h t) ∙ ap (λ us. t ∷ us) (unwrapped f h ts)
 
-handed_are : (f : Timer → Notice) → ((t : Timer) → timer_handed (f t) ≡ t) → (ts : List Timer) → map timer_handed (notices_in (map (λ t. Outs.Notice (f t)) ts)) ≡ ts
+handed_are : (f : Timer → Notice) → ((t : Timer) → timer_handed (f t) ≡ t) → (ts : List Timer)
+    → map timer_handed (notices_in (map (λ t. Outs.Notice (f t)) ts)) ≡ ts
 handed_are f h ts = ap (map timer_handed) (notices_in-map f ts) ∙ unwrapped f h ts
 
 length_tick : (tick : ℕ) (es : List Entry) → length (entries_left tick es) + length (filter (is_due_at tick) (timers_of es)) ≡ length es
@@ -111,7 +121,8 @@ hands_tick s None =
     let handed : timers_handed (step_of_tick s None) ≡ ts = handed_are (λ t. Expired t) (λ t. refl) ts in record {
       of_client = λ c.
           let a : count_of c (timers_handed (step_of_tick s None)) ≡ count_of c ts = ap (count_of c) handed in
-          let b : count_of c (timers_of (entries_due (s.now + 1) s.pending)) ≡ count_of c ts = ap (count_of c) (timers_of-filter (is_due_at (s.now + 1)) s.pending) in
+          let b : count_of c (timers_of (entries_due (s.now + 1) s.pending)) ≡ count_of c ts =
+          ap (count_of c) (timers_of-filter (is_due_at (s.now + 1)) s.pending) in
           let n = count-tick c (s.now + 1) s.pending in
           omega arith;
       all =

@@ -14,12 +14,14 @@ use Rattle.timer_facility.specs.State.{FacilityState}
 use Rattle.timer_facility.specs.Handles.{HandleList, place_at, AreSorted, is_pending, IsRecorded, AreRecorded, AreFew}
 use Rattle.timer_facility.proofs.HandlesLemmas.{both_true, is_equal}
 
-passes_too : (p : Handle → Bool) (x : Handle) (place serial : ℕ) → x.place ≡ place → x.serial ≡ serial → p (record { place = place; serial = serial }) ≡ true → p x ≡ true
+passes_too : (p : Handle → Bool) (x : Handle) (place serial : ℕ) → x.place ≡ place → x.serial ≡ serial
+    → p (record { place = place; serial = serial }) ≡ true → p x ≡ true
 passes_too p x place serial same_place same_serial pass =
     ap (λ m. p (record { place = m; serial = x.serial })) same_place ∙ ap (λ n. p (record { place = place; serial = n })) same_serial ∙ pass
 
 -- a place that is found is that of a handle in the list, so a filter that keeps the handle keeps it
-place_at-filter : (p : Handle → Bool) (hs : HandleList) (serial place : ℕ) → p (record { place = place; serial = serial }) ≡ true → place_at serial hs ≡ Some place → place_at serial (filter p hs) ≡ Some place
+place_at-filter : (p : Handle → Bool) (hs : HandleList) (serial place : ℕ) → p (record { place = place; serial = serial }) ≡ true
+    → place_at serial hs ≡ Some place → place_at serial (filter p hs) ≡ Some place
 place_at-filter p [] serial place pass e = absurd cc
 place_at-filter p (x ∷ xs) serial place pass e = elim (either (x.serial == serial)) [
   | inl k ↦
@@ -29,7 +31,8 @@ place_at-filter p (x ∷ xs) serial place pass e = elim (either (x.serial == ser
       let passes : p x ≡ true = passes_too p x place serial same_place same_serial pass in
       rw passes (rw k found)
   | inr k ↦
-      let later : place_at serial (filter p xs) ≡ Some place = place_at-filter p xs serial place pass (sym (ap (λ b. if b then Some x.place else place_at serial xs) k) ∙ e) in
+      let later : place_at serial (filter p xs) ≡ Some place = place_at-filter p xs serial place pass
+      (sym (ap (λ b. if b then Some x.place else place_at serial xs) k) ∙ e) in
       elim (either (p x)) [
         | inl good ↦ rw good (rw k later)
         | inr fails ↦ rw fails later
@@ -40,21 +43,26 @@ place_at-filter p (x ∷ xs) serial place pass e = elim (either (x.serial == ser
 finds : (e : Entry) → has_handle (record { place = e.place; serial = e.timer.serial }) e ≡ true
 finds e = both_true e.place e.place e.timer.serial e.timer.serial refl refl
 
-found_more : (h : Handle) (x : Entry) (xs : List Entry) → is_some (first_timer (has_handle h) xs) ≡ true → is_some (first_timer (has_handle h) (x ∷ xs)) ≡ true
+found_more : (h : Handle) (x : Entry) (xs : List Entry) → is_some (first_timer (has_handle h) xs) ≡ true
+    → is_some (first_timer (has_handle h) (x ∷ xs)) ≡ true
 found_more h x xs e = elim (either (has_handle h x)) [
   | inl k ↦ rw k refl
   | inr k ↦ rw k e
 ]
 
-all_found : (es : List Entry) → AllByRecursion (λ e. is_some (first_timer (has_handle (record { place = e.place; serial = e.timer.serial })) es) ≡ true) es
+all_found : (es : List Entry) → AllByRecursion (λ e. is_some (first_timer
+    (has_handle (record { place = e.place; serial = e.timer.serial })) es) ≡ true) es
 all_found [] = tt
 all_found (x ∷ xs) = (
   rw (finds x) refl,
-  All-weaken (λ e. is_some (first_timer (has_handle (record { place = e.place; serial = e.timer.serial })) xs) ≡ true) (λ e. is_some (first_timer (has_handle (record { place = e.place; serial = e.timer.serial })) (x ∷ xs)) ≡ true) xs
+  All-weaken (λ e. is_some (first_timer (has_handle (record { place = e.place; serial = e.timer.serial })) xs)
+      ≡ true) (λ e. is_some (first_timer (has_handle (record { place = e.place; serial = e.timer.serial })) (x ∷ xs)) ≡ true) xs
       (λ e h. found_more (record { place = e.place; serial = e.timer.serial }) x xs h) (all_found xs),
 )
 
-all_stay : (p : Handle → Bool) (handles : HandleList) (es : List Entry) → AllByRecursion (λ e. p (record { place = e.place; serial = e.timer.serial }) ≡ true) es → AllByRecursion (IsRecorded handles) es → AllByRecursion (IsRecorded (filter p handles)) es
+all_stay : (p : Handle → Bool) (handles : HandleList) (es : List Entry)
+    → AllByRecursion (λ e. p (record { place = e.place; serial = e.timer.serial }) ≡ true) es → AllByRecursion (IsRecorded handles) es
+    → AllByRecursion (IsRecorded (filter p handles)) es
 all_stay p handles [] a b = tt
 all_stay p handles (e ∷ es) a b = (place_at-filter p handles e.timer.serial e.place a.0 b.0, all_stay p handles es a.1 b.1)
 
@@ -96,7 +104,8 @@ distinct (x ∷ xs) a = (all_apart x.serial xs a.0, distinct xs a.1)
 serial_of_handle : (h : Handle) (e : Entry) → has_handle h e ≡ true → nat_eq h.serial e.timer.serial ≡ true
 serial_of_handle h e k = grind (arith, nat_tests)
 
-pending_some : (h : Handle) (es : List Entry) → is_some (first_timer (has_handle h) es) ≡ true → IsSome (lookup (nat_eq h.serial) (by_serial es))
+pending_some : (h : Handle) (es : List Entry) → is_some (first_timer (has_handle h) es) ≡ true
+    → IsSome (lookup (nat_eq h.serial) (by_serial es))
 pending_some h [] e = absurd cc
 pending_some h (x ∷ xs) e = elim (either (has_handle h x)) [
   | inl k ↦ rw (serial_of_handle h x k) refl
@@ -109,22 +118,28 @@ pending_some h (x ∷ xs) e = elim (either (has_handle h x)) [
 equal_serials : (q n : ℕ) → nat_eq q n ≡ true → q ≡ n
 equal_serials q n h = grind (arith, nat_tests)
 
-some_pending : (s : FacilityState) (hs : HandleList) (q : ℕ) → list_any (nat_eq q) (serials (filter (is_pending s) hs)) ≡ true → IsSome (lookup (nat_eq q) (by_serial s.pending))
+some_pending : (s : FacilityState) (hs : HandleList) (q : ℕ) → list_any (nat_eq q) (serials (filter (is_pending s) hs)) ≡ true
+    → IsSome (lookup (nat_eq q) (by_serial s.pending))
 some_pending s [] q e = absurd cc
 some_pending s (x ∷ xs) q e = elim (either (is_pending s x)) [
   | inl k ↦
-      let e' : (nat_eq q x.serial || list_any (nat_eq q) (serials (filter (is_pending s) xs))) ≡ true = sym (ap (λ b. list_any (nat_eq q) (serials (if b then x ∷ filter (is_pending s) xs else filter (is_pending s) xs))) k) ∙ e in
+      let e' : (nat_eq q x.serial || list_any (nat_eq q) (serials (filter (is_pending s) xs))) ≡ true =
+      sym (ap (λ b. list_any (nat_eq q) (serials (if b then x ∷ filter (is_pending s) xs else filter (is_pending s) xs))) k) ∙ e in
       elim (either (nat_eq q x.serial)) [
-        | inl m ↦ subst (λ n. IsSome (lookup (nat_eq n) (by_serial s.pending))) (sym (equal_serials q x.serial m)) (pending_some x s.pending k)
+        | inl m ↦ subst (λ n. IsSome (lookup (nat_eq n) (by_serial s.pending))) (sym (equal_serials q x.serial m))
+            (pending_some x s.pending k)
         | inr m ↦ some_pending s xs q (sym (ap (λ b. b || list_any (nat_eq q) (serials (filter (is_pending s) xs))) m) ∙ e')
       ]
-  | inr k ↦ some_pending s xs q (sym (ap (λ b. list_any (nat_eq q) (serials (if b then x ∷ filter (is_pending s) xs else filter (is_pending s) xs))) k) ∙ e)
+  | inr k ↦ some_pending s xs q (sym (ap (λ b. list_any (nat_eq q)
+      (serials (if b then x ∷ filter (is_pending s) xs else filter (is_pending s) xs))) k) ∙ e)
 ]
 
 length-swept : (handles : HandleList) (s : FacilityState) → AreSorted handles → length (filter (is_pending s) handles) ≤ length s.pending
 length-swept handles s a =
     let kept : HandleList = filter (is_pending s) handles in
-    let few : length (serials kept) ≤ length (by_serial s.pending) = length-le_from_keys nat_eq_equiv (serials kept) (by_serial s.pending) (distinct kept (AreSorted-filter (is_pending s) handles a)) (some_pending s handles) in
+    let few : length (serials kept) ≤ length (by_serial s.pending) =
+    length-le_from_keys nat_eq_equiv (serials kept) (by_serial s.pending) (distinct kept (AreSorted-filter (is_pending s) handles a))
+    (some_pending s handles) in
     let l : length (serials kept) ≡ length kept = length-map kept (λ h. h.serial) in
     let m : length (by_serial s.pending) ≡ length s.pending = length-map s.pending (λ e. (e.timer.serial, e.place)) in
     omega arith

@@ -27,7 +27,8 @@ in_mapped : (f : Timer → Notice) (t : Timer) (ts : List Timer) → IsIn t ts �
 in_mapped f t [] a = absurd a
 in_mapped f t (x ∷ ts) a = elim a [ inl h ↦ inl (ap f h) | inr h ↦ inr (in_mapped f t ts h) ]
 
-in_filter_step : (p : Timer → Bool) (t x : Timer) (xs : List Timer) → (IsIn t xs → IsIn t (filter p xs)) → (p x ≡ true) ⊎ (p x ≡ false) → p t ≡ true → (t ≡ x) ⊎ IsIn t xs → IsIn t (filter p (x ∷ xs))
+in_filter_step : (p : Timer → Bool) (t x : Timer) (xs : List Timer) → (IsIn t xs → IsIn t (filter p xs)) → (p x ≡ true) ⊎ (p x ≡ false)
+    → p t ≡ true → (t ≡ x) ⊎ IsIn t xs → IsIn t (filter p (x ∷ xs))
 in_filter_step p t x xs ih (inl k) h a = rw k (elim a [ inl e ↦ inl e | inr b ↦ inr (ih b) ])
 in_filter_step p t x xs ih (inr k) h a = rw k (elim a [ inl e ↦ let same : p t ≡ p x = ap p e in absurd (cc) | inr b ↦ ih b ])
 
@@ -35,7 +36,8 @@ in_filter : (p : Timer → Bool) (t : Timer) (xs : List Timer) → p t ≡ true 
 in_filter p t [] h a = absurd a
 in_filter p t (x ∷ xs) h a = in_filter_step p t x xs (in_filter p t xs h) (either (p x)) h a
 
-in_insert_step : (t x y : Timer) (ys : List Timer) → ((t ≡ x) ⊎ IsIn t ys → IsIn t (insert_timer x ys)) → (is_before x y ≡ true) ⊎ (is_before x y ≡ false) → (t ≡ x) ⊎ ((t ≡ y) ⊎ IsIn t ys) → IsIn t (insert_timer x (y ∷ ys))
+in_insert_step : (t x y : Timer) (ys : List Timer) → ((t ≡ x) ⊎ IsIn t ys → IsIn t (insert_timer x ys)) → (is_before x y ≡ true)
+    ⊎ (is_before x y ≡ false) → (t ≡ x) ⊎ ((t ≡ y) ⊎ IsIn t ys) → IsIn t (insert_timer x (y ∷ ys))
 in_insert_step t x y ys ih (inl k) a = rw k a
 in_insert_step t x y ys ih (inr k) a = rw k (elim a [
   | inl e ↦ inr (ih (inl e))
@@ -62,12 +64,14 @@ due_now tick t b h k = rw k (grind (arith, nat_tests))
 left_now : (tick : ℕ) (t : Timer) (b : Bool) → tick < t.deadline → b ≡ false → (nat_lt tick t.deadline && not b) ≡ true
 left_now tick t b h k = rw k (grind (arith, nat_tests))
 
-in_due : (s : FacilityState) (hs : List Happened) (tick : ℕ) (t : Timer) → IsIn t (started s hs) → is_among t.serial (stopped hs) ≡ false → t.deadline ≡ tick → IsIn t (due s hs tick)
+in_due : (s : FacilityState) (hs : List Happened) (tick : ℕ) (t : Timer) → IsIn t (started s hs) → is_among t.serial (stopped hs) ≡ false
+    → t.deadline ≡ tick → IsIn t (due s hs tick)
 in_due s hs tick t a u h =
     let test : Timer → Bool = λ x. x.deadline == tick && not (is_among x.serial (stopped hs)) in
     in_order_too t (filter test (started s hs)) (in_filter test t (started s hs) (due_now tick t (is_among t.serial (stopped hs)) h u) a)
 
-in_left_after : (s : FacilityState) (hs : List Happened) (tick : ℕ) (t : Timer) → IsIn t (started s hs) → is_among t.serial (stopped hs) ≡ false → tick < t.deadline → IsIn t (left_after s hs tick)
+in_left_after : (s : FacilityState) (hs : List Happened) (tick : ℕ) (t : Timer) → IsIn t (started s hs)
+    → is_among t.serial (stopped hs) ≡ false → tick < t.deadline → IsIn t (left_after s hs tick)
 in_left_after s hs tick t a u h =
     let test : Timer → Bool = λ x. nat_lt tick x.deadline && not (is_among x.serial (stopped hs)) in
     in_order_too t (filter test (started s hs)) (in_filter test t (started s hs) (left_now tick t (is_among t.serial (stopped hs)) h u) a)
@@ -78,17 +82,20 @@ at_or_before d now n h = elim (either (d == now + suc n)) [
   | inr k ↦ inr (grind (arith, nat_tests))
 ]
 
-owed_at_its_tick : (s : FacilityState) (hs : List Happened) (t : Timer) → IsIn t (started s hs) → is_among t.serial (stopped hs) ≡ false → s.now < t.deadline
+owed_at_its_tick : (s : FacilityState) (hs : List Happened) (t : Timer) → IsIn t (started s hs) → is_among t.serial (stopped hs) ≡ false
+    → s.now < t.deadline
     → (n : ℕ) → t.deadline ≤ s.now + n → IsIn (Expired t) (owed_by_ticks s hs n)
 owed_at_its_tick s hs t a u l zero h = absurd (omega arith)
 owed_at_its_tick s hs t a u l (suc n) h =
     let here : List Notice = map (λ x. Expired x) (due s hs (s.now + suc n)) in
     elim (at_or_before t.deadline s.now n h) [
-      | inl k ↦ in_right (Expired t) (owed_by_ticks s hs n) here (in_mapped (λ x. Expired x) t (due s hs (s.now + suc n)) (in_due s hs (s.now + suc n) t a u k))
+      | inl k ↦ in_right (Expired t) (owed_by_ticks s hs n) here
+          (in_mapped (λ x. Expired x) t (due s hs (s.now + suc n)) (in_due s hs (s.now + suc n) t a u k))
       | inr k ↦ in_left (Expired t) (owed_by_ticks s hs n) here (owed_at_its_tick s hs t a u l n k)
     ]
 
-owed_at_the_close : (s : FacilityState) (hs : List Happened) (t : Timer) (b : Bool) → IsIn t (started s hs) → is_among t.serial (stopped hs) ≡ false
+owed_at_the_close : (s : FacilityState) (hs : List Happened) (t : Timer) (b : Bool) → IsIn t (started s hs)
+    → is_among t.serial (stopped hs) ≡ false
     → s.now + accepted_ticks hs < t.deadline → b ≡ true → IsIn (Returned t) (owed_by_close s hs b)
 owed_at_the_close s hs t true a u l h =
     in_mapped (λ x. Returned x) t (left_after s hs (s.now + accepted_ticks hs)) (in_left_after s hs (s.now + accepted_ticks hs) t a u l)
@@ -103,7 +110,8 @@ handed-all s ps i =
     let close : List Notice = owed_by_close s hs (has_closed hs) in
     record {
       expired = λ t a u h. subst (λ ns. IsIn (Expired t) ns) (sym told)
-          (in_left (Expired t) ticks close (owed_at_its_tick s hs t a u (member (λ x. s.now < x.deadline) t (started s hs) (started-later s ps i) a) (accepted_ticks hs) h));
+          (in_left (Expired t) ticks close (owed_at_its_tick s hs t a u
+          (member (λ x. s.now < x.deadline) t (started s hs) (started-later s ps i) a) (accepted_ticks hs) h));
       returned = λ t a u h c. subst (λ ns. IsIn (Returned t) ns) (sym told)
           (in_right (Returned t) ticks close (owed_at_the_close s hs t (has_closed hs) a u h c));
     }
@@ -118,10 +126,12 @@ not_within : (now n : ℕ) (t : Timer) → now < t.deadline → not (is_due_with
 not_within now zero t h = grind (arith, nat_tests)
 not_within now (suc n) t h =
     let one : now + suc n ≡ suc (now + n) = omega arith in
-    subst (λ m. not (is_due_within now n t || (t.deadline == m)) ≡ nat_lt m t.deadline) (sym one) (not_within_step (is_due_within now n t) (now + n) t.deadline (not_within now n t h))
+    subst (λ m. not (is_due_within now n t || (t.deadline == m))
+    ≡ nat_lt m t.deadline) (sym one) (not_within_step (is_due_within now n t) (now + n) t.deadline (not_within now n t h))
 
 -- a close returns those of the started timers that no tick handed out
-pub left-others : (s : FacilityState) (ps : List Placed) → IsSound s → left_after s (history s ps) (s.now + accepted_ticks (history s ps)) ≡ others s (history s ps)
+pub left-others : (s : FacilityState) (ps : List Placed) → IsSound s
+    → left_after s (history s ps) (s.now + accepted_ticks (history s ps)) ≡ others s (history s ps)
 left-others s ps i =
     let hs : List Happened = history s ps in
     let later : Timer → Bool = λ t. nat_lt (s.now + accepted_ticks hs) t.deadline && not (is_among t.serial (stopped hs)) in

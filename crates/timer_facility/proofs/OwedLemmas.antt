@@ -27,59 +27,88 @@ use Rattle.timer_facility.proofs.OwedKeeps.{Keeps, not_closed, keeps-start, keep
 abbrev KeepsStep : FacilityState → Reading → List Notice → SingleEvent → Step → Type 0
 KeepsStep s r ns event st = Keeps s (read_more r (record { event = event; outs = st.outs })) (ns ++ notices_in st.outs) st.state
 
-keeps_read : (s : FacilityState) (r r' : Reading) (ns ns' : List Notice) (c : FacilityState) → r' ≡ r → ns' ≡ ns → Keeps s r ns c → Keeps s r' ns' c
+keeps_read : (s : FacilityState) (r r' : Reading) (ns ns' : List Notice) (c : FacilityState) → r' ≡ r → ns' ≡ ns → Keeps s r ns c
+    → Keeps s r' ns' c
 keeps_read s r r' ns ns' c e f k = rw (e, f) k
 
-read_none : (r : Reading) → let x : Reading = record { started = r.started ++ []; stopped = r.stopped ++ []; ticks = r.ticks + 0; is_closed = r.is_closed || false } in x ≡ r
-read_none r = reading_is (r.started ++ []) r.started (r.stopped ++ []) r.stopped (r.ticks + 0) r.ticks (r.is_closed || false) r.is_closed (append-nil r.started) (append-nil r.stopped) (omega arith) (or_false r.is_closed)
+read_none : (r : Reading) → let x : Reading = record {
+  started = r.started ++ [];
+  stopped = r.stopped ++ [];
+  ticks = r.ticks + 0;
+  is_closed = r.is_closed || false;
+} in x ≡ r
+read_none r = reading_is (r.started ++ []) r.started (r.stopped ++ []) r.stopped (r.ticks + 0) r.ticks (r.is_closed || false) r.is_closed
+    (append-nil r.started) (append-nil r.stopped) (omega arith) (or_false r.is_closed)
 
 later_start : (c : FacilityState) (interval : ℕ) → start_refusal c interval ≡ None → c.now < c.now + interval
 later_start c interval h =
     let p : 0 < interval = (startable c interval h).timely.positive in omega arith
 
-keeps_asked_start : (s : FacilityState) (r : Reading) (ns : List Notice) (c : FacilityState) (client number interval action place : ℕ) (v : Option Reason)
+keeps_asked_start : (s : FacilityState) (r : Reading) (ns : List Notice) (c : FacilityState) (client number interval action place : ℕ)
+    (v : Option Reason)
     → start_refusal c interval ≡ v → Keeps s r ns c → c.is_closed ≡ false
     → KeepsStep s r ns (Asked client number (Start interval action)) (record {
       outs = Outs.Answered client number (answer_to_start v place (new_timer c client number interval action)) ∷ [];
       state = with_number client number (after_start v place (new_timer c client number interval action) c);
     })
 keeps_asked_start s r ns c client number interval action place (Some reason) e k o =
-    keeps_read s r _ ns (ns ++ []) (with_number client number c) (read_none r) (append-nil ns) (keeps-same s r ns c (with_number client number c) k refl refl refl refl)
+    keeps_read s r _ ns (ns ++ []) (with_number client number c) (read_none r) (append-nil ns)
+    (keeps-same s r ns c (with_number client number c) k refl refl refl refl)
 keeps_asked_start s r ns c client number interval action place None e k o =
     let t : Timer = new_timer c client number interval action in
     let c' : FacilityState = with_number client number (after_start None place t c) in
     let r' : Reading = record r { started = r.started ++ t ∷ [] } in
     keeps_read s r' _ ns (ns ++ []) c'
-    (reading_is (r.started ++ t ∷ []) (r.started ++ t ∷ []) (r.stopped ++ []) r.stopped (r.ticks + 0) r.ticks (r.is_closed || false) r.is_closed refl (append-nil r.stopped) (omega arith) (or_false r.is_closed))
+    (reading_is (r.started ++ t ∷ []) (r.started ++ t ∷ []) (r.stopped ++ []) r.stopped (r.ticks + 0) r.ticks
+    (r.is_closed || false) r.is_closed refl (append-nil r.stopped) (omega arith) (or_false r.is_closed))
     (append-nil ns)
     (keeps-start s r ns c c' place t k (not_closed s r ns c k o) (later_start c interval e) refl refl refl refl)
 
-named_among : (c : FacilityState) (client : ℕ) (test : Entry → Bool) (t : Timer) → of_client client (first_timer test c.pending) ≡ Some t → Among t (timers_of c.pending)
+named_among : (c : FacilityState) (client : ℕ) (test : Entry → Bool) (t : Timer) → of_client client (first_timer test c.pending) ≡ Some t
+    → Among t (timers_of c.pending)
 named_among c client test t h = first_timer-among test t c.pending (of_client_some client (first_timer test c.pending) t h)
 
 keeps_asked_stop : (s : FacilityState) (r : Reading) (ns : List Notice) (c : FacilityState) (client number : ℕ) (v : Option Timer)
     → ((t : Timer) → v ≡ Some t → Among t (timers_of c.pending)) → Keeps s r ns c → c.is_closed ≡ false
-    → Keeps s (record { started = r.started ++ []; stopped = r.stopped ++ serials_told (Outs.Answered client number (answer_to_stop v) ∷ []); ticks = r.ticks + 0; is_closed = r.is_closed || false })
+    → Keeps s (record {
+      started = r.started ++ [];
+      stopped = r.stopped
+          ++ serials_told (Outs.Answered client number (answer_to_stop v) ∷ []);
+      ticks = r.ticks + 0;
+      is_closed = r.is_closed || false;
+    })
     (ns ++ []) (with_number client number (after_stop v c))
 keeps_asked_stop s r ns c client number None e k o =
-    keeps_read s r _ ns (ns ++ []) (with_number client number c) (read_none r) (append-nil ns) (keeps-same s r ns c (with_number client number c) k refl refl refl refl)
+    keeps_read s r _ ns (ns ++ []) (with_number client number c) (read_none r) (append-nil ns)
+    (keeps-same s r ns c (with_number client number c) k refl refl refl refl)
 keeps_asked_stop s r ns c client number (Some t) e k o =
     let c' : FacilityState = with_number client number (after_stop (Some t) c) in
     let r' : Reading = record r { stopped = r.stopped ++ t.serial ∷ [] } in
     keeps_read s r' _ ns (ns ++ []) c'
-    (reading_is (r.started ++ []) r.started (r.stopped ++ t.serial ∷ []) (r.stopped ++ t.serial ∷ []) (r.ticks + 0) r.ticks (r.is_closed || false) r.is_closed (append-nil r.started) refl (omega arith) (or_false r.is_closed))
+    (reading_is (r.started ++ []) r.started (r.stopped ++ t.serial ∷ []) (r.stopped ++ t.serial ∷ []) (r.ticks + 0) r.ticks
+    (r.is_closed || false) r.is_closed (append-nil r.started) refl (omega arith) (or_false r.is_closed))
     (append-nil ns)
     (keeps-stop s r ns c c' t k (not_closed s r ns c k o) (e t refl) refl refl refl)
 
-keeps_asked_restart : (s : FacilityState) (r : Reading) (ns : List Notice) (c : FacilityState) (client number interval action place : ℕ) (found : Option Timer) (v : Option Reason)
-    → ((t : Timer) → found ≡ Some t → Among t (timers_of c.pending)) → interval_refusal c interval ≡ v → Keeps s r ns c → c.is_closed ≡ false
-    → let outs : List Out = Outs.Answered client number (answer_to_restart found v place (new_timer c client number interval action)) ∷ [] in
-    Keeps s (record { started = r.started ++ timers_restarted client number action outs; stopped = r.stopped ++ serials_told outs; ticks = r.ticks + 0; is_closed = r.is_closed || false })
+keeps_asked_restart : (s : FacilityState) (r : Reading) (ns : List Notice) (c : FacilityState) (client number interval action place : ℕ)
+    (found : Option Timer) (v : Option Reason)
+    → ((t : Timer) → found ≡ Some t → Among t (timers_of c.pending)) → interval_refusal c interval ≡ v → Keeps s r ns c
+    → c.is_closed ≡ false
+    → let outs : List Out = Outs.Answered client number (answer_to_restart found v place (new_timer c client number interval action)) ∷ []
+    in
+    Keeps s (record {
+      started = r.started ++ timers_restarted client number action outs;
+      stopped = r.stopped ++ serials_told outs;
+      ticks = r.ticks + 0;
+      is_closed = r.is_closed || false;
+    })
     (ns ++ []) (with_number client number (after_restart found v place (new_timer c client number interval action) c))
 keeps_asked_restart s r ns c client number interval action place None v e i k o =
-    keeps_read s r _ ns (ns ++ []) (with_number client number c) (read_none r) (append-nil ns) (keeps-same s r ns c (with_number client number c) k refl refl refl refl)
+    keeps_read s r _ ns (ns ++ []) (with_number client number c) (read_none r) (append-nil ns)
+    (keeps-same s r ns c (with_number client number c) k refl refl refl refl)
 keeps_asked_restart s r ns c client number interval action place (Some old) (Some reason) e i k o =
-    keeps_read s r _ ns (ns ++ []) (with_number client number c) (read_none r) (append-nil ns) (keeps-same s r ns c (with_number client number c) k refl refl refl refl)
+    keeps_read s r _ ns (ns ++ []) (with_number client number c) (read_none r) (append-nil ns)
+    (keeps-same s r ns c (with_number client number c) k refl refl refl refl)
 keeps_asked_restart s r ns c client number interval action place (Some old) None e i k o =
     let t : Timer = new_timer c client number interval action in
     let between : FacilityState = after_stop (Some old) c in
@@ -90,24 +119,38 @@ keeps_asked_restart s r ns c client number interval action place (Some old) None
     let p : 0 < interval = (timely c interval i).positive in
     let later : c.now < c.now + interval = omega arith in
     keeps_read s r' _ ns (ns ++ []) c'
-    (reading_is (r.started ++ t ∷ []) (r.started ++ t ∷ []) (r.stopped ++ old.serial ∷ []) (r.stopped ++ old.serial ∷ []) (r.ticks + 0) r.ticks (r.is_closed || false) r.is_closed refl refl (omega arith) (or_false r.is_closed))
+    (reading_is (r.started ++ t ∷ []) (r.started ++ t ∷ []) (r.stopped ++ old.serial ∷ []) (r.stopped ++ old.serial ∷ [])
+    (r.ticks + 0) r.ticks (r.is_closed || false) r.is_closed refl refl (omega arith) (or_false r.is_closed))
     (append-nil ns)
     (keeps-start s stopped ns between c' place t without (not_closed s r ns c k o) later refl refl refl refl)
 
-keeps_asked : (s : FacilityState) (r : Reading) (ns : List Notice) (c : FacilityState) (client number : ℕ) (wanted : Wanted) (place : ℕ) (v : Option NotTaken)
-    → not_taken c client number ≡ v → Keeps s r ns c → KeepsStep s r ns (Asked client number wanted) (step_of_request c client number wanted place v)
-keeps_asked s r ns c client number (Start interval action) place (Some reason) e k = keeps_read s r _ ns (ns ++ []) c (read_none r) (append-nil ns) k
+keeps_asked : (s : FacilityState) (r : Reading) (ns : List Notice) (c : FacilityState) (client number : ℕ) (wanted : Wanted) (place : ℕ)
+    (v : Option NotTaken)
+    → not_taken c client number ≡ v → Keeps s r ns c → KeepsStep s r ns (Asked client number wanted)
+    (step_of_request c client number wanted place v)
+keeps_asked s r ns c client number (Start interval action) place (Some reason) e k =
+    keeps_read s r _ ns (ns ++ []) c (read_none r) (append-nil ns) k
 keeps_asked s r ns c client number (Stop handle) place (Some reason) e k = keeps_read s r _ ns (ns ++ []) c (read_none r) (append-nil ns) k
-keeps_asked s r ns c client number (StopSerial serial) place (Some reason) e k = keeps_read s r _ ns (ns ++ []) c (read_none r) (append-nil ns) k
-keeps_asked s r ns c client number (Restart handle interval action) place (Some reason) e k = keeps_read s r _ ns (ns ++ []) c (read_none r) (append-nil ns) k
-keeps_asked s r ns c client number (RestartSerial serial interval action) place (Some reason) e k = keeps_read s r _ ns (ns ++ []) c (read_none r) (append-nil ns) k
-keeps_asked s r ns c client number (Start interval action) place None e k = keeps_asked_start s r ns c client number interval action place (start_refusal c interval) refl k (open_when c client number e)
-keeps_asked s r ns c client number (Stop handle) place None e k = keeps_asked_stop s r ns c client number (named c client (Stop handle)) (named_among c client (has_handle handle)) k (open_when c client number e)
-keeps_asked s r ns c client number (StopSerial serial) place None e k = keeps_asked_stop s r ns c client number (named c client (StopSerial serial)) (named_among c client (λ e. has_serial serial e.timer)) k (open_when c client number e)
+keeps_asked s r ns c client number (StopSerial serial) place (Some reason) e k =
+    keeps_read s r _ ns (ns ++ []) c (read_none r) (append-nil ns) k
+keeps_asked s r ns c client number (Restart handle interval action) place (Some reason) e k =
+    keeps_read s r _ ns (ns ++ []) c (read_none r) (append-nil ns) k
+keeps_asked s r ns c client number (RestartSerial serial interval action) place (Some reason) e k =
+    keeps_read s r _ ns (ns ++ []) c (read_none r) (append-nil ns) k
+keeps_asked s r ns c client number (Start interval action) place None e k =
+    keeps_asked_start s r ns c client number interval action place (start_refusal c interval) refl k (open_when c client number e)
+keeps_asked s r ns c client number (Stop handle) place None e k =
+    keeps_asked_stop s r ns c client number (named c client (Stop handle)) (named_among c client (has_handle handle)) k
+    (open_when c client number e)
+keeps_asked s r ns c client number (StopSerial serial) place None e k =
+    keeps_asked_stop s r ns c client number (named c client (StopSerial serial)) (named_among c client (λ e. has_serial serial e.timer)) k
+    (open_when c client number e)
 keeps_asked s r ns c client number (Restart handle interval action) place None e k =
-    keeps_asked_restart s r ns c client number interval action place (named c client (Restart handle interval action)) (interval_refusal c interval) (named_among c client (has_handle handle)) refl k (open_when c client number e)
+    keeps_asked_restart s r ns c client number interval action place (named c client (Restart handle interval action))
+    (interval_refusal c interval) (named_among c client (has_handle handle)) refl k (open_when c client number e)
 keeps_asked s r ns c client number (RestartSerial serial interval action) place None e k =
-    keeps_asked_restart s r ns c client number interval action place (named c client (RestartSerial serial interval action)) (interval_refusal c interval) (named_among c client (λ e. has_serial serial e.timer)) refl k (open_when c client number e)
+    keeps_asked_restart s r ns c client number interval action place (named c client (RestartSerial serial interval action))
+    (interval_refusal c interval) (named_among c client (λ e. has_serial serial e.timer)) refl k (open_when c client number e)
 
 -- the outs of an accepted tick or close, read
 pub notices_in-map : (f : Timer → Notice) (ts : List Timer) → notices_in (map (λ t. Outs.Notice (f t)) ts) ≡ map f ts
@@ -130,7 +173,8 @@ or_true : (b : Bool) → (b || true) ≡ true
 or_true true = refl
 or_true false = refl
 
-keeps_ticked : (s : FacilityState) (r : Reading) (ns : List Notice) (c : FacilityState) (v : Option TickFault) → tick_refusal c ≡ v → Keeps s r ns c → KeepsStep s r ns Tick (step_of_tick c v)
+keeps_ticked : (s : FacilityState) (r : Reading) (ns : List Notice) (c : FacilityState) (v : Option TickFault) → tick_refusal c ≡ v
+    → Keeps s r ns c → KeepsStep s r ns Tick (step_of_tick c v)
 keeps_ticked s r ns c (Some fault) e k = keeps_read s r _ ns (ns ++ []) c (read_none r) (append-nil ns) k
 keeps_ticked s r ns c None e k =
     let ts : List Timer = filter (is_due_at (c.now + 1)) (timers_of c.pending) in
@@ -138,7 +182,8 @@ keeps_ticked s r ns c None e k =
     let c' : FacilityState = (step_of_tick c None).state in
     let r' : Reading = record r { ticks = r.ticks + 1 } in
     keeps_read s r' _ (ns ++ map (λ t. Expired t) ts) (ns ++ notices_in outs) c'
-    (reading_is (r.started ++ []) r.started (r.stopped ++ serials_told outs) r.stopped (r.ticks + (if any_out is_tick_refusal outs then 0 else 1)) (r.ticks + 1) (r.is_closed || any_out is_closing outs) r.is_closed
+    (reading_is (r.started ++ []) r.started (r.stopped ++ serials_told outs) r.stopped
+    (r.ticks + (if any_out is_tick_refusal outs then 0 else 1)) (r.ticks + 1) (r.is_closed || any_out is_closing outs) r.is_closed
     (append-nil r.started)
     (ap (λ xs. r.stopped ++ xs) (serials_told-map (λ t. Expired t) ts) ∙ append-nil r.stopped)
     (ap (λ b. r.ticks + (if b then 0 else 1)) (refusal-map (λ t. Expired t) ts))
@@ -146,7 +191,8 @@ keeps_ticked s r ns c None e k =
     (ap (λ xs. ns ++ xs) (notices_in-map (λ t. Expired t) ts))
     (keeps-tick s r ns c c' k (not_closed s r ns c k (open_at_tick c e)) refl refl refl)
 
-keeps_closed : (s : FacilityState) (r : Reading) (ns : List Notice) (c : FacilityState) (v : Bool) → c.is_closed ≡ v → Keeps s r ns c → KeepsStep s r ns Close (step_of_close c v)
+keeps_closed : (s : FacilityState) (r : Reading) (ns : List Notice) (c : FacilityState) (v : Bool) → c.is_closed ≡ v → Keeps s r ns c
+    → KeepsStep s r ns Close (step_of_close c v)
 keeps_closed s r ns c true e k = keeps_read s r _ ns (ns ++ []) c (read_none r) (append-nil ns) k
 keeps_closed s r ns c false e k =
     let ts : List Timer = timers_of c.pending in
@@ -162,23 +208,28 @@ keeps_closed s r ns c false e k =
     (ap (λ xs. ns ++ xs) (notices_in-map (λ t. Returned t) ts))
     (keeps-close s r ns c c' k (not_closed s r ns c k e) refl refl refl)
 
-keeps_step : (s : FacilityState) (r : Reading) (ns : List Notice) (c : FacilityState) (event : SingleEvent) (place : ℕ) → Keeps s r ns c → KeepsStep s r ns event (step c event place)
-keeps_step s r ns c (Asked client number wanted) place k = keeps_asked s r ns c client number wanted place (not_taken c client number) refl k
+keeps_step : (s : FacilityState) (r : Reading) (ns : List Notice) (c : FacilityState) (event : SingleEvent) (place : ℕ) → Keeps s r ns c
+    → KeepsStep s r ns event (step c event place)
+keeps_step s r ns c (Asked client number wanted) place k = keeps_asked s r ns c client number wanted place
+    (not_taken c client number) refl k
 keeps_step s r ns c Tick place k = keeps_ticked s r ns c (tick_refusal c) refl k
 keeps_step s r ns c Close place k = keeps_closed s r ns c c.is_closed refl k
 
 pub notices_in-append : (xs ys : List Out) → notices_in (xs ++ ys) ≡ notices_in xs ++ notices_in ys
 notices_in-append [] ys = refl
-notices_in-append (x ∷ xs) ys = ap (λ ns. notice_in x ++ ns) (notices_in-append xs ys) ∙ sym (append_assoc (notice_in x) (notices_in xs) (notices_in ys))
+notices_in-append (x ∷ xs) ys = ap (λ ns. notice_in x ++ ns) (notices_in-append xs ys)
+    ∙ sym (append_assoc (notice_in x) (notices_in xs) (notices_in ys))
 
 -- and so does a whole run
-keeps_run : (s : FacilityState) (r : Reading) (ns : List Notice) (c : FacilityState) (ps : List Placed) → Keeps s r ns c → Keeps s (read_on r (history c ps)) (ns ++ notices (history c ps)) (state_after c ps)
+keeps_run : (s : FacilityState) (r : Reading) (ns : List Notice) (c : FacilityState) (ps : List Placed) → Keeps s r ns c
+    → Keeps s (read_on r (history c ps)) (ns ++ notices (history c ps)) (state_after c ps)
 keeps_run s r ns c [] k = keeps_read s r r ns (ns ++ []) c refl (append-nil ns) k
 keeps_run s r ns c (p ∷ ps) k =
     let st : Step = step c p.event p.place in
     let rest : List Notice = notices (history st.state ps) in
     let r' : Reading = read_more r (record { event = p.event; outs = st.outs }) in
-    keeps_read s (read_on r' (history st.state ps)) (read_on r' (history st.state ps)) ((ns ++ notices_in st.outs) ++ rest) (ns ++ notices_in (st.outs ++ outs_of (history st.state ps))) (state_after st.state ps)
+    keeps_read s (read_on r' (history st.state ps)) (read_on r' (history st.state ps)) ((ns ++ notices_in st.outs) ++ rest) (ns
+    ++ notices_in (st.outs ++ outs_of (history st.state ps))) (state_after st.state ps)
     refl
     (ap (λ xs. ns ++ xs) (notices_in-append st.outs (outs_of (history st.state ps))) ∙ sym (append_assoc ns (notices_in st.outs) rest))
     (keeps_run s r' (ns ++ notices_in st.outs) st.state ps (keeps_step s r ns c p.event p.place k))
@@ -194,7 +245,9 @@ keeps_first s i =
       told = refl;
       shut = λ h. absurd (cc);
       left = λ _. sym (ap (λ xs. timers_in_order (filter (is_left_at nothing_read s.now) xs)) all
-          ∙ ap timers_in_order (filter_all (is_left_at nothing_read s.now) (timers_of s.pending) (All_timers-weaken (λ t. s.now < t.deadline) (λ t. is_left_at nothing_read s.now t ≡ true) (timers_of s.pending) (left_at_first s.now) i.later))
+          ∙ ap timers_in_order (filter_all (is_left_at nothing_read s.now) (timers_of s.pending)
+          (All_timers-weaken (λ t. s.now < t.deadline) (λ t. is_left_at nothing_read s.now t
+          ≡ true) (timers_of s.pending) (left_at_first s.now) i.later))
           ∙ timers_in_order-ordered (timers_of s.pending) i.ordered i.distinct);
       distinct = rw all i.distinct;
       below = rw all i.below;
@@ -218,7 +271,11 @@ started-later s ps i = rw (started_is s (history s ps)) (keeps_run s nothing_rea
 pub take-history : (k : ℕ) (s : FacilityState) (ps : List Placed) → take k (history s ps) ≡ history s (take k ps)
 take-history zero s ps = refl
 take-history (suc k) s [] = refl
-take-history (suc k) s (p ∷ ps) = ap (λ hs. record { event = p.event; outs = (step s p.event p.place).outs } ∷ hs) (take-history k (step s p.event p.place).state ps)
+take-history (suc k) s (p ∷ ps) = ap (λ hs. record {
+  event = p.event;
+  outs = (step s p.event p.place).outs;
+} ∷ hs) (take-history k (step s p.event p.place).state ps)
 
-pub notices-take : (s : FacilityState) (ps : List Placed) (k : ℕ) → IsSound s → notices (take k (history s ps)) ≡ owed s (take k (history s ps))
+pub notices-take : (s : FacilityState) (ps : List Placed) (k : ℕ) → IsSound s
+    → notices (take k (history s ps)) ≡ owed s (take k (history s ps))
 notices-take s ps k i = rw (take-history k s ps) (notices-history s (take k ps) i)

@@ -41,7 +41,8 @@ IsNotAmong-join : (k : ℕ) (xs ys : List Timer) → IsNotAmong k xs → IsNotAm
 IsNotAmong-join k [] ys n m = m
 IsNotAmong-join k (x ∷ xs) ys n m = (n.0, IsNotAmong-join k xs ys n.1 m)
 
-AreDistinct-join : (xs ys : List Timer) → AreDistinct xs → AreDistinct ys → AllByRecursion (λ x. IsNotAmong x.serial ys) xs → AreDistinct (xs ++ ys)
+AreDistinct-join : (xs ys : List Timer) → AreDistinct xs → AreDistinct ys → AllByRecursion (λ x. IsNotAmong x.serial ys) xs
+    → AreDistinct (xs ++ ys)
 AreDistinct-join [] ys d e a = e
 AreDistinct-join (x ∷ xs) ys d e a = (IsNotAmong-join x.serial xs ys d.0 a.0, AreDistinct-join xs ys d.1 e a.1)
 
@@ -87,14 +88,16 @@ lt_is : (a b : ℕ) → nat_lt a b ≡ true → a < b
 lt_is a b h = grind (arith, nat_tests)
 
 -- of two timers that were started, one with a later deadline has another serial
-other_serial : (all : List Timer) (tick : ℕ) (x y : Timer) → AreDistinct all → Among x all → Among y all → x.deadline ≤ tick → tick < y.deadline → y.serial ≢ x.serial
+other_serial : (all : List Timer) (tick : ℕ) (x y : Timer) → AreDistinct all → Among x all → Among y all → x.deadline ≤ tick
+    → tick < y.deadline → y.serial ≢ x.serial
 other_serial all tick x y d a b h k e =
     let only : AllByRecursion (IsOnly x) all = AreDistinct-only x all d a in
     let same : y ≡ x = at_one (IsOnly x) y all only b e in
     let deadline : y.deadline ≡ x.deadline = ap (λ (t : Timer). t.deadline) same in
     absurd (omega arith)
 
-not_later : (all : List Timer) (ks : List ℕ) (tick : ℕ) (x : Timer) (ys : List Timer) → AreDistinct all → Among x all → x.deadline ≤ tick → AllByRecursion (IsLater all ks tick) ys → IsNotAmong x.serial ys
+not_later : (all : List Timer) (ks : List ℕ) (tick : ℕ) (x : Timer) (ys : List Timer) → AreDistinct all → Among x all → x.deadline ≤ tick
+    → AllByRecursion (IsLater all ks tick) ys → IsNotAmong x.serial ys
 not_later all ks tick x [] d a h l = tt
 not_later all ks tick x (y ∷ ys) d a h l = (other_serial all tick x y d a l.0.among h l.0.later, not_later all ks tick x ys d a h l.1)
 
@@ -103,13 +106,16 @@ record IsUpTo (all : List Timer) (ks : List ℕ) (first tick : ℕ) (ts : List T
   distinct : AreDistinct ts
   each : AllByRecursion (IsBetween all ks first tick) ts
 
-joined : (all : List Timer) (ks : List ℕ) (first tick : ℕ) (ts ys : List Timer) → AreDistinct all → IsUpTo all ks first tick ts → AreDistinct ys → AllByRecursion (IsLater all ks tick) ys → AreDistinct (ts ++ ys)
+joined : (all : List Timer) (ks : List ℕ) (first tick : ℕ) (ts ys : List Timer) → AreDistinct all → IsUpTo all ks first tick ts
+    → AreDistinct ys → AllByRecursion (IsLater all ks tick) ys → AreDistinct (ts ++ ys)
 joined all ks first tick ts ys d u e l =
-    AreDistinct-join ts ys u.distinct e (All-weaken (IsBetween all ks first tick) (λ x. IsNotAmong x.serial ys) ts (λ x b. not_later all ks tick x ys d b.among b.up_to l) u.each)
+    AreDistinct-join ts ys u.distinct e (All-weaken (IsBetween all ks first tick) (λ x. IsNotAmong x.serial ys) ts
+    (λ x b. not_later all ks tick x ys d b.among b.up_to l) u.each)
 
 -- the members of what is due at a tick, and of what is left after it
 
-due-members : (s : FacilityState) (hs : List Happened) (tick : ℕ) → AllByRecursion (IsBetween (started s hs) (stopped hs) tick (tick + 1)) (due s hs (tick + 1))
+due-members : (s : FacilityState) (hs : List Happened) (tick : ℕ)
+    → AllByRecursion (IsBetween (started s hs) (stopped hs) tick (tick + 1)) (due s hs (tick + 1))
 due-members s hs tick =
     let all : List Timer = started s hs in
     let test : Timer → Bool = λ t. t.deadline == tick + 1 && not (is_among t.serial (stopped hs)) in
@@ -120,7 +126,8 @@ due-members s hs tick =
     record { among = a; later = omega arith; up_to = omega arith; unstopped = not_true (is_among t.serial (stopped hs)) parts.1 })
     (all_among all))
 
-left-members : (s : FacilityState) (hs : List Happened) (tick : ℕ) → AllByRecursion (IsLater (started s hs) (stopped hs) tick) (left_after s hs tick)
+left-members : (s : FacilityState) (hs : List Happened) (tick : ℕ)
+    → AllByRecursion (IsLater (started s hs) (stopped hs) tick) (left_after s hs tick)
 left-members s hs tick =
     let all : List Timer = started s hs in
     let test : Timer → Bool = λ t. nat_lt tick t.deadline && not (is_among t.serial (stopped hs)) in
@@ -151,7 +158,8 @@ handed-returned [] = refl
 handed-returned (t ∷ ts) = ap (λ xs. t ∷ xs) (handed-returned ts)
 
 -- what is owed by the first n ticks
-by_ticks : (s : FacilityState) (hs : List Happened) (n : ℕ) → AreDistinct (started s hs) → IsUpTo (started s hs) (stopped hs) s.now (s.now + n) (map timer_handed (owed_by_ticks s hs n))
+by_ticks : (s : FacilityState) (hs : List Happened) (n : ℕ) → AreDistinct (started s hs)
+    → IsUpTo (started s hs) (stopped hs) s.now (s.now + n) (map timer_handed (owed_by_ticks s hs n))
 by_ticks s hs zero d = record { distinct = tt; each = tt }
 by_ticks s hs (suc n) d =
     let all : List Timer = started s hs in
@@ -160,15 +168,27 @@ by_ticks s hs (suc n) d =
     let now : List Timer = due s hs (s.now + suc n) in
     let one_more : s.now + suc n ≡ s.now + n + 1 = omega arith in
     let u : IsUpTo all ks s.now (s.now + n) before = by_ticks s hs n d in
-    let members : AllByRecursion (IsBetween all ks (s.now + n) (s.now + n + 1)) now = subst (λ m. AllByRecursion (IsBetween all ks (s.now + n) (s.now + n + 1)) (due s hs m)) (sym one_more) (due-members s hs (s.now + n)) in
-    let later : AllByRecursion (IsLater all ks (s.now + n)) now = All-weaken (IsBetween all ks (s.now + n) (s.now + n + 1)) (IsLater all ks (s.now + n)) now (λ t b. record { among = b.among; later = b.later; unstopped = b.unstopped }) members in
+    let members : AllByRecursion (IsBetween all ks (s.now + n) (s.now + n + 1)) now =
+    subst (λ m. AllByRecursion (IsBetween all ks (s.now + n) (s.now + n + 1)) (due s hs m)) (sym one_more)
+    (due-members s hs (s.now + n)) in
+    let later : AllByRecursion (IsLater all ks (s.now + n)) now =
+    All-weaken (IsBetween all ks (s.now + n) (s.now + n + 1)) (IsLater all ks (s.now + n)) now (λ t b. record {
+      among = b.among;
+      later = b.later;
+      unstopped = b.unstopped;
+    }) members in
     let here : IsUpTo all ks s.now (s.now + suc n) (before ++ now) = record {
       distinct = joined all ks s.now (s.now + n) before now d u (due-distinct s hs (s.now + suc n) d) later;
       each = All-join (IsBetween all ks s.now (s.now + suc n)) before now
           (All-weaken (IsBetween all ks s.now (s.now + n)) (IsBetween all ks s.now (s.now + suc n)) before
           (λ t b. let x = b.up_to in record { among = b.among; later = b.later; up_to = omega arith; unstopped = b.unstopped }) u.each)
           (All-weaken (IsBetween all ks (s.now + n) (s.now + n + 1)) (IsBetween all ks s.now (s.now + suc n)) now
-          (λ t b. let x = b.up_to in let y = b.later in record { among = b.among; later = omega arith; up_to = omega arith; unstopped = b.unstopped }) members);
+          (λ t b. let x = b.up_to in let y = b.later in record {
+            among = b.among;
+            later = omega arith;
+            up_to = omega arith;
+            unstopped = b.unstopped;
+          }) members);
     } in
     subst (λ xs. IsUpTo all ks s.now (s.now + suc n) xs)
     (sym (map-append timer_handed (owed_by_ticks s hs n) (map (λ t. Expired t) now) ∙ ap (λ xs. before ++ xs) (handed-expired now))) here
@@ -178,13 +198,15 @@ record IsOnce (ks : List ℕ) (ts : List Timer) : Type 0 where
   unstopped : AllByRecursion (λ t. is_among t.serial ks ≡ false) ts
 
 -- and by a close
-by_close : (s : FacilityState) (hs : List Happened) (b : Bool) → AreDistinct (started s hs) → IsOnce (stopped hs) (map timer_handed (owed_by_ticks s hs (accepted_ticks hs) ++ owed_by_close s hs b))
+by_close : (s : FacilityState) (hs : List Happened) (b : Bool) → AreDistinct (started s hs)
+    → IsOnce (stopped hs) (map timer_handed (owed_by_ticks s hs (accepted_ticks hs) ++ owed_by_close s hs b))
 by_close s hs false d =
     let ticks : List Notice = owed_by_ticks s hs (accepted_ticks hs) in
     let u = by_ticks s hs (accepted_ticks hs) d in
     let here : IsOnce (stopped hs) (map timer_handed ticks) = record {
       once = u.distinct;
-      unstopped = All-weaken (IsBetween (started s hs) (stopped hs) s.now (s.now + accepted_ticks hs)) (λ t. is_among t.serial (stopped hs) ≡ false) (map timer_handed ticks) (λ t b. b.unstopped) u.each;
+      unstopped = All-weaken (IsBetween (started s hs) (stopped hs) s.now (s.now + accepted_ticks hs)) (λ t. is_among t.serial (stopped hs)
+          ≡ false) (map timer_handed ticks) (λ t b. b.unstopped) u.each;
     } in
     subst (λ ns. IsOnce (stopped hs) (map timer_handed ns)) (sym (append-nil ticks)) here
 by_close s hs true d =
@@ -202,12 +224,14 @@ by_close s hs true d =
           (All-weaken (IsBetween all ks s.now tick) (λ t. is_among t.serial ks ≡ false) before (λ t b. b.unstopped) u.each)
           (All-weaken (IsLater all ks tick) (λ t. is_among t.serial ks ≡ false) rest (λ t b. b.unstopped) members);
     } in
-    subst (λ xs. IsOnce ks xs) (sym (map-append timer_handed ticks (map (λ t. Returned t) rest) ∙ ap (λ xs. before ++ xs) (handed-returned rest))) here
+    subst (λ xs. IsOnce ks xs) (sym (map-append timer_handed ticks (map (λ t. Returned t) rest)
+    ∙ ap (λ xs. before ++ xs) (handed-returned rest))) here
 
 -- no timer of a run is handed out twice, and none that was stopped
 pub handed-once : (s : FacilityState) (ps : List Placed) → IsSound s → AreHandedOutOnce (history s ps)
 handed-once s ps i =
     let hs : List Happened = history s ps in
     let o : IsOnce (stopped hs) (map timer_handed (owed s hs)) = by_close s hs (has_closed hs) (started-distinct s ps i) in
-    let here : IsOnce (stopped hs) (handed_out hs) = subst (λ ns. IsOnce (stopped hs) (map timer_handed ns)) (sym (notices-history s ps i)) o in
+    let here : IsOnce (stopped hs) (handed_out hs) = subst (λ ns. IsOnce (stopped hs) (map timer_handed ns))
+    (sym (notices-history s ps i)) o in
     record { once = here.once; not_stopped = here.unstopped }

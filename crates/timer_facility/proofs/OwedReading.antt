@@ -81,10 +81,12 @@ joined r hs = record {
 }
 
 read_on-joined : (r : Reading) (hs : List Happened) → read_on r hs ≡ joined r hs
-read_on-joined r [] = reading_is r.started (r.started ++ []) r.stopped (r.stopped ++ []) r.ticks (r.ticks + 0) r.is_closed (r.is_closed || false)
+read_on-joined r [] = reading_is r.started (r.started ++ []) r.stopped (r.stopped ++ []) r.ticks (r.ticks + 0) r.is_closed
+    (r.is_closed || false)
     (sym (append-nil r.started)) (sym (append-nil r.stopped)) (omega arith) (sym (or_false r.is_closed))
 read_on-joined r (h ∷ hs) = read_on-joined (read_more r h) hs
-    ∙ reading_is ((r.started ++ started_by h.event h.outs) ++ accepted_starts hs) (r.started ++ (started_by h.event h.outs ++ accepted_starts hs))
+    ∙ reading_is ((r.started ++ started_by h.event h.outs) ++ accepted_starts hs) (r.started
+    ++ (started_by h.event h.outs ++ accepted_starts hs))
     ((r.stopped ++ serials_told h.outs) ++ stopped hs) (r.stopped ++ (serials_told h.outs ++ stopped hs))
     (r.ticks + ticks_by h.event h.outs + accepted_ticks hs) (r.ticks + (ticks_by h.event h.outs + accepted_ticks hs))
     ((r.is_closed || any_out is_closing h.outs) || has_closed hs) (r.is_closed || (any_out is_closing h.outs || has_closed hs))
@@ -97,7 +99,8 @@ whole hs = record { started = accepted_starts hs; stopped = stopped hs; ticks = 
 
 whole_is : (hs : List Happened) → whole hs ≡ reading hs
 whole_is hs =
-    reading_is (accepted_starts hs) (accepted_starts hs) (stopped hs) (stopped hs) (accepted_ticks hs) (0 + accepted_ticks hs) (has_closed hs) (has_closed hs) refl refl (omega arith) refl
+    reading_is (accepted_starts hs) (accepted_starts hs) (stopped hs) (stopped hs) (accepted_ticks hs) (0 + accepted_ticks hs)
+    (has_closed hs) (has_closed hs) refl refl (omega arith) refl
     ∙ sym (read_on-joined nothing_read hs)
 
 ticks_same : (s : FacilityState) (hs : List Happened) (n : ℕ) → owed_by_ticks s hs n ≡ owed_at_ticks s (whole hs) n

@@ -14,14 +14,17 @@ step-closing : (s : FacilityState) → s.is_closed ≡ false → step s Close 0 
 step-closing s h = ap (step_of_close s) h
 
 -- after an accepted close each timer that was pending waits
-pub length-closed : (s : FacilityState) (v : FacilityView) → v ≡ view_after (step s Close 0) → s.is_closed ≡ false → length v.waiting ≡ length s.pending
-length-closed s v e h = ap (λ (u : FacilityView). length u.waiting) (e ∙ ap view_after (step-closing s h)) ∙ length-notices (λ t. Returned t) (timers_of s.pending) ∙ length-map s.pending timer_of
+pub length-closed : (s : FacilityState) (v : FacilityView) → v ≡ view_after (step s Close 0) → s.is_closed ≡ false
+    → length v.waiting ≡ length s.pending
+length-closed s v e h = ap (λ (u : FacilityView). length u.waiting) (e ∙ ap view_after (step-closing s h))
+    ∙ length-notices (λ t. Returned t) (timers_of s.pending) ∙ length-map s.pending timer_of
 
 -- its outs are its own, and then their notices
 pub outs-closed : (s : FacilityState) (v : FacilityView) → v ≡ view_after (step s Close 0) → s.is_closed ≡ false
     → Outs.Closed (length s.pending) ∷ map (λ notice. Outs.Notice notice) v.waiting ≡ (step s Close 0).outs
 outs-closed s v e h =
-    ap (λ (u : FacilityView). Outs.Closed (length s.pending) ∷ map (λ notice. Outs.Notice notice) u.waiting) (e ∙ ap view_after (step-closing s h))
+    ap (λ (u : FacilityView). Outs.Closed (length s.pending) ∷ map (λ notice. Outs.Notice notice) u.waiting) (e
+    ∙ ap view_after (step-closing s h))
     ∙ ap (λ outs. Outs.Closed (length s.pending) ∷ outs) (outs-notices (λ t. Returned t) (timers_of s.pending))
     ∙ ap (λ (st : Step). st.outs) (sym (step-closing s h))
 

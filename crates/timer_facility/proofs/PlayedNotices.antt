@@ -7,7 +7,8 @@ use Rattle.timer_facility.specs.declared.event.Out.TheVariants as Outs
 use Rattle.timer_facility.specs.Run.{notices_in}
 
 -- outs that are all notices are the outs of their notices
-pub outs-notices : (f : Timer → Notice) (ts : List Timer) → map (λ notice. Outs.Notice notice) (notices_in (map (λ t. Outs.Notice (f t)) ts)) ≡ map (λ t. Outs.Notice (f t)) ts
+pub outs-notices : (f : Timer → Notice) (ts : List Timer) → map (λ notice. Outs.Notice notice)
+    (notices_in (map (λ t. Outs.Notice (f t)) ts)) ≡ map (λ t. Outs.Notice (f t)) ts
 outs-notices f [] = refl
 outs-notices f (t ∷ ts) = ap (λ outs. Outs.Notice (f t) ∷ outs) (outs-notices f ts)
 

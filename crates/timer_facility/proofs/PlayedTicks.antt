@@ -34,7 +34,8 @@ pub record IsTicking (s : FacilityState) : Type 0 where
   pub is_open : s.is_closed ≡ false
   pub before_last : (s.now == s.last) ≡ false
 
-ticking_of : (closed at_end : Bool) → (if closed then Some TickFaults.Closed else if at_end then Some TickFaults.ClockEnd else None) ≡ None → (closed ≡ false) × (at_end ≡ false)
+ticking_of : (closed at_end : Bool) → (if closed then Some TickFaults.Closed else if at_end then Some TickFaults.ClockEnd else None) ≡ None
+    → (closed ≡ false) × (at_end ≡ false)
 ticking_of true b h = absurd (cc)
 ticking_of false true h = absurd (cc)
 ticking_of false false h = (refl, refl)
@@ -44,7 +45,8 @@ unfolding tick_refusal
 IsTicking-accepted s h = let t = ticking_of s.is_closed (s.now == s.last) h in record { is_open = t.0; before_last = t.1 }
 
 left_refused : (now last : ℕ) (closed : Bool) (fault : TickFault) → now ≤ last
-    → (if closed then Some TickFaults.Closed else if now == last then Some TickFaults.ClockEnd else None) ≡ Some fault → (if closed then 0 else last - now) ≡ 0
+    → (if closed then Some TickFaults.Closed else if now == last then Some TickFaults.ClockEnd else None) ≡ Some fault
+    → (if closed then 0 else last - now) ≡ 0
 left_refused now last true fault i h = refl
 left_refused now last false fault i h = elim (either (now == last)) [
   | inl k ↦ grind (arith, nat_tests)
@@ -63,33 +65,40 @@ ticks_left-open : (s : FacilityState) → s.is_closed ≡ false → ticks_left s
 ticks_left-open s h = rw h refl
 
 -- an accepted tick leaves one fewer
-pub ticks_left-accepted : (s : FacilityState) → s.now ≤ s.last → tick_refusal s ≡ None → (ticks_left s ≡ 1 + ticks_left (after_tick s)) × (s.now + 1 ≤ s.last)
+pub ticks_left-accepted : (s : FacilityState) → s.now ≤ s.last → tick_refusal s ≡ None
+    → (ticks_left s ≡ 1 + ticks_left (after_tick s)) × (s.now + 1 ≤ s.last)
 ticks_left-accepted s i h =
     let t : IsTicking s = IsTicking-accepted s h in
     let l = left_less s.now s.last i t.before_last in
     (ticks_left-open s t.is_open ∙ l.0 ∙ ap (λ n. 1 + n) (sym (ticks_left-open (after_tick s) t.is_open)), l.1)
 
 -- one more tick at the end
-pub state_after-ticks : (n : ℕ) (s : FacilityState) → state_after s (replicate (suc n) a_tick) ≡ (step (state_after s (replicate n a_tick)) Tick 0).state
+pub state_after-ticks : (n : ℕ) (s : FacilityState) → state_after s (replicate (suc n) a_tick)
+    ≡ (step (state_after s (replicate n a_tick)) Tick 0).state
 state_after-ticks zero s = refl
 state_after-ticks (suc n) s = state_after-ticks n (step s Tick 0).state
 
-pub outs_of-ticks : (n : ℕ) (s : FacilityState) → outs_of (history s (replicate (suc n) a_tick)) ≡ outs_of (history s (replicate n a_tick)) ++ (step (state_after s (replicate n a_tick)) Tick 0).outs
+pub outs_of-ticks : (n : ℕ) (s : FacilityState) → outs_of (history s (replicate (suc n) a_tick))
+    ≡ outs_of (history s (replicate n a_tick)) ++ (step (state_after s (replicate n a_tick)) Tick 0).outs
 outs_of-ticks zero s = append-nil (step s Tick 0).outs
 outs_of-ticks (suc n) s =
     ap (λ outs. (step s Tick 0).outs ++ outs) (outs_of-ticks n (step s Tick 0).state)
-    ∙ sym (append_assoc (step s Tick 0).outs (outs_of (history (step s Tick 0).state (replicate n a_tick))) (step (state_after (step s Tick 0).state (replicate n a_tick)) Tick 0).outs)
+    ∙ sym (append_assoc (step s Tick 0).outs (outs_of (history (step s Tick 0).state (replicate n a_tick)))
+    (step (state_after (step s Tick 0).state (replicate n a_tick)) Tick 0).outs)
 
 pub HasTicked-none : (s : FacilityState) (before : List Out) → s.now ≤ s.last → HasTicked s 0 before before s
 HasTicked-none s before i = record { state = refl; added = sym (append-nil before); left = omega arith; in_range = i }
 
 -- the state and the outs after one more
-ticked_state : (s : FacilityState) (n : ℕ) (before outs : List Out) (after after' : FacilityState) → HasTicked s n before outs after → after' ≡ (step after Tick 0).state
+ticked_state : (s : FacilityState) (n : ℕ) (before outs : List Out) (after after' : FacilityState) → HasTicked s n before outs after
+    → after' ≡ (step after Tick 0).state
     → after' ≡ state_after s (replicate (n + 1) a_tick)
 ticked_state s n before outs after after' h e =
-    e ∙ ap (λ c. (step c Tick 0).state) h.state ∙ sym (state_after-ticks n s) ∙ ap (λ m. state_after s (replicate m a_tick)) (sym (add-one n))
+    e ∙ ap (λ c. (step c Tick 0).state) h.state ∙ sym (state_after-ticks n s)
+    ∙ ap (λ m. state_after s (replicate m a_tick)) (sym (add-one n))
 
-ticked_outs : (s : FacilityState) (n : ℕ) (before outs outs' : List Out) (after : FacilityState) → HasTicked s n before outs after → outs' ≡ outs ++ (step after Tick 0).outs
+ticked_outs : (s : FacilityState) (n : ℕ) (before outs outs' : List Out) (after : FacilityState) → HasTicked s n before outs after
+    → outs' ≡ outs ++ (step after Tick 0).outs
     → outs' ≡ before ++ outs_of (history s (replicate (n + 1) a_tick))
 ticked_outs s n before outs outs' after h e =
     e ∙ ap (λ c. outs ++ (step c Tick 0).outs) h.state
@@ -101,7 +110,8 @@ ticked_outs s n before outs outs' after h e =
 step-accepted : (s : FacilityState) → tick_refusal s ≡ None → step s Tick 0 ≡ step_of_tick s None
 step-accepted s h = ap (step_of_tick s) h
 
-pub HasTicked-more : (s : FacilityState) (n : ℕ) (before outs outs' : List Out) (after after' : FacilityState) → HasTicked s n before outs after → tick_refusal after ≡ None
+pub HasTicked-more : (s : FacilityState) (n : ℕ) (before outs outs' : List Out) (after after' : FacilityState)
+    → HasTicked s n before outs after → tick_refusal after ≡ None
     → after' ≡ (step after Tick 0).state → outs' ≡ outs ++ (step after Tick 0).outs → HasTicked s (n + 1) before outs' after'
 HasTicked-more s n before outs outs' after after' h a e o =
     let there : after' ≡ after_tick after = e ∙ ap (λ (st : Step). st.state) (step-accepted after a) in
@@ -120,7 +130,8 @@ map-ticks zero = refl
 map-ticks (suc n) = ap (λ es. Tick ∷ es) (map-ticks n)
 
 AddsRun-ticks : (s : FacilityState) (count n : ℕ) (before outs : List Out) (after : FacilityState) → min count (ticks_left s + 1) ≡ n
-    → after ≡ state_after s (replicate n a_tick) → outs ≡ before ++ outs_of (history s (replicate n a_tick)) → AddsRun s (Events.Ticks count) before outs after
+    → after ≡ state_after s (replicate n a_tick) → outs ≡ before ++ outs_of (history s (replicate n a_tick))
+    → AddsRun s (Events.Ticks count) before outs after
 AddsRun-ticks s count n before outs after h e o = record {
   more = outs_of (history s (replicate n a_tick));
   appended = o;
@@ -133,38 +144,49 @@ AddsRun-ticks s count n before outs after h e o = record {
 }
 
 -- all ticks were accepted
-pub AddsRun-all : (s : FacilityState) (count : ℕ) (before outs : List Out) (after : FacilityState) → HasTicked s count before outs after → AddsRun s (Events.Ticks count) before outs after
+pub AddsRun-all : (s : FacilityState) (count : ℕ) (before outs : List Out) (after : FacilityState) → HasTicked s count before outs after
+    → AddsRun s (Events.Ticks count) before outs after
 AddsRun-all s count before outs after h =
     let all : count + ticks_left after ≡ ticks_left s = h.left in
     AddsRun-ticks s count count before outs after (omega arith) h.state h.added
 
 -- the tick after n accepted ones was refused
-pub AddsRun-cut : (s : FacilityState) (count n : ℕ) (before outs outs' : List Out) (after after' : FacilityState) (fault : TickFault) → HasTicked s n before outs after → n < count
-    → tick_refusal after ≡ Some fault → after' ≡ (step after Tick 0).state → outs' ≡ outs ++ (step after Tick 0).outs → AddsRun s (Events.Ticks count) before outs' after'
+pub AddsRun-cut : (s : FacilityState) (count n : ℕ) (before outs outs' : List Out) (after after' : FacilityState) (fault : TickFault)
+    → HasTicked s n before outs after → n < count
+    → tick_refusal after ≡ Some fault → after' ≡ (step after Tick 0).state → outs' ≡ outs ++ (step after Tick 0).outs
+    → AddsRun s (Events.Ticks count) before outs' after'
 AddsRun-cut s count n before outs outs' after after' fault h lt r e o =
     let all : n + ticks_left after ≡ ticks_left s = h.left in
     let none : ticks_left after ≡ 0 = ticks_left-refused after fault h.in_range r in
-    AddsRun-ticks s count (n + 1) before outs' after' (omega arith) (ticked_state s n before outs after after' h e) (ticked_outs s n before outs outs' after h o)
+    AddsRun-ticks s count (n + 1) before outs' after' (omega arith) (ticked_state s n before outs after after' h e)
+    (ticked_outs s n before outs outs' after h o)
 
 -- the outs of an accepted tick are its notices
-pub outs-accepted : (s : FacilityState) → tick_refusal s ≡ None → map (λ notice. Outs.Notice notice) (notices_in (step s Tick 0).outs) ≡ (step s Tick 0).outs
-outs-accepted s h = subst (λ (st : Step). map (λ notice. Outs.Notice notice) (notices_in st.outs) ≡ st.outs) (sym (step-accepted s h)) (outs-notices (λ t. Expired t) (expired_next s))
+pub outs-accepted : (s : FacilityState) → tick_refusal s ≡ None
+    → map (λ notice. Outs.Notice notice) (notices_in (step s Tick 0).outs) ≡ (step s Tick 0).outs
+outs-accepted s h = subst (λ (st : Step). map (λ notice. Outs.Notice notice) (notices_in st.outs)
+    ≡ st.outs) (sym (step-accepted s h)) (outs-notices (λ t. Expired t) (expired_next s))
 
-count_step : (p : Timer → Bool) (e : Entry) (es : List Entry) → length (filter p (timers_of es)) + length (filter (λ e. not (p e.timer)) es) ≡ length es
-    → (p e.timer ≡ true) ⊎ (p e.timer ≡ false) → length (filter p (timers_of (e ∷ es))) + length (filter (λ e. not (p e.timer)) (e ∷ es)) ≡ length (e ∷ es)
+count_step : (p : Timer → Bool) (e : Entry) (es : List Entry) → length (filter p (timers_of es)) + length (filter (λ e. not (p e.timer)) es)
+    ≡ length es
+    → (p e.timer ≡ true) ⊎ (p e.timer ≡ false) → length (filter p (timers_of (e ∷ es))) + length (filter (λ e. not (p e.timer)) (e ∷ es))
+    ≡ length (e ∷ es)
 count_step p e es h (inl k) = rw k (omega (arith, h))
 count_step p e es h (inr k) = rw k (omega (arith, h))
 
 -- each entry is in one of the two lists
-length-parts : (p : Timer → Bool) (es : List Entry) → length (filter p (timers_of es)) + length (filter (λ e. not (p e.timer)) es) ≡ length es
+length-parts : (p : Timer → Bool) (es : List Entry) → length (filter p (timers_of es)) + length (filter (λ e. not (p e.timer)) es)
+    ≡ length es
 length-parts p [] = omega arith
 length-parts p (e ∷ es) = count_step p e es (length-parts p es) (either (p e.timer))
 
 -- what an accepted tick hands out is no longer pending
-pub length-accepted : (s : FacilityState) → tick_refusal s ≡ None → length (notices_in (step s Tick 0).outs) + length (step s Tick 0).state.pending ≡ length s.pending
+pub length-accepted : (s : FacilityState) → tick_refusal s ≡ None
+    → length (notices_in (step s Tick 0).outs) + length (step s Tick 0).state.pending ≡ length s.pending
 length-accepted s h =
     subst (λ (st : Step). length (notices_in st.outs) + length st.state.pending ≡ length s.pending) (sym (step-accepted s h))
-    (ap (λ n. n + length (entries_left (s.now + 1) s.pending)) (length-notices (λ t. Expired t) (expired_next s)) ∙ length-parts (is_due_at (s.now + 1)) s.pending)
+    (ap (λ n. n + length (entries_left (s.now + 1) s.pending)) (length-notices (λ t. Expired t) (expired_next s))
+    ∙ length-parts (is_due_at (s.now + 1)) s.pending)
 
 -- Accepted ticks together: their outs are all notices, and what they hand out is no longer pending.
 pub record AreAccepted (s : FacilityState) (n : ℕ) : Type 0 where
@@ -179,12 +201,14 @@ are_accepted s (suc n) a =
     let c : FacilityState = state_after s (ticks n) in
     let last : Step = step c Tick 0 in
     let accepted : tick_refusal c ≡ None = a n (omega arith) in
-    let parts : notices (history s (ticks (suc n))) ≡ notices_in before ++ notices_in last.outs = ap notices_in (outs_of-ticks n s) ∙ notices_in-append before last.outs in
+    let parts : notices (history s (ticks (suc n))) ≡ notices_in before ++ notices_in last.outs =
+    ap notices_in (outs_of-ticks n s) ∙ notices_in-append before last.outs in
     let here : length (notices_in before) + length c.pending ≡ length s.pending = i.counted in
     let one : length (notices_in last.outs) + length last.state.pending ≡ length c.pending = length-accepted c accepted in
     let all : length (notices (history s (ticks (suc n)))) ≡ length (notices_in before) + length (notices_in last.outs) =
     ap length parts ∙ length-append (notices_in before) (notices_in last.outs) in
-    let left : length (state_after s (ticks (suc n))).pending ≡ length last.state.pending = ap (λ (d : FacilityState). length d.pending) (state_after-ticks n s) in
+    let left : length (state_after s (ticks (suc n))).pending ≡ length last.state.pending =
+    ap (λ (d : FacilityState). length d.pending) (state_after-ticks n s) in
     record {
       outs = ap (map (λ notice. Outs.Notice notice)) parts
           ∙ map-append (λ notice. Outs.Notice notice) (notices_in before) (notices_in last.outs)
@@ -195,7 +219,8 @@ are_accepted s (suc n) a =
     }
 
 -- `k` more ticks, one by one
-HasTicked-on : (s : FacilityState) (n k : ℕ) (before outs : List Out) (c : FacilityState) → HasTicked s n before outs c → ((j : ℕ) → j < k → tick_refusal (state_after c (ticks j)) ≡ None)
+HasTicked-on : (s : FacilityState) (n k : ℕ) (before outs : List Out) (c : FacilityState) → HasTicked s n before outs c
+    → ((j : ℕ) → j < k → tick_refusal (state_after c (ticks j)) ≡ None)
     → HasTicked s (n + k) before (outs ++ outs_of (history c (ticks k))) (state_after c (ticks k))
 HasTicked-on s n zero before outs c h a =
     let none : n + zero ≡ n = omega arith in
@@ -210,22 +235,29 @@ HasTicked-on s n (suc k) before outs c h a =
     (ap (λ os. outs ++ os) (outs_of-ticks k c) ∙ sym (append_assoc outs so_far (step here Tick 0).outs)))
 
 -- `passed` more ticks, at once
-pub HasTicked-many : (s : FacilityState) (n limit passed : ℕ) (before outs outs' : List Out) (c c' : FacilityState) (v : FacilityView) → HasTicked s n before outs c → AreTicked limit passed c v
+pub HasTicked-many : (s : FacilityState) (n limit passed : ℕ) (before outs outs' : List Out) (c c' : FacilityState) (v : FacilityView)
+    → HasTicked s n before outs c → AreTicked limit passed c v
     → outs' ≡ outs ++ map (λ notice. Outs.Notice notice) v.waiting → c' ≡ v.state → HasTicked s (n + passed) before outs' c'
 HasTicked-many s n limit passed before outs outs' c c' v h t o e =
     let told : outs' ≡ outs ++ outs_of (history c (ticks passed)) =
-    o ∙ ap (λ (u : FacilityView). outs ++ map (λ notice. Outs.Notice notice) u.waiting) t.ticked ∙ ap (λ os. outs ++ os) (are_accepted c passed t.accepted).outs in
+    o ∙ ap (λ (u : FacilityView). outs ++ map (λ notice. Outs.Notice notice) u.waiting) t.ticked
+    ∙ ap (λ os. outs ++ os) (are_accepted c passed t.accepted).outs in
     let state : c' ≡ state_after c (ticks passed) = e ∙ ap (λ (u : FacilityView). u.state) t.ticked in
     subst (λ d. HasTicked s (n + passed) before outs' d) (sym state)
-    (subst (λ os. HasTicked s (n + passed) before os (state_after c (ticks passed))) (sym told) (HasTicked-on s n passed before outs c h t.accepted))
+    (subst (λ os. HasTicked s (n + passed) before os (state_after c (ticks passed))) (sym told)
+    (HasTicked-on s n passed before outs c h t.accepted))
 
 -- what they hand out is no longer pending
-pub length-many : (limit passed : ℕ) (c : FacilityState) (v : FacilityView) → AreTicked limit passed c v → length v.waiting + length v.state.pending ≡ length c.pending
-length-many limit passed c v t = subst (λ (u : FacilityView). length u.waiting + length u.state.pending ≡ length c.pending) (sym t.ticked) (are_accepted c passed t.accepted).counted
+pub length-many : (limit passed : ℕ) (c : FacilityState) (v : FacilityView) → AreTicked limit passed c v
+    → length v.waiting + length v.state.pending ≡ length c.pending
+length-many limit passed c v t = subst (λ (u : FacilityView). length u.waiting + length u.state.pending
+    ≡ length c.pending) (sym t.ticked) (are_accepted c passed t.accepted).counted
 
 -- a refused tick after accepted ones
-pub AddsRun-refused : (s : FacilityState) (count n : ℕ) (before outs outs' : List Out) (c c' : FacilityState) (fault : TickFault) → HasTicked s n before outs c → n < count
+pub AddsRun-refused : (s : FacilityState) (count n : ℕ) (before outs outs' : List Out) (c c' : FacilityState) (fault : TickFault)
+    → HasTicked s n before outs c → n < count
     → tick_refusal c ≡ Some fault → c' ≡ c → outs' ≡ outs ++ Outs.TickRefused fault ∷ [] → AddsRun s (Events.Ticks count) before outs' c'
 AddsRun-refused s count n before outs outs' c c' fault h l r e o =
     let refused : step c Tick 0 ≡ step_of_tick c (Some fault) = ap (step_of_tick c) r in
-    AddsRun-cut s count n before outs outs' c c' fault h l r (e ∙ ap (λ (st : Step). st.state) (sym refused)) (o ∙ ap (λ (st : Step). outs ++ st.outs) (sym refused))
+    AddsRun-cut s count n before outs outs' c c' fault h l r (e ∙ ap (λ (st : Step). st.state) (sym refused)) (o
+    ∙ ap (λ (st : Step). outs ++ st.outs) (sym refused))

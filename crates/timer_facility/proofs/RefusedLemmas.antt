@@ -19,22 +19,26 @@ use Rattle.timer_facility.proofs.VerdictLemmas.{not_taken-closed, tick_refusal-c
 
 -- a closed facility refuses each event as such
 pub verdict-closed : (s : FacilityState) (event : SingleEvent) → s.is_closed ≡ true → verdict s event ≡ Some (closed_refusal event)
-verdict-closed s (Asked client number wanted) h = ap (λ v. verdict_on_request v (refusal s client wanted)) (not_taken-closed s client number h)
+verdict-closed s (Asked client number wanted) h = ap (λ v. verdict_on_request v (refusal s client wanted))
+    (not_taken-closed s client number h)
 verdict-closed s Tick h = ap verdict_on_tick (tick_refusal-closed s h)
 verdict-closed s Close h = ap (λ b. if b then Some CloseRefused else None) h
 
 -- From the outs.
 
-told_start : (client number place : ℕ) (t : Timer) (v : Option Reason) → refusals_in (Outs.Answered client number (answer_to_start v place t) ∷ []) ≡ refusals_of (verdict_on_request None v)
+told_start : (client number place : ℕ) (t : Timer) (v : Option Reason)
+    → refusals_in (Outs.Answered client number (answer_to_start v place t) ∷ []) ≡ refusals_of (verdict_on_request None v)
 told_start client number place t None = refl
 told_start client number place t (Some reason) = refl
 
-told_stop : (client number : ℕ) (found : Option Timer) → refusals_in (Outs.Answered client number (answer_to_stop found) ∷ []) ≡ refusals_of (verdict_on_request None (stop_refusal found))
+told_stop : (client number : ℕ) (found : Option Timer) → refusals_in (Outs.Answered client number (answer_to_stop found) ∷ [])
+    ≡ refusals_of (verdict_on_request None (stop_refusal found))
 told_stop client number None = refl
 told_stop client number (Some t) = refl
 
 told_restart : (client number place : ℕ) (t : Timer) (found : Option Timer) (v : Option Reason)
-    → refusals_in (Outs.Answered client number (answer_to_restart found v place t) ∷ []) ≡ refusals_of (verdict_on_request None (restart_refusal found v))
+    → refusals_in (Outs.Answered client number (answer_to_restart found v place t) ∷ [])
+    ≡ refusals_of (verdict_on_request None (restart_refusal found v))
 told_restart client number place t None v = refl
 told_restart client number place t (Some old) None = refl
 told_restart client number place t (Some old) (Some reason) = refl
@@ -42,13 +46,16 @@ told_restart client number place t (Some old) (Some reason) = refl
 told_request : (s : FacilityState) (client number : ℕ) (wanted : Wanted) (place : ℕ) (v : Option NotTaken)
     → refusals_in (step_of_request s client number wanted place v).outs ≡ refusals_of (verdict_on_request v (refusal s client wanted))
 told_request s client number wanted place (Some reason) = refl
-told_request s client number (Start interval action) place None = told_start client number place (new_timer s client number interval action) (start_refusal s interval)
+told_request s client number (Start interval action) place None =
+    told_start client number place (new_timer s client number interval action) (start_refusal s interval)
 told_request s client number (Stop handle) place None = told_stop client number (named s client (Stop handle))
 told_request s client number (StopSerial serial) place None = told_stop client number (named s client (StopSerial serial))
 told_request s client number (Restart handle interval action) place None =
-    told_restart client number place (new_timer s client number interval action) (named s client (Restart handle interval action)) (interval_refusal s interval)
+    told_restart client number place (new_timer s client number interval action) (named s client (Restart handle interval action))
+    (interval_refusal s interval)
 told_request s client number (RestartSerial serial interval action) place None =
-    told_restart client number place (new_timer s client number interval action) (named s client (RestartSerial serial interval action)) (interval_refusal s interval)
+    told_restart client number place (new_timer s client number interval action) (named s client (RestartSerial serial interval action))
+    (interval_refusal s interval)
 
 told_notices : (f : Timer → Notice) (ts : List Timer) → refusals_in (map (λ t. Outs.Notice (f t)) ts) ≡ []
 told_notices f [] = refl
@@ -63,7 +70,8 @@ told_close s true = refl
 told_close s false = told_notices (λ t. Returned t) (timers_of s.pending)
 
 -- the refusals among the outs of an event are those of the verdict on it
-pub outs-verdict : (s : FacilityState) (event : SingleEvent) (place : ℕ) → refusals_in (step s event place).outs ≡ refusals_of (verdict s event)
+pub outs-verdict : (s : FacilityState) (event : SingleEvent) (place : ℕ)
+    → refusals_in (step s event place).outs ≡ refusals_of (verdict s event)
 outs-verdict s (Asked client number wanted) place = told_request s client number wanted place (not_taken s client number)
 outs-verdict s Tick place = told_tick s (tick_refusal s)
 outs-verdict s Close place = told_close s s.is_closed
@@ -71,7 +79,8 @@ outs-verdict s Close place = told_close s s.is_closed
 -- From a call of a facility.
 
 no_memory : (a b c d e : Bool) (next : ℕ)
-    → (if a then Some NotTakens.Closed else if b then Some NotTakens.NoClient else if c then Some (NotTakens.Repeated next) else if d then Some NotTakens.NumbersSpent else if e then Some (NotTakens.Ahead next) else None)
+    → (if a then Some NotTakens.Closed else if b then Some NotTakens.NoClient else if c then Some
+    (NotTakens.Repeated next) else if d then Some NotTakens.NumbersSpent else if e then Some (NotTakens.Ahead next) else None)
     ≡ Some NotTakens.OutOfMemory → ⊥
 no_memory true b c d e next h = absurd (cc)
 no_memory false true c d e next h = absurd (cc)
@@ -83,10 +92,12 @@ no_memory false false false false false next h = absurd (cc)
 not_for_memory : (s : FacilityState) (client number : ℕ) → not_taken s client number ≡ Some NotTakens.OutOfMemory → ⊥
 unfolding not_taken
 not_for_memory s client number h =
-    no_memory s.is_closed (not (nat_lt client (length s.numbers))) (nat_lt number (number_of s client)) (nat_lt LAST (number_of s client)) (nat_lt (number_of s client) number) (number_of s client) h
+    no_memory s.is_closed (not (nat_lt client (length s.numbers))) (nat_lt number (number_of s client)) (nat_lt LAST (number_of s client))
+    (nat_lt (number_of s client) number) (number_of s client) h
 
 -- of a request that is not taken
-pub verdict-not_taken : (s : FacilityState) (client number : ℕ) (v : Option Reason) (reason : NotTaken) → not_taken s client number ≡ Some reason
+pub verdict-not_taken : (s : FacilityState) (client number : ℕ) (v : Option Reason) (reason : NotTaken)
+    → not_taken s client number ≡ Some reason
     → verdict_on_request (not_taken s client number) v ≡ verdict_on_not_taken reason
 verdict-not_taken s client number v NotTakens.OutOfMemory h = absurd (not_for_memory s client number h)
 verdict-not_taken s client number v NotTakens.Closed h = ap (λ o. verdict_on_request o v) h

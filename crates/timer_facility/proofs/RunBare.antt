@@ -30,7 +30,8 @@ timers_of-bare : (es : List Entry) → timers_of (map bare_entry es) ≡ timers_
 timers_of-bare [] = refl
 timers_of-bare (e ∷ es) = ap (λ ts. e.timer ∷ ts) (timers_of-bare es)
 
-first_timer-bare : (test : Timer → Bool) (es : List Entry) → first_timer (λ e. test e.timer) (map bare_entry es) ≡ first_timer (λ e. test e.timer) es
+first_timer-bare : (test : Timer → Bool) (es : List Entry) → first_timer (λ e. test e.timer) (map bare_entry es)
+    ≡ first_timer (λ e. test e.timer) es
 first_timer-bare test [] = refl
 first_timer-bare test (e ∷ es) = ap (λ o. if test e.timer then Some e.timer else o) (first_timer-bare test es)
 
@@ -41,14 +42,16 @@ put-bare e (x ∷ xs) = elim (either (nat_lt e.timer.deadline x.timer.deadline))
   | inr h ↦ rw h (ap (λ r. bare_entry x ∷ r) (put-bare e xs))
 ]
 
-filter-bare : (test : Timer → Bool) (es : List Entry) → map bare_entry (filter (λ e. test e.timer) es) ≡ filter (λ e. test e.timer) (map bare_entry es)
+filter-bare : (test : Timer → Bool) (es : List Entry) → map bare_entry (filter (λ e. test e.timer) es)
+    ≡ filter (λ e. test e.timer) (map bare_entry es)
 filter-bare test [] = refl
 filter-bare test (x ∷ xs) = elim (either (test x.timer)) [
   | inl h ↦ rw h (ap (λ r. bare_entry x ∷ r) (filter-bare test xs))
   | inr h ↦ rw h (filter-bare test xs)
 ]
 
-without_found-bare : (found : Option Timer) (es : List Entry) → map bare_entry (without_found found es) ≡ without_found found (map bare_entry es)
+without_found-bare : (found : Option Timer) (es : List Entry) → map bare_entry (without_found found es)
+    ≡ without_found found (map bare_entry es)
 without_found-bare None es = refl
 without_found-bare (Some t) es = filter-bare (λ x. not (has_serial t.serial x)) es
 
@@ -83,8 +86,12 @@ answer_to_start-bare : (v : Option Reason) (place : ℕ) (t : Timer) → bare_an
 answer_to_start-bare None place t = refl
 answer_to_start-bare (Some reason) place t = refl
 
-after_start-bare : (v : Option Reason) (place : ℕ) (t : Timer) (s : FacilityState) → bare_state (after_start v place t s) ≡ after_start v 0 t (bare_state s)
-after_start-bare None place t s = ap (λ es. record s { pending = es; next_serial = s.next_serial + 1 }) (put-bare (record { place = place; timer = t }) s.pending)
+after_start-bare : (v : Option Reason) (place : ℕ) (t : Timer) (s : FacilityState)
+    → bare_state (after_start v place t s) ≡ after_start v 0 t (bare_state s)
+after_start-bare None place t s = ap (λ es. record s {
+  pending = es;
+  next_serial = s.next_serial + 1;
+}) (put-bare (record { place = place; timer = t }) s.pending)
 after_start-bare (Some reason) place t s = refl
 
 answer_to_stop-bare : (found : Option Timer) → bare_answer (answer_to_stop found) ≡ answer_to_stop found
@@ -94,23 +101,29 @@ answer_to_stop-bare (Some t) = refl
 after_stop-bare : (found : Option Timer) (s : FacilityState) → bare_state (after_stop found s) ≡ after_stop found (bare_state s)
 after_stop-bare found s = ap (λ es. record s { pending = es }) (without_found-bare found s.pending)
 
-answer_to_restart-bare : (found : Option Timer) (v : Option Reason) (place : ℕ) (t : Timer) → bare_answer (answer_to_restart found v place t) ≡ answer_to_restart found v 0 t
+answer_to_restart-bare : (found : Option Timer) (v : Option Reason) (place : ℕ) (t : Timer)
+    → bare_answer (answer_to_restart found v place t) ≡ answer_to_restart found v 0 t
 answer_to_restart-bare None v place t = refl
 answer_to_restart-bare (Some old) (Some reason) place t = refl
 answer_to_restart-bare (Some old) None place t = refl
 
-after_restart-bare : (found : Option Timer) (v : Option Reason) (place : ℕ) (t : Timer) (s : FacilityState) → bare_state (after_restart found v place t s) ≡ after_restart found v 0 t (bare_state s)
+after_restart-bare : (found : Option Timer) (v : Option Reason) (place : ℕ) (t : Timer) (s : FacilityState)
+    → bare_state (after_restart found v place t s) ≡ after_restart found v 0 t (bare_state s)
 after_restart-bare None v place t s = refl
 after_restart-bare (Some old) (Some reason) place t s = refl
-after_restart-bare (Some old) None place t s = after_start-bare None place t (after_stop (Some old) s) ∙ ap (after_start None 0 t) (after_stop-bare (Some old) s)
+after_restart-bare (Some old) None place t s = after_start-bare None place t (after_stop (Some old) s)
+    ∙ ap (after_start None 0 t) (after_stop-bare (Some old) s)
 
-request-bare : (s : FacilityState) (client number : ℕ) (wanted : Wanted) (place : ℕ) (v : Option NotTaken) → NamesBySerial (Asked client number wanted)
+request-bare : (s : FacilityState) (client number : ℕ) (wanted : Wanted) (place : ℕ) (v : Option NotTaken)
+    → NamesBySerial (Asked client number wanted)
     → IsBareStep (step_of_request s client number wanted place v) (step_of_request (bare_state s) client number wanted 0 v)
 request-bare s client number wanted place (Some reason) n = (refl, refl)
 request-bare s client number (Start interval action) place None n =
     let t : Timer = new_timer s client number interval action in (
-      ap (λ a. Outs.Answered client number a ∷ []) (answer_to_start-bare (start_refusal s interval) place t ∙ ap (λ v. answer_to_start v 0 t) (sym (start_refusal-bare s interval))),
-      ap (with_number client number) (after_start-bare (start_refusal s interval) place t s ∙ ap (λ v. after_start v 0 t (bare_state s)) (sym (start_refusal-bare s interval))),
+      ap (λ a. Outs.Answered client number a ∷ []) (answer_to_start-bare (start_refusal s interval) place t
+          ∙ ap (λ v. answer_to_start v 0 t) (sym (start_refusal-bare s interval))),
+      ap (with_number client number) (after_start-bare (start_refusal s interval) place t s
+          ∙ ap (λ v. after_start v 0 t (bare_state s)) (sym (start_refusal-bare s interval))),
     )
 request-bare s client number (Stop handle) place None n = absurd n
 request-bare s client number (StopSerial serial) place None n =
@@ -123,10 +136,13 @@ request-bare s client number (RestartSerial serial interval action) place None n
     let t : Timer = new_timer s client number interval action in
     let found : Option Timer = named s client (RestartSerial serial interval action) in
     let v : Option Reason = interval_refusal s interval in (
-      ap (λ a. Outs.Answered client number a ∷ []) (answer_to_restart-bare found v place t ∙ ap (λ o. answer_to_restart o v 0 t) (sym (named-bare s client serial))
+      ap (λ a. Outs.Answered client number a ∷ []) (answer_to_restart-bare found v place t
+          ∙ ap (λ o. answer_to_restart o v 0 t) (sym (named-bare s client serial))
           ∙ ap (λ w. answer_to_restart (named (bare_state s) client (StopSerial serial)) w 0 t) (sym (interval_refusal-bare s interval))),
-      ap (with_number client number) (after_restart-bare found v place t s ∙ ap (λ o. after_restart o v 0 t (bare_state s)) (sym (named-bare s client serial))
-          ∙ ap (λ w. after_restart (named (bare_state s) client (StopSerial serial)) w 0 t (bare_state s)) (sym (interval_refusal-bare s interval))),
+      ap (with_number client number) (after_restart-bare found v place t s
+          ∙ ap (λ o. after_restart o v 0 t (bare_state s)) (sym (named-bare s client serial))
+          ∙ ap (λ w. after_restart (named (bare_state s) client (StopSerial serial)) w 0 t (bare_state s))
+          (sym (interval_refusal-bare s interval))),
     )
 
 notices-bare : (f : Timer → Notice) (ts : List Timer) → bare_outs (map (λ t. Outs.Notice (f t)) ts) ≡ map (λ t. Outs.Notice (f t)) ts
@@ -136,7 +152,8 @@ notices-bare f (t ∷ ts) = ap (λ os. Outs.Notice (f t) ∷ os) (notices-bare f
 tick-bare : (s : FacilityState) (v : Option TickFault) → IsBareStep (step_of_tick s v) (step_of_tick (bare_state s) v)
 tick-bare s (Some fault) = (refl, refl)
 tick-bare s None = (
-  notices-bare (λ t. Expired t) (filter (is_due_at (s.now + 1)) (timers_of s.pending)) ∙ ap (λ ts. map (λ t. Outs.Notice (Expired t)) (filter (is_due_at (s.now + 1)) ts)) (sym (timers_of-bare s.pending)),
+  notices-bare (λ t. Expired t) (filter (is_due_at (s.now + 1)) (timers_of s.pending))
+      ∙ ap (λ ts. map (λ t. Outs.Notice (Expired t)) (filter (is_due_at (s.now + 1)) ts)) (sym (timers_of-bare s.pending)),
   ap (λ es. record s { now = s.now + 1; pending = es }) (filter-bare (λ t. not (is_due_at (s.now + 1) t)) s.pending),
 )
 
@@ -145,13 +162,16 @@ close-bare s true = (refl, refl)
 close-bare s false = (
   ap (λ os. Outs.Closed (length s.pending) ∷ os) (notices-bare (λ t. Returned t) (timers_of s.pending))
       ∙ ap (λ n. Outs.Closed n ∷ map (λ t. Outs.Notice (Returned t)) (timers_of s.pending)) (sym (length-bare s.pending))
-      ∙ ap (λ ts. Outs.Closed (length (map bare_entry s.pending)) ∷ map (λ t. Outs.Notice (Returned t)) ts) (sym (timers_of-bare s.pending)),
+      ∙ ap (λ ts. Outs.Closed (length (map bare_entry s.pending)) ∷ map (λ t. Outs.Notice (Returned t)) ts)
+      (sym (timers_of-bare s.pending)),
   refl,
 )
 
-step-bare : (s : FacilityState) (event : SingleEvent) (place : ℕ) → NamesBySerial event → IsBareStep (step s event place) (step (bare_state s) event 0)
+step-bare : (s : FacilityState) (event : SingleEvent) (place : ℕ) → NamesBySerial event
+    → IsBareStep (step s event place) (step (bare_state s) event 0)
 step-bare s (Asked client number wanted) place n =
-    subst (λ v. IsBareStep (step s (Asked client number wanted) place) (step_of_request (bare_state s) client number wanted 0 v)) (sym (not_taken-bare s client number))
+    subst (λ v. IsBareStep (step s (Asked client number wanted) place) (step_of_request (bare_state s) client number wanted 0 v))
+    (sym (not_taken-bare s client number))
     (request-bare s client number wanted place (not_taken s client number) n)
 step-bare s Tick place n =
     subst (λ v. IsBareStep (step s Tick place) (step_of_tick (bare_state s) v)) (sym (tick_refusal-bare s)) (tick-bare s (tick_refusal s))
@@ -171,23 +191,28 @@ bare_outs-append : (xs ys : List Out) → bare_outs (xs ++ ys) ≡ bare_outs xs 
 bare_outs-append [] ys = refl
 bare_outs-append (x ∷ xs) ys = ap (λ os. bare x ∷ os) (bare_outs-append xs ys)
 
-run-bare : (s : FacilityState) (ps : List Placed) → AllByRecursion NamesBySerial (events_of ps) → IsBareStep (run s ps) (run (bare_state s) (at_none (events_of ps)))
+run-bare : (s : FacilityState) (ps : List Placed) → AllByRecursion NamesBySerial (events_of ps)
+    → IsBareStep (run s ps) (run (bare_state s) (at_none (events_of ps)))
 run-bare s [] n = (refl, refl)
 run-bare s (p ∷ ps) n =
     let st : Step = step s p.event p.place in
     let bare_st : Step = step (bare_state s) p.event 0 in
     let one : IsBareStep st bare_st = step-bare s p.event p.place n.0 in
     let rest : IsBareStep (run st.state ps) (run (bare_state st.state) (at_none (events_of ps))) = run-bare st.state ps n.1 in
-    let rest' : IsBareStep (run st.state ps) (run bare_st.state (at_none (events_of ps))) = subst (λ c. IsBareStep (run st.state ps) (run c (at_none (events_of ps)))) one.1 rest in (
-      bare_outs-append st.outs (run st.state ps).outs ∙ ap (λ os. os ++ bare_outs (run st.state ps).outs) one.0 ∙ ap (λ os. bare_st.outs ++ os) rest'.0,
+    let rest' : IsBareStep (run st.state ps) (run bare_st.state (at_none (events_of ps))) =
+    subst (λ c. IsBareStep (run st.state ps) (run c (at_none (events_of ps)))) one.1 rest in (
+      bare_outs-append st.outs (run st.state ps).outs ∙ ap (λ os. os ++ bare_outs (run st.state ps).outs) one.0
+          ∙ ap (λ os. bare_st.outs ++ os) rest'.0,
       rest'.1,
     )
 
 -- two runs of the same events
-pub runs-bare : (s t : FacilityState) (ps qs : List Placed) → bare_state s ≡ bare_state t → events_of ps ≡ events_of qs → AllByRecursion NamesBySerial (events_of ps) → AreSameButForPlaces (run s ps) (run t qs)
+pub runs-bare : (s t : FacilityState) (ps qs : List Placed) → bare_state s ≡ bare_state t → events_of ps ≡ events_of qs
+    → AllByRecursion NamesBySerial (events_of ps) → AreSameButForPlaces (run s ps) (run t qs)
 runs-bare s t ps qs e f n =
     let a : IsBareStep (run s ps) (run (bare_state s) (at_none (events_of ps))) = run-bare s ps n in
-    let b : IsBareStep (run t qs) (run (bare_state t) (at_none (events_of qs))) = run-bare t qs (subst (AllByRecursion NamesBySerial) f n) in
+    let b : IsBareStep (run t qs) (run (bare_state t) (at_none (events_of qs))) = run-bare t qs (subst (AllByRecursion NamesBySerial) f n)
+    in
     let same : run (bare_state s) (at_none (events_of ps)) ≡ run (bare_state t) (at_none (events_of qs)) =
     ap (λ c. run c (at_none (events_of ps))) e ∙ ap (λ es. run (bare_state t) (at_none es)) f in
     record {
@@ -219,7 +244,8 @@ events_of-append : (xs ys : List Placed) → events_of (xs ++ ys) ≡ events_of 
 events_of-append [] ys = refl
 events_of-append (x ∷ xs) ys = ap (λ es. x.event ∷ es) (events_of-append xs ys)
 
-all-append : (xs ys : List SingleEvent) → AllByRecursion NamesBySerial xs → AllByRecursion NamesBySerial ys → AllByRecursion NamesBySerial (xs ++ ys)
+all-append : (xs ys : List SingleEvent) → AllByRecursion NamesBySerial xs → AllByRecursion NamesBySerial ys
+    → AllByRecursion NamesBySerial (xs ++ ys)
 all-append [] ys a b = b
 all-append (x ∷ xs) ys a b = (a.0, all-append xs ys a.1 b)
 
@@ -228,7 +254,8 @@ record AreAlike (ps qs : List Placed) : Type 0 where
   same : events_of ps ≡ events_of qs
   named : AllByRecursion NamesBySerial (events_of ps)
 
-placed-alike : (s t : FacilityState) (events : List Event) (ps qs : List Placed) → bare_state s ≡ bare_state t → ArePlaced s events ps → ArePlaced t events qs → AreAlike ps qs
+placed-alike : (s t : FacilityState) (events : List Event) (ps qs : List Placed) → bare_state s ≡ bare_state t → ArePlaced s events ps
+    → ArePlaced t events qs → AreAlike ps qs
 placed-alike s t [] ps qs e a b = record {
   same = ap events_of a ∙ sym (ap events_of b);
   named = subst (λ xs. AllByRecursion NamesBySerial (events_of xs)) (sym a) tt;
@@ -238,18 +265,23 @@ placed-alike s t (event ∷ events) ps qs e a b =
     let rest : List Placed = a.1 in
     let one' : List Placed = b.0 in
     let rest' : List Placed = b.1 in
-    let singles : singles_of s event ≡ singles_of t event = sym (singles_of-bare s event) ∙ ap (λ c. singles_of c event) e ∙ singles_of-bare t event in
+    let singles : singles_of s event ≡ singles_of t event = sym (singles_of-bare s event) ∙ ap (λ c. singles_of c event) e
+    ∙ singles_of-bare t event in
     let here : events_of one ≡ events_of one' = a.3 ∙ singles ∙ sym b.3 in
     let names : AllByRecursion NamesBySerial (events_of one) = subst (AllByRecursion NamesBySerial) (sym a.3) (singles_name s event) in
-    let later : AreAlike rest rest' = placed-alike (state_after s one) (state_after t one') events rest rest' (runs-bare s t one one' e here names).states_are a.4 b.4 in
+    let later : AreAlike rest rest' = placed-alike (state_after s one) (state_after t one') events rest rest'
+    (runs-bare s t one one' e here names).states_are a.4 b.4 in
     record {
-      same = ap events_of a.2 ∙ events_of-append one rest ∙ ap (λ es. es ++ events_of rest) here ∙ ap (λ es. events_of one' ++ es) later.same
+      same = ap events_of a.2 ∙ events_of-append one rest ∙ ap (λ es. es ++ events_of rest) here
+          ∙ ap (λ es. events_of one' ++ es) later.same
           ∙ sym (events_of-append one' rest') ∙ sym (ap events_of b.2);
-      named = subst (AllByRecursion NamesBySerial) (sym (ap events_of a.2 ∙ events_of-append one rest)) (all-append (events_of one) (events_of rest) names later.named);
+      named = subst (AllByRecursion NamesBySerial) (sym (ap events_of a.2 ∙ events_of-append one rest))
+          (all-append (events_of one) (events_of rest) names later.named);
     }
 
 -- two runs of one list of events
-pub plays-bare : (s t : FacilityState) (events : List Event) (outs outs' : List Out) (after after' : FacilityState) → bare_state s ≡ bare_state t → IsRun s events outs after → IsRun t events outs' after'
+pub plays-bare : (s t : FacilityState) (events : List Event) (outs outs' : List Out) (after after' : FacilityState)
+    → bare_state s ≡ bare_state t → IsRun s events outs after → IsRun t events outs' after'
     → (bare_outs outs ≡ bare_outs outs') × (bare_state after ≡ bare_state after')
 plays-bare s t events outs outs' after after' e a b =
     let alike : AreAlike a.placed b.placed = placed-alike s t events a.placed b.placed e a.singles b.singles in

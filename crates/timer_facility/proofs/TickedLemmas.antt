@@ -23,12 +23,15 @@ both_are : (s t : FacilityState) (xs ys : List Notice) → s ≡ t → xs ≡ ys
 both_are s t xs ys e f = cc
 
 -- one more tick, where nothing was handed out before it
-view-more : (s : FacilityState) (n : ℕ) → notices (history s (ticks n)) ≡ [] → view_after (step (state_after s (ticks n)) Tick 0) ≡ view_after (run s (ticks (suc n)))
+view-more : (s : FacilityState) (n : ℕ) → notices (history s (ticks n)) ≡ []
+    → view_after (step (state_after s (ticks n)) Tick 0) ≡ view_after (run s (ticks (suc n)))
 view-more s n h =
     let last : Step = step (state_after s (ticks n)) Tick 0 in
     let outs : notices (history s (ticks (suc n))) ≡ notices_in last.outs =
-    ap notices_in (outs_of-ticks n s) ∙ notices_in-append (outs_of (history s (ticks n))) last.outs ∙ ap (λ ns. ns ++ notices_in last.outs) h in
-    both_are last.state (state_after s (ticks (suc n))) (notices_in last.outs) (notices (history s (ticks (suc n)))) (sym (state_after-ticks n s)) (sym outs)
+    ap notices_in (outs_of-ticks n s) ∙ notices_in-append (outs_of (history s (ticks n))) last.outs
+    ∙ ap (λ ns. ns ++ notices_in last.outs) h in
+    both_are last.state (state_after s (ticks (suc n))) (notices_in last.outs) (notices (history s (ticks (suc n))))
+    (sym (state_after-ticks n s)) (sym outs)
 
 -- the parts after `n` ticks of the wheel
 abbrev after : ℕ → Parts → Parts
@@ -46,11 +49,13 @@ record IsBetween (p : Parts) (n : ℕ) : Type 0 where
   before_last : (after n p).wheel.now ≢ (after n p).wheel.last_tick
   accepted : tick_refusal (state_after (view_of p).state (ticks n)) ≡ None
 
-between : (p : Parts) (n : ℕ) → IsStretch p n → map (λ t. Returned t) (drop p.handed p.returned) ≡ [] → p.is_closed ≡ false → p.wheel.now + n < p.wheel.last_tick
+between : (p : Parts) (n : ℕ) → IsStretch p n → map (λ t. Returned t) (drop p.handed p.returned) ≡ [] → p.is_closed ≡ false
+    → p.wheel.now + n < p.wheel.last_tick
     → (Wheels.after_ticks n p.wheel).due ≡ [] → IsBetween p n
 between p n i r c l d =
     let q : Parts = after n p in
-    let none : (view_of q).waiting ≡ [] = ap (λ ds. map (λ t. Expired t) (timers_of ds) ++ map (λ t. Returned t) (drop p.handed p.returned)) d ∙ r in
+    let none : (view_of q).waiting ≡ [] = ap (λ ds. map (λ t. Expired t) (timers_of ds)
+    ++ map (λ t. Returned t) (drop p.handed p.returned)) d ∙ r in
     let now : q.wheel.now ≡ p.wheel.now + n = after_ticks-now n p.wheel in
     let last : q.wheel.last_tick ≡ p.wheel.last_tick = after_ticks-last n p.wheel in
     let differ : q.wheel.now ≢ q.wheel.last_tick = λ e. absurd (omega (arith, now, last, e, l)) in
@@ -61,7 +66,8 @@ between p n i r c l d =
       accepted = sym (ap (λ (v : FacilityView). tick_refusal v.state) i.same_view) ∙ tick_refusal-none (view_of q).state c differ;
     }
 
-stretch : (p : Parts) (n : ℕ) → AreParts p → (view_of p).waiting ≡ [] → map (λ t. Returned t) (drop p.handed p.returned) ≡ [] → p.is_closed ≡ false
+stretch : (p : Parts) (n : ℕ) → AreParts p → (view_of p).waiting ≡ [] → map (λ t. Returned t) (drop p.handed p.returned) ≡ []
+    → p.is_closed ≡ false
     → p.wheel.now + n ≤ p.wheel.last_tick → ((k : ℕ) → k < n → (Wheels.after_ticks k p.wheel).due ≡ []) → IsStretch p n
 stretch p zero a w r c l d = record { parts = a; same_view = view_by_waiting (view_of p).state (view_of p).waiting [] w }
 stretch p (suc n) a w r c l d =
@@ -85,14 +91,16 @@ record IsPassed (limit passed : ℕ) (p p' : Parts) : Type 0 where
   ticked : AreTicked limit passed (view_of p).state (view_of p')
 
 advanced : (p : Parts) (limit most passed : ℕ) (w' : Wheels.WheelState) → AreParts p → (view_of p).waiting ≡ [] → p.is_closed ≡ false
-    → most ≡ min limit (p.wheel.last_tick - p.wheel.now) → Wheels.Advances most passed p.wheel w' → IsPassed limit passed p (record p { wheel = w' })
+    → most ≡ min limit (p.wheel.last_tick - p.wheel.now) → Wheels.Advances most passed p.wheel w'
+    → IsPassed limit passed p (record p { wheel = w' })
 advanced p limit most passed w' a w c m v =
     let s : FacilityState = (view_of p).state in
     let r : map (λ t. Returned t) (drop p.handed p.returned) ≡ [] = nothing_returned {p = p} {v = view_of p} a refl w in
     let some : 0 < passed = v.some in
     let at_most : passed ≤ most = v.at_most in
     let all : IsStretch p passed = stretch p passed a w r c (omega arith) v.quiet in
-    let at : (n : ℕ) → n < passed → IsBetween p n = λ n h. between p n (stretch p n a w r c (omega arith) (λ k g. v.quiet k (omega arith))) r c (omega arith) (v.quiet n h) in
+    let at : (n : ℕ) → n < passed → IsBetween p n = λ n h. between p n
+    (stretch p n a w r c (omega arith) (λ k g. v.quiet k (omega arith))) r c (omega arith) (v.quiet n h) in
     let here : IsPassed limit passed p (after passed p) = record {
       parts = all.parts;
       ticked = record {
@@ -107,12 +115,17 @@ advanced p limit most passed w' a w c m v =
     } in
     subst (λ (u : Wheels.WheelState). IsPassed limit passed p (record p { wheel = u })) (sym v.ticked) here
 
-pub parts-advanced : {p : Parts} {v : FacilityView} → AreParts p → view_of p ≡ v → v.waiting ≡ [] → p.is_closed ≡ false → (limit most passed : ℕ)
-    → most ≡ min limit (p.wheel.last_tick - p.wheel.now) → (w' : Wheels.WheelState) → Wheels.Advances most passed p.wheel w' → AreParts (record p { wheel = w' })
-parts-advanced {p} {v} a e h c limit most passed m w' t = (advanced p limit most passed w' a (ap (λ (u : FacilityView). u.waiting) e ∙ h) c m t).parts
+pub parts-advanced : {p : Parts} {v : FacilityView} → AreParts p → view_of p ≡ v → v.waiting ≡ [] → p.is_closed ≡ false
+    → (limit most passed : ℕ)
+    → most ≡ min limit (p.wheel.last_tick - p.wheel.now) → (w' : Wheels.WheelState) → Wheels.Advances most passed p.wheel w'
+    → AreParts (record p { wheel = w' })
+parts-advanced {p} {v} a e h c limit most passed m w' t = (advanced p limit most passed w' a (ap (λ (u : FacilityView). u.waiting) e
+    ∙ h) c m t).parts
 
-pub view-advanced : {p : Parts} {v : FacilityView} → AreParts p → view_of p ≡ v → v.waiting ≡ [] → p.is_closed ≡ false → (limit most passed : ℕ)
-    → most ≡ min limit (p.wheel.last_tick - p.wheel.now) → (w' : Wheels.WheelState) → Wheels.Advances most passed p.wheel w' → AreTicked limit passed v.state (view_of (record p { wheel = w' }))
+pub view-advanced : {p : Parts} {v : FacilityView} → AreParts p → view_of p ≡ v → v.waiting ≡ [] → p.is_closed ≡ false
+    → (limit most passed : ℕ)
+    → most ≡ min limit (p.wheel.last_tick - p.wheel.now) → (w' : Wheels.WheelState) → Wheels.Advances most passed p.wheel w'
+    → AreTicked limit passed v.state (view_of (record p { wheel = w' }))
 view-advanced {p} {v} a e h c limit most passed m w' t =
     subst (λ (u : FacilityView). AreTicked limit passed u.state (view_of (record p { wheel = w' }))) e
     (advanced p limit most passed w' a (ap (λ (u : FacilityView). u.waiting) e ∙ h) c m t).ticked

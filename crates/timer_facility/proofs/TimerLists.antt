@@ -19,7 +19,8 @@ insert_timer t ts = insert_in_order (λ x. x) t ts
 abbrev pub insert_newest : Timer → List Timer → List Timer
 insert_newest t ts = insert_by_deadline (λ x. x) t ts
 
-pub timers_in_order-append : (t : Timer) (ts : List Timer) → AreBelow t.serial ts → timers_in_order (ts ++ t ∷ []) ≡ insert_newest t (timers_in_order ts)
+pub timers_in_order-append : (t : Timer) (ts : List Timer) → AreBelow t.serial ts
+    → timers_in_order (ts ++ t ∷ []) ≡ insert_newest t (timers_in_order ts)
 timers_in_order-append t ts b =
     let same : map (λ x. x) (ts ++ []) ≡ ts = map-id (ts ++ []) ∙ append-nil ts in
     let below : AreBelow t.serial (map (λ x. x) (ts ++ [])) = subst (λ xs. AreBelow t.serial xs) (sym same) b in
@@ -80,7 +81,8 @@ abbrev pub Among : Timer → List Timer → Type 0
 Among t [] = ⊥
 Among t (x ∷ xs) = (t ≡ x) ⊎ Among t xs
 
-among_step : (t x y : Timer) (ys : List Timer) → (Among t (insert_timer x ys) → (t ≡ x) ⊎ Among t ys) → (is_before x y ≡ true) ⊎ (is_before x y ≡ false) → Among t (insert_timer x (y ∷ ys)) → (t ≡ x) ⊎ Among t (y ∷ ys)
+among_step : (t x y : Timer) (ys : List Timer) → (Among t (insert_timer x ys) → (t ≡ x) ⊎ Among t ys) → (is_before x y ≡ true)
+    ⊎ (is_before x y ≡ false) → Among t (insert_timer x (y ∷ ys)) → (t ≡ x) ⊎ Among t (y ∷ ys)
 among_step t x y ys ih (inl h) a = elim (rw h at a) [ inl k ↦ inl k | inr k ↦ inr k ]
 among_step t x y ys ih (inr h) a = elim (rw h at a) [ inl k ↦ inr (inl k) | inr k ↦ elim (ih k) [ inl m ↦ inl m | inr m ↦ inr (inr m) ] ]
 
@@ -90,9 +92,13 @@ Among-insert_in_order t x (y ∷ ys) a = among_step t x y ys (Among-insert_in_or
 
 pub Among-in_order : (t : Timer) (xs : List Timer) → Among t (timers_in_order xs) → Among t xs
 Among-in_order t [] a = a
-Among-in_order t (x ∷ xs) a = elim (Among-insert_in_order t x (timers_in_order xs) a) [ inl h ↦ inl h | inr h ↦ inr (Among-in_order t xs h) ]
+Among-in_order t (x ∷ xs) a = elim (Among-insert_in_order t x (timers_in_order xs) a) [
+  | inl h ↦ inl h
+  | inr h ↦ inr (Among-in_order t xs h)
+]
 
-among_filter_step : (p : Timer → Bool) (t x : Timer) (xs : List Timer) → (Among t (filter p xs) → Among t xs × (p t ≡ true)) → (p x ≡ true) ⊎ (p x ≡ false) → Among t (filter p (x ∷ xs)) → Among t (x ∷ xs) × (p t ≡ true)
+among_filter_step : (p : Timer → Bool) (t x : Timer) (xs : List Timer) → (Among t (filter p xs) → Among t xs × (p t ≡ true)) → (p x ≡ true)
+    ⊎ (p x ≡ false) → Among t (filter p (x ∷ xs)) → Among t (x ∷ xs) × (p t ≡ true)
 among_filter_step p t x xs ih (inl h) a = elim (rw h at a) [
   | inl k ↦ (inl k, ap p k ∙ h)
   | inr k ↦ let m = ih k in (inr m.0, m.1)
@@ -133,7 +139,11 @@ IsNotAmong-append s t (x ∷ xs) n h = (n.0, IsNotAmong-append s t xs n.1 h)
 
 pub AreDistinct-append : (t : Timer) (xs : List Timer) → AreDistinct xs → AreBelow t.serial xs → AreDistinct (xs ++ t ∷ [])
 AreDistinct-append t [] d b = (tt, tt)
-AreDistinct-append t (x ∷ xs) d b = (IsNotAmong-append x.serial t xs d.0 (λ e. let b0 : x.serial < t.serial = b.0 in let e0 : t.serial ≡ x.serial = e in omega arith), AreDistinct-append t xs d.1 b.1)
+AreDistinct-append t (x ∷ xs) d b = (
+  IsNotAmong-append x.serial t xs d.0 (λ e. let b0 : x.serial < t.serial = b.0
+      in let e0 : t.serial ≡ x.serial = e in omega arith),
+  AreDistinct-append t xs d.1 b.1,
+)
 
 pub AreBelow-append : (high : ℕ) (t : Timer) (xs : List Timer) → AreBelow high xs → t.serial ≡ high → AreBelow (high + 1) (xs ++ t ∷ [])
 AreBelow-append high t [] b h = (omega arith, tt)
@@ -183,12 +193,14 @@ strictly_first x y h n = grind (arith, nat_tests)
 pub timers_in_order-ordered : (xs : List Timer) → IsOrdered xs → AreDistinct xs → timers_in_order xs ≡ xs
 timers_in_order-ordered [] o d = refl
 timers_in_order-ordered (x ∷ []) o d = refl
-timers_in_order-ordered (x ∷ y ∷ ys) o d = ap (insert_timer x) (timers_in_order-ordered (y ∷ ys) o.1 d.1) ∙ rw (strictly_first x y o.0.0 d.0.0) refl
+timers_in_order-ordered (x ∷ y ∷ ys) o d = ap (insert_timer x) (timers_in_order-ordered (y ∷ ys) o.1 d.1)
+    ∙ rw (strictly_first x y o.0.0 d.0.0) refl
 
 some_same : (t u : Timer) → Some u ≡ Some t → t ≡ u
 some_same t u h = cc
 
-found_step : (test : Entry → Bool) (t : Timer) (e : Entry) (es : List Entry) → (first_timer test es ≡ Some t → Among t (timers_of es)) → (test e ≡ true) ⊎ (test e ≡ false) → first_timer test (e ∷ es) ≡ Some t → Among t (timers_of (e ∷ es))
+found_step : (test : Entry → Bool) (t : Timer) (e : Entry) (es : List Entry) → (first_timer test es ≡ Some t → Among t (timers_of es))
+    → (test e ≡ true) ⊎ (test e ≡ false) → first_timer test (e ∷ es) ≡ Some t → Among t (timers_of (e ∷ es))
 found_step test t e es ih (inl k) h = inl (some_same t e.timer (rw k at h))
 found_step test t e es ih (inr k) h = inr (ih (rw k at h))
 
@@ -197,7 +209,8 @@ pub first_timer-among : (test : Entry → Bool) (t : Timer) (es : List Entry) �
 first_timer-among test t [] h = absurd (cc)
 first_timer-among test t (e ∷ es) h = found_step test t e es (first_timer-among test t es) (either (test e)) h
 
-of_client_step : (client : ℕ) (x t : Timer) → ((x.client == client) ≡ true) ⊎ ((x.client == client) ≡ false) → of_client client (Some x) ≡ Some t → Some x ≡ Some t
+of_client_step : (client : ℕ) (x t : Timer) → ((x.client == client) ≡ true) ⊎ ((x.client == client) ≡ false)
+    → of_client client (Some x) ≡ Some t → Some x ≡ Some t
 of_client_step client x t (inl k) h = rw k at h
 of_client_step client x t (inr k) h = let e = rw k at h in absurd (cc)
 

@@ -48,7 +48,8 @@ pub not_taken-closed : (s : FacilityState) (client number : ℕ) → s.is_closed
 unfolding not_taken
 not_taken-closed s client number h = rw h refl
 
-pub not_taken-no_client : (s : FacilityState) (client number : ℕ) → s.is_closed ≡ false → length s.numbers ≤ client → not_taken s client number ≡ Some NotTakens.NoClient
+pub not_taken-no_client : (s : FacilityState) (client number : ℕ) → s.is_closed ≡ false → length s.numbers ≤ client
+    → not_taken s client number ≡ Some NotTakens.NoClient
 unfolding not_taken
 not_taken-no_client s client number h k = rw (h, not_lt client (length s.numbers) k) refl
 
@@ -58,23 +59,52 @@ pub record IsKnown (s : FacilityState) (client next : ℕ) : Type 0 where
   pub is_client : client < length s.numbers
   pub next_is : number_of s client ≡ next
 
-pub not_taken-repeated : (s : FacilityState) (client number next : ℕ) → IsKnown s client next → number < next → not_taken s client number ≡ Some (NotTakens.Repeated next)
+pub not_taken-repeated : (s : FacilityState) (client number next : ℕ) → IsKnown s client next → number < next
+    → not_taken s client number ≡ Some (NotTakens.Repeated next)
 unfolding not_taken
-not_taken-repeated s client number next k h = rw (k.is_open, k.next_is, lt_true client (length s.numbers) k.is_client, lt_true number next h) refl
+not_taken-repeated s client number next k h = rw (
+  k.is_open,
+  k.next_is,
+  lt_true client (length s.numbers) k.is_client,
+  lt_true number next h,
+) refl
 
-pub not_taken-spent : (s : FacilityState) (client number next : ℕ) → IsKnown s client next → next ≤ number → LAST < next → not_taken s client number ≡ Some NotTakens.NumbersSpent
+pub not_taken-spent : (s : FacilityState) (client number next : ℕ) → IsKnown s client next → next ≤ number → LAST < next
+    → not_taken s client number ≡ Some NotTakens.NumbersSpent
 unfolding not_taken
-not_taken-spent s client number next k h l = rw (k.is_open, k.next_is, lt_true client (length s.numbers) k.is_client, lt_false number next h, lt_true LAST next l) refl
+not_taken-spent s client number next k h l = rw (
+  k.is_open,
+  k.next_is,
+  lt_true client (length s.numbers) k.is_client,
+  lt_false number next h,
+  lt_true LAST next l,
+) refl
 
-pub not_taken-ahead : (s : FacilityState) (client number next : ℕ) → IsKnown s client next → next ≤ LAST → next < number → not_taken s client number ≡ Some (NotTakens.Ahead next)
+pub not_taken-ahead : (s : FacilityState) (client number next : ℕ) → IsKnown s client next → next ≤ LAST → next < number
+    → not_taken s client number ≡ Some (NotTakens.Ahead next)
 unfolding not_taken
 not_taken-ahead s client number next k l h =
-    rw (k.is_open, k.next_is, lt_true client (length s.numbers) k.is_client, lt_false number next (omega arith), lt_false LAST next l, lt_true next number h) refl
+    rw (
+      k.is_open,
+      k.next_is,
+      lt_true client (length s.numbers) k.is_client,
+      lt_false number next (omega arith),
+      lt_false LAST next l,
+      lt_true next number h,
+    ) refl
 
-pub not_taken-none : (s : FacilityState) (client number next : ℕ) → IsKnown s client next → next ≤ number → next ≤ LAST → number ≤ next → not_taken s client number ≡ None
+pub not_taken-none : (s : FacilityState) (client number next : ℕ) → IsKnown s client next → next ≤ number → next ≤ LAST → number ≤ next
+    → not_taken s client number ≡ None
 unfolding not_taken
 not_taken-none s client number next k h l m =
-    rw (k.is_open, k.next_is, lt_true client (length s.numbers) k.is_client, lt_false number next h, lt_false LAST next l, lt_false next number m) refl
+    rw (
+      k.is_open,
+      k.next_is,
+      lt_true client (length s.numbers) k.is_client,
+      lt_false number next h,
+      lt_false LAST next l,
+      lt_false next number m,
+    ) refl
 
 -- what is true of a request that is taken
 pub record IsTakable (s : FacilityState) (client number : ℕ) : Type 0 where
@@ -109,15 +139,18 @@ pub interval_refusal-zero : (s : FacilityState) (interval : ℕ) → interval �
 unfolding interval_refusal
 interval_refusal-zero s interval h = rw (same interval 0 h) refl
 
-pub interval_refusal-late : (s : FacilityState) (interval : ℕ) → interval ≢ 0 → s.last - s.now < interval → interval_refusal s interval ≡ Some Reasons.TooLate
+pub interval_refusal-late : (s : FacilityState) (interval : ℕ) → interval ≢ 0 → s.last - s.now < interval
+    → interval_refusal s interval ≡ Some Reasons.TooLate
 unfolding interval_refusal
 interval_refusal-late s interval h k = rw (differ interval 0 h, lt_true (s.last - s.now) interval k) refl
 
-pub interval_refusal-spent : (s : FacilityState) (interval : ℕ) → interval ≢ 0 → interval ≤ s.last - s.now → LAST < s.next_serial → interval_refusal s interval ≡ Some Reasons.SerialsSpent
+pub interval_refusal-spent : (s : FacilityState) (interval : ℕ) → interval ≢ 0 → interval ≤ s.last - s.now → LAST < s.next_serial
+    → interval_refusal s interval ≡ Some Reasons.SerialsSpent
 unfolding interval_refusal
 interval_refusal-spent s interval h k l = rw (differ interval 0 h, lt_false (s.last - s.now) interval k, lt_true LAST s.next_serial l) refl
 
-pub interval_refusal-none : (s : FacilityState) (interval : ℕ) → interval ≢ 0 → interval ≤ s.last - s.now → s.next_serial ≤ LAST → interval_refusal s interval ≡ None
+pub interval_refusal-none : (s : FacilityState) (interval : ℕ) → interval ≢ 0 → interval ≤ s.last - s.now → s.next_serial ≤ LAST
+    → interval_refusal s interval ≡ None
 unfolding interval_refusal
 interval_refusal-none s interval h k l = rw (differ interval 0 h, lt_false (s.last - s.now) interval k, lt_false LAST s.next_serial l) refl
 
@@ -140,29 +173,39 @@ timely s interval h =
     }
 
 -- three tests, and the case where none of them holds
-three_tests : {X : Type 0} (x y z r : X) (rest : Option X) (a b c : Bool) → (if a then Some x else if b then Some y else if c then Some z else None) ≡ Some r
+three_tests : {X : Type 0} (x y z r : X) (rest : Option X) (a b c : Bool)
+    → (if a then Some x else if b then Some y else if c then Some z else None) ≡ Some r
     → (if a then Some x else if b then Some y else if c then Some z else rest) ≡ Some r
 three_tests x y z r rest true b c h = h
 three_tests x y z r rest false true c h = h
 three_tests x y z r rest false false true h = h
 three_tests x y z r rest false false false h = absurd (cc)
 
-pub start_refusal-interval : (s : FacilityState) (interval : ℕ) (reason : Reason) → interval_refusal s interval ≡ Some reason → start_refusal s interval ≡ Some reason
+pub start_refusal-interval : (s : FacilityState) (interval : ℕ) (reason : Reason) → interval_refusal s interval ≡ Some reason
+    → start_refusal s interval ≡ Some reason
 unfolding start_refusal interval_refusal
 start_refusal-interval s interval reason h =
-    three_tests Reasons.ZeroInterval Reasons.TooLate Reasons.SerialsSpent reason _ (interval == 0) (nat_lt (s.last - s.now) interval) (nat_lt LAST s.next_serial) h
+    three_tests Reasons.ZeroInterval Reasons.TooLate Reasons.SerialsSpent reason _ (interval == 0) (nat_lt (s.last - s.now) interval)
+    (nat_lt LAST s.next_serial) h
 
-start_refusal-room : (s : FacilityState) (interval : ℕ) → interval_refusal s interval ≡ None → start_refusal s interval ≡ (if length s.pending == s.capacity then Some Reasons.Full else None)
+start_refusal-room : (s : FacilityState) (interval : ℕ) → interval_refusal s interval ≡ None
+    → start_refusal s interval ≡ (if length s.pending == s.capacity then Some Reasons.Full else None)
 unfolding start_refusal
 start_refusal-room s interval h =
     let t : IsTimely s interval = timely s interval h in
     let positive : 0 < interval = t.positive in
-    rw (differ interval 0 (λ e. absurd (omega arith)), lt_false (s.last - s.now) interval t.in_time, lt_false LAST s.next_serial t.unspent) refl
+    rw (
+      differ interval 0 (λ e. absurd (omega arith)),
+      lt_false (s.last - s.now) interval t.in_time,
+      lt_false LAST s.next_serial t.unspent,
+    ) refl
 
-pub start_refusal-full : (s : FacilityState) (interval : ℕ) → interval_refusal s interval ≡ None → length s.pending ≡ s.capacity → start_refusal s interval ≡ Some Reasons.Full
+pub start_refusal-full : (s : FacilityState) (interval : ℕ) → interval_refusal s interval ≡ None → length s.pending ≡ s.capacity
+    → start_refusal s interval ≡ Some Reasons.Full
 start_refusal-full s interval h m = start_refusal-room s interval h ∙ rw (same (length s.pending) s.capacity m) refl
 
-pub start_refusal-none : (s : FacilityState) (interval : ℕ) → interval_refusal s interval ≡ None → length s.pending ≢ s.capacity → start_refusal s interval ≡ None
+pub start_refusal-none : (s : FacilityState) (interval : ℕ) → interval_refusal s interval ≡ None → length s.pending ≢ s.capacity
+    → start_refusal s interval ≡ None
 start_refusal-none s interval h m = start_refusal-room s interval h ∙ rw (differ (length s.pending) s.capacity m) refl
 
 -- what is true of a start that is accepted

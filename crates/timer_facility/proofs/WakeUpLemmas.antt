@@ -27,7 +27,8 @@ not_due_yet n d h = grind (arith, nat_tests)
 
 none_due : (tick n : ℕ) (es : List Entry) → AreFrom tick es → n < tick → filter (is_due_at n) (timers_of es) ≡ []
 none_due tick n [] a h = refl
-none_due tick n (e ∷ es) a h = let from : tick ≤ e.timer.deadline = a.0 in rw (not_due_yet n e.timer.deadline (omega arith)) (none_due tick n es a.1 h)
+none_due tick n (e ∷ es) a h = let from : tick ≤ e.timer.deadline = a.0
+    in rw (not_due_yet n e.timer.deadline (omega arith)) (none_due tick n es a.1 h)
 
 still_from : (tick : ℕ) (p : Entry → Bool) (es : List Entry) → AreFrom tick es → AreFrom tick (filter p es)
 still_from tick p [] a = tt
@@ -42,7 +43,8 @@ record IsQuiet (tick n : ℕ) (st : Step) : Type 0 where
   from : AreFrom tick st.state.pending
   before : st.state.now + n < tick
 
-quiet_tick : (tick n : ℕ) (s : FacilityState) (v : Option TickFault) → AreFrom tick s.pending → s.now + suc n < tick → IsQuiet tick n (step_of_tick s v)
+quiet_tick : (tick n : ℕ) (s : FacilityState) (v : Option TickFault) → AreFrom tick s.pending → s.now + suc n < tick
+    → IsQuiet tick n (step_of_tick s v)
 quiet_tick tick n s (Some fault) a h = record { none = refl; from = a; before = omega arith }
 quiet_tick tick n s None a h = record {
   none = ap (λ ts. notices_in (map (λ t. Outs.Notice (Expired t)) ts)) (none_due tick (s.now + 1) s.pending a (omega arith));
@@ -59,7 +61,8 @@ quiet_ticks tick (suc n) s a h =
     notices_in-append st.outs (outs_of (history st.state (ticks n))) ∙ ap (λ ns. ns ++ notices (history st.state (ticks n))) q.none ∙ rest
 
 -- a wheel's wake-up is its facility's
-pub quiet_until_is : {p : Parts} {v : FacilityView} → AreParts p → view_of p ≡ v → (result : Option ℕ) → Wheels.IsQuietUntil result p.wheel → IsQuietUntil result v.state
+pub quiet_until_is : {p : Parts} {v : FacilityView} → AreParts p → view_of p ≡ v → (result : Option ℕ) → Wheels.IsQuietUntil result p.wheel
+    → IsQuietUntil result v.state
 quiet_until_is {p} {v} a e None h = subst (λ (u : FacilityView). IsQuietUntil None u.state) e h
 quiet_until_is {p} {v} a e (Some tick) h =
     let here : IsWakeUp tick (view_of p).state = record {

@@ -1,4 +1,5 @@
--- What a caller sees of a facility: its state, and the notices that wait to be handed out. And its fields, the parts.
+-- What a caller sees of a facility: its state, and the notices that wait to be handed out. And its fields,
+-- the parts.
 use Rattle.std.specs.Prelude.{◌≡◌, ◌<◌, ◌≤◌, ◌⊎◌, ℕ, ◌+◌, Bool, List, [], ◌∷◌, ◌++◌, map, take, drop, length, slice_index, Some, None}
 use Rattle.std.specs.List.{AllByRecursion}
 use Rattle.timer_base.specs.declared.limits.TheConstants.{LAST}
@@ -51,8 +52,10 @@ place_in (Restarted handle deadline old) = handle.place
 place_in (Refused reason) = 0
 
 -- the request is taken, with this answer and this view after it
-pub record IsTaken (s : FacilityState) (client number : ℕ) (request : Request) (answer : Answer) (new : FacilityView) : Type 0 where
-  pub answered : (step s (asked client number request) (place_in answer)).outs ≡ Outs.Answered client number answer ∷ []
+pub record IsTaken (s : FacilityState) (client number : ℕ) (request : Request) (answer : Answer)
+    (new : FacilityView) : Type 0 where
+  pub answered : (step s (asked client number request) (place_in answer)).outs
+      ≡ Outs.Answered client number answer ∷ []
   pub left : new ≡ view_after (step s (asked client number request) (place_in answer))
 
 -- the request would be taken, and is a start that would be accepted
@@ -65,7 +68,8 @@ NeedsMemory s client number (Requests.Restart handle interval action) = ⊥
 -- the request is not taken, for the reason of the verdict; or it allocates, and the allocation failed
 abbrev pub IsNotTaken : FacilityState → ℕ → ℕ → Request → NotTaken → Type 0
 IsNotTaken s client number request reason =
-    (not_taken s client number ≡ Some reason) ⊎ ((reason ≡ NotTakens.OutOfMemory) × NeedsMemory s client number request)
+    (not_taken s client number ≡ Some reason) ⊎ ((reason ≡ NotTakens.OutOfMemory)
+    × NeedsMemory s client number request)
 
 -- the fields of a facility, as their values
 pub record Parts : Type 0 where

@@ -1,4 +1,5 @@
--- The handles that a player keeps, by serial: those of the pending timers, and some of timers that are no longer pending.
+-- The handles that a player keeps, by serial: those of the pending timers, and some of timers that are no
+-- longer pending.
 use Rattle.std.specs.Prelude.{◌≡◌, ◌≤◌, ◌<◌, ℕ, ◌+◌, ◌*◌, ◌==◌, Bool, List, [], ◌∷◌, ◌++◌, Option, None, Some, length, is_some, if◌then◌else◌}
 use Rattle.std.specs.List.{AllByRecursion}
 use Rattle.timer_base.specs.declared.timer.Handle.{Handle}

@@ -1,10 +1,11 @@
--- What is owed for a history: the notices that must have been handed out, computed from its requests and answers alone.
+-- What is owed for a history: the notices that must have been handed out, computed from its requests and
+-- answers alone.
 --
--- A history is a list of events, each with its outs. `owed s h`, for a history h that begins in state s, is for each
--- accepted tick in turn the timers due at it, as `Expired`; then, where h has an accepted close, all other timers that
--- were started and not stopped, by deadline and then serial, as `Returned`. It keeps no list of pending timers: it
--- filters the timers started by the serials stopped. The lemma `notices_are_owed` states that the notices of every run
--- are what is owed for it.
+-- A history is a list of events, each with its outs. `owed s h`, for a history h that begins in state s, is
+-- for each accepted tick in turn the timers due at it, as `Expired`; then, where h has an accepted close, all
+-- other timers that were started and not stopped, by deadline and then serial, as `Returned`. It keeps no
+-- list of pending timers: it filters the timers started by the serials stopped. The lemma `notices_are_owed`
+-- states that the notices of every run are what is owed for it.
 use Rattle.std.specs.Prelude.{◌≡◌, ◌<◌, ◌≤◌, ◌⊎◌, ℕ, zero, suc, ◌+◌, Bool, true, false, ◌&&◌, ◌||◌, ◌==◌, not, nat_lt, if◌then◌else◌, List, [], ◌∷◌, ◌++◌, map, filter}
 use Rattle.std.specs.List.{AllByRecursion}
 use Rattle.timer_base.specs.declared.timer.Timer.{Timer}
@@ -21,30 +22,46 @@ use Rattle.timer_facility.specs.Run.{Happened, notices}
 -- the timer of a start and its answer, where it was accepted
 abbrev pub timer_started : ℕ → ℕ → ℕ → Out → List Timer
 timer_started client number action (Outs.Answered c n (Started handle deadline)) =
-    record { serial = handle.serial; client = client; number = number; deadline = deadline; action = action } ∷ []
+    record {
+      serial = handle.serial;
+      client = client;
+      number = number;
+      deadline = deadline;
+      action = action;
+    } ∷ []
 timer_started client number action _ = []
 
 -- the timers of a start and its outs
 abbrev pub timers_started : ℕ → ℕ → ℕ → List Out → List Timer
 timers_started client number action [] = []
-timers_started client number action (out ∷ outs) = timer_started client number action out ++ timers_started client number action outs
+timers_started client number action (out ∷ outs) =
+    timer_started client number action out ++ timers_started client number action outs
 
 -- the new timer of a restart and its answer, where it was accepted
 abbrev pub timer_restarted : ℕ → ℕ → ℕ → Out → List Timer
 timer_restarted client number action (Outs.Answered c n (Restarted handle deadline old)) =
-    record { serial = handle.serial; client = client; number = number; deadline = deadline; action = action } ∷ []
+    record {
+      serial = handle.serial;
+      client = client;
+      number = number;
+      deadline = deadline;
+      action = action;
+    } ∷ []
 timer_restarted client number action _ = []
 
 -- the new timers of a restart and its outs
 abbrev pub timers_restarted : ℕ → ℕ → ℕ → List Out → List Timer
 timers_restarted client number action [] = []
-timers_restarted client number action (out ∷ outs) = timer_restarted client number action out ++ timers_restarted client number action outs
+timers_restarted client number action (out ∷ outs) =
+    timer_restarted client number action out ++ timers_restarted client number action outs
 
 -- the timers that an event started
 abbrev pub started_by : SingleEvent → List Out → List Timer
 started_by (Asked client number (Start interval action)) outs = timers_started client number action outs
-started_by (Asked client number (Restart handle interval action)) outs = timers_restarted client number action outs
-started_by (Asked client number (RestartSerial serial interval action)) outs = timers_restarted client number action outs
+started_by (Asked client number (Restart handle interval action)) outs =
+    timers_restarted client number action outs
+started_by (Asked client number (RestartSerial serial interval action)) outs =
+    timers_restarted client number action outs
 started_by _ outs = []
 
 -- the timers of the accepted starts and restarts
@@ -113,11 +130,13 @@ timers_in_order ts = in_order (λ t. t) ts
 
 -- of the started timers those with this deadline that were not stopped, by serial
 abbrev pub due : FacilityState → List Happened → ℕ → List Timer
-due s hs tick = timers_in_order (filter (λ t. t.deadline == tick && not (is_among t.serial (stopped hs))) (started s hs))
+due s hs tick = timers_in_order (filter (λ t. t.deadline == tick && not (is_among t.serial (stopped hs)))
+    (started s hs))
 
 -- those with a later deadline that were not stopped, by deadline and then by serial
 abbrev pub left_after : FacilityState → List Happened → ℕ → List Timer
-left_after s hs tick = timers_in_order (filter (λ t. nat_lt tick t.deadline && not (is_among t.serial (stopped hs))) (started s hs))
+left_after s hs tick = timers_in_order (filter (λ t.
+    nat_lt tick t.deadline && not (is_among t.serial (stopped hs))) (started s hs))
 
 -- what is due at each of the first n ticks after s in turn
 abbrev pub owed_by_ticks : FacilityState → List Happened → ℕ → List Notice
@@ -129,7 +148,8 @@ abbrev pub owed_by_close : FacilityState → List Happened → Bool → List Not
 owed_by_close s hs false = []
 owed_by_close s hs true = map (λ t. Returned t) (left_after s hs (s.now + accepted_ticks hs))
 
--- what is owed for a history that begins in s: at each accepted tick what is due, at an accepted close all others
+-- what is owed for a history that begins in s: at each accepted tick what is due, at an accepted close all
+-- others
 abbrev pub owed : FacilityState → List Happened → List Notice
 owed s hs = owed_by_ticks s hs (accepted_ticks hs) ++ owed_by_close s hs (has_closed hs)
 
@@ -147,8 +167,8 @@ abbrev pub IsIn : {X : Type 0} → X → List X → Type 0
 IsIn x [] = ⊥
 IsIn x (y ∷ ys) = (x ≡ y) ⊎ IsIn x ys
 
--- each timer that was started and not stopped is handed out: where its deadline was reached it expired, and where a close
--- came before that it was returned
+-- each timer that was started and not stopped is handed out: where its deadline was reached it expired, and
+-- where a close came before that it was returned
 pub record AreAllHandedOut (s : FacilityState) (hs : List Happened) : Type 0 where
   pub expired : (t : Timer) → IsIn t (started s hs) → is_among t.serial (stopped hs) ≡ false
       → t.deadline ≤ s.now + accepted_ticks hs → IsIn (Expired t) (notices hs)
@@ -160,10 +180,11 @@ abbrev pub is_due_within : ℕ → ℕ → Timer → Bool
 is_due_within now zero t = false
 is_due_within now (suc n) t = is_due_within now n t || (t.deadline == now + suc n)
 
--- of the started timers the others: those that were not due at any accepted tick and were not stopped, by deadline and
--- then by serial
+-- of the started timers the others: those that were not due at any accepted tick and were not stopped, by
+-- deadline and then by serial
 abbrev pub others : FacilityState → List Happened → List Timer
-others s hs = timers_in_order (filter (λ t. not (is_due_within s.now (accepted_ticks hs) t) && not (is_among t.serial (stopped hs))) (started s hs))
+others s hs = timers_in_order (filter (λ t. not (is_due_within s.now (accepted_ticks hs) t) && not
+    (is_among t.serial (stopped hs))) (started s hs))
 
 -- no timer is handed out twice, and none that was stopped
 pub record AreHandedOutOnce (hs : List Happened) : Type 0 where

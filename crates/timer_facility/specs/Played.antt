@@ -15,7 +15,8 @@ ticks_left s = if s.is_closed then 0 else s.last - s.now
 abbrev pub singles_of : FacilityState → Event → List SingleEvent
 singles_of s (Events.Start client number interval action) = Asked client number (Start interval action) ∷ []
 singles_of s (Events.Stop client number serial) = Asked client number (StopSerial serial) ∷ []
-singles_of s (Events.Restart client number serial interval action) = Asked client number (RestartSerial serial interval action) ∷ []
+singles_of s (Events.Restart client number serial interval action) =
+    Asked client number (RestartSerial serial interval action) ∷ []
 singles_of s (Events.Ticks count) = replicate (min count (ticks_left s + 1)) Tick
 singles_of s Events.Close = Close ∷ []
 
@@ -27,7 +28,8 @@ ArePlaced s (event ∷ events) placed =
     × ArePlaced (state_after s one) events rest
 
 -- the outs and the state are those of a run of the events
-pub record IsRun (s : FacilityState) (events : List Event) (outs : List Out) (after : FacilityState) : Type 0 where
+pub record IsRun (s : FacilityState) (events : List Event) (outs : List Out)
+    (after : FacilityState) : Type 0 where
   -- the single events, each with the place that the wheel gave
   pub placed : List Placed
   pub singles : ArePlaced s events placed
@@ -35,12 +37,15 @@ pub record IsRun (s : FacilityState) (events : List Event) (outs : List Out) (af
   pub after_is : after ≡ (run s placed).state
 
 -- the same, and after every single event the notices so far are what is owed
-pub record IsPlayed (s : FacilityState) (events : List Event) (outs : List Out) (after : FacilityState) : Type 0 where
+pub record IsPlayed (s : FacilityState) (events : List Event) (outs : List Out)
+    (after : FacilityState) : Type 0 where
   pub runs : IsRun s events outs after
-  pub notices_owed : (k : ℕ) → notices (take k (history s runs.placed)) ≡ owed s (take k (history s runs.placed))
+  pub notices_owed : (k : ℕ) → notices (take k (history s runs.placed))
+      ≡ owed s (take k (history s runs.placed))
 
 -- one more event was played, and its outs appended
-pub record AddsRun (s : FacilityState) (event : Event) (before outs : List Out) (after : FacilityState) : Type 0 where
+pub record AddsRun (s : FacilityState) (event : Event) (before outs : List Out)
+    (after : FacilityState) : Type 0 where
   pub more : List Out
   pub appended : outs ≡ before ++ more
   pub runs : IsRun s (event ∷ []) more after

@@ -22,7 +22,11 @@ pub record Happened : Type 0 where
 -- the events one after another, each with its outs
 abbrev pub history : FacilityState → List Placed → List Happened
 history s [] = []
-history s (p ∷ ps) = record { event = p.event; outs = (step s p.event p.place).outs } ∷ history (step s p.event p.place).state ps
+history s (p ∷ ps) = record {
+  event = p.event;
+  outs =
+      (step s p.event p.place).outs;
+} ∷ history (step s p.event p.place).state ps
 
 -- the state after the events
 abbrev pub state_after : FacilityState → List Placed → FacilityState

@@ -40,8 +40,8 @@ count_of client (t ∷ ts) = one_of client t + count_of client ts
 abbrev pub pending_of : FacilityState → ℕ → ℕ
 pending_of s client = count_of client (timers_of s.pending)
 
--- a request: a start with its interval and action, a stop of the timer with a handle or with a serial, or a restart of
--- one with the interval and action of the new timer
+-- a request: a start with its interval and action, a stop of the timer with a handle or with a serial, or a
+-- restart of one with the interval and action of the new timer
 pub data Wanted : Type 0 where
   Start : ℕ → ℕ → Wanted
   Stop : Handle → Wanted

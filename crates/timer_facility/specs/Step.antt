@@ -41,7 +41,10 @@ answer_to_start None place t = Started (record { place = place; serial = t.seria
 -- an accepted start inserts its timer into the pending ones, and uses up the serial
 abbrev pub after_start : Option Reason → ℕ → Timer → FacilityState → FacilityState
 after_start (Some reason) place t s = s
-after_start None place t s = record s { pending = put (record { place = place; timer = t }) s.pending; next_serial = s.next_serial + 1 }
+after_start None place t s = record s {
+  pending = put (record { place = place; timer = t }) s.pending;
+  next_serial = s.next_serial + 1;
+}
 
 -- a stop is answered with the timer that was found, if one was
 abbrev pub answer_to_stop : Option Timer → Answer
@@ -56,9 +59,13 @@ after_stop found s = record s { pending = without_found found s.pending }
 abbrev pub answer_to_restart : Option Timer → Option Reason → ℕ → Timer → Answer
 answer_to_restart None reason place t = Refused NoSuch
 answer_to_restart (Some old) (Some reason) place t = Refused reason
-answer_to_restart (Some old) None place t = Restarted (record { place = place; serial = t.serial }) t.deadline old.serial
+answer_to_restart (Some old) None place t = Restarted (record {
+  place = place;
+  serial = t.serial;
+}) t.deadline old.serial
 
--- an accepted restart is a stop of the old timer and then a start; a refused one leaves the old timer as it is
+-- an accepted restart is a stop of the old timer and then a start; a refused one leaves the old timer as it
+-- is
 abbrev pub after_restart : Option Timer → Option Reason → ℕ → Timer → FacilityState → FacilityState
 after_restart None reason place t s = s
 after_restart (Some old) (Some reason) place t s = s
@@ -66,22 +73,27 @@ after_restart (Some old) None place t s = after_start None place t (after_stop (
 
 -- the answer to a request that is taken; an accepted start or restart gets the place
 abbrev pub answer_to : FacilityState → ℕ → ℕ → Wanted → ℕ → Answer
-answer_to s client number (Start interval action) place = answer_to_start (start_refusal s interval) place (new_timer s client number interval action)
+answer_to s client number (Start interval action) place =
+    answer_to_start (start_refusal s interval) place (new_timer s client number interval action)
 answer_to s client number (Stop handle) place = answer_to_stop (named s client (Stop handle))
 answer_to s client number (StopSerial serial) place = answer_to_stop (named s client (StopSerial serial))
 answer_to s client number (Restart handle interval action) place =
     answer_to_restart (named s client (Restart handle interval action)) (interval_refusal s interval) place
     (new_timer s client number interval action)
 answer_to s client number (RestartSerial serial interval action) place =
-    answer_to_restart (named s client (RestartSerial serial interval action)) (interval_refusal s interval) place
+    answer_to_restart (named s client (RestartSerial serial interval action))
+    (interval_refusal s interval) place
     (new_timer s client number interval action)
 
 -- the state after a request that is taken: its number is used up, whatever the answer is
 abbrev pub after_taken : FacilityState → ℕ → ℕ → Wanted → ℕ → FacilityState
 after_taken s client number (Start interval action) place =
-    with_number client number (after_start (start_refusal s interval) place (new_timer s client number interval action) s)
-after_taken s client number (Stop handle) place = with_number client number (after_stop (named s client (Stop handle)) s)
-after_taken s client number (StopSerial serial) place = with_number client number (after_stop (named s client (StopSerial serial)) s)
+    with_number client number (after_start (start_refusal s interval) place
+    (new_timer s client number interval action) s)
+after_taken s client number (Stop handle) place = with_number client number
+    (after_stop (named s client (Stop handle)) s)
+after_taken s client number (StopSerial serial) place =
+    with_number client number (after_stop (named s client (StopSerial serial)) s)
 after_taken s client number (Restart handle interval action) place =
     with_number client number
     (after_restart (named s client (Restart handle interval action)) (interval_refusal s interval) place
@@ -105,7 +117,8 @@ after_close s = record s { pending = []; is_closed = true }
 
 -- a request, by why it is not taken
 abbrev pub step_of_request : FacilityState → ℕ → ℕ → Wanted → ℕ → Option NotTaken → Step
-step_of_request s client number wanted place (Some reason) = record { outs = Outs.NotTaken client number reason ∷ []; state = s }
+step_of_request s client number wanted place (Some reason) =
+    record { outs = Outs.NotTaken client number reason ∷ []; state = s }
 step_of_request s client number wanted place None = record {
   outs = Outs.Answered client number (answer_to s client number wanted place) ∷ [];
   state = after_taken s client number wanted place;
@@ -114,7 +127,10 @@ step_of_request s client number wanted place None = record {
 -- a tick, by why it is refused
 abbrev pub step_of_tick : FacilityState → Option TickFault → Step
 step_of_tick s (Some fault) = record { outs = Outs.TickRefused fault ∷ []; state = s }
-step_of_tick s None = record { outs = map (λ t. Outs.Notice (Expired t)) (expired_next s); state = after_tick s }
+step_of_tick s None = record {
+  outs = map (λ t. Outs.Notice (Expired t)) (expired_next s);
+  state = after_tick s;
+}
 
 -- a close, by whether the facility was closed already
 abbrev pub step_of_close : FacilityState → Bool → Step
@@ -124,15 +140,19 @@ step_of_close s false = record {
   state = after_close s;
 }
 
--- one event, by the verdict on it; an accepted start or restart gets the place, which is a free choice of the wheel
+-- one event, by the verdict on it; an accepted start or restart gets the place, which is a free choice of the
+-- wheel
 abbrev pub step : FacilityState → SingleEvent → ℕ → Step
-step s (Asked client number wanted) place = step_of_request s client number wanted place (not_taken s client number)
+step s (Asked client number wanted) place = step_of_request s client number wanted place
+    (not_taken s client number)
 step s Tick place = step_of_tick s (tick_refusal s)
 step s Close place = step_of_close s s.is_closed
 
--- a refused event: its only out is the refusal, and it changes nothing but the number of a request that was taken
+-- a refused event: its only out is the refusal, and it changes nothing but the number of a request that was
+-- taken
 abbrev pub refused : FacilityState → SingleEvent → Refusal → Step
-refused s (Asked client number wanted) (RequestNotTaken reason) = record { outs = Outs.NotTaken client number reason ∷ []; state = s }
+refused s (Asked client number wanted) (RequestNotTaken reason) =
+    record { outs = Outs.NotTaken client number reason ∷ []; state = s }
 refused s (Asked client number wanted) (RequestRefused reason) =
     record { outs = Outs.Answered client number (Refused reason) ∷ []; state = with_number client number s }
 refused s event (TickRefused fault) = record { outs = Outs.TickRefused fault ∷ []; state = s }

@@ -13,7 +13,8 @@ a_tick = record { event = Tick; place = 0 }
 abbrev pub ticks : ℕ → List Placed
 ticks n = replicate n a_tick
 
--- at most `limit` ticks were asked for and `passed` were passed: that many single ticks, each of them accepted
+-- at most `limit` ticks were asked for and `passed` were passed: that many single ticks, each of them
+-- accepted
 pub record AreTicked (limit passed : ℕ) (s : FacilityState) (new : FacilityView) : Type 0 where
   pub some : 1 ≤ passed
   pub at_most : passed ≤ min limit (s.last - s.now)

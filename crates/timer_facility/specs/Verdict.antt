@@ -32,7 +32,8 @@ named s client (Start interval action) = None
 named s client (Stop handle) = of_client client (first_timer (has_handle handle) s.pending)
 named s client (StopSerial serial) = of_client client (first_timer (λ e. has_serial serial e.timer) s.pending)
 named s client (Restart handle interval action) = of_client client (first_timer (has_handle handle) s.pending)
-named s client (RestartSerial serial interval action) = of_client client (first_timer (λ e. has_serial serial e.timer) s.pending)
+named s client (RestartSerial serial interval action) =
+    of_client client (first_timer (λ e. has_serial serial e.timer) s.pending)
 
 -- why a start with this interval is refused, if it is refused: the first test that holds
 unfoldable pub start_refusal : FacilityState → ℕ → Option Reason
@@ -43,7 +44,8 @@ start_refusal s interval =
     else if length s.pending == s.capacity then Some Full
     else None
 
--- why no timer can be started now with this interval, whether or not there is room for one: the first test that holds
+-- why no timer can be started now with this interval, whether or not there is room for one: the first test
+-- that holds
 unfoldable pub interval_refusal : FacilityState → ℕ → Option Reason
 interval_refusal s interval =
     if interval == 0 then Some ZeroInterval
@@ -66,15 +68,18 @@ abbrev pub refusal : FacilityState → ℕ → Wanted → Option Reason
 refusal s client (Start interval action) = start_refusal s interval
 refusal s client (Stop handle) = stop_refusal (named s client (Stop handle))
 refusal s client (StopSerial serial) = stop_refusal (named s client (StopSerial serial))
-refusal s client (Restart handle interval action) = restart_refusal (named s client (Restart handle interval action)) (interval_refusal s interval)
+refusal s client (Restart handle interval action) =
+    restart_refusal (named s client (Restart handle interval action)) (interval_refusal s interval)
 refusal s client (RestartSerial serial interval action) =
     restart_refusal (named s client (RestartSerial serial interval action)) (interval_refusal s interval)
 
 -- why a tick is refused, if it is refused: the first test that holds
 unfoldable pub tick_refusal : FacilityState → Option TickFault
-tick_refusal s = if s.is_closed then Some TickFaults.Closed else if s.now == s.last then Some TickFaults.ClockEnd else None
+tick_refusal s = if s.is_closed then Some TickFaults.Closed else if s.now == s.last then Some
+    TickFaults.ClockEnd else None
 
--- how an event is refused: a request that is not taken, a request that is taken and refused, a tick, or a close
+-- how an event is refused: a request that is not taken, a request that is taken and refused, a tick, or a
+-- close
 pub data Refusal : Type 0 where
   RequestNotTaken : NotTaken → Refusal
   RequestRefused : Reason → Refusal
@@ -93,7 +98,8 @@ verdict_on_tick None = None
 
 -- the verdict on an event: None where it is accepted, or else the first rule that refuses it
 abbrev pub verdict : FacilityState → SingleEvent → Option Refusal
-verdict s (Asked client number wanted) = verdict_on_request (not_taken s client number) (refusal s client wanted)
+verdict s (Asked client number wanted) = verdict_on_request (not_taken s client number)
+    (refusal s client wanted)
 verdict s Tick = verdict_on_tick (tick_refusal s)
 verdict s Close = if s.is_closed then Some CloseRefused else None
 

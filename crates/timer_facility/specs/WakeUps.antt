@@ -5,8 +5,8 @@ use Rattle.timer_facility.specs.State.{FacilityState}
 use Rattle.timer_facility.specs.Run.{history, notices}
 use Rattle.timer_facility.specs.Ticked.{ticks}
 
--- an owner that wakes up at this tick misses nothing: a timer is pending, the tick is after now, and it is at most every
--- pending deadline
+-- an owner that wakes up at this tick misses nothing: a timer is pending, the tick is after now, and it is at
+-- most every pending deadline
 pub record IsWakeUp (tick : ℕ) (s : FacilityState) : Type 0 where
   pub some : 0 < length s.pending
   pub later : s.now < tick

@@ -59,7 +59,8 @@ impl Model for Checked {
 impl Config {
     /// Checks that each number is in its range, in the order of `ConfigFault`. Does not allocate.
     pub fn check(self) -> Result<Checked, ConfigFault>
-        ensures { MatchResult result (λ checked. (checked ≡ self) × (config_fault self ≡ None)) (λ fault. config_fault self ≡ Some fault) }
+        ensures { MatchResult result (λ checked. (checked ≡ self)
+            × (config_fault self ≡ None)) (λ fault. config_fault self ≡ Some fault) }
     {
         if is_outside(1, MOST_CLIENTS, self.clients) {
             return Err(ConfigFault::Clients);

@@ -216,7 +216,8 @@ impl<W: Wheel + Drop> Facility<W> {
     pub fn tick(&mut self) -> Result<(), TickFault>
         requires { self.old.waiting ≡ [] }
         ensures ticked { self.new ≡ view_after (step self.old.state Tick 0) }
-        ensures fault { MatchResult result (λ _. tick_refusal self.old.state ≡ None) (λ fault. tick_refusal self.old.state ≡ Some fault) }
+        ensures fault { MatchResult result (λ _. tick_refusal self.old.state
+            ≡ None) (λ fault. tick_refusal self.old.state ≡ Some fault) }
         ensures verdict { MatchResult result
             (λ _. verdict self.old.state Tick ≡ None)
             (λ fault. verdict self.old.state Tick ≡ Some (TickRefused fault)) }
@@ -242,7 +243,8 @@ impl<W: Wheel + Drop> Facility<W> {
         requires waiting { self.old.waiting ≡ [] }
         requires some { 0 < limit }
         ensures ticked { IfOk result (λ passed. AreTicked limit passed self.old.state self.new) }
-        ensures fault { MatchResult result (λ _. tick_refusal self.old.state ≡ None) (λ fault. tick_refusal self.old.state ≡ Some fault) }
+        ensures fault { MatchResult result (λ _. tick_refusal self.old.state
+            ≡ None) (λ fault. tick_refusal self.old.state ≡ Some fault) }
         ensures err { OnErr result (self.new ≡ self.old) }
     {
         if self.is_closed {
@@ -298,7 +300,8 @@ impl<W: Wheel + Drop> Facility<W> {
     pub fn next_out(&mut self) -> Option<Notice>
         ensures first { result ≡ slice_get self.old.waiting 0 }
         ensures rest { self.new ≡ record self.old { waiting = drop 1 self.old.waiting } }
-        ensures client { IfSome result (λ notice. (timer_handed notice).client < length self.old.state.numbers) }
+        ensures client { IfSome result (λ notice. (timer_handed notice).client
+            < length self.old.state.numbers) }
     {
         if let Some(timer) = self.wheel.expire() {
             self.counts[timer.client as usize] -= 1;
@@ -348,10 +351,13 @@ impl<W: Wheel + Drop> Facility<W> {
     ) -> Result<Answer, NotTaken>
         requires waiting { self.old.waiting ≡ [] }
         requires taken { not_taken self.old.state client number ≡ None }
-        ensures answer { IfOk result (λ answer. answer ≡ answer_to self.old.state client number (Start interval action) (place_in answer)) }
+        ensures answer { IfOk result (λ answer. answer
+            ≡ answer_to self.old.state client number (Start interval action) (place_in answer)) }
         ensures left { IfOk result (λ answer.
-            self.new ≡ with_nothing_waiting (after_taken self.old.state client number (Start interval action) (place_in answer))) }
-        ensures memory { IfErr result (λ reason. (reason ≡ NotTaken.OutOfMemory) × (start_refusal self.old.state interval ≡ None)) }
+            self.new ≡ with_nothing_waiting
+            (after_taken self.old.state client number (Start interval action) (place_in answer))) }
+        ensures memory { IfErr result (λ reason. (reason ≡ NotTaken.OutOfMemory)
+            × (start_refusal self.old.state interval ≡ None)) }
         ensures err { OnErr result (self.new ≡ self.old) }
     {
         if let Some(reason) = self.start_refusal(interval) {
@@ -411,7 +417,8 @@ impl<W: Wheel + Drop> Facility<W> {
         requires waiting { self.old.waiting ≡ [] }
         requires taken { not_taken self.old.state client number ≡ None }
         ensures answer { result ≡ answer_to self.old.state client number (Stop handle) 0 }
-        ensures left { self.new ≡ with_nothing_waiting (after_taken self.old.state client number (Stop handle) 0) }
+        ensures left { self.new ≡ with_nothing_waiting
+            (after_taken self.old.state client number (Stop handle) 0) }
     {
         match self.find_named(client, handle) {
             None => {
@@ -440,7 +447,8 @@ impl<W: Wheel + Drop> Facility<W> {
     ) -> Answer
         requires waiting { self.old.waiting ≡ [] }
         requires taken { not_taken self.old.state client number ≡ None }
-        ensures answer { result ≡ answer_to self.old.state client number (Restart handle interval action) (place_in result) }
+        ensures answer { result ≡ answer_to self.old.state client number (Restart handle interval action)
+            (place_in result) }
         ensures left { self.new ≡ with_nothing_waiting
             (after_taken self.old.state client number (Restart handle interval action) (place_in result)) }
     {

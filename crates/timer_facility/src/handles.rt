@@ -85,7 +85,8 @@ impl Handles {
     pub fn handle_of(&self, serial: u64) -> Handle
         requires { AreSorted self.now.list.items }
         ensures serial { result.serial ≡ serial }
-        ensures place { (place : ℕ) → place_at serial self.now.list.items ≡ Some place → result.place ≡ place }
+        ensures place { (place : ℕ) → place_at serial self.now.list.items ≡ Some place
+            → result.place ≡ place }
     {
         Handle {
             place: place_of(&self.list, serial).unwrap_or(0),

@@ -26,8 +26,8 @@ pub fn each_timer_is_handed_out_once()
     ensures { (s : FacilityState) (placed : List Placed) → IsSound s → AreHandedOutOnce (history s placed) }
 {}
 
-/// Each timer that was started and not stopped is handed out: it expires where its deadline is reached, and is
-/// returned where the facility was closed before that.
+/// Each timer that was started and not stopped is handed out: it expires where its deadline is reached, and
+/// is returned where the facility was closed before that.
 pub fn each_timer_is_handed_out()
     ensures { (s : FacilityState) (placed : List Placed) → IsSound s → AreAllHandedOut s (history s placed) }
 {}
@@ -36,39 +36,45 @@ pub fn each_timer_is_handed_out()
 /// were not stopped.
 pub fn a_close_returns_the_others()
     ensures { (s : FacilityState) (placed : List Placed) → IsSound s
-        → left_after s (history s placed) (s.now + accepted_ticks (history s placed)) ≡ others s (history s placed) }
+        → left_after s (history s placed) (s.now + accepted_ticks (history s placed))
+        ≡ others s (history s placed) }
 {}
 
 /// The outs of events, and the state after them, do not depend on the places that a wheel chooses,
 /// where each stop and restart names its timer by serial.
 pub fn bare_outs_do_not_depend_on_places()
     ensures { (s t : FacilityState) (placed others : List Placed) → bare_state s ≡ bare_state t
-        → map (λ p. p.event) placed ≡ map (λ p. p.event) others → AllByRecursion NamesBySerial (map (λ p. p.event) placed)
+        → map (λ p. p.event) placed ≡ map (λ p. p.event) others
+        → AllByRecursion NamesBySerial (map (λ p. p.event) placed)
         → AreSameButForPlaces (run s placed) (run t others) }
 {}
 
 /// Any two players return the same outs for one list of events, except for places.
 pub fn players_give_the_same()
-    ensures { (s t : FacilityState) (events : List Event) (outs others : List Out) (after end : FacilityState) → bare_state s ≡ bare_state t
+    ensures { (s t : FacilityState) (events : List Event) (outs others : List Out) (after end : FacilityState)
+        → bare_state s ≡ bare_state t
         → IsRun s events outs after → IsRun t events others end
         → (bare_outs outs ≡ bare_outs others) × (bare_state after ≡ bare_state end) }
 {}
 
 /// A refused event changes nothing, except that a request which is taken uses up its number.
 pub fn a_refusal_changes_at_most_the_number()
-    ensures { (s : FacilityState) (event : SingleEvent) (place : ℕ) (refusal : Refusal) → verdict s event ≡ Some refusal
+    ensures { (s : FacilityState) (event : SingleEvent) (place : ℕ) (refusal : Refusal)
+        → verdict s event ≡ Some refusal
         → step s event place ≡ refused s event refusal }
 {}
 
 /// The outs of an event determine the verdict on it: those of an accepted event have no refusal, and the
 /// only refusal among those of a refused one is that of the verdict.
 pub fn the_outs_tell_the_verdict()
-    ensures { (s : FacilityState) (event : SingleEvent) (place : ℕ) → refusals_in (step s event place).outs ≡ refusals_of (verdict s event) }
+    ensures { (s : FacilityState) (event : SingleEvent) (place : ℕ)
+        → refusals_in (step s event place).outs ≡ refusals_of (verdict s event) }
 {}
 
 /// A closed facility refuses each event as closed.
 pub fn a_closed_facility_refuses_each_event()
-    ensures { (s : FacilityState) (event : SingleEvent) → s.is_closed ≡ true → verdict s event ≡ Some (closed_refusal event) }
+    ensures { (s : FacilityState) (event : SingleEvent) → s.is_closed ≡ true
+        → verdict s event ≡ Some (closed_refusal event) }
 {}
 
 /// After the close nothing is handed out, and nothing changes.
@@ -91,7 +97,8 @@ pub fn what_is_handed_out_was_pending()
 
 /// After a run, now is the start's now and one more for each accepted tick.
 pub fn now_counts_the_accepted_ticks()
-    ensures { (s : FacilityState) (placed : List Placed) → (state_after s placed).now ≡ s.now + accepted_ticks (history s placed) }
+    ensures { (s : FacilityState) (placed : List Placed)
+        → (state_after s placed).now ≡ s.now + accepted_ticks (history s placed) }
 {}
 
 /// A client that does not exist has no pending timer after a run, where it had none before.

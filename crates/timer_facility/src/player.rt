@@ -89,7 +89,8 @@ impl<W: Wheel + Drop> Player<W> {
     pub fn play(&mut self, events: &[Event]) -> Result<Vec<Out>, PlayStop>
         ensures played { IfOk result (λ outs. IsPlayed self.old events.now outs.items self.new) }
         ensures within { IfErr result (λ stop. stop.done < length events.now) }
-        ensures stopped { IfErr result (λ stop. IsPlayed self.old (take stop.done events.now) stop.outs.items self.new) }
+        ensures stopped { IfErr result (λ stop. IsPlayed self.old
+            (take stop.done events.now) stop.outs.items self.new) }
     {
         // From here on the prover knows of the state what the lemma on `owed` requires.
         let _now = self.facility.now();
@@ -144,7 +145,8 @@ impl<W: Wheel + Drop> Player<W> {
         action: u64,
         outs: &mut Vec<Out>,
     ) -> Result<(), OutOfMemory>
-        ensures ok { OnOk result (AddsRun self.old (Event.Start client number interval action) outs.old.items outs.new.items self.new) }
+        ensures ok { OnOk result (AddsRun self.old
+            (Event.Start client number interval action) outs.old.items outs.new.items self.new) }
         ensures state { OnErr result (self.new ≡ self.old) }
         ensures outs { OnErr result (outs.new.items ≡ outs.old.items) }
     {
@@ -178,7 +180,8 @@ impl<W: Wheel + Drop> Player<W> {
         serial: u64,
         outs: &mut Vec<Out>,
     ) -> Result<(), OutOfMemory>
-        ensures ok { OnOk result (AddsRun self.old (Event.Stop client number serial) outs.old.items outs.new.items self.new) }
+        ensures ok { OnOk result (AddsRun self.old
+            (Event.Stop client number serial) outs.old.items outs.new.items self.new) }
         ensures state { OnErr result (self.new ≡ self.old) }
         ensures outs { OnErr result (outs.new.items ≡ outs.old.items) }
     {
@@ -207,7 +210,8 @@ impl<W: Wheel + Drop> Player<W> {
         action: u64,
         outs: &mut Vec<Out>,
     ) -> Result<(), OutOfMemory>
-        ensures ok { OnOk result (AddsRun self.old (Event.Restart client number serial interval action) outs.old.items outs.new.items self.new) }
+        ensures ok { OnOk result (AddsRun self.old
+            (Event.Restart client number serial interval action) outs.old.items outs.new.items self.new) }
         ensures state { OnErr result (self.new ≡ self.old) }
         ensures outs { OnErr result (outs.new.items ≡ outs.old.items) }
     {
@@ -297,7 +301,8 @@ fn make_room<W: Wheel + Drop>(
     outs: &mut Vec<Out>,
 ) -> Result<(), OutOfMemory>
     ensures items { outs.new.items ≡ outs.old.items }
-    ensures room { OnOk result (vec_len outs.new + length facility.now.state.pending < vec_capacity outs.new) }
+    ensures room { OnOk result (vec_len outs.new + length facility.now.state.pending
+        < vec_capacity outs.new) }
     ensures sound { IsSound facility.now.state }
 {
     outs.reserve(facility.pending() + 1)?;
@@ -309,9 +314,11 @@ fn pass_ticks<W: Wheel + Drop>(facility: &mut Facility<W>, count: u64, outs: &mu
     requires sound { IsSound facility.old.state }
     requires waiting { facility.old.waiting ≡ [] }
     requires room { vec_len outs.old + length facility.old.state.pending < vec_capacity outs.old }
-    ensures run { AddsRun facility.old.state (Event.Ticks count) outs.old.items outs.new.items facility.new.state }
+    ensures run { AddsRun facility.old.state (Event.Ticks count) outs.old.items outs.new.items
+        facility.new.state }
     ensures waiting { facility.new.waiting ≡ [] }
-    ensures handles { (handles : HandleList) → AreRecorded handles facility.old.state → AreRecorded handles facility.new.state }
+    ensures handles { (handles : HandleList) → AreRecorded handles facility.old.state
+        → AreRecorded handles facility.new.state }
 {
     let mut left = count;
     while left > 0 {

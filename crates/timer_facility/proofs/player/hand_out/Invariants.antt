@@ -7,7 +7,8 @@ use Rattle.timer_facility.proofs.player.hand_out.Given as goal
 abbrev pub invariant-loop-notice : goal.invariant-loop-notice
 invariant-loop-notice g l = record {
   state : l.facility.state ≡ l.initial.facility.state;
-  outs : l.outs.items ++ map (λ notice. Outs.Notice notice) l.facility.waiting ≡ l.initial.outs.items ++ map (λ notice. Outs.Notice notice) l.initial.facility.waiting;
+  outs : l.outs.items ++ map (λ notice. Outs.Notice notice) l.facility.waiting
+      ≡ l.initial.outs.items ++ map (λ notice. Outs.Notice notice) l.initial.facility.waiting;
   len : vec_len l.outs + length l.facility.waiting ≡ vec_len l.initial.outs + length l.initial.facility.waiting;
   capacity : vec_capacity l.outs ≡ vec_capacity l.initial.outs;
 }

@@ -12,7 +12,8 @@ pub hand_out-requires : goal.hand_out-requires
 hand_out-requires g c =
     let here : FacilityState = c.loop-left.facility.state in
     let there : FacilityView = c.ticks.new.self in
-    let all : length there.waiting + length there.state.pending ≡ length here.pending = length-many c.loop-left.left c.in-Ok.passed here there c.in-Ok.ensures.ticked in
+    let all : length there.waiting + length there.state.pending ≡ length here.pending =
+    length-many c.loop-left.left c.in-Ok.passed here there c.in-Ok.ensures.ticked in
     let room : vec_len c.loop-left.outs + length here.pending < vec_capacity c.loop-left.outs = c.loop-left.invariant.room in
     omega arith
 
@@ -27,7 +28,8 @@ loop-left-preserved g c =
     let at_most : c.in-Ok.passed ≤ min c.loop-left.left (here.last - here.now) = t.at_most in
     let few : c.loop-left.left ≤ c.args.count = c.loop-left.invariant.few in
     let passed : c.args.count - c.loop-left.left + c.in-Ok.passed ≡ c.args.count - (c.loop-left.left - c.in-Ok.passed) = omega arith in
-    let all : length there.waiting + length there.state.pending ≡ length here.pending = length-many c.loop-left.left c.in-Ok.passed here there t in
+    let all : length there.waiting + length there.state.pending ≡ length here.pending =
+    length-many c.loop-left.left c.in-Ok.passed here there t in
     let room : vec_len c.loop-left.outs + length here.pending < vec_capacity c.loop-left.outs = c.loop-left.invariant.room in
     let left : length end.state.pending ≡ length there.state.pending = ap (λ (d : FacilityState). length d.pending) state in
     let len : vec_len c.hand_out.new.outs ≡ vec_len c.loop-left.outs + length there.waiting = c.hand_out.ensures.len in
@@ -35,11 +37,13 @@ loop-left-preserved g c =
     record {
       few = omega arith;
       run = subst (λ n. HasTicked s n c.args.outs.now.items c.hand_out.new.outs.items end.state) passed
-          (HasTicked-many s (c.args.count - c.loop-left.left) c.loop-left.left c.in-Ok.passed c.args.outs.now.items c.loop-left.outs.items c.hand_out.new.outs.items here end.state there
+          (HasTicked-many s (c.args.count - c.loop-left.left) c.loop-left.left c.in-Ok.passed c.args.outs.now.items c.loop-left.outs.items
+          c.hand_out.new.outs.items here end.state there
           c.loop-left.invariant.run t c.hand_out.ensures.outs state);
       waiting = ap (λ (v : FacilityView). v.waiting) c.hand_out.ensures.facility;
       room = omega arith;
-      handles = λ handles a. subst (AreRecorded handles) (sym state) (AreRecorded-ticks handles c.loop-left.left c.in-Ok.passed here there t (c.loop-left.invariant.handles handles a));
+      handles = λ handles a. subst (AreRecorded handles) (sym state)
+          (AreRecorded-ticks handles c.loop-left.left c.in-Ok.passed here there t (c.loop-left.invariant.handles handles a));
     }
 
 pub returns-in-Err-clause-run : goal.returns-in-Err-clause-run
@@ -48,8 +52,10 @@ returns-in-Err-clause-run g c =
     let here : FacilityState = c.loop-left.facility.state in
     let few : c.loop-left.left ≤ c.args.count = c.loop-left.invariant.few in
     let some = c.loop-left-test.true in
-    AddsRun-refused s c.args.count (c.args.count - c.loop-left.left) c.args.outs.now.items c.loop-left.outs.items c.push_reserved.new.self.items here c.ticks.new.self.state c.in-Err.fault
-    c.loop-left.invariant.run (omega arith) c.in-Err.ensures.fault (ap (λ (v : FacilityView). v.state) c.in-Err.ensures.err) c.push_reserved.ensures.items
+    AddsRun-refused s c.args.count (c.args.count - c.loop-left.left) c.args.outs.now.items c.loop-left.outs.items
+    c.push_reserved.new.self.items here c.ticks.new.self.state c.in-Err.fault
+    c.loop-left.invariant.run (omega arith) c.in-Err.ensures.fault
+    (ap (λ (v : FacilityView). v.state) c.in-Err.ensures.err) c.push_reserved.ensures.items
 
 pub returns-clause-run : goal.returns-clause-run
 returns-clause-run g c =

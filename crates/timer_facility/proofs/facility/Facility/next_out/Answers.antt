@@ -29,7 +29,8 @@ bounds-self-inside-timer-in-Some g c =
     omega (arith, counted.within)
 
 pub invariant_of-self : goal.invariant_of-self
-invariant_of-self g c = parts-expiry c.self.invariant c.in-Some.timer (sym c.in-Some.ensures.first) (g.W.Wheel.state c.expire.new.self) c.in-Some.ensures.rest
+invariant_of-self g c = parts-expiry c.self.invariant c.in-Some.timer (sym c.in-Some.ensures.first)
+    (g.W.Wheel.state c.expire.new.self) c.in-Some.ensures.rest
 
 pub returns-in-Some-clause-client : goal.returns-in-Some-clause-client
 returns-in-Some-clause-client g c =
@@ -40,30 +41,37 @@ returns-in-Some-clause-client g c =
 
 pub offset_bounds-self-inside-timer-2 : goal.offset_bounds-self-inside-timer-2
 offset_bounds-self-inside-timer-2 g c =
-    let counted = next_counted c.self.invariant c.len.result (length_is c.self.inside.returned c.len.result c.len.ensures) c.if-self-len.false c.index-timer.result.now c.index-timer.ensures in
+    let counted = next_counted c.self.invariant c.len.result (length_is c.self.inside.returned c.len.result c.len.ensures)
+    c.if-self-len.false c.index-timer.result.now c.index-timer.ensures in
     omega (arith, counted.within)
 
 pub bounds-self-inside-timer-2 : goal.bounds-self-inside-timer-2
 bounds-self-inside-timer-2 g c =
-    let counted = next_counted c.self.invariant c.len.result (length_is c.self.inside.returned c.len.result c.len.ensures) c.if-self-len.false c.index-timer.result.now c.index-timer.ensures in
+    let counted = next_counted c.self.invariant c.len.result (length_is c.self.inside.returned c.len.result c.len.ensures)
+    c.if-self-len.false c.index-timer.result.now c.index-timer.ensures in
     omega (arith, counted.within)
 
 pub overflow_sub-self-2 : goal.overflow_sub-self-2
 overflow_sub-self-2 g c =
-    let counted = next_counted c.self.invariant c.len.result (length_is c.self.inside.returned c.len.result c.len.ensures) c.if-self-len.false c.index-timer.result.now c.index-timer.ensures in
+    let counted = next_counted c.self.invariant c.len.result (length_is c.self.inside.returned c.len.result c.len.ensures)
+    c.if-self-len.false c.index-timer.result.now c.index-timer.ensures in
     omega (arith, counted.some)
 
 pub bounds-self-inside-timer-3 : goal.bounds-self-inside-timer-3
 bounds-self-inside-timer-3 g c =
-    let counted = next_counted c.self.invariant c.len.result (length_is c.self.inside.returned c.len.result c.len.ensures) c.if-self-len.false c.index-timer.result.now c.index-timer.ensures in
+    let counted = next_counted c.self.invariant c.len.result (length_is c.self.inside.returned c.len.result c.len.ensures)
+    c.if-self-len.false c.index-timer.result.now c.index-timer.ensures in
     omega (arith, counted.within)
 
 pub invariant_of-self-2 : goal.invariant_of-self-2
 invariant_of-self-2 g c =
-    let next = returned_next c.self.invariant c.len.result (length_is c.self.inside.returned c.len.result c.len.ensures) c.if-self-len.false c.index-timer.result.now c.index-timer.ensures in
-    parts-returned (parts-nothing_due c.self.invariant (sym c.in_default.ensures.first) (g.W.Wheel.state c.expire.new.self) c.in_default.ensures.rest) c.index-timer.result.now next
+    let next = returned_next c.self.invariant c.len.result (length_is c.self.inside.returned c.len.result c.len.ensures) c.if-self-len.false
+    c.index-timer.result.now c.index-timer.ensures in
+    parts-returned (parts-nothing_due c.self.invariant (sym c.in_default.ensures.first)
+    (g.W.Wheel.state c.expire.new.self) c.in_default.ensures.rest) c.index-timer.result.now next
 
 pub returns-clause-client : goal.returns-clause-client
 returns-clause-client g c =
-    let counted = next_counted c.self.invariant c.len.result (length_is c.self.inside.returned c.len.result c.len.ensures) c.if-self-len.false c.index-timer.result.now c.index-timer.ensures in
+    let counted = next_counted c.self.invariant c.len.result (length_is c.self.inside.returned c.len.result c.len.ensures)
+    c.if-self-len.false c.index-timer.result.now c.index-timer.ensures in
     omega (arith, counted.is_client, clients_are c.self.invariant c.self.view_is)

@@ -17,4 +17,5 @@ pub invariant_of-result : goal.invariant_of-result
 invariant_of-result g c =
     let k = c.config-config.result in
     parts-open (g.W.Wheel.state c.args.wheel) k c.new.result.items c.config-config.ensures.in_range c.requires.pending c.requires.due
-    (subst (λ (d : Config). (g.W.Wheel.state c.args.wheel).last_serial < d.first_serial) (sym c.config-config.ensures.config) c.requires.serial) c.new.ensures.items
+    (subst (λ (d : Config). (g.W.Wheel.state c.args.wheel).last_serial < d.first_serial)
+    (sym c.config-config.ensures.config) c.requires.serial) c.new.ensures.items

@@ -5,4 +5,5 @@ use Rattle.timer_facility.proofs.facility.Facility.take.Goals as goal
 
 pub returns-in-Err-clause-verdict : goal.returns-in-Err-clause-verdict
 returns-in-Err-clause-verdict g c =
-    verdict-not_taken c.args.self.now.state c.args.client c.args.number (refusal c.args.self.now.state c.args.client (wanted_of c.args.request)) c.in-Err.reason c.in-Err.ensures
+    verdict-not_taken c.args.self.now.state c.args.client c.args.number
+    (refusal c.args.self.now.state c.args.client (wanted_of c.args.request)) c.in-Err.reason c.in-Err.ensures

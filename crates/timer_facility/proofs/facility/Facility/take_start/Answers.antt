@@ -5,21 +5,25 @@ use Rattle.timer_facility.proofs.VerdictLemmas.{startable}
 use Rattle.timer_facility.proofs.facility.Facility.take_start.Goals as goal
 
 pub overflow_add-self : goal.overflow_add-self
-overflow_add-self g c = let n = (next_when c.self.invariant c.self.view_is c.args.client c.args.number c.requires.taken).in_range in omega arith
+overflow_add-self g c = let n = (next_when c.self.invariant c.self.view_is c.args.client c.args.number c.requires.taken).in_range
+    in omega arith
 
 pub offset_bounds-self-inside-client : goal.offset_bounds-self-inside-client
-offset_bounds-self-inside-client g c = let low = in_arrays c.self.invariant c.self.view_is c.args.client c.args.number c.requires.taken in omega arith
+offset_bounds-self-inside-client g c = let low = in_arrays c.self.invariant c.self.view_is c.args.client c.args.number c.requires.taken
+    in omega arith
 
 pub bounds-self-inside-client : goal.bounds-self-inside-client
 bounds-self-inside-client g c = in_arrays c.self.invariant c.self.view_is c.args.client c.args.number c.requires.taken
 
 pub invariant_of-self : goal.invariant_of-self
-invariant_of-self g c = parts-used c.self.invariant c.args.client c.args.number (next_when c.self.invariant c.self.view_is c.args.client c.args.number c.requires.taken).in_range
+invariant_of-self g c = parts-used c.self.invariant c.args.client c.args.number
+    (next_when c.self.invariant c.self.view_is c.args.client c.args.number c.requires.taken).in_range
 
 pub returns-in-Some-clause-left : goal.returns-in-Some-clause-left
 returns-in-Some-clause-left g c =
     let n = next_when c.self.invariant c.self.view_is c.args.client c.args.number c.requires.taken in
-    view-refused c.self.invariant c.self.view_is c.args.client c.args.number c.args.interval c.args.action c.in-Some.reason n.is_client c.requires.waiting (sym c.in-Some.ensures)
+    view-refused c.self.invariant c.self.view_is c.args.client c.args.number c.args.interval c.args.action c.in-Some.reason n.is_client
+    c.requires.waiting (sym c.in-Some.ensures)
 
 pub overflow_add-deadline : goal.overflow_add-deadline
 overflow_add-deadline g c =
@@ -44,10 +48,12 @@ start-requires-clause-serial g c =
     (startable c.args.self.now.state c.args.interval (sym c.in_default.ensures)).timely c.now.ensures).unspent
 
 pub overflow_add-self-in-Ok-2 : goal.overflow_add-self-in-Ok-2
-overflow_add-self-in-Ok-2 g c = let n = (next_when c.self.invariant c.self.view_is c.args.client c.args.number c.requires.taken).in_range in omega arith
+overflow_add-self-in-Ok-2 g c = let n = (next_when c.self.invariant c.self.view_is c.args.client c.args.number c.requires.taken).in_range
+    in omega arith
 
 pub offset_bounds-self-inside-client-in-Ok : goal.offset_bounds-self-inside-client-in-Ok
-offset_bounds-self-inside-client-in-Ok g c = let low = in_arrays c.self.invariant c.self.view_is c.args.client c.args.number c.requires.taken in omega arith
+offset_bounds-self-inside-client-in-Ok g c = let low = in_arrays c.self.invariant c.self.view_is c.args.client c.args.number
+    c.requires.taken in omega arith
 
 pub bounds-self-inside-client-in-Ok : goal.bounds-self-inside-client-in-Ok
 bounds-self-inside-client-in-Ok g c = in_arrays c.self.invariant c.self.view_is c.args.client c.args.number c.requires.taken
@@ -62,23 +68,28 @@ invariant_of-self-in-Ok g c =
     let length = t.length_is in
     let capacity = t.capacity_is in
     let n = next_when c.self.invariant c.self.view_is c.args.client c.args.number c.requires.taken in
-    parts-used (parts-start c.self.invariant (omega arith) (λ e. room (length ∙ e ∙ sym capacity)) c.in-Ok.handle.place _ refl n.is_client (g.W.Wheel.state c.start.new.self) c.in-Ok.ensures.started) c.args.client c.args.number n.in_range
+    parts-used (parts-start c.self.invariant (omega arith) (λ e. room (length ∙ e ∙ sym capacity)) c.in-Ok.handle.place _ refl n.is_client
+    (g.W.Wheel.state c.start.new.self) c.in-Ok.ensures.started) c.args.client c.args.number n.in_range
 
 pub returns-in-Ok-clause-answer : goal.returns-in-Ok-clause-answer
 returns-in-Ok-clause-answer g c =
     let t = tells c.self.invariant c.self.view_is in
     let s = c.args.self.now.state in
-    answer_started c.in-Ok.handle s.next_serial (s.now + c.args.interval) (c.now.result + c.args.interval) (c.in-Ok.ensures.named ∙ sym t.serial_is) (ap (λ n. n + c.args.interval) (c.now.ensures ∙ sym t.now_is))
-    ∙ ap (λ r. answer_to_start r c.in-Ok.handle.place (new_timer s c.args.client c.args.number c.args.interval c.args.action)) c.in_default.ensures
+    answer_started c.in-Ok.handle s.next_serial (s.now + c.args.interval) (c.now.result + c.args.interval) (c.in-Ok.ensures.named
+    ∙ sym t.serial_is) (ap (λ n. n + c.args.interval) (c.now.ensures ∙ sym t.now_is))
+    ∙ ap (λ r. answer_to_start r c.in-Ok.handle.place (new_timer s c.args.client c.args.number c.args.interval c.args.action))
+    c.in_default.ensures
 
 pub returns-in-Ok-clause-left : goal.returns-in-Ok-clause-left
 returns-in-Ok-clause-left g c =
     let n = next_when c.self.invariant c.self.view_is c.args.client c.args.number c.requires.taken in
-    view-start c.self.invariant c.self.view_is c.args.client c.args.number c.args.interval c.args.action c.in-Ok.handle.place n.is_client c.requires.waiting (sym c.in_default.ensures)
+    view-start c.self.invariant c.self.view_is c.args.client c.args.number c.args.interval c.args.action c.in-Ok.handle.place n.is_client
+    c.requires.waiting (sym c.in_default.ensures)
     c.now.result c.now.ensures (g.W.Wheel.state c.start.new.self) c.in-Ok.ensures.started
 
 pub offset_bounds-self-inside-client-in-Ok-2 : goal.offset_bounds-self-inside-client-in-Ok-2
-offset_bounds-self-inside-client-in-Ok-2 g c = let low = in_arrays c.self.invariant c.self.view_is c.args.client c.args.number c.requires.taken in omega arith
+offset_bounds-self-inside-client-in-Ok-2 g c = let low = in_arrays c.self.invariant c.self.view_is c.args.client c.args.number
+    c.requires.taken in omega arith
 
 pub bounds-self-inside-client-in-Ok-2 : goal.bounds-self-inside-client-in-Ok-2
 bounds-self-inside-client-in-Ok-2 g c = in_arrays c.self.invariant c.self.view_is c.args.client c.args.number c.requires.taken

@@ -7,7 +7,8 @@ use Rattle.timer_facility.proofs.handles.Handles.forget.Goals as goal
 pub returns-then-len-enough-clause-recorded : goal.returns-then-len-enough-clause-recorded
 returns-then-len-enough-clause-recorded g c =
     let s : FacilityState = c.args.facility.now.state in
-    subst (λ (handles : HandleList). AreRecorded handles s) (sym c.sweep.ensures) (AreRecorded-sweep c.args.self.now.list.items s c.requires)
+    subst (λ (handles : HandleList). AreRecorded handles s) (sym c.sweep.ensures)
+    (AreRecorded-sweep c.args.self.now.list.items s c.requires)
 
 pub returns-then-len-enough-clause-few : goal.returns-then-len-enough-clause-few
 returns-then-len-enough-clause-few g c =

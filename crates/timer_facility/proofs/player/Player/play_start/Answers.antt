@@ -16,15 +16,18 @@ forget-requires g c =
     let s : FacilityState = c.self.inside.facility.state in
     let before : HandleList = c.self.inside.handles.list.items in
     let kept : StaysRecorded c.take.new.self (with_answer c.in-Ok.answer before) =
-    recorded-start s c.take.new.self before c.args.client c.args.number c.args.interval c.args.action c.in-Ok.answer c.self.invariant.recorded c.in-Ok.ensures.taken in
-    subst (λ (handles : HandleList). AreRecorded handles c.take.new.self.state) (sym (c.record.ensures ∙ ap (with_answer c.in-Ok.answer) c.make_room.ensures.list)) kept.recorded
+    recorded-start s c.take.new.self before c.args.client c.args.number c.args.interval c.args.action c.in-Ok.answer
+    c.self.invariant.recorded c.in-Ok.ensures.taken in
+    subst (λ (handles : HandleList). AreRecorded handles c.take.new.self.state)
+    (sym (c.record.ensures ∙ ap (with_answer c.in-Ok.answer) c.make_room.ensures.list)) kept.recorded
 
 pub invariant_of-self-in-Ok : goal.invariant_of-self-in-Ok
 invariant_of-self-in-Ok g c =
     let s : FacilityState = c.self.inside.facility.state in
     let before : HandleList = c.self.inside.handles.list.items in
     let kept : StaysRecorded c.take.new.self (with_answer c.in-Ok.answer before) =
-    recorded-start s c.take.new.self before c.args.client c.args.number c.args.interval c.args.action c.in-Ok.answer c.self.invariant.recorded c.in-Ok.ensures.taken in
+    recorded-start s c.take.new.self before c.args.client c.args.number c.args.interval c.args.action c.in-Ok.answer
+    c.self.invariant.recorded c.in-Ok.ensures.taken in
     record { waiting = kept.waiting; recorded = c.forget.ensures.recorded; few = c.forget.ensures.few }
 
 pub returns-in-Ok-clause-ok : goal.returns-in-Ok-clause-ok
@@ -35,7 +38,8 @@ returns-in-Ok-clause-ok g c =
     let outs : c.push_answer.new.outs.items ≡ before ++ Outs.Answered c.args.client c.args.number c.in-Ok.answer ∷ [] =
     c.push_answer.ensures ∙ ap (λ os. os ++ Outs.Answered c.args.client c.args.number c.in-Ok.answer ∷ []) c.reserve.ensures.items in
     subst (λ a. AddsRun a event before c.push_answer.new.outs.items c.take.new.self.state) c.self.view_is
-    (AddsRun-taken s event c.args.client c.args.number (Requests.Start c.args.interval c.args.action) c.in-Ok.answer before c.push_answer.new.outs.items c.take.new.self refl c.in-Ok.ensures.taken outs)
+    (AddsRun-taken s event c.args.client c.args.number (Requests.Start c.args.interval c.args.action) c.in-Ok.answer before
+    c.push_answer.new.outs.items c.take.new.self refl c.in-Ok.ensures.taken outs)
 
 pub returns-in_default : goal.returns-in_default
 returns-in_default g c =
@@ -44,13 +48,15 @@ returns-in_default g c =
     let event = Events.Start c.args.client c.args.number c.args.interval c.args.action in
     let wanted = Start c.args.interval c.args.action in
     let reason : not_taken s c.args.client c.args.number ≡ Some c.in-Err.reason =
-    reason-verdict s c.args.client c.args.number (Requests.Start c.args.interval c.args.action) c.in-Err.reason c.in-Err.ensures.not_taken c.in_default.not-OutOfMemory in
+    reason-verdict s c.args.client c.args.number (Requests.Start c.args.interval c.args.action) c.in-Err.reason c.in-Err.ensures.not_taken
+    c.in_default.not-OutOfMemory in
     let outs : c.push_reason.new.outs.items ≡ before ++ Outs.NotTaken c.args.client c.args.number c.in-Err.reason ∷ [] =
     c.push_reason.ensures ∙ ap (λ os. os ++ Outs.NotTaken c.args.client c.args.number c.in-Err.reason ∷ []) c.reserve.ensures.items in
     let left : c.take.new.self.state ≡ s = ap (λ (v : FacilityView). v.state) c.in-Err.ensures.err in
     record {
       ok = subst (λ a. AddsRun a event before c.push_reason.new.outs.items c.take.new.self.state) c.self.view_is
-          (AddsRun-not_taken s event c.args.client c.args.number wanted c.in-Err.reason before c.push_reason.new.outs.items c.take.new.self.state refl reason outs left);
+          (AddsRun-not_taken s event c.args.client c.args.number wanted c.in-Err.reason before c.push_reason.new.outs.items
+          c.take.new.self.state refl reason outs left);
       state = tt;
       outs = tt;
     }
