@@ -10,7 +10,8 @@ use Rattle.timer_facility.specs.Verdict.{not_taken}
 use Rattle.timer_facility.specs.Facility.{IsNotTaken, NeedsMemory}
 
 first_of : (closed no_client repeated spent ahead : Bool) (next : ℕ)
-    → (if closed then Some Closed else if no_client then Some NoClient else if repeated then Some (Repeated next) else if spent then Some NumbersSpent else if ahead then Some (Ahead next) else None) ≡ Some OutOfMemory → ⊥
+    → (if closed then Some Closed else if no_client then Some NoClient else if repeated then Some
+    (Repeated next) else if spent then Some NumbersSpent else if ahead then Some (Ahead next) else None) ≡ Some OutOfMemory → ⊥
 first_of true a b c d next h = absurd (cc)
 first_of false true b c d next h = absurd (cc)
 first_of false false true c d next h = absurd (cc)
@@ -21,10 +22,12 @@ first_of false false false false false next h = absurd (cc)
 no_want : (s : FacilityState) (client number : ℕ) → not_taken s client number ≡ Some OutOfMemory → ⊥
 unfolding not_taken
 no_want s client number h =
-    first_of s.is_closed (not (nat_lt client (length s.numbers))) (nat_lt number (number_of s client)) (nat_lt LAST (number_of s client)) (nat_lt (number_of s client) number) (number_of s client) h
+    first_of s.is_closed (not (nat_lt client (length s.numbers))) (nat_lt number (number_of s client)) (nat_lt LAST (number_of s client))
+    (nat_lt (number_of s client) number) (number_of s client) h
 
 -- where an allocation failed, the request allocates
-pub needs_memory : (s : FacilityState) (client number : ℕ) (request : Request) (reason : NotTaken) → reason ≡ OutOfMemory → IsNotTaken s client number request reason → NeedsMemory s client number request
+pub needs_memory : (s : FacilityState) (client number : ℕ) (request : Request) (reason : NotTaken) → reason ≡ OutOfMemory
+    → IsNotTaken s client number request reason → NeedsMemory s client number request
 needs_memory s client number request reason e n = elim n [
   | inl h ↦ absurd (no_want s client number (cc))
   | inr h ↦ h.1

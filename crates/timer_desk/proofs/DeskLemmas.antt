@@ -49,30 +49,40 @@ module _ {I : Type 0} (kind : LineKind I) where
       as_many = d.as_many
 
       by_client_room : (k : ℕ) (e : BacklogState) → k < length (slice_set backlogs c b') → (c == k) ≡ true ⊎ (c == k) ≡ false
-          → length (get_or (slice_set backlogs c b') k e).outbox + pending_of f'.state k + notices_for k f'.waiting ≤ (get_or (slice_set backlogs c b') k e).room
+          → length (get_or (slice_set backlogs c b') k e).outbox + pending_of f'.state k + notices_for k f'.waiting
+          ≤ (get_or (slice_set backlogs c b') k e).room
       by_client_room k e l (inl h) =
           let is : k ≡ c = is_equal c k h in
-          let there : get_or (slice_set backlogs c b') k e ≡ b' = ap (λ n. get_or (slice_set backlogs c b') n e) is ∙ get_or-set_same backlogs c b' e (let m = as_many in omega arith) in
+          let there : get_or (slice_set backlogs c b') k e ≡ b' =
+          ap (λ n. get_or (slice_set backlogs c b') n e) is ∙ get_or-set_same backlogs c b' e (let m = as_many in omega arith) in
           let none : notices_for k f'.waiting ≡ 0 = none_for f' k quiet in
-          let fits : length b'.outbox + pending_of f'.state k ≤ b'.room = subst (λ n. length b'.outbox + pending_of f'.state n ≤ b'.room) (sym is) room in
-          subst (λ (b : BacklogState). length b.outbox + pending_of f'.state k + notices_for k f'.waiting ≤ b.room) (sym there) (omega arith)
+          let fits : length b'.outbox + pending_of f'.state k ≤ b'.room =
+          subst (λ n. length b'.outbox + pending_of f'.state n ≤ b'.room) (sym is) room in
+          subst (λ (b : BacklogState). length b.outbox + pending_of f'.state k + notices_for k f'.waiting ≤ b.room) (sym there)
+          (omega arith)
       by_client_room k e l (inr h) =
           let there : get_or (slice_set backlogs c b') k e ≡ get_or backlogs k e = get_or-set_other backlogs c k b' e (is_other c k h) in
           let none : notices_for k f'.waiting ≡ 0 = none_for f' k quiet in
-          let within : k < length backlogs = let m : length (slice_set backlogs c b') ≡ length backlogs = length-set backlogs c b' in omega arith in
-          let was : length (get_or backlogs k e).outbox + pending_of f.state k + notices_for k f.waiting ≤ (get_or backlogs k e).room = d.room k e within in
+          let within : k < length backlogs = let m : length (slice_set backlogs c b') ≡ length backlogs = length-set backlogs c b'
+          in omega arith in
+          let was : length (get_or backlogs k e).outbox + pending_of f.state k + notices_for k f.waiting ≤ (get_or backlogs k e).room =
+          d.room k e within in
           let more : pending_of f'.state k ≤ pending_of f.state k + 0 = ap_le (adds k) h in
-          subst (λ (b : BacklogState). length b.outbox + pending_of f'.state k + notices_for k f'.waiting ≤ b.room) (sym there) (omega arith)
+          subst (λ (b : BacklogState). length b.outbox + pending_of f'.state k + notices_for k f'.waiting ≤ b.room) (sym there)
+          (omega arith)
         where
-          ap_le : pending_of f'.state k ≤ pending_of f.state k + (if c == k then 1 else 0) → (c == k) ≡ false → pending_of f'.state k ≤ pending_of f.state k + 0
+          ap_le : pending_of f'.state k ≤ pending_of f.state k + (if c == k then 1 else 0) → (c == k) ≡ false
+              → pending_of f'.state k ≤ pending_of f.state k + 0
           ap_le p q = subst (λ (b : Bool). pending_of f'.state k ≤ pending_of f.state k + (if b then 1 else 0)) q p
 
       by_client_held : (k : ℕ) (i : I) (e : BacklogState) → k < length (slice_set inlets c i') → (c == k) ≡ true ⊎ (c == k) ≡ false
           → HeldIsLast (side_of kind (get_or (slice_set inlets c i') k i) (get_or (slice_set backlogs c b') k e))
       by_client_held k i e l (inl h) =
           let is : k ≡ c = is_equal c k h in
-          let inlet : get_or (slice_set inlets c i') k i ≡ i' = ap (λ n. get_or (slice_set inlets c i') n i) is ∙ get_or-set_same inlets c i' i low in
-          let backlog : get_or (slice_set backlogs c b') k e ≡ b' = ap (λ n. get_or (slice_set backlogs c b') n e) is ∙ get_or-set_same backlogs c b' e (let m = as_many in omega arith) in
+          let inlet : get_or (slice_set inlets c i') k i ≡ i' =
+          ap (λ n. get_or (slice_set inlets c i') n i) is ∙ get_or-set_same inlets c i' i low in
+          let backlog : get_or (slice_set backlogs c b') k e ≡ b' =
+          ap (λ n. get_or (slice_set backlogs c b') n e) is ∙ get_or-set_same backlogs c b' e (let m = as_many in omega arith) in
           subst (λ j. HeldIsLast (side_of kind j (get_or (slice_set backlogs c b') k e))) (sym inlet)
           (subst (λ b. HeldIsLast (side_of kind i' b)) (sym backlog) held)
       by_client_held k i e l (inr h) =

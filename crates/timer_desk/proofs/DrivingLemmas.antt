@@ -77,7 +77,8 @@ one_left : (goal : ℕ) (ps : List Progress) (d : Progress) → 0 < all_left goa
 one_left goal [] d h = absurd (omega arith)
 one_left goal (p ∷ ps) d h = ⊎_elim
     (λ a. record { client = 0; among = omega arith; left = a })
-    (λ a. let k = one_left goal ps d (omega arith) in let l = k.among in record { client = suc k.client; among = omega arith; left = k.left })
+    (λ a. let k = one_left goal ps d (omega arith) in let l = k.among
+    in record { client = suc k.client; among = omega arith; left = k.left })
     (cases_lt 0 (left_for goal p))
 
 nothing_left : (goal : ℕ) (ps : List Progress) → all_left goal ps ≡ 0 → (c : ℕ) (d : Progress) → c < length ps → IsDone goal (get_or ps c d)
@@ -85,7 +86,8 @@ nothing_left goal [] h c d l = absurd (omega arith)
 nothing_left goal (p ∷ ps) h zero d l = record { served = omega arith; flushed = omega arith }
 nothing_left goal (p ∷ ps) h (suc c) d l = nothing_left goal ps (omega arith) c d (omega arith)
 
-pub some_left : (goal : ℕ) (ps : List Progress) → ¬ ((c : ℕ) (d : Progress) → c < length ps → IsDone goal (get_or ps c d)) → 0 < all_left goal ps
+pub some_left : (goal : ℕ) (ps : List Progress) → ¬ ((c : ℕ) (d : Progress) → c < length ps → IsDone goal (get_or ps c d))
+    → 0 < all_left goal ps
 some_left goal ps h = ⊎_elim (λ a. a) (λ a. absurd (h (nothing_left goal ps (omega arith)))) (cases_lt 0 (all_left goal ps))
 
 module _ {I : Type 0} (kind : LineKind I) where
@@ -100,10 +102,12 @@ module _ {I : Type 0} (kind : LineKind I) where
     counted = λ c p l. record { served = omega arith; flushed = omega arith };
   }
 
-  pub Turns-one : (goal : ℕ) (refused : Bool) (x y : DeskState I) (ps qs : List Progress) (report : List Done) (steps : List Step) (n : ℕ) → n ≡ clients_of x → Told kind report x y
+  pub Turns-one : (goal : ℕ) (refused : Bool) (x y : DeskState I) (ps qs : List Progress) (report : List Done) (steps : List Step) (n : ℕ)
+      → n ≡ clients_of x → Told kind report x y
       → steps_of report ≡ steps → All (IsFit n) steps → AreBehind false report
       → (refused ≡ false → NoneRanOut report)
-      → ((c : ℕ) (p : Progress) → c < length ps → HasCounted goal (length (asked c report)) (flushed c report) (get_or ps c p) (get_or qs c p))
+      → ((c : ℕ) (p : Progress) → c < length ps → HasCounted goal (length (asked c report)) (flushed c report) (get_or ps c p)
+      (get_or qs c p))
       → Turns kind goal refused x y ps qs
   Turns-one goal refused x y ps qs report steps n e told is fit behind memory counted = record {
     report = report;
@@ -114,10 +118,12 @@ module _ {I : Type 0} (kind : LineKind I) where
     counted = counted;
   }
 
-  pub TurnsOnce-one : (goal : ℕ) (refused : Bool) (x y : DeskState I) (ps qs : List Progress) (report : List Done) (steps : List Step) (n : ℕ) → n ≡ clients_of x → Told kind report x y
+  pub TurnsOnce-one : (goal : ℕ) (refused : Bool) (x y : DeskState I) (ps qs : List Progress) (report : List Done) (steps : List Step)
+      (n : ℕ) → n ≡ clients_of x → Told kind report x y
       → steps_of report ≡ steps → All (IsFit n) steps → ticks_in steps ≡ 1 → AreBehind false report
       → (refused ≡ false → NoneRanOut report)
-      → ((c : ℕ) (p : Progress) → c < length ps → HasCounted goal (length (asked c report)) (flushed c report) (get_or ps c p) (get_or qs c p))
+      → ((c : ℕ) (p : Progress) → c < length ps → HasCounted goal (length (asked c report)) (flushed c report) (get_or ps c p)
+      (get_or qs c p))
       → TurnsOnce kind goal refused x y ps qs
   unfolding Turns-one
   TurnsOnce-one goal refused x y ps qs report steps n e told is fit one behind memory counted = record {
@@ -133,11 +139,13 @@ module _ {I : Type 0} (kind : LineKind I) where
     told = Told-joined kind f.report g.report x y z f.told g.told;
     fit =
         subst (All (IsFit (clients_of x))) (sym (flat_map-append step_in f.report g.report))
-        (All-append (IsFit (clients_of x)) (steps_of f.report) (steps_of g.report) f.fit (subst (λ n. All (IsFit n) (steps_of g.report)) f.told.clients.same_clients g.fit));
+        (All-append (IsFit (clients_of x)) (steps_of f.report) (steps_of g.report) f.fit
+        (subst (λ n. All (IsFit n) (steps_of g.report)) f.told.clients.same_clients g.fit));
     behind = AreBehind-joined false f.report g.report f.behind g.behind;
     memory = λ e. All-append (λ done. (c : ℕ) → done ≢ Dones.Served c NoMemory) f.report g.report (f.memory refl) (g.memory e);
     counted = λ c p l.
-        let a = ap (λ xs. length xs) (flat_map-append (asked_in c) f.report g.report) ∙ length-append (asked c f.report) (asked c g.report) in
+        let a = ap (λ xs. length xs) (flat_map-append (asked_in c) f.report g.report) ∙ length-append (asked c f.report) (asked c g.report)
+        in
         let b = flushed_joined c f.report g.report in
         let h = f.counted c p l in
         let k = g.counted c p (omega arith) in
@@ -153,9 +161,11 @@ module _ {I : Type 0} (kind : LineKind I) where
   nothing = record { served = 0; flushed = 0 }
 
   -- from nothing, what was done is counted up to the goal
-  counted_up : (goal : ℕ) (refused : Bool) (x y : DeskState I) (qs : List Progress) (n : ℕ) → n ≡ clients_of x → (t : Turns kind goal refused x y (replicate n nothing) qs)
+  counted_up : (goal : ℕ) (refused : Bool) (x y : DeskState I) (qs : List Progress) (n : ℕ) → n ≡ clients_of x
+      → (t : Turns kind goal refused x y (replicate n nothing) qs)
       → (c : ℕ) → c < clients_of x
-      → ((get_or qs c nothing).served ≡ min (length (asked c t.report)) goal) × ((get_or qs c nothing).flushed ≡ min (flushed c t.report) (2 * goal))
+      → ((get_or qs c nothing).served ≡ min (length (asked c t.report)) goal)
+      × ((get_or qs c nothing).flushed ≡ min (flushed c t.report) (2 * goal))
   counted_up goal refused x y qs n e t c l =
       let there : get_or (replicate n nothing) c nothing ≡ nothing = get_or-replicate n c nothing nothing (omega arith) in
       let long : length (replicate n nothing) ≡ n = length-replicate n nothing in
@@ -178,7 +188,8 @@ module _ {I : Type 0} (kind : LineKind I) where
       → Turns kind goal false x y ps qs
   idle_whole goal idle x y ps qs len h = Turns-joined goal false x h.was y ps qs qs len h.passed h.since
 
-  pub idle_first : (goal : ℕ) (x y z : DeskState I) (ps qs : List Progress) → Turns kind goal false x y ps qs → (t : Turns kind goal false y z qs qs) → turns_in t.report ≡ 1
+  pub idle_first : (goal : ℕ) (x y z : DeskState I) (ps qs : List Progress) → Turns kind goal false x y ps qs
+      → (t : Turns kind goal false y z qs qs) → turns_in t.report ≡ 1
       → IdleSince goal 1 x z ps qs
   idle_first goal x y z ps qs f t one = record { was = y; passed = f; since = t; many = one }
 
@@ -192,8 +203,10 @@ module _ {I : Type 0} (kind : LineKind I) where
     many = turns_in-append h.since.report t.report ∙ ap (λ n. n + turns_in t.report) h.many ∙ ap (λ n. idle + n) one;
   }
 
-  pub ends_idle : (goal idle : ℕ) (x y : DeskState I) (qs : List Progress) (n : ℕ) → n ≡ clients_of x → (len : length qs ≡ length (replicate n nothing))
-      → (h : IdleSince goal idle x y (replicate n nothing) qs) → EndsIdle goal idle (clients_of x) (idle_whole goal idle x y (replicate n nothing) qs len h).report
+  pub ends_idle : (goal idle : ℕ) (x y : DeskState I) (qs : List Progress) (n : ℕ) → n ≡ clients_of x
+      → (len : length qs ≡ length (replicate n nothing))
+      → (h : IdleSince goal idle x y (replicate n nothing) qs) → EndsIdle goal idle (clients_of x)
+      (idle_whole goal idle x y (replicate n nothing) qs len h).report
   unfolding Turns-joined idle_whole
   ends_idle goal idle x y qs n e len h =
       let all = counted_up goal false x y qs n e (idle_whole goal idle x y (replicate n nothing) qs len h) in
@@ -216,7 +229,8 @@ module _ {I : Type 0} (kind : LineKind I) where
     none_flushed = λ c l. refl;
   }
 
-  pub Drives-turns : (goal limit : ℕ) (refused : Bool) (x y : DeskState I) (qs : List Progress) (outcome : DriveEnd) (n : ℕ) → IsLaw x.facility → n ≡ clients_of x
+  pub Drives-turns : (goal limit : ℕ) (refused : Bool) (x y : DeskState I) (qs : List Progress) (outcome : DriveEnd) (n : ℕ)
+      → IsLaw x.facility → n ≡ clients_of x
       → length qs ≡ n → (t : Turns kind goal refused x y (replicate n (record { served = 0; flushed = 0 })) qs)
       → (outcome ≡ DriveEnds.Done → (c : ℕ) (p : Progress) → c < clients_of x → IsDone goal (get_or qs c p))
       → (outcome ≡ DriveEnds.Limit → 0 < limit → 0 < all_left goal qs)
@@ -240,7 +254,8 @@ module _ {I : Type 0} (kind : LineKind I) where
       none = nothing
 
       counts : (c : ℕ) → c < clients_of x
-          → ((get_or qs c none).served ≡ min (length (asked c t.report)) goal) × ((get_or qs c none).flushed ≡ min (flushed c t.report) (2 * goal))
+          → ((get_or qs c none).served ≡ min (length (asked c t.report)) goal)
+          × ((get_or qs c none).flushed ≡ min (flushed c t.report) (2 * goal))
       counts = counted_up goal refused x y qs n e t
 
       reached : outcome ≡ DriveEnds.Done → (c : ℕ) → c < clients_of x → (goal ≤ length (asked c t.report)) × (2 * goal ≤ flushed c t.report)

@@ -48,14 +48,17 @@ is_other m n h = grind (arith, nat_tests)
 
 -- The outboxes.
 
-at_notice : (n : Notice) (bs : List BacklogState) (c : ℕ) (d : BacklogState) → c < length bs → (client_of n == c) ≡ true ⊎ (client_of n == c) ≡ false
+at_notice : (n : Notice) (bs : List BacklogState) (c : ℕ) (d : BacklogState) → c < length bs → (client_of n == c) ≡ true
+    ⊎ (client_of n == c) ≡ false
     → get_or (with_notice n bs) c d ≡ with_words (words_in c (Dones.Noticed n)) (get_or bs c d)
 at_notice n bs c d l (inl h) =
     let k : ℕ = client_of n in
     let is : c ≡ k = is_equal k c h in
     let there : get_or (with_notice n bs) c d ≡ with_word (Words.Notice n) (get_or bs k (empty_backlog 0)) =
-    ap (λ m. get_or (with_notice n bs) m d) is ∙ get_or-set_same bs k (with_word (Words.Notice n) (get_or bs k (empty_backlog 0))) d (let m : k ≡ c = sym is in omega arith) in
-    let same : get_or bs k (empty_backlog 0) ≡ get_or bs c d = ap (λ m. get_or bs m (empty_backlog 0)) (sym is) ∙ get_or_default bs c (empty_backlog 0) d l in
+    ap (λ m. get_or (with_notice n bs) m d) is ∙ get_or-set_same bs k (with_word (Words.Notice n) (get_or bs k (empty_backlog 0))) d
+    (let m : k ≡ c = sym is in omega arith) in
+    let same : get_or bs k (empty_backlog 0) ≡ get_or bs c d = ap (λ m. get_or bs m (empty_backlog 0)) (sym is)
+    ∙ get_or_default bs c (empty_backlog 0) d l in
     let word : words_in c (Dones.Noticed n) ≡ Words.Notice n ∷ [] = ap (λ b. if b then Words.Notice n ∷ [] else []) h in
     there ∙ ap (with_word (Words.Notice n)) same ∙ ap (λ ws. with_words ws (get_or bs c d)) (sym word)
 at_notice n bs c d l (inr h) =
@@ -68,7 +71,8 @@ at_notice n bs c d l (inr h) =
 
 length-notices : (ns : List Notice) (bs : List BacklogState) → length (with_notices ns bs) ≡ length bs
 length-notices [] bs = refl
-length-notices (n ∷ ns) bs = length-notices ns (with_notice n bs) ∙ length-set bs (client_of n) (with_word (Words.Notice n) (get_or bs (client_of n) (empty_backlog 0)))
+length-notices (n ∷ ns) bs = length-notices ns (with_notice n bs)
+    ∙ length-set bs (client_of n) (with_word (Words.Notice n) (get_or bs (client_of n) (empty_backlog 0)))
 
 -- what the notices append to one outbox
 pub with_notices-at : (ns : List Notice) (bs : List BacklogState) (c : ℕ) (d : BacklogState) → c < length bs
@@ -80,7 +84,8 @@ with_notices-at (n ∷ ns) bs c d l =
     let first : List Word = words_in c (Dones.Noticed n) in
     let more : List Word = words c (map Dones.Noticed ns) in
     let b : BacklogState = get_or bs c d in
-    let long : length (with_notice n bs) ≡ length bs = length-set bs (client_of n) (with_word (Words.Notice n) (get_or bs (client_of n) (empty_backlog 0))) in
+    let long : length (with_notice n bs) ≡ length bs = length-set bs (client_of n)
+    (with_word (Words.Notice n) (get_or bs (client_of n) (empty_backlog 0))) in
     with_notices-at ns (with_notice n bs) c d (omega arith)
     ∙ ap (with_words more) (at_notice n bs c d l (either (client_of n == c)))
     ∙ ap (λ ws. let e : BacklogState = record b { outbox = ws } in e) (append_assoc b.outbox first more)
@@ -126,11 +131,15 @@ right-notices : (refuses : Bool) (c : ℕ) (s : FacilityState) (a b : Side) (pas
 right-notices refuses c s a b past [] none fits = tt
 right-notices refuses c s a b past (n ∷ ns) none fits =
     let one : List Done = Dones.Noticed n ∷ [] in
-    let ew : length (words c (past ++ one)) ≡ length (words c past) + length (words c one) = ap (λ xs. length xs) (flat_map-append (words_in c) past one) ∙ length-append (words c past) (words c one) in
-    let e1 : length (words c one) ≡ length (words_in c (Dones.Noticed n)) = ap (λ xs. length xs) (append-nil (words_in c (Dones.Noticed n))) in
-    let en : length (words c (map Dones.Noticed (n ∷ ns))) ≡ length (words_in c (Dones.Noticed n)) + length (words c (map Dones.Noticed ns)) = length-append (words_in c (Dones.Noticed n)) (words c (map Dones.Noticed ns)) in
+    let ew : length (words c (past ++ one)) ≡ length (words c past) + length (words c one) =
+    ap (λ xs. length xs) (flat_map-append (words_in c) past one) ∙ length-append (words c past) (words c one) in
+    let e1 : length (words c one) ≡ length (words_in c (Dones.Noticed n)) = ap (λ xs. length xs) (append-nil (words_in c (Dones.Noticed n)))
+    in
+    let en : length (words c (map Dones.Noticed (n ∷ ns))) ≡ length (words_in c (Dones.Noticed n)) + length
+    (words c (map Dones.Noticed ns)) = length-append (words_in c (Dones.Noticed n)) (words c (map Dones.Noticed ns)) in
     let ef : flushed c (past ++ one) ≡ flushed c past + 0 = flushed-append c past one in
-    let ep : pending_after c s (past ++ one) ≡ pending_after c s past = ap (λ ps. pending_of (run s ps).state c) (flat_map-append events_in past one ∙ append-nil (events past)) in (
+    let ep : pending_after c s (past ++ one) ≡ pending_after c s past =
+    ap (λ ps. pending_of (run s ps).state c) (flat_map-append events_in past one ∙ append-nil (events past)) in (
       record { served = tt; needed = λ is. absurd (cc); room = omega arith },
       right-notices refuses c s a b (past ++ one) ns (omega arith) (omega arith),
     )
@@ -139,10 +148,12 @@ closes-notices : (s : FacilityState) (past : List Done) (ns : List Notice) → A
 closes-notices s past [] = tt
 closes-notices s past (n ∷ ns) = ((λ is. absurd (cc)), closes-notices s (past ++ Dones.Noticed n ∷ []) ns)
 
-in_time-notices : (s : FacilityState) (past : List Done) (ns : List Notice) → outs (past ++ map Dones.Noticed ns) ≡ (run s (events (past ++ map Dones.Noticed ns))).outs → AreInTime s past (map Dones.Noticed ns)
+in_time-notices : (s : FacilityState) (past : List Done) (ns : List Notice)
+    → outs (past ++ map Dones.Noticed ns) ≡ (run s (events (past ++ map Dones.Noticed ns))).outs → AreInTime s past (map Dones.Noticed ns)
 in_time-notices s past [] h = subst (λ r. outs r ≡ (run s (events r)).outs) (append-nil past) h
 in_time-notices s past (n ∷ ns) h =
-    in_time-notices s (past ++ Dones.Noticed n ∷ []) ns (subst (λ r. outs r ≡ (run s (events r)).outs) (sym (append_assoc past (Dones.Noticed n ∷ []) (map Dones.Noticed ns))) h)
+    in_time-notices s (past ++ Dones.Noticed n ∷ []) ns (subst (λ r. outs r
+    ≡ (run s (events r)).outs) (sym (append_assoc past (Dones.Noticed n ∷ []) (map Dones.Noticed ns))) h)
 
 -- the member of a tick or a close appends nothing to any client's lists
 pub record IsOwners (first : Done) : Type 0 where
@@ -156,21 +167,43 @@ pub record IsOwners (first : Done) : Type 0 where
   pub in_time : (s : FacilityState) (report : List Done) → AreInTime s (first ∷ []) report → AreInTime s [] (first ∷ report)
 
 pub of_tick : (r : Result (Unit {0}) TickFault) → IsOwners (Dones.Ticked r)
-of_tick r = record { no_request = λ c. refl; no_word = λ c. refl; none_flushed = λ c. refl; same_held = λ c before. refl; is_right = λ c room len left pending. tt; no_serve = λ c h. absurd (cc); holds = λ m c s held. refl; in_time = λ s report h. (refl, h) }
+of_tick r = record {
+  no_request = λ c. refl;
+  no_word = λ c. refl;
+  none_flushed = λ c. refl;
+  same_held = λ c before. refl;
+  is_right = λ c room len left pending. tt;
+  no_serve = λ c h. absurd (cc);
+  holds = λ m c s held. refl;
+  in_time = λ s report h. (refl, h);
+}
 
 pub of_close : (r : Result ℕ CloseFault) → IsOwners (Dones.Closed r)
-of_close r = record { no_request = λ c. refl; no_word = λ c. refl; none_flushed = λ c. refl; same_held = λ c before. refl; is_right = λ c room len left pending. tt; no_serve = λ c h. absurd (cc); holds = λ m c s held. refl; in_time = λ s report h. (refl, h) }
+of_close r = record {
+  no_request = λ c. refl;
+  no_word = λ c. refl;
+  none_flushed = λ c. refl;
+  same_held = λ c before. refl;
+  is_right = λ c room len left pending. tt;
+  no_serve = λ c h. absurd (cc);
+  holds = λ m c s held. refl;
+  in_time = λ s report h. (refl, h);
+}
 
 Tells-noted : (c : ℕ) (first : Done) (ns : List Notice) (a : Side) → IsOwners first → HeldIsLast a
     → Tells c (first ∷ map Dones.Noticed ns) a (record a { backlog = with_words (words c (map Dones.Noticed ns)) a.backlog })
 Tells-noted c first ns a o last =
     let more : List Word = words c (map Dones.Noticed ns) in
-    let none : asked c (first ∷ map Dones.Noticed ns) ≡ [] = ap (λ xs. xs ++ asked c (map Dones.Noticed ns)) (o.no_request c) ∙ asked-notices c ns in
+    let none : asked c (first ∷ map Dones.Noticed ns) ≡ [] = ap (λ xs. xs ++ asked c (map Dones.Noticed ns)) (o.no_request c)
+    ∙ asked-notices c ns in
     let said : words c (first ∷ map Dones.Noticed ns) ≡ more = ap (λ xs. xs ++ more) (o.no_word c) in record {
-      held_first = subst (λ xs. Extends (held_list a.backlog.held) (xs ++ held_list a.backlog.held)) (sym none) (Extends-refl (held_list a.backlog.held));
+      held_first = subst (λ xs. Extends (held_list a.backlog.held) (xs ++ held_list a.backlog.held)) (sym none)
+          (Extends-refl (held_list a.backlog.held));
       none_held = λ h. not_held a.backlog.held
-          (sym (may_hold-notices c (is_held a.backlog.held) ns) ∙ ap (λ v. may_hold c v (map Dones.Noticed ns)) (sym (o.same_held c (is_held a.backlog.held))) ∙ h);
-      asked_are = ap (λ xs. got_but_held a ++ xs ++ held_list a.backlog.held) none ∙ ap (λ xs. xs ++ held_list a.backlog.held) (append-nil (got_but_held a)) ∙ last;
+          (sym (may_hold-notices c (is_held a.backlog.held) ns)
+          ∙ ap (λ v. may_hold c v (map Dones.Noticed ns)) (sym (o.same_held c (is_held a.backlog.held))) ∙ h);
+      asked_are = ap (λ xs. got_but_held a ++ xs ++ held_list a.backlog.held) none
+          ∙ ap (λ xs. xs ++ held_list a.backlog.held) (append-nil (got_but_held a)) ∙ last;
       words_are = sym (append_assoc a.given a.backlog.outbox more) ∙ ap (λ xs. a.given ++ a.backlog.outbox ++ xs) (sym said);
       flushed_are = let f = o.none_flushed c in let g = flushed-notices c ns in omega arith;
       fewer_left = let n : length (asked c (first ∷ map Dones.Noticed ns)) ≡ 0 = ap (λ xs. length xs) none in omega arith;
@@ -197,24 +230,28 @@ module _ {I : Type 0} (kind : LineKind I) where
     holds = λ c b l.
         let held : Option Numbered = (get_or bs c b).held in
         let within : c < length bs = let m = d.as_many in omega arith in
-        let there : get_or bs' c b ≡ with_words (words c (map Dones.Noticed ns)) (get_or bs c b) = ap (λ xs. get_or xs c b) e ∙ with_notices-at ns bs c b within in
+        let there : get_or bs' c b ≡ with_words (words c (map Dones.Noticed ns)) (get_or bs c b) =
+        ap (λ xs. get_or xs c b) e ∙ with_notices-at ns bs c b within in
         subst (λ (x : BacklogState). Holds kind.take_may_refuse c f.state held [] (first ∷ map Dones.Noticed ns) x.held) (sym there)
         (held, o.holds kind.take_may_refuse c f.state held, holds-notices kind.take_may_refuse c f.state held (first ∷ []) ns);
     closes = (closes, closes-notices f.state (first ∷ []) ns);
   }
     where
       right_side : (c : ℕ) (i : I) (b : BacklogState) → c < length inlets
-          → AtEach (IsRight kind.take_may_refuse c f.state (side_of kind (get_or inlets c i) (get_or bs c b)) (side_of kind (get_or inlets c i) (get_or bs' c b))) [] (first ∷ map Dones.Noticed ns)
+          → AtEach (IsRight kind.take_may_refuse c f.state (side_of kind (get_or inlets c i) (get_or bs c b))
+          (side_of kind (get_or inlets c i) (get_or bs' c b))) [] (first ∷ map Dones.Noticed ns)
       right_side c i b l =
           let a : Side = side_of kind (get_or inlets c i) (get_or bs c b) in
           let z : Side = side_of kind (get_or inlets c i) (get_or bs' c b) in
           let within : c < length bs = let m = d.as_many in omega arith in
           let long : length bs' ≡ length bs = ap (λ xs. length xs) e ∙ length-notices ns bs in
-          let there : get_or bs' c b ≡ with_words (words c (map Dones.Noticed ns)) (get_or bs c b) = ap (λ xs. get_or xs c b) e ∙ with_notices-at ns bs c b within in
+          let there : get_or bs' c b ≡ with_words (words c (map Dones.Noticed ns)) (get_or bs c b) =
+          ap (λ xs. get_or xs c b) e ∙ with_notices-at ns bs c b within in
           let len : length (get_or bs' c b).outbox ≡ length (get_or bs c b).outbox + length (words c (map Dones.Noticed ns)) =
           ap (λ (x : BacklogState). length x.outbox) there ∙ length-append (get_or bs c b).outbox (words c (map Dones.Noticed ns)) in
           let same : (get_or bs' c b).room ≡ (get_or bs c b).room = ap (λ (x : BacklogState). x.room) there in
-          let fits : length (get_or bs' c b).outbox + pending_of f'.state c + notices_for c f'.waiting ≤ (get_or bs' c b).room = room c b (omega arith) in
+          let fits : length (get_or bs' c b).outbox + pending_of f'.state c + notices_for c f'.waiting ≤ (get_or bs' c b).room =
+          room c b (omega arith) in
           let state : pending_of f'.state c ≡ pending_after c f.state (first ∷ []) =
           ap (λ v. pending_of v c) (runs.state_is ∙ ap (λ ps. (run f.state (events_in first ++ ps)).state) (events-notices ns)) in
           let no_words : length (words c (first ∷ [])) ≡ 0 = ap (λ xs. length (xs ++ [])) (o.no_word c) in
@@ -224,16 +261,20 @@ module _ {I : Type 0} (kind : LineKind I) where
           )
 
       told_side : (c : ℕ) (i : I) (b : BacklogState) → c < length inlets
-          → Tells c (first ∷ map Dones.Noticed ns) (side_of kind (get_or inlets c i) (get_or bs c b)) (side_of kind (get_or inlets c i) (get_or bs' c b))
+          → Tells c (first ∷ map Dones.Noticed ns) (side_of kind (get_or inlets c i) (get_or bs c b))
+          (side_of kind (get_or inlets c i) (get_or bs' c b))
       told_side c i b l =
           let a : Side = side_of kind (get_or inlets c i) (get_or bs c b) in
           let within : c < length bs = let m = d.as_many in omega arith in
-          let there : get_or bs' c b ≡ with_words (words c (map Dones.Noticed ns)) (get_or bs c b) = ap (λ xs. get_or xs c b) e ∙ with_notices-at ns bs c b within in
-          subst (λ x. Tells c (first ∷ map Dones.Noticed ns) a (side_of kind (get_or inlets c i) x)) (sym there) (Tells-noted c first ns a o (d.held c i b l))
+          let there : get_or bs' c b ≡ with_words (words c (map Dones.Noticed ns)) (get_or bs c b) =
+          ap (λ xs. get_or xs c b) e ∙ with_notices-at ns bs c b within in
+          subst (λ x. Tells c (first ∷ map Dones.Noticed ns) a (side_of kind (get_or inlets c i) x)) (sym there)
+          (Tells-noted c first ns a o (d.held c i b l))
 
   -- the invariant of a desk, after a tick or a close and its notices
   pub IsDesk-noted : (ns : List Notice) (f f' : FacilityView) (inlets : List I) (bs bs' : List BacklogState)
-      → IsDesk kind f inlets bs → bs' ≡ with_notices ns bs → f'.waiting ≡ [] → length f'.state.numbers ≡ length f.state.numbers → HasRoom bs' f'
+      → IsDesk kind f inlets bs → bs' ≡ with_notices ns bs → f'.waiting ≡ [] → length f'.state.numbers ≡ length f.state.numbers
+      → HasRoom bs' f'
       → IsDesk kind f' inlets bs'
   IsDesk-noted ns f f' inlets bs bs' d e quiet numbers room = record {
     nothing_waits = quiet;
@@ -242,17 +283,20 @@ module _ {I : Type 0} (kind : LineKind I) where
     room = room;
     held = λ c i b l.
         let within : c < length bs = let m = d.as_many in omega arith in
-        let there : get_or bs' c b ≡ with_words (words c (map Dones.Noticed ns)) (get_or bs c b) = ap (λ xs. get_or xs c b) e ∙ with_notices-at ns bs c b within in
+        let there : get_or bs' c b ≡ with_words (words c (map Dones.Noticed ns)) (get_or bs c b) =
+        ap (λ xs. get_or xs c b) e ∙ with_notices-at ns bs c b within in
         subst (λ x. HeldIsLast (side_of kind (get_or inlets c i) x)) (sym there) (d.held c i b l);
   }
 
 -- The facility.
 
-notices_back : (f : Timer → Notice) (ts : List Timer) → map (λ n. Outs.Notice n) (notices_in (map (λ t. Outs.Notice (f t)) ts)) ≡ map (λ t. Outs.Notice (f t)) ts
+notices_back : (f : Timer → Notice) (ts : List Timer) → map (λ n. Outs.Notice n) (notices_in (map (λ t. Outs.Notice (f t)) ts))
+    ≡ map (λ t. Outs.Notice (f t)) ts
 notices_back f [] = refl
 notices_back f (t ∷ ts) = ap (λ os. Outs.Notice (f t) ∷ os) (notices_back f ts)
 
-tick_outs_are : (s : FacilityState) (o : Option TickFault) (r : Result (Unit {0}) TickFault) → MatchResult r (λ done. o ≡ None) (λ fault. o ≡ Some fault)
+tick_outs_are : (s : FacilityState) (o : Option TickFault) (r : Result (Unit {0}) TickFault)
+    → MatchResult r (λ done. o ≡ None) (λ fault. o ≡ Some fault)
     → tick_outs r ++ map (λ n. Outs.Notice n) (notices_in (step_of_tick s o).outs) ≡ (step_of_tick s o).outs
 tick_outs_are s None (Ok done) h = notices_back (λ t. Expired t) (expired_next s)
 tick_outs_are s None (Err fault) h = absurd (cc)
@@ -271,13 +315,15 @@ same_numbers_close s true = refl
 same_numbers_close s false = refl
 
 -- a run of one event, and its notices
-run_one : (s : FacilityState) (event : SingleEvent) (ns : List Notice) (os : List Out) → os ++ map (λ n. Outs.Notice n) ns ≡ (step s event 0).outs
+run_one : (s : FacilityState) (event : SingleEvent) (ns : List Notice) (os : List Out)
+    → os ++ map (λ n. Outs.Notice n) ns ≡ (step s event 0).outs
     → os ++ outs (map Dones.Noticed ns) ≡ (run s (placed event 0 ∷ events (map Dones.Noticed ns))).outs
 run_one s event ns os h =
     ap (λ xs. os ++ xs) (outs-notices ns) ∙ h ∙ sym (append-nil (step s event 0).outs)
     ∙ ap (λ ps. (run s (placed event 0 ∷ ps)).outs) (sym (events-notices ns))
 
-run_one_state : (s : FacilityState) (event : SingleEvent) (ns : List Notice) → (step s event 0).state ≡ (run s (placed event 0 ∷ events (map Dones.Noticed ns))).state
+run_one_state : (s : FacilityState) (event : SingleEvent) (ns : List Notice)
+    → (step s event 0).state ≡ (run s (placed event 0 ∷ events (map Dones.Noticed ns))).state
 run_one_state s event ns = ap (λ ps. (run s (placed event 0 ∷ ps)).state) (sym (events-notices ns))
 
 pub Runs-ticked : (f f' : FacilityView) (r : Result (Unit {0}) TickFault) → f' ≡ view_after (step f.state Tick 0)
@@ -299,7 +345,8 @@ pub record HasClosed (f f' : FacilityView) (r : Result ℕ CloseFault) : Type 0 
 close_outs_are : (s : FacilityState) (closed : Bool) (count : ℕ) → closed ≡ false → count ≡ length s.pending
     → Outs.Closed count ∷ map (λ n. Outs.Notice n) (notices_in (step_of_close s closed).outs) ≡ (step_of_close s closed).outs
 close_outs_are s true count c n = absurd (cc)
-close_outs_are s false count c n = ap (λ k. Outs.Closed k ∷ map (λ m. Outs.Notice m) (notices_in (step_of_close s false).outs)) n ∙ ap (λ os. Outs.Closed (length s.pending) ∷ os) (notices_back (λ t. Returned t) (timers_of s.pending))
+close_outs_are s false count c n = ap (λ k. Outs.Closed k ∷ map (λ m. Outs.Notice m) (notices_in (step_of_close s false).outs)) n
+    ∙ ap (λ os. Outs.Closed (length s.pending) ∷ os) (notices_back (λ t. Returned t) (timers_of s.pending))
 
 closed_true : (b : Bool) → IsTrue b → b ≡ true
 closed_true true h = refl
@@ -308,7 +355,8 @@ closed_true false h = absurd (cc)
 pub Runs-closed : (f f' : FacilityView) (r : Result ℕ CloseFault) → HasClosed f f' r
     → Runs (Dones.Closed r ∷ map Dones.Noticed (close_notices f.state r)) f.state f'.state
 Runs-closed f f' (Ok count) h = record {
-  outs_are = run_one f.state Close (notices_in (step f.state Close 0).outs) (Outs.Closed count ∷ []) (close_outs_are f.state f.state.is_closed count h.open_before h.count);
+  outs_are = run_one f.state Close (notices_in (step f.state Close 0).outs) (Outs.Closed count ∷ [])
+      (close_outs_are f.state f.state.is_closed count h.open_before h.count);
   state_is = ap (λ (v : FacilityView). v.state) h.closed ∙ run_one_state f.state Close (notices_in (step f.state Close 0).outs);
 }
 Runs-closed f f' (Err CloseFaults.Closed) h =
@@ -326,42 +374,53 @@ is_open false h = refl
 pub right_close : (f f' : FacilityView) (r : Result ℕ CloseFault) → HasClosed f f' r → IsRightClose f.state [] (Dones.Closed r) []
 right_close f f' (Ok count) h is = absurd (cc)
 right_close f f' (Err CloseFaults.Closed) h is = absurd (cc)
-right_close f f' (Err CloseFaults.OutOfMemory) h is = is_open f.state.is_closed (λ closed. absurd (let same : CloseFaults.OutOfMemory ≡ CloseFaults.Closed = h.fault.1 closed in cc))
+right_close f f' (Err CloseFaults.OutOfMemory) h is = is_open f.state.is_closed
+    (λ closed. absurd (let same : CloseFaults.OutOfMemory ≡ CloseFaults.Closed = h.fault.1 closed in cc))
 
 pub numbers_close : (f f' : FacilityView) (r : Result ℕ CloseFault) → HasClosed f f' r → length f'.state.numbers ≡ length f.state.numbers
-numbers_close f f' (Ok count) h = ap (λ (v : FacilityView). length v.state.numbers) h.closed ∙ ap (λ xs. length xs) (same_numbers_close f.state f.state.is_closed)
+numbers_close f f' (Ok count) h = ap (λ (v : FacilityView). length v.state.numbers) h.closed
+    ∙ ap (λ xs. length xs) (same_numbers_close f.state f.state.is_closed)
 numbers_close f f' (Err fault) h = ap (λ (v : FacilityView). length v.state.numbers) h.unchanged
 
-pub waiting_close : (f f' : FacilityView) (r : Result ℕ CloseFault) → HasClosed f f' r → f.waiting ≡ [] → f'.waiting ≡ close_notices f.state r
+pub waiting_close : (f f' : FacilityView) (r : Result ℕ CloseFault) → HasClosed f f' r → f.waiting ≡ []
+    → f'.waiting ≡ close_notices f.state r
 waiting_close f f' (Ok count) h quiet = ap (λ (v : FacilityView). v.waiting) h.closed
 waiting_close f f' (Err fault) h quiet = ap (λ (v : FacilityView). v.waiting) h.unchanged ∙ quiet
 
 -- Room for the notices of an event.
 
-HasRoom-handed : (bs : List BacklogState) (f f' : FacilityView) (st : Step) → HasRoom bs f → f.waiting ≡ [] → HandsOver f.state st → f' ≡ view_after st → HasRoom bs f'
+HasRoom-handed : (bs : List BacklogState) (f f' : FacilityView) (st : Step) → HasRoom bs f → f.waiting ≡ [] → HandsOver f.state st
+    → f' ≡ view_after st → HasRoom bs f'
 HasRoom-handed bs f f' st room quiet hands e = λ c d l.
     let none : notices_for c f.waiting ≡ 0 = ap (notices_for c) quiet in
     let was = room c d l in
     let same : pending_of st.state c + count_of c (timers_handed st) ≡ pending_of f.state c = hands.of_client c in
-    subst (λ (v : FacilityView). length (get_or bs c d).outbox + pending_of v.state c + notices_for c v.waiting ≤ (get_or bs c d).room) (sym e)
-    (let here : length (get_or bs c d).outbox + pending_of st.state c + count_of c (timers_handed st) ≤ (get_or bs c d).room = omega arith in here)
+    subst (λ (v : FacilityView). length (get_or bs c d).outbox + pending_of v.state c + notices_for c v.waiting ≤ (get_or bs c d).room)
+    (sym e)
+    (let here : length (get_or bs c d).outbox + pending_of st.state c + count_of c (timers_handed st) ≤ (get_or bs c d).room = omega arith
+    in here)
 
-pub HasRoom-ticked : (bs : List BacklogState) (f f' : FacilityView) → HasRoom bs f → f.waiting ≡ [] → HandsOver f.state (step f.state Tick 0) → f' ≡ view_after (step f.state Tick 0) → HasRoom bs f'
+pub HasRoom-ticked : (bs : List BacklogState) (f f' : FacilityView) → HasRoom bs f → f.waiting ≡ []
+    → HandsOver f.state (step f.state Tick 0) → f' ≡ view_after (step f.state Tick 0) → HasRoom bs f'
 HasRoom-ticked bs f f' room quiet hands e = HasRoom-handed bs f f' (step f.state Tick 0) room quiet hands e
 
-pub HasRoom-closed : (bs : List BacklogState) (f f' : FacilityView) (r : Result ℕ CloseFault) → HasRoom bs f → f.waiting ≡ [] → HandsOver f.state (step f.state Close 0) → HasClosed f f' r → HasRoom bs f'
+pub HasRoom-closed : (bs : List BacklogState) (f f' : FacilityView) (r : Result ℕ CloseFault) → HasRoom bs f → f.waiting ≡ []
+    → HandsOver f.state (step f.state Close 0) → HasClosed f f' r → HasRoom bs f'
 HasRoom-closed bs f f' (Ok count) room quiet hands h = HasRoom-handed bs f f' (step f.state Close 0) room quiet hands h.closed
 HasRoom-closed bs f f' (Err fault) room quiet hands h = subst (HasRoom bs) (sym h.unchanged) room
 
 -- How many notices there are.
 
-pub fewer_closed : (f f' : FacilityView) (r : Result ℕ CloseFault) → HandsOver f.state (step f.state Close 0) → HasClosed f f' r → f.waiting ≡ []
+pub fewer_closed : (f f' : FacilityView) (r : Result ℕ CloseFault) → HandsOver f.state (step f.state Close 0) → HasClosed f f' r
+    → f.waiting ≡ []
     → length f'.waiting + length f'.state.pending ≤ length f.state.pending
 fewer_closed f f' (Ok count) hands h quiet =
     let all = hands.all in
-    let n : length (timers_handed (step f.state Close 0)) ≡ length (notices_in (step f.state Close 0).outs) = length-timers (notices_in (step f.state Close 0).outs) in
+    let n : length (timers_handed (step f.state Close 0)) ≡ length (notices_in (step f.state Close 0).outs) =
+    length-timers (notices_in (step f.state Close 0).outs) in
     let w : length f'.waiting ≡ length (notices_in (step f.state Close 0).outs) = ap (λ (v : FacilityView). length v.waiting) h.closed in
-    let p : length f'.state.pending ≡ length (step f.state Close 0).state.pending = ap (λ (v : FacilityView). length v.state.pending) h.closed in
+    let p : length f'.state.pending ≡ length (step f.state Close 0).state.pending =
+    ap (λ (v : FacilityView). length v.state.pending) h.closed in
     omega arith
   where
     length-timers : (ns : List Notice) → length (map timer_handed ns) ≡ length ns
@@ -376,7 +435,8 @@ pub fewer_ticked : (f f' : FacilityView) → HandsOver f.state (step f.state Tic
     → length f'.waiting + length f'.state.pending ≡ length f.state.pending
 fewer_ticked f f' hands e =
     let all = hands.all in
-    let n : length (timers_handed (step f.state Tick 0)) ≡ length (notices_in (step f.state Tick 0).outs) = length-timers (notices_in (step f.state Tick 0).outs) in
+    let n : length (timers_handed (step f.state Tick 0)) ≡ length (notices_in (step f.state Tick 0).outs) =
+    length-timers (notices_in (step f.state Tick 0).outs) in
     let w : length f'.waiting ≡ length (notices_in (step f.state Tick 0).outs) = ap (λ (v : FacilityView). length v.waiting) e in
     let p : length f'.state.pending ≡ length (step f.state Tick 0).state.pending = ap (λ (v : FacilityView). length v.state.pending) e in
     omega arith
@@ -400,8 +460,10 @@ module _ {I : Type 0} (kind : LineKind I) where
   Told-tick f g f' r inlets bs bs' d e h left noted room =
       let waits : g.waiting ≡ tick_notices f.state = ap (λ (v : FacilityView). v.waiting) e in
       let runs : Runs (Dones.Ticked r ∷ map Dones.Noticed (tick_notices f.state)) f.state f'.state =
-      subst (Runs (Dones.Ticked r ∷ map Dones.Noticed (tick_notices f.state)) f.state) (sym (ap (λ (v : FacilityView). v.state) left)) (Runs-ticked f g r e h) in
-      Told-noted kind (Dones.Ticked r) (tick_notices f.state) f f' inlets bs bs' (of_tick r) d (noted ∙ ap (λ ns. with_notices ns bs) waits) room runs (λ is. absurd (cc))
+      subst (Runs (Dones.Ticked r ∷ map Dones.Noticed (tick_notices f.state)) f.state) (sym (ap (λ (v : FacilityView). v.state) left))
+      (Runs-ticked f g r e h) in
+      Told-noted kind (Dones.Ticked r) (tick_notices f.state) f f' inlets bs bs' (of_tick r) d (noted
+      ∙ ap (λ ns. with_notices ns bs) waits) room runs (λ is. absurd (cc))
 
   pub IsDesk-tick : (f g f' : FacilityView) (inlets : List I) (bs bs' : List BacklogState)
       → IsDesk kind f inlets bs → g ≡ view_after (step f.state Tick 0)
@@ -409,7 +471,8 @@ module _ {I : Type 0} (kind : LineKind I) where
       → IsDesk kind f' inlets bs'
   IsDesk-tick f g f' inlets bs bs' d e left noted room =
       IsDesk-noted kind g.waiting f f' inlets bs bs' d noted (ap (λ (v : FacilityView). v.waiting) left)
-      (ap (λ (v : FacilityView). length v.state.numbers) left ∙ ap (λ (v : FacilityView). length v.state.numbers) e ∙ numbers_tick f.state) room
+      (ap (λ (v : FacilityView). length v.state.numbers) left ∙ ap (λ (v : FacilityView). length v.state.numbers) e
+      ∙ numbers_tick f.state) room
 
   pub Told-close : (f g f' : FacilityView) (r : Result ℕ CloseFault) (inlets : List I) (bs bs' : List BacklogState)
       → IsDesk kind f inlets bs → HasClosed f g r
@@ -418,8 +481,10 @@ module _ {I : Type 0} (kind : LineKind I) where
   Told-close f g f' r inlets bs bs' d h left noted room =
       let waits : g.waiting ≡ close_notices f.state r = waiting_close f g r h d.nothing_waits in
       let runs : Runs (Dones.Closed r ∷ map Dones.Noticed (close_notices f.state r)) f.state f'.state =
-      subst (Runs (Dones.Closed r ∷ map Dones.Noticed (close_notices f.state r)) f.state) (sym (ap (λ (v : FacilityView). v.state) left)) (Runs-closed f g r h) in
-      Told-noted kind (Dones.Closed r) (close_notices f.state r) f f' inlets bs bs' (of_close r) d (noted ∙ ap (λ ns. with_notices ns bs) waits) room runs (right_close f g r h)
+      subst (Runs (Dones.Closed r ∷ map Dones.Noticed (close_notices f.state r)) f.state) (sym (ap (λ (v : FacilityView). v.state) left))
+      (Runs-closed f g r h) in
+      Told-noted kind (Dones.Closed r) (close_notices f.state r) f f' inlets bs bs' (of_close r) d (noted
+      ∙ ap (λ ns. with_notices ns bs) waits) room runs (right_close f g r h)
 
   pub IsDesk-close : (f g f' : FacilityView) (r : Result ℕ CloseFault) (inlets : List I) (bs bs' : List BacklogState)
       → IsDesk kind f inlets bs → HasClosed f g r
@@ -430,11 +495,14 @@ module _ {I : Type 0} (kind : LineKind I) where
       (ap (λ (v : FacilityView). length v.state.numbers) left ∙ numbers_close f g r h) room
 
   -- the members that a tick or a close appends
-  added_are : (before after : List Done) (first : Done) (g : FacilityView) (ns : List Notice) → g.waiting ≡ ns → after ≡ (before ++ first ∷ []) ++ map Dones.Noticed g.waiting
+  added_are : (before after : List Done) (first : Done) (g : FacilityView) (ns : List Notice) → g.waiting ≡ ns
+      → after ≡ (before ++ first ∷ []) ++ map Dones.Noticed g.waiting
       → after ≡ before ++ (first ∷ map Dones.Noticed ns)
-  added_are before after first g ns waits e = e ∙ ap (λ xs. (before ++ first ∷ []) ++ map Dones.Noticed xs) waits ∙ append_assoc before (first ∷ []) (map Dones.Noticed ns)
+  added_are before after first g ns waits e = e ∙ ap (λ xs. (before ++ first ∷ []) ++ map Dones.Noticed xs) waits
+      ∙ append_assoc before (first ∷ []) (map Dones.Noticed ns)
 
-  pub AddsStep-tick : (before after : List Done) (f g f' : FacilityView) (r : Result (Unit {0}) TickFault) (inlets : List I) (bs bs' : List BacklogState)
+  pub AddsStep-tick : (before after : List Done) (f g f' : FacilityView) (r : Result (Unit {0}) TickFault) (inlets : List I)
+      (bs bs' : List BacklogState)
       → IsDesk kind f inlets bs → g ≡ view_after (step f.state Tick 0)
       → MatchResult r (λ done. tick_refusal f.state ≡ None) (λ fault. tick_refusal f.state ≡ Some fault)
       → f' ≡ with_nothing_waiting g.state → bs' ≡ with_notices g.waiting bs → HasRoom bs' f'
@@ -448,7 +516,8 @@ module _ {I : Type 0} (kind : LineKind I) where
     told = Told-tick f g f' r inlets bs bs' d e h left noted room;
   }
 
-  pub AddsStep-close : (before after : List Done) (f g f' : FacilityView) (r : Result ℕ CloseFault) (inlets : List I) (bs bs' : List BacklogState)
+  pub AddsStep-close : (before after : List Done) (f g f' : FacilityView) (r : Result ℕ CloseFault) (inlets : List I)
+      (bs bs' : List BacklogState)
       → IsDesk kind f inlets bs → HasClosed f g r
       → f' ≡ with_nothing_waiting g.state → bs' ≡ with_notices g.waiting bs → HasRoom bs' f'
       → after ≡ (before ++ Dones.Closed r ∷ []) ++ map Dones.Noticed g.waiting

@@ -9,3 +9,4 @@ pub mod ReportOfOne
 pub mod ProgressLemmas
 pub mod WindingLemmas
 pub mod TickingLemmas
+pub mod FlushingLemmas

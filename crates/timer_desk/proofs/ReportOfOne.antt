@@ -42,9 +42,11 @@ pub record IsOf (c : ℕ) (done : Done) : Type 0 where
   pub same_held : (k : ℕ) (before : Bool) → k ≢ c → held_after k before done ≡ before
   pub is_right : (k room len left pending : ℕ) → k ≢ c → IsRightMember k room len left pending done
   pub no_serve : (k : ℕ) → k ≢ c → done ≡ Dones.Served k NoMemory → ⊥
-  pub holds_here : (may_refuse : Bool) (s : FacilityState) (a b : Side) → Tells c (done ∷ []) a b → (done ≡ Dones.Served c NoMemory → RanOutOfMemory may_refuse c s b.backlog.held)
+  pub holds_here : (may_refuse : Bool) (s : FacilityState) (a b : Side) → Tells c (done ∷ []) a b
+      → (done ≡ Dones.Served c NoMemory → RanOutOfMemory may_refuse c s b.backlog.held)
       → HoldsAfter may_refuse c s a.backlog.held done b.backlog.held
-  pub holds_there : (may_refuse : Bool) (k : ℕ) (s : FacilityState) (held : Option Numbered) → k ≢ c → HoldsAfter may_refuse k s held done held
+  pub holds_there : (may_refuse : Bool) (k : ℕ) (s : FacilityState) (held : Option Numbered) → k ≢ c
+      → HoldsAfter may_refuse k s held done held
   pub no_close : (s : FacilityState) → IsRightClose s [] done []
   pub in_time : (s t : FacilityState) → Runs (done ∷ []) s t → AreInTime s [] (done ∷ [])
 
@@ -56,7 +58,10 @@ of_serve c served = record {
   same_held = λ k before h. if_other k h (held_after_serve before served) before;
   is_right = λ k room len left pending h is. absurd (h (sym is));
   no_serve = λ k h is. absurd (h (sym (same_client k served is)));
-  holds_here = λ m s a b t wants. ((λ _. serve_holds m c s served a b t (λ is. wants (ap (Dones.Served c) is))), (λ other. absurd (other refl)));
+  holds_here = λ m s a b t wants. (
+    (λ _. serve_holds m c s served a b t (λ is. wants (ap (Dones.Served c) is))),
+    (λ other. absurd (other refl)),
+  );
   holds_there = λ m k s held h. ((λ is. absurd (h (sym is))), (λ _. refl));
   no_close = λ s is. absurd (cc);
   in_time = λ s t runs. (refl, runs.outs_are);
@@ -90,7 +95,8 @@ Tells-other c k done a o other last =
       held_first = subst (λ xs. Extends held (xs ++ held)) (sym none) (Extends-refl held);
       none_held = λ h. not_held a.backlog.held (sym (o.same_held k (is_held a.backlog.held) other) ∙ h);
       asked_are = ap (λ xs. got_but_held a ++ xs ++ held) none ∙ ap (λ xs. xs ++ held) (append-nil (got_but_held a)) ∙ last;
-      words_are = sym (append-nil (a.given ++ a.backlog.outbox)) ∙ ap (λ xs. a.given ++ a.backlog.outbox ++ (xs ++ [])) (sym (o.no_word k other));
+      words_are = sym (append-nil (a.given ++ a.backlog.outbox))
+          ∙ ap (λ xs. a.given ++ a.backlog.outbox ++ (xs ++ [])) (sym (o.no_word k other));
       flushed_are = let f = o.none_flushed k other in omega arith;
       fewer_left = let n : length (asked k (done ∷ [])) ≡ 0 = ap (λ xs. length xs) none in omega arith;
       same_room = refl;
@@ -106,7 +112,8 @@ outbox-told c report a b t =
     let f = t.flushed_are in
     omega arith
 
-needed_first : (refuses : Bool) (c : ℕ) (s : FacilityState) (held : Option Numbered) → RanOutOfMemory refuses c s held → IsNeeded refuses c s (held_list held)
+needed_first : (refuses : Bool) (c : ℕ) (s : FacilityState) (held : Option Numbered) → RanOutOfMemory refuses c s held
+    → IsNeeded refuses c s (held_list held)
 needed_first refuses c s (Some numbered) h = inr h
 needed_first refuses c s None h = h
 
@@ -115,7 +122,8 @@ same_served c x y h = cc
 
 module _ {I : Type 0} (kind : LineKind I) where
   -- the report of a desk whose client c alone was served or had its words flushed
-  pub Told-one : (c : ℕ) (done : Done) (f f' : FacilityView) (inlets : List I) (backlogs : List BacklogState) (i i' : I) (b b' : BacklogState)
+  pub Told-one : (c : ℕ) (done : Done) (f f' : FacilityView) (inlets : List I) (backlogs : List BacklogState) (i i' : I)
+      (b b' : BacklogState)
       → IsOf c done → IsDesk kind f inlets backlogs → c < length inlets
       → i ≡ get_or inlets c i → b ≡ get_or backlogs c b
       → kind.same i i' → Tells c (done ∷ []) (side_of kind i b) (side_of kind i' b') → Runs (done ∷ []) f.state f'.state
@@ -144,7 +152,8 @@ module _ {I : Type 0} (kind : LineKind I) where
       inlet_here k j is = ap (λ n. get_or (slice_set inlets c i') n j) is ∙ get_or-set_same inlets c i' j low
 
       backlog_here : (k : ℕ) (e : BacklogState) → k ≡ c → get_or (slice_set backlogs c b') k e ≡ b'
-      backlog_here k e is = ap (λ n. get_or (slice_set backlogs c b') n e) is ∙ get_or-set_same backlogs c b' e (let m = as_many in omega arith)
+      backlog_here k e is = ap (λ n. get_or (slice_set backlogs c b') n e) is ∙ get_or-set_same backlogs c b' e (let m = as_many
+          in omega arith)
 
       inlet_was : (k : ℕ) (j : I) → k ≡ c → get_or inlets k j ≡ i
       inlet_was k j is = ap (λ n. get_or inlets n j) is ∙ get_or_default inlets c j i low ∙ sym is_i
@@ -152,51 +161,67 @@ module _ {I : Type 0} (kind : LineKind I) where
       backlog_was : (k : ℕ) (e : BacklogState) → k ≡ c → get_or backlogs k e ≡ b
       backlog_was k e is = ap (λ n. get_or backlogs n e) is ∙ get_or_default backlogs c e b (let m = as_many in omega arith) ∙ sym is_b
 
-      line_at : (k : ℕ) (j : I) → k < length inlets → (c == k) ≡ true ⊎ (c == k) ≡ false → kind.same (get_or inlets k j) (get_or (slice_set inlets c i') k j)
+      line_at : (k : ℕ) (j : I) → k < length inlets → (c == k) ≡ true ⊎ (c == k) ≡ false
+          → kind.same (get_or inlets k j) (get_or (slice_set inlets c i') k j)
       line_at k j l (inl h) =
           let is : k ≡ c = is_equal c k h in
           subst (kind.same (get_or inlets k j)) (sym (inlet_here k j is)) (subst (λ x. kind.same x i') (sym (inlet_was k j is)) line)
-      line_at k j l (inr h) = subst (kind.same (get_or inlets k j)) (sym (get_or-set_other inlets c k i' j (is_other c k h))) (kind.reflexive (get_or inlets k j))
+      line_at k j l (inr h) = subst (kind.same (get_or inlets k j)) (sym (get_or-set_other inlets c k i' j (is_other c k h)))
+          (kind.reflexive (get_or inlets k j))
 
       side_told : (k : ℕ) (j : I) (e : BacklogState) → k < length inlets → (c == k) ≡ true ⊎ (c == k) ≡ false
-          → Tells k (done ∷ []) (side_of kind (get_or inlets k j) (get_or backlogs k e)) (side_of kind (get_or (slice_set inlets c i') k j) (get_or (slice_set backlogs c b') k e))
+          → Tells k (done ∷ []) (side_of kind (get_or inlets k j) (get_or backlogs k e))
+          (side_of kind (get_or (slice_set inlets c i') k j) (get_or (slice_set backlogs c b') k e))
       side_told k j e l (inl h) =
           let is : k ≡ c = is_equal c k h in
-          subst (λ x. Tells k (done ∷ []) (side_of kind x (get_or backlogs k e)) (side_of kind (get_or (slice_set inlets c i') k j) (get_or (slice_set backlogs c b') k e))) (sym (inlet_was k j is))
-          (subst (λ y. Tells k (done ∷ []) (side_of kind i y) (side_of kind (get_or (slice_set inlets c i') k j) (get_or (slice_set backlogs c b') k e))) (sym (backlog_was k e is))
-          (subst (λ x. Tells k (done ∷ []) (side_of kind i b) (side_of kind x (get_or (slice_set backlogs c b') k e))) (sym (inlet_here k j is))
+          subst (λ x. Tells k (done ∷ []) (side_of kind x (get_or backlogs k e))
+          (side_of kind (get_or (slice_set inlets c i') k j) (get_or (slice_set backlogs c b') k e))) (sym (inlet_was k j is))
+          (subst (λ y. Tells k (done ∷ []) (side_of kind i y) (side_of kind (get_or (slice_set inlets c i') k j)
+          (get_or (slice_set backlogs c b') k e))) (sym (backlog_was k e is))
+          (subst (λ x. Tells k (done ∷ []) (side_of kind i b) (side_of kind x (get_or (slice_set backlogs c b') k e)))
+          (sym (inlet_here k j is))
           (subst (λ y. Tells k (done ∷ []) (side_of kind i b) (side_of kind i' y)) (sym (backlog_here k e is))
           (subst (λ n. Tells n (done ∷ []) (side_of kind i b) (side_of kind i' b')) (sym is) tells))))
       side_told k j e l (inr h) =
           let other : k ≢ c = is_other c k h in
-          subst (λ x. Tells k (done ∷ []) (side_of kind (get_or inlets k j) (get_or backlogs k e)) (side_of kind x (get_or (slice_set backlogs c b') k e))) (sym (get_or-set_other inlets c k i' j other))
-          (subst (λ y. Tells k (done ∷ []) (side_of kind (get_or inlets k j) (get_or backlogs k e)) (side_of kind (get_or inlets k j) y)) (sym (get_or-set_other backlogs c k b' e other))
+          subst (λ x. Tells k (done ∷ []) (side_of kind (get_or inlets k j) (get_or backlogs k e))
+          (side_of kind x (get_or (slice_set backlogs c b') k e))) (sym (get_or-set_other inlets c k i' j other))
+          (subst (λ y. Tells k (done ∷ []) (side_of kind (get_or inlets k j) (get_or backlogs k e)) (side_of kind (get_or inlets k j) y))
+          (sym (get_or-set_other backlogs c k b' e other))
           (Tells-other c k done (side_of kind (get_or inlets k j) (get_or backlogs k e)) o other (d.held k j e l)))
 
       holds_at : (k : ℕ) (e : BacklogState) → k < length inlets → (c == k) ≡ true ⊎ (c == k) ≡ false
           → Holds kind.take_may_refuse k f.state (get_or backlogs k e).held [] (done ∷ []) (get_or (slice_set backlogs c b') k e).held
       holds_at k e l (inl h) =
           let is : k ≡ c = is_equal c k h in
-          subst (λ (x : BacklogState). Holds kind.take_may_refuse k f.state x.held [] (done ∷ []) (get_or (slice_set backlogs c b') k e).held) (sym (backlog_was k e is))
+          subst (λ (x : BacklogState). Holds kind.take_may_refuse k f.state x.held [] (done ∷ [])
+          (get_or (slice_set backlogs c b') k e).held) (sym (backlog_was k e is))
           (subst (λ (x : BacklogState). Holds kind.take_may_refuse k f.state b.held [] (done ∷ []) x.held) (sym (backlog_here k e is))
           (subst (λ n. Holds kind.take_may_refuse n f.state b.held [] (done ∷ []) b'.held) (sym is)
           (b'.held, o.holds_here kind.take_may_refuse f.state (side_of kind i b) (side_of kind i' b') tells wants, refl)))
       holds_at k e l (inr h) =
           let other : k ≢ c = is_other c k h in
           let held : Option Numbered = (get_or backlogs k e).held in
-          subst (λ (x : BacklogState). Holds kind.take_may_refuse k f.state held [] (done ∷ []) x.held) (sym (get_or-set_other backlogs c k b' e other))
+          subst (λ (x : BacklogState). Holds kind.take_may_refuse k f.state held [] (done ∷ []) x.held)
+          (sym (get_or-set_other backlogs c k b' e other))
           (held, o.holds_there kind.take_may_refuse k f.state held other, refl)
 
       state_after : (k : ℕ) → pending_after k f.state (done ∷ []) ≡ pending_of f'.state k
       state_after k = ap (λ v. pending_of v k) (sym runs.state_is)
 
       right_at : (k : ℕ) (j : I) (e : BacklogState) → k < length inlets → (c == k) ≡ true ⊎ (c == k) ≡ false
-          → IsRight kind.take_may_refuse k f.state (side_of kind (get_or inlets k j) (get_or backlogs k e)) (side_of kind (get_or (slice_set inlets c i') k j) (get_or (slice_set backlogs c b') k e)) [] done []
+          → IsRight kind.take_may_refuse k f.state (side_of kind (get_or inlets k j) (get_or backlogs k e))
+          (side_of kind (get_or (slice_set inlets c i') k j) (get_or (slice_set backlogs c b') k e)) [] done []
       right_at k j e l (inl h) =
           let is : k ≡ c = is_equal c k h in
-          subst (λ x. IsRight kind.take_may_refuse k f.state (side_of kind x (get_or backlogs k e)) (side_of kind (get_or (slice_set inlets c i') k j) (get_or (slice_set backlogs c b') k e)) [] done []) (sym (inlet_was k j is))
-          (subst (λ y. IsRight kind.take_may_refuse k f.state (side_of kind i y) (side_of kind (get_or (slice_set inlets c i') k j) (get_or (slice_set backlogs c b') k e)) [] done []) (sym (backlog_was k e is))
-          (subst (λ x. IsRight kind.take_may_refuse k f.state (side_of kind i b) (side_of kind x (get_or (slice_set backlogs c b') k e)) [] done []) (sym (inlet_here k j is))
+          subst (λ x. IsRight kind.take_may_refuse k f.state (side_of kind x (get_or backlogs k e))
+          (side_of kind (get_or (slice_set inlets c i') k j) (get_or (slice_set backlogs c b') k e)) [] done [])
+          (sym (inlet_was k j is))
+          (subst (λ y. IsRight kind.take_may_refuse k f.state (side_of kind i y)
+          (side_of kind (get_or (slice_set inlets c i') k j) (get_or (slice_set backlogs c b') k e)) [] done [])
+          (sym (backlog_was k e is))
+          (subst (λ x. IsRight kind.take_may_refuse k f.state (side_of kind i b)
+          (side_of kind x (get_or (slice_set backlogs c b') k e)) [] done []) (sym (inlet_here k j is))
           (subst (λ y. IsRight kind.take_may_refuse k f.state (side_of kind i b) (side_of kind i' y) [] done []) (sym (backlog_here k e is))
           (subst (λ n. IsRight kind.take_may_refuse n f.state (side_of kind i b) (side_of kind i' b') [] done []) (sym is) right_here))))
         where
@@ -215,8 +240,10 @@ module _ {I : Type 0} (kind : LineKind I) where
           let other : k ≢ c = is_other c k h in
           let within : k < length backlogs = let m = as_many in omega arith in
           let none : notices_for k f.waiting ≡ 0 = ap (notices_for k) d.nothing_waits in
-          let was : length (get_or backlogs k e).outbox + pending_of f.state k + notices_for k f.waiting ≤ (get_or backlogs k e).room = d.room k e within in
-          let more : pending_of f'.state k ≤ pending_of f.state k + 0 = subst (λ (v : Bool). pending_of f'.state k ≤ pending_of f.state k + (if v then 1 else 0)) h (adds k) in
+          let was : length (get_or backlogs k e).outbox + pending_of f.state k + notices_for k f.waiting ≤ (get_or backlogs k e).room =
+          d.room k e within in
+          let more : pending_of f'.state k ≤ pending_of f.state k + 0 =
+          subst (λ (v : Bool). pending_of f'.state k ≤ pending_of f.state k + (if v then 1 else 0)) h (adds k) in
           let n = state_after k in
           let no_words : length (words k (done ∷ [])) ≡ 0 = ap (λ xs. length (xs ++ [])) (o.no_word k other) in
           let none_went : flushed k (done ∷ []) ≡ 0 = let f0 = o.none_flushed k other in omega arith in
@@ -226,13 +253,15 @@ module _ {I : Type 0} (kind : LineKind I) where
   got_by i = (kind.state i).got
 
   -- where the line of client c has got nothing more, no line has
-  pub got-one : (c : ℕ) (inlets : List I) (i i' : I) → c < length inlets → i ≡ get_or inlets c i → got_by i' ≡ got_by i → (k : ℕ) (j : I) → got_by (get_or (slice_set inlets c i') k j) ≡ got_by (get_or inlets k j)
+  pub got-one : (c : ℕ) (inlets : List I) (i i' : I) → c < length inlets → i ≡ get_or inlets c i → got_by i' ≡ got_by i → (k : ℕ) (j : I)
+      → got_by (get_or (slice_set inlets c i') k j) ≡ got_by (get_or inlets k j)
   got-one c inlets i i' low is_i e k j = at (either (c == k))
     where
       at : (c == k) ≡ true ⊎ (c == k) ≡ false → got_by (get_or (slice_set inlets c i') k j) ≡ got_by (get_or inlets k j)
       at (inl h) =
           let is : k ≡ c = is_equal c k h in
-          ap (λ n. got_by (get_or (slice_set inlets c i') n j)) is ∙ ap got_by (get_or-set_same inlets c i' j low) ∙ e ∙ ap got_by (is_i ∙ get_or_default inlets c i j low) ∙ ap (λ n. got_by (get_or inlets n j)) (sym is)
+          ap (λ n. got_by (get_or (slice_set inlets c i') n j)) is ∙ ap got_by (get_or-set_same inlets c i' j low) ∙ e
+          ∙ ap got_by (is_i ∙ get_or_default inlets c i j low) ∙ ap (λ n. got_by (get_or inlets n j)) (sym is)
       at (inr h) = ap got_by (get_or-set_other inlets c k i' j (is_other c k h))
 
   -- writing an element back changes nothing

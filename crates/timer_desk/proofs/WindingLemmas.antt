@@ -25,16 +25,19 @@ some_same : (x y : RingInlet) → Some x ≡ Some y → x ≡ y
 some_same x y h = cc
 
 -- the last of the first lines is the one with that number
-pub last_is : (xs all : List RingInlet) (m : ℕ) (i x : RingInlet) → xs ≡ take (m + 1) all → Some x ≡ Some (get_or xs m i) → x ≡ get_or all m i
+pub last_is : (xs all : List RingInlet) (m : ℕ) (i x : RingInlet) → xs ≡ take (m + 1) all → Some x ≡ Some (get_or xs m i)
+    → x ≡ get_or all m i
 last_is xs all m i x e h =
     some_same x (get_or xs m i) h ∙ ap (λ ys. get_or ys m i) e ∙ get_or-take (m + 1) all m i (let k : m ≤ m = omega arith in omega arith)
 
-pub below_stays : (rs start : List ClientReader) (m : ℕ) (x : ClientReader) → ((k : ℕ) (r : ClientReader) → k < m + 1 → get_or rs k r ≡ get_or start k r)
+pub below_stays : (rs start : List ClientReader) (m : ℕ) (x : ClientReader)
+    → ((k : ℕ) (r : ClientReader) → k < m + 1 → get_or rs k r ≡ get_or start k r)
     → (k : ℕ) (r : ClientReader) → k < m → get_or (slice_set rs m x) k r ≡ get_or start k r
 below_stays rs start m x was k r h = get_or-set_other rs m k x r (λ (e : k ≡ m). absurd (omega arith)) ∙ was k r (omega arith)
 
 -- what a reader can still read depends on what was given alone
-pub IsReadOut-same : (i j : RingInlet) (before after : ClientReader) → given_of i ≡ given_of j → IsReadOut i before after → IsReadOut j before after
+pub IsReadOut-same : (i j : RingInlet) (before after : ClientReader) → given_of i ≡ given_of j → IsReadOut i before after
+    → IsReadOut j before after
 IsReadOut-same i j before after e h = record { line = h.line; read = h.read; settled = h.settled; all = h.all ∙ e }
 
 -- so the reader before shows that the line can be finished
@@ -60,12 +63,14 @@ still_waits n old new ended x keeps low is waits i e =
 pub one_more_read : (all : List RingInlet) (start rs : List ClientReader) (m n : ℕ) (x : ClientReader) → m < length rs
     → ((i : RingInlet) (r : ClientReader) → IsReadOut (get_or all m i) (get_or start m r) x)
     → ((k : ℕ) (i : RingInlet) (r : ClientReader) → m + 1 ≤ k → k < n → IsReadOut (get_or all k i) (get_or start k r) (get_or rs k r))
-    → (k : ℕ) (i : RingInlet) (r : ClientReader) → m ≤ k → k < n → IsReadOut (get_or all k i) (get_or start k r) (get_or (slice_set rs m x) k r)
+    → (k : ℕ) (i : RingInlet) (r : ClientReader) → m ≤ k → k < n
+    → IsReadOut (get_or all k i) (get_or start k r) (get_or (slice_set rs m x) k r)
 one_more_read all start rs m n x low here was k i r l h = elim (either (m == k)) [
   | inl e ↦
       let is : k ≡ m = is_equal m k e in
       let there : get_or (slice_set rs m x) k r ≡ x = ap (λ n. get_or (slice_set rs m x) n r) is ∙ get_or-set_same rs m x r low in
-      subst (λ q. IsReadOut (get_or all k i) (get_or start k r) q) (sym there) (subst (λ n. IsReadOut (get_or all n i) (get_or start n r) x) (sym is) (here i r))
+      subst (λ q. IsReadOut (get_or all k i) (get_or start k r) q) (sym there)
+      (subst (λ n. IsReadOut (get_or all n i) (get_or start n r) x) (sym is) (here i r))
   | inr e ↦
       let not : k ≢ m = is_other m k e in
       let there : get_or (slice_set rs m x) k r ≡ get_or rs k r = get_or-set_other rs m k x r not in

@@ -11,7 +11,8 @@ use Rattle.timer_desk.specs.Report.{out_of, place_told}
 
 -- the step of a client's request, with the place in its word
 abbrev pub asked_step : FacilityState → ℕ → Numbered → Word → Step
-asked_step s client numbered word = step s (event_asked client numbered.number numbered.request) (place_told word)
+asked_step s client numbered word = step s (event_asked client numbered.number numbered.request)
+    (place_told word)
 
 -- the word is not a refusal for memory
 abbrev pub IsNoWant : Word → Type 0
@@ -20,7 +21,8 @@ IsNoWant (Words.NotTaken number reason) = ¬ (reason ≡ NotTakens.OutOfMemory)
 IsNoWant (Words.Notice notice) = Unit {0}
 
 -- the request was taken or refused, and this is its word
-pub record HasAsked (s : FacilityState) (client : ℕ) (numbered : Numbered) (word : Word) (new : FacilityView) : Type 0 where
+pub record HasAsked (s : FacilityState) (client : ℕ) (numbered : Numbered) (word : Word)
+    (new : FacilityView) : Type 0 where
   pub told : (asked_step s client numbered word).outs ≡ out_of client word ∷ []
   pub left : new ≡ with_nothing_waiting (asked_step s client numbered word).state
   pub no_want : IsNoWant word
@@ -28,4 +30,5 @@ pub record HasAsked (s : FacilityState) (client : ℕ) (numbered : Numbered) (wo
 -- the line ran out of memory, or the request that is now held did: a start that would be accepted
 abbrev pub RanOutOfMemory : Bool → ℕ → FacilityState → Option Numbered → Type 0
 RanOutOfMemory line_may_refuse client s None = line_may_refuse ≡ true
-RanOutOfMemory line_may_refuse client s (Some numbered) = NeedsMemory s client numbered.number numbered.request
+RanOutOfMemory line_may_refuse client s (Some numbered) =
+    NeedsMemory s client numbered.number numbered.request

@@ -34,7 +34,8 @@ client_of notice = (timer_handed notice).client
 
 -- the notice is pushed to the back of its client's outbox
 abbrev pub with_notice : Notice → List BacklogState → List BacklogState
-with_notice notice bs = slice_set bs (client_of notice) (with_word (Words.Notice notice) (get_or bs (client_of notice) (empty_backlog 0)))
+with_notice notice bs = slice_set bs (client_of notice)
+    (with_word (Words.Notice notice) (get_or bs (client_of notice) (empty_backlog 0)))
 
 -- the notices are pushed, one after another, to the back of their clients' outboxes
 abbrev pub with_notices : List Notice → List BacklogState → List BacklogState
@@ -45,7 +46,8 @@ with_notices (notice ∷ notices) bs = with_notices notices (with_notice notice 
 abbrev pub notices_for : ℕ → List Notice → ℕ
 notices_for client notices = count_of client (map timer_handed notices)
 
--- each outbox has room for its words, for a notice of each pending timer of its client, and for its notices that wait
+-- each outbox has room for its words, for a notice of each pending timer of its client, and for its notices
+-- that wait
 abbrev pub HasRoom : List BacklogState → FacilityView → Type 0
 HasRoom bs f = (c : ℕ) (d : BacklogState) → c < length bs
     → length (get_or bs c d).outbox + pending_of f.state c + notices_for c f.waiting ≤ (get_or bs c d).room

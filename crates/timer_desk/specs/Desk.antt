@@ -26,7 +26,11 @@ pub record DeskState (I : Type 0) : Type 0 where
 
 -- a new desk, with empty backlogs
 abbrev pub opened_desk : {I : Type 0} → FacilityState → List I → ℕ → DeskState I
-opened_desk s inlets room = record { facility = s; inlets = inlets; backlogs = replicate (length inlets) (empty_backlog room) }
+opened_desk s inlets room = record {
+  facility = s;
+  inlets = inlets;
+  backlogs = replicate (length inlets) (empty_backlog room);
+}
 
 -- how many clients there are
 abbrev pub clients_of : {I : Type 0} → DeskState I → ℕ
@@ -57,8 +61,8 @@ step_in (Dones.Flushed client count) = Steps.Flush client ∷ []
 abbrev pub steps_of : List Done → List Step
 steps_of report = flat_map step_in report
 
--- each notice comes after a tick or a close, with only notices in between; `allowed` says whether the first member may be
--- one
+-- each notice comes after a tick or a close, with only notices in between; `allowed` says whether the first
+-- member may be one
 abbrev pub AreBehind : Bool → List Done → Type 0
 AreBehind allowed [] = Unit {0}
 AreBehind allowed (Dones.Served client served ∷ report) = AreBehind false report
@@ -67,19 +71,21 @@ AreBehind allowed (Dones.Closed result ∷ report) = AreBehind true report
 AreBehind allowed (Dones.Noticed notice ∷ report) = (allowed ≡ true) × AreBehind allowed report
 AreBehind allowed (Dones.Flushed client count ∷ report) = AreBehind false report
 
--- Before each member of a report that is not a notice, and at its end, the outs of the members `past` are those of a run
--- of their events: no notice comes late, and none early.
+-- Before each member of a report that is not a notice, and at its end, the outs of the members `past` are
+-- those of a run of their events: no notice comes late, and none early.
 abbrev pub AreInTime : FacilityState → List Done → List Done → Type 0
 AreInTime s past [] = outs past ≡ (run s (events past)).outs
 AreInTime s past (Dones.Noticed notice ∷ report) = AreInTime s (past ++ Dones.Noticed notice ∷ []) report
-AreInTime s past (done ∷ report) = (outs past ≡ (run s (events past)).outs) × AreInTime s (past ++ done ∷ []) report
+AreInTime s past (done ∷ report) = (outs past ≡ (run s (events past)).outs)
+    × AreInTime s (past ++ done ∷ []) report
 
--- before each member of a report that is not a notice, and at its end, the notices among the members `past` are what is
--- owed for their events
+-- before each member of a report that is not a notice, and at its end, the notices among the members `past`
+-- are what is owed for their events
 abbrev pub AreOwed : FacilityState → List Done → List Done → Type 0
 AreOwed s past [] = notices_in (outs past) ≡ owed s (history s (events past))
 AreOwed s past (Dones.Noticed notice ∷ report) = AreOwed s (past ++ Dones.Noticed notice ∷ []) report
-AreOwed s past (done ∷ report) = (notices_in (outs past) ≡ owed s (history s (events past))) × AreOwed s (past ++ done ∷ []) report
+AreOwed s past (done ∷ report) = (notices_in (outs past) ≡ owed s (history s (events past)))
+    × AreOwed s (past ++ done ∷ []) report
 
 -- the step's client is one of these
 abbrev pub InRange : ℕ → Step → Type 0
@@ -115,13 +121,15 @@ module _ {I : Type 0} (kind : LineKind I) where
 pub record TakesNothing {I : Type 0} (kind : LineKind I) (old new : DeskState I) : Type 0 where
   pub same_facility : new.facility ≡ old.facility
   pub same_backlogs : new.backlogs ≡ old.backlogs
-  pub same_got : (c : ℕ) (i : I) → (kind.state (get_or new.inlets c i)).got ≡ (kind.state (get_or old.inlets c i)).got
+  pub same_got : (c : ℕ) (i : I) → (kind.state (get_or new.inlets c i)).got
+      ≡ (kind.state (get_or old.inlets c i)).got
 
 module _ {I : Type 0} (kind : LineKind I) where
   -- each client before and after the report
   pub record ToldSides (report : List Done) (old new : DeskState I) : Type 0 where
     pub same_clients : clients_of new ≡ clients_of old
-    pub lines : (c : ℕ) (i : I) → c < clients_of old → kind.same (get_or old.inlets c i) (get_or new.inlets c i)
+    pub lines : (c : ℕ) (i : I) → c < clients_of old
+        → kind.same (get_or old.inlets c i) (get_or new.inlets c i)
     pub sides : (c : ℕ) (i : I) (b : BacklogState) → c < clients_of old
         → Tells c report (side_at kind old c i b) (side_at kind new c i b)
 
@@ -131,9 +139,11 @@ module _ {I : Type 0} (kind : LineKind I) where
     pub facility : Runs report old.facility new.facility
     pub in_time : AreInTime old.facility [] report
     pub right : (c : ℕ) (i : I) (b : BacklogState) → c < clients_of old
-        → AtEach (IsRight kind.take_may_refuse c old.facility (side_at kind old c i b) (side_at kind new c i b)) [] report
+        → AtEach (IsRight kind.take_may_refuse c old.facility (side_at kind old c i b)
+        (side_at kind new c i b)) [] report
     pub holds : (c : ℕ) (b : BacklogState) → c < clients_of old
-        → Holds kind.take_may_refuse c old.facility (get_or old.backlogs c b).held [] report (get_or new.backlogs c b).held
+        → Holds kind.take_may_refuse c old.facility (get_or old.backlogs c b).held [] report
+        (get_or new.backlogs c b).held
     pub closes : AtEach (IsRightClose old.facility) [] report
 
   -- a step, and what it appends to the report

@@ -28,7 +28,8 @@ pub record IsDone (goal : ℕ) (p : Progress) : Type 0 where
   pub served : goal ≤ p.served
   pub flushed : 2 * goal ≤ p.flushed
 
--- of these requests and words, as many are counted as were still missing: requests up to the goal, words up to twice the goal
+-- of these requests and words, as many are counted as were still missing: requests up to the goal, words up
+-- to twice the goal
 pub record HasCounted (goal requests words : ℕ) (old new : Progress) : Type 0 where
   pub served : new.served ≡ old.served + min requests (goal - old.served)
   pub flushed : new.flushed ≡ old.flushed + min words (2 * goal - old.flushed)
@@ -85,20 +86,23 @@ ticks_in (step ∷ steps) = tick_in step + ticks_in steps
 abbrev pub turns_in : List Done → ℕ
 turns_in report = ticks_in (steps_of report)
 
--- the last turns of the report, `limit` of them, passed nothing on: of each client as many requests up to the goal were
--- served before them as after them, and as many words up to twice the goal flushed
+-- the last turns of the report, `limit` of them, passed nothing on: of each client as many requests up to the
+-- goal were served before them as after them, and as many words up to twice the goal flushed
 pub record EndsIdle (goal limit clients : ℕ) (report : List Done) : Type 0 where
   pub before : List Done
   pub after : List Done
   pub parts : report ≡ before ++ after
   pub turns : turns_in after ≡ limit
-  pub none_served : (c : ℕ) → c < clients → min (length (asked c report)) goal ≡ min (length (asked c before)) goal
-  pub none_flushed : (c : ℕ) → c < clients → min (flushed c report) (2 * goal) ≡ min (flushed c before) (2 * goal)
+  pub none_served : (c : ℕ) → c < clients → min (length (asked c report)) goal
+      ≡ min (length (asked c before)) goal
+  pub none_flushed : (c : ℕ) → c < clients → min (flushed c report) (2 * goal)
+      ≡ min (flushed c before) (2 * goal)
 
 module _ {I : Type 0} (kind : LineKind I) where
-  -- there is a report without a close that leads from the one desk to the other, and it was counted; unless a turn was refused,
-  -- no serve ran out of memory
-  pub record Turns (goal : ℕ) (refused : Bool) (old new : DeskState I) (before after : List Progress) : Type 0 where
+  -- there is a report without a close that leads from the one desk to the other, and it was counted; unless a
+  -- turn was refused, no serve ran out of memory
+  pub record Turns (goal : ℕ) (refused : Bool) (old new : DeskState I)
+      (before after : List Progress) : Type 0 where
     pub report : List Done
     pub told : Told kind report old new
     pub fit : All (IsFit (clients_of old)) (steps_of report)
@@ -108,13 +112,15 @@ module _ {I : Type 0} (kind : LineKind I) where
         → HasCounted goal (length (asked c report)) (flushed c report) (get_or before c p) (get_or after c p)
 
   -- so for one turn: unless it was refused, it has one tick
-  pub record TurnsOnce (goal : ℕ) (refused : Bool) (old new : DeskState I) (before after : List Progress) : Type 0 where
+  pub record TurnsOnce (goal : ℕ) (refused : Bool) (old new : DeskState I)
+      (before after : List Progress) : Type 0 where
     pub turns : Turns goal refused old new before after
     pub once : refused ≡ false → turns_in turns.report ≡ 1
 
-  -- There is a report without a close that leads from the one desk to the other. Where the drive is done, each client had
-  -- `goal` requests served and twice as many words flushed; where a limit above 0 ended it, some client had not, and the last
-  -- `limit` turns passed nothing on. Only a drive that ended out of memory has a serve that ran out of memory.
+  -- There is a report without a close that leads from the one desk to the other. Where the drive is done,
+  -- each client had `goal` requests served and twice as many words flushed; where a limit above 0 ended it,
+  -- some client had not, and the last `limit` turns passed nothing on. Only a drive that ended out of memory
+  -- has a serve that ran out of memory.
   pub record Drives (goal limit : ℕ) (old new : DeskState I) (outcome : DriveEnd) : Type 0 where
     pub report : List Done
     pub told : Told kind report old new

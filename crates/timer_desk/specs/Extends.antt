@@ -21,5 +21,6 @@ Extends-is xs ys h = sym (take-append-drop (length xs) ys) ∙ ap (λ zs. zs ++ 
 pub Extends-trans : {X : Type 0} (xs ys zs : List X) → Extends xs ys → Extends ys zs → Extends xs zs
 Extends-trans xs ys zs h k =
     ap (take (length xs))
-    (Extends-is ys zs k ∙ ap (λ us. us ++ drop (length ys) zs) (Extends-is xs ys h) ∙ append_assoc xs (drop (length xs) ys) (drop (length ys) zs))
+    (Extends-is ys zs k ∙ ap (λ us. us ++ drop (length ys) zs) (Extends-is xs ys h)
+    ∙ append_assoc xs (drop (length xs) ys) (drop (length ys) zs))
     ∙ Extends-front xs (drop (length xs) ys ++ drop (length ys) zs)

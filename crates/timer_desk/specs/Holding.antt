@@ -11,9 +11,10 @@ use Rattle.timer_desk.specs.Extends.{Extends}
 use Rattle.timer_desk.specs.Asking.{RanOutOfMemory}
 use Rattle.timer_desk.specs.Report.{held_list, events}
 
--- What is held before and after a serve of client c with this result, at a facility in the state s. Without room
--- nothing is tried. `Idle` finds nothing held. What was done is the held request, if one was held. A serve that ran
--- out of memory keeps what was held; the request held after it needs memory, or none is and the line ran out.
+-- What is held before and after a serve of client c with this result, at a facility in the state s. Without
+-- room nothing is tried. `Idle` finds nothing held. What was done is the held request, if one was held. A
+-- serve that ran out of memory keeps what was held; the request held after it needs memory, or none is and
+-- the line ran out.
 abbrev pub HoldsAfterServe : Bool → ℕ → FacilityState → Option Numbered → Served → Option Numbered → Type 0
 HoldsAfterServe may_refuse c s before Idle after = (before ≡ None) × (after ≡ None)
 HoldsAfterServe may_refuse c s before NoRoom after = after ≡ before

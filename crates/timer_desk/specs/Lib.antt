@@ -15,3 +15,4 @@ pub mod Queues
 pub mod Winding
 pub mod Driving
 pub mod Ticking
+pub mod Flushing

@@ -25,13 +25,19 @@ module _ {R : Type 0} where
     pub given_grows : Extends (given_by_locked a) (given_by_locked b)
 
   pub SameLockedLine-refl : (a : LockedInlet R) → SameLockedLine a a
-  SameLockedLine-refl a = record { queues = refl; got_grows = Extends-refl (got_by_locked a); given_grows = Extends-refl (given_by_locked a) }
+  SameLockedLine-refl a = record {
+    queues = refl;
+    got_grows = Extends-refl (got_by_locked a);
+    given_grows = Extends-refl (given_by_locked a);
+  }
 
-  pub SameLockedLine-trans : (a b c : LockedInlet R) → SameLockedLine a b → SameLockedLine b c → SameLockedLine a c
+  pub SameLockedLine-trans : (a b c : LockedInlet R) → SameLockedLine a b → SameLockedLine b c
+      → SameLockedLine a c
   SameLockedLine-trans a b c p q = record {
     queues = p.queues ∙ q.queues;
     got_grows = Extends-trans (got_by_locked a) (got_by_locked b) (got_by_locked c) p.got_grows q.got_grows;
-    given_grows = Extends-trans (given_by_locked a) (given_by_locked b) (given_by_locked c) p.given_grows q.given_grows;
+    given_grows = Extends-trans (given_by_locked a) (given_by_locked b)
+        (given_by_locked c) p.given_grows q.given_grows;
   }
 
   -- locked lines as a kind of line

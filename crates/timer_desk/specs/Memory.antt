@@ -27,9 +27,15 @@ pub record SameMemoryLine (a b : MemoryInlet) : Type 0 where
   pub given_grows : Extends (given_of a) (given_of b)
 
 pub SameMemoryLine-refl : (a : MemoryInlet) → SameMemoryLine a a
-SameMemoryLine-refl a = record { requests = refl; same_room = refl; got_grows = Extends-refl (got_of a); given_grows = Extends-refl (given_of a) }
+SameMemoryLine-refl a = record {
+  requests = refl;
+  same_room = refl;
+  got_grows = Extends-refl (got_of a);
+  given_grows = Extends-refl (given_of a);
+}
 
-pub SameMemoryLine-trans : (a b c : MemoryInlet) → SameMemoryLine a b → SameMemoryLine b c → SameMemoryLine a c
+pub SameMemoryLine-trans : (a b c : MemoryInlet) → SameMemoryLine a b → SameMemoryLine b c
+    → SameMemoryLine a c
 SameMemoryLine-trans a b c p q = record {
   requests = p.requests ∙ q.requests;
   same_room = p.same_room ∙ q.same_room;

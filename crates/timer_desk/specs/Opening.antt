@@ -7,5 +7,7 @@ use Rattle.timer_desk.specs.declared.opening.TheConstants.{LEAST_ROOM, MOST_ROOM
 
 -- the facility and the lines are handed back unchanged; `Room` exactly where the room is out of range
 abbrev pub HandsBackBoth : {W I : Type 0} → ℕ → FacilityView → List I → OpenFault W I → Type 0
-HandsBackBoth room facility inlets (Room f is) = (f ≡ facility) × (is.items ≡ inlets) × ((room < LEAST_ROOM) ⊎ (MOST_ROOM < room))
-HandsBackBoth room facility inlets (OutOfMemory f is) = (f ≡ facility) × (is.items ≡ inlets) × ((LEAST_ROOM ≤ room) × (room ≤ MOST_ROOM))
+HandsBackBoth room facility inlets (Room f is) = (f ≡ facility) × (is.items ≡ inlets)
+    × ((room < LEAST_ROOM) ⊎ (MOST_ROOM < room))
+HandsBackBoth room facility inlets (OutOfMemory f is) = (f ≡ facility) × (is.items ≡ inlets)
+    × ((LEAST_ROOM ≤ room) × (room ≤ MOST_ROOM))

@@ -55,8 +55,9 @@ flushed_in c (Dones.Closed result) = 0
 flushed_in c (Dones.Noticed notice) = 0
 flushed_in c (Dones.Flushed client count) = if client == c then count else 0
 
--- Whether a request of the client may be held after a serve of it; `before` is whether one was held before. A held request
--- is retried first, so after a serve one is held only where memory ran out; without room nothing is tried.
+-- Whether a request of the client may be held after a serve of it; `before` is whether one was held before. A
+-- held request is retried first, so after a serve one is held only where memory ran out; without room nothing
+-- is tried.
 abbrev pub held_after_serve : Bool → Served → Bool
 held_after_serve before Idle = false
 held_after_serve before NoRoom = before
@@ -65,7 +66,8 @@ held_after_serve before (Did numbered word) = false
 
 -- the same after a member of a report, for client c
 abbrev pub held_after : ℕ → Bool → Done → Bool
-held_after c before (Dones.Served client served) = if client == c then held_after_serve before served else before
+held_after c before (Dones.Served client served) =
+    if client == c then held_after_serve before served else before
 held_after c before (Dones.Ticked result) = before
 held_after c before (Dones.Closed result) = before
 held_after c before (Dones.Noticed notice) = before
@@ -88,7 +90,8 @@ placed event place = record { event = event; place = place }
 
 -- a request that was tried and didn't run out of memory
 abbrev pub request_event : ℕ → Numbered → Word → Placed
-request_event client numbered word = placed (event_asked client numbered.number numbered.request) (place_told word)
+request_event client numbered word = placed (event_asked client numbered.number numbered.request)
+    (place_told word)
 
 abbrev pub served_events : ℕ → Served → List Placed
 served_events client Idle = []
@@ -146,8 +149,8 @@ abbrev pub flushed : ℕ → List Done → ℕ
 flushed c [] = 0
 flushed c (done ∷ report) = flushed_in c done + flushed c report
 
--- whether a request of client c may be held after a report: a serve of c ran out of memory, and no later serve of c found
--- the line empty or was done
+-- whether a request of client c may be held after a report: a serve of c ran out of memory, and no later
+-- serve of c found the line empty or was done
 abbrev pub may_hold : ℕ → Bool → List Done → Bool
 may_hold c before [] = before
 may_hold c before (done ∷ report) = may_hold c (held_after c before done) report
@@ -181,7 +184,12 @@ pub record Side : Type 0 where
 
 -- the side of a client with line i and backlog b
 abbrev pub side_of : {I : Type 0} → LineKind I → I → BacklogState → Side
-side_of kind i b = record { got = (kind.state i).got; standing = (kind.state i).standing; given = (kind.state i).given; backlog = b }
+side_of kind i b = record {
+  got = (kind.state i).got;
+  standing = (kind.state i).standing;
+  given = (kind.state i).given;
+  backlog = b;
+}
 
 -- the requests that were got, without the held one
 abbrev pub got_but_held : Side → List Numbered

@@ -17,8 +17,8 @@ abbrev pub AtEach : (List Done → Done → List Done → Type 0) → List Done 
 AtEach fact past [] = Unit {0}
 AtEach fact past (done ∷ later) = fact past done later × AtEach fact (past ++ done ∷ []) later
 
--- which results a serve may have (its word is never a refusal for memory), by the room, the length of the outbox, how many
--- requests are known to be left, and how many timers are pending
+-- which results a serve may have (its word is never a refusal for memory), by the room, the length of the
+-- outbox, how many requests are known to be left, and how many timers are pending
 abbrev pub IsRightServe : ℕ → ℕ → ℕ → ℕ → Served → Type 0
 IsRightServe room len left pending NoRoom = room < len + pending + 2
 IsRightServe room len left pending Idle = (len + pending + 2 ≤ room) × (left ≡ 0)
@@ -26,7 +26,8 @@ IsRightServe room len left pending NoMemory = len + pending + 2 ≤ room
 IsRightServe room len left pending (Did numbered word) = (len + pending + 2 ≤ room) × IsNoWant word
 
 abbrev pub IsRightMember : ℕ → ℕ → ℕ → ℕ → ℕ → Done → Type 0
-IsRightMember c room len left pending (Dones.Served client served) = client ≡ c → IsRightServe room len left pending served
+IsRightMember c room len left pending (Dones.Served client served) = client ≡ c
+    → IsRightServe room len left pending served
 IsRightMember c room len left pending (Dones.Ticked result) = Unit {0}
 IsRightMember c room len left pending (Dones.Closed result) = Unit {0}
 IsRightMember c room len left pending (Dones.Noticed notice) = Unit {0}
@@ -35,9 +36,11 @@ IsRightMember c room len left pending (Dones.Flushed client count) = Unit {0}
 -- the line may run out of memory, or the facility allocates for the first of these requests
 abbrev pub IsNeeded : Bool → ℕ → FacilityState → List Numbered → Type 0
 IsNeeded may_refuse c s [] = may_refuse ≡ true
-IsNeeded may_refuse c s (numbered ∷ later) = (may_refuse ≡ true) ⊎ NeedsMemory s c numbered.number numbered.request
+IsNeeded may_refuse c s (numbered ∷ later) = (may_refuse ≡ true)
+    ⊎ NeedsMemory s c numbered.number numbered.request
 
--- the length of a client's outbox after a report, where its side was a: the words before and those since, less those flushed
+-- the length of a client's outbox after a report, where its side was a: the words before and those since, less
+-- those flushed
 abbrev pub outbox_after : ℕ → Side → List Done → ℕ
 outbox_after c a past = length a.backlog.outbox + length (words c past) - flushed c past
 
@@ -45,14 +48,18 @@ outbox_after c a past = length a.backlog.outbox + length (words c past) - flushe
 abbrev pub pending_after : ℕ → FacilityState → List Done → ℕ
 pending_after c s past = pending_of (run s (events past)).state c
 
--- When a member is right for client c, whose side was a before the report and is b after it. A serve's result accords with
--- the room; it runs out of memory only where the request that is then held (the next one done, or the one held at the end)
--- allocates; and after the member the outbox has room for a notice of each pending timer.
-pub record IsRight (may_refuse : Bool) (c : ℕ) (s : FacilityState) (a b : Side) (past : List Done) (done : Done) (later : List Done) : Type 0 where
-  pub served : IsRightMember c a.backlog.room (outbox_after c a past) (left_of a - length (asked c past)) (pending_after c s past) done
-  pub needed : done ≡ Dones.Served c NoMemory → IsNeeded may_refuse c (run s (events past)).state (asked c later ++ held_list b.backlog.held)
+-- When a member is right for client c, whose side was a before the report and is b after it. A serve's result
+-- accords with the room. It runs out of memory only where the request that is then held (the next one done, or
+-- the one held at the end) allocates. After the member the outbox has room for a notice of each pending timer.
+pub record IsRight (may_refuse : Bool) (c : ℕ) (s : FacilityState) (a b : Side) (past : List Done)
+    (done : Done) (later : List Done) : Type 0 where
+  pub served : IsRightMember c a.backlog.room (outbox_after c a past) (left_of a - length (asked c past))
+      (pending_after c s past) done
+  pub needed : done ≡ Dones.Served c NoMemory → IsNeeded may_refuse c (run s (events past)).state
+      (asked c later ++ held_list b.backlog.held)
   pub room : outbox_after c a (past ++ done ∷ []) + pending_after c s (past ++ done ∷ []) ≤ a.backlog.room
 
 -- a close runs out of memory only at an open facility
 abbrev pub IsRightClose : FacilityState → List Done → Done → List Done → Type 0
-IsRightClose s past done later = done ≡ Dones.Closed (Err OutOfMemory) → (run s (events past)).state.is_closed ≡ false
+IsRightClose s past done later = done ≡ Dones.Closed (Err OutOfMemory)
+    → (run s (events past)).state.is_closed ≡ false

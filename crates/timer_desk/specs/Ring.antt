@@ -100,16 +100,22 @@ seen_by_inlet i = known_items i.requests
 abbrev pub free_of_inlet : RingInlet → ℕ
 free_of_inlet i = known_free i.words
 
--- The line is the same one, and more may have been got and given. Once settled it stays settled, and what was got followed
--- by what stands stays the same.
+-- The line is the same one, and more may have been got and given. Once settled it stays settled, and what was
+-- got followed by what stands stays the same.
 pub record SameRingLine (a b : RingInlet) : Type 0 where
   pub line : line_of_inlet a ≡ line_of_inlet b
   pub got_grows : Extends (got_of a) (got_of b)
   pub given_grows : Extends (given_of a) (given_of b)
-  pub settled : is_settled a ≡ true → (is_settled b ≡ true) × (got_of b ++ standing_of b ≡ got_of a ++ standing_of a)
+  pub settled : is_settled a ≡ true → (is_settled b ≡ true)
+      × (got_of b ++ standing_of b ≡ got_of a ++ standing_of a)
 
 pub SameRingLine-refl : (a : RingInlet) → SameRingLine a a
-SameRingLine-refl a = record { line = refl; got_grows = Extends-refl (got_of a); given_grows = Extends-refl (given_of a); settled = λ h. (h, refl) }
+SameRingLine-refl a = record {
+  line = refl;
+  got_grows = Extends-refl (got_of a);
+  given_grows = Extends-refl (given_of a);
+  settled = λ h. (h, refl);
+}
 
 pub SameRingLine-trans : (a b c : RingInlet) → SameRingLine a b → SameRingLine b c → SameRingLine a c
 SameRingLine-trans a b c p q = record {

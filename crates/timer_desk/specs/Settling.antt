@@ -1,8 +1,8 @@
 -- A ring line before and after it is settled.
-use Rattle.std.specs.Prelude.{◌≡◌, ◌++◌, ℕ, true, List, length}
+use Rattle.std.specs.Prelude.{◌≡◌, ◌≤◌, ◌++◌, ℕ, true, List, length}
 use Rattle.timer_desk.specs.declared.word.Numbered.{Numbered}
 use Rattle.timer_desk.specs.declared.ring.RingInlet.{RingInlet}
-use Rattle.timer_desk.specs.Ring.{line_of_inlet, got_of, standing_of, given_of, is_settled}
+use Rattle.timer_desk.specs.Ring.{line_of_inlet, got_of, standing_of, given_of, free_of_inlet, is_settled}
 
 -- the line is the same one, and what was got followed by what stands is all that was submitted
 pub record HasSettled (old new : RingInlet) (submitted : List Numbered) (count : ℕ) : Type 0 where
@@ -12,3 +12,12 @@ pub record HasSettled (old new : RingInlet) (submitted : List Numbered) (count :
   pub counted : count ≡ length (standing_of new)
   pub got_stays : got_of new ≡ got_of old
   pub given_stays : given_of new ≡ given_of old
+
+-- only more slots of the line may be known to be free
+pub record HasLooked (old new : RingInlet) : Type 0 where
+  pub same_line : line_of_inlet new ≡ line_of_inlet old
+  pub same_settled : is_settled new ≡ is_settled old
+  pub same_got : got_of new ≡ got_of old
+  pub same_standing : standing_of new ≡ standing_of old
+  pub same_given : given_of new ≡ given_of old
+  pub more_free : free_of_inlet old ≤ free_of_inlet new

@@ -19,10 +19,11 @@ last_notices passed s = tick_notices (state_after s (ticks (passed - 1)))
 
 -- so many ticks that were done, and the notices of the last; none before it handed out anything
 abbrev pub ticks_report : ℕ → FacilityState → List Done
-ticks_report passed s = ticks_done (passed - 1) ++ Dones.Ticked (Ok tt) ∷ map Dones.Noticed (last_notices passed s)
+ticks_report passed s = ticks_done (passed - 1) ++ Dones.Ticked (Ok tt) ∷ map Dones.Noticed
+    (last_notices passed s)
 
--- at most `limit` ticks were asked for and `passed` were passed: fewer only where the last hands out something or the
--- clock is at its end
+-- at most `limit` ticks were asked for and `passed` were passed: fewer only where the last hands out
+-- something or the clock is at its end
 pub record HasPassed (limit passed : ℕ) (s : FacilityState) : Type 0 where
   pub some : 1 ≤ passed
   pub at_most : passed ≤ min limit (s.last - s.now)

@@ -25,8 +25,8 @@ abbrev pub AllGot : List RingInlet → List RequestsEnded → Type 0
 AllGot inlets ended = (c : ℕ) (i : RingInlet) (e : RequestsEnded) → c < length inlets
     → all_submitted (get_or ended c e) ≡ got_of (get_or inlets c i)
 
--- the reader is of the same line and has read what it had read before; it is settled, so what it has read followed by what
--- stands is all that was given
+-- the reader is of the same line and has read what it had read before; it is settled, so what it has read
+-- followed by what stands is all that was given
 pub record IsReadOut (inlet : RingInlet) (before after : ClientReader) : Type 0 where
   pub line : words_ring_of_reader after ≡ words_ring_of_reader before
   pub read : read_by after ≡ read_by before
@@ -45,10 +45,13 @@ pub record KeepsLines (old new : DeskState RingInlet) : Type 0 where
   pub same_backlogs : new.backlogs ≡ old.backlogs
   pub same_lines : (c : ℕ) (i : RingInlet) → c < clients_of old
       → line_of_inlet (get_or new.inlets c i) ≡ line_of_inlet (get_or old.inlets c i)
-  pub same_got : (c : ℕ) (i : RingInlet) → c < clients_of old → got_of (get_or new.inlets c i) ≡ got_of (get_or old.inlets c i)
-  pub same_given : (c : ℕ) (i : RingInlet) → c < clients_of old → given_of (get_or new.inlets c i) ≡ given_of (get_or old.inlets c i)
+  pub same_got : (c : ℕ) (i : RingInlet) → c < clients_of old
+      → got_of (get_or new.inlets c i) ≡ got_of (get_or old.inlets c i)
+  pub same_given : (c : ℕ) (i : RingInlet) → c < clients_of old
+      → given_of (get_or new.inlets c i) ≡ given_of (get_or old.inlets c i)
 
--- the client has a held request or a word in its outbox, or a request stands in its line: fewer were got than it submitted
+-- the client has a held request or a word in its outbox, or a request stands in its line: fewer were got than
+-- it submitted
 abbrev pub IsWaiting : BacklogState → List Numbered → List Numbered → Type 0
 IsWaiting backlog got submitted = (¬ IsIdle backlog) ⊎ (length got < length submitted)
 
@@ -62,12 +65,13 @@ abbrev pub AreReadOutBefore : List RingInlet → List ClientReader → ℕ → T
 AreReadOutBefore inlets readers c = (k : ℕ) (i : RingInlet) (r : ClientReader) → k < c
     → CanBeReadOut (get_or inlets k i) (get_or readers k r)
 
--- something of this client waits; or nothing of any client does, and it is its line that could not be finished. Nothing of
--- a client before it waits.
+-- something of this client waits; or nothing of any client does, and it is its line that could not be
+-- finished. Nothing of a client before it waits.
 pub record IsBlamed (desk : DeskState RingInlet) (ended : List RequestsEnded) (c : ℕ) : Type 0 where
   pub client : c < clients_of desk
   pub idle_before : (k : ℕ) → k < c → IsIdle (backlog_at desk k)
-  pub got_before : (k : ℕ) (i : RingInlet) (e : RequestsEnded) → k < c → all_submitted (get_or ended k e) ≡ got_of (get_or desk.inlets k i)
+  pub got_before : (k : ℕ) (i : RingInlet) (e : RequestsEnded) → k < c
+      → all_submitted (get_or ended k e) ≡ got_of (get_or desk.inlets k i)
   pub waiting : ((i : RingInlet) (e : RequestsEnded)
       → IsWaiting (backlog_at desk c) (got_of (get_or desk.inlets c i)) (all_submitted (get_or ended c e)))
       ⊎ (AllIdle desk × AllGot desk.inlets ended)

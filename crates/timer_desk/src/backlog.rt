@@ -36,6 +36,7 @@ impl Backlog {
     ghost use Rattle.timer_desk.specs.Inlet.{taken_of};
     ghost use Rattle.timer_desk.specs.Report.{held_list, side_of, HeldIsLast, left_of, Tells, Runs};
     ghost use Rattle.timer_desk.specs.Right.{IsRightServe};
+    ghost use Rattle.timer_desk.specs.Flushing.{IsGiven, without_words};
     ghost use Rattle.timer_desk.specs.declared.word.Numbered.{Numbered};
 
     /// An empty backlog, whose outbox has room for `room` words.
@@ -87,9 +88,13 @@ impl Backlog {
     /// Returns the held request, or takes the next one of the line.
     fn fetch<I: Inlet>(&self, inlet: &mut I) -> Taken
         ensures line { I.kind.same inlet.old inlet.new }
-        ensures held { (n : Numbered) → self.now.held ≡ Some n → (result ≡ Taken.Got n) × (inlet.new ≡ inlet.old) }
-        ensures got { self.now.held ≡ None → (I.kind.state inlet.new).got ≡ (I.kind.state inlet.old).got ++ taken_of result }
-        ensures idle { result ≡ Taken.Empty → (self.now.held ≡ None) × ((I.kind.state inlet.new).got ≡ (I.kind.state inlet.old).got) × ((I.kind.state inlet.old).standing ≡ []) }
+        ensures held { (n : Numbered) → self.now.held ≡ Some n
+            → (result ≡ Taken.Got n) × (inlet.new ≡ inlet.old) }
+        ensures got { self.now.held ≡ None → (I.kind.state inlet.new).got
+            ≡ (I.kind.state inlet.old).got ++ taken_of result }
+        ensures idle { result ≡ Taken.Empty → (self.now.held ≡ None)
+            × ((I.kind.state inlet.new).got ≡ (I.kind.state inlet.old).got)
+            × ((I.kind.state inlet.old).standing ≡ []) }
         ensures memory { result ≡ Taken.NoMemory → (self.now.held ≡ None) × (I.kind.take_may_refuse ≡ true) }
         ensures given { (I.kind.state inlet.new).given ≡ (I.kind.state inlet.old).given }
         ensures left { length (held_list self.now.held) + length (I.kind.state inlet.old).standing
@@ -105,11 +110,17 @@ impl Backlog {
     pub fn flush<I: Inlet>(&mut self, inlet: &mut I) -> usize
         ensures line { I.kind.same inlet.old inlet.new }
         ensures others { self.new ≡ record self.old { outbox = self.new.outbox } }
-        ensures got { ((I.kind.state inlet.new).got ≡ (I.kind.state inlet.old).got) × ((I.kind.state inlet.new).standing ≡ (I.kind.state inlet.old).standing) }
-        ensures words { (I.kind.state inlet.new).given ++ self.new.outbox ≡ (I.kind.state inlet.old).given ++ self.old.outbox }
+        ensures got { ((I.kind.state inlet.new).got ≡ (I.kind.state inlet.old).got)
+            × ((I.kind.state inlet.new).standing ≡ (I.kind.state inlet.old).standing) }
+        ensures words { (I.kind.state inlet.new).given ++ self.new.outbox
+            ≡ (I.kind.state inlet.old).given ++ self.old.outbox }
         ensures fewer { length self.new.outbox ≤ length self.old.outbox }
-        ensures count { length (I.kind.state inlet.new).given ≡ length (I.kind.state inlet.old).given + result }
-        ensures stopped { (self.new.outbox ≡ []) ⊎ (I.kind.is_full inlet.new ⊎ (I.kind.put_may_refuse ≡ true)) }
+        ensures count { length (I.kind.state inlet.new).given
+            ≡ length (I.kind.state inlet.old).given + result }
+        ensures stopped { (self.new.outbox ≡ []) ⊎ (I.kind.is_full inlet.new
+            ⊎ (I.kind.put_may_refuse ≡ true)) }
+        ensures given { IsGiven I.kind result self.old.outbox inlet.old inlet.new }
+        ensures left { self.new ≡ without_words result self.old }
     {
         let count = put_words(&self.outbox, inlet);
         let left = self.outbox.len() - count;
@@ -139,10 +150,13 @@ impl Backlog {
         ensures runs { Runs (Done.Served client result ∷ []) facility.old.state facility.new.state }
         ensures right { IsRightServe self.old.room (length self.old.outbox)
             (left_of (side_of I.kind inlet.old self.old)) (pending_of facility.old.state client) result }
-        ensures memory { result ≡ Served.NoMemory → RanOutOfMemory I.kind.take_may_refuse client facility.old.state self.new.held }
-        ensures no_room { result ≡ Served.NoRoom → (inlet.new ≡ inlet.old) × (self.new ≡ self.old) × (facility.new ≡ facility.old) }
+        ensures memory { result ≡ Served.NoMemory → RanOutOfMemory I.kind.take_may_refuse client
+            facility.old.state self.new.held }
+        ensures no_room { result ≡ Served.NoRoom → (inlet.new ≡ inlet.old) × (self.new ≡ self.old)
+            × (facility.new ≡ facility.old) }
         ensures idle { result ≡ Served.Idle
-            → ((I.kind.state inlet.new).got ≡ (I.kind.state inlet.old).got) × (self.new ≡ self.old) × (facility.new ≡ facility.old) }
+            → ((I.kind.state inlet.new).got ≡ (I.kind.state inlet.old).got) × (self.new ≡ self.old)
+            × (facility.new ≡ facility.old) }
         ensures adds { AddsAtMostOne client facility.old.state facility.new.state }
         ensures room { length self.new.outbox + pending_of facility.new.state client ≤ self.new.room }
         ensures quiet { facility.new.waiting ≡ [] }
@@ -173,10 +187,13 @@ impl Backlog {
 /// Puts the words of an outbox into the line until it does not take one, and returns how many it took.
 fn put_words<I: Inlet>(outbox: &HeapCircularBuffer<Word>, inlet: &mut I) -> usize
     ensures line { I.kind.same inlet.old inlet.new }
-    ensures got { ((I.kind.state inlet.new).got ≡ (I.kind.state inlet.old).got) × ((I.kind.state inlet.new).standing ≡ (I.kind.state inlet.old).standing) }
-    ensures given { (I.kind.state inlet.new).given ≡ (I.kind.state inlet.old).given ++ take result outbox.now.items }
+    ensures got { ((I.kind.state inlet.new).got ≡ (I.kind.state inlet.old).got)
+        × ((I.kind.state inlet.new).standing ≡ (I.kind.state inlet.old).standing) }
+    ensures given { (I.kind.state inlet.new).given
+        ≡ (I.kind.state inlet.old).given ++ take result outbox.now.items }
     ensures count { result ≤ length outbox.now.items }
-    ensures stopped { result < length outbox.now.items → I.kind.is_full inlet.new ⊎ (I.kind.put_may_refuse ≡ true) }
+    ensures stopped { result < length outbox.now.items → I.kind.is_full inlet.new
+        ⊎ (I.kind.put_may_refuse ≡ true) }
 {
     let (first, rest) = outbox.as_slices();
     let count = inlet.put_slice(first);

@@ -5,6 +5,7 @@ ghost use Rattle.timer_facility.specs.Facility.{with_nothing_waiting};
 ghost use Rattle.timer_desk.specs.Asking.{RanOutOfMemory};
 ghost use Rattle.timer_desk.specs.Backlog.{BacklogState, empty_backlog, HasRoom};
 ghost use Rattle.timer_desk.specs.Report.{HeldIsLast};
+ghost use Rattle.timer_desk.specs.Flushing.{Flushes};
 ghost use Rattle.timer_desk.specs.Desk.{DeskState, opened_desk, clients_of, backlog_at, AllIdle, side_at, TakesNothing, Told, tick_notices, close_notices};
 
 use crate::backlog::Backlog;
@@ -33,7 +34,11 @@ impl<W: Wheel + Drop, I: Inlet + Drop> Model for Desk<W, I> {
 
     ghost Value = { DeskState I };
 
-    ghost view = { λ d. record { facility = d.facility.state; inlets = d.inlets.items; backlogs = d.backlogs.items } };
+    ghost view = { λ d. record {
+      facility = d.facility.state;
+      inlets = d.inlets.items;
+      backlogs = d.backlogs.items;
+    } };
 
     ghost invariant = { λ d. IsDesk I.kind d.facility d.inlets.items d.backlogs.items };
 }
@@ -46,13 +51,14 @@ impl<W: Wheel + Drop, I: Inlet + Drop> Desk<W, I> {
         &self.facility
     }
 
-    /// The invariant of every desk: each outbox has room for a notice of each pending timer of its
-    /// client, and a held request is the last one that was taken. The call does nothing.
+    /// The invariant of every desk: each client has its backlog, whose outbox has room for a notice of each
+    /// of its pending timers; and a held request is the last one that was taken. The call does nothing.
     pub fn keeps(&self)
         ensures room { HasRoom self.now.backlogs (with_nothing_waiting self.now.facility) }
         ensures held { (c : ℕ) (i : I) (b : BacklogState) → c < clients_of self.now
             → HeldIsLast (side_at I.kind self.now c i b) }
         ensures sound { IsSound self.now.facility }
+        ensures as_many { length self.now.backlogs ≡ clients_of self.now }
     {
         let _ = self.facility.pending();
     }
@@ -91,7 +97,8 @@ impl<W: Wheel + Drop, I: Inlet + Drop> Desk<W, I> {
         ensures pending { length self.new.facility.pending ≤ length self.old.facility.pending + 1 }
         ensures no_room { result ≡ Served.NoRoom → self.new ≡ self.old }
         ensures idle { result ≡ Served.Idle → TakesNothing I.kind self.old self.new }
-        ensures memory { result ≡ Served.NoMemory → RanOutOfMemory I.kind.take_may_refuse c self.old.facility (backlog_at self.new c).held }
+        ensures memory { result ≡ Served.NoMemory → RanOutOfMemory I.kind.take_may_refuse c self.old.facility
+            (backlog_at self.new c).held }
     {
         self.backlogs[c].serve(&mut self.inlets[c], &mut self.facility, c)
     }
@@ -101,6 +108,7 @@ impl<W: Wheel + Drop, I: Inlet + Drop> Desk<W, I> {
     pub fn flush(&mut self, c: usize) -> usize
         requires { c < clients_of self.old }
         ensures told { Told I.kind (Done.Flushed c result ∷ []) self.old self.new }
+        ensures flushes { Flushes I.kind c result self.old self.new }
         ensures facility { self.new.facility ≡ self.old.facility }
         ensures stopped { (i : I) → ((backlog_at self.new c).outbox ≡ [])
             ⊎ (I.kind.is_full (get_or self.new.inlets c i) ⊎ (I.kind.put_may_refuse ≡ true)) }
@@ -125,7 +133,8 @@ impl<W: Wheel + Drop, I: Inlet + Drop> Desk<W, I> {
     ///
     /// After `OutOfMemory`, which a closed facility never returns, nothing has changed.
     pub fn close(&mut self) -> Result<u64, CloseFault>
-        ensures { let report = Done.Closed result ∷ map Done.Noticed (close_notices self.old.facility result) in
+        ensures { let report = Done.Closed result ∷ map Done.Noticed (close_notices self.old.facility result)
+            in
             Told I.kind report self.old self.new }
     {
         what_is_handed_out_was_pending();

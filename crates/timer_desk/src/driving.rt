@@ -44,9 +44,9 @@ enum Turned {
 /// words flushed, when `limit` consecutive turns made no progress, or when allocation failed. A turn
 /// without progress yields the processor to another thread.
 ///
-/// After `Done` each client has reached the goal. After `Limit` the last `limit` turns made no progress and, if
-/// the limit is above 0, some client has not reached the goal. A drive in which a serve ran out of memory ends
-/// as `OutOfMemory`.
+/// After `Done` each client has reached the goal. After `Limit` the last `limit` turns made no progress and,
+/// if the limit is above 0, some client has not reached the goal. A drive in which a serve ran out of memory
+/// ends as `OutOfMemory`.
 pub fn drive<W: Wheel + Drop, I: Inlet + Drop>(
     alloc: Global,
     desk: Desk<W, I>,

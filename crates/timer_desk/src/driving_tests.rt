@@ -45,8 +45,8 @@ impl Inlet for LateInlet {
     }
 }
 
-/// Drives a desk to a goal of one request: its client is silent for 900 turns, and then starts a timer with an
-/// interval of 900 ticks. Returns the outcome, and the present tick after the last turn.
+/// Drives a desk to a goal of one request: its client is silent for 900 turns, and then starts a timer with
+/// an interval of 900 ticks. Returns the outcome, and the present tick after the last turn.
 fn drive_late(rt: &impl Abort, alloc: Global, limit: u64) -> Result<(DriveEnd, u64), Fail>
     requires { limit ≤ 1000 }
 {

@@ -32,8 +32,10 @@ impl LockedEnd {
 
     /// Sends a request, and returns its number. It may wait for the lock.
     pub fn submit(&mut self, rt: &impl Wait, request: Request) -> Result<u64, Unsent>
-        ensures ok { IfOk result (λ n. (n ≡ next_of_locked self.old) × (n ≤ LAST) × (next_of_locked self.new ≡ n + 1)) }
-        ensures err { IfErr result (λ e. IsUnsent e request (next_of_locked self.old) × (next_of_locked self.new ≡ next_of_locked self.old)) }
+        ensures ok { IfOk result (λ n. (n ≡ next_of_locked self.old) × (n ≤ LAST)
+            × (next_of_locked self.new ≡ n + 1)) }
+        ensures err { IfErr result (λ e. IsUnsent e request (next_of_locked self.old)
+            × (next_of_locked self.new ≡ next_of_locked self.old)) }
     {
         if self.next > LAST {
             return Err(Unsent::Spent(request));
@@ -67,7 +69,8 @@ impl<R: Wait> Inlet for LockedInlet<R> {
 
     ghost kind = { locked_lines };
 
-    // All that the owner does with the queues is one call under the lock, and its contract is that of `Queues`.
+    // All that the owner does with the queues is one call under the lock, and its contract is that of
+    // `Queues`.
     fn take(&mut self) -> Taken {
         self.queues.lock(&self.rt).take_into(&mut self.got)
     }

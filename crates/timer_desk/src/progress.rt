@@ -78,7 +78,8 @@ pub fn no_progress(alloc: Global, clients: usize) -> Result<Vec<Progress>, Alloc
 /// Whether each client is done.
 pub fn all_done(all: &[Progress], goal: u64) -> bool
     requires { goal ≤ LAST }
-    ensures { IsTrue result ↔ ((c : ℕ) (p : Progress) → c < length all.now → IsDone goal (get_or all.now c p)) }
+    ensures { IsTrue result ↔ ((c : ℕ) (p : Progress) → c < length all.now
+        → IsDone goal (get_or all.now c p)) }
 {
     for progress in all {
         if !progress.is_done(goal) {
@@ -92,7 +93,8 @@ pub fn all_done(all: &[Progress], goal: u64) -> bool
 fn count_member(all: &mut Vec<Progress>, member: Done, goal: u64) -> bool
     requires { goal ≤ LAST }
     ensures counted { (c : ℕ) (p : Progress) → c < vec_len all.old
-        → HasCounted goal (length (asked_in c member)) (flushed_in c member) (get_or all.old.items c p) (get_or all.new.items c p) }
+        → HasCounted goal (length (asked_in c member)) (flushed_in c member) (get_or all.old.items c p)
+        (get_or all.new.items c p) }
     ensures len { vec_len all.new ≡ vec_len all.old }
     ensures fewer { IsTrue result → all_left goal all.new.items < all_left goal all.old.items }
     ensures same { result ≡ false → all.new.items ≡ all.old.items }
@@ -121,7 +123,8 @@ fn count_member(all: &mut Vec<Progress>, member: Done, goal: u64) -> bool
 pub fn count_report(all: &mut Vec<Progress>, report: &[Done], goal: u64) -> bool
     requires { goal ≤ LAST }
     ensures counted { (c : ℕ) (p : Progress) → c < vec_len all.old
-        → HasCounted goal (length (asked c report.now)) (flushed c report.now) (get_or all.old.items c p) (get_or all.new.items c p) }
+        → HasCounted goal (length (asked c report.now)) (flushed c report.now) (get_or all.old.items c p)
+        (get_or all.new.items c p) }
     ensures len { vec_len all.new ≡ vec_len all.old }
     ensures fewer { IsTrue result → all_left goal all.new.items < all_left goal all.old.items }
     ensures same { result ≡ false → all.new.items ≡ all.old.items }

@@ -37,7 +37,8 @@ impl Queues {
         ensures ok { OnOk result (requests_in self.new ≡ requests_in self.old ++ numbered ∷ []) }
         ensures err { IfErr result (λ n. (n ≡ numbered) × (requests_in self.new ≡ requests_in self.old)) }
         ensures when { IsOk result ↔ (length (requests_in self.old) < capacity_of self.old) }
-        ensures others { (words_in self.new ≡ words_in self.old) × (capacity_of self.new ≡ capacity_of self.old) }
+        ensures others { (words_in self.new ≡ words_in self.old)
+            × (capacity_of self.new ≡ capacity_of self.old) }
     {
         self.requests.try_push_back(numbered)
     }
@@ -46,7 +47,8 @@ impl Queues {
     pub fn pop_request(&mut self) -> Option<Numbered>
         ensures value { result ≡ slice_get (requests_in self.old) 0 }
         ensures requests { requests_in self.new ≡ drop 1 (requests_in self.old) }
-        ensures others { (words_in self.new ≡ words_in self.old) × (capacity_of self.new ≡ capacity_of self.old) }
+        ensures others { (words_in self.new ≡ words_in self.old)
+            × (capacity_of self.new ≡ capacity_of self.old) }
     {
         self.requests.pop_front()
     }
@@ -57,7 +59,8 @@ impl Queues {
         ensures requests { requests_in self.old ≡ taken_of result ++ requests_in self.new }
         ensures empty { result ≡ Taken.Empty → requests_in self.old ≡ [] }
         ensures memory { result ≡ Taken.NoMemory → requests_in self.old ≢ [] }
-        ensures others { (words_in self.new ≡ words_in self.old) × (capacity_of self.new ≡ capacity_of self.old) }
+        ensures others { (words_in self.new ≡ words_in self.old)
+            × (capacity_of self.new ≡ capacity_of self.old) }
     {
         if self.requests.is_empty() {
             return Taken::Empty;
@@ -81,7 +84,8 @@ impl Queues {
         ensures back { HandsBack true result word }
         ensures full { result ≡ Put.Full word → length (words_in self.old) ≡ capacity_of self.old }
         ensures memory { result ≡ Put.NoMemory word → length (words_in self.old) < capacity_of self.old }
-        ensures others { (requests_in self.new ≡ requests_in self.old) × (capacity_of self.new ≡ capacity_of self.old) }
+        ensures others { (requests_in self.new ≡ requests_in self.old)
+            × (capacity_of self.new ≡ capacity_of self.old) }
     {
         if self.words.len() == self.capacity {
             return Put::Full(word);
@@ -103,7 +107,8 @@ impl Queues {
         ensures ok { OnOk result (words_in self.new ≡ words_in self.old ++ word ∷ []) }
         ensures err { IfErr result (λ w. (w ≡ word) × (words_in self.new ≡ words_in self.old)) }
         ensures when { IsOk result ↔ (length (words_in self.old) < capacity_of self.old) }
-        ensures others { (requests_in self.new ≡ requests_in self.old) × (capacity_of self.new ≡ capacity_of self.old) }
+        ensures others { (requests_in self.new ≡ requests_in self.old)
+            × (capacity_of self.new ≡ capacity_of self.old) }
     {
         self.words.try_push_back(word)
     }
@@ -112,7 +117,8 @@ impl Queues {
     pub fn pop_word(&mut self) -> Option<Word>
         ensures value { result ≡ slice_get (words_in self.old) 0 }
         ensures words { words_in self.new ≡ drop 1 (words_in self.old) }
-        ensures others { (requests_in self.new ≡ requests_in self.old) × (capacity_of self.new ≡ capacity_of self.old) }
+        ensures others { (requests_in self.new ≡ requests_in self.old)
+            × (capacity_of self.new ≡ capacity_of self.old) }
     {
         self.words.pop_front()
     }

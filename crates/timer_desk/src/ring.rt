@@ -78,7 +78,8 @@ impl ClientEnd {
             × (submitted self.new ≡ submitted self.old ++ numbered n request ∷ [])) }
         ensures err { IfErr result (λ e. IsUnsent e request (next_of self.old)
             × (next_of self.new ≡ next_of self.old) × (submitted self.new ≡ submitted self.old)) }
-        ensures received { (received_by_end self.new ≡ received_by_end self.old) × (seen_by_end self.new ≡ seen_by_end self.old) }
+        ensures received { (received_by_end self.new ≡ received_by_end self.old)
+            × (seen_by_end self.new ≡ seen_by_end self.old) }
 
         // `Full` only where the end knows of no free slot; with one known to be free the call succeeds.
         ensures full { result ≡ Err (Unsent.Full request) → free_of self.new ≡ 0 }
@@ -102,7 +103,8 @@ impl ClientEnd {
     pub fn receive(&mut self) -> Option<Word>
         ensures line { line_of_end self.new ≡ line_of_end self.old }
         ensures some { IfSome result (λ w. received_by_end self.new ≡ received_by_end self.old ++ w ∷ []) }
-        ensures none { IsNone result → (received_by_end self.new ≡ received_by_end self.old) × (seen_by_end self.old ≡ []) }
+        ensures none { IsNone result → (received_by_end self.new ≡ received_by_end self.old)
+            × (seen_by_end self.old ≡ []) }
         ensures sent { (submitted self.new ≡ submitted self.old)
             × (next_of self.new ≡ next_of self.old) × (free_of self.new ≡ free_of self.old) }
     {
@@ -114,7 +116,8 @@ impl ClientEnd {
 
     /// Ends the client's requests. The first result is None only where the owner's end was dropped.
     pub fn finish(self) -> (Option<RequestsEnded>, ClientReader)
-        ensures ended { IfSome result.0 (λ e. (requests_ring_of e ≡ (line_of_end self).0) × (all_submitted e ≡ submitted self)) }
+        ensures ended { IfSome result.0 (λ e. (requests_ring_of e ≡ (line_of_end self).0)
+            × (all_submitted e ≡ submitted self)) }
         ensures reader { (words_ring_of_reader result.1 ≡ (line_of_end self).1)
             × (read_by result.1 ≡ received_by_end self) × (is_settled_reader result.1 ≡ false) }
     {
@@ -146,11 +149,13 @@ impl Inlet for RingInlet {
     fn take(&mut self) -> Taken
         ensures line { SameRingLine self.old self.new }
         ensures got { got_of self.new ≡ got_of self.old ++ taken_of result }
-        ensures standing { ¬ (standing_of self.old ≡ []) → standing_of self.old ≡ taken_of result ++ standing_of self.new }
+        ensures standing { ¬ (standing_of self.old ≡ [])
+            → standing_of self.old ≡ taken_of result ++ standing_of self.new }
         ensures nothing_stands { standing_of self.old ≡ [] → standing_of self.new ≡ [] }
         ensures empty { result ≡ Taken.Empty → standing_of self.old ≡ [] }
         ensures memory { result ≡ Taken.NoMemory → false ≡ true }
-        ensures given { (given_of self.new ≡ given_of self.old) × (free_of_inlet self.new ≡ free_of_inlet self.old) }
+        ensures given { (given_of self.new ≡ given_of self.old)
+            × (free_of_inlet self.new ≡ free_of_inlet self.old) }
 
         // `Empty` only where no request is known to stand; and only `settle` settles the line.
         ensures none_seen { result ≡ Taken.Empty → seen_by_inlet self.old ≡ [] }
@@ -218,8 +223,10 @@ impl RingInlet {
         ensures all { got_of self.new ++ standing_of self.new ≡ all_submitted ended.old }
         ensures count { result ≡ length (standing_of self.new) }
         ensures got { got_of self.new ≡ got_of self.old }
-        ensures given { (given_of self.new ≡ given_of self.old) × (free_of_inlet self.new ≡ free_of_inlet self.old) }
-        ensures ended { (requests_ring_of ended.new ≡ requests_ring_of ended.old) × (all_submitted ended.new ≡ all_submitted ended.old) }
+        ensures given { (given_of self.new ≡ given_of self.old)
+            × (free_of_inlet self.new ≡ free_of_inlet self.old) }
+        ensures ended { (requests_ring_of ended.new ≡ requests_ring_of ended.old)
+            × (all_submitted ended.new ≡ all_submitted ended.old) }
     {
         self.settled = true;
         self.requests.slots_after(&mut ended.finished)
@@ -227,7 +234,8 @@ impl RingInlet {
 
     /// Ends the owner's words. None only where the client's end was dropped.
     pub fn finish(self) -> Option<WordsEnded>
-        ensures { IfSome result (λ e. (words_ring_of e ≡ (line_of_inlet self).1) × (all_given e ≡ given_of self)) }
+        ensures { IfSome result (λ e. (words_ring_of e ≡ (line_of_inlet self).1)
+            × (all_given e ≡ given_of self)) }
     {
         let RingInlet {
             requests: _,
@@ -242,16 +250,20 @@ impl RingInlet {
 }
 
 impl ClientReader {
-    ghost use Rattle.std.specs.Prelude.{◌≡◌, [], ◌∷◌, ◌++◌, true, length, IfSome, IsNone};
-    ghost use Rattle.timer_desk.specs.Ring.{words_ring_of_reader, words_ring_of, read_by, unread_by, seen_by_reader, is_settled_reader, all_given};
+    ghost use Rattle.std.specs.Prelude.{◌≡◌, ◌<◌, ◌⊎◌, [], ◌∷◌, ◌++◌, true, false, length, IfSome, IsNone};
+    ghost use Rattle.timer_desk.specs.Ring.{words_ring_of_reader, words_ring_of, read_by, unread_by, seen_by_reader, is_settled_reader, all_given, line_of_inlet};
+    ghost use Rattle.timer_desk.specs.Winding.{IsReadOut};
+    ghost use Rattle.timer_desk.specs.Settling.{HasLooked};
 
     /// Receives the next word.
     pub fn receive(&mut self) -> Option<Word>
         ensures line { words_ring_of_reader self.new ≡ words_ring_of_reader self.old }
         ensures some { IfSome result (λ w. read_by self.new ≡ read_by self.old ++ w ∷ []) }
-        ensures none { IsNone result → (read_by self.new ≡ read_by self.old) × (unread_by self.old ≡ []) × (seen_by_reader self.old ≡ []) }
+        ensures none { IsNone result → (read_by self.new ≡ read_by self.old) × (unread_by self.old ≡ [])
+            × (seen_by_reader self.old ≡ []) }
         ensures settled { is_settled_reader self.new ≡ is_settled_reader self.old }
-        ensures all { is_settled_reader self.old ≡ true → read_by self.new ++ unread_by self.new ≡ read_by self.old ++ unread_by self.old }
+        ensures all { is_settled_reader self.old ≡ true
+            → read_by self.new ++ unread_by self.new ≡ read_by self.old ++ unread_by self.old }
     {
         if self.settled {
             if self.words.cached_slots() == 0 {
@@ -273,9 +285,32 @@ impl ClientReader {
         ensures all { read_by self.new ++ unread_by self.new ≡ all_given ended.old }
         ensures count { result ≡ length (unread_by self.new) }
         ensures read { read_by self.new ≡ read_by self.old }
-        ensures ended { (words_ring_of ended.new ≡ words_ring_of ended.old) × (all_given ended.new ≡ all_given ended.old) }
+        ensures ended { (words_ring_of ended.new ≡ words_ring_of ended.old)
+            × (all_given ended.new ≡ all_given ended.old) }
     {
         self.settled = true;
         self.words.slots_after(&mut ended.finished)
+    }
+
+    /// Whether the line is settled and all words that stood in it were received.
+    pub fn is_read_out(&self) -> bool
+        ensures yes { result ≡ true → (is_settled_reader self.now ≡ true) × (unread_by self.now ≡ []) }
+        ensures no { result ≡ false → (is_settled_reader self.now ≡ false)
+            ⊎ (0 < length (unread_by self.now)) }
+    {
+        self.settled && self.words.cached_slots() == 0
+    }
+
+    /// Settles the line for a thread that has its owner's end too, and returns how many words stand in it.
+    ///
+    /// That end still takes requests. A word that it gives from then on is not received.
+    pub fn settle_beside(&mut self, inlet: &mut RingInlet) -> usize
+        requires { words_ring_of_reader self.old ≡ (line_of_inlet inlet.old).1 }
+        ensures read_out { IsReadOut inlet.old self.old self.new }
+        ensures count { result ≡ length (unread_by self.new) }
+        ensures inlet { HasLooked inlet.old inlet.new }
+    {
+        self.settled = true;
+        self.words.slots_beside(&mut inlet.words)
     }
 }

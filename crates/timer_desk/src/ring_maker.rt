@@ -16,7 +16,8 @@ pub fn ring_line(
     requires capacity { (1 ≤ capacity) × (capacity ≤ 65536) }
     requires first { (1 ≤ first_number) × (first_number ≤ LAST) }
     ensures line { IfOk result (λ r. line_of_end r.0 ≡ line_of_inlet r.1) }
-    ensures end { IfOk result (λ r. (submitted r.0 ≡ []) × (received_by_end r.0 ≡ []) × (next_of r.0 ≡ first_number)) }
+    ensures end { IfOk result (λ r. (submitted r.0 ≡ []) × (received_by_end r.0 ≡ [])
+        × (next_of r.0 ≡ first_number)) }
     ensures inlet { IfOk result (λ r. (got_of r.1 ≡ []) × (given_of r.1 ≡ []) × (is_settled r.1 ≡ false)) }
     ensures room { IfOk result (λ r. (free_of r.0 ≡ capacity) × (free_of_inlet r.1 ≡ capacity)) }
 {

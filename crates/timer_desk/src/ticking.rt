@@ -19,7 +19,8 @@ impl<W: Wheel + Drop, I: Inlet + Drop> Desk<W, I> {
         requires { 0 < limit }
         ensures told { IfOk result (λ passed.
             Told I.kind (ticks_report passed self.old.facility) self.old self.new) }
-        ensures steps { IfOk result (λ passed. steps_of (ticks_report passed self.old.facility) ≡ replicate passed Step.Tick) }
+        ensures steps { IfOk result (λ passed. steps_of (ticks_report passed self.old.facility)
+            ≡ replicate passed Step.Tick) }
         ensures passed { IfOk result (λ passed. HasPassed limit passed self.old.facility) }
         ensures fault { IfErr result (λ fault. tick_refusal self.old.facility ≡ Some fault) }
         ensures err { OnErr result (self.new ≡ self.old) }

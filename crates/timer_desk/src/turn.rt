@@ -24,7 +24,8 @@ impl<W: Wheel + Drop, I: Inlet + Drop> Desk<W, I> {
         ensures steps { IfOk result (λ report. steps_of report.items ≡ steps.now) }
         ensures behind { IfOk result (λ report. AreBehind false report.items) }
         ensures owed { IfOk result (λ report. AreOwed self.old.facility [] report.items) }
-        ensures room { IfOk result (λ report. HasRoom self.new.backlogs (with_nothing_waiting self.new.facility)) }
+        ensures room { IfOk result (λ report. HasRoom self.new.backlogs
+            (with_nothing_waiting self.new.facility)) }
         ensures err { OnErr result (self.new ≡ self.old) }
     {
         notices_are_owed();
@@ -48,7 +49,8 @@ impl<W: Wheel + Drop, I: Inlet + Drop> Desk<W, I> {
         requires room { vec_len report.old + 1 + length self.old.facility.pending ≤ vec_capacity report.old }
         ensures adds { AddsStep I.kind step report.old.items report.new.items self.old self.new }
         ensures capacity { vec_capacity report.new ≡ vec_capacity report.old }
-        ensures room { vec_len report.new + length self.new.facility.pending ≤ vec_len report.old + length self.old.facility.pending + 2 }
+        ensures room { vec_len report.new + length self.new.facility.pending
+            ≤ vec_len report.old + length self.old.facility.pending + 2 }
     {
         match step {
             Step::Serve(client) => {
@@ -69,7 +71,8 @@ impl<W: Wheel + Drop, I: Inlet + Drop> Desk<W, I> {
         requires { vec_len report.old + 1 + length self.old.facility.pending ≤ vec_capacity report.old }
         ensures adds { AddsStep I.kind Step.Tick report.old.items report.new.items self.old self.new }
         ensures capacity { vec_capacity report.new ≡ vec_capacity report.old }
-        ensures room { vec_len report.new + length self.new.facility.pending ≤ vec_len report.old + length self.old.facility.pending + 1 }
+        ensures room { vec_len report.new + length self.new.facility.pending
+            ≤ vec_len report.old + length self.old.facility.pending + 1 }
     {
         what_is_handed_out_was_pending();
         let result = self.facility.tick();
@@ -83,7 +86,8 @@ impl<W: Wheel + Drop, I: Inlet + Drop> Desk<W, I> {
         ensures adds { AddsStep I.kind Step.Close
             report.old.items report.new.items self.old self.new }
         ensures capacity { vec_capacity report.new ≡ vec_capacity report.old }
-        ensures room { vec_len report.new + length self.new.facility.pending ≤ vec_len report.old + length self.old.facility.pending + 1 }
+        ensures room { vec_len report.new + length self.new.facility.pending
+            ≤ vec_len report.old + length self.old.facility.pending + 1 }
     {
         what_is_handed_out_was_pending();
         let result = self.facility.close();

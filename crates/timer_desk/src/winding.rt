@@ -62,9 +62,11 @@ fn is_done<W: Wheel + Drop>(
     ended: &mut RequestsEnded,
 ) -> bool
     requires client { c < clients_of desk.old }
-    requires line { (i : RingInlet) → requests_ring_of ended.old ≡ (line_of_inlet (get_or desk.old.inlets c i)).0 }
+    requires line { (i : RingInlet) → requests_ring_of ended.old
+        ≡ (line_of_inlet (get_or desk.old.inlets c i)).0 }
     ensures idle { IsTrue result → IsIdle (backlog_at desk.old c) }
-    ensures all { IsTrue result → (i : RingInlet) → all_submitted ended.old ≡ got_of (get_or desk.old.inlets c i) }
+    ensures all { IsTrue result → (i : RingInlet) → all_submitted ended.old
+        ≡ got_of (get_or desk.old.inlets c i) }
     ensures waiting { result ≡ false → (i : RingInlet)
         → IsWaiting (backlog_at desk.old c) (got_of (get_or desk.old.inlets c i)) (all_submitted ended.old) }
     ensures keeps { KeepsLines desk.old desk.new }

@@ -19,9 +19,12 @@ returns-then-passed-clause-turns g c =
     let is : steps_of report ≡ c.in-Ok.steps.items = c.in-Ok-turn.ensures.steps ∙ c.deref-2.ensures.value in
     let as_many = ap (λ ps. length ps) c.deref.ensures.value in
     let n : length c.deref.result.now ≡ clients_of c.args.desk.now = omega (arith, as_many, c.requires.clients, c.args.progress.now.ok) in
-    TurnsOnce-one g.I.Inlet.kind c.args.goal false c.args.desk.now c.turn.new.self before after report c.in-Ok.steps.items (length c.deref.result.now) n c.in-Ok-turn.ensures.told is
-    c.in-Ok.ensures.fit c.in-Ok.ensures.once c.in-Ok-turn.ensures.behind (λ _. subst NoneRanOut c.deref-4.ensures.value (c.if-has_refusal.ensures.0 refl))
-    (λ k p l. subst (λ r. HasCounted c.args.goal (length (asked k r)) (flushed k r) (get_or before k p) (get_or after k p)) c.deref-3.ensures.value (c.if-passed.ensures.counted k p (omega (arith, l, c.args.progress.now.ok))))
+    TurnsOnce-one g.I.Inlet.kind c.args.goal false c.args.desk.now c.turn.new.self before after report c.in-Ok.steps.items
+    (length c.deref.result.now) n c.in-Ok-turn.ensures.told is
+    c.in-Ok.ensures.fit c.in-Ok.ensures.once c.in-Ok-turn.ensures.behind
+    (λ _. subst NoneRanOut c.deref-4.ensures.value (c.if-has_refusal.ensures.0 refl))
+    (λ k p l. subst (λ r. HasCounted c.args.goal (length (asked k r)) (flushed k r) (get_or before k p) (get_or after k p))
+    c.deref-3.ensures.value (c.if-passed.ensures.counted k p (omega (arith, l, c.args.progress.now.ok))))
 
 pub returns-clause-turns : goal.returns-clause-turns
 returns-clause-turns g c =
@@ -31,6 +34,9 @@ returns-clause-turns g c =
     let is : steps_of report ≡ c.in-Ok.steps.items = c.in-Ok-turn.ensures.steps ∙ c.deref-2.ensures.value in
     let as_many = ap (λ ps. length ps) c.deref.ensures.value in
     let n : length c.deref.result.now ≡ clients_of c.args.desk.now = omega (arith, as_many, c.requires.clients, c.args.progress.now.ok) in
-    TurnsOnce-one g.I.Inlet.kind c.args.goal false c.args.desk.now c.turn.new.self before after report c.in-Ok.steps.items (length c.deref.result.now) n c.in-Ok-turn.ensures.told is
-    c.in-Ok.ensures.fit c.in-Ok.ensures.once c.in-Ok-turn.ensures.behind (λ _. subst NoneRanOut c.deref-4.ensures.value (c.if-has_refusal.ensures.0 refl))
-    (λ k p l. subst (λ r. HasCounted c.args.goal (length (asked k r)) (flushed k r) (get_or before k p) (get_or after k p)) c.deref-3.ensures.value (c.if-passed.ensures.counted k p (omega (arith, l, c.args.progress.now.ok))))
+    TurnsOnce-one g.I.Inlet.kind c.args.goal false c.args.desk.now c.turn.new.self before after report c.in-Ok.steps.items
+    (length c.deref.result.now) n c.in-Ok-turn.ensures.told is
+    c.in-Ok.ensures.fit c.in-Ok.ensures.once c.in-Ok-turn.ensures.behind
+    (λ _. subst NoneRanOut c.deref-4.ensures.value (c.if-has_refusal.ensures.0 refl))
+    (λ k p l. subst (λ r. HasCounted c.args.goal (length (asked k r)) (flushed k r) (get_or before k p) (get_or after k p))
+    c.deref-3.ensures.value (c.if-passed.ensures.counted k p (omega (arith, l, c.args.progress.now.ok))))

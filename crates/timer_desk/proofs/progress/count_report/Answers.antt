@@ -8,7 +8,8 @@ pub loop-member-preserved : goal.loop-member-preserved
 loop-member-preserved c =
     let was = c.loop-member.invariant in
     let e = c.count_member.ensures in record {
-      counted = λ k p l. counted_one_more c.args.goal k c.args.report.now c.loop-member.member-index _ _ _ _ c.loop-member-test.true (was.counted k p l) (e.counted k p (omega (arith, was.len)));
+      counted = λ k p l. counted_one_more c.args.goal k c.args.report.now c.loop-member.member-index _ _ _ _ c.loop-member-test.true
+          (was.counted k p l) (e.counted k p (omega (arith, was.len)));
       len = omega (arith, was.len, e.len);
       fewer = λ h. elim c.if-count_member.branch [
         | then-count_member w ↦ fewer_left c.args.goal c.loop-member.passed _ _ _ was.fewer was.same (e.fewer w.if-count_member.true)

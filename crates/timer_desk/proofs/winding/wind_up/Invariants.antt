@@ -14,7 +14,8 @@ invariant-loop-c g l = record {
   as_many : vec_len l.ended ≡ vec_len l.fn.ended;
   later : (k : ℕ) (e : RequestsEnded) → l.c ≤ k → k < vec_len l.ended → get_or l.ended.items k e ≡ get_or l.fn.ended.items k e;
   idle : (k : ℕ) → k < l.c → IsIdle (backlog_at l.fn.desk k);
-  got : (k : ℕ) (i : RingInlet) (e : RequestsEnded) → k < l.c → all_submitted (get_or l.fn.ended.items k e) ≡ got_of (get_or l.fn.desk.inlets k i);
+  got : (k : ℕ) (i : RingInlet) (e : RequestsEnded) → k < l.c → all_submitted (get_or l.fn.ended.items k e)
+      ≡ got_of (get_or l.fn.desk.inlets k i);
 }
 
 -- the lines left are the first ones, with their readers unchanged; of the others, the readers before the client that is named

@@ -8,8 +8,10 @@ pub invariant_of-self : goal.invariant_of-self
 invariant_of-self g c =
     let handed = c.hand_out.ensures in
     let e = c.close-result.ensures in
-    let closed : HasClosed c.self.inside.facility c.close-result.new.self c.close-result.result = record { count = e.count; open_before = e.open; closed = e.closed; fault = e.fault; unchanged = e.err } in
-    IsDesk-close g.I.Inlet.kind c.self.inside.facility c.close-result.new.self c.hand_out.new.facility c.close-result.result c.self.inside.inlets.items c.self.inside.backlogs.items c.hand_out.new.backlogs.items
+    let closed : HasClosed c.self.inside.facility c.close-result.new.self c.close-result.result =
+    record { count = e.count; open_before = e.open; closed = e.closed; fault = e.fault; unchanged = e.err } in
+    IsDesk-close g.I.Inlet.kind c.self.inside.facility c.close-result.new.self c.hand_out.new.facility c.close-result.result
+    c.self.inside.inlets.items c.self.inside.backlogs.items c.hand_out.new.backlogs.items
     c.self.invariant closed handed.facility handed.noted handed.room
 
 pub returns : goal.returns
@@ -17,8 +19,11 @@ returns g c =
     let handed = c.hand_out.ensures in
     let e = c.close-result.ensures in
     let r = c.close-result.result in
-    let closed : HasClosed c.self.inside.facility c.close-result.new.self r = record { count = e.count; open_before = e.open; closed = e.closed; fault = e.fault; unchanged = e.err } in
+    let closed : HasClosed c.self.inside.facility c.close-result.new.self r =
+    record { count = e.count; open_before = e.open; closed = e.closed; fault = e.fault; unchanged = e.err } in
     let new = desk_of c.hand_out.new.facility c.self.inside.inlets.items c.hand_out.new.backlogs.items in
-    subst (λ (d : DeskState g.row.I.Denot). Told g.I.Inlet.kind (Closed r ∷ map (λ n. Noticed n) (close_notices d.facility r)) d new) c.self.view_is
-    (Told-close g.I.Inlet.kind c.self.inside.facility c.close-result.new.self c.hand_out.new.facility r c.self.inside.inlets.items c.self.inside.backlogs.items c.hand_out.new.backlogs.items
+    subst (λ (d : DeskState g.row.I.Denot). Told g.I.Inlet.kind (Closed r ∷ map (λ n. Noticed n) (close_notices d.facility r)) d new)
+    c.self.view_is
+    (Told-close g.I.Inlet.kind c.self.inside.facility c.close-result.new.self c.hand_out.new.facility r c.self.inside.inlets.items
+    c.self.inside.backlogs.items c.hand_out.new.backlogs.items
     c.self.invariant closed handed.facility handed.noted handed.room)

@@ -12,7 +12,8 @@ invariant_of-self g c =
     let served = c.serve.ensures in
     let clients = ap clients_of c.self.view_is in
     let low : c.args.c < length c.self.inside.inlets.items = let h = c.requires in omega arith in
-    IsDesk-one g.I.Inlet.kind c.self.inside.facility c.serve.new.facility c.self.inside.inlets.items c.self.inside.backlogs.items c.args.c c.serve.new.inlet c.serve.new.self
+    IsDesk-one g.I.Inlet.kind c.self.inside.facility c.serve.new.facility c.self.inside.inlets.items c.self.inside.backlogs.items c.args.c
+    c.serve.new.inlet c.serve.new.self
     c.self.invariant low served.quiet served.clients served.room served.adds.of_client (Tells-held _ _ _ _ served.tells)
 
 pub returns-clause-told : goal.returns-clause-told
@@ -21,9 +22,12 @@ returns-clause-told g c =
     let clients = ap clients_of c.self.view_is in
     let low : c.args.c < length c.self.inside.inlets.items = let h = c.requires in omega arith in
     let result = c.serve.result in
-    let new = desk_of c.serve.new.facility (slice_set c.self.inside.inlets.items c.args.c c.serve.new.inlet) (slice_set c.self.inside.backlogs.items c.args.c c.serve.new.self) in
+    let new = desk_of c.serve.new.facility (slice_set c.self.inside.inlets.items c.args.c c.serve.new.inlet)
+    (slice_set c.self.inside.backlogs.items c.args.c c.serve.new.self) in
     subst (λ (d : DeskState g.row.I.Denot). Told g.I.Inlet.kind (Served c.args.c result ∷ []) d new) c.self.view_is
-    (Told-one g.I.Inlet.kind c.args.c (Served c.args.c result) c.self.inside.facility c.serve.new.facility c.self.inside.inlets.items c.self.inside.backlogs.items
+    (Told-one g.I.Inlet.kind c.args.c (Served c.args.c result) c.self.inside.facility c.serve.new.facility c.self.inside.inlets.items
+    c.self.inside.backlogs.items
     c.index_mut-2.result.now c.serve.new.inlet c.index_mut.result.now c.serve.new.self
-    (of_serve c.args.c result) c.self.invariant low c.index_mut-2.ensures.value c.index_mut.ensures.value served.line served.tells served.runs
+    (of_serve c.args.c result) c.self.invariant low c.index_mut-2.ensures.value c.index_mut.ensures.value served.line served.tells
+    served.runs
     (λ is. served.right) (λ is. served.memory (same_served c.args.c _ _ is)) served.room served.adds.of_client)

@@ -7,7 +7,8 @@ use Rattle.timer_desk.proofs.desk.Desk.tick.Goals as goal
 pub invariant_of-self : goal.invariant_of-self
 invariant_of-self g c =
     let handed = c.hand_out.ensures in
-    IsDesk-tick g.I.Inlet.kind c.self.inside.facility c.tick-result.new.self c.hand_out.new.facility c.self.inside.inlets.items c.self.inside.backlogs.items c.hand_out.new.backlogs.items
+    IsDesk-tick g.I.Inlet.kind c.self.inside.facility c.tick-result.new.self c.hand_out.new.facility c.self.inside.inlets.items
+    c.self.inside.backlogs.items c.hand_out.new.backlogs.items
     c.self.invariant c.tick-result.ensures.ticked handed.facility handed.noted handed.room
 
 pub returns : goal.returns
@@ -16,6 +17,8 @@ returns g c =
     let ticked = c.tick-result.ensures in
     let r = c.tick-result.result in
     let new = desk_of c.hand_out.new.facility c.self.inside.inlets.items c.hand_out.new.backlogs.items in
-    subst (λ (d : DeskState g.row.I.Denot). Told g.I.Inlet.kind (Ticked r ∷ map (λ n. Noticed n) (tick_notices d.facility)) d new) c.self.view_is
-    (Told-tick g.I.Inlet.kind c.self.inside.facility c.tick-result.new.self c.hand_out.new.facility r c.self.inside.inlets.items c.self.inside.backlogs.items c.hand_out.new.backlogs.items
+    subst (λ (d : DeskState g.row.I.Denot). Told g.I.Inlet.kind (Ticked r ∷ map (λ n. Noticed n) (tick_notices d.facility)) d new)
+    c.self.view_is
+    (Told-tick g.I.Inlet.kind c.self.inside.facility c.tick-result.new.self c.hand_out.new.facility r c.self.inside.inlets.items
+    c.self.inside.backlogs.items c.hand_out.new.backlogs.items
     c.self.invariant ticked.ticked ticked.fault handed.facility handed.noted handed.room)

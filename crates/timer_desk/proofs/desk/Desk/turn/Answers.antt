@@ -20,4 +20,5 @@ loop-step-preserved g c =
 pub returns-clause-owed : goal.returns-clause-owed
 returns-clause-owed g c =
     let sound = subst IsSound (ap (λ (d : DeskState g.row.I.Denot). d.facility) c.self.view_is) c.pending.ensures.sound in
-    AreOwed-in_time c.args.self.now.facility (λ placed k. c.notices_are_owed.ensures c.args.self.now.facility placed k sound) [] c.loop-step.report.items c.loop-step.invariant.told.in_time
+    AreOwed-in_time c.args.self.now.facility (λ placed k. c.notices_are_owed.ensures c.args.self.now.facility placed k sound) []
+    c.loop-step.report.items c.loop-step.invariant.told.in_time
