@@ -45,9 +45,13 @@ word mark b o = two (vptr b o) (vint w64 mark)
 
 module _ {M : Type 1} {𝓤 : Ura M} {𝓛 : Logic 𝓤} {K : Type 0} {Γ : List (Item 𝓤)} {Goal' : Goal 𝓤 𝓛.H} where
   pub shut : K → (mark b o : ℕ) (s : DeskState) → mark < 2 ^ 64
-      → Step K 𝓛 (‵ (slot.the_row.own_val (record { at = block_ptr b o; mark = mark; state = s }) (word mark b o ∷ [])) ∷ Γ) Goal' (‵ (owned_at mark (block_ptr b o) s) ∷ Γ) Goal'
+      → Step K 𝓛 (‵ (slot.the_row.own_val (record { at = block_ptr b o; mark = mark; state = s }) (word mark b o ∷ [])) ∷ Γ) Goal'
+      (‵ (owned_at mark (block_ptr b o) s) ∷ Γ) Goal'
   shut t mark b o s small = step (λ rest.
       nothing t $ owned t u64 _ (uint_Makes 𝓛 w64) mark _ (refl, small) $ fjoin t $
       feq_i t (List Val) (vptr b o ∷ []) (vptr b o ∷ []) refl $ fjoin t $
       feq_i t (List Val) (word mark b o ∷ []) (word mark b o ∷ []) refl $ fjoin t $
-      fpack t (Valss (RawPtr ∷ u64 ∷ [])) (within (shape slot.the_type) (block_ptr b o, (mark, tt)) (word mark b o ∷ [])) (vptr b o ∷ [], (vint w64 mark ∷ [], tt)) $ fjoin t $ rest)
+      fpack t (Valss (RawPtr ∷ u64 ∷ [])) (within (shape slot.the_type) (block_ptr b o, (mark, tt)) (word mark b o ∷ [])) (
+        vptr b o ∷ [],
+        (vint w64 mark ∷ [], tt),
+      ) $ fjoin t $ rest)

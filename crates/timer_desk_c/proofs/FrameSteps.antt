@@ -18,7 +18,8 @@ pub looked : (d : HeldDesk) (slot : DeskSlot) → slot ≡ d.slot → holding d 
 looked d slot e = ap (λ (s : DeskSlot). holding d (desk.with_state s slot.state)) e
 
 -- where the desk is what it was
-pub kept : (d : HeldDesk) (slot : DeskSlot) (state : DeskState) → slot ≡ d.slot → state ≡ slot.state → holding d (desk.with_state slot state) ≡ d
+pub kept : (d : HeldDesk) (slot : DeskSlot) (state : DeskState) → slot ≡ d.slot → state ≡ slot.state
+    → holding d (desk.with_state slot state) ≡ d
 kept d slot state e f = ap (λ (w : DeskState). holding d (desk.with_state slot w)) f ∙ ap (holding d) e
 
 abbrev pub holding_line : HeldLine → LineSlot → HeldLine
@@ -29,5 +30,6 @@ pub looked_line : (l : HeldLine) (slot : LineSlot) → slot ≡ l.slot → holdi
 looked_line l slot e = ap (λ (s : LineSlot). holding_line l (line.with_state s slot.state)) e
 
 -- where the line is what it was
-pub kept_line : (l : HeldLine) (slot : LineSlot) (state : LineState) → slot ≡ l.slot → state ≡ slot.state → holding_line l (line.with_state slot state) ≡ l
+pub kept_line : (l : HeldLine) (slot : LineSlot) (state : LineState) → slot ≡ l.slot → state ≡ slot.state
+    → holding_line l (line.with_state slot state) ≡ l
 kept_line l slot state e f = ap (λ (w : LineState). holding_line l (line.with_state slot w)) f ∙ ap (holding_line l) e

@@ -20,7 +20,8 @@ before_or_last : (k n : ℕ) → k < n + 1 → (k < n) ⊎ (k ≡ n)
 before_or_last k n h = grind (arith)
 
 pub one_more : (room : ℕ) (inlets : List RingInlet) (ends : List Line) (i : RingInlet) (l : Line)
-    → AreNewLines room inlets ends → IsNewInlet room i → IsNewEnd room l → IsEndOf i l → AreNewLines room (inlets ++ i ∷ []) (ends ++ l ∷ [])
+    → AreNewLines room inlets ends → IsNewInlet room i → IsNewEnd room l → IsEndOf i l
+    → AreNewLines room (inlets ++ i ∷ []) (ends ++ l ∷ [])
 one_more room inlets ends i l was inlet end tied =
     let n = length-append inlets (i ∷ []) in
     let m = length-append ends (l ∷ []) in
@@ -37,12 +38,14 @@ one_more room inlets ends i l was inlet end tied =
       tied = λ k j e low. elim (before_or_last k (length inlets) (omega (arith, n, low))) [
         | inl under ↦
             subst (λ (x : RingInlet). IsEndOf x (get_or (ends ++ l ∷ []) k e)) (sym (get_or_append_left inlets (i ∷ []) j k under))
-            (subst (IsEndOf (get_or inlets k j)) (sym (get_or_append_left ends (l ∷ []) e k (omega (arith, same, under)))) (was.tied k j e under))
+            (subst (IsEndOf (get_or inlets k j)) (sym (get_or_append_left ends (l ∷ []) e k (omega (arith, same, under))))
+            (was.tied k j e under))
         | inr last ↦
             subst (λ (x : RingInlet). IsEndOf x (get_or (ends ++ l ∷ []) k e)) (sym (get_or_push inlets i j k (sym last)))
             (subst (IsEndOf i) (sym (get_or_push ends l e k (same ∙ sym last))) tied)
       ];
     }
 
-pub values_push : (bs : List (Box Line Global)) (b : Box Line Global) → map (λ (x : Box Line Global). x.value) (bs ++ b ∷ []) ≡ map (λ (x : Box Line Global). x.value) bs ++ b.value ∷ []
+pub values_push : (bs : List (Box Line Global)) (b : Box Line Global)
+    → map (λ (x : Box Line Global). x.value) (bs ++ b ∷ []) ≡ map (λ (x : Box Line Global). x.value) bs ++ b.value ∷ []
 values_push bs b = map-append (λ (x : Box Line Global). x.value) bs (b ∷ [])

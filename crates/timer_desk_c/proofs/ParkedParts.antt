@@ -62,7 +62,8 @@ module _ (R Z : RattleType) (L : Laws Z) (g : Ghosts Z.Denot) where
         -- the address is what it is
         move t (1 ∷ []) $ fsplit t $ feq_l t (λ at. drop t $ move t (1 ∷ 0 ∷ []) $
         -- and nothing that is owned lies at null
-        in_a_block t p.at (λ a. box_owns (g.dealloc_token p.alloc) R a p.value) (fst∗ 𝓤 (never 𝓤) (sem 𝓛 (g.dealloc_token p.alloc (bare (lone R.mir)) null_ptr))) (λ b o is.
+        in_a_block t p.at (λ a. box_owns (g.dealloc_token p.alloc) R a p.value)
+        (fst∗ 𝓤 (never 𝓤) (sem 𝓛 (g.dealloc_token p.alloc (bare (lone R.mir)) null_ptr))) (λ b o is.
         move t (1 ∷ 0 ∷ []) $ rest b o word is
         (subst (λ (a : Ptr). vs ≡ vstruct (of_list (word ∷ ptr_val a ∷ [])) ∷ []) is
         (subst (λ (ws : List Val). vs ≡ vstruct (of_list (word ∷ (ws ++ []))) ∷ []) at
@@ -74,4 +75,5 @@ module _ (R Z : RattleType) (L : Laws Z) (g : Ghosts Z.Denot) where
     pack t b o word a x = step (λ rest.
         nothing t $ feq_i t (List Val) (vptr b o ∷ []) (vptr b o ∷ []) refl $ fjoin t $ move t (1 ∷ 0 ∷ []) $ fjoin t $
         feq_i t (List Val) (two word (vptr b o) ∷ []) (two word (vptr b o) ∷ []) refl $ fjoin t $
-        fpack t (Valss (Z ∷ RawPtr ∷ [])) (within (shape (parked.the_type R Z g)) (a, (block_ptr b o, tt)) (two word (vptr b o) ∷ [])) (word ∷ [], (vptr b o ∷ [], tt)) $ fjoin t $ rest)
+        fpack t (Valss (Z ∷ RawPtr ∷ [])) (within (shape (parked.the_type R Z g)) (a, (block_ptr b o, tt)) (two word (vptr b o) ∷ []))
+        (word ∷ [], (vptr b o ∷ [], tt)) $ fjoin t $ rest)

@@ -8,14 +8,16 @@ use Rattle.std.proofs.lemmas.List.{length-map, get_or_default}
 use Rattle.std.proofs.Math.ListN.{get_or-map}
 
 -- these ends are left of all of them, and the others are placed
-pub record IsPlaced (all : List (Box Line Global)) (before : List HeldLine) (left : List (Box Line Global)) (lines : List HeldLine) : Type 0 where
+pub record IsPlaced (all : List (Box Line Global)) (before : List HeldLine) (left : List (Box Line Global))
+    (lines : List HeldLine) : Type 0 where
   pub as_many : length lines ≡ length before
   pub long : length before ≡ length all
   pub few : length left ≤ length all
   pub same_ends : (k : ℕ) (b : Box Line Global) → k < length left → get_or left k b ≡ get_or all k b
   pub below : (k : ℕ) (x : HeldLine) → k < length left → get_or lines k x ≡ get_or before k x
   pub open_each : (k : ℕ) (x : HeldLine) → length left ≤ k → k < length all → HasLine (get_or lines k x)
-  pub state : (k : ℕ) (x : HeldLine) (b : Box Line Global) → length left ≤ k → k < length all → (get_or lines k x).slot.state ≡ (get_or all k b).value
+  pub state : (k : ℕ) (x : HeldLine) (b : Box Line Global) → length left ≤ k → k < length all
+      → (get_or lines k x).slot.state ≡ (get_or all k b).value
   pub client : (k : ℕ) (x : HeldLine) → length left ≤ k → k < length all → (get_or lines k x).client ≡ k
 
 none_below : (k : ℕ) → k < 0 → ⊥
@@ -25,7 +27,8 @@ value_at : (all : List (Box Line Global)) (k : ℕ) (l : Line) (b : Box Line Glo
     → get_or (map (λ (x : Box Line Global). x.value) all) k l ≡ (get_or all k b).value
 value_at all k l b low =
     let long = length-map all (λ (x : Box Line Global). x.value) in
-    get_or_default (map (λ (x : Box Line Global). x.value) all) k l b.value (omega (arith, long, low)) ∙ get_or-map (λ (x : Box Line Global). x.value) all k b
+    get_or_default (map (λ (x : Box Line Global). x.value) all) k l b.value (omega (arith, long, low))
+    ∙ get_or-map (λ (x : Box Line Global). x.value) all k b
 
 pub all_held : (all : List (Box Line Global)) (before : List HeldLine) (left : List (Box Line Global)) (lines : List HeldLine)
     → IsPlaced all before left lines → length left ≡ 0 → AreHeld (map (λ (x : Box Line Global). x.value) all) lines
@@ -40,6 +43,7 @@ all_held (b ∷ bs) before left lines p e =
     let long = length-map all (λ (x : Box Line Global). x.value) in record {
       as_many = p.as_many ∙ p.long ∙ sym long;
       open_each = λ k x low. p.open_each k x (omega (arith, e)) (omega (arith, long, low));
-      state = λ k x l low. p.state k x b (omega (arith, e)) (omega (arith, long, low)) ∙ sym (value_at all k l b (omega (arith, long, low)));
+      state = λ k x l low. p.state k x b (omega (arith, e)) (omega (arith, long, low))
+          ∙ sym (value_at all k l b (omega (arith, long, low)));
       client = λ k x low. p.client k x (omega (arith, e)) (omega (arith, long, low));
     }

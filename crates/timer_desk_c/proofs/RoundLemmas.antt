@@ -1,9 +1,10 @@
 -- What a desk has done in a round, serve after serve and flush after flush.
 use Rattle.std.proofs.Common.{rules, ◌≡◌, ◌≢◌, ◌<◌, ◌≤◌, ◌+◌, ◌++◌, ◌==◌, ℕ, Bool, true, false, ◌||◌, List, [], ◌∷◌, length, length-append, refl, sym, ◌∙◌, ap, subst, arith, ◌⊎◌, inl, inr}
-use Rattle.std.specs.Prelude.{All, nat_lt, not, if◌then◌else◌}
+use Rattle.std.specs.Prelude.{All, nat_lt, not, get_or, if◌then◌else◌}
 use Rattle.std.specs.List.{list_any}
 use Rattle.std.proofs.lemmas.Grind.{flat_map-append}
 use Rattle.std.proofs.lemmas.Bool.Decides.{nat_tests}
+use Rattle.std.proofs.lemmas.List.{get_or-set_same, get_or-set_other, length-set}
 use Rattle.std.proofs.lemmas.List.Elements.{All-append}
 use Rattle.std.proofs.lemmas.List.Folds.{list_any-append}
 use Rattle.timer_desk.specs.declared.word.Numbered.{Numbered}
@@ -12,14 +13,15 @@ use Rattle.timer_desk.specs.declared.report.Served.TheVariants.{Idle, NoRoom, No
 use Rattle.timer_desk.specs.declared.report.Done.{Done}
 use Rattle.timer_desk.specs.declared.report.Done.TheVariants as Dones
 use Rattle.timer_desk.specs.declared.ring.RingInlet.{RingInlet}
-use Rattle.timer_desk.specs.Backlog.{BacklogState}
-use Rattle.timer_desk.specs.Report.{HeldIsLast, asked, asked_in}
-use Rattle.timer_desk.specs.Ring.{ring_lines}
-use Rattle.timer_desk.specs.Desk.{clients_of, side_at}
+use Rattle.timer_desk.specs.Backlog.{BacklogState, empty_backlog}
+use Rattle.timer_desk.specs.Report.{HeldIsLast, asked, asked_in, flushed}
+use Rattle.timer_desk.specs.Ring.{ring_lines, free_of_inlet}
+use Rattle.timer_desk.specs.Desk.{clients_of, side_at, backlog_at}
+use Rattle.timer_desk.specs.Flushing.{IsGiven, Flushes, without_words}
 use Rattle.timer_desk.proofs.ReportJoining.{Told-joined, Told-nothing}
 use Rattle.timer_desk_c.specs.DeskSlots.{DeskState}
 use Rattle.timer_desk_c.specs.Desks.{Says}
-use Rattle.timer_desk_c.specs.Rounds.{did, starved, did_request, ran_out, served_none, flushed_one, moved_a_word, IsServe, IsFlush, IsServedOut, round_status, HasServedAll, HasFlushedAll}
+use Rattle.timer_desk_c.specs.Rounds.{did, starved, did_request, ran_out, served_none, flushed_one, moved_a_word, IsServe, IsFlush, IsServedOut, IsEmptied, round_status, HasServedAll, HasFlushedAll}
 use Rattle.timer_desk_c.specs.Serving.{HasServedClient}
 
 either : (b : Bool) → (b ≡ true) ⊎ (b ≡ false)
@@ -103,7 +105,8 @@ asked_nil c r q e f = asked-append c r q ∙ ap (λ xs. xs ++ asked c q) e ∙ f
 asked_long : (c : ℕ) (r q : List Done) → length (asked c (r ++ q)) ≡ length (asked c r) + length (asked c q)
 asked_long c r q = ap (λ xs. length xs) (asked-append c r q) ∙ length-append (asked c r) (asked c q)
 
-pub serving_more : (c n : ℕ) (busy : Bool) (x y z : DeskState) (s : Served) → IsServing c n busy x y → did s ≡ true → Says (Dones.Served c s ∷ []) y z
+pub serving_more : (c n : ℕ) (busy : Bool) (x y z : DeskState) (s : Served) → IsServing c n busy x y → did s ≡ true
+    → Says (Dones.Served c s ∷ []) y z
     → IsServing c (n + 1) true x z
 serving_more c n busy x y z s f h says =
     let d = Dones.Served c s ∷ [] in
@@ -115,27 +118,32 @@ serving_more c n busy x y z s f h says =
       serves = All-append IsServe f.report d f.serves (search rules);
       others = λ k other. asked_nil k f.report d (f.others k other) (asked_other c k s other);
       count = omega (arith, m, one, count);
-      busy_is = sym (list_any-append did_request f.report d ∙ ap (λ b. list_any did_request f.report || (b || false)) h ∙ or_true (list_any did_request f.report));
+      busy_is = sym (list_any-append did_request f.report d ∙ ap (λ b. list_any did_request f.report || (b || false)) h
+          ∙ or_true (list_any did_request f.report));
       fed_all = list_any-append ran_out f.report d ∙ ap (λ b. b || (starved s || false)) f.fed_all ∙ ap (λ b. b || false) (fed s h);
     }
 
-pub serving_ends : (c n most : ℕ) (busy out : Bool) (x y z : DeskState) (s : Served) → IsServing c n busy x y → n ≤ most → did s ≡ false → out ≡ starved s
+pub serving_ends : (c n most : ℕ) (busy out : Bool) (x y z : DeskState) (s : Served) → IsServing c n busy x y → n ≤ most → did s ≡ false
+    → out ≡ starved s
     → Says (Dones.Served c s ∷ []) y z → HasServedClient c most busy out x z
 serving_ends c n most busy out x y z s f few h e says =
     let d = Dones.Served c s ∷ [] in
     let m = asked_long c f.report d in
     let one = asked_none c s h in
     let count = f.count in
-    let none : list_any (served_none c) d ≡ true = ap (λ b. (if b then not (did s) else false) || false) (same_is c) ∙ ap (λ b. not b || false) h in record {
+    let none : list_any (served_none c) d ≡ true = ap (λ b. (if b then not (did s) else false) || false) (same_is c)
+    ∙ ap (λ b. not b || false) h in record {
       report = f.report ++ d;
       says = Told-joined ring_lines f.report d x y z f.says says;
       serves = All-append IsServe f.report d f.serves (search rules);
       others = λ k other. asked_nil k f.report d (f.others k other) (asked_other c k s other);
       served = record {
         at_most = omega (arith, m, one, count, few);
-        through = inr (list_any-append (served_none c) f.report d ∙ ap (λ b. list_any (served_none c) f.report || b) none ∙ or_true (list_any (served_none c) f.report));
+        through = inr (list_any-append (served_none c) f.report d ∙ ap (λ b. list_any (served_none c) f.report || b) none
+            ∙ or_true (list_any (served_none c) f.report));
       };
-      busy_is = f.busy_is ∙ sym (list_any-append did_request f.report d ∙ ap (λ b. list_any did_request f.report || (b || false)) h ∙ or_false (list_any did_request f.report));
+      busy_is = f.busy_is ∙ sym (list_any-append did_request f.report d ∙ ap (λ b. list_any did_request f.report || (b || false)) h
+          ∙ or_false (list_any did_request f.report));
       memory_is = e ∙ sym (list_any-append ran_out f.report d ∙ ap (λ b. b || (starved s || false)) f.fed_all ∙ or_false (starved s));
     }
 
@@ -207,7 +215,8 @@ out_after c most r q o none =
       at_most = omega (arith, m, z, few);
       through = elim o.through [
         | inl full ↦ inl (omega (arith, m, z, full))
-        | inr idle ↦ inr (list_any-append (served_none c) r q ∙ ap (λ b. list_any (served_none c) r || b) idle ∙ or_true (list_any (served_none c) r))
+        | inr idle ↦ inr (list_any-append (served_none c) r q ∙ ap (λ b. list_any (served_none c) r || b) idle
+            ∙ or_true (list_any (served_none c) r))
       ];
     }
 
@@ -228,7 +237,8 @@ round_more most k busy out b o x y z f g =
       memory_is = ap (λ v. v || o) f.memory_is ∙ ap (λ v. list_any ran_out r || v) g.memory_is ∙ sym (list_any-append ran_out r q);
     }
 
-pub round_done : (most k status : ℕ) (busy out : Bool) (x y : DeskState) → IsRound most k busy out x y → clients_of x ≤ k → status ≡ round_status out busy
+pub round_done : (most k status : ℕ) (busy out : Bool) (x y : DeskState) → IsRound most k busy out x y → clients_of x ≤ k
+    → status ≡ round_status out busy
     → HasServedAll most status x y
 round_done most k status busy out x y f all e = record {
   report = f.report;
@@ -240,13 +250,20 @@ round_done most k status busy out x y f all e = record {
 
 -- A round of flushes.
 
--- each client below k was flushed
+-- each client below k was flushed as the report says, and the others are as they were
 pub record IsFlushing (k : ℕ) (moved : Bool) (old now : DeskState) : Type 0 where
   pub report : List Done
   pub says : Says report old now
   pub flushes : All IsFlush report
   pub each : (c : ℕ) → c < k → list_any (flushed_one c) report ≡ true
   pub moved_is : moved ≡ list_any moved_a_word report
+  pub same_facility : now.facility ≡ old.facility
+  pub as_many_backlogs : length now.backlogs ≡ length old.backlogs
+  pub emptied : (c : ℕ) (i : RingInlet) → c < k
+      → IsEmptied (flushed c report) (get_or old.inlets c i) (get_or now.inlets c i) (backlog_at old c) (backlog_at now c)
+  pub same_inlets : (c : ℕ) (i : RingInlet) → k ≤ c → get_or now.inlets c i ≡ get_or old.inlets c i
+  pub same_backlogs : (c : ℕ) → k ≤ c → backlog_at now c ≡ backlog_at old c
+  pub none_yet : (c : ℕ) → k ≤ c → flushed c report ≡ 0
 
 pub flushing_nothing : (x : DeskState) → IsHeldRight x → IsFlushing 0 false x x
 flushing_nothing x last = record {
@@ -255,11 +272,95 @@ flushing_nothing x last = record {
   flushes = search rules;
   each = λ c low. absurd (none_below c low);
   moved_is = refl;
+  same_facility = refl;
+  as_many_backlogs = refl;
+  emptied = λ c i low. absurd (none_below c low);
+  same_inlets = λ c i high. refl;
+  same_backlogs = λ c high. refl;
+  none_yet = λ c high. refl;
 }
 
-pub flushing_more : (k count : ℕ) (moved b : Bool) (x y z : DeskState) → IsFlushing k moved x y → Says (Dones.Flushed k count ∷ []) y z → b ≡ nat_lt 0 count
+flushed-append : (c : ℕ) (r q : List Done) → flushed c (r ++ q) ≡ flushed c r + flushed c q
+flushed-append c [] q = omega arith
+flushed-append c (d ∷ r) q = let n = flushed-append c r q in omega arith
+
+-- a ring line never runs out of memory
+pub ring_stopped : {A B : Type 0} → A ⊎ (B ⊎ (false ≡ true)) → A ⊎ B
+ring_stopped (inl none) = inl none
+ring_stopped (inr (inl full)) = inr full
+ring_stopped (inr (inr refuses)) = absurd (cc)
+
+flushed_more : (c k count : ℕ) (r : List Done) → flushed c (r ++ Dones.Flushed k count ∷ []) ≡ flushed c r + (if k == c then count else 0)
+flushed_more c k count r = flushed-append c r (Dones.Flushed k count ∷ [])
+    ∙ ap (λ n. flushed c r + n) (plus_zero (if k == c then count else 0))
+  where
+    plus_zero : (n : ℕ) → n + 0 ≡ n
+    plus_zero n = omega arith
+
+flushed_other : (c k count : ℕ) (r : List Done) → c ≢ k → flushed c (r ++ Dones.Flushed k count ∷ []) ≡ flushed c r
+flushed_other c k count r h =
+    let e : (if k == c then count else 0) ≡ 0 = ap (λ (b : Bool). if b then count else 0) (other_is k c h) in
+    let m = flushed_more c k count r in
+    omega (arith, e, m)
+
+flushed_same : (k count : ℕ) (r : List Done) → flushed k r ≡ 0 → flushed k (r ++ Dones.Flushed k count ∷ []) ≡ count
+flushed_same k count r none =
+    let e : (if k == k then count else 0) ≡ count = ap (λ (b : Bool). if b then count else 0) (same_is k) in
+    let m = flushed_more k k count r in
+    omega (arith, e, m, none)
+
+-- a flush of client k leaves the others as they were
+inlet_other : (k count c : ℕ) (i : RingInlet) (y z : DeskState) → Flushes ring_lines k count y z → c ≢ k
+    → get_or z.inlets c i ≡ get_or y.inlets c i
+inlet_other k count c i y z f other = ap (λ (d : DeskState). get_or d.inlets c i) f.desk ∙ get_or-set_other y.inlets k c f.line i other
+
+backlog_other : (k count c : ℕ) (y z : DeskState) → Flushes ring_lines k count y z → c ≢ k → backlog_at z c ≡ backlog_at y c
+backlog_other k count c y z f other =
+    ap (λ (d : DeskState). backlog_at d c) f.desk ∙ get_or-set_other y.backlogs k c (without_words count (backlog_at y k))
+    (empty_backlog 0) other
+
+inlet_same : (k count : ℕ) (i : RingInlet) (y z : DeskState) (f : Flushes ring_lines k count y z) → k < clients_of y
+    → get_or z.inlets k i ≡ f.line
+inlet_same k count i y z f low = ap (λ (d : DeskState). get_or d.inlets k i) f.desk ∙ get_or-set_same y.inlets k f.line i low
+
+backlog_same : (k count : ℕ) (y z : DeskState) → Flushes ring_lines k count y z → k < length y.backlogs
+    → backlog_at z k ≡ without_words count (backlog_at y k)
+backlog_same k count y z f low =
+    ap (λ (d : DeskState). backlog_at d k) f.desk ∙ get_or-set_same y.backlogs k (without_words count (backlog_at y k))
+    (empty_backlog 0) low
+
+-- what a flush of client k leaves of it, which was as at first until then
+emptied_now : (k count : ℕ) (i : RingInlet) (x y z : DeskState) → Flushes ring_lines k count y z → k < clients_of y → k < length y.backlogs
+    → get_or y.inlets k i ≡ get_or x.inlets k i → backlog_at y k ≡ backlog_at x k
+    → ((backlog_at z k).outbox ≡ []) ⊎ (free_of_inlet (get_or z.inlets k i) ≡ 0)
+    → IsEmptied count (get_or x.inlets k i) (get_or z.inlets k i) (backlog_at x k) (backlog_at z k)
+emptied_now k count i x y z f low few inlet backlog stopped = record {
+  given =
+      subst (λ (j : RingInlet). IsGiven ring_lines count (backlog_at x k).outbox (get_or x.inlets k i) j)
+      (sym (inlet_same k count i y z f low))
+      (subst (λ (j : RingInlet). IsGiven ring_lines count (backlog_at x k).outbox j f.line) inlet
+      (subst (λ (b : BacklogState). IsGiven ring_lines count b.outbox (get_or y.inlets k i) f.line) backlog (f.given i)));
+  left = backlog_same k count y z f few ∙ ap (without_words count) backlog;
+  stopped = stopped;
+}
+
+emptied_before : (c k count : ℕ) (i : RingInlet) (r : List Done) (x y z : DeskState) → Flushes ring_lines k count y z → c ≢ k
+    → IsEmptied (flushed c r) (get_or x.inlets c i) (get_or y.inlets c i) (backlog_at x c) (backlog_at y c)
+    → IsEmptied (flushed c (r ++ Dones.Flushed k count ∷ [])) (get_or x.inlets c i) (get_or z.inlets c i) (backlog_at x c) (backlog_at z c)
+emptied_before c k count i r x y z f other was =
+    subst (λ (n : ℕ). IsEmptied n (get_or x.inlets c i) (get_or z.inlets c i) (backlog_at x c) (backlog_at z c))
+    (sym (flushed_other c k count r other))
+    (subst (λ (j : RingInlet). IsEmptied (flushed c r) (get_or x.inlets c i) j (backlog_at x c) (backlog_at z c))
+    (sym (inlet_other k count c i y z f other))
+    (subst (λ (b : BacklogState). IsEmptied (flushed c r) (get_or x.inlets c i) (get_or y.inlets c i) (backlog_at x c) b)
+    (sym (backlog_other k count c y z f other)) was))
+
+pub flushing_more : (k count : ℕ) (moved b : Bool) (x y z : DeskState) → IsFlushing k moved x y → Says (Dones.Flushed k count ∷ []) y z
+    → b ≡ nat_lt 0 count
+    → Flushes ring_lines k count y z → k < clients_of y → k < length y.backlogs
+    → ((i : RingInlet) → ((backlog_at z k).outbox ≡ []) ⊎ (free_of_inlet (get_or z.inlets k i) ≡ 0))
     → IsFlushing (k + 1) (moved || b) x z
-flushing_more k count moved b x y z f says e =
+flushing_more k count moved b x y z f says e g low few stopped =
     let r = f.report in
     let d = Dones.Flushed k count ∷ [] in
     let one : list_any (flushed_one k) d ≡ true = ap (λ v. v || false) (same_is k) in record {
@@ -272,14 +373,36 @@ flushing_more k count moved b x y z f says e =
             (list_any-append (flushed_one k) r d ∙ ap (λ v. list_any (flushed_one k) r || v) one ∙ or_true (list_any (flushed_one k) r))
       ];
       moved_is =
-          ap (λ v. v || b) f.moved_is ∙ ap (λ v. list_any moved_a_word r || v) (e ∙ sym (or_false (nat_lt 0 count))) ∙ sym (list_any-append moved_a_word r d);
+          ap (λ v. v || b) f.moved_is ∙ ap (λ v. list_any moved_a_word r || v) (e ∙ sym (or_false (nat_lt 0 count)))
+          ∙ sym (list_any-append moved_a_word r d);
+      same_facility = ap (λ (w : DeskState). w.facility) g.desk ∙ f.same_facility;
+      as_many_backlogs =
+          ap (λ (w : DeskState). length w.backlogs) g.desk ∙ length-set y.backlogs k (without_words count (backlog_at y k))
+          ∙ f.as_many_backlogs;
+      emptied = λ c i below. elim (below_or_same c k below) [
+        | inl under ↦ emptied_before c k count i r x y z g (less_is_other c k under) (f.emptied c i under)
+        | inr same ↦ subst
+            (λ (v : ℕ). IsEmptied (flushed v (r ++ d)) (get_or x.inlets v i) (get_or z.inlets v i) (backlog_at x v) (backlog_at z v))
+            (sym same)
+            (subst (λ (n : ℕ). IsEmptied n (get_or x.inlets k i) (get_or z.inlets k i) (backlog_at x k) (backlog_at z k))
+            (sym (flushed_same k count r (f.none_yet k (omega arith))))
+            (emptied_now k count i x y z g low few (f.same_inlets k i (omega arith)) (f.same_backlogs k (omega arith)) (stopped i)))
+      ];
+      same_inlets = λ c i high. inlet_other k count c i y z g (more_is_other c k high) ∙ f.same_inlets c i (omega (arith, high));
+      same_backlogs = λ c high. backlog_other k count c y z g (more_is_other c k high) ∙ f.same_backlogs c (omega (arith, high));
+      none_yet = λ c high. flushed_other c k count r (more_is_other c k high) ∙ f.none_yet c (omega (arith, high));
     }
 
-pub flushing_done : (k : ℕ) (moved : Bool) (x y : DeskState) → IsFlushing k moved x y → clients_of x ≤ k → HasFlushedAll moved x y
-flushing_done k moved x y f all = record {
+pub flushing_done : (k : ℕ) (moved : Bool) (x y : DeskState) → IsFlushing k moved x y → clients_of x ≤ k → clients_of y ≡ clients_of x
+    → HasFlushedAll moved x y
+flushing_done k moved x y f all as_many = record {
   report = f.report;
   says = f.says;
   flushes = f.flushes;
   each = λ c low. f.each c (omega (arith, all, low));
   moved_is = f.moved_is;
+  same_facility = f.same_facility;
+  same_clients = as_many;
+  as_many_backlogs = f.as_many_backlogs;
+  emptied = λ c i low. f.emptied c i (omega (arith, all, low));
 }

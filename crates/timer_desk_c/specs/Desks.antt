@@ -30,12 +30,19 @@ use Rattle.timer_desk_c.specs.Lines.{requests_ring_on, words_ring_on, submitted_
 
 -- the configuration of the facility
 abbrev pub config_of : ℕ → DeskConfig → facility.Config
-config_of clients c = record { clients = clients; capacity = c.capacity; first_tick = c.first_tick; first_serial = 1; first_number = 1 }
+config_of clients c = record {
+  clients = clients;
+  capacity = c.capacity;
+  first_tick = c.first_tick;
+  first_serial = 1;
+  first_number = 1;
+}
 
 -- each number is in its range
 abbrev pub IsFit : ℕ → DeskConfig → Type 0
 IsFit clients c =
-    (config_fault (config_of clients c) ≡ None) × (LEAST_ROOM ≤ c.room) × (c.room ≤ MOST_ROOM) × (LEAST_LINE ≤ c.line) × (c.line ≤ MOST_LINE)
+    (config_fault (config_of clients c) ≡ None) × (LEAST_ROOM ≤ c.room) × (c.room ≤ MOST_ROOM)
+    × (LEAST_LINE ≤ c.line) × (c.line ≤ MOST_LINE)
 
 -- the client's end is of this inlet's line
 abbrev pub IsEndOf : RingInlet → Line → Type 0
@@ -61,13 +68,15 @@ pub record AreNewLines (room : ℕ) (inlets : List RingInlet) (ends : List Line)
   pub as_many : length ends ≡ length inlets
   pub inlet : (k : ℕ) (i : RingInlet) → k < length inlets → IsNewInlet room (get_or inlets k i)
   pub end : (k : ℕ) (l : Line) → k < length inlets → IsNewEnd room (get_or ends k l)
-  pub tied : (k : ℕ) (i : RingInlet) (l : Line) → k < length inlets → IsEndOf (get_or inlets k i) (get_or ends k l)
+  pub tied : (k : ℕ) (i : RingInlet) (l : Line) → k < length inlets
+      → IsEndOf (get_or inlets k i) (get_or ends k l)
 
 -- each of C's lines holds the end at its index
 pub record AreHeld (ends : List Line) (lines : List HeldLine) : Type 0 where
   pub as_many : length lines ≡ length ends
   pub open_each : (k : ℕ) (x : HeldLine) → k < length ends → HasLine (get_or lines k x)
-  pub state : (k : ℕ) (x : HeldLine) (l : Line) → k < length ends → (get_or lines k x).slot.state ≡ get_or ends k l
+  pub state : (k : ℕ) (x : HeldLine) (l : Line) → k < length ends
+      → (get_or lines k x).slot.state ≡ get_or ends k l
   -- and has its number
   pub client : (k : ℕ) (x : HeldLine) → k < length ends → (get_or lines k x).client ≡ k
 
@@ -83,7 +92,8 @@ pub record IsOneHeld (lines : List HeldLine) : Type 0 where
 
 -- a new desk of this configuration over these lines
 abbrev pub IsNewDesk : ℕ → DeskConfig → DeskState → Type 0
-IsNewDesk clients c d = (d ≡ opened_desk (opened (config_of clients c) LAST) d.inlets c.room) × (clients_of d ≡ clients)
+IsNewDesk clients c d = (d ≡ opened_desk (opened (config_of clients c) LAST) d.inlets c.room)
+    × (clients_of d ≡ clients)
 
 -- a new desk, and its lines at C
 pub record IsMade (c : DeskConfig) (d : DeskState) (lines : List HeldLine) : Type 0 where
@@ -93,7 +103,8 @@ pub record IsMade (c : DeskConfig) (d : DeskState) (lines : List HeldLine) : Typ
   pub held : AreHeld ends lines
 
 abbrev pub WhyNotMade : ℕ → DeskConfig → ℕ → Type 0
-WhyNotMade clients c status = ((status ≡ OUT_OF_RANGE) × (IsFit clients c → ⊥)) ⊎ ((status ≡ NO_MEMORY) × IsFit clients c)
+WhyNotMade clients c status = ((status ≡ OUT_OF_RANGE) × (IsFit clients c → ⊥))
+    ⊎ ((status ≡ NO_MEMORY) × IsFit clients c)
 
 -- what this report says of the desk
 abbrev pub Says : List Done → DeskState → DeskState → Type 0
@@ -129,7 +140,8 @@ close_status (Ok count) = OK
 close_status (Err CloseFaults.Closed) = CLOSED
 close_status (Err CloseFaults.OutOfMemory) = NO_MEMORY
 
--- a close was tried, with this status and this number of timers that were returned, whose notices are in the outboxes
+-- a close was tried, with this status and this number of timers that were returned, whose notices are in the
+-- outboxes
 pub record HasClosed (status returned : ℕ) (old new : DeskState) : Type 0 where
   pub result : Result ℕ CloseFault
   pub status_is : status ≡ close_status result
@@ -140,19 +152,21 @@ pub record HasClosed (status returned : ℕ) (old new : DeskState) : Type 0 wher
 abbrev pub IsNextTick : ℕ → FacilityState → Type 0
 IsNextTick tick s = ((tick ≡ NEVER) × (s.pending ≡ [])) ⊎ IsWakeUp tick s
 
--- the line of this client, which has finished, is settled: what was got of it followed by what stands is all that was
--- ever submitted on it
+-- the line of this client, which has finished, is settled: what was got of it followed by what stands is all
+-- that was ever submitted on it
 pub record IsSettled (client standing : ℕ) (line : Line) (old new : DeskState) : Type 0 where
   pub client_in_range : client < clients_of old
   pub same_clients : clients_of new ≡ clients_of old
   pub same_facility : new.facility ≡ old.facility
   pub same_backlogs : new.backlogs ≡ old.backlogs
   pub others : (k : ℕ) (i : RingInlet) → k ≢ client → get_or new.inlets k i ≡ get_or old.inlets k i
-  pub settled : (i : RingInlet) → HasSettled (get_or old.inlets client i) (get_or new.inlets client i) (submitted_on line) standing
+  pub settled : (i : RingInlet) → HasSettled (get_or old.inlets client i) (get_or new.inlets client i)
+      (submitted_on line) standing
 
 -- a line that is given as a client's is of that client of the desk, or its requests could not be ended
 abbrev pub IsGivenAs : ℕ → DeskState → Line → Type 0
-IsGivenAs client d l = (i : RingInlet) → (requests_ring_on l ≡ None) ⊎ (requests_ring_on l ≡ Some (line_of_inlet (get_or d.inlets client i)).0)
+IsGivenAs client d l = (i : RingInlet) → (requests_ring_on l ≡ None)
+    ⊎ (requests_ring_on l ≡ Some (line_of_inlet (get_or d.inlets client i)).0)
 
 -- nothing of the line but the prover's knowledge has changed
 abbrev pub IsAsBefore : Line → Line → Type 0

@@ -9,3 +9,4 @@ pub mod Desks
 pub mod Advancing
 pub mod Rounds
 pub mod Serving
+pub mod Ending

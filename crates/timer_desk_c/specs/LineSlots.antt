@@ -1,4 +1,5 @@
--- What a line's slot owns: where its mark says so, the line's end on the heap and the right to free its block.
+-- What a line's slot owns: where its mark says so, the line's end on the heap and the right to free its
+-- block.
 use Rattle.std.specs.Prelude.{ℕ, Bool, true, false, nat_eq}
 use mir.Syntax.{Ty}
 use base.Fml.{Fml, ftrue}

@@ -1,10 +1,10 @@
 -- The client's end of a line, before and after a call.
-use Rattle.std.specs.Prelude.{ℕ, ◌≡◌, ◌+◌, ◌<◌, ◌≤◌, ◌⊎◌, ◌++◌, Bool, true, false, List, [], ◌∷◌, Option, Some, None}
+use Rattle.std.specs.Prelude.{ℕ, ◌≡◌, ◌+◌, ◌<◌, ◌≤◌, ◌⊎◌, ◌++◌, Bool, true, false, List, [], ◌∷◌, length, Option, Some, None}
 use Rattle.timer_base.specs.declared.limits.TheConstants.{LAST}
 use Rattle.timer_facility.specs.declared.request.Request.{Request}
 use Rattle.timer_desk.specs.declared.word.Numbered.{Numbered}
 use Rattle.timer_desk.specs.declared.word.Word.{Word}
-use Rattle.timer_desk.specs.Ring.{Ring, line_of_end, requests_ring_of, words_ring_of_reader, submitted, all_submitted, received_by_end, read_by, seen_by_end, seen_by_reader, free_of, next_of, numbered}
+use Rattle.timer_desk.specs.Ring.{Ring, line_of_end, requests_ring_of, words_ring_of_reader, submitted, all_submitted, received_by_end, read_by, unread_by, is_settled_reader, seen_by_end, seen_by_reader, free_of, next_of, numbered}
 use Rattle.timer_desk_c.specs.declared.line.Line.{Line}
 use Rattle.timer_desk_c.specs.declared.line.Line.TheVariants.{Open, Finished, Gone}
 use Rattle.timer_desk_c.specs.declared.shapes.Message.{Message}
@@ -49,6 +49,18 @@ seen_on (Open e) = seen_by_end e
 seen_on (Finished ended r) = seen_by_reader r
 seen_on Gone = []
 
+-- whether the owner has ended its words
+abbrev pub is_ended_line : Line → Bool
+is_ended_line (Open e) = false
+is_ended_line (Finished ended r) = is_settled_reader r
+is_ended_line Gone = false
+
+-- the words that stand in it, known once they have ended
+abbrev pub unread_on : Line → List Word
+unread_on (Open e) = []
+unread_on (Finished ended r) = unread_by r
+unread_on Gone = []
+
 -- the next request's number
 abbrev pub next_on : Line → ℕ
 next_on (Open e) = next_of e
@@ -61,15 +73,18 @@ free_on (Open e) = free_of e
 free_on (Finished ended r) = 0
 free_on Gone = 0
 
--- the same line, which has finished or not as before
+-- the same line, which has finished or not as before, and whose words have ended or not as before
 abbrev pub IsSameLine : Line → Line → Type 0
 IsSameLine old new =
-    (requests_ring_on new ≡ requests_ring_on old) × (words_ring_on new ≡ words_ring_on old) × (is_open_line new ≡ is_open_line old)
+    (requests_ring_on new ≡ requests_ring_on old) × (words_ring_on new ≡ words_ring_on old)
+    × (is_open_line new ≡ is_open_line old)
+    × (is_ended_line new ≡ is_ended_line old)
 
 -- no request was sent and no word received
 abbrev pub SameTraffic : Line → Line → Type 0
 SameTraffic old new =
-    (submitted_on new ≡ submitted_on old) × (received_on new ≡ received_on old) × (next_on new ≡ next_on old)
+    (submitted_on new ≡ submitted_on old) × (received_on new ≡ received_on old)
+    × (unread_on new ≡ unread_on old) × (next_on new ≡ next_on old)
 
 -- no request was sent
 abbrev pub SameSent : Line → Line → Type 0
@@ -94,9 +109,19 @@ pub record HasReceived (old new : Line) (out : Message) : Type 0 where
   pub received : received_on new ≡ received_on old ++ word ∷ []
   pub is : out ≡ message_of word
 
--- The requests have ended. The line has no ring of requests afterwards only where the owner's end was dropped, and else
--- all that was submitted is known.
+-- no word comes any more: the words have ended, and all of them were received
+abbrev pub IsReadToEnd : Line → Type 0
+IsReadToEnd l = (is_ended_line l ≡ true) × (unread_on l ≡ [])
+
+-- some may come: the words have not ended, or some stand in the line
+abbrev pub MayReceive : Line → Type 0
+MayReceive l = (is_ended_line l ≡ false) ⊎ (0 < length (unread_on l))
+
+-- The requests have ended. The line has no ring of requests afterwards only where the owner's end was
+-- dropped, and else all that was submitted is known.
 abbrev pub HasFinished : Line → Line → Type 0
 HasFinished old new =
-    (is_open_line old ≡ true) × (is_open_line new ≡ false) × (words_ring_on new ≡ words_ring_on old)
-    × ((requests_ring_on new ≡ None) ⊎ ((requests_ring_on new ≡ requests_ring_on old) × (submitted_on new ≡ submitted_on old)))
+    (is_open_line old ≡ true) × (is_open_line new ≡ false) × (is_ended_line new ≡ false)
+    × (words_ring_on new ≡ words_ring_on old)
+    × ((requests_ring_on new ≡ None) ⊎ ((requests_ring_on new ≡ requests_ring_on old)
+    × (submitted_on new ≡ submitted_on old)))

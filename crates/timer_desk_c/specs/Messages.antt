@@ -17,7 +17,15 @@ use Rattle.timer_desk_c.specs.declared.status.TheConstants.{NO_MEMORY, NOT_PENDI
 
 -- all 0
 abbrev pub blank : Message
-blank = record { kind = 0; reason = 0; number = 0; handle = record { place = 0; serial = 0 }; deadline = 0; action = 0; other = 0 }
+blank = record {
+  kind = 0;
+  reason = 0;
+  number = 0;
+  handle = record { place = 0; serial = 0 };
+  deadline = 0;
+  action = 0;
+  other = 0;
+}
 
 -- a handle as C's struct
 abbrev pub given : base.Handle → Handle
@@ -35,22 +43,52 @@ reason_of Reasons.Full = CAPACITY
 reason_of Reasons.NoSuch = NOT_PENDING
 
 abbrev pub message_of_answer : ℕ → Answer → Message
-message_of_answer number (Answers.Started handle deadline) = record blank { kind = STARTED; number = number; handle = given handle; deadline = deadline }
-message_of_answer number (Answers.Stopped serial) = record blank { kind = STOPPED; number = number; handle = record { place = 0; serial = serial } }
-message_of_answer number (Answers.Restarted handle deadline old) = record blank { kind = RESTARTED; number = number; handle = given handle; deadline = deadline; other = old }
-message_of_answer number (Answers.Refused reason) = record blank { kind = REFUSED; reason = reason_of reason; number = number }
+message_of_answer number (Answers.Started handle deadline) =
+    record blank { kind = STARTED; number = number; handle = given handle; deadline = deadline }
+message_of_answer number (Answers.Stopped serial) =
+    record blank { kind = STOPPED; number = number; handle = record { place = 0; serial = serial } }
+message_of_answer number (Answers.Restarted handle deadline old) =
+    record blank {
+      kind = RESTARTED;
+      number = number;
+      handle = given handle;
+      deadline = deadline;
+      other = old;
+    }
+message_of_answer number (Answers.Refused reason) =
+    record blank { kind = REFUSED; reason = reason_of reason; number = number }
 
 abbrev pub message_of_not_taken : ℕ → NotTaken → Message
-message_of_not_taken number NotTakens.Closed = record blank { kind = NOT_TAKEN; reason = CLOSED; number = number }
-message_of_not_taken number NotTakens.NoClient = record blank { kind = NOT_TAKEN; reason = NO_CLIENT; number = number }
-message_of_not_taken number (NotTakens.Repeated next) = record blank { kind = NOT_TAKEN; reason = REPEATED; number = number; other = next }
-message_of_not_taken number NotTakens.NumbersSpent = record blank { kind = NOT_TAKEN; reason = NUMBERS_SPENT; number = number }
-message_of_not_taken number (NotTakens.Ahead next) = record blank { kind = NOT_TAKEN; reason = AHEAD; number = number; other = next }
-message_of_not_taken number NotTakens.OutOfMemory = record blank { kind = NOT_TAKEN; reason = NO_MEMORY; number = number }
+message_of_not_taken number NotTakens.Closed = record blank {
+  kind = NOT_TAKEN;
+  reason = CLOSED;
+  number = number;
+}
+message_of_not_taken number NotTakens.NoClient = record blank {
+  kind = NOT_TAKEN;
+  reason = NO_CLIENT;
+  number = number;
+}
+message_of_not_taken number (NotTakens.Repeated next) =
+    record blank { kind = NOT_TAKEN; reason = REPEATED; number = number; other = next }
+message_of_not_taken number NotTakens.NumbersSpent =
+    record blank { kind = NOT_TAKEN; reason = NUMBERS_SPENT; number = number }
+message_of_not_taken number (NotTakens.Ahead next) =
+    record blank { kind = NOT_TAKEN; reason = AHEAD; number = number; other = next }
+message_of_not_taken number NotTakens.OutOfMemory =
+    record blank { kind = NOT_TAKEN; reason = NO_MEMORY; number = number }
 
 -- a timer that is handed out, under the number of the request that started it
 abbrev pub message_of_timer : ℕ → Timer → Message
-message_of_timer kind t = record { kind = kind; reason = 0; number = t.number; handle = record { place = 0; serial = t.serial }; deadline = t.deadline; action = t.action; other = 0 }
+message_of_timer kind t = record {
+  kind = kind;
+  reason = 0;
+  number = t.number;
+  handle = record { place = 0; serial = t.serial };
+  deadline = t.deadline;
+  action = t.action;
+  other = 0;
+}
 
 abbrev pub message_of : Word → Message
 message_of (Words.Answered number answer) = message_of_answer number answer

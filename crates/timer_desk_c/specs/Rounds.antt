@@ -1,12 +1,16 @@
 -- Rounds of the owner over all clients: each is served, each outbox is flushed.
-use Rattle.std.specs.Prelude.{ℕ, ◌≡◌, ◌<◌, ◌≤◌, ◌⊎◌, ◌==◌, Bool, true, false, not, List, length, All, nat_lt, if◌then◌else◌}
+use Rattle.std.specs.Prelude.{ℕ, ◌≡◌, ◌<◌, ◌≤◌, ◌⊎◌, ◌==◌, Bool, true, false, not, List, [], length, get_or, All, nat_lt, if◌then◌else◌}
 use Rattle.std.specs.List.{list_any}
 use Rattle.timer_desk.specs.declared.report.Served.{Served}
 use Rattle.timer_desk.specs.declared.report.Served.TheVariants as Serveds
 use Rattle.timer_desk.specs.declared.report.Done.{Done}
 use Rattle.timer_desk.specs.declared.report.Done.TheVariants as Dones
-use Rattle.timer_desk.specs.Desk.{clients_of}
-use Rattle.timer_desk.specs.Report.{asked}
+use Rattle.timer_desk.specs.declared.ring.RingInlet.{RingInlet}
+use Rattle.timer_desk.specs.Backlog.{BacklogState}
+use Rattle.timer_desk.specs.Desk.{clients_of, backlog_at}
+use Rattle.timer_desk.specs.Report.{asked, flushed}
+use Rattle.timer_desk.specs.Ring.{free_of_inlet, ring_lines}
+use Rattle.timer_desk.specs.Flushing.{IsGiven, without_words}
 use Rattle.timer_desk_c.specs.declared.status.TheConstants.{OK, NO_MEMORY, IDLE}
 use Rattle.timer_desk_c.specs.DeskSlots.{DeskState}
 use Rattle.timer_desk_c.specs.Desks.{Says}
@@ -98,10 +102,23 @@ pub record HasServedAll (most status : ℕ) (old new : DeskState) : Type 0 where
   pub each : (c : ℕ) → c < clients_of old → IsServedOut c most report
   pub status_is : status ≡ round_status (list_any ran_out report) (list_any did_request report)
 
--- each client was flushed, and whether a word was moved
+-- the first `count` words of the outbox have left it and stand in the line, and no more could: none is left
+-- in the outbox, or no slot of the line is known to be free
+pub record IsEmptied (count : ℕ) (i j : RingInlet) (b d : BacklogState) : Type 0 where
+  pub given : IsGiven ring_lines count b.outbox i j
+  pub left : d ≡ without_words count b
+  pub stopped : (d.outbox ≡ []) ⊎ (free_of_inlet j ≡ 0)
+
+-- each client was flushed, and whether a word was moved; nothing but the outboxes and the lines has changed
 pub record HasFlushedAll (moved : Bool) (old new : DeskState) : Type 0 where
   pub report : List Done
   pub says : Says report old new
   pub flushes : All IsFlush report
   pub each : (c : ℕ) → c < clients_of old → list_any (flushed_one c) report ≡ true
   pub moved_is : moved ≡ list_any moved_a_word report
+  pub same_facility : new.facility ≡ old.facility
+  pub same_clients : clients_of new ≡ clients_of old
+  pub as_many_backlogs : length new.backlogs ≡ length old.backlogs
+  pub emptied : (c : ℕ) (i : RingInlet) → c < clients_of old
+      → IsEmptied (flushed c report) (get_or old.inlets c i) (get_or new.inlets c i) (backlog_at old c)
+      (backlog_at new c)

@@ -1,9 +1,9 @@
 //! The functions that C calls in the owner's thread. None of them waits for a client.
 //!
-//! The contracts have the same parts as those of `line_exports`. What a call did to the desk is a report, as in
-//! `timer_desk`: each member with its exact result, the words for each client in order, and the facility before
-//! and after.
-ghost use Rattle.std.specs.Prelude.{◌≡◌, ◌<◌, ◌≤◌, ◌⊎◌, [], length, get_or, true, false};
+//! The contracts have the same parts as those of `line_exports`. What a call did to the desk is a report, as
+//! in `timer_desk`: each member with its exact result, the words for each client in order, and the facility
+//! before and after.
+ghost use Rattle.std.specs.Prelude.{◌≡◌, ◌≢◌, ◌<◌, ◌≤◌, ◌⊎◌, [], length, get_or, true, false};
 ghost use Rattle.timer_facility.specs.State.{FacilityState};
 ghost use Rattle.timer_desk.specs.declared.ring.RingInlet.{RingInlet};
 ghost use Rattle.timer_desk.specs.Desk.{clients_of, backlog_at};
@@ -12,8 +12,10 @@ ghost use Rattle.timer_desk_c.specs.Frames.{IsOpen, IsShut, with_desk, HasLine, 
 ghost use Rattle.timer_desk_c.specs.Desks.{IsFit, IsMade, AllEmpty, IsOneHeld, WhyNotMade, HasServed, HasTicked, HasClosed, IsNextTick, IsSettled, IsGivenAs, IsAsBefore, WhyNotSettled};
 ghost use Rattle.timer_desk_c.specs.Rounds.{HasServedAll, HasFlushedAll};
 ghost use Rattle.timer_desk_c.specs.Advancing.{HasAdvanced, WhyNotAdvanced, HasFlushed};
-ghost use Rattle.timer_desk_c.specs.declared.status.TheConstants.{OK, NOT_OPEN, OPEN, NO_CLIENT, NEVER};
+ghost use Rattle.timer_desk_c.specs.Ending.{IsTied, OnlySettles, HasEnded, WhyNotEnded};
+ghost use Rattle.timer_desk_c.specs.declared.status.TheConstants.{OK, NOT_OPEN, OPEN, NO_CLIENT, LEFT, NEVER};
 
+use crate::ending::end;
 use crate::held::{HeldDesk, HeldLine};
 use crate::making::{Made, make};
 use crate::parked::Parked;
@@ -32,7 +34,8 @@ pub extern "C" fn timers_desk_new(
     lines: &mut [HeldLine],
     config: &DeskConfig,
 ) -> u32
-    ensures made { result ≡ OK → IsShut d.old × AllEmpty lines.old × IsFit (length lines.old) config.now × IsOpen d.new
+    ensures made { result ≡ OK → IsShut d.old × AllEmpty lines.old × IsFit (length lines.old) config.now
+        × IsOpen d.new
         × IsMade config.now d.new.slot.state lines.new × (length lines.new ≡ length lines.old) }
     ensures refused { 0 < result → ((result ≡ OPEN) × (IsOpen d.old ⊎ IsOneHeld lines.old))
         ⊎ (IsShut d.old × AllEmpty lines.old × WhyNotMade (length lines.old) config.now result) }
@@ -55,7 +58,8 @@ pub extern "C" fn timers_desk_new(
     }
 }
 
-/// Frees the desk, if there is one: the facility, all pending timers and words, and the owner's ends of the lines.
+/// Frees the desk, if there is one: the facility, all pending timers and words, and the owner's ends of the
+/// lines.
 #[unsafe(no_mangle)]
 pub extern "C" fn timers_desk_free(alloc: Global, d: &mut HeldDesk)
     ensures shut { IsShut d.new }
@@ -69,8 +73,10 @@ pub extern "C" fn timers_desk_free(alloc: Global, d: &mut HeldDesk)
 /// Serves a client once: takes its held request, or else the next of its line, to the facility.
 #[unsafe(no_mangle)]
 pub extern "C" fn timers_desk_serve(d: &mut HeldDesk, client: usize) -> u32
-    ensures served { IsOpen d.old → client < clients_of d.old.slot.state → HasServed client result d.old.slot.state d.new.slot.state }
-    ensures none { IsOpen d.old → clients_of d.old.slot.state ≤ client → (result ≡ NO_CLIENT) × (d.new ≡ d.old) }
+    ensures served { IsOpen d.old → client < clients_of d.old.slot.state
+        → HasServed client result d.old.slot.state d.new.slot.state }
+    ensures none { IsOpen d.old → clients_of d.old.slot.state ≤ client
+        → (result ≡ NO_CLIENT) × (d.new ≡ d.old) }
     ensures not_open { IsShut d.old → (result ≡ NOT_OPEN) × (d.new ≡ d.old) }
     ensures only { d.new ≡ with_desk d.old d.new.slot.state }
 {
@@ -120,12 +126,14 @@ pub extern "C" fn timers_desk_tick(d: &mut HeldDesk) -> u32
     calls::tick(d.slot.desk())
 }
 
-/// Passes at most `most` ticks, up to the first at which a timer expires, and writes how many were passed: 0 only
-/// if `most` is 0.
+/// Passes at most `most` ticks, up to the first at which a timer expires, and writes how many were passed: 0
+/// only if `most` is 0.
 #[unsafe(no_mangle)]
 pub extern "C" fn timers_desk_advance(d: &mut HeldDesk, most: u64, passed: &mut u64) -> u32
-    ensures advanced { result ≡ OK → IsOpen d.old × HasAdvanced most passed.new d.old.slot.state d.new.slot.state }
-    ensures refused { 0 < result → ((result ≡ NOT_OPEN) × IsShut d.old) ⊎ (IsOpen d.old × WhyNotAdvanced d.old.slot.state.facility result) }
+    ensures advanced { result ≡ OK → IsOpen d.old × HasAdvanced most passed.new d.old.slot.state
+        d.new.slot.state }
+    ensures refused { 0 < result → ((result ≡ NOT_OPEN) × IsShut d.old)
+        ⊎ (IsOpen d.old × WhyNotAdvanced d.old.slot.state.facility result) }
     ensures kept { 0 < result → (d.new ≡ d.old) × (passed.new ≡ passed.old) }
     ensures only { d.new ≡ with_desk d.old d.new.slot.state }
 {
@@ -138,7 +146,8 @@ pub extern "C" fn timers_desk_advance(d: &mut HeldDesk, most: u64, passed: &mut 
 /// Moves words from a client's outbox into its line, as many as it takes, and returns how many.
 #[unsafe(no_mangle)]
 pub extern "C" fn timers_desk_flush(d: &mut HeldDesk, client: usize) -> usize
-    ensures flushed { IsOpen d.old → client < clients_of d.old.slot.state → HasFlushed client result d.old.slot.state d.new.slot.state }
+    ensures flushed { IsOpen d.old → client < clients_of d.old.slot.state
+        → HasFlushed client result d.old.slot.state d.new.slot.state }
     ensures none { IsOpen d.old → clients_of d.old.slot.state ≤ client → (result ≡ 0) × (d.new ≡ d.old) }
     ensures not_open { IsShut d.old → (result ≡ 0) × (d.new ≡ d.old) }
     ensures only { d.new ≡ with_desk d.old d.new.slot.state }
@@ -149,8 +158,8 @@ pub extern "C" fn timers_desk_flush(d: &mut HeldDesk, client: usize) -> usize
     advancing::flush(d.slot.desk(), client)
 }
 
-/// Closes the facility: each pending timer is returned to its client, and no request is accepted from then on.
-/// Writes how many were returned.
+/// Closes the facility: each pending timer is returned to its client, and no request is accepted from then
+/// on. Writes how many were returned.
 #[unsafe(no_mangle)]
 pub extern "C" fn timers_desk_close(d: &mut HeldDesk, returned: &mut u64) -> u32
     ensures closed { IsOpen d.old → HasClosed result returned.new d.old.slot.state d.new.slot.state }
@@ -207,7 +216,8 @@ pub extern "C" fn timers_desk_wakeup(d: &mut HeldDesk) -> u64
 /// How many words wait in a client's outbox. 0 if there is no such client or no desk.
 #[unsafe(no_mangle)]
 pub extern "C" fn timers_desk_outbox(d: &mut HeldDesk, client: usize) -> usize
-    ensures len { IsOpen d.old → client < clients_of d.old.slot.state → result ≡ length (backlog_at d.old.slot.state client).outbox }
+    ensures len { IsOpen d.old → client < clients_of d.old.slot.state
+        → result ≡ length (backlog_at d.old.slot.state client).outbox }
     ensures none { IsOpen d.old → clients_of d.old.slot.state ≤ client → result ≡ 0 }
     ensures not_open { IsShut d.old → result ≡ 0 }
     ensures same { d.new ≡ d.old }
@@ -226,15 +236,18 @@ pub extern "C" fn timers_desk_settle(
     line: &mut HeldLine,
     standing: &mut usize,
 ) -> u32
-    requires line { IsOpen d.old → HasLine line.old → client < clients_of d.old.slot.state → line.old.client ≡ client
+    requires line { IsOpen d.old → HasLine line.old → client < clients_of d.old.slot.state
+        → line.old.client ≡ client
         → IsGivenAs client d.old.slot.state line.old.slot.state }
     ensures settled { result ≡ OK → IsOpen d.old × HasLine line.old × (line.old.client ≡ client)
         × IsSettled client standing.new line.old.slot.state d.old.slot.state d.new.slot.state }
     ensures refused { 0 < result → ((result ≡ NOT_OPEN) × (IsShut d.old ⊎ HasNoLine line.old))
-        ⊎ (IsOpen d.old × HasLine line.old × WhyNotSettled client line.old.client d.old.slot.state line.old.slot.state result) }
+        ⊎ (IsOpen d.old × HasLine line.old × WhyNotSettled client line.old.client d.old.slot.state
+        line.old.slot.state result) }
     ensures kept { 0 < result → (d.new ≡ d.old) × (standing.new ≡ standing.old) }
     ensures line { IsAsBefore line.old.slot.state line.new.slot.state }
-    ensures only { (d.new ≡ with_desk d.old d.new.slot.state) × (line.new ≡ with_line line.old line.new.slot.state) }
+    ensures only { (d.new ≡ with_desk d.old d.new.slot.state)
+        × (line.new ≡ with_line line.old line.new.slot.state) }
 {
     if !d.slot.holds() {
         return NOT_OPEN;
@@ -244,4 +257,38 @@ pub extern "C" fn timers_desk_settle(
     }
     let number = line.client;
     settle(d.slot.desk(), client, number, line.slot.line(), standing)
+}
+
+/// Ends the words of a client that has finished, unless something of it is left at the desk, and writes how
+/// many stand in its line: with those that it has received they are all that it was given.
+#[unsafe(no_mangle)]
+pub extern "C" fn timers_desk_end(
+    d: &mut HeldDesk,
+    client: usize,
+    line: &mut HeldLine,
+    unread: &mut usize,
+) -> u32
+    requires line { IsOpen d.old → HasLine line.old → client < clients_of d.old.slot.state
+        → line.old.client ≡ client
+        → IsTied client d.old.slot.state line.old.slot.state }
+    ensures ended { result ≡ OK → IsOpen d.old × HasLine line.old × (line.old.client ≡ client)
+        × HasEnded client unread.new d.old.slot.state line.old.slot.state line.new.slot.state }
+    ensures refused { 0 < result → ((result ≡ NOT_OPEN) × (IsShut d.old ⊎ HasNoLine line.old))
+        ⊎ (IsOpen d.old × HasLine line.old × WhyNotEnded client line.old.client d.old.slot.state
+        line.old.slot.state result) }
+    ensures kept { 0 < result → (unread.new ≡ unread.old)
+        × IsAsBefore line.old.slot.state line.new.slot.state }
+    ensures same { 0 < result → result ≢ LEFT → d.new ≡ d.old }
+    ensures desk { OnlySettles client d.old.slot.state d.new.slot.state }
+    ensures only { (d.new ≡ with_desk d.old d.new.slot.state)
+        × (line.new ≡ with_line line.old line.new.slot.state) }
+{
+    if !d.slot.holds() {
+        return NOT_OPEN;
+    }
+    if !line.slot.holds() {
+        return NOT_OPEN;
+    }
+    let number = line.client;
+    end(d.slot.desk(), client, number, line.slot.line(), unread)
 }

@@ -74,7 +74,8 @@ impl DeskSlot {
     /// Lends it. Its state at the end of the loan is the slot's state.
     pub(crate) fn desk(&mut self) -> &mut Desk<HierWheel, RingInlet>
         requires { is_open self.old.mark ≡ true }
-        ensures* writes_back { sem 𝓛 (Lends the_desk_slot the_desk self.entry result (with_state self.entry.now)) }
+        ensures* writes_back { sem 𝓛 (Lends the_desk_slot the_desk self.entry result
+            (with_state self.entry.now)) }
         ensures value { result.now ≡ self.old.state }
     {
         // The slot owns one at this address, since its mark says so. It is lent no longer than the slot

@@ -1,17 +1,18 @@
 //! The desk of timer_desk over the hierarchy of wheels, and its ring lines, for C: include/timers_desk.h.
 //!
-//! C keeps a `struct timers_desk` (`HeldDesk`), which owns the facility and the owner's ends of all lines on the
-//! heap, and for each client a `struct timers_line` (`HeldLine`), which owns the client's end. Each struct is used
-//! by one thread at a time; they share nothing but the rings.
+//! C keeps a `struct timers_desk` (`HeldDesk`), which owns the facility and the owner's ends of all lines on
+//! the heap, and for each client a `struct timers_line` (`HeldLine`), which owns the client's end. Each
+//! struct is used by one thread at a time; they share nothing but the rings.
 //!
 //!     desk_exports   the owner's calls: each tests whether a desk is held, and passes the call on
 //!     line_exports   a client's calls, the same for its line
-//!     calls, rounds, advancing, settling    what they do to a desk, with C's statuses
+//!     calls, rounds, advancing, settling, ending    what they do to a desk, with C's statuses
 //!     line           a client's end, before and after it has finished
 //!     messages       words as C's struct
 //!     making, placing    a new desk, and its lines put into C's structs
 //!     held           the two structs
-//!     desk_slot, line_slot, parked    the machine words by which they own something on the heap, proved by hand
+//!     desk_slot, line_slot, parked    the machine words by which they own something on the heap, proved by
+//!                                     hand
 //!     shapes, status    the other structs and the numbers of the header
 #![tactic(auto)]
 
@@ -19,6 +20,7 @@ mod advancing;
 mod calls;
 mod desk_exports;
 mod desk_slot;
+mod ending;
 mod held;
 mod line;
 mod line_exports;

@@ -21,7 +21,7 @@ pub enum Line {
 
 impl Line {
     ghost use Rattle.std.specs.Prelude.{◌≡◌, ◌<◌, ◌++◌, [], ◌∷◌, true, false, IfSome, IsNone};
-    ghost use Rattle.timer_desk_c.specs.Lines.{HasSent, WhyNotSent, HasReceived, IsSameLine, SameTraffic, HasFinished, is_open_line, seen_on, received_on, submitted_on, next_on};
+    ghost use Rattle.timer_desk_c.specs.Lines.{HasSent, WhyNotSent, HasReceived, IsSameLine, SameTraffic, HasFinished, IsReadToEnd, MayReceive, is_open_line, is_ended_line, seen_on, unread_on, received_on, submitted_on, next_on};
     ghost use Rattle.timer_desk_c.specs.declared.status.TheConstants.{OK, FINISHED};
 
     /// Sends a request, and writes its number, one above that of the last.
@@ -30,7 +30,8 @@ impl Line {
         ensures refused { 0 < result → WhyNotSent self.old self.new result }
         ensures kept { 0 < result → SameTraffic self.old self.new × (number.new ≡ number.old) }
         ensures line { IsSameLine self.old self.new }
-        ensures received { (received_on self.new ≡ received_on self.old) × (seen_on self.new ≡ seen_on self.old) }
+        ensures received { (received_on self.new ≡ received_on self.old)
+            × (seen_on self.new ≡ seen_on self.old) }
     {
         let Line::Open(end) = self else {
             return FINISHED;
@@ -48,9 +49,13 @@ impl Line {
     /// Receives the next word.
     fn next_word(&mut self) -> Option<Word>
         ensures some { IfSome result (λ w. received_on self.new ≡ received_on self.old ++ w ∷ []) }
-        ensures none { IsNone result → (received_on self.new ≡ received_on self.old) × (seen_on self.old ≡ []) }
+        ensures none { IsNone result → (received_on self.new ≡ received_on self.old) × (seen_on self.old ≡ [])
+            × (unread_on self.old ≡ []) }
+        ensures all { is_ended_line self.old ≡ true
+            → received_on self.new ++ unread_on self.new ≡ received_on self.old ++ unread_on self.old }
         ensures line { IsSameLine self.old self.new }
-        ensures sent { (submitted_on self.new ≡ submitted_on self.old) × (next_on self.new ≡ next_on self.old) }
+        ensures sent { (submitted_on self.new ≡ submitted_on self.old)
+            × (next_on self.new ≡ next_on self.old) }
     {
         match self {
             Line::Open(end) => end.receive(),
@@ -62,9 +67,14 @@ impl Line {
     /// Receives the next word, and writes it.
     pub(crate) fn receive(&mut self, out: &mut Message) -> bool
         ensures received { result ≡ true → HasReceived self.old self.new out.new }
-        ensures none { result ≡ false → (received_on self.new ≡ received_on self.old) × (seen_on self.old ≡ []) × (out.new ≡ out.old) }
+        ensures none { result ≡ false → (received_on self.new ≡ received_on self.old)
+            × (seen_on self.old ≡ []) × (unread_on self.old ≡ [])
+            × (out.new ≡ out.old) }
+        ensures all { is_ended_line self.old ≡ true
+            → received_on self.new ++ unread_on self.new ≡ received_on self.old ++ unread_on self.old }
         ensures line { IsSameLine self.old self.new }
-        ensures sent { (submitted_on self.new ≡ submitted_on self.old) × (next_on self.new ≡ next_on self.old) }
+        ensures sent { (submitted_on self.new ≡ submitted_on self.old)
+            × (next_on self.new ≡ next_on self.old) }
     {
         match self.next_word() {
             Some(word) => {
@@ -75,10 +85,23 @@ impl Line {
         }
     }
 
+    /// Whether no word comes any more: they have ended, and all were received.
+    pub(crate) fn is_read_to_end(&self) -> bool
+        ensures yes { result ≡ true → IsReadToEnd self.now }
+        ensures no { result ≡ false → MayReceive self.now }
+    {
+        match self {
+            Line::Finished(_, reader) => reader.is_read_out(),
+            Line::Open(_) => false,
+            Line::Gone => false,
+        }
+    }
+
     /// Ends the requests of a line that has not finished.
     pub(crate) fn finish(&mut self) -> u32
         ensures finished { result ≡ OK → HasFinished self.old self.new }
-        ensures refused { 0 < result → (result ≡ FINISHED) × (is_open_line self.old ≡ false) × (self.new ≡ self.old) }
+        ensures refused { 0 < result → (result ≡ FINISHED) × (is_open_line self.old ≡ false)
+            × (self.new ≡ self.old) }
         ensures received { received_on self.new ≡ received_on self.old }
     {
         match mem::replace(self, Line::Gone) {

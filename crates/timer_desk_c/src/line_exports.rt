@@ -4,10 +4,10 @@
 //! The contracts have the same parts: what the call did if it returns `OK`; the first reason that holds if it
 //! returns another status; what is the same then; and that nothing but the state of the line ever changes in
 //! what C holds.
-ghost use Rattle.std.specs.Prelude.{◌≡◌, ◌<◌, ◌⊎◌, [], true, false};
+ghost use Rattle.std.specs.Prelude.{◌≡◌, ◌<◌, ◌⊎◌, ◌++◌, [], true, false};
 ghost use Rattle.timer_facility.specs.declared.request.Request.TheVariants.{Start, Stop, Restart};
 ghost use Rattle.timer_desk_c.specs.Frames.{HasLine, HasNoLine, with_line};
-ghost use Rattle.timer_desk_c.specs.Lines.{HasSent, WhyNotSent, SameTraffic, SameSent, HasReceived, HasFinished, IsSameLine, is_open_line, seen_on, received_on};
+ghost use Rattle.timer_desk_c.specs.Lines.{HasSent, WhyNotSent, SameTraffic, SameSent, HasReceived, HasFinished, IsReadToEnd, MayReceive, IsSameLine, is_open_line, is_ended_line, seen_on, unread_on, received_on};
 ghost use Rattle.timer_desk_c.specs.Messages.{named};
 ghost use Rattle.timer_desk_c.specs.declared.status.TheConstants.{OK, NOT_OPEN, FINISHED};
 
@@ -26,10 +26,12 @@ pub extern "C" fn timers_line_start(
     action: u64,
     number: &mut u64,
 ) -> u32
-    ensures sent { result ≡ OK → HasLine line.old × HasSent (Start interval action) line.old.slot.state line.new.slot.state number.new }
+    ensures sent { result ≡ OK → HasLine line.old × HasSent
+        (Start interval action) line.old.slot.state line.new.slot.state number.new }
     ensures refused { 0 < result → ((result ≡ NOT_OPEN) × HasNoLine line.old)
         ⊎ (HasLine line.old × WhyNotSent line.old.slot.state line.new.slot.state result) }
-    ensures kept { 0 < result → SameTraffic line.old.slot.state line.new.slot.state × (number.new ≡ number.old) }
+    ensures kept { 0 < result → SameTraffic line.old.slot.state line.new.slot.state
+        × (number.new ≡ number.old) }
     ensures received { received_on line.new.slot.state ≡ received_on line.old.slot.state }
     ensures line { IsSameLine line.old.slot.state line.new.slot.state }
     ensures only { line.new ≡ with_line line.old line.new.slot.state }
@@ -45,10 +47,12 @@ pub extern "C" fn timers_line_start(
 /// Sends the request to stop the timer with this handle, and writes the request's number.
 #[unsafe(no_mangle)]
 pub extern "C" fn timers_line_stop(line: &mut HeldLine, handle: Handle, number: &mut u64) -> u32
-    ensures sent { result ≡ OK → HasLine line.old × HasSent (Stop (named handle)) line.old.slot.state line.new.slot.state number.new }
+    ensures sent { result ≡ OK → HasLine line.old × HasSent
+        (Stop (named handle)) line.old.slot.state line.new.slot.state number.new }
     ensures refused { 0 < result → ((result ≡ NOT_OPEN) × HasNoLine line.old)
         ⊎ (HasLine line.old × WhyNotSent line.old.slot.state line.new.slot.state result) }
-    ensures kept { 0 < result → SameTraffic line.old.slot.state line.new.slot.state × (number.new ≡ number.old) }
+    ensures kept { 0 < result → SameTraffic line.old.slot.state line.new.slot.state
+        × (number.new ≡ number.old) }
     ensures received { received_on line.new.slot.state ≡ received_on line.old.slot.state }
     ensures line { IsSameLine line.old.slot.state line.new.slot.state }
     ensures only { line.new ≡ with_line line.old line.new.slot.state }
@@ -73,7 +77,8 @@ pub extern "C" fn timers_line_restart(
         × HasSent (Restart (named handle) interval action) line.old.slot.state line.new.slot.state number.new }
     ensures refused { 0 < result → ((result ≡ NOT_OPEN) × HasNoLine line.old)
         ⊎ (HasLine line.old × WhyNotSent line.old.slot.state line.new.slot.state result) }
-    ensures kept { 0 < result → SameTraffic line.old.slot.state line.new.slot.state × (number.new ≡ number.old) }
+    ensures kept { 0 < result → SameTraffic line.old.slot.state line.new.slot.state
+        × (number.new ≡ number.old) }
     ensures received { received_on line.new.slot.state ≡ received_on line.old.slot.state }
     ensures line { IsSameLine line.old.slot.state line.new.slot.state }
     ensures only { line.new ≡ with_line line.old line.new.slot.state }
@@ -94,9 +99,15 @@ pub extern "C" fn timers_line_restart(
 /// Receives the next word. Returns whether there was one.
 #[unsafe(no_mangle)]
 pub extern "C" fn timers_line_receive(line: &mut HeldLine, out: &mut Message) -> bool
-    ensures received { result ≡ true → HasLine line.old × HasReceived line.old.slot.state line.new.slot.state out.new }
-    ensures none { result ≡ false → (received_on line.new.slot.state ≡ received_on line.old.slot.state) × (out.new ≡ out.old) }
-    ensures nothing_seen { result ≡ false → HasLine line.old → seen_on line.old.slot.state ≡ [] }
+    ensures received { result ≡ true → HasLine line.old
+        × HasReceived line.old.slot.state line.new.slot.state out.new }
+    ensures none { result ≡ false → (received_on line.new.slot.state ≡ received_on line.old.slot.state)
+        × (out.new ≡ out.old) }
+    ensures nothing_seen { result ≡ false → HasLine line.old
+        → (seen_on line.old.slot.state ≡ []) × (unread_on line.old.slot.state ≡ []) }
+    ensures all { is_ended_line line.old.slot.state ≡ true
+        → received_on line.new.slot.state ++ unread_on line.new.slot.state
+        ≡ received_on line.old.slot.state ++ unread_on line.old.slot.state }
     ensures sent { SameSent line.old.slot.state line.new.slot.state }
     ensures line { IsSameLine line.old.slot.state line.new.slot.state }
     ensures only { line.new ≡ with_line line.old line.new.slot.state }
@@ -105,6 +116,19 @@ pub extern "C" fn timers_line_receive(line: &mut HeldLine, out: &mut Message) ->
         return false;
     }
     line.slot.line().receive(out)
+}
+
+/// Whether no word comes any more: the owner has ended them, and all were received.
+#[unsafe(no_mangle)]
+pub extern "C" fn timers_line_ended(line: &mut HeldLine) -> bool
+    ensures yes { result ≡ true → HasLine line.old × IsReadToEnd line.old.slot.state }
+    ensures no { result ≡ false → HasLine line.old → MayReceive line.old.slot.state }
+    ensures same { line.new ≡ line.old }
+{
+    if !line.slot.holds() {
+        return false;
+    }
+    line.slot.line().is_read_to_end()
 }
 
 /// Ends the requests of this line. Words are still received.

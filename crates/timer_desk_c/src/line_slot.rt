@@ -73,7 +73,8 @@ impl LineSlot {
     /// Lends it. Its state at the end of the loan is the slot's state.
     pub(crate) fn line(&mut self) -> &mut Line
         requires { is_open self.old.mark ≡ true }
-        ensures* writes_back { sem 𝓛 (Lends the_line_slot the_line self.entry result (with_state self.entry.now)) }
+        ensures* writes_back { sem 𝓛 (Lends the_line_slot the_line self.entry result
+            (with_state self.entry.now)) }
         ensures value { result.now ≡ self.old.state }
     {
         // The slot owns one at this address, since its mark says so. It is lent no longer than the slot

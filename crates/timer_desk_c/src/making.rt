@@ -37,7 +37,8 @@ pub(crate) struct Made {
 pub(crate) fn make(alloc: Global, clients: usize, config: DeskConfig) -> Result<Made, u32>
     ensures fit { IfOk result (λ _. IsFit clients config) }
     ensures desk { IfOk result (λ m. IsNewDesk clients config m.desk.value) }
-    ensures lines { IfOk result (λ m. AreNewLines config.line m.desk.value.inlets (map (λ b. b.value) m.ends.items)) }
+    ensures lines { IfOk result (λ m. AreNewLines config.line m.desk.value.inlets
+        (map (λ b. b.value) m.ends.items)) }
     ensures as_many { IfOk result (λ m. vec_len m.ends ≡ clients) }
     ensures err { IfErr result (WhyNotMade clients config) }
 {

@@ -25,7 +25,8 @@ impl<T: Drop, A: Allocator> Parked<T, A> {
     pub(crate) fn park(whole: Box<T, A>) -> Parked<T, A>
         ensures { result.value ≡ whole.value }
     {
-        // The address and the allocator. The value is at that address, and nothing owns it until `Parked` does.
+        // The address and the allocator. The value is at that address, and nothing owns it until `Parked`
+        // does.
         let parts = Box::into_raw_with_allocator(whole);
         Parked {
             alloc: parts.1,

@@ -92,7 +92,8 @@ fn either(a: bool, b: bool) -> bool
     a || b
 }
 
-/// The status of a round: out of memory comes before what was done, so that the owner comes back for the held request.
+/// The status of a round: out of memory comes before what was done, so that the owner comes back for the held
+/// request.
 fn round_status(starved: bool, busy: bool) -> u32
     ensures { result ≡ round_status starved busy }
 {

@@ -18,7 +18,8 @@ pub(crate) fn settle<W: Wheel + Drop>(
     standing: &mut usize,
 ) -> u32
     requires line { client < clients_of desk.old → number ≡ client → IsGivenAs client desk.old line.old }
-    ensures settled { result ≡ OK → (number ≡ client) × IsSettled client standing.new line.old desk.old desk.new }
+    ensures settled { result ≡ OK → (number ≡ client)
+        × IsSettled client standing.new line.old desk.old desk.new }
     ensures refused { 0 < result → WhyNotSettled client number desk.old line.old result }
     ensures kept { 0 < result → (desk.new ≡ desk.old) × (standing.new ≡ standing.old) }
     ensures line { IsAsBefore line.old line.new }

@@ -1,4 +1,5 @@
-//! The structs that are passed to C and back, other than those that own something. `include/timers_desk.h` has the same.
+//! The structs that are passed to C and back, other than those that own something. `include/timers_desk.h`
+//! has the same.
 
 /// How C refers to a timer: `struct timer_handle`.
 #[repr(C)]

@@ -66,6 +66,9 @@ pub const OTHER_LINE: u32 = 22;
 /// The line has not finished.
 pub const NOT_FINISHED: u32 = 23;
 
+/// Something of the client is left at the desk.
+pub const LEFT: u32 = 24;
+
 /// In place of a tick: nothing is pending.
 pub const NEVER: u64 = u64::MAX;
 

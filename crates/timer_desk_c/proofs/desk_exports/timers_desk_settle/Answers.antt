@@ -6,7 +6,10 @@ pub returns-then-not-holds-clause-only : goal.returns-then-not-holds-clause-only
 returns-then-not-holds-clause-only c = (looked c.args.d.now c.holds.new.self c.holds.ensures.same, refl)
 
 pub returns-then-not-holds-2-clause-only : goal.returns-then-not-holds-2-clause-only
-returns-then-not-holds-2-clause-only c = (looked c.args.d.now c.holds.new.self c.holds.ensures.same, looked_line c.args.line.now c.holds-2.new.self c.holds-2.ensures.same)
+returns-then-not-holds-2-clause-only c = (
+  looked c.args.d.now c.holds.new.self c.holds.ensures.same,
+  looked_line c.args.line.now c.holds-2.new.self c.holds-2.ensures.same,
+)
 
 pub returns-clause-kept : goal.returns-clause-kept
 returns-clause-kept c = λ refused.

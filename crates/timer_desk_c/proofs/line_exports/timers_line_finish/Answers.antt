@@ -7,4 +7,5 @@ returns-then-not-holds-clause-only c = looked_line c.args.line.now c.holds.new.s
 
 pub returns-clause-kept : goal.returns-clause-kept
 returns-clause-kept c = λ refused.
-    kept_line c.args.line.now c.holds.new.self c.finish.new.self c.holds.ensures.same ((c.finish.ensures.refused refused).2 ∙ c.line.ensures.value)
+    kept_line c.args.line.now c.holds.new.self c.finish.new.self c.holds.ensures.same ((c.finish.ensures.refused refused).2
+    ∙ c.line.ensures.value)

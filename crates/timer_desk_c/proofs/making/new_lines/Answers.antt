@@ -29,9 +29,11 @@ loop-preserved c =
     (record { got = made.inlet.0; given = made.inlet.1; unsettled = made.inlet.2; free = made.room.1 })
     (record { open_yet = refl; submitted = made.end.0; received = made.end.1; next = made.end.2; free = made.room.0 })
     (ap (λ (l : Ring × Ring). Some l.0) made.line, ap (λ (l : Ring × Ring). Some l.1) made.line) in
-    let now = ap (map (λ (b : Box Line Global). b.value)) c.push_reserved-in-loop.ensures.items ∙ values_push c.loop.ends.items c.in-Ok-new.end
+    let now = ap (map (λ (b : Box Line Global). b.value)) c.push_reserved-in-loop.ensures.items
+    ∙ values_push c.loop.ends.items c.in-Ok-new.end
     ∙ ap (λ (l : Line). ends ++ l ∷ []) c.in-Ok-new.ensures.ok in record {
-      lines = subst (λ is. AreNewLines room is (map (λ (b : Box Line Global). b.value) c.push_reserved-in-loop.new.self.items)) (sym c.push_reserved.ensures.items)
+      lines = subst (λ is. AreNewLines room is (map (λ (b : Box Line Global). b.value) c.push_reserved-in-loop.new.self.items))
+          (sym c.push_reserved.ensures.items)
           (subst (λ ls. AreNewLines room (c.loop.inlets.items ++ i ∷ []) ls) (sym now) more);
       inlets = grind (arith, common_steps);
       ends = grind (arith, common_steps);

@@ -17,8 +17,10 @@ loop-client-preserved g c =
     let old = c.args.desk.now in
     let now = c.serve_up_to-round.new.desk in record {
       done = subst (λ (b : Bool). IsRound c.args.most (k + 1) b c.either-starved.result old now) (sym c.either-busy.ensures)
-          (subst (λ (o : Bool). IsRound c.args.most (k + 1) (c.loop-client.busy || c.serve_up_to-round.result.busy) o old now) (sym c.either-starved.ensures)
-          (round_more c.args.most k c.loop-client.busy c.loop-client.starved c.serve_up_to-round.result.busy c.serve_up_to-round.result.starved old c.loop-client.desk now was.done did));
+          (subst (λ (o : Bool). IsRound c.args.most (k + 1) (c.loop-client.busy || c.serve_up_to-round.result.busy) o old now)
+          (sym c.either-starved.ensures)
+          (round_more c.args.most k c.loop-client.busy c.loop-client.starved c.serve_up_to-round.result.busy
+          c.serve_up_to-round.result.starved old c.loop-client.desk now was.done did));
       clients = did.says.clients.same_clients ∙ was.clients;
       all = was.all;
     }
@@ -27,4 +29,5 @@ pub returns : goal.returns
 returns g c =
     let was = c.loop-client.invariant in
     let all = was.all in
-    round_done c.args.most c.loop-client.client c.round_status.result c.loop-client.busy c.loop-client.starved c.args.desk.now c.loop-client.desk was.done (omega (arith, all)) c.round_status.ensures
+    round_done c.args.most c.loop-client.client c.round_status.result c.loop-client.busy c.loop-client.starved c.args.desk.now
+    c.loop-client.desk was.done (omega (arith, all)) c.round_status.ensures

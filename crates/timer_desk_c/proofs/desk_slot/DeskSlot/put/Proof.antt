@@ -43,7 +43,8 @@ put_spec 𝓤 𝓛 𝓜 𝓡 wired =
     let κ = z.0.0.0 in let q = z.0.1.0 in let r = z.0.3.0 in let p = z.0.3.1.0 in
     let b = r.ref_ptr.0 in let o = r.ref_ptr.1 in let s = r.now in
     let Post : Val → SProp 𝓤 = W.post z in let Run : List Val → SProp 𝓤 = λ ws. WpFn 𝓤 𝓛.H 𝓣.C 𝓣.Λ code.function ws Post in
-    qed 𝓛 (((‵ (flft κ q) ⊛ ‵ ftrue) ⊛ ‵ ((MutRef (named 0) κ S).own_val r z.0.4.0) ⊛ ‵ (fsep (P.own_val p z.0.4.1.0) ftrue)) ∷ raw (fact 𝓤 (is_open s.mark ≡ false)) ∷ []) ∵
+    qed 𝓛 (((‵ (flft κ q) ⊛ ‵ ftrue) ⊛ ‵ ((MutRef (named 0) κ S).own_val r z.0.4.0) ⊛ ‵ (fsep (P.own_val p z.0.4.1.0) ftrue)) ∷ raw
+    (fact 𝓤 (is_open s.mark ≡ false)) ∷ []) ∵
     split ! $ split ! $ move ! (2 ∷ []) $ split ! $ keep ! (1 ∷ 0 ∷ 2 ∷ []) $ fsplit ! $ keep ! (0 ∷ 2 ∷ 3 ∷ []) $
     -- [what is parked; self; the token]
     unpack T Z LZ G ! p z.0.4.1.0 (λ b' o' g at_b e₁ fits.
@@ -51,18 +52,28 @@ put_spec 𝓤 𝓛 𝓜 𝓡 wired =
     suffices ! (Run us) (subst (λ (ws : List Val). ent 𝓤 (Run us) (Run ws)) (sym (λ i. e₀ i ++ (e₁ i ++ []))) (id⊢ 𝓤 (Run us))) $
     enter ! 𝓣.C 𝓣.Λ code.function us Post $ alloc_all ! (λ l. pass_all ! refl ((tt, tt), (fits_first (layout Z) b' o' g fits, tt)) $
     -- [the allocator; the timers with their block; self; the token]: open self
-    move ! (2 ∷ []) $ fsplit3 ! $ move ! (1 ∷ 2 ∷ 5 ∷ []) $ opens ! tt S b o (λ ws. move ! (1 ∷ []) $ peeks ! S _ (shows 𝓛 S) s ws (λ is. drop ! $
+    move ! (2 ∷ []) $ fsplit3 ! $ move ! (1 ∷ 2 ∷ 5 ∷ []) $ opens ! tt S b o
+    (λ ws. move ! (1 ∷ []) $ peeks ! S _ (shows 𝓛 S) s ws (λ is. drop ! $
     -- [the slot's cell; the open borrow, in three entries; self's first part; the allocator; the timers with their block]
     rewrite ! 0 (λ (vs : List Val). ‵ (cell_at full_share S.mir vs b o)) (lowers.val_is s ws is) refl $
     sets ! (of_opd ! (get_in ! (fld ! refl (stop !)) (sub ! 1 refl (whole !)))) refl (tt, tt) $
     sets ! (of_opd ! (get ! refl)) refl (tt, tt) $
     assigns ! (of_opd ! (get ! refl)) (through ! refl (fld ! refl (stop !))) (store_in ! 0 (sub ! 0 refl (whole !)) (tt, tt)) $
-    assigns ! (of_opd ! (lit ! tt)) (through ! refl (fld ! refl (stop !))) (store_in ! 0 (sub ! 1 refl (whole !)) (tt, record { fits = lit< tt })) $
+    assigns ! (of_opd ! (lit ! tt)) (through ! refl (fld ! refl (stop !)))
+    (store_in ! 0 (sub ! 1 refl (whole !)) (tt, record { fits = lit< tt })) $
     sets ! (of_opd ! (unit_lit !)) refl (tt, tt) $
     -- the slot at its new value, with the timers
     move ! (6 ∷ []) $ shut ! 1 b' o' p.value (lit< tt) $
     move ! (1 ∷ 0 ∷ 2 ∷ 3 ∷ 4 ∷ []) $ closes ! tt S (record { at = block_ptr b' o'; mark = 1; state = p.value }) (word 1 b' o' ∷ []) b o $
     returns ! (look_at ! 0 refl) $ free_all ! refl $ keep ! (3 ∷ 0 ∷ 1 ∷ 2 ∷ []) $
-    suffices ! _ (ends_at 𝓛 f.ended stayed c z vunit tt (record { at = block_ptr b' o'; mark = 1; state = p.value }, (tt, tt)) (tt, (tt, tt))) $ says_two ! (refl, refl) $
-    group ! 3 $ nothing ! $ nothing ! $ fjoin ! $ move ! (1 ∷ 0 ∷ []) $ join ! $ feq_i ! _ (vunit ∷ []) _ refl $ move ! (1 ∷ 0 ∷ []) $ join ! $
+    suffices ! _ (ends_at 𝓛 f.ended stayed c z vunit tt (
+      record {
+        at = block_ptr b' o';
+        mark = 1;
+        state = p.value;
+      },
+      (tt, tt),
+    ) (tt, (tt, tt))) $ says_two ! (refl, refl) $
+    group ! 3 $ nothing ! $ nothing ! $ fjoin ! $ move ! (1 ∷ 0 ∷ []) $ join ! $ feq_i ! _ (vunit ∷ []) _ refl $ move !
+    (1 ∷ 0 ∷ []) $ join ! $
     nothing ! $ move ! (2 ∷ 0 ∷ []) $ join ! $ join ! $ done !)))))

@@ -47,7 +47,8 @@ take_spec 𝓤 𝓛 𝓜 𝓡 wired =
     let b = a.0.ref_ptr.0 in let o = a.0.ref_ptr.1 in let s = a.0.now in let alloc = a.1.0 in
     let y : W.Ghost = ((κs, qs, bounds, a, (mut_vals a.0, (heap_val ∷ [], tt))), tt) in
     let fits = ((LZ.lawful 𝓛).typed alloc (heap_val ∷ []) are.1.0).0 in
-    qed 𝓛 (((‵ (flft κ q) ⊛ ‵ ftrue) ⊛ ‵ ((MutRef (named 0) κ S).own_val a.0 (mut_vals a.0)) ⊛ ‵ (fsep (Z.own_val alloc (heap_val ∷ [])) ftrue)) ∷ raw (fact 𝓤 (is_open s.mark ≡ true)) ∷ []) ∵
+    qed 𝓛 (((‵ (flft κ q) ⊛ ‵ ftrue) ⊛ ‵ ((MutRef (named 0) κ S).own_val a.0 (mut_vals a.0)) ⊛ ‵
+    (fsep (Z.own_val alloc (heap_val ∷ [])) ftrue)) ∷ raw (fact 𝓤 (is_open s.mark ≡ true)) ∷ []) ∵
     split ! $ split ! $ move ! (2 ∷ []) $ split ! $ keep ! (4 ∷ 1 ∷ 0 ∷ 2 ∷ []) $ heard ! (is_open s.mark ≡ true) (λ opened.
     fsplit ! $ keep ! (2 ∷ 3 ∷ 0 ∷ []) $
     -- [self; the token; the allocator]: open self, which owns timers since its mark says so
@@ -58,7 +59,8 @@ take_spec 𝓤 𝓛 𝓜 𝓡 wired =
     -- [the timers with their block; the slot's cell; the open borrow, in three entries; self's first part; the allocator]
     let stored = lowers.val_is s us is ∙ ap (λ (p : Ptr). lowers.lowered (record s { at = p }) ∷ []) at_b in
     rewrite ! 1 (λ (ws : List Val). ‵ (cell_at full_share S.mir ws b o)) stored refl $
-    assigns ! (of_opd ! (lit ! tt)) (through ! refl (fld ! refl (stop !))) (store_in ! 1 (sub ! 1 refl (whole !)) (tt, record { fits = lit< tt })) $
+    assigns ! (of_opd ! (lit ! tt)) (through ! refl (fld ! refl (stop !)))
+    (store_in ! 1 (sub ! 1 refl (whole !)) (tt, record { fits = lit< tt })) $
     sets ! (of_opd ! (load ! (through ! refl (fld ! refl (stop !))) (look_in ! 1 (sub ! 0 refl (whole !))))) refl (tt, tt) $
     sets ! (of_opd ! (get ! refl)) refl (tt, tt) $
     sets ! (agg ! (and_then ! (get ! refl) (and_then ! (get ! refl) (no_more !)))) refl (fits_first (layout Z) b' o' heap_val fits) $

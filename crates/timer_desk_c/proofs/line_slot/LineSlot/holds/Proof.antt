@@ -47,5 +47,6 @@ holds_spec 𝓤 𝓛 𝓜 𝓡 wired =
     rewrite ! 1 Cell (sym stored) refl $ move ! (1 ∷ []) $ closes ! tt S s us b o $
     returns ! (look_at ! 0 refl) $ free_all ! refl $ keep ! (3 ∷ 0 ∷ 1 ∷ 2 ∷ []) $
     suffices ! _ (ends_at 𝓛 f.ended stayed c y (vbool (is_open s.mark)) (is_open s.mark) (s, tt) (tt, tt)) $ says_two ! (refl, refl) $
-    group ! 3 $ nothing ! $ move ! (1 ∷ 0 ∷ []) $ join ! $ feq_i ! (List Val) (vbool (is_open s.mark) ∷ []) (vbool (is_open s.mark) ∷ []) refl $ move ! (1 ∷ 0 ∷ []) $ join ! $
+    group ! 3 $ nothing ! $ move ! (1 ∷ 0 ∷ []) $ join ! $ feq_i ! (List Val) (vbool (is_open s.mark) ∷ [])
+    (vbool (is_open s.mark) ∷ []) refl $ move ! (1 ∷ 0 ∷ []) $ join ! $
     nothing ! $ move ! (2 ∷ 0 ∷ []) $ join ! $ join ! $ done !))))

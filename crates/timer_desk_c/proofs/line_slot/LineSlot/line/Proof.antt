@@ -49,9 +49,11 @@ Words = Struct (shape slot.the_type)
 -- what stays behind while the line at an address are lent, and the slot that it makes with them
 module _ {M : Type 1} {𝓤 : Ura M} (𝓛 : Logic 𝓤) (s : S.Denot) (b o b' o' : ℕ) (us : List Val) where
   abbrev behind : Fml
-  behind = fsep (fsep (token (bare (lone the_line.mir)) (block_ptr b' o')) (Words.own_val (to slot.the_type s) us)) (cell_at full_share S.mir us b o)
+  behind = fsep (fsep (token (bare (lone the_line.mir)) (block_ptr b' o')) (Words.own_val (to slot.the_type s) us))
+      (cell_at full_share S.mir us b o)
 
-  whole_again : is_open s.mark ≡ true → s.at ≡ block_ptr b' o' → (w : LineState) → ent 𝓤 (sep 𝓤 (sem 𝓛 ((mem the_line).own_at w b' o')) (sem 𝓛 behind)) (sem 𝓛 ((mem S).own_at (with_state s w) b o))
+  whole_again : is_open s.mark ≡ true → s.at ≡ block_ptr b' o' → (w : LineState)
+      → ent 𝓤 (sep 𝓤 (sem 𝓛 ((mem the_line).own_at w b' o')) (sem 𝓛 behind)) (sem 𝓛 ((mem S).own_at (with_state s w) b o))
   unfolding part_of
   whole_again opened at_b w =
       qed 𝓛 (‵ (part_at the_line full_share w b' o') ∷ ‵ behind ∷ []) ∵
@@ -75,9 +77,11 @@ line_spec 𝓤 𝓛 𝓜 𝓡 wired =
     split ! $ split ! $ move ! (2 ∷ []) $ split ! $ keep ! (4 ∷ 0 ∷ 2 ∷ []) $ heard ! (is_open s.mark ≡ true) (λ opened.
     enter ! _ _ _ _ _ $ alloc_all ! (λ l. pass_all ! refl ((tt, tt), tt) $
     -- [self; the token]: open self, which owns timers since its mark says so
-    fsplit3 ! $ move ! (1 ∷ 2 ∷ 3 ∷ []) $ opens ! tt S b o (λ us. move ! (1 ∷ []) $ peeks ! S _ (shows 𝓛 S) s us (λ is. fsplit ! $ move ! (1 ∷ []) $
+    fsplit3 ! $ move ! (1 ∷ 2 ∷ 3 ∷ []) $ opens ! tt S b o (λ us.
+    move ! (1 ∷ []) $ peeks ! S _ (shows 𝓛 S) s us (λ is. fsplit ! $ move ! (1 ∷ []) $
     rewrite ! 0 (λ (x : Bool). ‵ (owned_if x s.at s.state)) opened refl $
-    in_a_block ! s.at (λ p. box_owns token the_line p s.state) (fst∗ 𝓤 (never 𝓤) (sem 𝓛 (token (bare (lone the_line.mir)) null_ptr))) (λ b' o' at_b. fsplit ! $
+    in_a_block ! s.at (λ p. box_owns token the_line p s.state) (fst∗ 𝓤 (never 𝓤) (sem 𝓛 (token (bare (lone the_line.mir)) null_ptr)))
+    (λ b' o' at_b. fsplit ! $
     -- [the line; the right to free; the words; the cell; the open borrow, in three entries]
     let Cell = λ (ws : List Val). ‵ (cell_at full_share S.mir ws b o) in
     let stored = lowers.val_is s us is ∙ ap (λ (p : Ptr). lowers.lowered (record s { at = p }) ∷ []) at_b in
@@ -93,10 +97,16 @@ line_spec 𝓤 𝓛 𝓜 𝓡 wired =
     rewrite ! 2 Cell (sym stored) refl $ move ! (1 ∷ 2 ∷ []) $ fjoin ! $ move ! (2 ∷ 3 ∷ 4 ∷ 1 ∷ 0 ∷ []) $ group ! 5 $
     let kept = sem 𝓛 (behind 𝓛 s b o b' o' us) in let again = whole_again 𝓛 s b o b' o' us opened at_b in
     use1 𝓛 (later (some (λ (δ : GName). raw (Part 𝓛 S the_line (with_state s) (named 0) κ q b o b' o' γ kept again s.state δ))))
-    (lends_Part 𝓛 S the_line (with_state s) (named 0) κ q b o b' o' γ kept again (S.coded.code s) (S.coded.code s) s.state) $ await ! tt $ pick ! (λ δ.
+    (lends_Part 𝓛 S the_line (with_state s) (named 0) κ q b o b' o' γ kept again (S.coded.code s) (S.coded.code s) s.state) $ await ! tt $
+    pick ! (λ δ.
     returns ! (look_at ! 0 refl) $ free_all ! refl $ keep ! (0 ∷ []) $
-    use1 𝓛 (‵ ((MutRef (named 0) κ the_line).own_val (record { ref_ptr = (b', o'); ghost_name = δ; now = s.state }) (vptr b' o' ∷ [])) ⊛ ‵ (flft κ q) ⊛ ‵ (follows S the_line γ δ (with_state s))) (id⊢ 𝓤 _) $
+    use1 𝓛 (‵ ((MutRef (named 0) κ the_line).own_val (record { ref_ptr = (b', o'); ghost_name = δ; now = s.state }) (vptr b' o' ∷ [])) ⊛ ‵
+    (flft κ q) ⊛ ‵ (follows S the_line γ δ (with_state s))) (id⊢ 𝓤 _) $
     -- [the loan; the token; what follows]
     split ! $ move ! (1 ∷ []) $ split ! $ move ! (2 ∷ 0 ∷ 1 ∷ []) $
-    suffices ! _ (ends_at 𝓛 f.ended stayed c y (vptr b' o') (record { ref_ptr = (b', o'); ghost_name = δ; now = s.state }) (tt, tt) (tt, tt)) $
+    suffices ! _ (ends_at 𝓛 f.ended stayed c y (vptr b' o') (record {
+      ref_ptr = (b', o');
+      ghost_name = δ;
+      now = s.state;
+    }) (tt, tt) (tt, tt)) $
     nothing ! $ nothing ! $ fjoin ! $ join ! $ nothing ! $ move ! (2 ∷ 0 ∷ []) $ join ! $ join ! $ frame ! $ says ! refl $ done !)))))))
