@@ -35,7 +35,8 @@ requests_from-more first sent action is =
 -- The numbers of the answers.
 
 range_with_len-more : (first n : ℕ) → range_with_len first (n + 1) ≡ range_with_len first n ++ (first + n) ∷ []
-range_with_len-more first n = map_id (n + 1) first ∙ map-range_with_len_more (λ k. k) first n (first + n) refl ∙ ap (λ xs. xs ++ (first + n) ∷ []) (sym (map_id n first))
+range_with_len-more first n = map_id (n + 1) first ∙ map-range_with_len_more (λ k. k) first n (first + n) refl
+    ∙ ap (λ xs. xs ++ (first + n) ∷ []) (sym (map_id n first))
   where
     map_id : (n a : ℕ) → range_with_len a n ≡ map (λ k. k) (range_with_len a n)
     map_id zero a = refl
@@ -50,7 +51,8 @@ next_number first n numbers are is =
     ∙ sym (range_with_len-more first (length numbers))
     ∙ ap (range_with_len first) (sym long)
 
-was_next : (first n : ℕ) (numbers : List ℕ) → numbers ++ n ∷ [] ≡ range_with_len first (length (numbers ++ n ∷ [])) → n ≡ first + length numbers
+was_next : (first n : ℕ) (numbers : List ℕ) → numbers ++ n ∷ [] ≡ range_with_len first (length (numbers ++ n ∷ []))
+    → n ≡ first + length numbers
 was_next first n numbers are =
     let long : length (numbers ++ n ∷ []) ≡ length numbers + 1 = length-append numbers (n ∷ []) in
     sym (get_or_push numbers n 0 (length numbers) refl)
@@ -130,9 +132,11 @@ expiry_passed first count ws w t more now = (
   was_after None (expired_by ws) t (subst (AreAscending None) more.expired now.order),
 )
 
-other_fails : (first count : ℕ) (ws : List Word) (w : Word) → AreWith ws w [] [] → ArePassed first count ws → ¬ (ArePassed first count (ws ++ w ∷ []))
+other_fails : (first count : ℕ) (ws : List Word) (w : Word) → AreWith ws w [] [] → ArePassed first count ws
+    → ¬ (ArePassed first count (ws ++ w ∷ []))
 other_fails first count ws w more was now =
-    let a = more.long in let b = more.starts in let c = more.expiries in let d = was.each in let e = now.each in absurd (omega (arith, a, b, c, d, e))
+    let a = more.long in let b = more.starts in let c = more.expiries in let d = was.each in let e = now.each
+    in absurd (omega (arith, a, b, c, d, e))
 
 -- where a word is tested, it and those before it are checked
 checked_by : (passed : Bool) (first count : ℕ) (ws : List Word) (w : Word) → ArePassed first count ws
@@ -161,8 +165,10 @@ AreChecked-more : (c : Client) (ws : List Word) (w : Word) → ArePassed c.first
 AreChecked-more c ws (Words.Answered number (Answers.Started handle deadline)) was started expired last =
     let w : Word = Words.Answered number (Answers.Started handle deadline) in
     checked_by (is_next_start c number) c.first c.count ws w was
-    (λ p. let b = both c.started c.count number (c.first + c.started) p in start_passes c.first c.count ws w number (are_with ws w) was (omega (arith, started, b.0)) (omega (arith, started, b.1)))
-    (λ p now. let b = start_passed c.first c.count ws w number (are_with ws w) now in not_both c.started c.count number (c.first + c.started) p (omega (arith, started, b.0)) (omega (arith, started, b.1)))
+    (λ p. let b = both c.started c.count number (c.first + c.started) p
+    in start_passes c.first c.count ws w number (are_with ws w) was (omega (arith, started, b.0)) (omega (arith, started, b.1)))
+    (λ p now. let b = start_passed c.first c.count ws w number (are_with ws w) now
+    in not_both c.started c.count number (c.first + c.started) p (omega (arith, started, b.0)) (omega (arith, started, b.1)))
 AreChecked-more c ws (Words.Answered number (Answers.Stopped serial)) was started expired last =
     let w : Word = Words.Answered number (Answers.Stopped serial) in
     record { passed = ws; last = w; are = refl; pass = was; fails = other_fails c.first c.count ws w (are_with ws w) was }
@@ -201,12 +207,14 @@ IsAtWork-read start old new w line same_sent same_next received count first sent
       line = line ∙ h.line;
       first = first ∙ h.first;
       next = same_next ∙ h.next ∙ ap (λ n. n + old.sent) (sym first) ∙ ap (λ n. new.first + n) (sym sent);
-      sends = same_sent ∙ h.sends ∙ ap (λ n. submitted start ++ requests_from n old.sent) (sym first) ∙ ap (λ n. submitted start ++ requests_from new.first n) (sym sent);
+      sends = same_sent ∙ h.sends ∙ ap (λ n. submitted start ++ requests_from n old.sent) (sym first)
+          ∙ ap (λ n. submitted start ++ requests_from new.first n) (sym sent);
       words = h.words ++ w ∷ [];
       received = received ∙ ap (λ ws. ws ++ w ∷ []) h.received ∙ append_assoc (received_by_end start) h.words (w ∷ []);
       started = more.starts ∙ ap (λ n. n + length (started_in w)) h.started ∙ sym started;
       expired = more.expiries ∙ ap (λ n. n + length (expired_in w)) h.expired ∙ sym expired;
-      last = last ∙ ap (λ o. last_or o (expired_in w)) h.last ∙ sym (last_or-append None (expired_by h.words) (expired_in w)) ∙ ap (last_or None) (sym more.expired);
+      last = last ∙ ap (λ o. last_or o (expired_in w)) h.last ∙ sym (last_or-append None (expired_by h.words) (expired_in w))
+          ∙ ap (last_or None) (sym more.expired);
       checked = subst (λ b. AreChecked b new.first new.count (h.words ++ w ∷ [])) (sym failed)
           (subst (λ n. AreChecked (not (passes old w)) n new.count (h.words ++ w ∷ [])) (sym first)
           (subst (λ n. AreChecked (not (passes old w)) old.first n (h.words ++ w ∷ [])) (sym count)
@@ -230,8 +238,10 @@ IsAtWork-sent start old new number line received is next sent first count counte
       sends =
           sent
           ∙ ap (λ xs. xs ++ numbered number (Start (1 + (old.sent + 1) % 97) (old.sent + 1)) ∷ []) h.sends
-          ∙ append_assoc (submitted start) (requests_from old.first old.sent) (numbered number (Start (1 + (old.sent + 1) % 97) (old.sent + 1)) ∷ [])
-          ∙ ap (λ n. submitted start ++ (requests_from old.first old.sent ++ numbered n (Start (1 + (old.sent + 1) % 97) (old.sent + 1)) ∷ [])) at
+          ∙ append_assoc (submitted start) (requests_from old.first old.sent)
+          (numbered number (Start (1 + (old.sent + 1) % 97) (old.sent + 1)) ∷ [])
+          ∙ ap (λ n. submitted start ++ (requests_from old.first old.sent
+          ++ numbered n (Start (1 + (old.sent + 1) % 97) (old.sent + 1)) ∷ [])) at
           ∙ ap (λ xs. submitted start ++ xs) (sym (requests_from-more old.first old.sent (old.sent + 1) refl))
           ∙ ap (λ n. submitted start ++ requests_from n (old.sent + 1)) (sym first)
           ∙ ap (λ n. submitted start ++ requests_from new.first n) (sym counted);
@@ -279,10 +289,12 @@ pub HasWorked-finished : (start : ClientEnd) (c : Client) (w : Worked) → IsSou
     → HasWorked c.count start w
 HasWorked-finished start c w sound h ended reader sent started expired failed =
     let submits : submitted c.end ≡ submitted start ++ requests_from (next_of start) w.sent =
-    h.sends ∙ ap (λ n. submitted start ++ requests_from n c.sent) h.first ∙ ap (λ n. submitted start ++ requests_from (next_of start) n) (sym sent) in
+    h.sends ∙ ap (λ n. submitted start ++ requests_from n c.sent) h.first
+    ∙ ap (λ n. submitted start ++ requests_from (next_of start) n) (sym sent) in
     let passed : c.failed ≡ false → ArePassed (next_of start) c.count h.words =
     λ good. subst (λ n. ArePassed n c.count h.words) h.first (subst (λ b. AreChecked b c.first c.count h.words) good h.checked) in record {
-      sent = ended_so (λ e. all_submitted e ≡ submitted c.end) (λ e. all_submitted e ≡ submitted start ++ requests_from (next_of start) w.sent) w.ended
+      sent = ended_so (λ e. all_submitted e ≡ submitted c.end) (λ e. all_submitted e
+          ≡ submitted start ++ requests_from (next_of start) w.sent) w.ended
           (λ e is. is ∙ submits) ended;
       most = let a = sound.sent in omega (arith, a, sent);
       last = c.end;
@@ -295,7 +307,8 @@ HasWorked-finished start c w sound h ended reader sent started expired failed =
       expired = h.expired ∙ sym expired;
       passed = λ good. passed (or_false c.failed (not (is_complete c)) (sym failed ∙ good)).0;
       complete = λ good.
-          let all = complete_means c.sent c.started c.expired c.count (not_false (is_complete c) (or_false c.failed (not (is_complete c)) (sym failed ∙ good)).1) in
+          let all = complete_means c.sent c.started c.expired c.count
+          (not_false (is_complete c) (or_false c.failed (not (is_complete c)) (sym failed ∙ good)).1) in
           (sent ∙ all.0, started ∙ all.1, expired ∙ all.2);
       failed = λ bad. elim (either c.failed) [
         | inl k ↦ inl (subst (λ n. IsStopped n c.count h.words) h.first (subst (λ b. AreChecked b c.first c.count h.words) k h.checked))

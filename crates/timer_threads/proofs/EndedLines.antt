@@ -16,7 +16,8 @@ use Rattle.timer_threads.specs.Parted.{has_failed, NoneFailed, AllEnded, IsFirst
 use Rattle.timer_threads.specs.Threads.{AreOfLines, AllRead, NoneUnread, IsServed, AllServed, IsWoundUp, IsHeldBack, IsFirstClient, IsFirstFault, fault_of}
 use Rattle.timer_threads.proofs.PartedLemmas.{parted_lengths, parted_at, ended_at, reader_at, all_ended}
 
-pub ends_of : (inlets : List RingInlet) (ws : List Worked) (es : List RequestsEnded) (rs : List ClientReader) → AreParted ws es rs → AreOfLines inlets ws → AreEndsOf inlets es
+pub ends_of : (inlets : List RingInlet) (ws : List Worked) (es : List RequestsEnded) (rs : List ClientReader) → AreParted ws es rs
+    → AreOfLines inlets ws → AreEndsOf inlets es
 ends_of inlets ws es rs p a =
     let n = parted_lengths ws es rs p in
     let m : length ws ≡ length inlets = a.as_many in record {
@@ -32,16 +33,19 @@ ends_of inlets ws es rs p a =
     some_worked [] j l = absurd (omega arith)
     some_worked (x ∷ xs) j l = x
 
-    by_reader : (ys : List ClientReader) → AreParted ws es ys → (k : ℕ) (i : RingInlet) (e : RequestsEnded) → k < length inlets → requests_ring_of (get_or es k e) ≡ (line_of_inlet (get_or inlets k i)).0
+    by_reader : (ys : List ClientReader) → AreParted ws es ys → (k : ℕ) (i : RingInlet) (e : RequestsEnded) → k < length inlets
+        → requests_ring_of (get_or es k e) ≡ (line_of_inlet (get_or inlets k i)).0
     by_reader ys q k i e l =
         let m : length ws ≡ length inlets = a.as_many in
         let n = parted_lengths ws es ys q in
         let w : Worked = some_worked ws k (omega arith) in
         let r : ClientReader = some_reader ys k (let z = n.1 in omega arith) in
         let at = parted_at ws es ys q k w e r (omega arith) in
-        subst (λ (o : Option RequestsEnded). IfSome o (λ x. requests_ring_of x ≡ (line_of_inlet (get_or inlets k i)).0)) at.0 (a.each k i w l).ended
+        subst (λ (o : Option RequestsEnded). IfSome o (λ x. requests_ring_of x ≡ (line_of_inlet (get_or inlets k i)).0)) at.0
+        (a.each k i w l).ended
 
-pub readers_of : (inlets : List RingInlet) (ws : List Worked) (es : List RequestsEnded) (rs : List ClientReader) → AreParted ws es rs → AreOfLines inlets ws → AreReadersOf inlets rs
+pub readers_of : (inlets : List RingInlet) (ws : List Worked) (es : List RequestsEnded) (rs : List ClientReader) → AreParted ws es rs
+    → AreOfLines inlets ws → AreReadersOf inlets rs
 readers_of inlets ws es rs p a =
     let n = parted_lengths ws es rs p in
     let m : length ws ≡ length inlets = a.as_many in record {
@@ -57,7 +61,8 @@ readers_of inlets ws es rs p a =
     some_worked [] j l = absurd (omega arith)
     some_worked (x ∷ xs) j l = x
 
-    by_end : (k : ℕ) (i : RingInlet) (r : ClientReader) → k < length inlets → words_ring_of_reader (get_or rs k r) ≡ (line_of_inlet (get_or inlets k i)).1
+    by_end : (k : ℕ) (i : RingInlet) (r : ClientReader) → k < length inlets
+        → words_ring_of_reader (get_or rs k r) ≡ (line_of_inlet (get_or inlets k i)).1
     by_end k i r l =
         let m : length ws ≡ length inlets = a.as_many in
         let n = parted_lengths ws es rs p in
@@ -66,7 +71,8 @@ readers_of inlets ws es rs p a =
         let at = parted_at ws es rs p k w e r (omega arith) in
         ap words_ring_of_reader (sym at.1) ∙ (a.each k i w l).reader
 
-pub all_served : (desk : DeskState RingInlet) (ws : List Worked) (es : List RequestsEnded) (rs : List ClientReader) → AreParted ws es rs → AreOfLines desk.inlets ws
+pub all_served : (desk : DeskState RingInlet) (ws : List Worked) (es : List RequestsEnded) (rs : List ClientReader) → AreParted ws es rs
+    → AreOfLines desk.inlets ws
     → AllIdle desk → AllGot desk.inlets es → AllServed desk ws
 all_served desk ws es rs p a idle got c l =
     let m : length ws ≡ length desk.inlets = a.as_many in
@@ -75,9 +81,13 @@ all_served desk ws es rs p a idle got c l =
       got = λ i w e is. ap all_submitted (sym (ended_at ws es rs p c w e e l is)) ∙ got c i e low;
     }
 
-pub wound_up : (desk : DeskState RingInlet) (ws : List Worked) (es : List RequestsEnded) (rs : List ClientReader) → AreParted ws es rs → AreOfLines desk.inlets ws
+pub wound_up : (desk : DeskState RingInlet) (ws : List Worked) (es : List RequestsEnded) (rs : List ClientReader) → AreParted ws es rs
+    → AreOfLines desk.inlets ws
     → AllIdle desk → AllGot desk.inlets es → AllRead desk.inlets rs → IsWoundUp desk ws
-wound_up desk ws es rs p a idle got read = record { served = all_served desk ws es rs p a idle got; read = λ c i w l. read_all c i w l rs p read }
+wound_up desk ws es rs p a idle got read = record {
+  served = all_served desk ws es rs p a idle got;
+  read = λ c i w l. read_all c i w l rs p read;
+}
   where
     some_reader : (ys : List ClientReader) → (j : ℕ) → j < length ys → ClientReader
     some_reader [] j l = absurd (omega arith)
@@ -92,7 +102,8 @@ wound_up desk ws es rs p a idle got read = record { served = all_served desk ws 
         ap read_by (reader_at ws es ys q c w r l) ∙ h c i r (omega (arith, l, m))
 
 -- readers that were settled, and for which no word is left, had read all that was given
-pub read_out : (inlets : List RingInlet) (before after : List ClientReader) → AllReadOut inlets before after → length after ≡ length inlets → NoneUnread after → AllRead inlets before
+pub read_out : (inlets : List RingInlet) (before after : List ClientReader) → AllReadOut inlets before after → length after ≡ length inlets
+    → NoneUnread after → AllRead inlets before
 read_out inlets before after told long none c i r l =
     let x = told c i r l in
     let left : unread_by (get_or after c r) ≡ [] = none c r (omega (arith, l, long)) in
@@ -123,7 +134,8 @@ pub record IsFirstHeld (desk : DeskState RingInlet) (all : List Worked) (c : ℕ
   pub before : (k : ℕ) → k < c → IsServed desk all k
 
 -- the client that is blamed, by the ends that the clients left, is held back by what they left
-pub held_back_by : {X : Type 0} (es : X → List RequestsEnded) (rs : X → List ClientReader) (desk : DeskState RingInlet) (all : List Worked) (parts : Option X) (held : Option ℕ)
+pub held_back_by : {X : Type 0} (es : X → List RequestsEnded) (rs : X
+    → List ClientReader) (desk : DeskState RingInlet) (all : List Worked) (parts : Option X) (held : Option ℕ)
     → AreOfLines desk.inlets all → IfSome parts (λ p. AreParted all (es p) (rs p)) → (IsNone parts → IsNone held)
     → IfSome held (λ c. IfSome parts (λ p. IsBlamed desk (es p) c)) → IfSome held (λ c. IsFirstHeld desk all c)
 held_back_by es rs desk all parts None lines parted missing told = tt
@@ -137,15 +149,18 @@ held_back_by es rs desk all (Some p) (Some c) lines parted missing told = record
     low : c < length all
     low = let m = lines.as_many in let l = told.client in omega (arith, l, m)
 
-    reason : (((i : RingInlet) (e : RequestsEnded) → IsWaiting (backlog_at desk c) (got_of (get_or desk.inlets c i)) (all_submitted (get_or (es p) c e)))
+    reason : (((i : RingInlet) (e : RequestsEnded) → IsWaiting (backlog_at desk c) (got_of (get_or desk.inlets c i))
+        (all_submitted (get_or (es p) c e)))
         ⊎ (AllIdle desk × AllGot desk.inlets (es p))) → IsHeldBack desk all c
-    reason (inl waits) = inl (λ i w e is. subst (λ x. IsWaiting (backlog_at desk c) (got_of (get_or desk.inlets c i)) (all_submitted x)) (ended_at all (es p) (rs p) parted c w e e low is) (waits i e))
+    reason (inl waits) = inl (λ i w e is. subst (λ x. IsWaiting (backlog_at desk c) (got_of (get_or desk.inlets c i)) (all_submitted x))
+        (ended_at all (es p) (rs p) parted c w e e low is) (waits i e))
     reason (inr done) = inr (all_served desk all (es p) (rs p) parted lines done.0 done.1)
 
     before : (k : ℕ) → k < c → IsServed desk all k
     before k l = record {
       idle = told.idle_before k l;
-      got = λ i w e is. ap all_submitted (sym (ended_at all (es p) (rs p) parted k w e e (let z = low in omega (arith, z, l)) is)) ∙ told.got_before k i e l;
+      got = λ i w e is. ap all_submitted (sym (ended_at all (es p) (rs p) parted k w e e (let z = low in omega (arith, z, l)) is))
+          ∙ told.got_before k i e l;
     }
 
 pub first_client : (desk : DeskState RingInlet) (all : List Worked) (failed held : Option ℕ) (c : ℕ) → lower_of failed held ≡ Some c
@@ -177,7 +192,8 @@ first_client desk all (Some a) (Some b) c is some none back wound =
   where
     why : ((b < a) ⊎ (a ≤ b)) → ((w : Worked) → has_failed (get_or all c w) ≡ true) ⊎ IsHeldBack desk all c
     why (inr l) = let at : a ≡ c = let m = some_is (min a b) c is in omega (arith, m, l) in inl (λ w. subst (λ k. has_failed (get_or all k w) ≡ true) at (some.failed w))
-    why (inl l) = let at : b ≡ c = let m = some_is (min a b) c is in omega (arith, m, l) in inr (subst (λ k. IsHeldBack desk all k) at back.back)
+    why (inl l) = let at : b ≡ c = let m = some_is (min a b) c is in omega (arith, m, l)
+        in inr (subst (λ k. IsHeldBack desk all k) at back.back)
 
 abbrev fault_or : ThreadsFault → Option ThreadsFault → ThreadsFault
 fault_or fault None = fault
@@ -189,22 +205,35 @@ pub first_fault_is : (desk : DeskState RingInlet) (outcome : DriveEnd) (all : Li
     → (IsNone held → AllEnded all → IsWoundUp desk all) → IsFirstFault desk outcome all fault
 first_fault_is desk outcome all failed held fault is memory some none low wound = go outcome (lower_of failed held) refl is memory
   where
-    go : (end : DriveEnd) (o : Option ℕ) → lower_of failed held ≡ o → Some fault ≡ fault_of end o → ¬ (end ≡ DriveEnds.OutOfMemory) → IsFirstFault desk end all fault
-    go DriveEnds.Done (Some c) e h m = subst (λ f. IsFirstFault desk DriveEnds.Done all f) (sym (ap (λ o. fault_or fault o) h)) (m, first_client desk all failed held c e some none low wound)
-    go DriveEnds.Limit (Some c) e h m = subst (λ f. IsFirstFault desk DriveEnds.Limit all f) (sym (ap (λ o. fault_or fault o) h)) (m, first_client desk all failed held c e some none low wound)
+    go : (end : DriveEnd) (o : Option ℕ) → lower_of failed held ≡ o → Some fault ≡ fault_of end o → ¬ (end ≡ DriveEnds.OutOfMemory)
+        → IsFirstFault desk end all fault
+    go DriveEnds.Done (Some c) e h m = subst (λ f. IsFirstFault desk DriveEnds.Done all f) (sym (ap (λ o. fault_or fault o) h)) (
+      m,
+      first_client desk all failed held c e some none low wound,
+    )
+    go DriveEnds.Limit (Some c) e h m = subst (λ f. IsFirstFault desk DriveEnds.Limit all f) (sym (ap (λ o. fault_or fault o) h)) (
+      m,
+      first_client desk all failed held c e some none low wound,
+    )
     go DriveEnds.OutOfMemory (Some c) e h m = absurd (m refl)
     go DriveEnds.Done None e h m = absurd (cc)
     go DriveEnds.Limit None e h m =
         let both = lower_none failed held e in
         let good : NoneFailed all = none (subst (λ o. IsNone o) (sym both.0) refl) in
-        subst (λ f. IsFirstFault desk DriveEnds.Limit all f) (sym (ap (λ o. fault_or fault o) h)) (refl, good, wound (subst (λ o. IsNone o) (sym both.1) refl) (all_ended all good))
+        subst (λ f. IsFirstFault desk DriveEnds.Limit all f) (sym (ap (λ o. fault_or fault o) h)) (
+          refl,
+          good,
+          wound (subst (λ o. IsNone o) (sym both.1) refl) (all_ended all good),
+        )
     go DriveEnds.OutOfMemory None e h m = absurd (m refl)
 
 -- where there is no fault, no client failed or is held back, and the drive is done
-pub no_fault : (outcome : DriveEnd) (failed held : Option ℕ) → None ≡ fault_of outcome (lower_of failed held) → (failed ≡ None) × (held ≡ None) × (outcome ≡ DriveEnds.Done)
+pub no_fault : (outcome : DriveEnd) (failed held : Option ℕ) → None ≡ fault_of outcome (lower_of failed held)
+    → (failed ≡ None) × (held ≡ None) × (outcome ≡ DriveEnds.Done)
 no_fault outcome failed held is = go outcome (lower_of failed held) refl is
   where
-    go : (end : DriveEnd) (o : Option ℕ) → lower_of failed held ≡ o → None ≡ fault_of end o → (failed ≡ None) × (held ≡ None) × (end ≡ DriveEnds.Done)
+    go : (end : DriveEnd) (o : Option ℕ) → lower_of failed held ≡ o → None ≡ fault_of end o
+        → (failed ≡ None) × (held ≡ None) × (end ≡ DriveEnds.Done)
     go DriveEnds.Done (Some c) e h = absurd (cc)
     go DriveEnds.Limit (Some c) e h = absurd (cc)
     go DriveEnds.OutOfMemory (Some c) e h = absurd (cc)
@@ -213,7 +242,8 @@ no_fault outcome failed held is = go outcome (lower_of failed held) refl is
     go DriveEnds.OutOfMemory None e h = absurd (cc)
 
 -- the desk was wound up, where the requests of each client could be ended and none is held back
-pub wound_by : {X : Type 0} (es : X → List RequestsEnded) (rs : X → List ClientReader) (desk : DeskState RingInlet) (all : List Worked) (parts : Option X)
+pub wound_by : {X : Type 0} (es : X → List RequestsEnded) (rs : X
+    → List ClientReader) (desk : DeskState RingInlet) (all : List Worked) (parts : Option X)
     → AreOfLines desk.inlets all → (IsNone parts → ¬ (AllEnded all)) → IfSome parts (λ p. AreParted all (es p) (rs p))
     → IfSome parts (λ p. AllIdle desk × AllGot desk.inlets (es p) × AllRead desk.inlets (rs p)) → AllEnded all → IsWoundUp desk all
 wound_by es rs desk all None lines missing parted told ended = absurd (missing refl ended)

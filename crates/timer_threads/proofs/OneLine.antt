@@ -15,7 +15,8 @@ one_end inlets ends e n is line = record {
   as_many = ap (λ xs. length xs) is ∙ sym n;
   of_lines = λ c i d l.
       let z : c ≡ 0 = omega arith in
-      ap (λ xs. requests_ring_of (get_or xs c d)) is ∙ ap requests_ring_of (get_first e d c (omega arith)) ∙ line i ∙ ap (λ k. (line_of_inlet (get_or inlets k i)).0) (sym z);
+      ap (λ xs. requests_ring_of (get_or xs c d)) is ∙ ap requests_ring_of (get_first e d c (omega arith)) ∙ line i
+      ∙ ap (λ k. (line_of_inlet (get_or inlets k i)).0) (sym z);
 }
 
 pub one_reader : (inlets : List RingInlet) (readers : List ClientReader) (r : ClientReader) → length inlets ≡ 1 → readers ≡ r ∷ []
@@ -24,5 +25,6 @@ one_reader inlets readers r n is line = record {
   as_many = ap (λ xs. length xs) is ∙ sym n;
   of_lines = λ c i d l.
       let z : c ≡ 0 = omega arith in
-      ap (λ xs. words_ring_of_reader (get_or xs c d)) is ∙ ap words_ring_of_reader (get_first r d c (omega arith)) ∙ line i ∙ ap (λ k. (line_of_inlet (get_or inlets k i)).1) (sym z);
+      ap (λ xs. words_ring_of_reader (get_or xs c d)) is ∙ ap words_ring_of_reader (get_first r d c (omega arith)) ∙ line i
+      ∙ ap (λ k. (line_of_inlet (get_or inlets k i)).1) (sym z);
 }

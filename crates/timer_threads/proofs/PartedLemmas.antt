@@ -6,7 +6,8 @@ use Rattle.timer_desk.specs.declared.ring.ClientReader.{ClientReader}
 use Rattle.timer_threads.specs.declared.worked.Worked.{Worked}
 use Rattle.timer_threads.specs.Parted.{NoneFailed, AllEnded, AreParted}
 
-pub AreParted-more : (ws : List Worked) (es : List RequestsEnded) (rs : List ClientReader) (w : Worked) (e : RequestsEnded) (r : ClientReader)
+pub AreParted-more : (ws : List Worked) (es : List RequestsEnded) (rs : List ClientReader) (w : Worked) (e : RequestsEnded)
+    (r : ClientReader)
     → AreParted ws es rs → w.ended ≡ Some e → w.reader ≡ r → AreParted (ws ++ w ∷ []) (es ++ e ∷ []) (rs ++ r ∷ [])
 AreParted-more [] [] [] w e r h a b = (a, b, tt)
 AreParted-more [] [] (y ∷ ys) w e r h a b = absurd h
@@ -15,7 +16,8 @@ AreParted-more (v ∷ ws) [] rs w e r h a b = absurd h
 AreParted-more (v ∷ ws) (x ∷ xs) [] w e r h a b = absurd h
 AreParted-more (v ∷ ws) (x ∷ xs) (y ∷ ys) w e r h a b = (h.0, h.1, AreParted-more ws xs ys w e r h.2 a b)
 
-pub parted_lengths : (ws : List Worked) (es : List RequestsEnded) (rs : List ClientReader) → AreParted ws es rs → (length es ≡ length ws) × (length rs ≡ length ws)
+pub parted_lengths : (ws : List Worked) (es : List RequestsEnded) (rs : List ClientReader) → AreParted ws es rs
+    → (length es ≡ length ws) × (length rs ≡ length ws)
 parted_lengths [] [] [] h = (refl, refl)
 parted_lengths [] [] (y ∷ ys) h = absurd h
 parted_lengths [] (x ∷ xs) rs h = absurd h
@@ -23,7 +25,8 @@ parted_lengths (v ∷ ws) [] rs h = absurd h
 parted_lengths (v ∷ ws) (x ∷ xs) [] h = absurd h
 parted_lengths (v ∷ ws) (x ∷ xs) (y ∷ ys) h = let n = parted_lengths ws xs ys h.2 in (ap suc n.0, ap suc n.1)
 
-pub parted_at : (ws : List Worked) (es : List RequestsEnded) (rs : List ClientReader) → AreParted ws es rs → (k : ℕ) (w : Worked) (e : RequestsEnded) (r : ClientReader) → k < length ws
+pub parted_at : (ws : List Worked) (es : List RequestsEnded) (rs : List ClientReader) → AreParted ws es rs
+    → (k : ℕ) (w : Worked) (e : RequestsEnded) (r : ClientReader) → k < length ws
     → ((get_or ws k w).ended ≡ Some (get_or es k e)) × ((get_or ws k w).reader ≡ get_or rs k r)
 parted_at [] es rs h k w e r l = absurd (omega arith)
 parted_at (v ∷ ws) [] rs h k w e r l = absurd h
@@ -47,7 +50,8 @@ abbrev from_some : Option RequestsEnded → RequestsEnded → RequestsEnded
 from_some None e = e
 from_some (Some x) e = x
 
-pub ended_at : (ws : List Worked) (es : List RequestsEnded) (rs : List ClientReader) → AreParted ws es rs → (k : ℕ) (w : Worked) (e d : RequestsEnded) → k < length ws
+pub ended_at : (ws : List Worked) (es : List RequestsEnded) (rs : List ClientReader) → AreParted ws es rs
+    → (k : ℕ) (w : Worked) (e d : RequestsEnded) → k < length ws
     → (get_or ws k w).ended ≡ Some e → get_or es k d ≡ e
 ended_at [] es rs h k w e d l is = absurd (omega arith)
 ended_at (v ∷ ws) [] rs h k w e d l is = absurd h
@@ -55,7 +59,8 @@ ended_at (v ∷ ws) (x ∷ xs) [] h k w e d l is = absurd h
 ended_at (v ∷ ws) (x ∷ xs) (y ∷ ys) h zero w e d l is = ap (λ o. from_some o d) (sym h.0 ∙ is)
 ended_at (v ∷ ws) (x ∷ xs) (y ∷ ys) h (suc k) w e d l is = ended_at ws xs ys h.2 k w e d (omega arith) is
 
-pub reader_at : (ws : List Worked) (es : List RequestsEnded) (rs : List ClientReader) → AreParted ws es rs → (k : ℕ) (w : Worked) (r : ClientReader) → k < length ws
+pub reader_at : (ws : List Worked) (es : List RequestsEnded) (rs : List ClientReader) → AreParted ws es rs
+    → (k : ℕ) (w : Worked) (r : ClientReader) → k < length ws
     → (get_or ws k w).reader ≡ get_or rs k r
 reader_at [] es rs h k w r l = absurd (omega arith)
 reader_at (v ∷ ws) [] rs h k w r l = absurd h

@@ -19,14 +19,16 @@ before_or_last : (k n : ℕ) → k < n + 1 → (k < n) ⊎ (k ≡ n)
 before_or_last k n h = grind (arith)
 
 pub AreTied-more : (count : ℕ) (inlets : List RingInlet) (children : List Child) (i : RingInlet) (h : Child) → AreTied count inlets children
-    → line_of_inlet i ≡ line_of_end (promise_of h).end.value → (promise_of h).count ≡ count → AreTied count (inlets ++ i ∷ []) (children ++ h ∷ [])
+    → line_of_inlet i ≡ line_of_end (promise_of h).end.value → (promise_of h).count ≡ count
+    → AreTied count (inlets ++ i ∷ []) (children ++ h ∷ [])
 AreTied-more count inlets children i h was line is_count = record {
   as_many = let a = was.as_many in omega (arith, length-append children (h ∷ []), length-append inlets (i ∷ []), a);
   lines = λ k j g l. elim (before_or_last k (length inlets) (let a = length-append inlets (i ∷ []) in omega arith)) [
     | inl low ↦
         ap line_of_inlet (get_or_append_left inlets (i ∷ []) j k low)
         ∙ was.lines k j g low
-        ∙ ap (λ (x : Child). line_of_end (promise_of x).end.value) (sym (get_or_append_left children (h ∷ []) g k (let a = was.as_many in omega (arith, a, low))))
+        ∙ ap (λ (x : Child). line_of_end (promise_of x).end.value)
+        (sym (get_or_append_left children (h ∷ []) g k (let a = was.as_many in omega (arith, a, low))))
     | inr is ↦
         ap line_of_inlet (get_or_push inlets i j k (sym is))
         ∙ line
@@ -40,15 +42,19 @@ AreTied-more count inlets children i h was line is_count = record {
   ];
 }
 
-pub clients_text-last : (n : ℕ) (ws : List Worked) (w : Worked) → clients_text n (ws ++ w ∷ []) ≡ clients_text n ws ++ client_line (n + length ws) w.sent w.started w.expired
-clients_text-last n [] w = let z : n + 0 ≡ n = omega arith in append-nil (client_line n w.sent w.started w.expired) ∙ ap (λ k. client_line k w.sent w.started w.expired) (sym z)
+pub clients_text-last : (n : ℕ) (ws : List Worked) (w : Worked)
+    → clients_text n (ws ++ w ∷ []) ≡ clients_text n ws ++ client_line (n + length ws) w.sent w.started w.expired
+clients_text-last n [] w = let z : n + 0 ≡ n = omega arith in append-nil (client_line n w.sent w.started w.expired)
+    ∙ ap (λ k. client_line k w.sent w.started w.expired) (sym z)
 clients_text-last n (x ∷ ws) w =
     let z : n + 1 + length ws ≡ n + length (x ∷ ws) = omega arith in
     ap (λ t. client_line n x.sent x.started x.expired ++ t) (clients_text-last (n + 1) ws w)
-    ∙ sym (append_assoc (client_line n x.sent x.started x.expired) (clients_text (n + 1) ws) (client_line (n + 1 + length ws) w.sent w.started w.expired))
+    ∙ sym (append_assoc (client_line n x.sent x.started x.expired) (clients_text (n + 1) ws)
+    (client_line (n + 1 + length ws) w.sent w.started w.expired))
     ∙ ap (λ k. (client_line n x.sent x.started x.expired ++ clients_text (n + 1) ws) ++ client_line k w.sent w.started w.expired) z
 
-pub clients_text-next : (ws : List Worked) (n : ℕ) (w : Worked) → n < length ws → w ≡ get_or ws n w → clients_text 0 (take (n + 1) ws) ≡ clients_text 0 (take n ws) ++ client_line n w.sent w.started w.expired
+pub clients_text-next : (ws : List Worked) (n : ℕ) (w : Worked) → n < length ws → w ≡ get_or ws n w
+    → clients_text 0 (take (n + 1) ws) ≡ clients_text 0 (take n ws) ++ client_line n w.sent w.started w.expired
 clients_text-next ws n w low is =
     let more : take (n + 1) ws ≡ take n ws ++ w ∷ [] = take_more ws n w low ∙ ap (λ x. take n ws ++ x ∷ []) (sym is) in
     let long : length (take n ws) ≡ n = length-take-le n ws (omega (arith, low)) in
@@ -64,7 +70,8 @@ pub record IsKept (children : List Child) (k : ℕ) (w : Worked) : Type 0 where
   pub line : IsOfLine (line_of_end (promise_of child).end.value) w
   pub whole : IsWhole (promise_of child).count w
 
-left_at : (children : List Child) (all : List Worked) (k : ℕ) (w : Worked) → HaveLeft children all → k < length children → IsKept children k (get_or all k w)
+left_at : (children : List Child) (all : List Worked) (k : ℕ) (w : Worked) → HaveLeft children all → k < length children
+    → IsKept children k (get_or all k w)
 left_at [] all k w h l = absurd (omega arith)
 left_at (c ∷ cs) [] k w h l = absurd h
 left_at (c ∷ cs) (v ∷ vs) zero w h l = record { child = c; at = refl; line = h.0; whole = h.1 }
@@ -81,7 +88,8 @@ left_as_many (c ∷ cs) (v ∷ vs) h = ap suc (left_as_many cs vs h.2)
 abbrev pub LeadsTo : List Child → List Child → List Worked → Type 0
 LeadsTo children rest so_far = (more : List Worked) → HaveLeft rest more → HaveLeft children (so_far ++ more)
 
-pub leads_on : (children rest rest' : List Child) (so_far : List Worked) (c : Child) (w : Worked) → LeadsTo children rest so_far → rest ≡ c ∷ rest'
+pub leads_on : (children rest rest' : List Child) (so_far : List Worked) (c : Child) (w : Worked) → LeadsTo children rest so_far
+    → rest ≡ c ∷ rest'
     → IsOfLine (line_of_end (promise_of c).end.value) w → IsWhole (promise_of c).count w → LeadsTo children rest' (so_far ++ w ∷ [])
 leads_on children rest rest' so_far c w leads is line whole more h =
     subst (λ xs. HaveLeft children xs) (sym (append_assoc so_far (w ∷ []) more))
@@ -114,11 +122,13 @@ whole_kept count first children all tied left k w l =
     ap (λ (x : Child). (promise_of x).count) is.at ∙ tied.counts k is.child (let a = tied.as_many in omega (arith, a, joined, l)) in
     subst (λ m. IsWhole m (get_or all k w)) n is.whole
 
-pub all_left : (count : ℕ) (inlets : List RingInlet) (children : List Child) (all : List Worked) → AreTied count inlets children → HaveLeft children all → length all ≡ length inlets
+pub all_left : (count : ℕ) (inlets : List RingInlet) (children : List Child) (all : List Worked) → AreTied count inlets children
+    → HaveLeft children all → length all ≡ length inlets
 all_left count inlets children all tied left = left_as_many children all left ∙ tied.as_many
 
 -- a client that the first error names is one of the clients
-pub first_among : {A : Type 0} (result : Result A ThreadsFault) (desk : DeskState RingInlet) (outcome : DriveEnd) (all : List Worked) (n : ℕ) → length all ≡ n
+pub first_among : {A : Type 0} (result : Result A ThreadsFault) (desk : DeskState RingInlet) (outcome : DriveEnd) (all : List Worked)
+    (n : ℕ) → length all ≡ n
     → IfErr result (λ fault. IsFirstFault desk outcome all fault) → IfErr result (λ fault. IsAmong n fault)
 first_among (Ok x) desk outcome all n is h = tt
 first_among (Err Faults.OutOfMemory) desk outcome all n is h = tt
@@ -130,13 +140,15 @@ not_failed true b h = h
 not_failed false b h = refl
 
 -- where none failed, the text is that of whole clients
-pub clients_text-whole : (n timers : ℕ) (ws : List Worked) → AllWhole timers ws → NoneFailed ws → clients_text n ws ≡ whole_lines n (length ws) timers
+pub clients_text-whole : (n timers : ℕ) (ws : List Worked) → AllWhole timers ws → NoneFailed ws
+    → clients_text n ws ≡ whole_lines n (length ws) timers
 clients_text-whole n timers [] a f = refl
 clients_text-whole n timers (w ∷ ws) a f =
     let low : 0 < length (w ∷ ws) = omega arith in
     let good = not_failed w.failed (is_none w.ended) (f 0 w low) in
     let is = a 0 w low in
-    ap (λ t. client_line n w.sent w.started w.expired ++ t) (clients_text-whole (n + 1) timers ws (λ k v l. a (suc k) v (omega arith)) (λ k v l. f (suc k) v (omega arith)))
+    ap (λ t. client_line n w.sent w.started w.expired ++ t) (clients_text-whole (n + 1) timers ws (λ k v l. a (suc k) v (omega arith))
+    (λ k v l. f (suc k) v (omega arith)))
     ∙ ap (λ k. client_line n k w.started w.expired ++ whole_lines (n + 1) (length ws) timers) (is.sent good)
     ∙ ap (λ k. client_line n timers k w.expired ++ whole_lines (n + 1) (length ws) timers) (is.started good)
     ∙ ap (λ k. client_line n timers timers k ++ whole_lines (n + 1) (length ws) timers) (is.expired good)

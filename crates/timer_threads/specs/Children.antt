@@ -22,5 +22,6 @@ room_of children = vec_capacity children.threads
 -- each thread has left this, and kept its promise
 abbrev pub HaveLeft : List Child → List Worked → Type 0
 HaveLeft [] [] = Unit {0}
-HaveLeft (child ∷ children) (w ∷ ws) = IsOfLine (line_of_end (promise_of child).end.value) w × IsWhole (promise_of child).count w × HaveLeft children ws
+HaveLeft (child ∷ children) (w ∷ ws) = IsOfLine (line_of_end (promise_of child).end.value) w
+    × IsWhole (promise_of child).count w × HaveLeft children ws
 HaveLeft _ _ = ⊥

@@ -58,7 +58,8 @@ pub record IsSound (c : Client) : Type 0 where
 
 -- a measure of what is left to do
 abbrev pub left_of : Client → ℕ
-left_of c = (c.count - c.sent) + (if c.failed then 0 else (1 + ((c.count - c.started) + (c.count - c.expired))))
+left_of c = (c.count - c.sent) + (if c.failed then 0 else
+    (1 + ((c.count - c.started) + (c.count - c.expired))))
 
 -- less is left where something was done, and never more
 abbrev pub IsLess : Bool → ℕ → ℕ → Type 0

@@ -16,7 +16,8 @@ use Rattle.timer_threads.specs.Children.{promise_of}
 use Rattle.timer_threads.specs.Working.{IsOfLine, IsWhole}
 use Rattle.timer_threads.specs.Parted.{has_failed, NoneFailed, AllEnded}
 
--- the thread at each index was started with the end of the line at that index, and with this many requests to send
+-- the thread at each index was started with the end of the line at that index, and with this many requests to
+-- send
 pub record AreTied (count : ℕ) (inlets : List RingInlet) (children : List Child) : Type 0 where
   pub as_many : length children ≡ length inlets
   pub lines : (k : ℕ) (i : RingInlet) (h : Child) → k < length inlets
@@ -26,7 +27,8 @@ pub record AreTied (count : ℕ) (inlets : List RingInlet) (children : List Chil
 -- what the client at each index left is of the line of the inlet at that index
 pub record AreOfLines (inlets : List RingInlet) (all : List Worked) : Type 0 where
   pub as_many : length all ≡ length inlets
-  pub each : (k : ℕ) (i : RingInlet) (w : Worked) → k < length inlets → IsOfLine (line_of_inlet (get_or inlets k i)) (get_or all k w)
+  pub each : (k : ℕ) (i : RingInlet) (w : Worked) → k < length inlets
+      → IsOfLine (line_of_inlet (get_or inlets k i)) (get_or all k w)
 
 -- the line of a client
 abbrev pub client_line : ℕ → ℕ → ℕ → ℕ → List ℕ
@@ -55,7 +57,8 @@ NoneUnread readers = (c : ℕ) (r : ClientReader) → c < length readers → unr
 -- no request of this client is held, all that it submitted was got, and its outbox is empty
 pub record IsServed (desk : DeskState RingInlet) (all : List Worked) (c : ℕ) : Type 0 where
   pub idle : IsIdle (backlog_at desk c)
-  pub got : (i : RingInlet) (w : Worked) (e : RequestsEnded) → (get_or all c w).ended ≡ Some e → all_submitted e ≡ got_of (get_or desk.inlets c i)
+  pub got : (i : RingInlet) (w : Worked) (e : RequestsEnded) → (get_or all c w).ended ≡ Some e
+      → all_submitted e ≡ got_of (get_or desk.inlets c i)
 
 -- so for each client
 abbrev pub AllServed : DeskState RingInlet → List Worked → Type 0
@@ -64,7 +67,8 @@ AllServed desk all = (c : ℕ) → c < length all → IsServed desk all c
 -- each client is served, and has read all that it was given
 pub record IsWoundUp (desk : DeskState RingInlet) (all : List Worked) : Type 0 where
   pub served : AllServed desk all
-  pub read : (c : ℕ) (i : RingInlet) (w : Worked) → c < length all → read_by (get_or all c w).reader ≡ given_of (get_or desk.inlets c i)
+  pub read : (c : ℕ) (i : RingInlet) (w : Worked) → c < length all
+      → read_by (get_or all c w).reader ≡ given_of (get_or desk.inlets c i)
 
 -- the desk reached its goal, no client failed, and the desk was wound up
 pub record HasEnded (desk : DeskState RingInlet) (outcome : DriveEnd) (all : List Worked) : Type 0 where
@@ -79,8 +83,8 @@ IsHeldBack desk all c =
     → IsWaiting (backlog_at desk c) (got_of (get_or desk.inlets c i)) (all_submitted e))
     ⊎ AllServed desk all
 
--- this client failed or is held back. None before it failed; and where the requests of each client could be ended, each
--- before it is served.
+-- this client failed or is held back. None before it failed; and where the requests of each client could be
+-- ended, each before it is served.
 pub record IsFirstClient (desk : DeskState RingInlet) (all : List Worked) (c : ℕ) : Type 0 where
   pub client : c < length all
   pub reason : ((w : Worked) → has_failed (get_or all c w) ≡ true) ⊎ IsHeldBack desk all c
@@ -90,7 +94,8 @@ pub record IsFirstClient (desk : DeskState RingInlet) (all : List Worked) (c : �
 -- the first error of the desk and of the clients: memory, then clients, then the desk
 abbrev pub IsFirstFault : DeskState RingInlet → DriveEnd → List Worked → ThreadsFault → Type 0
 IsFirstFault desk outcome all Faults.OutOfMemory = Unit {0}
-IsFirstFault desk outcome all (Faults.Client c) = ¬ (outcome ≡ DriveEnds.OutOfMemory) × IsFirstClient desk all c
+IsFirstFault desk outcome all (Faults.Client c) = ¬ (outcome ≡ DriveEnds.OutOfMemory)
+    × IsFirstClient desk all c
 IsFirstFault desk outcome all Faults.Desk = (outcome ≡ DriveEnds.Limit) × NoneFailed all × IsWoundUp desk all
 
 -- the error of a drive with this end, after which this client failed or was held back, if one was
@@ -109,7 +114,8 @@ IsAmong clients Faults.Desk = Unit {0}
 -- the lines of `clients` clients from number `client` on, each with `timers` timers sent, started and expired
 abbrev pub whole_lines : ℕ → ℕ → ℕ → List ℕ
 whole_lines client zero timers = []
-whole_lines client (suc clients) timers = client_line client timers timers timers ++ whole_lines (client + 1) clients timers
+whole_lines client (suc clients) timers = client_line client timers timers timers
+    ++ whole_lines (client + 1) clients timers
 
 -- the text of `clients` clients, each with `timers` timers sent, started and expired
 abbrev pub whole_text : ℕ → ℕ → List ℕ

@@ -93,7 +93,8 @@ pub record IsOfLine (line : Line) (w : Worked) : Type 0 where
 abbrev pub IsShort : ℕ → Worked → Type 0
 IsShort count w = (w.sent < count) ⊎ ((w.started < count) ⊎ (w.expired < count))
 
--- what was sent and received by a client with `count` requests that began its work with this end, and whether it failed
+-- what was sent and received by a client with `count` requests that began its work with this end, and whether
+-- it failed
 pub record HasWorked (count : ℕ) (start : ClientEnd) (w : Worked) : Type 0 where
   pub sent : IfSome w.ended (λ e. all_submitted e ≡ submitted start ++ requests_from (next_of start) w.sent)
   pub most : w.sent ≤ count

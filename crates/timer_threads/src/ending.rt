@@ -81,7 +81,8 @@ fn held_back(
     requires readers { IfSome parts (λ p. AreReadersOf desk.inlets p.1.items) }
     ensures some { IfSome result (λ c. IfSome parts (λ p. IsBlamed desk p.0.items c)) }
     ensures no_parts { IsNone parts → IsNone result }
-    ensures none { IsNone result → IfSome parts (λ p. AllIdle desk × AllGot desk.inlets p.0.items × AllRead desk.inlets p.1.items) }
+    ensures none { IsNone result → IfSome parts (λ p. AllIdle desk × AllGot desk.inlets p.0.items
+        × AllRead desk.inlets p.1.items) }
 {
     match parts {
         Some((ends, readers)) => match wind_up(desk, ends, readers) {

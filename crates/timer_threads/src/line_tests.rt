@@ -28,7 +28,8 @@ fn told(word: Option<Word>) -> (u64, u64, u64) {
 fn turn_of_two(desk: &mut Desk<HierWheel, RingInlet>) -> Served
     requires { clients_of desk.old ≡ 2 }
     ensures clients { clients_of desk.new ≡ 2 }
-    ensures line { (i : RingInlet) → line_of_inlet (get_or desk.new.inlets 0 i) ≡ line_of_inlet (get_or desk.old.inlets 0 i) }
+    ensures line { (i : RingInlet) → line_of_inlet (get_or desk.new.inlets 0 i)
+        ≡ line_of_inlet (get_or desk.old.inlets 0 i) }
 {
     let served = desk.serve(0);
     let _ = desk.serve(1);
@@ -95,7 +96,8 @@ fn a_client_that_does_not_receive_holds_up_no_other(rt: HostRuntime) {
 /// Ends a desk of one client, settles its reader, and reads what is left.
 fn wound(rt: &impl Abort, desk: Desk<HierWheel, RingInlet>, reader: ClientReader)
     requires clients { clients_of desk ≡ 1 }
-    requires line { (i : RingInlet) → words_ring_of_reader reader ≡ (line_of_inlet (get_or desk.inlets 0 i)).1 }
+    requires line { (i : RingInlet) → words_ring_of_reader reader
+        ≡ (line_of_inlet (get_or desk.inlets 0 i)).1 }
 {
     let mut reader = reader;
     idle(rt, &desk);
@@ -126,7 +128,8 @@ fn did(served: Served) -> (u64, u64, u64) {
 fn serve_all(rt: &impl Abort, desk: &mut Desk<HierWheel, RingInlet>)
     requires { clients_of desk.old ≡ 1 }
     ensures clients { clients_of desk.new ≡ 1 }
-    ensures line { (i : RingInlet) → line_of_inlet (get_or desk.new.inlets 0 i) ≡ line_of_inlet (get_or desk.old.inlets 0 i) }
+    ensures line { (i : RingInlet) → line_of_inlet (get_or desk.new.inlets 0 i)
+        ≡ line_of_inlet (get_or desk.old.inlets 0 i) }
 {
     same(rt, did(desk.serve(0)), (1, 1, 2));
     same(rt, did(desk.serve(0)), (1, 2, 1));
@@ -138,7 +141,8 @@ fn serve_all(rt: &impl Abort, desk: &mut Desk<HierWheel, RingInlet>)
 fn pass_two_ticks(rt: &impl Abort, desk: &mut Desk<HierWheel, RingInlet>)
     requires { clients_of desk.old ≡ 1 }
     ensures clients { clients_of desk.new ≡ 1 }
-    ensures line { (i : RingInlet) → line_of_inlet (get_or desk.new.inlets 0 i) ≡ line_of_inlet (get_or desk.old.inlets 0 i) }
+    ensures line { (i : RingInlet) → line_of_inlet (get_or desk.new.inlets 0 i)
+        ≡ line_of_inlet (get_or desk.old.inlets 0 i) }
 {
     same(rt, desk.tick(), Ok(()));
     same(rt, desk.tick(), Ok(()));

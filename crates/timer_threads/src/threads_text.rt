@@ -22,7 +22,8 @@ fn push_count(text: &mut Vec<u8>, word: &[u8], count: u64) -> Result<(), OutOfMe
 
 /// Writes the line of one client.
 fn push_client(text: &mut Vec<u8>, client: usize, worked: &Worked) -> Result<(), OutOfMemory>
-    ensures { OnOk result (text.new.items ≡ text.old.items ++ client_line client worked.now.sent worked.now.started worked.now.expired) }
+    ensures { OnOk result (text.new.items ≡ text.old.items
+        ++ client_line client worked.now.sent worked.now.started worked.now.expired) }
 {
     push_count(text, b"client ", client as u64)?;
     push_count(text, b" sent ", worked.sent)?;

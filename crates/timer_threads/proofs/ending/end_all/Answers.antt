@@ -13,8 +13,10 @@ same-desk c = refl
 pub held_back-held-requires : goal.held_back-held-requires
 held_back-held-requires c =
     let all = c.args.all.items in record {
-      ends = IfSome-map _ _ c.in-Ok-parted.parts (λ p h. ends_of c.args.desk.inlets all p.0.items p.1.items h c.requires.lines) c.in-Ok-parted.ensures.some;
-      readers = IfSome-map _ _ c.in-Ok-parted.parts (λ p h. readers_of c.args.desk.inlets all p.0.items p.1.items h c.requires.lines) c.in-Ok-parted.ensures.some;
+      ends = IfSome-map _ _ c.in-Ok-parted.parts (λ p h. ends_of c.args.desk.inlets all p.0.items p.1.items h c.requires.lines)
+          c.in-Ok-parted.ensures.some;
+      readers = IfSome-map _ _ c.in-Ok-parted.parts (λ p h. readers_of c.args.desk.inlets all p.0.items p.1.items h c.requires.lines)
+          c.in-Ok-parted.ensures.some;
     }
 
 pub returns-in-Some : goal.returns-in-Some
@@ -30,8 +32,10 @@ returns-in-Some c =
           c.in_default.not-OutOfMemory
           (subst (λ ws. IfSome c.first_failed-failed.result (λ k. IsFirstFailed ws k)) at c.first_failed-failed.ensures.some)
           none
-          (held_back_by (λ p. p.0.items) (λ p. p.1.items) c.args.desk all c.in-Ok-parted.parts c.held_back-held.result c.requires.lines c.in-Ok-parted.ensures.some held.no_parts held.some)
-          (λ h. wound_by (λ p. p.0.items) (λ p. p.1.items) c.args.desk all c.in-Ok-parted.parts c.requires.lines c.in-Ok-parted.ensures.none c.in-Ok-parted.ensures.some
+          (held_back_by (λ p. p.0.items) (λ p. p.1.items) c.args.desk all c.in-Ok-parted.parts c.held_back-held.result c.requires.lines
+          c.in-Ok-parted.ensures.some held.no_parts held.some)
+          (λ h. wound_by (λ p. p.0.items) (λ p. p.1.items) c.args.desk all c.in-Ok-parted.parts c.requires.lines c.in-Ok-parted.ensures.none
+          c.in-Ok-parted.ensures.some
           (held.none h));
     }
 
@@ -45,11 +49,13 @@ returns-in-None c =
       text =
           c.in-Ok.ensures
           ∙ ap (λ ws. clients_text 0 ws ++ codes "end\n") c.deref-2.ensures.value
-          ∙ ap (λ t. t ++ codes "end\n") (clients_text-whole 0 c.args.timers all c.requires.counts good ∙ ap (λ n. whole_lines 0 n c.args.timers) long);
+          ∙ ap (λ t. t ++ codes "end\n") (clients_text-whole 0 c.args.timers all c.requires.counts good
+          ∙ ap (λ n. whole_lines 0 n c.args.timers) long);
       ended = record {
         done = no.2;
         good = good;
-        wound = wound_by (λ p. p.0.items) (λ p. p.1.items) c.args.desk all c.in-Ok-parted.parts c.requires.lines c.in-Ok-parted.ensures.none c.in-Ok-parted.ensures.some
+        wound = wound_by (λ p. p.0.items) (λ p. p.1.items) c.args.desk all c.in-Ok-parted.parts c.requires.lines c.in-Ok-parted.ensures.none
+            c.in-Ok-parted.ensures.some
             (c.held_back-held.ensures.none (subst (λ o. IsNone o) (sym no.1) refl)) (all_ended all good);
       };
       fault = tt;

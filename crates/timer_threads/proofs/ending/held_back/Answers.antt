@@ -11,5 +11,9 @@ returns-in-Ok-clause-none c =
     let told = c.in-Ok.ensures in
     let inlets = c.args.desk.inlets in
     let long : length c.in-Ok.readers.items ≡ length inlets = omega (arith, told.as_many, c.in-Ok.readers.ok) in
-    λ none. subst (λ o. IfSome o (λ p. AllIdle c.args.desk × AllGot inlets p.0.items × AllRead inlets p.1.items)) (sym c.in-Some.is)
-    (told.idle, told.requests, read_out inlets c.in-Some.readers.items c.in-Ok.readers.items told.words long (c.first_unread.ensures.none none))
+    λ none. subst (λ o. IfSome o (λ p. AllIdle c.args.desk × AllGot inlets p.0.items × AllRead inlets p.1.items)) (sym c.in-Some.is) (
+      told.idle,
+      told.requests,
+      read_out inlets c.in-Some.readers.items c.in-Ok.readers.items told.words long
+          (c.first_unread.ensures.none none),
+    )

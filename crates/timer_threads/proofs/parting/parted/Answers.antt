@@ -20,8 +20,10 @@ loop-worked-preserved c =
     let was = c.loop-worked.invariant in
     let e = c.in-Some.ensures in record {
       parted = rw (c.push_reserved.ensures.items, c.push_reserved-in-loop-worked.ensures.items)
-          (AreParted-more c.loop-worked.yielded c.loop-worked.ends.items c.loop-worked.readers.items c.in-Some.worked c.in-Some-ended.ended c.in-Some.worked.reader was.parted c.in-Some-ended.is refl);
-      whole = one_less c.loop-worked.yielded c.loop-worked.worked-iterator.rest.items c.next.new.self.rest.items c.args.all.items c.in-Some.worked was.whole e.steps.0;
+          (AreParted-more c.loop-worked.yielded c.loop-worked.ends.items c.loop-worked.readers.items c.in-Some.worked c.in-Some-ended.ended
+          c.in-Some.worked.reader was.parted c.in-Some-ended.is refl);
+      whole = one_less c.loop-worked.yielded c.loop-worked.worked-iterator.rest.items c.next.new.self.rest.items c.args.all.items
+          c.in-Some.worked was.whole e.steps.0;
       ends = grind (arith, common_steps);
       readers = grind (arith, common_steps);
       ends_room = grind (arith, common_steps);
@@ -33,5 +35,6 @@ returns-clause-some c =
     let was = c.loop-worked.invariant in
     let e = c.in-None.ensures in
     let none : length c.loop-worked.worked-iterator.rest.items ≡ 0 = omega (arith, e.steps.0, c.loop-worked.worked-iterator.rest.ok) in
-    let all : c.loop-worked.yielded ≡ c.args.all.items = nothing_left c.loop-worked.yielded c.loop-worked.worked-iterator.rest.items c.args.all.items none was.whole in
+    let all : c.loop-worked.yielded ≡ c.args.all.items = nothing_left c.loop-worked.yielded c.loop-worked.worked-iterator.rest.items
+    c.args.all.items none was.whole in
     subst (λ (ws : List Worked). AreParted ws c.loop-worked.ends.items c.loop-worked.readers.items) all was.parted

@@ -10,7 +10,8 @@ pub end_all-requires-clause-lines : goal.end_all-requires-clause-lines
 end_all-requires-clause-lines g c =
     let told = c.drive-desk.ensures.told.clients in
     let inlets : c.in-Ok.desk.inlets ≡ c.args.inlets.items = search rules in
-    lines_kept c.args.timers c.args.inlets.items c.drive-desk.result.desk.inlets (threads_of c.args.children) c.join-2.result.items c.requires.tied
+    lines_kept c.args.timers c.args.inlets.items c.drive-desk.result.desk.inlets
+    (threads_of c.args.children) c.join-2.result.items c.requires.tied
     (told.same_clients ∙ ap (λ is. length is) inlets)
     (λ k i l. ap (λ is. line_of_inlet (get_or is k i)) (sym inlets) ∙ (told.lines k i (omega (arith, l, ap (λ is. length is) inlets))).line)
     c.join-2.ensures
@@ -21,12 +22,15 @@ end_all-requires-clause-counts g c =
 
 pub returns-clause-text : goal.returns-clause-text
 returns-clause-text g c =
-    let left = all_left c.args.timers c.args.inlets.items (threads_of c.args.children) c.join-2.result.items c.requires.tied c.join-2.ensures in
+    let left = all_left c.args.timers c.args.inlets.items (threads_of c.args.children) c.join-2.result.items c.requires.tied
+    c.join-2.ensures in
     let as_many : vec_len c.join-2.result ≡ vec_len c.args.inlets = omega (arith, left, c.join-2.result.ok, c.args.inlets.ok) in
     subst (λ n. IfOk c.end_all.result (λ text. text.items ≡ whole_text n c.args.timers)) as_many c.end_all.ensures.text
 
 pub returns-clause-client : goal.returns-clause-client
 returns-clause-client g c =
-    let left = all_left c.args.timers c.args.inlets.items (threads_of c.args.children) c.join-2.result.items c.requires.tied c.join-2.ensures in
+    let left = all_left c.args.timers c.args.inlets.items (threads_of c.args.children) c.join-2.result.items c.requires.tied
+    c.join-2.ensures in
     let as_many : length c.join-2.result.items ≡ vec_len c.args.inlets = omega (arith, left, c.args.inlets.ok) in
-    first_among c.end_all.result c.drive-desk.result.desk c.drive-desk.result.outcome c.join-2.result.items (vec_len c.args.inlets) as_many c.end_all.ensures.fault
+    first_among c.end_all.result c.drive-desk.result.desk c.drive-desk.result.outcome c.join-2.result.items
+    (vec_len c.args.inlets) as_many c.end_all.ensures.fault

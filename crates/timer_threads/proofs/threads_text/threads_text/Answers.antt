@@ -15,4 +15,5 @@ pub returns : goal.returns
 returns c =
     let all : c.loop-client.client ≡ length c.args.all.now = omega (arith, c.loop-client-test.false, c.loop-client.auto.client-end) in
     c.in_ok-extend_from_slice.ensures.items
-    ∙ ap (λ t. t ++ codes "end\n") (c.loop-client.invariant ∙ ap (λ ws. clients_text 0 ws) (ap (λ n. take n c.args.all.now) all ∙ take_all (length c.args.all.now) c.args.all.now (let n : length c.args.all.now ≤ length c.args.all.now = omega arith in n)))
+    ∙ ap (λ t. t ++ codes "end\n") (c.loop-client.invariant ∙ ap (λ ws. clients_text 0 ws) (ap (λ n. take n c.args.all.now) all
+    ∙ take_all (length c.args.all.now) c.args.all.now (let n : length c.args.all.now ≤ length c.args.all.now = omega arith in n)))

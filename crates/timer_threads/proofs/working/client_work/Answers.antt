@@ -31,4 +31,5 @@ returns-clause-line g c = c.finish.ensures.line c.args.end c.loop-idle.invariant
 
 pub returns-clause-worked : goal.returns-clause-worked
 returns-clause-worked g c =
-    subst (λ n. HasWorked n c.args.end c.finish.result) c.loop-idle.invariant.count (c.finish.ensures.worked c.args.end c.loop-idle.invariant.at_work)
+    subst (λ n. HasWorked n c.args.end c.finish.result) c.loop-idle.invariant.count
+    (c.finish.ensures.worked c.args.end c.loop-idle.invariant.at_work)

@@ -14,6 +14,8 @@ returns-clause-worked c =
       | else-self w ↦ w.failed-is ∙ ap not w.is_complete.ensures ∙ sym (ap (λ b. b || not (is_complete self)) w.if-self.false)
     ] in
     λ start h. HasWorked-finished start self _ c.requires h
-    (ended_so (λ e. (requests_ring_of e ≡ (line_of_end self.end).0) × (all_submitted e ≡ submitted self.end)) (λ e. all_submitted e ≡ submitted self.end) c.finish-ended.result.0 (λ e both. both.1) c.finish-ended.ensures.ended)
+    (ended_so (λ e. (requests_ring_of e ≡ (line_of_end self.end).0)
+    × (all_submitted e ≡ submitted self.end)) (λ e. all_submitted e
+    ≡ submitted self.end) c.finish-ended.result.0 (λ e both. both.1) c.finish-ended.ensures.ended)
     c.finish-ended.ensures.reader.1
     refl refl refl failed
