@@ -9,16 +9,19 @@ use Rattle.timer_script.specs.declared.fault.RunFault.{RunFault}
 use Rattle.timer_script.specs.declared.fault.RunFault.TheVariants as faults
 use Rattle.timer_script.specs.Input.{HasRead, FailsToRead, StopsReading}
 
-pub reads_more : (a b c : Option (List ℕ)) (failed : Bool) (old new : List ℕ) (n : ℕ) → Consumes a b old → HasRead b c failed old new n → Consumes a c new
+pub reads_more : (a b c : Option (List ℕ)) (failed : Bool) (old new : List ℕ) (n : ℕ) → Consumes a b old → HasRead b c failed old new n
+    → Consumes a c new
 reads_more a b c failed old new n before h = subst (Consumes a c) (sym h.joined) (Consumes-trans a b c old h.more before h.taken)
 
-pub sends_more : (a b c : Option (List ℕ)) (text : List ℕ) (i n : ℕ) → Appends a b (take i text) → Appends b c (take n (take (length text - i) (drop i text))) → Appends a c (take (i + n) text)
+pub sends_more : (a b c : Option (List ℕ)) (text : List ℕ) (i n : ℕ) → Appends a b (take i text)
+    → Appends b c (take n (take (length text - i) (drop i text))) → Appends a c (take (i + n) text)
 sends_more a b c text i n before h =
     let both = Appends-trans a b c (take i text) (take n (take (length text - i) (drop i text))) before h in
     subst (Appends a c) (ap (λ t. take i text ++ take n t) (take_rest text i) ∙ sym (take-add i n text)) both
 
 -- a read that failed after these bytes stops the reading
-pub stops_reading : (fault : RunFault) (a b c : Option (List ℕ)) (failed : Bool) (old : List ℕ) (room : ℕ) → Consumes a b old → length old ≤ MOST_BYTES → length old + room ≤ MOST_BYTES + 1
+pub stops_reading : (fault : RunFault) (a b c : Option (List ℕ)) (failed : Bool) (old : List ℕ) (room : ℕ) → Consumes a b old
+    → length old ≤ MOST_BYTES → length old + room ≤ MOST_BYTES + 1
     → FailsToRead fault room b c failed → StopsReading fault a c failed
 stops_reading faults.Read a b c failed old room got short fits h = ((old, Consumes-kept a b c old got h.0, short), h.1)
 stops_reading faults.TooLong a b c failed old room got short fits h = absurd h

@@ -1,10 +1,15 @@
+pub mod CheckedLemmas
+pub mod CheckingLemmas
 pub mod Digits
+pub mod ExplainingLemmas
 pub mod LineLemmas
 pub mod ScriptLemmas
 pub mod KnownBytes
 pub mod TextLemmas
 pub mod RunningLemmas
 pub mod CuttingLemmas
+pub mod SieveLemmas
 pub mod SessionLemmas
 pub mod PeerLemmas
 pub mod ServingLemmas
+pub mod ForgivingLemmas

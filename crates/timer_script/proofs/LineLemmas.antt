@@ -1,8 +1,8 @@
 -- What is read from the front of the bytes is their spelling, and what is spelled so is read.
-use Rattle.std.proofs.Common.{◌≡◌, ℕ, ◌^◌, ◌<◌, ◌≤◌, ◌==◌, nat_lt, true, false, ◌&&◌, Bool, cond, List, ◌∷◌, ◌++◌, length, get_or, take, drop, Option, Some, None, decimal, codes, refl, sym, ap, subst, ◌∙◌, arith, inl, inr, drop_at, take_at, take-append-drop, append_assoc, lit≤, le-ltb, lt-ltb, ne_eqb, eq-eqb, get_or-take}
+use Rattle.std.proofs.Common.{◌≡◌, ◌≢◌, [], lt_irrefl, ℕ, ◌^◌, ◌<◌, ◌≤◌, ◌==◌, nat_lt, true, false, ◌&&◌, Bool, cond, List, ◌∷◌, ◌++◌, length, get_or, take, drop, Option, Some, None, decimal, codes, refl, sym, ap, subst, ◌∙◌, arith, inl, inr, drop_at, take_at, take-append-drop, append_assoc, lit≤, le-ltb, lt-ltb, ne_eqb, eq-eqb, get_or-take}
 use Rattle.std.specs.Cmp.Lexicographic.{bytes_decides}
 use Rattle.std.proofs.lemmas.Bool.{and_left, and_right, and_from, and_parts, both_ways, cases_lt, leb-true, le-leb}
-use Rattle.std.proofs.lemmas.List.{get_or_append_left}
+use Rattle.std.proofs.lemmas.List.{get_or_append_left, nil_from_length}
 use Rattle.std.proofs.lemmas.Option.{none-some}
 use Rattle.std.proofs.lemmas.Fmt.{decimal_is_IsNumeral, decimal_digit, first_decimal, decimal-digits_value}
 use Rattle.std.proofs.lemmas.Str.Parse.{numerals_by_value, tells_digits}
@@ -28,7 +28,23 @@ strip_sound word bytes rest e =
 
 pub strip_again : (word rest : List ℕ) → strip word (word ++ rest) ≡ Some rest
 unfolding strip
-strip_again word rest = rw (take_at word rest (length word) refl, (bytes_decides word word).1 refl, drop_at word rest (length word) refl) refl
+strip_again word rest = rw (
+  take_at word rest (length word) refl,
+  (bytes_decides word word).1 refl,
+  drop_at word rest (length word) refl,
+) refl
+
+-- bytes that are empty, or begin with another byte, don't begin with the word
+pub strip_none : (word bytes : List ℕ) → 0 < length word → length bytes ≡ 0 → strip word bytes ≡ None
+unfolding strip
+strip_none [] bytes some none = absurd (lt_irrefl 0 some)
+strip_none (w ∷ ws) bytes some none = rw (nil_from_length bytes none) refl
+
+pub strip_other : (word bytes : List ℕ) → 0 < length word → get_or bytes 0 0 ≢ get_or word 0 0 → strip word bytes ≡ None
+unfolding strip
+strip_other [] bytes some other = absurd (lt_irrefl 0 some)
+strip_other (w ∷ ws) [] some other = refl
+strip_other (w ∷ ws) (b ∷ bs) some other = rw (ne_eqb b w other) refl
 
 -- ---- a number
 
@@ -62,7 +78,8 @@ number_sound bytes rest n e =
     let some_digit : 0 < m.1 = omega (arith, number.0.0) in
     let alone : get_or ds 0 0 ≡ 48 → length ds ≡ 1 = λ zero_first.
     elim (cases_lt 1 m.1) [
-      | inl more ↦ absurd (both_ways _ test (and_from _ _ (lt-ltb _ _ more) (eq-eqb _ _ (sym (get_or-take m.1 bytes 0 0 some_digit) ∙ zero_first))))
+      | inl more ↦ absurd (both_ways _ test (and_from _ _ (lt-ltb _ _ more)
+          (eq-eqb _ _ (sym (get_or-take m.1 bytes 0 0 some_digit) ∙ zero_first))))
       | inr one ↦ omega arith
     ] in
     let small : digits_value 10 ds < 2 ^ 64 = omega (arith, number.1) in
@@ -83,18 +100,41 @@ space rest = strip_again (codes " ") rest
 feed : (rest : List ℕ) → strip (codes "\n") (10 ∷ rest) ≡ Some rest
 feed rest = strip_again (codes "\n") rest
 
-start_again : (c n i a : ℕ) (rest : List ℕ) → IsInRange (Start c n i a) → start_at (decimal c ++ (32 ∷ (decimal n ++ (32 ∷ (decimal i ++ (32 ∷ (decimal a ++ (10 ∷ rest)))))))) ≡ Some (Start c n i a, rest)
+start_again : (c n i a : ℕ) (rest : List ℕ) → IsInRange (Start c n i a)
+    → start_at (decimal c ++ (32 ∷ (decimal n ++ (32 ∷ (decimal i ++ (32 ∷ (decimal a ++ (10 ∷ rest)))))))) ≡ Some (Start c n i a, rest)
 unfolding start_at
-start_again c n i a rest fits = rw (spaced c _ fits.0, space _, spaced n _ fits.1, space _, spaced i _ fits.2, space _, ended a _ fits.3, feed rest) refl
+start_again c n i a rest fits = rw (
+  spaced c _ fits.0,
+  space _,
+  spaced n _ fits.1,
+  space _,
+  spaced i _ fits.2,
+  space _,
+  ended a _ fits.3,
+  feed rest,
+) refl
 
-stop_again : (c n s : ℕ) (rest : List ℕ) → IsInRange (Stop c n s) → stop_at (decimal c ++ (32 ∷ (decimal n ++ (32 ∷ (decimal s ++ (10 ∷ rest)))))) ≡ Some (Stop c n s, rest)
+stop_again : (c n s : ℕ) (rest : List ℕ) → IsInRange (Stop c n s)
+    → stop_at (decimal c ++ (32 ∷ (decimal n ++ (32 ∷ (decimal s ++ (10 ∷ rest)))))) ≡ Some (Stop c n s, rest)
 unfolding stop_at
 stop_again c n s rest fits = rw (spaced c _ fits.0, space _, spaced n _ fits.1, space _, ended s _ fits.2, feed rest) refl
 
 restart_again : (c n s i a : ℕ) (rest : List ℕ) → IsInRange (Restart c n s i a)
-    → restart_at (decimal c ++ (32 ∷ (decimal n ++ (32 ∷ (decimal s ++ (32 ∷ (decimal i ++ (32 ∷ (decimal a ++ (10 ∷ rest)))))))))) ≡ Some (Restart c n s i a, rest)
+    → restart_at (decimal c ++ (32 ∷ (decimal n ++ (32 ∷ (decimal s ++ (32 ∷ (decimal i ++ (32 ∷ (decimal a ++ (10 ∷ rest))))))))))
+    ≡ Some (Restart c n s i a, rest)
 unfolding restart_at
-restart_again c n s i a rest fits = rw (spaced c _ fits.0, space _, spaced n _ fits.1, space _, spaced s _ fits.2, space _, spaced i _ fits.3, space _, ended a _ fits.4, feed rest) refl
+restart_again c n s i a rest fits = rw (
+  spaced c _ fits.0,
+  space _,
+  spaced n _ fits.1,
+  space _,
+  spaced s _ fits.2,
+  space _,
+  spaced i _ fits.3,
+  space _,
+  ended a _ fits.4,
+  feed rest,
+) refl
 
 tick_again : (k : ℕ) (rest : List ℕ) → IsInRange (Ticks k) → tick_at (decimal k ++ (10 ∷ rest)) ≡ Some (Ticks k, rest)
 unfolding tick_at
@@ -108,7 +148,8 @@ line_again (Restart c n s i a) rest fits = simp append_assoc (restart_again c n 
 line_again (Ticks k) rest fits = simp append_assoc (tick_again k rest fits)
 line_again Close rest fits = refl
 
-start_sound : (bytes rest : List ℕ) (event : Event) → start_at bytes ≡ Some (event, rest) → IsInRange event × (codes "start " ++ bytes ≡ line event ++ rest)
+start_sound : (bytes rest : List ℕ) (event : Event) → start_at bytes ≡ Some (event, rest)
+    → IsInRange event × (codes "start " ++ bytes ≡ line event ++ rest)
 unfolding start_at line
 start_sound bytes rest event e =
     and_then_some _ (number_at bytes) _ e λ c read_c e₁.
@@ -125,11 +166,22 @@ start_sound bytes rest event e =
     let is_i = number_sound n' i.1 i.0 read_i in
     let is_a = number_sound i' a.1 a.0 read_a in
     let split : codes "start " ++ bytes ≡ line (Start c.0 n.0 i.0 a.0) ++ a' =
-    rw (is_c.1, strip_sound _ c.1 c' space_c, is_n.1, strip_sound _ n.1 n' space_n, is_i.1, strip_sound _ i.1 i' space_i, is_a.1, strip_sound _ a.1 a' feed_a) (simp append_assoc) in
+    rw (
+      is_c.1,
+      strip_sound _ c.1 c' space_c,
+      is_n.1,
+      strip_sound _ n.1 n' space_n,
+      is_i.1,
+      strip_sound _ i.1 i' space_i,
+      is_a.1,
+      strip_sound _ a.1 a' feed_a,
+    ) (simp append_assoc) in
     subst (λ (x : Event). IsInRange x × (codes "start " ++ bytes ≡ line x ++ rest)) event_is
-    (subst (λ (r : List ℕ). IsInRange (Start c.0 n.0 i.0 a.0) × (codes "start " ++ bytes ≡ line (Start c.0 n.0 i.0 a.0) ++ r)) rest_is ((is_c.0, is_n.0, is_i.0, is_a.0), split))
+    (subst (λ (r : List ℕ). IsInRange (Start c.0 n.0 i.0 a.0) × (codes "start " ++ bytes ≡ line (Start c.0 n.0 i.0 a.0) ++ r)) rest_is
+    ((is_c.0, is_n.0, is_i.0, is_a.0), split))
 
-stop_sound : (bytes rest : List ℕ) (event : Event) → stop_at bytes ≡ Some (event, rest) → IsInRange event × (codes "stop " ++ bytes ≡ line event ++ rest)
+stop_sound : (bytes rest : List ℕ) (event : Event) → stop_at bytes ≡ Some (event, rest)
+    → IsInRange event × (codes "stop " ++ bytes ≡ line event ++ rest)
 unfolding stop_at line
 stop_sound bytes rest event e =
     and_then_some _ (number_at bytes) _ e λ c read_c e₁.
@@ -143,11 +195,14 @@ stop_sound bytes rest event e =
     let is_n = number_sound c' n.1 n.0 read_n in
     let is_i = number_sound n' i.1 i.0 read_i in
     let split : codes "stop " ++ bytes ≡ line (Stop c.0 n.0 i.0) ++ i' =
-    rw (is_c.1, strip_sound _ c.1 c' space_c, is_n.1, strip_sound _ n.1 n' space_n, is_i.1, strip_sound _ i.1 i' feed_i) (simp append_assoc) in
+    rw (is_c.1, strip_sound _ c.1 c' space_c, is_n.1, strip_sound _ n.1 n' space_n, is_i.1, strip_sound _ i.1 i' feed_i) (simp append_assoc)
+    in
     subst (λ (x : Event). IsInRange x × (codes "stop " ++ bytes ≡ line x ++ rest)) event_is
-    (subst (λ (r : List ℕ). IsInRange (Stop c.0 n.0 i.0) × (codes "stop " ++ bytes ≡ line (Stop c.0 n.0 i.0) ++ r)) rest_is ((is_c.0, is_n.0, is_i.0), split))
+    (subst (λ (r : List ℕ). IsInRange (Stop c.0 n.0 i.0) × (codes "stop " ++ bytes ≡ line (Stop c.0 n.0 i.0) ++ r)) rest_is
+    ((is_c.0, is_n.0, is_i.0), split))
 
-restart_sound : (bytes rest : List ℕ) (event : Event) → restart_at bytes ≡ Some (event, rest) → IsInRange event × (codes "restart " ++ bytes ≡ line event ++ rest)
+restart_sound : (bytes rest : List ℕ) (event : Event) → restart_at bytes ≡ Some (event, rest)
+    → IsInRange event × (codes "restart " ++ bytes ≡ line event ++ rest)
 unfolding restart_at line
 restart_sound bytes rest event e =
     and_then_some _ (number_at bytes) _ e λ c read_c e₁.
@@ -167,15 +222,28 @@ restart_sound bytes rest event e =
     let is_i = number_sound s' i.1 i.0 read_i in
     let is_a = number_sound i' a.1 a.0 read_a in
     let split : codes "restart " ++ bytes ≡ line (Restart c.0 n.0 s.0 i.0 a.0) ++ a' =
-    rw (is_c.1, strip_sound _ c.1 c' space_c, is_n.1, strip_sound _ n.1 n' space_n, is_s.1, strip_sound _ s.1 s' space_s, is_i.1, strip_sound _ i.1 i' space_i, is_a.1, strip_sound _ a.1 a' feed_a) (simp append_assoc) in
+    rw (
+      is_c.1,
+      strip_sound _ c.1 c' space_c,
+      is_n.1,
+      strip_sound _ n.1 n' space_n,
+      is_s.1,
+      strip_sound _ s.1 s' space_s,
+      is_i.1,
+      strip_sound _ i.1 i' space_i,
+      is_a.1,
+      strip_sound _ a.1 a' feed_a,
+    ) (simp append_assoc) in
     subst (λ (x : Event). IsInRange x × (codes "restart " ++ bytes ≡ line x ++ rest)) event_is
-    (subst (λ (r : List ℕ). IsInRange (Restart c.0 n.0 s.0 i.0 a.0) × (codes "restart " ++ bytes ≡ line (Restart c.0 n.0 s.0 i.0 a.0) ++ r)) rest_is ((is_c.0, is_n.0, is_s.0, is_i.0, is_a.0), split))
+    (subst (λ (r : List ℕ). IsInRange (Restart c.0 n.0 s.0 i.0 a.0)
+    × (codes "restart " ++ bytes ≡ line (Restart c.0 n.0 s.0 i.0 a.0) ++ r)) rest_is ((is_c.0, is_n.0, is_s.0, is_i.0, is_a.0), split))
 
 cond_both : {A : Type 0} (b : Bool) (o : Option A) (y : A) → cond b o None ≡ Some y → (b ≡ true) × (o ≡ Some y)
 cond_both true o y e = (refl, e)
 cond_both false o y e = absurd (none-some y e)
 
-tick_sound : (bytes rest : List ℕ) (event : Event) → tick_at bytes ≡ Some (event, rest) → IsInRange event × (codes "tick " ++ bytes ≡ line event ++ rest)
+tick_sound : (bytes rest : List ℕ) (event : Event) → tick_at bytes ≡ Some (event, rest)
+    → IsInRange event × (codes "tick " ++ bytes ≡ line event ++ rest)
 unfolding tick_at line
 tick_sound bytes rest event e =
     and_then_some _ (number_at bytes) _ e λ k read_k e₁.
@@ -186,10 +254,12 @@ tick_sound bytes rest event e =
     let is_k = number_sound bytes k.1 k.0 read_k in
     let split : codes "tick " ++ bytes ≡ line (Ticks k.0) ++ k' = rw (is_k.1, strip_sound _ k.1 k' feed_k) (simp append_assoc) in
     subst (λ (x : Event). IsInRange x × (codes "tick " ++ bytes ≡ line x ++ rest)) event_is
-    (subst (λ (r : List ℕ). IsInRange (Ticks k.0) × (codes "tick " ++ bytes ≡ line (Ticks k.0) ++ r)) rest_is ((leb-true 1 k.0 low, leb-true k.0 MOST_TICKS high), split))
+    (subst (λ (r : List ℕ). IsInRange (Ticks k.0) × (codes "tick " ++ bytes ≡ line (Ticks k.0) ++ r)) rest_is
+    ((leb-true 1 k.0 low, leb-true k.0 MOST_TICKS high), split))
 
 -- a word is at the front, or not
-by_word : {A P : Type 0} (o : Option (List ℕ)) (f : List ℕ → Option A) (other : Option A) (y : A) → or_try o f other ≡ Some y → ((s : List ℕ) → o ≡ Some s → f s ≡ Some y → P) → (other ≡ Some y → P) → P
+by_word : {A P : Type 0} (o : Option (List ℕ)) (f : List ℕ → Option A) (other : Option A) (y : A) → or_try o f other ≡ Some y
+    → ((s : List ℕ) → o ≡ Some s → f s ≡ Some y → P) → (other ≡ Some y → P) → P
 by_word None f other y e some none = none e
 by_word (Some s) f other y e some none = some s refl e
 
@@ -200,10 +270,14 @@ close_line bytes s e = e
 pub line_sound : (bytes rest : List ℕ) (event : Event) → line_at bytes ≡ Some (event, rest) → IsInRange event × (bytes ≡ line event ++ rest)
 unfolding line_at
 line_sound bytes rest event e =
-    by_word (strip (codes "start ") bytes) start_at _ _ e (λ s found e₁. let (fits, is) = start_sound s rest event e₁ in (fits, strip_sound _ bytes s found ∙ is)) λ e'.
-    by_word (strip (codes "stop ") bytes) stop_at _ _ e' (λ s found e₁. let (fits, is) = stop_sound s rest event e₁ in (fits, strip_sound _ bytes s found ∙ is)) λ e''.
-    by_word (strip (codes "restart ") bytes) restart_at _ _ e'' (λ s found e₁. let (fits, is) = restart_sound s rest event e₁ in (fits, strip_sound _ bytes s found ∙ is)) λ e'''.
-    by_word (strip (codes "tick ") bytes) tick_at _ _ e''' (λ s found e₁. let (fits, is) = tick_sound s rest event e₁ in (fits, strip_sound _ bytes s found ∙ is)) λ e''''.
+    by_word (strip (codes "start ") bytes) start_at _ _ e (λ s found e₁. let (fits, is) = start_sound s rest event e₁
+    in (fits, strip_sound _ bytes s found ∙ is)) λ e'.
+    by_word (strip (codes "stop ") bytes) stop_at _ _ e' (λ s found e₁. let (fits, is) = stop_sound s rest event e₁
+    in (fits, strip_sound _ bytes s found ∙ is)) λ e''.
+    by_word (strip (codes "restart ") bytes) restart_at _ _ e'' (λ s found e₁. let (fits, is) = restart_sound s rest event e₁
+    in (fits, strip_sound _ bytes s found ∙ is)) λ e'''.
+    by_word (strip (codes "tick ") bytes) tick_at _ _ e''' (λ s found e₁. let (fits, is) = tick_sound s rest event e₁
+    in (fits, strip_sound _ bytes s found ∙ is)) λ e''''.
     and_then_some _ (strip (codes "close\n") bytes) _ e'''' λ s found e₁.
     let (event_is, rest_is) = same_parts Close event s rest e₁ in
     subst (λ (x : Event). IsInRange x × (bytes ≡ line x ++ rest)) event_is

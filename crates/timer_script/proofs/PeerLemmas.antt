@@ -62,36 +62,54 @@ nothing_came (Came bytes ∷ xs) a = absurd a
 nothing_came (Went bytes ∷ xs) a = nothing_came xs a
 nothing_came (Flush ∷ xs) a = nothing_came xs a
 
-writes_prompt : (Answers : List ℕ → List ℕ → Type 0) (came gone : List ℕ) (flushed : Bool) (xs : List Moment) → AreWrites xs → IsPromptBy Answers came gone flushed xs
+writes_prompt : (Answers : List ℕ → List ℕ → Type 0) (came gone : List ℕ) (flushed : Bool) (xs : List Moment) → AreWrites xs
+    → IsPromptBy Answers came gone flushed xs
 writes_prompt Answers came gone flushed [] a = tt
 writes_prompt Answers came gone flushed (Came bytes ∷ xs) a = absurd a
 writes_prompt Answers came gone flushed (Went bytes ∷ xs) a = writes_prompt Answers came (gone ++ bytes) false xs a
 writes_prompt Answers came gone flushed (Flush ∷ xs) a = writes_prompt Answers came gone true xs a
 
-prompt_join : (Answers : List ℕ → List ℕ → Type 0) (came gone : List ℕ) (flushed : Bool) (xs ys : List Moment) → IsPromptBy Answers came gone flushed xs
-    → IsPromptBy Answers (came ++ came_of xs) (gone ++ gone_of xs) (is_flushed flushed xs) ys → IsPromptBy Answers came gone flushed (xs ++ ys)
-prompt_join Answers came gone flushed [] ys a b = subst (λ x. IsPromptBy Answers x gone flushed ys) (append-nil came) (subst (λ y. IsPromptBy Answers (came ++ []) y flushed ys) (append-nil gone) b)
-prompt_join Answers came gone flushed (Came bytes ∷ xs) ys a b =
-    (a.0, a.1, a.2, prompt_join Answers (came ++ bytes) gone flushed xs ys a.3 (subst (λ x. IsPromptBy Answers x (gone ++ gone_of xs) (is_flushed flushed xs) ys) (sym (append_assoc came bytes (came_of xs))) b))
+prompt_join : (Answers : List ℕ → List ℕ → Type 0) (came gone : List ℕ) (flushed : Bool) (xs ys : List Moment)
+    → IsPromptBy Answers came gone flushed xs
+    → IsPromptBy Answers (came ++ came_of xs) (gone ++ gone_of xs) (is_flushed flushed xs) ys
+    → IsPromptBy Answers came gone flushed (xs ++ ys)
+prompt_join Answers came gone flushed [] ys a b = subst (λ x. IsPromptBy Answers x gone flushed ys) (append-nil came)
+    (subst (λ y. IsPromptBy Answers (came ++ []) y flushed ys) (append-nil gone) b)
+prompt_join Answers came gone flushed (Came bytes ∷ xs) ys a b = (
+  a.0,
+  a.1,
+  a.2,
+  prompt_join Answers (came ++ bytes) gone flushed xs ys a.3
+      (subst (λ x. IsPromptBy Answers x (gone ++ gone_of xs) (is_flushed flushed xs) ys) (sym (append_assoc came bytes (came_of xs))) b),
+)
 prompt_join Answers came gone flushed (Went bytes ∷ xs) ys a b =
-    prompt_join Answers came (gone ++ bytes) false xs ys a (subst (λ y. IsPromptBy Answers (came ++ came_of xs) y (is_flushed false xs) ys) (sym (append_assoc gone bytes (gone_of xs))) b)
+    prompt_join Answers came (gone ++ bytes) false xs ys a (subst (λ y. IsPromptBy Answers (came ++ came_of xs) y (is_flushed false xs) ys)
+    (sym (append_assoc gone bytes (gone_of xs))) b)
 prompt_join Answers came gone flushed (Flush ∷ xs) ys a b = prompt_join Answers came gone true xs ys a b
 
 -- what is prompt from a later state of a session is so from an earlier one
-prompt_earlier : (a b : SessionState) (bytes text came gone : List ℕ) (flushed : Bool) (xs : List Moment) → HasFed a bytes [] text b → IsPrompt b came gone flushed xs
+prompt_earlier : (a b : SessionState) (bytes text came gone : List ℕ) (flushed : Bool) (xs : List Moment) → HasFed a bytes [] text b
+    → IsPrompt b came gone flushed xs
     → IsPrompt a (bytes ++ came) (text ++ gone) flushed xs
 prompt_earlier a b bytes text came gone flushed [] f p = tt
 prompt_earlier a b bytes text came gone flushed (Came more ∷ xs) f p =
     let here : IsAnsweredBy b came gone = p.1 in
     let later : HasFed b came (text ++ []) (text ++ gone) here.session = fed_shift b here.session came text [] gone here.fed in
-    let later' : HasFed b came text (text ++ gone) here.session = subst (λ t. HasFed b came t (text ++ gone) here.session) (append-nil text) later in (
+    let later' : HasFed b came text (text ++ gone) here.session =
+    subst (λ t. HasFed b came t (text ++ gone) here.session) (append-nil text) later in (
       p.0,
-      record { session = here.session; fed = fed_join a b here.session bytes came [] text (text ++ gone) f later'; answered = here.answered },
+      record {
+        session = here.session;
+        fed = fed_join a b here.session bytes came [] text (text ++ gone) f later';
+        answered = here.answered;
+      },
       p.2,
-      subst (λ x. IsPrompt a x (text ++ gone) flushed xs) (sym (append_assoc bytes came more)) (prompt_earlier a b bytes text (came ++ more) gone flushed xs f p.3),
+      subst (λ x. IsPrompt a x (text ++ gone) flushed xs) (sym (append_assoc bytes came more))
+          (prompt_earlier a b bytes text (came ++ more) gone flushed xs f p.3),
     )
 prompt_earlier a b bytes text came gone flushed (Went more ∷ xs) f p =
-    subst (λ y. IsPrompt a (bytes ++ came) y false xs) (sym (append_assoc text gone more)) (prompt_earlier a b bytes text came (gone ++ more) false xs f p)
+    subst (λ y. IsPrompt a (bytes ++ came) y false xs) (sym (append_assoc text gone more))
+    (prompt_earlier a b bytes text came (gone ++ more) false xs f p)
 prompt_earlier a b bytes text came gone flushed (Flush ∷ xs) f p = prompt_earlier a b bytes text came gone true xs f p
 
 -- ---- single calls
@@ -103,7 +121,15 @@ Appends-kept (Some x) (Some y) None bs p q = absurd q
 Appends-kept (Some x) (Some y) (Some z) bs p q = q ∙ p
 
 pub written_none : (p : PeerState) → HasWritten p [] p
-written_none p = record { moments = []; grows = grows_none p.moments; writes = tt; gone_is = refl; written = Appends-nil p.contents; remaining = refl; reading = refl }
+written_none p = record {
+  moments = [];
+  grows = grows_none p.moments;
+  writes = tt;
+  gone_is = refl;
+  written = Appends-nil p.contents;
+  remaining = refl;
+  reading = refl;
+}
 
 -- one text after another
 pub written_join : (p q r : PeerState) (text more : List ℕ) → HasWritten p text q → HasWritten q more r → HasWritten p (text ++ more) r
@@ -122,12 +148,14 @@ pub flushed_none : (p : PeerState) → is_flushed true (written_none p).moments 
 unfolding written_none
 flushed_none p = refl
 
-pub flushed_both : (p q r : PeerState) (text more : List ℕ) (v : HasWritten p text q) (w : HasWritten q more r) → is_flushed true (written_join p q r text more v w).moments ≡ is_flushed (is_flushed true v.moments) w.moments
+pub flushed_both : (p q r : PeerState) (text more : List ℕ) (v : HasWritten p text q) (w : HasWritten q more r)
+    → is_flushed true (written_join p q r text more v w).moments ≡ is_flushed (is_flushed true v.moments) w.moments
 unfolding written_join
 flushed_both p q r text more v w = flushed_join true v.moments w.moments
 
 -- one more write that took some of the rest
-pub written_more : {E : Type 0} (p q r : PeerState) (text : List ℕ) (i n : ℕ) → HasWritten p (take i text) q → Takes {E = E} q (Ok n) (take (length text - i) (drop i text)) r → HasWritten p (take (i + n) text) r
+pub written_more : {E : Type 0} (p q r : PeerState) (text : List ℕ) (i n : ℕ) → HasWritten p (take i text) q
+    → Takes {E = E} q (Ok n) (take (length text - i) (drop i text)) r → HasWritten p (take (i + n) text) r
 written_more {E} p q r text i n w t =
     let piece : List ℕ = take n (take (length text - i) (drop i text)) in
     let parts : take i text ++ piece ≡ take (i + n) text = ap (λ t. take i text ++ take n t) (take_rest text i) ∙ sym (take-add i n text) in
@@ -135,14 +163,17 @@ written_more {E} p q r text i n w t =
       moments = w.moments ++ Went piece ∷ [];
       grows = grows_join p.moments q.moments r.moments w.moments (Went piece ∷ []) w.grows t.moment;
       writes = writes_join w.moments (Went piece ∷ []) w.writes tt;
-      gone_is = gone_join w.moments (Went piece ∷ []) ∙ ap (λ x. x ++ (piece ++ [])) w.gone_is ∙ ap (λ y. take i text ++ y) (append-nil piece) ∙ parts;
-      written = subst (Appends p.contents r.contents) parts (Appends-trans p.contents q.contents r.contents (take i text) piece w.written t.bytes);
+      gone_is = gone_join w.moments (Went piece ∷ []) ∙ ap (λ x. x ++ (piece ++ [])) w.gone_is
+          ∙ ap (λ y. take i text ++ y) (append-nil piece) ∙ parts;
+      written = subst (Appends p.contents r.contents) parts (Appends-trans p.contents q.contents r.contents
+          (take i text) piece w.written t.bytes);
       remaining = t.remaining ∙ w.remaining;
       reading = t.reading ∙ w.reading;
     }
 
 -- one more write that failed
-pub written_failed : {E : Type 0} (p q r : PeerState) (text piece : List ℕ) (e : E) → HasWritten p text q → Takes {E = E} q (Err e) piece r → HasWritten p text r
+pub written_failed : {E : Type 0} (p q r : PeerState) (text piece : List ℕ) (e : E) → HasWritten p text q → Takes {E = E} q (Err e) piece r
+    → HasWritten p text r
 written_failed {E} p q r text piece e w t = record {
   moments = w.moments ++ Went [] ∷ [];
   grows = grows_join p.moments q.moments r.moments w.moments (Went [] ∷ []) w.grows t.moment;
@@ -154,7 +185,8 @@ written_failed {E} p q r text piece e w t = record {
 }
 
 -- a flush after the text
-pub written_flush : {E : Type 0} (p q r : PeerState) (text : List ℕ) (result : Result Unit E) → HasWritten p text q → Flushes {E = E} q result r → HasWritten p text r
+pub written_flush : {E : Type 0} (p q r : PeerState) (text : List ℕ) (result : Result Unit E) → HasWritten p text q
+    → Flushes {E = E} q result r → HasWritten p text r
 written_flush {E} p q r text result w f = record {
   moments = w.moments ++ Flush ∷ [];
   grows = grows_join p.moments q.moments r.moments w.moments (Flush ∷ []) w.grows f.moment;
@@ -165,7 +197,8 @@ written_flush {E} p q r text result w f = record {
   reading = f.reading ∙ w.reading;
 }
 
-pub sent_all : {E : Type 0} (p q r : PeerState) (text : List ℕ) (u : Unit) → HasWritten p text q → Flushes {E = E} q (Ok u) r → r.write_failed ≡ false → HasSent p text r
+pub sent_all : {E : Type 0} (p q r : PeerState) (text : List ℕ) (u : Unit) → HasWritten p text q → Flushes {E = E} q (Ok u) r
+    → r.write_failed ≡ false → HasSent p text r
 unfolding written_flush
 sent_all {E} p q r text u w f good = record {
   written = written_flush {E = E} p q r text (Ok u) w f;
@@ -180,13 +213,17 @@ not_zero : (n : ℕ) → (n ≡ 0 → ⊥) → (n == 0) ≡ false
 not_zero n h = elim (either (n == 0)) [ inl k ↦ absurd (h (eqb-true n 0 k)) | inr k ↦ k ]
 
 -- a peer that took some bytes has not failed
-pub still_good : {E : Type 0} (q r : PeerState) (n : ℕ) (piece : List ℕ) → q.write_failed ≡ false → (n ≡ 0 → ⊥) → Takes {E = E} q (Ok n) piece r → r.write_failed ≡ false
-still_good {E} q r n piece good some t = t.failed ∙ ap (λ b. b || (n == 0 && not (length piece == 0))) good ∙ ap (λ b. b && not (length piece == 0)) (not_zero n some)
+pub still_good : {E : Type 0} (q r : PeerState) (n : ℕ) (piece : List ℕ) → q.write_failed ≡ false → (n ≡ 0 → ⊥)
+    → Takes {E = E} q (Ok n) piece r → r.write_failed ≡ false
+still_good {E} q r n piece good some t = t.failed ∙ ap (λ b. b || (n == 0 && not (length piece == 0))) good
+    ∙ ap (λ b. b && not (length piece == 0)) (not_zero n some)
 
 -- one that took no byte has, and so has one whose write failed
-pub took_none : {E : Type 0} (q r : PeerState) (n : ℕ) (piece : List ℕ) → q.write_failed ≡ false → n ≡ 0 → 0 < length piece → Takes {E = E} q (Ok n) piece r → r.write_failed ≡ true
+pub took_none : {E : Type 0} (q r : PeerState) (n : ℕ) (piece : List ℕ) → q.write_failed ≡ false → n ≡ 0 → 0 < length piece
+    → Takes {E = E} q (Ok n) piece r → r.write_failed ≡ true
 took_none {E} q r n piece good none some t =
-    t.failed ∙ ap (λ b. b || (n == 0 && not (length piece == 0))) good ∙ ap (λ b. b && not (length piece == 0)) (is_zero n none) ∙ ap not (not_zero (length piece) (λ e. omega arith))
+    t.failed ∙ ap (λ b. b || (n == 0 && not (length piece == 0))) good ∙ ap (λ b. b && not (length piece == 0)) (is_zero n none)
+    ∙ ap not (not_zero (length piece) (λ e. omega arith))
 
 pub rest_some : (text : List ℕ) (i : ℕ) → i < length text → 0 < length (take (length text - i) (drop i text))
 rest_some text i l =
@@ -215,67 +252,85 @@ talked_nothing Answers p = record {
 }
 
 -- one more read, before which all was answered
-talked_read : (Answers : List ℕ → List ℕ → Type 0) (p q r : PeerState) (came gone bytes : List ℕ) → HasTalkedBy Answers p q came gone true → Answers came gone → length bytes ≤ PIECE
-    → Grows q.moments r.moments (Came bytes ∷ []) → Consumes q.remaining r.remaining bytes → r.contents ≡ q.contents → HasTalkedBy Answers p r (came ++ bytes) gone true
+talked_read : (Answers : List ℕ → List ℕ → Type 0) (p q r : PeerState) (came gone bytes : List ℕ) → HasTalkedBy Answers p q came gone true
+    → Answers came gone → length bytes ≤ PIECE
+    → Grows q.moments r.moments (Came bytes ∷ []) → Consumes q.remaining r.remaining bytes → r.contents ≡ q.contents
+    → HasTalkedBy Answers p r (came ++ bytes) gone true
 talked_read Answers p q r came gone bytes t answered short grows read same = record {
   moments = t.moments ++ Came bytes ∷ [];
   grows = grows_join p.moments q.moments r.moments t.moments (Came bytes ∷ []) t.grows grows;
   came_is = came_join t.moments (Came bytes ∷ []) ∙ ap (λ x. x ++ (bytes ++ [])) t.came_is ∙ ap (λ y. came ++ y) (append-nil bytes);
   gone_is = gone_join t.moments (Came bytes ∷ []) ∙ append-nil (gone_of t.moments) ∙ t.gone_is;
-  prompt = prompt_join Answers [] [] true t.moments (Came bytes ∷ []) t.prompt
-      (t.flush, subst (λ y. Answers (came_of t.moments) y) (sym t.gone_is) (subst (λ x. Answers x gone) (sym t.came_is) answered), short, tt);
+  prompt = prompt_join Answers [] [] true t.moments (Came bytes ∷ []) t.prompt (
+    t.flush,
+    subst (λ y. Answers (came_of t.moments) y) (sym t.gone_is) (subst (λ x. Answers x gone) (sym t.came_is) answered),
+    short,
+    tt,
+  );
   flush = flushed_join true t.moments (Came bytes ∷ []) ∙ t.flush;
   read = Consumes-trans p.remaining q.remaining r.remaining came bytes t.read read;
   written = subst (λ c. Appends p.contents c gone) (sym same) t.written;
 }
 
-pub came_after : {E : Type 0} (Answers : List ℕ → List ℕ → Type 0) (p q r : PeerState) (came gone : List ℕ) (n : ℕ) (piece : List ℕ) → n ≤ length piece → length piece ≤ PIECE
-    → HasTalkedBy Answers p q came gone true → Answers came gone → Gives {E = E} q (Ok n) piece r → HasTalkedBy Answers p r (came ++ take n piece) gone true
+pub came_after : {E : Type 0} (Answers : List ℕ → List ℕ → Type 0) (p q r : PeerState) (came gone : List ℕ) (n : ℕ) (piece : List ℕ)
+    → n ≤ length piece → length piece ≤ PIECE
+    → HasTalkedBy Answers p q came gone true → Answers came gone → Gives {E = E} q (Ok n) piece r
+    → HasTalkedBy Answers p r (came ++ take n piece) gone true
 came_after {E} Answers p q r came gone n piece within short t answered g =
     let counted : length (take n piece) ≡ n = length-take-le n piece within in
     let few : length (take n piece) ≤ PIECE = omega arith in
     talked_read Answers p q r came gone (take n piece) t answered few g.moment g.bytes.0 g.contents
 
-pub failed_after : {E : Type 0} (Answers : List ℕ → List ℕ → Type 0) (p q r : PeerState) (came gone : List ℕ) (e : E) (piece : List ℕ) → HasTalkedBy Answers p q came gone true → Answers came gone
+pub failed_after : {E : Type 0} (Answers : List ℕ → List ℕ → Type 0) (p q r : PeerState) (came gone : List ℕ) (e : E) (piece : List ℕ)
+    → HasTalkedBy Answers p q came gone true → Answers came gone
     → Gives {E = E} q (Err e) piece r → HasTalkedBy Answers p r came gone true
 failed_after {E} Answers p q r came gone e piece t answered g =
     subst (λ x. HasTalkedBy Answers p r x gone true) (append-nil came)
-    (talked_read Answers p q r came gone [] t answered (omega arith) g.moment (Consumes-kept q.remaining q.remaining r.remaining [] (Consumes-nil q.remaining) g.bytes) g.contents)
+    (talked_read Answers p q r came gone [] t answered (omega arith) g.moment
+    (Consumes-kept q.remaining q.remaining r.remaining [] (Consumes-nil q.remaining) g.bytes) g.contents)
 
 -- a session that has answered all is at the start of a conversation
 starts_answered : (s : SessionState) → IsAnsweredSoFar s → IsAnsweredBy s [] []
 starts_answered s answered = record { session = s; fed = fed_nothing s []; answered = answered }
 
-pub talked_came : {E : Type 0} (s : SessionState) (p q : PeerState) (n : ℕ) (piece : List ℕ) → n ≤ length piece → length piece ≤ PIECE → IsAnsweredSoFar s → Gives {E = E} p (Ok n) piece q
+pub talked_came : {E : Type 0} (s : SessionState) (p q : PeerState) (n : ℕ) (piece : List ℕ) → n ≤ length piece → length piece ≤ PIECE
+    → IsAnsweredSoFar s → Gives {E = E} p (Ok n) piece q
     → HasTalked s p q (take n piece) [] true
 talked_came {E} s p q n piece within short answered g =
     came_after (IsAnsweredBy s) p p q [] [] n piece within short (talked_nothing (IsAnsweredBy s) p) (starts_answered s answered) g
 
-pub talked_failed : {E : Type 0} (s : SessionState) (p q : PeerState) (e : E) (piece : List ℕ) → IsAnsweredSoFar s → Gives {E = E} p (Err e) piece q → HasTalked s p q [] [] true
+pub talked_failed : {E : Type 0} (s : SessionState) (p q : PeerState) (e : E) (piece : List ℕ) → IsAnsweredSoFar s
+    → Gives {E = E} p (Err e) piece q → HasTalked s p q [] [] true
 talked_failed {E} s p q e piece answered g =
     failed_after (IsAnsweredBy s) p p q [] [] e piece (talked_nothing (IsAnsweredBy s) p) (starts_answered s answered) g
 
 -- text was written after it
-pub talked_wrote : (Answers : List ℕ → List ℕ → Type 0) (p q r : PeerState) (came gone text : List ℕ) (flushed : Bool) → HasTalkedBy Answers p q came gone flushed → (w : HasWritten q text r)
+pub talked_wrote : (Answers : List ℕ → List ℕ → Type 0) (p q r : PeerState) (came gone text : List ℕ) (flushed : Bool)
+    → HasTalkedBy Answers p q came gone flushed → (w : HasWritten q text r)
     → HasTalkedBy Answers p r came (gone ++ text) (is_flushed flushed w.moments)
 talked_wrote Answers p q r came gone text flushed t w = record {
   moments = t.moments ++ w.moments;
   grows = grows_join p.moments q.moments r.moments t.moments w.moments t.grows w.grows;
-  came_is = came_join t.moments w.moments ∙ ap (λ x. came_of t.moments ++ x) (nothing_came w.moments w.writes) ∙ append-nil (came_of t.moments) ∙ t.came_is;
+  came_is = came_join t.moments w.moments ∙ ap (λ x. came_of t.moments ++ x) (nothing_came w.moments w.writes)
+      ∙ append-nil (came_of t.moments) ∙ t.came_is;
   gone_is = gone_join t.moments w.moments ∙ ap (λ x. x ++ gone_of w.moments) t.gone_is ∙ ap (λ y. gone ++ y) w.gone_is;
-  prompt = prompt_join Answers [] [] true t.moments w.moments t.prompt (writes_prompt Answers (came_of t.moments) (gone_of t.moments) (is_flushed true t.moments) w.moments w.writes);
+  prompt = prompt_join Answers [] [] true t.moments w.moments t.prompt
+      (writes_prompt Answers (came_of t.moments) (gone_of t.moments) (is_flushed true t.moments) w.moments w.writes);
   flush = flushed_join true t.moments w.moments ∙ ap (λ f. is_flushed f w.moments) t.flush;
   read = subst (λ x. Consumes p.remaining x came) (sym w.remaining) t.read;
   written = Appends-trans p.contents q.contents r.contents gone text t.written w.written;
 }
 
-pub talked_sent : (Answers : List ℕ → List ℕ → Type 0) (p q r : PeerState) (came gone text : List ℕ) (flushed : Bool) → HasTalkedBy Answers p q came gone flushed → HasSent q text r
+pub talked_sent : (Answers : List ℕ → List ℕ → Type 0) (p q r : PeerState) (came gone text : List ℕ) (flushed : Bool)
+    → HasTalkedBy Answers p q came gone flushed → HasSent q text r
     → HasTalkedBy Answers p r came (gone ++ text) true
 talked_sent Answers p q r came gone text flushed t h =
-    subst (HasTalkedBy Answers p r came (gone ++ text)) (flushed_anyway flushed h.written.moments h.flushed) (talked_wrote Answers p q r came gone text flushed t h.written)
+    subst (HasTalkedBy Answers p r came (gone ++ text)) (flushed_anyway flushed h.written.moments h.flushed)
+    (talked_wrote Answers p q r came gone text flushed t h.written)
 
 -- one conversation after another
-pub talked_join : (a b : SessionState) (p q r : PeerState) (x y x' y' : List ℕ) (flushed : Bool) → HasTalked a p q x y true → HasFed a x [] y b → HasTalked b q r x' y' flushed
+pub talked_join : (a b : SessionState) (p q r : PeerState) (x y x' y' : List ℕ) (flushed : Bool) → HasTalked a p q x y true
+    → HasFed a x [] y b → HasTalked b q r x' y' flushed
     → HasTalked a p r (x ++ x') (y ++ y') flushed
 talked_join a b p q r x y x' y' flushed t f u =
     let later : IsPrompt a (x ++ []) (y ++ []) true u.moments = prompt_earlier a b x y [] [] true u.moments f u.prompt in
@@ -296,7 +351,8 @@ talked_join a b p q r x y x' y' flushed t f u =
 
 -- ---- calls that are known
 
-pub known_prompt : (Answers : List ℕ → List ℕ → Type 0) (old new : PeerState) (came gone : List ℕ) (flushed : Bool) (calls : List Moment) → old.moments ≡ Some [] → new.moments ≡ Some calls
+pub known_prompt : (Answers : List ℕ → List ℕ → Type 0) (old new : PeerState) (came gone : List ℕ) (flushed : Bool) (calls : List Moment)
+    → old.moments ≡ Some [] → new.moments ≡ Some calls
     → HasTalkedBy Answers old new came gone flushed → IsPromptBy Answers [] [] true calls
 known_prompt Answers old new came gone flushed calls none known talked =
     let from_none : Grows (Some []) new.moments talked.moments = subst (λ o. Grows o new.moments talked.moments) none talked.grows in

@@ -16,7 +16,8 @@ use Rattle.timer_script.specs.Running.{AddsLines, HasPlayedLines, IsAnswer}
 use Rattle.timer_script.proofs.LineLemmas.{line_sound}
 use Rattle.timer_script.proofs.ScriptLemmas.{no_line_none, line_long, all_push, spelling_push}
 
-adds_join : (a b c : FacilityState) (es fs : List Event) (x y z : List ℕ) → AddsLines a es x y b → AddsLines b fs y z c → AddsLines a (es ++ fs) x z c
+adds_join : (a b c : FacilityState) (es fs : List Event) (x y z : List ℕ) → AddsLines a es x y b → AddsLines b fs y z c
+    → AddsLines a (es ++ fs) x z c
 adds_join a b c es fs x y z f g = record {
   outs = f.outs ++ g.outs;
   runs = IsRun-join a b c es fs f.outs g.outs f.runs g.runs;
@@ -25,7 +26,8 @@ adds_join a b c es fs x y z f g = record {
 }
 
 -- events were played, and then their outs written
-pub adds_chunk : {E : Type 0} (r : Result Unit E) (s c : FacilityState) (es all : List Event) (outs written : List Out) (x y : List ℕ) → IsRun s es outs c → es ≡ all → written ≡ outs
+pub adds_chunk : {E : Type 0} (r : Result Unit E) (s c : FacilityState) (es all : List Event) (outs written : List Out) (x y : List ℕ)
+    → IsRun s es outs c → es ≡ all → written ≡ outs
     → OnOk r (y ≡ x ++ flat_map out_line written) → OnOk r (AddsLines s all x y c)
 adds_chunk {E} (Ok u) s c es all outs written x y run whole same h = record {
   outs = outs;
@@ -60,7 +62,8 @@ line_shorter rest after event read =
     let long = line_long event in
     omega (arith, ap length is, length-append (line event) after)
 
-pub played_more : (a b c : FacilityState) (bytes rest after : List ℕ) (event : Event) (n : ℕ) (x y z : List ℕ) → HasPlayedTo a bytes rest n x y b
+pub played_more : (a b c : FacilityState) (bytes rest after : List ℕ) (event : Event) (n : ℕ) (x y z : List ℕ)
+    → HasPlayedTo a bytes rest n x y b
     → line_at rest ≡ Some (event, after) → AddsLines b (event ∷ []) y z c → HasPlayedTo a bytes after (n + 1) x z c
 played_more a b c bytes rest after event n x y z h read adds =
     let (fits, is) = line_sound rest after event read in
@@ -73,14 +76,16 @@ played_more a b c bytes rest after event n x y z h read adds =
       adds = adds_join a b c h.events (event ∷ []) x y z h.adds adds;
     }
 
-pub played_all : (a b : FacilityState) (bytes rest : List ℕ) (n : ℕ) (x y : List ℕ) → HasPlayedTo a bytes rest n x y b → rest ≡ [] → HasPlayedLines a bytes x y b
+pub played_all : (a b : FacilityState) (bytes rest : List ℕ) (n : ℕ) (x y : List ℕ) → HasPlayedTo a bytes rest n x y b → rest ≡ []
+    → HasPlayedLines a bytes x y b
 played_all a b bytes rest n x y h none = record {
   events = h.events;
   script = record { lines = h.parts ∙ ap (λ t. spelling h.events ++ t) none ∙ append-nil (spelling h.events); in_range = h.in_range };
   adds = h.adds;
 }
 
-pub played_bad : (a b : FacilityState) (bytes rest : List ℕ) (n : ℕ) (x y : List ℕ) → HasPlayedTo a bytes rest n x y b → 1 ≤ length rest → line_at rest ≡ None → IsBadLine bytes (n + 1)
+pub played_bad : (a b : FacilityState) (bytes rest : List ℕ) (n : ℕ) (x y : List ℕ) → HasPlayedTo a bytes rest n x y b → 1 ≤ length rest
+    → line_at rest ≡ None → IsBadLine bytes (n + 1)
 played_bad a b bytes rest n x y h some none = record {
   before = h.events;
   rest = rest;
@@ -92,7 +97,8 @@ played_bad a b bytes rest n x y h some none = record {
 }
 
 -- the lines of all events, and the end line, are the answer to them
-pub added_answer : (s after : FacilityState) (events : List Event) (lines answer : List ℕ) → IsSound s → AddsLines s events [] lines after → answer ≡ lines ++ end_line after.now (length after.pending)
+pub added_answer : (s after : FacilityState) (events : List Event) (lines answer : List ℕ) → IsSound s → AddsLines s events [] lines after
+    → answer ≡ lines ++ end_line after.now (length after.pending)
     → IsAnswer s events answer
 added_answer s after events lines answer sound adds is = record {
   outs = adds.outs;

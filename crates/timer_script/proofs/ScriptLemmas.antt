@@ -29,11 +29,13 @@ line_some : (event : Event) (more : List ℕ) → 1 ≤ length (line event ++ mo
 line_some event more = let h = line_long event in omega (arith, length-append (line event) more)
 
 -- bytes that begin with lines and continue with no line have no more lines
-front : (xs ys : List Event) (rest other : List ℕ) → AllByRecursion IsInRange xs → AllByRecursion IsInRange ys → BeginsNoLine rest → spelling xs ++ rest ≡ spelling ys ++ other → length ys ≤ length xs
+front : (xs ys : List Event) (rest other : List ℕ) → AllByRecursion IsInRange xs → AllByRecursion IsInRange ys → BeginsNoLine rest
+    → spelling xs ++ rest ≡ spelling ys ++ other → length ys ≤ length xs
 front xs [] rest other fx fy bad e = omega arith
 front [] (y ∷ ys) rest other fx fy bad e = absurd (bad y (spelling ys ++ other) fy.0 (e ∙ append_assoc (line y) (spelling ys) other))
 front (x ∷ xs) (y ∷ ys) rest other fx fy bad e =
-    let (first, others) = one_line x y (spelling xs ++ rest) (spelling ys ++ other) fx.0 fy.0 (sym (append_assoc (line x) (spelling xs) rest) ∙ e ∙ append_assoc (line y) (spelling ys) other) in
+    let (first, others) = one_line x y (spelling xs ++ rest) (spelling ys ++ other) fx.0 fy.0
+    (sym (append_assoc (line x) (spelling xs) rest) ∙ e ∙ append_assoc (line y) (spelling ys) other) in
     let h = front xs ys rest other fx.1 fy.1 bad others in
     omega arith
 
@@ -51,9 +53,11 @@ end_is_no_line event more fits e = let h = line_some event more in absurd (omega
 
 -- nothing follows a whole script
 pub no_bad_line : (xs : List Event) (bytes : List ℕ) (n : ℕ) → IsScript xs bytes → IsBadLine bytes n → ⊥
-no_bad_line xs bytes n script bad = rest_of xs bad.before bad.rest script.in_range bad.in_range bad.bad bad.some (sym script.lines ∙ bad.parts)
+no_bad_line xs bytes n script bad = rest_of xs bad.before bad.rest script.in_range bad.in_range bad.bad bad.some (sym script.lines
+    ∙ bad.parts)
   where
-    rest_of : (xs ys : List Event) (rest : List ℕ) → AllByRecursion IsInRange xs → AllByRecursion IsInRange ys → BeginsNoLine rest → 1 ≤ length rest → spelling xs ≡ spelling ys ++ rest → ⊥
+    rest_of : (xs ys : List Event) (rest : List ℕ) → AllByRecursion IsInRange xs → AllByRecursion IsInRange ys → BeginsNoLine rest
+        → 1 ≤ length rest → spelling xs ≡ spelling ys ++ rest → ⊥
     rest_of [] [] rest fx fy bad some e = omega (arith, ap length e)
     rest_of [] (y ∷ ys) rest fx fy bad some e = end_is_no_line y (spelling ys ++ rest) fy.0 (e ∙ append_assoc (line y) (spelling ys) rest)
     rest_of (x ∷ xs) [] rest fx fy bad some e = bad x (spelling xs) fx.0 (sym e)
@@ -76,4 +80,5 @@ all_push (y ∷ ys) x h one = (h.0, all_push ys x h.1 one)
 pub spelling_push : (xs : List Event) (x : Event) (rest : List ℕ) → spelling (xs ++ x ∷ []) ++ rest ≡ spelling xs ++ (line x ++ rest)
 spelling_push [] x rest = ap (λ t. t ++ rest) (append-nil (line x))
 spelling_push (y ∷ ys) x rest =
-    append_assoc (line y) (spelling (ys ++ x ∷ [])) rest ∙ ap (λ t. line y ++ t) (spelling_push ys x rest) ∙ sym (append_assoc (line y) (spelling ys) (line x ++ rest))
+    append_assoc (line y) (spelling (ys ++ x ∷ [])) rest ∙ ap (λ t. line y ++ t) (spelling_push ys x rest)
+    ∙ sym (append_assoc (line y) (spelling ys) (line x ++ rest))

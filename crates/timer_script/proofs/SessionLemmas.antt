@@ -32,7 +32,8 @@ ended_going stage h k = cc
 -- ---- one step
 
 -- what was unwritten is written
-pub written_all : (old new : SessionState) (before after : List ℕ) → new ≡ record old { unwritten = [] } → after ≡ before ++ lines_of old.unwritten → HasFed old [] before after new
+pub written_all : (old new : SessionState) (before after : List ℕ) → new ≡ record old { unwritten = [] }
+    → after ≡ before ++ lines_of old.unwritten → HasFed old [] before after new
 written_all old new before after is h = subst (HasFed old [] before after) (sym is) (record {
   events = [];
   parts = append-nil old.held;
@@ -60,7 +61,8 @@ fed_nothing old text = record {
 }
 
 -- bytes were added to the held ones
-pub fed_held : (a old new : SessionState) (bytes text : List ℕ) → a ≡ old → new.state ≡ a.state → new.unwritten ≡ a.unwritten → new.held ≡ a.held ++ bytes → new.lines ≡ a.lines → HasFed old bytes text text new
+pub fed_held : (a old new : SessionState) (bytes text : List ℕ) → a ≡ old → new.state ≡ a.state → new.unwritten ≡ a.unwritten
+    → new.held ≡ a.held ++ bytes → new.lines ≡ a.lines → HasFed old bytes text text new
 fed_held a old new bytes text is state unwritten held lines = subst (λ (s : SessionState). HasFed s bytes text text new) is (record {
   events = [];
   parts = sym held;
@@ -74,7 +76,8 @@ fed_held a old new bytes text is state unwritten held lines = subst (λ (s : Ses
 })
 
 -- a line was played
-pub fed_line : (a old new : SessionState) (bytes text : List ℕ) (event : Event) → a ≡ old → IsInRange event → a.held ++ bytes ≡ line event → AddsRun a.state event a.unwritten new.unwritten new.state → new.held ≡ []
+pub fed_line : (a old new : SessionState) (bytes text : List ℕ) (event : Event) → a ≡ old → IsInRange event → a.held ++ bytes ≡ line event
+    → AddsRun a.state event a.unwritten new.unwritten new.state → new.held ≡ []
     → new.lines ≡ min (a.lines + 1) (2 ^ 64 - 1) → HasFed old bytes text text new
 fed_line a old new bytes text event is fits whole run held lines = subst (λ (s : SessionState). HasFed s bytes text text new) is (record {
   events = event ∷ [];
@@ -97,36 +100,44 @@ all-join (x ∷ xs) ys a b = (a.0, all-join xs ys a.1 b)
 pub fed_join : (a b c : SessionState) (bs cs x y z : List ℕ) → HasFed a bs x y b → HasFed b cs y z c → HasFed a (bs ++ cs) x z c
 fed_join a b c bs cs x y z f g = record {
   events = f.events ++ g.events;
-  parts = sym (append_assoc a.held bs cs) ∙ ap (λ t. t ++ cs) f.parts ∙ append_assoc (spelling f.events) b.held cs ∙ ap (λ t. spelling f.events ++ t) g.parts
-      ∙ sym (append_assoc (spelling f.events) (spelling g.events) c.held) ∙ ap (λ t. t ++ c.held) (sym (flat_map-append line f.events g.events));
+  parts = sym (append_assoc a.held bs cs) ∙ ap (λ t. t ++ cs) f.parts ∙ append_assoc (spelling f.events) b.held cs
+      ∙ ap (λ t. spelling f.events ++ t) g.parts
+      ∙ sym (append_assoc (spelling f.events) (spelling g.events) c.held)
+      ∙ ap (λ t. t ++ c.held) (sym (flat_map-append line f.events g.events));
   in_range = all-join f.events g.events f.in_range g.in_range;
   outs = f.outs ++ g.outs;
   runs = IsRun-join a.state b.state c.state f.events g.events f.outs g.outs f.runs g.runs;
   added = f.added ++ g.added;
   grows = g.grows ∙ ap (λ t. t ++ g.added) f.grows ∙ append_assoc x f.added g.added;
-  written = ap (λ t. lines_of a.unwritten ++ t) (flat_map-append out_line f.outs g.outs) ∙ sym (append_assoc (lines_of a.unwritten) (lines_of f.outs) (lines_of g.outs))
-      ∙ ap (λ t. t ++ lines_of g.outs) f.written ∙ append_assoc f.added (lines_of b.unwritten) (lines_of g.outs) ∙ ap (λ t. f.added ++ t) g.written ∙ sym (append_assoc f.added g.added (lines_of c.unwritten));
+  written = ap (λ t. lines_of a.unwritten ++ t) (flat_map-append out_line f.outs g.outs)
+      ∙ sym (append_assoc (lines_of a.unwritten) (lines_of f.outs) (lines_of g.outs))
+      ∙ ap (λ t. t ++ lines_of g.outs) f.written ∙ append_assoc f.added (lines_of b.unwritten) (lines_of g.outs)
+      ∙ ap (λ t. f.added ++ t) g.written ∙ sym (append_assoc f.added g.added (lines_of c.unwritten));
   counted = (let h = f.counted in let k = g.counted in let l = length-append f.events g.events in omega arith);
 }
 
 -- ---- the results of a session's calls
 
 -- nothing changed
-pub fed_still : (old new : SessionState) (bytes before after : List ℕ) → bytes ≡ [] → after ≡ before → new ≡ old → HasFed old bytes before after new
+pub fed_still : (old new : SessionState) (bytes before after : List ℕ) → bytes ≡ [] → after ≡ before → new ≡ old
+    → HasFed old bytes before after new
 fed_still old new bytes before after none same is =
     subst (λ (s : SessionState). HasFed old bytes before after s) (sym is) (subst (λ t. HasFed old bytes before t old) (sym same)
     (subst (λ t. HasFed old t before before old) (sym none) (fed_nothing old before)))
 
 -- a prefix of a piece, and then some bytes of the rest
-pub fed_more : (a b c : SessionState) (piece : List ℕ) (i n k : ℕ) (x y z : List ℕ) → k ≡ i + n → HasFed a (take i piece) x y b → HasFed b (take n (take (length piece - i) (drop i piece))) y z c → HasFed a (take k piece) x z c
+pub fed_more : (a b c : SessionState) (piece : List ℕ) (i n k : ℕ) (x y z : List ℕ) → k ≡ i + n → HasFed a (take i piece) x y b
+    → HasFed b (take n (take (length piece - i) (drop i piece))) y z c → HasFed a (take k piece) x z c
 fed_more a b c piece i n k x y z is f g =
     let parts : take i piece ++ take n (take (length piece - i) (drop i piece)) ≡ take k piece =
     ap (λ t. take i piece ++ take n t) (take_rest piece i) ∙ sym (take-add i n piece) ∙ ap (λ m. take m piece) (sym is) in
     subst (λ t. HasFed a t x z c) parts (fed_join a b c (take i piece) (take n (take (length piece - i) (drop i piece))) x y z f g)
 
 -- bytes, and then what was unwritten is written
-pub fed_written : (a b c : SessionState) (bytes x z : List ℕ) → HasFed a bytes x x b → c ≡ record b { unwritten = [] } → z ≡ x ++ lines_of b.unwritten → HasFed a bytes x z c
-fed_written a b c bytes x z f is h = subst (λ t. HasFed a t x z c) (append-nil bytes) (fed_join a b c bytes [] x x z f (written_all b c x z is h))
+pub fed_written : (a b c : SessionState) (bytes x z : List ℕ) → HasFed a bytes x x b → c ≡ record b { unwritten = [] }
+    → z ≡ x ++ lines_of b.unwritten → HasFed a bytes x z c
+fed_written a b c bytes x z f is h = subst (λ t. HasFed a t x z c) (append-nil bytes)
+    (fed_join a b c bytes [] x x z f (written_all b c x z is h))
 
 -- a session in which nothing is unwritten
 pub with_all_written : (s : SessionState) → s.unwritten ≡ [] → record s { unwritten = [] } ≡ s
@@ -134,11 +145,20 @@ with_all_written s told = ap (λ u. record s { unwritten = u }) (sym told)
 
 -- all that was unwritten is written, and there was no bad line
 pub answered_written : (old new : SessionState) → IsKept old → old.stage ≡ Going → new ≡ record old { unwritten = [] } → IsAnsweredSoFar new
-answered_written old new kept going is = subst IsAnsweredSoFar (sym is) (record { going = going; written = refl; partial = kept.partial going })
+answered_written old new kept going is = subst IsAnsweredSoFar (sym is) (record {
+  going = going;
+  written = refl;
+  partial = kept.partial going;
+})
 
 -- a session that failed stays so
 pub failed_kept : (n : ℕ) (s : SessionState) → IsKept s → s.stage ≡ Failed → n ≡ next_line s → HasFailed n s
-failed_kept n s kept failed counted = record { failed = failed; written = kept.written (λ e. absurd (failed_going s.stage failed e)); bad = kept.bad failed; counted = counted }
+failed_kept n s kept failed counted = record {
+  failed = failed;
+  written = kept.written (λ e. absurd (failed_going s.stage failed e));
+  bad = kept.bad failed;
+  counted = counted;
+}
 
 -- a session that is over has only one error
 pub one_fault : (s : SessionState) (fault other : SessionFault) → IsOver fault s → IsOver other s → other ≡ fault
@@ -157,9 +177,14 @@ going_on s faults.OutOfMemory going a = a
 going_on s faults.Ended going a = ended_going s.stage a going
 
 -- bytes that are held at the end are no line
-pub not_ended : (n : ℕ) (s new : SessionState) → IsPartial s.held → 1 ≤ length s.held → new ≡ record s { unwritten = [] } → n ≡ next_line new → WhyNotEnded (faults.Bad n) s new
-not_ended n s new part some is counted =
-    (subst (λ (x : SessionState). 1 ≤ length x.held) (sym is) some, subst (λ (x : SessionState). BeginsNoLine x.held) (sym is) (no_feed_no_line s.held part.no_feed), counted, is)
+pub not_ended : (n : ℕ) (s new : SessionState) → IsPartial s.held → 1 ≤ length s.held → new ≡ record s { unwritten = [] }
+    → n ≡ next_line new → WhyNotEnded (faults.Bad n) s new
+not_ended n s new part some is counted = (
+  subst (λ (x : SessionState). 1 ≤ length x.held) (sym is) some,
+  subst (λ (x : SessionState). BeginsNoLine x.held) (sym is) (no_feed_no_line s.held part.no_feed),
+  counted,
+  is,
+)
 
 -- after a bad line the end is refused, and nothing changes
 pub over_not_ended : (fault : SessionFault) (s : SessionState) → IsOver fault s → WhyNotEnded fault s s
@@ -195,7 +220,8 @@ fed_shift a b bytes front x z f = record {
 }
 
 -- the line after those of a session is the first bad one of its bytes
-pub stopped_at : (before : FacilityState) (s : SessionState) (bytes more txt : List ℕ) (n : ℕ) → HasFed (fresh before) bytes [] txt s → s.unwritten ≡ [] → 1 ≤ length (s.held ++ more) → BeginsNoLine (s.held ++ more) → n ≡ next_line s
+pub stopped_at : (before : FacilityState) (s : SessionState) (bytes more txt : List ℕ) (n : ℕ) → HasFed (fresh before) bytes [] txt s
+    → s.unwritten ≡ [] → 1 ≤ length (s.held ++ more) → BeginsNoLine (s.held ++ more) → n ≡ next_line s
     → IsStoppedAt before (bytes ++ more) txt n
 stopped_at before s bytes more txt n fed written some bad counted = record {
   events = fed.events;
@@ -215,10 +241,12 @@ pub some_more : (held more : List ℕ) → 1 ≤ length held → 1 ≤ length (h
 some_more held more some = let h = length-append held more in omega arith
 
 -- the text of fed bytes and the end line are the answer to the events of the bytes
-pub session_answers : (s : FacilityState) (bytes txt : List ℕ) (end : SessionState) → IsSound s → HasFed (fresh s) bytes [] txt end → end.unwritten ≡ [] → end.held ≡ []
+pub session_answers : (s : FacilityState) (bytes txt : List ℕ) (end : SessionState) → IsSound s → HasFed (fresh s) bytes [] txt end
+    → end.unwritten ≡ [] → end.held ≡ []
     → (events : List Event) × IsScript events bytes × IsAnswer s events (txt ++ end_line end.state.now (length end.state.pending))
 session_answers s bytes txt end sound fed written whole =
-    let lines : lines_of fed.outs ≡ txt = fed.written ∙ ap (λ u. fed.added ++ lines_of u) written ∙ append-nil fed.added ∙ sym fed.grows in (
+    let lines : lines_of fed.outs ≡ txt = fed.written ∙ ap (λ u. fed.added ++ lines_of u) written ∙ append-nil fed.added ∙ sym fed.grows
+    in (
       fed.events,
       record { lines = fed.parts ∙ ap (λ h. spelling fed.events ++ h) whole ∙ append-nil (spelling fed.events); in_range = fed.in_range },
       record {
@@ -230,14 +258,18 @@ session_answers s bytes txt end sound fed written whole =
     )
 
 -- an incomplete line at the end is the first bad one
-pub session_not_ended : (s : FacilityState) (bytes txt : List ℕ) (end new : SessionState) (n : ℕ) → HasFed (fresh s) bytes [] txt end → end.unwritten ≡ [] → WhyNotEnded (faults.Bad n) end new → IsStoppedAt s bytes txt n
+pub session_not_ended : (s : FacilityState) (bytes txt : List ℕ) (end new : SessionState) (n : ℕ) → HasFed (fresh s) bytes [] txt end
+    → end.unwritten ≡ [] → WhyNotEnded (faults.Bad n) end new → IsStoppedAt s bytes txt n
 session_not_ended s bytes txt end new n fed written why =
     let is : new ≡ record end { unwritten = [] } = why.3 in
     let some : 1 ≤ length end.held = subst (λ (x : SessionState). 1 ≤ length x.held) is why.0 in
     let bad : BeginsNoLine end.held = subst (λ (x : SessionState). BeginsNoLine x.held) is why.1 in
     subst (λ b. IsStoppedAt s b txt n) (append-nil bytes)
-    (stopped_at s end bytes [] txt n fed written (some_more end.held [] some) (subst BeginsNoLine (sym (append-nil end.held)) bad) (why.2 ∙ ap (λ (x : SessionState). next_line x) is))
+    (stopped_at s end bytes [] txt n fed written (some_more end.held [] some) (subst BeginsNoLine (sym (append-nil end.held)) bad) (why.2
+    ∙ ap (λ (x : SessionState). next_line x) is))
 
 -- a bad line that was fed is the first one, whatever follows
-pub session_failed : (s : FacilityState) (bytes more txt : List ℕ) (end : SessionState) (n : ℕ) → HasFed (fresh s) bytes [] txt end → HasFailed n end → IsStoppedAt s (bytes ++ more) txt n
-session_failed s bytes more txt end n fed h = stopped_at s end bytes more txt n fed h.written (some_more end.held more h.bad.some) (h.bad.bad more) h.counted
+pub session_failed : (s : FacilityState) (bytes more txt : List ℕ) (end : SessionState) (n : ℕ) → HasFed (fresh s) bytes [] txt end
+    → HasFailed n end → IsStoppedAt s (bytes ++ more) txt n
+session_failed s bytes more txt end n fed h = stopped_at s end bytes more txt n fed h.written (some_more end.held more h.bad.some)
+    (h.bad.bad more) h.counted

@@ -24,9 +24,12 @@ lines-bare : (outs : List Out) → flat_map out_line (bare_outs outs) ≡ flat_m
 lines-bare [] = refl
 lines-bare (out ∷ outs) = rw (out_line-bare out, lines-bare outs) refl
 
-pub same_text : (outs others : List Out) (a b : FacilityState) → bare_outs outs ≡ bare_outs others → bare_state a ≡ bare_state b → text outs a.now (length a.pending) ≡ text others b.now (length b.pending)
+pub same_text : (outs others : List Out) (a b : FacilityState) → bare_outs outs ≡ bare_outs others → bare_state a ≡ bare_state b
+    → text outs a.now (length a.pending) ≡ text others b.now (length b.pending)
 same_text outs others a b same after =
-    let lines : flat_map out_line outs ≡ flat_map out_line others = sym (lines-bare outs) ∙ ap (flat_map out_line) same ∙ lines-bare others in
+    let lines : flat_map out_line outs ≡ flat_map out_line others = sym (lines-bare outs) ∙ ap (flat_map out_line) same ∙ lines-bare others
+    in
     let now : a.now ≡ b.now = ap (λ s. s.now) after in
-    let pending : length a.pending ≡ length b.pending = sym (length-map a.pending bare_entry) ∙ ap (λ s. length s.pending) after ∙ length-map b.pending bare_entry in
+    let pending : length a.pending ≡ length b.pending = sym (length-map a.pending bare_entry) ∙ ap (λ s. length s.pending) after
+    ∙ length-map b.pending bare_entry in
     rw (lines, now, pending) refl

@@ -29,7 +29,8 @@ IsEnding (endings.Whole event) held = IsInRange event × (held ≡ line event)
 
 -- the ending of bytes of which only the last one is a line feed
 abbrev pub EndsAsLine : Ending → List ℕ → Type 0
-EndsAsLine ending held = (front : List ℕ) → HasNoFeed front → held ≡ front ++ 10 ∷ [] → length held ≤ MOST_LINE → IsEnding ending held
+EndsAsLine ending held = (front : List ℕ) → HasNoFeed front → held ≡ front ++ 10 ∷ []
+    → length held ≤ MOST_LINE → IsEnding ending held
 
 -- n more bytes are held, up to a line feed or until they are too many for a line
 pub record HasHeld (old bytes : List ℕ) (n : ℕ) (ending : Ending) (new : List ℕ) : Type 0 where

@@ -2,12 +2,16 @@ pub mod Lines
 pub mod Script
 pub mod Text
 pub mod Cutting
+pub mod Explaining
 pub mod Session
 pub mod Input
 pub mod Output
 pub mod Fault
 pub mod Watched
 pub mod Running
+pub mod Checking
 pub mod Peer
 pub mod Streams
 pub mod Serving
+pub mod Sieve
+pub mod Forgiving

@@ -1,5 +1,5 @@
--- What the readers of one line compute, on lists. No public clause cites this file: it is proved that they read exactly the
--- lines of events.
+-- What the readers of one line compute, on lists. No public clause cites this file: it is proved that they
+-- read exactly the lines of events.
 use Rattle.std.specs.Prelude.{ℕ, ◌&&◌, List, length, take, drop, slice_index, codes, Option, Some, None, option_map, option_and_then, ◌==◌, nat_eq, nat_lt, nat_le, if◌then◌else◌}
 use Rattle.std.specs.Cmp.Lexicographic.{pointwise}
 use Rattle.std.specs.Net.Reader.{read_number}
@@ -29,7 +29,8 @@ or_try (Some x) f other = f x
 
 -- what follows the word
 unfoldable pub strip : List ℕ → List ℕ → Option (List ℕ)
-strip word bytes = if pointwise nat_eq (take (length word) bytes) word then Some (drop (length word) bytes) else None
+strip word bytes = if pointwise nat_eq (take (length word) bytes) word then Some
+    (drop (length word) bytes) else None
 
 -- the value of the digits at the front, and how many they are
 abbrev pub digits_at : List ℕ → Option (ℕ × ℕ)
@@ -37,7 +38,8 @@ digits_at bytes = read_number 10 LAST bytes
 
 -- a number with no leading zero
 unfoldable pub number_at : List ℕ → Read ℕ
-number_at bytes = digits_at bytes >>= λ n. if nat_lt 1 n.1 && (slice_index bytes 0 == 48) then None else Some (n.0, drop n.1 bytes)
+number_at bytes = digits_at bytes >>= λ n. if nat_lt 1 n.1 && (slice_index bytes 0 == 48) then None else Some
+    (n.0, drop n.1 bytes)
 
 -- the fields after the word `start`
 unfoldable pub start_at : List ℕ → Read Event
@@ -82,7 +84,8 @@ restart_at bytes =
 unfoldable pub tick_at : List ℕ → Read Event
 tick_at bytes =
     number_at bytes >>= λ count.
-    if (nat_le 1 count.0 && nat_le count.0 MOST_TICKS) then (strip (codes "\n") count.1 >>= λ rest. Some (Ticks count.0, rest)) else None
+    if (nat_le 1 count.0 && nat_le count.0 MOST_TICKS) then
+    (strip (codes "\n") count.1 >>= λ rest. Some (Ticks count.0, rest)) else None
 
 -- the event whose line is at the front
 unfoldable pub line_at : List ℕ → Read Event

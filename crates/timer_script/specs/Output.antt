@@ -15,4 +15,5 @@ StopsWriting faults.Read old new failed text = ⊥
 StopsWriting faults.TooLong old new failed text = ⊥
 StopsWriting (faults.Bad line) old new failed text = ⊥
 StopsWriting faults.OutOfMemory old new failed text = ⊥
-StopsWriting (faults.Write written) old new failed text = (written < length text) × Appends old new (take written text) × (failed ≡ true)
+StopsWriting (faults.Write written) old new failed text = (written < length text)
+    × Appends old new (take written text) × (failed ≡ true)

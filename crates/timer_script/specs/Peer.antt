@@ -12,7 +12,8 @@ pub data Moment : Type 0 where
 
 -- a call that is kept as bytes: `<` and what came, `>` and what went, or anything else for a flush
 abbrev pub moment_of : List ℕ → Moment
-moment_of call = if slice_index call 0 == 60 then Came (drop 1 call) else if slice_index call 0 == 62 then Went (drop 1 call) else Flush
+moment_of call = if slice_index call 0 == 60 then Came
+    (drop 1 call) else if slice_index call 0 == 62 then Went (drop 1 call) else Flush
 
 -- what is known of a peer
 pub record PeerState : Type 0 where
@@ -38,7 +39,8 @@ count_in (Ok n) = n
 count_in (Err e) = 0
 
 -- one read
-pub record Gives {E : Type 0} (old : PeerState) (result : Result ℕ E) (piece : List ℕ) (new : PeerState) : Type 0 where
+pub record Gives {E : Type 0} (old : PeerState) (result : Result ℕ E) (piece : List ℕ)
+    (new : PeerState) : Type 0 where
   pub within : ReadsAtMost result piece
   pub bytes : ReadConsumes old.remaining new.remaining result piece
   pub moment : Grows old.moments new.moments (Came (take (count_in result) piece) ∷ [])
@@ -47,7 +49,8 @@ pub record Gives {E : Type 0} (old : PeerState) (result : Result ℕ E) (piece :
   pub writing : new.write_failed ≡ old.write_failed
 
 -- one write
-pub record Takes {E : Type 0} (old : PeerState) (result : Result ℕ E) (piece : List ℕ) (new : PeerState) : Type 0 where
+pub record Takes {E : Type 0} (old : PeerState) (result : Result ℕ E) (piece : List ℕ)
+    (new : PeerState) : Type 0 where
   pub within : WritesAtMost result piece
   pub bytes : WriteAppends old.contents new.contents result piece
   pub moment : Grows old.moments new.moments (Went (take (count_in result) piece) ∷ [])

@@ -16,13 +16,15 @@ use Rattle.timer_script.specs.Text.{out_line, text}
 use Rattle.timer_script.specs.Input.{ReadsWhole, ReadsUpTo, ReadsTooMany}
 
 -- the events were played, and the text grew by the lines of their outs
-pub record AddsLines (before : FacilityState) (events : List Event) (old new : List ℕ) (after : FacilityState) : Type 0 where
+pub record AddsLines (before : FacilityState) (events : List Event) (old new : List ℕ)
+    (after : FacilityState) : Type 0 where
   pub outs : List Out
   pub runs : IsRun before events outs after
   pub lines : new ≡ old ++ flat_map out_line outs
 
 -- the bytes are the script of some events, which were played, and the line of each of their outs was added
-pub record HasPlayedLines (before : FacilityState) (bytes old new : List ℕ) (after : FacilityState) : Type 0 where
+pub record HasPlayedLines (before : FacilityState) (bytes old new : List ℕ)
+    (after : FacilityState) : Type 0 where
   pub events : List Event
   pub script : IsScript events bytes
   pub adds : AddsLines before events old new after
@@ -34,7 +36,8 @@ pub record IsAnswer (before : FacilityState) (events : List Event) (answer : Lis
   pub played : IsPlayed before events outs after
   pub lines : answer ≡ text outs after.now (length after.pending)
 
--- the reader was read to its end, its bytes are the script of some events and within the limit, and this is the answer
+-- the reader was read to its end, its bytes are the script of some events and within the limit, and this is
+-- the answer
 pub record IsAnswered (before : FacilityState) (old new : Option (List ℕ)) (answer : List ℕ) : Type 0 where
   pub bytes : List ℕ
   pub events : List Event
@@ -67,26 +70,34 @@ HasNoAnswer faults.OutOfMemory bytes = length bytes ≤ MOST_BYTES
 HasNoAnswer (faults.Write written) bytes = ⊥
 
 -- what a run did to its reader and its writer, by how it ended
-abbrev pub HasRun : {R S : Type 0} (before : FacilityState) (remaining : R → Option (List ℕ)) (contents : S → Option (List ℕ))
+abbrev pub HasRun : {R S : Type 0} (before : FacilityState) (remaining : R → Option (List ℕ)) (contents : S
+    → Option (List ℕ))
     (reader reader' : Watched R) (writer writer' : Watched S) → Result Unit RunFault → Type 0
 -- the whole answer was written, and nothing else
 HasRun before remaining contents reader reader' writer writer' (Ok u) =
-    (answer : List ℕ) × IsAnswered before (remaining (inner_of reader)) (remaining (inner_of reader')) answer × (has_failed reader' ≡ false)
+    (answer : List ℕ) × IsAnswered before (remaining (inner_of reader)) (remaining (inner_of reader')) answer
+    × (has_failed reader' ≡ false)
     × Appends (contents (inner_of writer)) (contents (inner_of writer')) answer × (has_failed writer' ≡ false)
 -- the reader failed in this call, after at most `MOST_BYTES` bytes, and nothing was written
 HasRun before remaining contents reader reader' writer writer' (Err faults.Read) =
-    ReadsUpTo MOST_BYTES (remaining (inner_of reader)) (remaining (inner_of reader')) × (has_failed reader' ≡ true) × (writer' ≡ writer)
+    ReadsUpTo MOST_BYTES (remaining (inner_of reader)) (remaining (inner_of reader'))
+    × (has_failed reader' ≡ true) × (writer' ≡ writer)
 -- one byte more than `MOST_BYTES` was read, and nothing was written
 HasRun before remaining contents reader reader' writer writer' (Err faults.TooLong) =
-    ReadsTooMany (remaining (inner_of reader)) (remaining (inner_of reader')) × (has_failed reader' ≡ false) × (writer' ≡ writer)
+    ReadsTooMany (remaining (inner_of reader)) (remaining (inner_of reader')) × (has_failed reader' ≡ false)
+    × (writer' ≡ writer)
 -- the input is not a script, this is its first bad line, and nothing was written
 HasRun before remaining contents reader reader' writer writer' (Err (faults.Bad line)) =
-    IsBad (remaining (inner_of reader)) (remaining (inner_of reader')) line × (has_failed reader' ≡ false) × (writer' ≡ writer)
+    IsBad (remaining (inner_of reader)) (remaining (inner_of reader')) line × (has_failed reader' ≡ false)
+    × (writer' ≡ writer)
 -- nothing was written, and at most one byte more than `MOST_BYTES` was read
 HasRun before remaining contents reader reader' writer writer' (Err faults.OutOfMemory) =
-    ReadsUpTo (MOST_BYTES + 1) (remaining (inner_of reader)) (remaining (inner_of reader')) × (has_failed reader' ≡ false) × (writer' ≡ writer)
+    ReadsUpTo (MOST_BYTES + 1) (remaining (inner_of reader)) (remaining (inner_of reader'))
+    × (has_failed reader' ≡ false) × (writer' ≡ writer)
 -- the writer failed in this call, and a prefix of the answer was written, of this length, and nothing else
 HasRun before remaining contents reader reader' writer writer' (Err (faults.Write written)) =
-    (answer : List ℕ) × IsAnswered before (remaining (inner_of reader)) (remaining (inner_of reader')) answer × (has_failed reader' ≡ false)
-    × (written < length answer) × Appends (contents (inner_of writer)) (contents (inner_of writer')) (take written answer)
+    (answer : List ℕ) × IsAnswered before (remaining (inner_of reader)) (remaining (inner_of reader')) answer
+    × (has_failed reader' ≡ false)
+    × (written < length answer) × Appends (contents (inner_of writer)) (contents (inner_of writer'))
+    (take written answer)
     × (has_failed writer' ≡ true)

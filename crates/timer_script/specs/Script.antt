@@ -10,19 +10,24 @@ use Rattle.timer_script.specs.declared.fault.ScriptFault.TheVariants.{Bad, OutOf
 
 -- the numbers of a line are at most LAST, and its ticks are 1 to MOST_TICKS
 abbrev pub IsInRange : Event → Type 0
-IsInRange (Start client number interval action) = (client ≤ LAST) × (number ≤ LAST) × (interval ≤ LAST) × (action ≤ LAST)
+IsInRange (Start client number interval action) = (client ≤ LAST) × (number ≤ LAST) × (interval ≤ LAST)
+    × (action ≤ LAST)
 IsInRange (Stop client number serial) = (client ≤ LAST) × (number ≤ LAST) × (serial ≤ LAST)
-IsInRange (Restart client number serial interval action) = (client ≤ LAST) × (number ≤ LAST) × (serial ≤ LAST) × (interval ≤ LAST) × (action ≤ LAST)
+IsInRange (Restart client number serial interval action) = (client ≤ LAST) × (number ≤ LAST) × (serial ≤ LAST)
+    × (interval ≤ LAST) × (action ≤ LAST)
 IsInRange (Ticks count) = (1 ≤ count) × (count ≤ MOST_TICKS)
 IsInRange Close = Unit {0}
 
 -- a line: words and numbers with one space between them, and a line feed
 unfoldable pub line : Event → List ℕ
 line (Start client number interval action) =
-    codes "start " ++ decimal client ++ codes " " ++ decimal number ++ codes " " ++ decimal interval ++ codes " " ++ decimal action ++ codes "\n"
-line (Stop client number serial) = codes "stop " ++ decimal client ++ codes " " ++ decimal number ++ codes " " ++ decimal serial ++ codes "\n"
+    codes "start " ++ decimal client ++ codes " " ++ decimal number ++ codes " " ++ decimal interval
+    ++ codes " " ++ decimal action ++ codes "\n"
+line (Stop client number serial) = codes "stop " ++ decimal client ++ codes " " ++ decimal number ++ codes " "
+    ++ decimal serial ++ codes "\n"
 line (Restart client number serial interval action) =
-    codes "restart " ++ decimal client ++ codes " " ++ decimal number ++ codes " " ++ decimal serial ++ codes " " ++ decimal interval
+    codes "restart " ++ decimal client ++ codes " " ++ decimal number ++ codes " " ++ decimal serial
+    ++ codes " " ++ decimal interval
     ++ codes " " ++ decimal action ++ codes "\n"
 line (Ticks count) = codes "tick " ++ decimal count ++ codes "\n"
 line Close = codes "close\n"

@@ -41,21 +41,25 @@ pub record IsAnsweredBy (start : SessionState) (came gone : List ℕ) : Type 0 w
   pub fed : HasFed start came [] gone session
   pub answered : IsAnsweredSoFar session
 
--- before each read what went so far answers what came so far, and it was flushed; a read gives few bytes, so all lines are
--- answered but those of the last ones
+-- before each read what went so far answers what came so far, and it was flushed; a read gives few bytes, so
+-- all lines are answered but those of the last ones
 abbrev pub IsPromptBy : (List ℕ → List ℕ → Type 0) → (came gone : List ℕ) → Bool → List Moment → Type 0
 IsPromptBy Answers came gone flushed [] = Unit {0}
 IsPromptBy Answers came gone flushed (Came bytes ∷ moments) =
-    (flushed ≡ true) × Answers came gone × (length bytes ≤ PIECE) × IsPromptBy Answers (came ++ bytes) gone flushed moments
-IsPromptBy Answers came gone flushed (Went bytes ∷ moments) = IsPromptBy Answers came (gone ++ bytes) false moments
+    (flushed ≡ true) × Answers came gone × (length bytes ≤ PIECE)
+    × IsPromptBy Answers (came ++ bytes) gone flushed moments
+IsPromptBy Answers came gone flushed (Went bytes ∷ moments) =
+    IsPromptBy Answers came (gone ++ bytes) false moments
 IsPromptBy Answers came gone flushed (Flush ∷ moments) = IsPromptBy Answers came gone true moments
 
 -- before each read all complete lines so far have been answered as the session does, and the answers flushed
 abbrev pub IsPrompt : SessionState → (came gone : List ℕ) → Bool → List Moment → Type 0
 IsPrompt start = IsPromptBy (IsAnsweredBy start)
 
--- these bytes came from the peer and this text went to it, and before more was read the text so far was an answer
-pub record HasTalkedBy (Answers : List ℕ → List ℕ → Type 0) (old new : PeerState) (came gone : List ℕ) (flushed : Bool) : Type 0 where
+-- these bytes came from the peer and this text went to it, and before more was read the text so far was an
+-- answer
+pub record HasTalkedBy (Answers : List ℕ → List ℕ → Type 0) (old new : PeerState) (came gone : List ℕ)
+    (flushed : Bool) : Type 0 where
   pub moments : List Moment
   pub grows : Grows old.moments new.moments moments
   pub came_is : came_of moments ≡ came
@@ -69,9 +73,10 @@ pub record HasTalkedBy (Answers : List ℕ → List ℕ → Type 0) (old new : P
 abbrev pub HasTalked : SessionState → (old new : PeerState) → (came gone : List ℕ) → Bool → Type 0
 HasTalked start = HasTalkedBy (IsAnsweredBy start)
 
--- what went from the peer through the session and back: the last of the bytes that came were not fed, and the last of the
--- text of those that were fed has not been sent
-pub record HasPassed (old : SessionState) (peer peer' : PeerState) (new : SessionState) (unfed unsent : List ℕ) (flushed : Bool) : Type 0 where
+-- what went from the peer through the session and back: the last of the bytes that came were not fed, and the
+-- last of the text of those that were fed has not been sent
+pub record HasPassed (old : SessionState) (peer peer' : PeerState) (new : SessionState)
+    (unfed unsent : List ℕ) (flushed : Bool) : Type 0 where
   pub bytes : List ℕ
   pub sent : List ℕ
   pub talked : HasTalked old peer peer' (bytes ++ unfed) sent flushed
@@ -130,14 +135,18 @@ serve_fault sessions.Ended = faults.OutOfMemory
 abbrev pub StopsTurn : ServeFault → SessionState → PeerState → PeerState → SessionState → Type 0
 -- a read failed, and all that came before it is answered
 StopsTurn faults.Read old peer peer' new =
-    HasPassed old peer peer' new [] [] true × IsAnsweredSoFar new × (peer'.read_failed ≡ true) × (peer'.write_failed ≡ false)
+    HasPassed old peer peer' new [] [] true × IsAnsweredSoFar new × (peer'.read_failed ≡ true)
+    × (peer'.write_failed ≡ false)
 -- a line is bad whatever follows, and all lines before it are answered
-StopsTurn (faults.Bad n) old peer peer' new = (unfed : List ℕ) × HasPassed old peer peer' new unfed [] true × HasFailed n new × AreGood peer'
+StopsTurn (faults.Bad n) old peer peer' new = (unfed : List ℕ) × HasPassed old peer peer' new unfed [] true
+    × HasFailed n new × AreGood peer'
 -- out of memory: all the text so far was written
-StopsTurn faults.OutOfMemory old peer peer' new = (unfed : List ℕ) × HasPassed old peer peer' new unfed [] true × AreGood peer'
+StopsTurn faults.OutOfMemory old peer peer' new = (unfed : List ℕ)
+    × HasPassed old peer peer' new unfed [] true × AreGood peer'
 -- a write failed
 StopsTurn faults.Write old peer peer' new =
-    (unfed unsent : List ℕ) × (flushed : Bool) × HasPassed old peer peer' new unfed unsent flushed × (peer'.read_failed ≡ false)
+    (unfed unsent : List ℕ) × (flushed : Bool) × HasPassed old peer peer' new unfed unsent flushed
+    × (peer'.read_failed ≡ false)
     × (peer'.write_failed ≡ true)
 StopsTurn faults.TooLong old peer peer' new = ⊥
 
@@ -148,41 +157,49 @@ last_line s = end_line s.state.now (length s.state.pending)
 -- why the end line was not written completely
 abbrev pub StopsEnd : ServeFault → SessionState → PeerState → PeerState → Type 0
 StopsEnd faults.Read s peer peer' = ⊥
-StopsEnd (faults.Bad n) s peer peer' = (1 ≤ length s.held) × BeginsNoLine s.held × (n ≡ next_line s) × (peer' ≡ peer)
+StopsEnd (faults.Bad n) s peer peer' = (1 ≤ length s.held) × BeginsNoLine s.held × (n ≡ next_line s)
+    × (peer' ≡ peer)
 StopsEnd faults.OutOfMemory s peer peer' = peer' ≡ peer
 StopsEnd faults.Write s peer peer' = (s.held ≡ []) × HasSentPart peer (last_line s) peer'
 StopsEnd faults.TooLong s peer peer' = ⊥
 
 -- the peer was read to its end, its bytes are the script of some events, and the answer to them was written
-pub record HasAnsweredAll (before : FacilityState) (peer peer' : PeerState) (bytes answer : List ℕ) : Type 0 where
+pub record HasAnsweredAll (before : FacilityState) (peer peer' : PeerState)
+    (bytes answer : List ℕ) : Type 0 where
   pub events : List Event
   pub at_end : IsAtEnd peer'.remaining
   pub script : IsScript events bytes
   pub answered : IsAnswer before events answer
 
--- what serving did, by how it ended; in each case every complete line was answered, and its answer flushed, before more
--- was read
+-- what serving did, by how it ended; in each case every complete line was answered, and its answer flushed,
+-- before more was read
 abbrev pub HasServed : FacilityState → PeerState → PeerState → Result Unit ServeFault → Type 0
 -- the whole answer was written and flushed, and nothing else
 HasServed before peer peer' (Ok u) =
-    (bytes answer : List ℕ) × HasAnsweredAll before peer peer' bytes answer × HasTalked (fresh before) peer peer' bytes answer true × AreGood peer'
+    (bytes answer : List ℕ) × HasAnsweredAll before peer peer' bytes answer
+    × HasTalked (fresh before) peer peer' bytes answer true × AreGood peer'
 -- a read failed, and each complete line that came is answered
 HasServed before peer peer' (Err faults.Read) =
-    (s : SessionState) × HasPassed (fresh before) peer peer' s [] [] true × IsAnsweredSoFar s × (peer'.read_failed ≡ true)
+    (s : SessionState) × HasPassed (fresh before) peer peer' s [] [] true × IsAnsweredSoFar s
+    × (peer'.read_failed ≡ true)
     × (peer'.write_failed ≡ false)
 -- the n-th line is the first bad one, each line before it is answered, and nothing else was written
 HasServed before peer peer' (Err (faults.Bad n)) =
-    (bytes text : List ℕ) × IsStoppedAt before bytes text n × HasTalked (fresh before) peer peer' bytes text true × AreGood peer'
+    (bytes text : List ℕ) × IsStoppedAt before bytes text n
+    × HasTalked (fresh before) peer peer' bytes text true × AreGood peer'
 -- out of memory: all the text so far was written
 HasServed before peer peer' (Err faults.OutOfMemory) =
-    (s : SessionState) × (unfed : List ℕ) × HasPassed (fresh before) peer peer' s unfed [] true × AreGood peer'
+    (s : SessionState) × (unfed : List ℕ) × HasPassed (fresh before) peer peer' s unfed [] true
+    × AreGood peer'
 -- a write failed: a prefix of the answers was written, or of the whole answer
 HasServed before peer peer' (Err faults.Write) =
-    (((s : SessionState) × (unfed unsent : List ℕ) × (flushed : Bool) × HasPassed (fresh before) peer peer' s unfed unsent flushed)
+    (((s : SessionState) × (unfed unsent : List ℕ) × (flushed : Bool)
+    × HasPassed (fresh before) peer peer' s unfed unsent flushed)
     ⊎ ((bytes answer : List ℕ) × (k : ℕ) × (flushed : Bool) × HasAnsweredAll before peer peer' bytes answer
     × (k ≤ length answer) × HasTalked (fresh before) peer peer' bytes (take k answer) flushed))
     × (peer'.read_failed ≡ false) × (peer'.write_failed ≡ true)
 -- more bytes came than a u64 counts, and each complete line of them is answered
 HasServed before peer peer' (Err faults.TooLong) =
-    (s : SessionState) × (passed : HasPassed (fresh before) peer peer' s [] [] true) × (2 ^ 64 - 1 ≤ length passed.bytes)
+    (s : SessionState) × (passed : HasPassed (fresh before) peer peer' s [] [] true)
+    × (2 ^ 64 - 1 ≤ length passed.bytes)
     × IsAnsweredSoFar s × AreGood peer'

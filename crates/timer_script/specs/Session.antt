@@ -38,7 +38,8 @@ next_line s = min (s.lines + 1) (2 ^ 64 - 1)
 
 -- the outs are those of one event, by which the facility came to this state, if there are any
 abbrev pub IsOfOneLine : List Out → FacilityState → Type 0
-IsOfOneLine outs state = (outs ≡ []) ⊎ ((before : FacilityState) × (event : Event) × IsRun before (event ∷ []) outs state)
+IsOfOneLine outs state = (outs ≡ []) ⊎ ((before : FacilityState) × (event : Event)
+    × IsRun before (event ∷ []) outs state)
 
 -- the invariant of a session between two calls
 pub record IsKept (s : SessionState) : Type 0 where
@@ -49,8 +50,9 @@ pub record IsKept (s : SessionState) : Type 0 where
   -- no more than the answer to the last line that was played is unwritten
   pub one_line : IsOfOneLine s.unwritten s.state
 
--- The bytes were fed, and the text grew from `before` to `after`: the bytes held before, followed by these, are the lines
--- of some events, which were played, followed by the bytes held now. The outs are in the text, except those unwritten now.
+-- The bytes were fed, and the text grew from `before` to `after`: the bytes held before, followed by these,
+-- are the lines of some events, which were played, followed by the bytes held now. The outs are in the text,
+-- except those unwritten now.
 pub record HasFed (old : SessionState) (bytes before after : List ℕ) (new : SessionState) : Type 0 where
   pub events : List Event
   pub parts : old.held ++ bytes ≡ spelling events ++ new.held
@@ -87,21 +89,23 @@ HasStopped (faults.Bad n) s = HasFailed n s
 HasStopped faults.OutOfMemory s = s.stage ≡ Going
 HasStopped faults.Ended s = ⊥
 
--- why feeding stopped: a bad line; or out of memory, after which the session continues; or it had ended already
+-- why feeding stopped: a bad line; or out of memory, after which the session continues; or it had ended
+-- already
 abbrev pub WhyStopped : SessionFault → SessionState → SessionState → Type 0
 WhyStopped (faults.Bad n) old new = HasFailed n new
 WhyStopped faults.OutOfMemory old new = new.stage ≡ Going
 WhyStopped faults.Ended old new = (old.stage ≡ Ended) × (new ≡ old)
 
--- why the script was not ended: the held bytes are no complete line, and they stay held; or out of memory, after which the
--- session continues; or it had ended already
+-- why the script was not ended: the held bytes are no complete line, and they stay held; or out of memory,
+-- after which the session continues; or it had ended already
 abbrev pub WhyNotEnded : SessionFault → SessionState → SessionState → Type 0
-WhyNotEnded (faults.Bad n) old new = (1 ≤ length new.held) × BeginsNoLine new.held × (n ≡ next_line new) × (new ≡ record old { unwritten = [] })
+WhyNotEnded (faults.Bad n) old new = (1 ≤ length new.held) × BeginsNoLine new.held × (n ≡ next_line new)
+    × (new ≡ record old { unwritten = [] })
 WhyNotEnded faults.OutOfMemory old new = new.stage ≡ Going
 WhyNotEnded faults.Ended old new = (old.stage ≡ Ended) × (new ≡ old)
 
--- the n-th line (2^64 - 1 stands for any later one) is the first bad one of the bytes, and the text answers the lines
--- before it
+-- the n-th line (2^64 - 1 stands for any later one) is the first bad one of the bytes, and the text answers
+-- the lines before it
 pub record IsStoppedAt (before : FacilityState) (bytes text : List ℕ) (n : ℕ) : Type 0 where
   pub events : List Event
   pub rest : List ℕ

@@ -5,7 +5,8 @@ use Rattle.timer_script.specs.Watched.{inner_of, has_failed}
 use Rattle.timer_script.specs.Peer.{PeerState}
 
 -- what is known of both; in which order they were called is not told
-abbrev pub streams_state : {R S : Type 0} → (R → Option (List ℕ)) → (S → Option (List ℕ)) → Watched R → Watched S → PeerState
+abbrev pub streams_state : {R S : Type 0} → (R → Option (List ℕ)) → (S → Option (List ℕ)) → Watched R
+    → Watched S → PeerState
 streams_state remaining contents reader writer = record {
   remaining = remaining (inner_of reader);
   contents = contents (inner_of writer);

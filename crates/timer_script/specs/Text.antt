@@ -42,13 +42,18 @@ numbers all = flat_map (λ n. 32 ∷ decimal n) all
 abbrev pub out_line : Out → List ℕ
 out_line (out.Answered client number (Started handle deadline)) =
     codes "started" ++ numbers (client ∷ number ∷ handle.serial ∷ deadline ∷ []) ++ codes "\n"
-out_line (out.Answered client number (Stopped serial)) = codes "stopped" ++ numbers (client ∷ number ∷ serial ∷ []) ++ codes "\n"
+out_line (out.Answered client number (Stopped serial)) =
+    codes "stopped" ++ numbers (client ∷ number ∷ serial ∷ []) ++ codes "\n"
 out_line (out.Answered client number (Restarted handle deadline old)) =
     codes "restarted" ++ numbers (client ∷ number ∷ old ∷ handle.serial ∷ deadline ∷ []) ++ codes "\n"
-out_line (out.Answered client number (Refused why)) = codes "refused" ++ numbers (client ∷ number ∷ []) ++ codes " " ++ reason_word why ++ codes "\n"
-out_line (out.NotTaken client number why) = codes "refused" ++ numbers (client ∷ number ∷ []) ++ codes " " ++ refusal_word why ++ codes "\n"
-out_line (out.Notice (Expired t)) = codes "expired" ++ numbers (t.deadline ∷ t.client ∷ t.serial ∷ t.action ∷ []) ++ codes "\n"
-out_line (out.Notice (Returned t)) = codes "returned" ++ numbers (t.client ∷ t.serial ∷ t.deadline ∷ t.action ∷ []) ++ codes "\n"
+out_line (out.Answered client number (Refused why)) =
+    codes "refused" ++ numbers (client ∷ number ∷ []) ++ codes " " ++ reason_word why ++ codes "\n"
+out_line (out.NotTaken client number why) = codes "refused" ++ numbers (client ∷ number ∷ []) ++ codes " "
+    ++ refusal_word why ++ codes "\n"
+out_line (out.Notice (Expired t)) = codes "expired"
+    ++ numbers (t.deadline ∷ t.client ∷ t.serial ∷ t.action ∷ []) ++ codes "\n"
+out_line (out.Notice (Returned t)) = codes "returned"
+    ++ numbers (t.client ∷ t.serial ∷ t.deadline ∷ t.action ∷ []) ++ codes "\n"
 out_line (out.TickRefused why) = codes "tick refused " ++ fault_word why ++ codes "\n"
 out_line (out.Closed count) = codes "closed" ++ numbers (count ∷ []) ++ codes "\n"
 out_line out.CloseRefused = codes "close refused closed\n"

@@ -24,7 +24,8 @@ pub fn answer_of<W: Wheel + Drop>(
 ) -> Result<Vec<u8>, RunFault>
     requires pending { facility.state.pending ≡ [] }
     requires waiting { facility.waiting ≡ [] }
-    ensures ok { IfOk result (λ answer. (events : List Event) × IsScript events script.now × IsAnswer facility.state events answer.items) }
+    ensures ok { IfOk result (λ answer. (events : List Event) × IsScript events script.now
+        × IsAnswer facility.state events answer.items) }
     ensures short { OnOk result (length script.now ≤ MOST_BYTES) }
     ensures fault { IfErr result (λ fault. HasNoAnswer fault script.now) }
 {

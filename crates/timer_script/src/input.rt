@@ -33,7 +33,8 @@ fn read_once<R: Read>(
 ) -> Result<usize, RunFault>
     requires good { reader.old.failed ≡ false }
     requires room { 0 < length piece.old }
-    ensures ok { IfOk result (λ n. HasRead (R.remaining reader.old.inner) (R.remaining reader.new.inner) reader.new.failed
+    ensures ok { IfOk result (λ n. HasRead (R.remaining reader.old.inner)
+        (R.remaining reader.new.inner) reader.new.failed
         bytes.old.items bytes.new.items n) }
     ensures within { IfOk result (λ n. n ≤ length piece.old) }
     ensures len { IfOk result (λ n. vec_len bytes.new ≡ vec_len bytes.old + n) }
@@ -55,10 +56,12 @@ fn read_once<R: Read>(
 /// bytes, of which one is read.
 pub fn read_script<R: Read>(alloc: Global, reader: &mut Watched<R>) -> Result<Vec<u8>, RunFault>
     requires { reader.old.failed ≡ false }
-    ensures whole { IfOk result (λ bytes. ReadsWhole (R.remaining reader.old.inner) (R.remaining reader.new.inner) bytes.items) }
+    ensures whole { IfOk result (λ bytes. ReadsWhole (R.remaining reader.old.inner)
+        (R.remaining reader.new.inner) bytes.items) }
     ensures short { IfOk result (λ bytes. length bytes.items ≤ MOST_BYTES) }
     ensures good { IfOk result (λ _. reader.new.failed ≡ false) }
-    ensures fault { IfErr result (λ fault. StopsReading fault (R.remaining reader.old.inner) (R.remaining reader.new.inner) reader.new.failed) }
+    ensures fault { IfErr result (λ fault. StopsReading fault (R.remaining reader.old.inner)
+        (R.remaining reader.new.inner) reader.new.failed) }
 {
     let mut piece = blank(alloc, PIECE)?;
     let mut bytes = Vec::new(alloc);

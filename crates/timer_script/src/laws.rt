@@ -31,13 +31,15 @@ pub fn one_spelling()
 
 /// A script has no bad line, and other bytes have one first bad line at most.
 pub fn one_bad_line()
-    ensures no_script { (xs : List Event) (bytes : List ℕ) (n : ℕ) → IsScript xs bytes → IsBadLine bytes n → ⊥ }
+    ensures no_script { (xs : List Event) (bytes : List ℕ) (n : ℕ) → IsScript xs bytes → IsBadLine bytes n
+        → ⊥ }
     ensures one { (bytes : List ℕ) (m n : ℕ) → IsBadLine bytes m → IsBadLine bytes n → m ≡ n }
 {}
 
 /// The answer to events is one text, whichever wheel the facility stands on: it tells no place.
 pub fn each_wheel_gives_the_same_text()
-    ensures { (s t : FacilityState) (events : List Event) (answer other : List ℕ) → bare_state s ≡ bare_state t
+    ensures { (s t : FacilityState) (events : List Event) (answer other : List ℕ)
+        → bare_state s ≡ bare_state t
         → IsAnswer s events answer → IsAnswer t events other → answer ≡ other }
 {
     players_give_the_same();
@@ -45,14 +47,17 @@ pub fn each_wheel_gives_the_same_text()
 
 /// Two pieces that are fed one after the other are as one.
 pub fn pieces_join()
-    ensures { (a b c : SessionState) (bytes more x y z : List ℕ) → HasFed a bytes x y b → HasFed b more y z c → HasFed a (bytes ++ more) x z c }
+    ensures { (a b c : SessionState) (bytes more x y z : List ℕ) → HasFed a bytes x y b → HasFed b more y z c
+        → HasFed a (bytes ++ more) x z c }
 {}
 
 /// However a script is cut into pieces, what a session writes for them, and the end line, are the answer
 /// of a run to the whole, whichever wheel each stands on.
 pub fn a_session_answers_as_a_run()
-    ensures { (s t : FacilityState) (bytes text answer : List ℕ) (end : SessionState) (events : List Event) → IsSound s → bare_state s ≡ bare_state t
-        → HasFed (fresh s) bytes [] text end → end.unwritten ≡ [] → end.held ≡ [] → IsScript events bytes → IsAnswer t events answer
+    ensures { (s t : FacilityState) (bytes text answer : List ℕ) (end : SessionState) (events : List Event)
+        → IsSound s → bare_state s ≡ bare_state t
+        → HasFed (fresh s) bytes [] text end → end.unwritten ≡ [] → end.held ≡ [] → IsScript events bytes
+        → IsAnswer t events answer
         → text ++ end_line end.state.now (length end.state.pending) ≡ answer }
 {
     one_spelling();
@@ -62,9 +67,11 @@ pub fn a_session_answers_as_a_run()
 /// Where a session ends at a bad line, that is the first one of the bytes that it was fed, however they
 /// go on once it failed, and the text answers the lines before it.
 pub fn a_session_stops_at_the_first_bad_line()
-    ensures failed { (s : FacilityState) (bytes more text : List ℕ) (end : SessionState) (n : ℕ) → HasFed (fresh s) bytes [] text end
+    ensures failed { (s : FacilityState) (bytes more text : List ℕ) (end : SessionState) (n : ℕ)
+        → HasFed (fresh s) bytes [] text end
         → HasFailed n end → IsStoppedAt s (bytes ++ more) text n }
-    ensures not_ended { (s : FacilityState) (bytes text : List ℕ) (end new : SessionState) (n : ℕ) → HasFed (fresh s) bytes [] text end
+    ensures not_ended { (s : FacilityState) (bytes text : List ℕ) (end new : SessionState) (n : ℕ)
+        → HasFed (fresh s) bytes [] text end
         → end.unwritten ≡ [] → WhyNotEnded (Bad n) end new → IsStoppedAt s bytes text n }
 {}
 

@@ -10,14 +10,18 @@
 //!
 //!     bytes     digits and lines (`lines`), scripts (`script`), a stream cut into lines (`cutting`)
 //!     runs      input, output, `running`, `answer` (the same in memory), `text`
-//!     streams   `session`, `peer`, `streams`, `serving`
+//!     streams   `session`, `peer`, `streams`, `serving`; past bad lines `sieve`, `forgiving`
 #![tactic(auto)]
 
 mod answer;
+mod checking;
 mod cutting;
+mod explaining;
 mod fault;
+mod forgiving;
 mod input;
 pub mod laws;
+mod line_fault;
 mod lines;
 mod output;
 mod peer;
@@ -25,15 +29,20 @@ mod running;
 mod script;
 mod serving;
 mod session;
+mod sieve;
 mod stage;
 mod streams;
 mod text;
 mod watched;
 
 pub use answer::answer_of;
+pub use checking::{check, scripts_have_no_bad_line};
 pub use cutting::line_len;
+pub use explaining::fault_in_line;
 pub use fault::{RunFault, ScriptFault, ServeFault, SessionFault};
+pub use forgiving::serve_good;
 pub use input::{MOST_BYTES, blank};
+pub use line_fault::{Field, LineFault, LineReason};
 pub use lines::MOST_TICKS;
 pub use output::write_text;
 pub use peer::Peer;
@@ -46,6 +55,10 @@ pub use streams::Streams;
 pub use text::text_of;
 pub use watched::Watched;
 
+#[cfg(test)]
+mod checking_tests;
+#[cfg(test)]
+mod forgiving_tests;
 #[cfg(test)]
 mod prompt_tests;
 #[cfg(test)]

@@ -21,6 +21,8 @@ use timer_facility::Event;
 pub const MOST_TICKS: u64 = 1000000;
 
 /// The value of the digits at the front and their number, if there is one and the value is at most LAST.
+/// A call would pass these through memory, here and in `read_number`.
+#[inline(always)]
 fn read_digits(bytes: &[u8]) -> Option<(u64, usize)>
     ensures value { result ≡ digits_at bytes.now }
     ensures fits { IfSome result (λ n. (n.0 ≤ LAST) × (0 < n.1) × (n.1 ≤ length bytes.now)) }
@@ -42,6 +44,7 @@ fn read_digits(bytes: &[u8]) -> Option<(u64, usize)>
 }
 
 /// A number with no leading zero, and the bytes after it.
+#[inline(always)]
 #[tactic(auto, unfolding(crate::specs::Lines::number_at))]
 pub fn read_number(bytes: &[u8]) -> Option<(u64, &[u8])>
     ensures { read_view (λ n. n) result ≡ number_at bytes.now }
@@ -53,11 +56,17 @@ pub fn read_number(bytes: &[u8]) -> Option<(u64, &[u8])>
     Some((value, &bytes[len..]))
 }
 
-/// The bytes after a word that stands at the front.
+/// The bytes after a word that stands at the front. The first byte alone tells most words apart: so it is
+/// compared first, and the whole word only where that byte is the same.
+#[inline(always)]
 #[tactic(auto, unfolding(crate::specs::Lines::strip))]
 fn after_word<'a>(bytes: &'a [u8], word: &[u8]) -> Option<&'a [u8]>
+    requires { 0 < length word.now }
     ensures { option_copied result ≡ strip word.now bytes.now }
 {
+    if bytes.is_empty() || bytes[0] != word[0] {
+        return None;
+    }
     bytes.strip_prefix(word)
 }
 

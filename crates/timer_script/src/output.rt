@@ -15,9 +15,11 @@ use std::io::Write;
 /// bytes of the text that were written before.
 pub fn write_text<S: Write>(writer: &mut Watched<S>, text: &[u8]) -> Result<(), RunFault>
     requires { has_failed writer.old ≡ false }
-    ensures ok { OnOk result (Appends (S.contents (inner_of writer.old)) (S.contents (inner_of writer.new)) text.now) }
+    ensures ok { OnOk result (Appends (S.contents (inner_of writer.old))
+        (S.contents (inner_of writer.new)) text.now) }
     ensures good { OnOk result (has_failed writer.new ≡ false) }
-    ensures fault { IfErr result (λ fault. StopsWriting fault (S.contents (inner_of writer.old)) (S.contents (inner_of writer.new))
+    ensures fault { IfErr result (λ fault. StopsWriting fault (S.contents (inner_of writer.old))
+        (S.contents (inner_of writer.new))
         (has_failed writer.new) text.now) }
 {
     let mut written = 0;

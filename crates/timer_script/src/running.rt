@@ -27,7 +27,8 @@ use timer_facility::{Event, Facility, Out, Player};
 /// never copied; a longer one grows. Room that is not used costs an address range, and no pages.
 const GROWTH: usize = 4;
 
-/// Plays an event, and adds the line of each of its outs to the text. `outs` is used up, for its memory alone.
+/// Plays an event, and adds the line of each of its outs to the text. `outs` is used up, for its memory
+/// alone.
 fn play_event<W: Wheel + Drop>(
     player: &mut Player<W>,
     event: Event,
@@ -73,7 +74,8 @@ pub fn answer_to<W: Wheel + Drop>(
 ) -> Result<Vec<u8>, RunFault>
     requires pending { facility.state.pending ≡ [] }
     requires waiting { facility.waiting ≡ [] }
-    ensures ok { IfOk result (λ answer. (events : List Event) × IsScript events script.now × IsAnswer facility.state events answer.items) }
+    ensures ok { IfOk result (λ answer. (events : List Event) × IsScript events script.now
+        × IsAnswer facility.state events answer.items) }
     ensures fault { IfErr result (λ fault. GivesNoAnswer fault script.now) }
 {
     // What `owed` rests on is known of the state from here on.
@@ -106,9 +108,11 @@ pub fn run<R: Read, S: Write, W: Wheel + Drop>(
     requires writer_good { has_failed writer.old ≡ false }
     requires pending { facility.state.pending ≡ [] }
     requires waiting { facility.waiting ≡ [] }
-    ensures run { HasRun facility.state R.remaining S.contents reader.old reader.new writer.old writer.new result }
+    ensures run { HasRun facility.state R.remaining S.contents reader.old reader.new writer.old writer.new
+        result }
     ensures reader_failed { IsTrue (has_failed reader.new) ↔ IsErrOf result RunFault.Read }
-    ensures writer_failed { IsTrue (has_failed writer.new) ↔ ((written : ℕ) × IsErrOf result (RunFault.Write written)) }
+    ensures writer_failed { IsTrue (has_failed writer.new)
+        ↔ ((written : ℕ) × IsErrOf result (RunFault.Write written)) }
 {
     let bytes = read_script(alloc, reader)?;
     let answer = answer_to(alloc, &bytes, facility)?;

@@ -19,7 +19,8 @@ pub fn parse_script(alloc: Global, bytes: &[u8]) -> Result<Vec<Event>, ScriptFau
     // The bytes spell these events.
     ensures read { IfOk result (λ events. IsScript events.items bytes.now) }
     // They spell no other list of events.
-    ensures only { IfOk result (λ events. (others : List Event) → IsScript others bytes.now → others ≡ events.items) }
+    ensures only { IfOk result (λ events. (others : List Event) → IsScript others bytes.now
+        → others ≡ events.items) }
     // An error names the first bad line, unless memory ran out.
     ensures fault { IfErr result (λ fault. IsFault fault bytes.now) }
 {

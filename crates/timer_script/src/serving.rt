@@ -67,7 +67,8 @@ fn turn<P: Peer, W: Wheel + Drop>(
     requires good { AreGood (P.state peer.old) }
     requires answered { IsAnsweredSoFar session.old }
     ensures ok { IfOk result (λ n. HasTurned session.old (P.state peer.old) (P.state peer.new) session.new n) }
-    ensures fault { IfErr result (λ fault. StopsTurn fault session.old (P.state peer.old) (P.state peer.new) session.new) }
+    ensures fault { IfErr result (λ fault. StopsTurn fault session.old (P.state peer.old)
+        (P.state peer.new) session.new) }
 {
     let Ok(n) = peer.read(piece) else {
         return Err(ServeFault::Read);

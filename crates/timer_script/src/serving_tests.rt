@@ -75,7 +75,13 @@ impl Recording<'_> {
 }
 
 impl Peer for Recording<'_> {
-    ghost state = { λ r. record { remaining = None; contents = None; moments = None; read_failed = r.read_failed; write_failed = r.write_failed } };
+    ghost state = { λ r. record {
+      remaining = None;
+      contents = None;
+      moments = None;
+      read_failed = r.read_failed;
+      write_failed = r.write_failed;
+    } };
 
     fn read(&mut self, piece: &mut [u8]) -> io::Result<usize> {
         let result = self.give(piece);

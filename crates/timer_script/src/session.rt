@@ -51,9 +51,21 @@ impl<W: Wheel + Drop> Model for Session<W> {
 
     ghost Value = { SessionState };
 
-    ghost view = { λ s. record { state = s.player; unwritten = s.outs.items; held = s.held.items; lines = s.lines; stage = s.stage } };
+    ghost view = { λ s. record {
+      state = s.player;
+      unwritten = s.outs.items;
+      held = s.held.items;
+      lines = s.lines;
+      stage = s.stage;
+    } };
 
-    ghost invariant = { λ s. IsKept (record { state = s.player; unwritten = s.outs.items; held = s.held.items; lines = s.lines; stage = s.stage }) };
+    ghost invariant = { λ s. IsKept (record {
+      state = s.player;
+      unwritten = s.outs.items;
+      held = s.held.items;
+      lines = s.lines;
+      stage = s.stage;
+    }) };
 }
 
 impl<W: Wheel + Drop> Session<W> {
@@ -100,11 +112,14 @@ impl<W: Wheel + Drop> Session<W> {
         ensures answered { OnOk result (IsAnsweredSoFar self.new) }
 
         ensures taken { IfErr result (λ stop. stop.taken ≤ length piece.now) }
-        ensures stopped { IfErr result (λ stop. HasFed self.old (take stop.taken piece.now) text.old.items text.new.items self.new) }
+        ensures stopped { IfErr result (λ stop. HasFed self.old
+            (take stop.taken piece.now) text.old.items text.new.items self.new) }
         ensures fault { IfErr result (λ stop. WhyStopped stop.fault self.old self.new) }
 
-        ensures over { (fault : SessionFault) → IsOver fault self.old → result ≡ Err (record { taken = 0; fault = fault }) }
-        ensures unchanged { (fault : SessionFault) → IsOver fault self.old → (self.new ≡ self.old) × (text.new.items ≡ text.old.items) }
+        ensures over { (fault : SessionFault) → IsOver fault self.old
+            → result ≡ Err (record { taken = 0; fault = fault }) }
+        ensures unchanged { (fault : SessionFault) → IsOver fault self.old
+            → (self.new ≡ self.old) × (text.new.items ≡ text.old.items) }
     {
         if let Some(fault) = self.fault() {
             return Err(FeedStop { taken: 0, fault });
@@ -161,7 +176,8 @@ impl<W: Wheel + Drop> Session<W> {
     /// The error of every further call, where it takes no more bytes.
     fn fault(&self) -> Option<SessionFault>
         ensures over { IfSome result (λ fault. IsOver fault self.now) }
-        ensures only { IfSome result (λ fault. (other : SessionFault) → IsOver other self.now → other ≡ fault) }
+        ensures only { IfSome result (λ fault. (other : SessionFault) → IsOver other self.now
+            → other ≡ fault) }
         ensures going { IsNone result → self.now.stage ≡ Stage.Going }
         ensures kept { IsKept self.now }
     {
@@ -192,7 +208,8 @@ impl<W: Wheel + Drop> Session<W> {
     /// Appends the end line. The only error is out of memory, and then the text is unchanged.
     fn write_end(&mut self, text: &mut Vec<u8>) -> Result<(), OutOfMemory>
         ensures same { self.new ≡ self.old }
-        ensures text { OnOk result (text.new.items ≡ text.old.items ++ end_line self.old.state.now (length self.old.state.pending)) }
+        ensures text { OnOk result (text.new.items
+            ≡ text.old.items ++ end_line self.old.state.now (length self.old.state.pending)) }
         ensures err { OnErr result (text.new.items ≡ text.old.items) }
     {
         let now = self.player.facility().now();
@@ -203,7 +220,8 @@ impl<W: Wheel + Drop> Session<W> {
         Ok(())
     }
 
-    /// Writes the outs that are not in the text yet. The only error is out of memory, and then nothing changes.
+    /// Writes the outs that are not in the text yet. The only error is out of memory, and then nothing
+    /// changes.
     fn write_outs(&mut self, text: &mut Vec<u8>) -> Result<(), OutOfMemory>
         ensures written { OnOk result (text.new.items ≡ text.old.items ++ lines_of self.old.unwritten) }
         ensures left { OnOk result (self.new ≡ record self.old { unwritten = [] }) }
@@ -223,10 +241,12 @@ impl<W: Wheel + Drop> Session<W> {
         requires answered { IsAnsweredSoFar self.old }
         ensures some { IfOk result (λ n. 0 < n) }
         ensures within { IfOk result (λ n. n ≤ length bytes.now) }
-        ensures fed { IfOk result (λ n. HasFed self.old (take n bytes.now) text.old.items text.new.items self.new) }
+        ensures fed { IfOk result (λ n. HasFed self.old
+            (take n bytes.now) text.old.items text.new.items self.new) }
         ensures answered { OnOk result (IsAnsweredSoFar self.new) }
         ensures taken { IfErr result (λ stop. stop.taken ≤ length bytes.now) }
-        ensures stopped { IfErr result (λ stop. HasFed self.old (take stop.taken bytes.now) text.old.items text.new.items self.new) }
+        ensures stopped { IfErr result (λ stop. HasFed self.old
+            (take stop.taken bytes.now) text.old.items text.new.items self.new) }
         ensures fault { IfErr result (λ stop. HasStopped stop.fault self.new) }
     {
         let Ok((n, is_bad)) = self.play_line(bytes) else {
@@ -251,8 +271,10 @@ impl<W: Wheel + Drop> Session<W> {
         requires answered { IsAnsweredSoFar self.old }
         ensures some { IfOk result (λ r. 0 < r.0) }
         ensures within { IfOk result (λ r. r.0 ≤ length bytes.now) }
-        ensures fed { IfOk result (λ r. (text : List ℕ) → HasFed self.old (take r.0 bytes.now) text text self.new) }
-        ensures good { IfOk result (λ r. r.1 ≡ false → (self.new.stage ≡ Stage.Going) × IsPartial self.new.held) }
+        ensures fed { IfOk result (λ r. (text : List ℕ)
+            → HasFed self.old (take r.0 bytes.now) text text self.new) }
+        ensures good { IfOk result (λ r. r.1 ≡ false
+            → (self.new.stage ≡ Stage.Going) × IsPartial self.new.held) }
         ensures bad { IfOk result (λ r. r.1 ≡ true → HasFailed (next_line self.new) self.new) }
         ensures err { OnErr result (self.new ≡ self.old) }
     {

@@ -119,7 +119,8 @@ fn push_refused(
     reason: &[u8],
 ) -> Result<(), OutOfMemory>
     requires { length all.now ≤ MOST_NUMBERS }
-    ensures { OnOk result (out.new.items ≡ out.old.items ++ word.now ++ numbers all.now ++ codes " " ++ reason.now ++ codes "\n") }
+    ensures { OnOk result (out.new.items ≡ out.old.items ++ word.now ++ numbers all.now ++ codes " "
+        ++ reason.now ++ codes "\n") }
 {
     out.extend_from_slice(word)?;
     push_numbers(out, all)?;
@@ -130,19 +131,25 @@ fn push_refused(
 }
 
 /// Writes the answer to a client's request as its line.
+///
+/// Answers and outs are read where they stand, field by field. A copy is read in other pieces than the out
+/// was written in, and such a read waits for the writes.
 fn push_answer(
     text: &mut Vec<u8>,
     client: u64,
     number: u64,
-    answer: Answer,
+    answer: &Answer,
 ) -> Result<(), OutOfMemory>
-    ensures { OnOk result (text.new.items ≡ text.old.items ++ out_line (Out.Answered client number answer)) }
+    ensures { OnOk result (text.new.items
+        ≡ text.old.items ++ out_line (Out.Answered client number answer.now)) }
 {
     match answer {
-        Answer::Started { handle, deadline } => {
-            push_line(text, b"started", &[client, number, handle.serial, deadline])
-        }
-        Answer::Stopped { serial } => push_line(text, b"stopped", &[client, number, serial]),
+        Answer::Started { handle, deadline } => push_line(
+            text,
+            b"started",
+            &[client, number, handle.serial, *deadline],
+        ),
+        Answer::Stopped { serial } => push_line(text, b"stopped", &[client, number, *serial]),
         Answer::Restarted {
             handle,
             deadline,
@@ -150,29 +157,29 @@ fn push_answer(
         } => push_line(
             text,
             b"restarted",
-            &[client, number, old, handle.serial, deadline],
+            &[client, number, *old, handle.serial, *deadline],
         ),
         Answer::Refused(reason) => {
-            push_refused(text, b"refused", &[client, number], reason_of(reason))
+            push_refused(text, b"refused", &[client, number], reason_of(*reason))
         }
     }
 }
 
 /// Writes one out as its line.
-fn push_out(text: &mut Vec<u8>, out: Out) -> Result<(), OutOfMemory>
-    ensures { OnOk result (text.new.items ≡ text.old.items ++ out_line out) }
+fn push_out(text: &mut Vec<u8>, out: &Out) -> Result<(), OutOfMemory>
+    ensures { OnOk result (text.new.items ≡ text.old.items ++ out_line out.now) }
 {
     match out {
         Out::Answered {
             client,
             number,
             answer,
-        } => push_answer(text, client, number, answer),
+        } => push_answer(text, *client, *number, answer),
         Out::NotTaken {
             client,
             number,
             reason,
-        } => push_refused(text, b"refused", &[client, number], refusal_of(reason)),
+        } => push_refused(text, b"refused", &[*client, *number], refusal_of(*reason)),
         Out::Notice(Notice::Expired(t)) => push_line(
             text,
             b"expired",
@@ -183,9 +190,12 @@ fn push_out(text: &mut Vec<u8>, out: Out) -> Result<(), OutOfMemory>
             b"returned",
             &[t.client, t.serial, t.deadline, t.action],
         ),
-        Out::TickRefused(fault) => push_refused(text, b"tick refused", &[], fault_of(fault)),
-        Out::Closed { count } => push_line(text, b"closed", &[count]),
-        Out::CloseRefused => push_line(text, b"close refused closed", &[]),
+        Out::TickRefused(fault) => push_refused(text, b"tick refused", &[], fault_of(*fault)),
+        Out::Closed { count } => push_line(text, b"closed", &[*count]),
+        Out::CloseRefused => {
+            text.extend_from_slice(b"close refused closed\n")?;
+            Ok(())
+        }
     }
 }
 
@@ -194,7 +204,7 @@ pub fn push_outs(text: &mut Vec<u8>, outs: &[Out]) -> Result<(), OutOfMemory>
     ensures { OnOk result (text.new.items ≡ text.old.items ++ flat_map out_line outs.now) }
 {
     for out in outs {
-        push_out(text, *out)?;
+        push_out(text, out)?;
     }
     Ok(())
 }

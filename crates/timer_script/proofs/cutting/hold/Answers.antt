@@ -7,7 +7,8 @@ pub returns-then-bytes-len-eq10-clause-ok : goal.returns-then-bytes-len-eq10-cla
 returns-then-bytes-len-eq10-clause-ok c =
     let h = c.line_len-len.ensures in
     held_line c.args.held.now.items c.args.bytes.now c.extend_from_slice.new.self.items c.line_len-len.result c.ending_of_line-ending.result
-    c.requires.partial h.some h.within h.no_feed (search rules) (search rules) (search rules) (subst (EndsAsLine c.ending_of_line-ending.result) c.deref.ensures.value c.ending_of_line-ending.ensures)
+    c.requires.partial h.some h.within h.no_feed (search rules) (search rules) (search rules)
+    (subst (EndsAsLine c.ending_of_line-ending.result) c.deref.ensures.value c.ending_of_line-ending.ensures)
 
 pub returns-then-len-eq-MOST_LINE-clause-ok : goal.returns-then-len-eq-MOST_LINE-clause-ok
 returns-then-len-eq-MOST_LINE-clause-ok c =

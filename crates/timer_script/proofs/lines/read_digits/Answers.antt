@@ -8,7 +8,9 @@ use Rattle.timer_script.proofs.lines.read_digits.Goals.{else-loop-b-test, then-l
 use Rattle.timer_script.proofs.lines.read_digits.Goals as goal
 
 -- one more digit
-more : (s : List ℕ) (i j value byte digit : ℕ) → i ≡ j → j < length s → AllDigits 10 (take i s) → value ≡ digits_value 10 (take i s) → byte ≡ get_or s j 0 → (digit_value byte < 10) × (digit ≡ digit_value byte) → AllDigits 10 (take (i + 1) s) × (value * 10 + digit ≡ digits_value 10 (take (i + 1) s))
+more : (s : List ℕ) (i j value byte digit : ℕ) → i ≡ j → j < length s → AllDigits 10 (take i s) → value ≡ digits_value 10 (take i s)
+    → byte ≡ get_or s j 0 → (digit_value byte < 10) × (digit ≡ digit_value byte)
+    → AllDigits 10 (take (i + 1) s) × (value * 10 + digit ≡ digits_value 10 (take (i + 1) s))
 more s i j value byte digit same within all is read h =
     let inside : i < length s = omega arith in
     let at : byte ≡ get_or s i 0 = rw same read in

@@ -17,15 +17,20 @@ loop-rest-smaller g c =
 
 pub loop-rest-preserved : goal.loop-rest-preserved
 loop-rest-preserved g c =
-    played_more c.args.player.now c.loop-rest.player c.play_event.new.player c.args.script.now c.loop-rest.rest.now c.in-Some.after.now c.in-Some.event c.loop-rest.lines
-    c.args.text.now.items c.loop-rest.text.items c.play_event.new.text.items c.loop-rest.invariant (sym c.in-Some.ensures) c.in_ok-play_event.ensures
+    played_more c.args.player.now c.loop-rest.player c.play_event.new.player c.args.script.now c.loop-rest.rest.now c.in-Some.after.now
+    c.in-Some.event c.loop-rest.lines
+    c.args.text.now.items c.loop-rest.text.items c.play_event.new.text.items c.loop-rest.invariant
+    (sym c.in-Some.ensures) c.in_ok-play_event.ensures
 
 pub returns-in_default-clause-fault : goal.returns-in_default-clause-fault
 returns-in_default-clause-fault g c =
-    played_bad c.args.player.now c.loop-rest.player c.args.script.now c.loop-rest.rest.now c.loop-rest.lines c.args.text.now.items c.loop-rest.text.items c.loop-rest.invariant
+    played_bad c.args.player.now c.loop-rest.player c.args.script.now c.loop-rest.rest.now c.loop-rest.lines c.args.text.now.items
+    c.loop-rest.text.items c.loop-rest.invariant
     (not_empty (length c.loop-rest.rest.now) (sym c.is_empty.ensures ∙ c.loop-rest-test.true)) (sym c.in_default.ensures)
 
 pub returns-clause-ok : goal.returns-clause-ok
 returns-clause-ok g c =
-    let none : c.loop-rest.rest.now ≡ [] = nil_from_length _ (eqb-true (length c.loop-rest.rest.now) 0 (sym c.is_empty.ensures ∙ c.loop-rest-test.false)) in
-    played_all c.args.player.now c.loop-rest.player c.args.script.now c.loop-rest.rest.now c.loop-rest.lines c.args.text.now.items c.loop-rest.text.items c.loop-rest.invariant none
+    let none : c.loop-rest.rest.now ≡ [] = nil_from_length _ (eqb-true (length c.loop-rest.rest.now) 0 (sym c.is_empty.ensures
+    ∙ c.loop-rest-test.false)) in
+    played_all c.args.player.now c.loop-rest.player c.args.script.now c.loop-rest.rest.now c.loop-rest.lines c.args.text.now.items
+    c.loop-rest.text.items c.loop-rest.invariant none

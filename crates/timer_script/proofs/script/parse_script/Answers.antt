@@ -34,7 +34,8 @@ loop-rest-preserved c =
     let long = line_long c.in-Some.event in
     let i = c.loop-rest.invariant in
     record {
-      parts = rw c.in_ok-push.ensures.items (i.parts ∙ ap (λ t. spelling c.loop-rest.events.items ++ t) is ∙ sym (spelling_push c.loop-rest.events.items c.in-Some.event c.in-Some.after.now));
+      parts = rw c.in_ok-push.ensures.items (i.parts ∙ ap (λ t. spelling c.loop-rest.events.items ++ t) is
+          ∙ sym (spelling_push c.loop-rest.events.items c.in-Some.event c.in-Some.after.now));
       in_range = rw c.in_ok-push.ensures.items (all_push c.loop-rest.events.items c.in-Some.event i.in_range fits);
       counted = omega (arith, c.in_ok-push.ensures.len, ap length is, length-append (line c.in-Some.event) c.in-Some.after.now);
     }
@@ -42,6 +43,8 @@ loop-rest-preserved c =
 pub returns-clause-only : goal.returns-clause-only
 returns-clause-only c = λ others script.
     let i = c.loop-rest.invariant in
-    let none : c.loop-rest.rest.now ≡ [] = nil_from_length _ (eqb-true (length c.loop-rest.rest.now) 0 (sym c.is_empty.ensures ∙ c.loop-rest-test.false)) in
-    let whole : c.args.bytes.now ≡ spelling c.loop-rest.events.items = i.parts ∙ ap (λ t. spelling c.loop-rest.events.items ++ t) none ∙ append-nil (spelling c.loop-rest.events.items) in
+    let none : c.loop-rest.rest.now ≡ [] = nil_from_length _ (eqb-true (length c.loop-rest.rest.now) 0 (sym c.is_empty.ensures
+    ∙ c.loop-rest-test.false)) in
+    let whole : c.args.bytes.now ≡ spelling c.loop-rest.events.items =
+    i.parts ∙ ap (λ t. spelling c.loop-rest.events.items ++ t) none ∙ append-nil (spelling c.loop-rest.events.items) in
     one_spelling_is others c.loop-rest.events.items script.in_range i.in_range (sym script.lines ∙ whole)

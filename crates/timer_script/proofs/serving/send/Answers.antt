@@ -24,7 +24,8 @@ returns-then-n-eq0-clause-part g c =
       count = _;
       within = within_more c.args.text.now c.loop-written.written c.in-Ok.n i.within c.in-Ok.ensures.within;
       written = written_more _ _ _ c.args.text.now c.loop-written.written c.in-Ok.n i.sent c.in-Ok.ensures;
-      failed = took_none _ _ c.in-Ok.n _ i.good c.if-n-eq0.true (rest_some c.args.text.now c.loop-written.written c.loop-written-test.true) c.in-Ok.ensures;
+      failed = took_none _ _ c.in-Ok.n _ i.good c.if-n-eq0.true
+          (rest_some c.args.text.now c.loop-written.written c.loop-written-test.true) c.in-Ok.ensures;
     }
 
 pub loop-written-preserved : goal.loop-written-preserved
@@ -39,7 +40,8 @@ loop-written-preserved g c =
 pub returns-in-Ok-flush-clause-ok : goal.returns-in-Ok-flush-clause-ok
 returns-in-Ok-flush-clause-ok g c =
     let i = c.loop-written.invariant in
-    let whole = subst (λ t. HasWritten (g.P.Peer.state c.args.peer.now) t (g.P.Peer.state c.loop-written.peer)) (take_all c.loop-written.written c.args.text.now c.loop-written-test.false) i.sent in
+    let whole = subst (λ t. HasWritten (g.P.Peer.state c.args.peer.now) t (g.P.Peer.state c.loop-written.peer))
+    (take_all c.loop-written.written c.args.text.now c.loop-written-test.false) i.sent in
     sent_all _ _ _ c.args.text.now _ whole c.in-Ok-flush.ensures (c.in-Ok-flush.ensures.failed ∙ ap (λ b. b || false) i.good)
 
 pub returns-in-Err-clause-part : goal.returns-in-Err-clause-part

@@ -28,4 +28,5 @@ returns-clause-written c =
     spaced c.write_digits-at.new.buf _ c.write_digits-at.result (omega arith) (omega arith) c.write_digits-at.ensures.written
 
 pub returns-clause-room : goal.returns-clause-room
-returns-clause-room c = let h = short c.args.n c.ranges.n.fits in let r = c.requires.0 in let s = c.write_digits-at.ensures.start in omega arith
+returns-clause-room c = let h = short c.args.n c.ranges.n.fits in let r = c.requires.0 in let s = c.write_digits-at.ensures.start
+    in omega arith

@@ -15,7 +15,8 @@ returns-in_default-write_outs-clause-stopped g c =
 
 pub loop-taken-init : goal.loop-taken-init
 loop-taken-init g c = record {
-  fed = written_all c.args.self.now c.write_outs.new.self c.args.text.now.items c.write_outs.new.text.items c.in-Ok.ensures.left c.in-Ok.ensures.written;
+  fed = written_all c.args.self.now c.write_outs.new.self c.args.text.now.items c.write_outs.new.text.items c.in-Ok.ensures.left
+      c.in-Ok.ensures.written;
   answered = answered_written c.args.self.now c.write_outs.new.self c.fault.ensures.kept (search rules) c.in-Ok.ensures.left;
   within = omega arith;
 }
@@ -25,14 +26,16 @@ loop-taken-preserved g c =
     let i = c.loop-taken.invariant in
     let h = c.in-Ok-take_line.ensures in
     record {
-      fed = fed_more c.args.self.now c.loop-taken.self c.take_line.new.self c.args.piece.now c.loop-taken.taken c.in-Ok-take_line.n _ c.args.text.now.items c.loop-taken.text.items c.take_line.new.text.items refl i.fed h.fed;
+      fed = fed_more c.args.self.now c.loop-taken.self c.take_line.new.self c.args.piece.now c.loop-taken.taken c.in-Ok-take_line.n _
+          c.args.text.now.items c.loop-taken.text.items c.take_line.new.text.items refl i.fed h.fed;
       answered = h.answered;
       within = search rules;
     }
 
 pub returns-in-Err-clause-stopped : goal.returns-in-Err-clause-stopped
 returns-in-Err-clause-stopped g c =
-    fed_more c.args.self.now c.loop-taken.self c.take_line.new.self c.args.piece.now c.loop-taken.taken c.in-Err.stop.taken _ c.args.text.now.items c.loop-taken.text.items c.take_line.new.text.items refl
+    fed_more c.args.self.now c.loop-taken.self c.take_line.new.self c.args.piece.now c.loop-taken.taken c.in-Err.stop.taken _
+    c.args.text.now.items c.loop-taken.text.items c.take_line.new.text.items refl
     c.loop-taken.invariant.fed c.in-Err.ensures.stopped
 
 pub returns-in-Err-clause-fault : goal.returns-in-Err-clause-fault

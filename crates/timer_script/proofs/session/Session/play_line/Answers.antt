@@ -22,4 +22,5 @@ returns-in-Ok-clause-fed g c = λ text.
     let a : SessionState = record { state = s.player; unwritten = s.outs.items; held = s.held.items; lines = s.lines; stage = s.stage } in
     let h = c.in_ok-n.ensures.ok in
     let whole = subst (λ e. IsEnding e c.hold.new.held.items) c.in-Whole.is h.ending_is in
-    fed_line a c.args.self.now _ (take c.in_ok-n.n c.args.bytes.now) text c.in-Whole.event c.self.view_is whole.0 (sym h.joined ∙ whole.1) c.in-Ok.ensures.ok c.clear.ensures.items c.saturating_add-self-inside.ensures
+    fed_line a c.args.self.now _ (take c.in_ok-n.n c.args.bytes.now) text c.in-Whole.event c.self.view_is whole.0 (sym h.joined
+    ∙ whole.1) c.in-Ok.ensures.ok c.clear.ensures.items c.saturating_add-self-inside.ensures

@@ -9,5 +9,6 @@ returns-in_default-clause-stopped g c =
 
 pub returns-clause-fed : goal.returns-clause-fed
 returns-clause-fed g c =
-    fed_written c.args.self.now c.play_line.new.self c.write_outs.new.self (take c.in-Ok.n c.args.bytes.now) c.args.text.now.items c.write_outs.new.text.items
+    fed_written c.args.self.now c.play_line.new.self c.write_outs.new.self
+    (take c.in-Ok.n c.args.bytes.now) c.args.text.now.items c.write_outs.new.text.items
     (c.in-Ok.ensures.fed c.args.text.now.items) c.in-Ok-write_outs.ensures.left c.in-Ok-write_outs.ensures.written

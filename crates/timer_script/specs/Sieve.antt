@@ -1,0 +1,92 @@
+-- The lines of an input, good and bad.
+use Rattle.std.specs.Prelude.{◌≡◌, ℕ, ◌+◌, ◌-◌, ◌^◌, List, [], ◌∷◌, ◌++◌, take, min, codes, decimal}
+use Rattle.std.specs.List.{flat_map, AllByRecursion}
+use Rattle.timer_facility.specs.declared.event.Event.{Event}
+use Rattle.timer_script.specs.declared.cutting.TheConstants.{MOST_LINE}
+use Rattle.timer_script.specs.Cutting.{HasNoFeed}
+use Rattle.timer_script.specs.Script.{IsInRange, line, spelling, BeginsNoLine}
+
+-- a line of an input: that of an event, or a bad one, which is given without its line feed
+pub data Line : Type 0 where
+  Good : Event → Line
+  Bad : List ℕ → Line
+
+-- the bytes of a line
+abbrev pub bytes_of : Line → List ℕ
+bytes_of (Good event) = line event
+bytes_of (Bad front) = front ++ 10 ∷ []
+
+-- the numbers of a good line are in range, and a bad one is the line of no event
+abbrev pub IsLine : Line → Type 0
+IsLine (Good event) = IsInRange event
+IsLine (Bad front) = HasNoFeed front × BeginsNoLine (front ++ 10 ∷ [])
+
+-- the events of the good lines, in order
+abbrev pub events_of : List Line → List Event
+events_of [] = []
+events_of (Good event ∷ lines) = event ∷ events_of lines
+events_of (Bad front ∷ lines) = events_of lines
+
+-- the number of the line after the n-th; 2^64 - 1 stands for any later one
+abbrev pub number_after_line : ℕ → ℕ
+number_after_line n = min (n + 1) (2 ^ 64 - 1)
+
+-- the number of the line after these, of which the first is the n-th
+abbrev pub number_after : ℕ → List Line → ℕ
+number_after n [] = n
+number_after n (line ∷ lines) = number_after (number_after_line n) lines
+
+-- the numbers of the bad ones of these lines, of which the first is the n-th
+abbrev pub bad_of : ℕ → List Line → List ℕ
+bad_of n [] = []
+bad_of n (Good event ∷ lines) = bad_of (number_after_line n) lines
+bad_of n (Bad front ∷ lines) = n ∷ bad_of (number_after_line n) lines
+
+-- the bytes are these lines and the front of one more
+pub record IsCut (bytes : List ℕ) (lines : List Line) (left : List ℕ) : Type 0 where
+  pub parts : bytes ≡ flat_map bytes_of lines ++ left
+  pub each : AllByRecursion IsLine lines
+  pub unended : HasNoFeed left
+
+-- bytes after the last line feed are a bad line, the n-th
+abbrev pub last_bad : ℕ → List ℕ → List ℕ
+last_bad n [] = []
+last_bad n (b ∷ left) = n ∷ []
+
+-- the numbers of all bad lines of an input, counted from 1
+abbrev pub all_bad : List Line → List ℕ → List ℕ
+all_bad lines left = bad_of 1 lines ++ last_bad (number_after 1 lines) left
+
+-- what is reported of a bad line
+abbrev pub complaint : ℕ → List ℕ
+complaint n = codes "bad line " ++ decimal n ++ codes "\n"
+
+-- what is reported of bad lines
+abbrev pub complaints : List ℕ → List ℕ
+complaints numbers = flat_map complaint numbers
+
+-- of the front of a line as much is held as a line may have
+pub record IsHeld (held front : List ℕ) : Type 0 where
+  pub no_feed : HasNoFeed front
+  pub kept : held ≡ take MOST_LINE front
+
+-- a line of these bytes, the n-th, was ended: it is kept if it is good, and else reported
+pub record HasEndedLine (bytes : List ℕ) (n : ℕ) (good good' said said' : List ℕ) : Type 0 where
+  pub line : Line
+  pub bytes_is : bytes_of line ≡ bytes
+  pub is_line : IsLine line
+  pub good_is : good' ≡ good ++ spelling (events_of (line ∷ []))
+  pub said_is : said' ≡ said ++ complaints (bad_of n (line ∷ []))
+
+-- bytes came after the front of the n-th line: of the lines that they end the good ones are kept, and the
+-- others reported
+pub record HasSifted (front : List ℕ) (n : ℕ) (bytes good good' said said' held' : List ℕ)
+    (n' : ℕ) : Type 0 where
+  pub lines : List Line
+  pub left : List ℕ
+  pub parts : front ++ bytes ≡ flat_map bytes_of lines ++ left
+  pub each : AllByRecursion IsLine lines
+  pub held : IsHeld held' left
+  pub good_is : good' ≡ good ++ spelling (events_of lines)
+  pub said_is : said' ≡ said ++ complaints (bad_of n lines)
+  pub counted : n' ≡ number_after n lines
