@@ -36,15 +36,19 @@ adds_one front free unindented =
 numbered : (first : ℕ) (word all : List ℕ) → is_bare (first ∷ word) ≡ true → is_unindented (first ∷ []) ≡ true
     → AddsIndented ((first ∷ word) ++ numbers all ++ codes "\n") ((first ∷ word) ++ numbers all ++ codes "\n")
 numbered first word all free unindented =
-    adds_one ((first ∷ word) ++ numbers all) (no_feed-append (first ∷ word) (numbers all) (bare (first ∷ word) free) (numbers_bare all)) unindented
+    adds_one ((first ∷ word) ++ numbers all) (no_feed-append (first ∷ word) (numbers all) (bare (first ∷ word) free) (numbers_bare all))
+    unindented
 
 -- a word, numbers, and a reason
 refused : (all why : List ℕ) → is_bare why ≡ true
-    → AddsIndented (codes "refused" ++ numbers all ++ codes " " ++ why ++ codes "\n") (codes "refused" ++ numbers all ++ codes " " ++ why ++ codes "\n")
+    → AddsIndented (codes "refused" ++ numbers all ++ codes " " ++ why ++ codes "\n") (codes "refused" ++ numbers all ++ codes " " ++ why
+    ++ codes "\n")
 refused all why free =
     adds_one (codes "refused" ++ numbers all ++ codes " " ++ why)
     (no_feed-append (codes "refused" ++ numbers all ++ codes " ") why
-    (no_feed-append (codes "refused" ++ numbers all) (codes " ") (no_feed-append (codes "refused") (numbers all) (bare (codes "refused") refl) (numbers_bare all)) (bare (codes " ") refl)) (bare why free)) refl
+    (no_feed-append (codes "refused" ++ numbers all) (codes " ")
+    (no_feed-append (codes "refused") (numbers all) (bare (codes "refused") refl) (numbers_bare all)) (bare (codes " ") refl))
+    (bare why free)) refl
 
 reason_bare : (why : Reason) → is_bare (reason_word why) ≡ true
 reason_bare reason.ZeroInterval = refl
@@ -65,7 +69,8 @@ pub adds_end : (now pending : ℕ) → AddsIndented (end_line now pending) (end_
 adds_end now pending = numbered 101 (codes "nd") (now ∷ pending ∷ []) refl refl
 
 adds_out : (o : Out) → AddsIndented (out_line o) (out_line o)
-adds_out (out.Answered client number (Started handle deadline)) = numbered 115 (codes "tarted") (client ∷ number ∷ handle.serial ∷ deadline ∷ []) refl refl
+adds_out (out.Answered client number (Started handle deadline)) =
+    numbered 115 (codes "tarted") (client ∷ number ∷ handle.serial ∷ deadline ∷ []) refl refl
 adds_out (out.Answered client number (Stopped serial)) = numbered 115 (codes "topped") (client ∷ number ∷ serial ∷ []) refl refl
 adds_out (out.Answered client number (Restarted handle deadline old)) =
     numbered 114 (codes "estarted") (client ∷ number ∷ old ∷ handle.serial ∷ deadline ∷ []) refl refl

@@ -20,7 +20,11 @@ pub bare : (bytes : List ℕ) → is_bare bytes ≡ true → HasNoFeed bytes
 bare [] e = tt
 bare (b ∷ bytes) e = elim (either (b == 10)) [
   | inl k ↦ (let h : false ≡ true = ap (λ t. not t && is_bare bytes) (sym k) ∙ e in absurd cc)
-  | inr k ↦ (λ is. (let h : (10 == 10) ≡ false = subst (λ t. (t == 10) ≡ false) is k in absurd cc), bare bytes (ap (λ t. not t && is_bare bytes) (sym k) ∙ e))
+  | inr k ↦ (
+    λ is. (let h : (10 == 10) ≡ false = subst (λ t. (t == 10) ≡ false) is k
+        in absurd cc),
+    bare bytes (ap (λ t. not t && is_bare bytes) (sym k) ∙ e),
+  )
 ]
 
 digit_bare : (d : ℕ) → digit_glyph false d ≡ 10 → ⊥
@@ -58,7 +62,8 @@ adds_join a b x y f g = record {
   each = lines_join f.lines g.lines f.each g.each;
   text_is = ap (λ t. t ++ y) f.text_is ∙ ap (λ t. concat f.lines ++ t) g.text_is ∙ sym (concat-append f.lines g.lines);
   answer_is = ap (λ t. t ++ b) f.answer_is ∙ ap (λ t. concat (filter is_unindented f.lines) ++ t) g.answer_is
-      ∙ sym (concat-append (filter is_unindented f.lines) (filter is_unindented g.lines)) ∙ ap concat (sym (filter-append is_unindented f.lines g.lines));
+      ∙ sym (concat-append (filter is_unindented f.lines) (filter is_unindented g.lines))
+      ∙ ap concat (sym (filter-append is_unindented f.lines g.lines));
 }
 
 adds_line : (front : List ℕ) → HasNoFeed front → AddsIndented [] (32 ∷ front ++ 10 ∷ [])
@@ -82,9 +87,14 @@ line_ended a b c f e = (32 ∷ f.0 ++ 10 ∷ [], e ∙ ap (λ t. t ++ 10 ∷ [])
 
 -- a word that begins with a space, and a number
 pub front_begun : (a b word : List ℕ) (n : ℕ) → is_bare word ≡ true → b ≡ a ++ (32 ∷ word) ++ decimal n → HasGrownByFront a b
-front_begun a b word n free e = (word ++ decimal n, e ∙ append_assoc a (32 ∷ word) (decimal n), no_feed-append word (decimal n) (bare word free) (decimal_bare n))
+front_begun a b word n free e = (
+  word ++ decimal n,
+  e ∙ append_assoc a (32 ∷ word) (decimal n),
+  no_feed-append word (decimal n) (bare word free) (decimal_bare n),
+)
 
-pub front_begun_ok : {A E : Type 0} (result : Result A E) (a b word : List ℕ) (n : ℕ) → is_bare word ≡ true → OnOk result (b ≡ a ++ (32 ∷ word) ++ decimal n) → OnOk result (HasGrownByFront a b)
+pub front_begun_ok : {A E : Type 0} (result : Result A E) (a b word : List ℕ) (n : ℕ) → is_bare word ≡ true
+    → OnOk result (b ≡ a ++ (32 ∷ word) ++ decimal n) → OnOk result (HasGrownByFront a b)
 front_begun_ok (Ok x) a b word n free h = front_begun a b word n free h
 front_begun_ok (Err e) a b word n free h = tt
 
@@ -93,10 +103,13 @@ pub front_grown : (a b c more : List ℕ) → HasNoFeed more → HasGrownByFront
 front_grown a b c more free f e =
     (f.0 ++ more, e ∙ ap (λ t. t ++ more) f.1 ∙ append_assoc a (32 ∷ f.0) more, no_feed-append f.0 more f.2 free)
 
-pub front_numbered : (a b c word : List ℕ) (n : ℕ) → is_bare word ≡ true → HasGrownByFront a b → c ≡ b ++ word ++ decimal n → HasGrownByFront a c
-front_numbered a b c word n free f e = front_grown a b c (word ++ decimal n) (no_feed-append word (decimal n) (bare word free) (decimal_bare n)) f (e ∙ append_assoc b word (decimal n))
+pub front_numbered : (a b c word : List ℕ) (n : ℕ) → is_bare word ≡ true → HasGrownByFront a b → c ≡ b ++ word ++ decimal n
+    → HasGrownByFront a c
+front_numbered a b c word n free f e = front_grown a b c (word ++ decimal n)
+    (no_feed-append word (decimal n) (bare word free) (decimal_bare n)) f (e ∙ append_assoc b word (decimal n))
 
-pub front_numbered_ok : {A E : Type 0} (result : Result A E) (a b c word : List ℕ) (n : ℕ) → is_bare word ≡ true → HasGrownByFront a b → OnOk result (c ≡ b ++ word ++ decimal n) → OnOk result (HasGrownByFront a c)
+pub front_numbered_ok : {A E : Type 0} (result : Result A E) (a b c word : List ℕ) (n : ℕ) → is_bare word ≡ true → HasGrownByFront a b
+    → OnOk result (c ≡ b ++ word ++ decimal n) → OnOk result (HasGrownByFront a c)
 front_numbered_ok (Ok x) a b c word n free f h = front_numbered a b c word n free f h
 front_numbered_ok (Err e) a b c word n free f h = tt
 
@@ -106,6 +119,7 @@ front_kept a b c f g = (32 ∷ f.0 ++ g.0, g.1 ∙ ap (λ t. t ++ g.0) f.1 ∙ a
 pub indented_kept : (a b c : List ℕ) → HasGrownByIndented a b → HasGrown b c → HasGrown a c
 indented_kept a b c f g = (f.0 ++ g.0, g.1 ∙ ap (λ t. t ++ g.0) f.1 ∙ append_assoc a f.0 g.0)
 
-pub grown_ok : {A E : Type 0} (result : Result A E) (a b c : List ℕ) → HasGrownByIndented a b → OnOk result (HasGrownByIndented b c) → OnOk result (HasGrownByIndented a c)
+pub grown_ok : {A E : Type 0} (result : Result A E) (a b c : List ℕ) → HasGrownByIndented a b → OnOk result (HasGrownByIndented b c)
+    → OnOk result (HasGrownByIndented a c)
 grown_ok (Ok x) a b c f g = grown_join a b c f g
 grown_ok (Err e) a b c f g = tt

@@ -4,16 +4,19 @@ use Rattle.std.specs.List.{slice_index}
 use Rattle.clap.specs.declared.error.kind.ErrorKind.{ErrorKind}
 use Rattle.clap.specs.declared.error.kind.ErrorKind.TheVariants as kinds
 use Rattle.timer_program.specs.declared.arguments.Asked.{Asked}
-use Rattle.timer_program.specs.declared.arguments.Asked.TheVariants.{Play, Serve, Show, Threads}
+use Rattle.timer_program.specs.declared.arguments.Asked.TheVariants.{Play, Serve, ServeGood, Show, Threads, Check}
 
 -- the name of the subcommand that is asked for
 abbrev pub subcommand_of : Asked → List ℕ
 subcommand_of (Play asked) = codes "play"
 subcommand_of (Serve asked) = codes "serve"
+subcommand_of (ServeGood asked) = codes "serve"
 subcommand_of (Show asked) = codes "show"
 subcommand_of (Threads asked) = codes "threads"
+subcommand_of Check = codes "check"
 
--- the subcommand that the arguments after the program's name name: the first of them, or `play` where there is none
+-- the subcommand that the arguments after the program's name name: the first of them, or `play` where there
+-- is none
 abbrev pub named : {S : Type 0} → (S → List ℕ) → List S → List ℕ
 named text [] = codes "play"
 named text (first ∷ rest) = text first
@@ -30,4 +33,5 @@ IsShortOfText argument =
 -- the argument asks for help or for the version
 abbrev pub AsksForText : List ℕ → Type 0
 AsksForText argument =
-    (argument ≡ codes "help") ⊎ ((argument ≡ codes "--help") ⊎ ((argument ≡ codes "--version") ⊎ IsShortOfText argument))
+    (argument ≡ codes "help") ⊎ ((argument ≡ codes "--help")
+    ⊎ ((argument ≡ codes "--version") ⊎ IsShortOfText argument))

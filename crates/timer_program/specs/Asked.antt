@@ -44,7 +44,9 @@ pub record IsPlayable (asked : Play) : Type 0 where
 -- why it is refused: the first test that fails
 abbrev pub IsRefused : PlayFault → Play → Type 0
 IsRefused (faults.Config fault) asked = config_fault (config_of asked) ≡ Some fault
-IsRefused faults.Slots asked = (config_fault (config_of asked) ≡ None) × ((asked.slots ≡ 0) ⊎ (65536 < asked.slots))
+IsRefused faults.Slots asked = (config_fault (config_of asked) ≡ None)
+    × ((asked.slots ≡ 0) ⊎ (65536 < asked.slots))
 IsRefused (faults.FirstTick last) asked =
-    (config_fault (config_of asked) ≡ None) × (1 ≤ asked.slots) × (asked.slots ≤ 65536) × (last ≡ scheme_last asked.scheme)
+    (config_fault (config_of asked) ≡ None) × (1 ≤ asked.slots) × (asked.slots ≤ 65536)
+    × (last ≡ scheme_last asked.scheme)
     × (last < asked.first_tick)

@@ -16,11 +16,13 @@ pub record AreFew (asked : Clients) : Type 0 where
   pub few_timers : asked.timers ≤ 10000
 
 -- the clients ran to their end and their whole text was written, or not
-pub record HasRunClients {S : Type 0} (asked : Clients) (contents : S → Option (List ℕ)) (writer writer' : Watched S) (status : ℕ) : Type 0 where
+pub record HasRunClients {S : Type 0} (asked : Clients) (contents : S
+    → Option (List ℕ)) (writer writer' : Watched S) (status : ℕ) : Type 0 where
   pub in_range : status ≤ 2
   -- 0: the whole text was written
   pub written : status ≡ 0
-      → AreFew asked × Appends (contents (inner_of writer)) (contents (inner_of writer')) (whole_text asked.clients asked.timers)
+      → AreFew asked × Appends (contents (inner_of writer)) (contents (inner_of writer'))
+      (whole_text asked.clients asked.timers)
       × (has_failed writer' ≡ false)
   -- 1: the writer failed, or nothing was written
   pub failed : status ≡ 1 → AreFew asked × ((has_failed writer' ≡ true) ⊎ (writer' ≡ writer))
@@ -44,10 +46,12 @@ WritesWhole contents writer writer' text =
     ⊎ ((has_failed writer' ≡ false) × Appends (contents (inner_of writer)) (contents (inner_of writer')) text)
 
 -- what was written of a run of clients: its text; or nothing, and on the other writer the line of its error
-abbrev pub HasEndedClients : {S F A : Type 0} → Result (Vec ℕ A) ThreadsFault → (S → Option (List ℕ)) → (F → Option (List ℕ))
+abbrev pub HasEndedClients : {S F A : Type 0} → Result (Vec ℕ A) ThreadsFault → (S → Option (List ℕ))
+    → (F → Option (List ℕ))
     → (writer writer' : Watched S) (faults faults' : Watched F) → ℕ → Type 0
 HasEndedClients (Ok text) contents contents-of-faults writer writer' errors errors' status =
-    ((status ≡ 0) × (has_failed writer' ≡ false) × Appends (contents (inner_of writer)) (contents (inner_of writer')) text.items)
+    ((status ≡ 0) × (has_failed writer' ≡ false) × Appends (contents (inner_of writer))
+    (contents (inner_of writer')) text.items)
     ⊎ ((status ≡ 1) × (has_failed writer' ≡ true))
 HasEndedClients (Err fault) contents contents-of-faults writer writer' errors errors' status =
     (status ≡ 1) × (writer' ≡ writer) × WritesWhole contents-of-faults errors errors' (fault_line fault)

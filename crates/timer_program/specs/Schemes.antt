@@ -13,4 +13,5 @@ abbrev pub IsWheelOf : Play → SchemeWheel → Type 0
 IsWheelOf asked (Plain wheel) = asked.scheme ≡ scheme.Plain
 IsWheelOf asked (Hashed wheel) = (asked.scheme ≡ scheme.Hashed) × (slots_of wheel ≡ asked.slots)
 IsWheelOf asked (Hier wheel) =
-    ((asked.scheme ≡ scheme.Hier) × (table_of wheel ≡ table.Wide)) ⊎ ((asked.scheme ≡ scheme.Clock) × (table_of wheel ≡ table.Clock))
+    ((asked.scheme ≡ scheme.Hier) × (table_of wheel ≡ table.Wide))
+    ⊎ ((asked.scheme ≡ scheme.Clock) × (table_of wheel ≡ table.Clock))

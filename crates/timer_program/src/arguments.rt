@@ -5,6 +5,7 @@
 //!     timers serve [OPTIONS]        answers the lines of standard input as they come
 //!     timers show [OPTIONS]         does so, and shows after each line where the timers stand
 //!     timers threads [OPTIONS]      runs clients in threads of their own
+//!     timers check                  reports each bad line of the script on standard input
 //!     timers help, timers --help    what the program is
 //!     timers --version              its name and version
 //!
@@ -16,12 +17,13 @@ ghost use Rattle.timer_program.specs.Asked.{name_of};
 
 use crate::asked::{Play, Scheme};
 use crate::help::{
-    ABOUT, NAME, PLACEMENTS, PLAY_ABOUT, PLAY_USAGE, SCHEMES, SCRIPTS, SERVE_ABOUT, SERVE_USAGE,
-    SHOW_ABOUT, SHOW_USAGE, STREAMS, THREADS, THREADS_ABOUT, USAGE, VERSION,
+    ABOUT, CHECK_ABOUT, CHECK_USAGE, CHECKS, NAME, PLACEMENTS, PLAY_ABOUT, PLAY_USAGE, SCHEMES,
+    SCRIPTS, SERVE_ABOUT, SERVE_USAGE, SHOW_ABOUT, SHOW_USAGE, STREAMS, THREADS, THREADS_ABOUT,
+    USAGE, VERSION,
 };
 use crate::requested::Clients;
 use clap::error::ErrorKind;
-use clap::{Arg, ArgMatches, Command, Error, value_parser};
+use clap::{Arg, ArgAction, ArgMatches, Command, Error, value_parser};
 use std::alloc::{AllocError, Global};
 use std::convert::AsStr;
 
@@ -32,10 +34,14 @@ pub enum Asked {
     Play(Play),
     /// `serve`: answer the lines of standard input as they come.
     Serve(Play),
+    /// `serve --keep-going`: answer the good ones as they come, and report the bad ones.
+    ServeGood(Play),
     /// `show`: answer them, and show after each where the timers stand.
     Show(Play),
     /// `threads`: run clients in threads of their own.
     Threads(Clients),
+    /// `check`: report each bad line of the script on standard input.
+    Check,
 }
 
 /// The names of the schemes.
@@ -118,6 +124,15 @@ fn playing_command<'a>(
         .arg(first_tick)
 }
 
+/// The subcommand `serve` with the options of `play` and its own.
+fn serve_command<'a>(alloc: Global) -> Result<Command<'a>, AllocError> {
+    let keep_going = Arg::new(alloc, "keep-going")
+        .long("keep-going")
+        .action(ArgAction::SetTrue)
+        .help("Report each bad line on standard error, and go on with the next line");
+    playing_command(alloc, "serve", SERVE_USAGE, SERVE_ABOUT, STREAMS)?.arg(keep_going)
+}
+
 /// The subcommand `threads` with its options.
 fn threads_command<'a>(alloc: Global) -> Result<Command<'a>, AllocError> {
     let clients = number(
@@ -143,6 +158,14 @@ fn threads_command<'a>(alloc: Global) -> Result<Command<'a>, AllocError> {
         .arg(timers)
 }
 
+/// The subcommand `check`, which has no options.
+fn check_command<'a>(alloc: Global) -> Command<'a> {
+    Command::new(alloc, "check")
+        .override_usage(CHECK_USAGE)
+        .about(CHECK_ABOUT)
+        .after_help(CHECKS)
+}
+
 /// The whole command line. A subcommand may be left out only where there are no arguments at all.
 fn program<'a>(alloc: Global) -> Result<Command<'a>, AllocError> {
     Command::new(alloc, NAME)
@@ -153,9 +176,10 @@ fn program<'a>(alloc: Global) -> Result<Command<'a>, AllocError> {
         .after_help(SCRIPTS)
         .no_binary_name(true)
         .subcommand(playing_command(alloc, "play", PLAY_USAGE, PLAY_ABOUT, SCHEMES)?)?
-        .subcommand(playing_command(alloc, "serve", SERVE_USAGE, SERVE_ABOUT, STREAMS)?)?
+        .subcommand(serve_command(alloc)?)?
         .subcommand(playing_command(alloc, "show", SHOW_USAGE, SHOW_ABOUT, PLACEMENTS)?)?
-        .subcommand(threads_command(alloc)?)
+        .subcommand(threads_command(alloc)?)?
+        .subcommand(check_command(alloc))
 }
 
 /// The scheme of this name.
@@ -196,9 +220,11 @@ fn asked_of(name: &str, options: &ArgMatches) -> Option<Asked>
 {
     match name {
         "play" => Some(Asked::Play(play_of(options)?)),
+        "serve" if options.get_flag("keep-going") => Some(Asked::ServeGood(play_of(options)?)),
         "serve" => Some(Asked::Serve(play_of(options)?)),
         "show" => Some(Asked::Show(play_of(options)?)),
         "threads" => Some(Asked::Threads(clients_of(options)?)),
+        "check" => Some(Asked::Check),
         _ => None,
     }
 }
@@ -264,14 +290,16 @@ fn any_of_text<S: AsStr>(arguments: &[S]) -> bool
 /// An error is a request for help or for the version, a refusal, or out of memory.
 pub fn read_arguments<S: AsStr>(alloc: Global, arguments: &[S]) -> Result<Asked, Error>
     ensures call { IfOk result (λ asked. named S.text arguments.now ≡ subcommand_of asked) }
-    ensures text { IfErr result (λ error. IsShown (kind_of error) → Any (λ argument. AsksForText (S.text argument)) arguments.now) }
+    ensures text { IfErr result (λ error. IsShown (kind_of error)
+        → Any (λ argument. AsksForText (S.text argument)) arguments.now) }
 {
     let read = match arguments.first() {
         Some(name) => parsed(alloc, name.as_str(), arguments),
         None => parsed(alloc, "play", PLAY.as_slice()),
     };
     match read {
-        // However `clap` reads the arguments, a call whose arguments don't ask for a text doesn't end with one.
+        // However `clap` reads the arguments, a call whose arguments don't ask for a text doesn't end with
+        // one.
         Err(error) if !error.use_stderr() && !any_of_text(arguments) => Err(refusal(alloc)?),
         read => read,
     }

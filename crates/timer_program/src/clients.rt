@@ -65,7 +65,8 @@ pub fn end_clients<W: Write, F: Write>(
 /// Writes the line of an error of a run of clients. Does not allocate.
 fn write_fault<F: Write>(fault: ThreadsFault, faults: &mut Watched<F>) -> Result<(), RunFault>
     requires { has_failed faults.old ≡ false }
-    ensures ok { OnOk result (Appends (F.contents (inner_of faults.old)) (F.contents (inner_of faults.new)) (fault_line fault)) }
+    ensures ok { OnOk result (Appends (F.contents (inner_of faults.old)) (F.contents (inner_of faults.new))
+        (fault_line fault)) }
     ensures good { OnOk result (has_failed faults.new ≡ false) }
     ensures failed { OnErr result (has_failed faults.new ≡ true) }
 {
@@ -79,7 +80,8 @@ fn write_fault<F: Write>(fault: ThreadsFault, faults: &mut Watched<F>) -> Result
 /// Writes the line of an error of this client.
 fn write_client<F: Write>(client: usize, faults: &mut Watched<F>) -> Result<(), RunFault>
     requires { has_failed faults.old ≡ false }
-    ensures ok { OnOk result (Appends (F.contents (inner_of faults.old)) (F.contents (inner_of faults.new)) (client_fault client)) }
+    ensures ok { OnOk result (Appends (F.contents (inner_of faults.old)) (F.contents (inner_of faults.new))
+        (client_fault client)) }
     ensures good { OnOk result (has_failed faults.new ≡ false) }
     ensures failed { OnErr result (has_failed faults.new ≡ true) }
 {

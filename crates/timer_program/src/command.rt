@@ -7,7 +7,9 @@ ghost use Rattle.timer_script.specs.Watched.{inner_of, has_failed};
 
 use crate::arguments::{Asked, read_arguments};
 use crate::asked::Play;
+use crate::checker::check_script;
 use crate::clients::run_clients;
+use crate::forgiving::serve_good_lines;
 use crate::reporting::report;
 use crate::schemes::play_by_scheme;
 use crate::server::serve_lines;
@@ -22,8 +24,10 @@ use timer_script::{RunFault, Streams, Watched, write_text};
 
 /// Runs the program on the arguments after its name, and returns its exit status.
 ///
-/// 0: the script was played, or the stream served or shown to its end, or the clients ran to theirs, and the text
-/// was written, or help was asked for and written. 1: an error, reported in one line on `faults`. 2: the
+/// 0: the script was played, or the stream served or shown to its end, or the clients ran to theirs, and the
+/// text was written, or help was asked for and written, or a checked script has no bad line. 1: an error,
+/// reported in one line on `faults`; or a checked script has a bad line, and each is reported on standard
+/// output; or a stream that is served past bad lines has one, and each is reported on `faults`. 2: the
 /// arguments are refused, for the reason that `faults` gets; nothing is read or written. An error in
 /// writing to `faults` is ignored. Neither the reader nor the writer may have failed before. Waits where
 /// clients run in threads.
@@ -31,12 +35,13 @@ pub fn command<T: AllocGlobal + Threads, S: AsStr, R: Read, W: Write, F: Write>(
     rt: &T,
     arguments: &[S],
     streams: &mut Streams<R, W>,
-    faults: &mut F,
+    faults: &mut Watched<F>,
 ) -> u8
     requires reader_good { has_failed streams.old.reader ≡ false }
     requires writer_good { has_failed streams.old.writer ≡ false }
-    ensures { HasEnded S.text arguments.now R.remaining W.contents
-        streams.old.reader streams.new.reader streams.old.writer streams.new.writer result }
+    ensures { HasEnded S.text arguments.now R.remaining W.contents F.contents
+        streams.old.reader streams.new.reader streams.old.writer streams.new.writer
+        faults.old faults.new result }
 {
     let read = read_arguments(rt.alloc(), arguments);
     do_asked(rt, read, streams, faults)
@@ -47,11 +52,13 @@ fn do_asked<T: AllocGlobal + Threads, R: Read, W: Write, F: Write>(
     rt: &T,
     read: Result<Asked, Error>,
     streams: &mut Streams<R, W>,
-    faults: &mut F,
+    faults: &mut Watched<F>,
 ) -> u8
     requires reader_good { has_failed streams.old.reader ≡ false }
     requires writer_good { has_failed streams.old.writer ≡ false }
-    ensures { HasDone read R.remaining W.contents streams.old.reader streams.new.reader streams.old.writer streams.new.writer result }
+    ensures { HasDone read R.remaining W.contents F.contents
+        streams.old.reader streams.new.reader streams.old.writer streams.new.writer
+        faults.old faults.new result }
 {
     let alloc = rt.alloc();
     match read {
@@ -63,8 +70,10 @@ fn do_asked<T: AllocGlobal + Threads, R: Read, W: Write, F: Write>(
             faults,
         ),
         Ok(Asked::Serve(asked)) => serve_lines(alloc, asked, streams, faults),
+        Ok(Asked::ServeGood(asked)) => serve_good_lines(alloc, asked, streams, faults),
         Ok(Asked::Show(asked)) => show_stream(alloc, asked, streams, faults),
         Ok(Asked::Threads(asked)) => run_clients(rt, alloc, asked, &mut streams.writer, faults),
+        Ok(Asked::Check) => check_script(alloc, &mut streams.reader, &mut streams.writer, faults),
         Err(error) => end_unplayed(alloc, &error, &mut streams.writer, faults),
     }
 }
@@ -105,10 +114,12 @@ fn end_unplayed<W: Write, F: Write>(
     requires { has_failed writer.old ≡ false }
     ensures in_range { result ≤ 2 }
     ensures out_of_memory { kind_of error.now ≡ ErrorKind.OutOfMemory → result ≡ 1 }
-    ensures help { ((kind_of error.now ≡ ErrorKind.DisplayHelp) ⊎ (kind_of error.now ≡ ErrorKind.DisplayVersion)) → result ≤ 1 }
+    ensures help { ((kind_of error.now ≡ ErrorKind.DisplayHelp)
+        ⊎ (kind_of error.now ≡ ErrorKind.DisplayVersion)) → result ≤ 1 }
     ensures refused { kind_of error.now ≢ ErrorKind.OutOfMemory → kind_of error.now ≢ ErrorKind.DisplayHelp
         → kind_of error.now ≢ ErrorKind.DisplayVersion → result ≡ 2 }
-    ensures written { result ≡ 0 → ((text : List ℕ) × Appends (W.contents (inner_of writer.old)) (W.contents (inner_of writer.new)) text)
+    ensures written { result ≡ 0 → ((text : List ℕ)
+        × Appends (W.contents (inner_of writer.old)) (W.contents (inner_of writer.new)) text)
         × (has_failed writer.new ≡ false) }
     ensures failed { result ≡ 1 → (has_failed writer.new ≡ true) ⊎ (writer.new ≡ writer.old) }
     ensures unwritten { result ≡ 2 → writer.new ≡ writer.old }

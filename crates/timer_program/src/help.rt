@@ -40,6 +40,7 @@ included; there is no CR, no tab, no comment, no empty line, and no space at eit
 end of a line. Words are in lower case. A number is decimal, 0 to 1152921504606846975,
 with no sign and no leading zero. A script has at most 1048576 bytes. The first line
 that breaks a rule is reported as `bad line L`, counted from 1, and nothing is played.
+`timers check` reports every bad line, with its column and the reason.
 A well-formed line that is refused, such as a start with interval 0, is played, and
 its refusal is written.
 
@@ -87,7 +88,9 @@ input the line `end` is written. The input may have any length. Read the answers
 you write: when the pipe of the answers is full, no more lines are read.
 
 A bad line ends the stream: the lines before it have been answered, and `bad line L`
-is reported. A last line without its line feed is a bad line.
+is reported. A last line without its line feed is a bad line. With `--keep-going` the
+stream goes on after a bad line: each one is reported and skipped, the others are
+answered, and the exit status is 1 at the end.
 
 For example, another program writes to the input and reads the output of `timers serve`:
   start 0 1 30 7         started 0 1 1 30
@@ -149,3 +152,25 @@ The exit status is 0 if each client came to its end, 1 after an error, which is
 reported in one line on standard error (`client C failed`, `desk failed`,
 `out of memory` or `write failed`), and 2 if the arguments are refused. Nothing is read
 from standard input.";
+
+pub static CHECK_USAGE: &str = "timers check < FILE";
+
+pub static CHECK_ABOUT: &str =
+    "Reports every bad line of the script on standard input, and plays nothing";
+
+/// What stands below the help of `check`.
+pub static CHECKS: &str = "\
+For each bad line the number of the line, the column, the field and the reason are
+written. The column is that of the first byte with which no line can begin, in bytes
+and counted from 1. For example:
+  $ printf 'tick 1\\nstart 0 1 05 7\\nstart 0 2 5\\ntick 0\\n' | timers check
+  line 2, column 12: interval: leading zero
+  line 3, column 12: action: missing field
+  line 4, column 6: count: out of range 1 to 1000000
+
+`timers help` describes the lines of a script. A well-formed line that would be refused,
+such as a start with interval 0, is good.
+
+The exit status is 0 if no line is bad, and then nothing is written. It is 1 if a line is
+bad, and after an error, which is reported in one line on standard error (`too long`,
+`read failed`, `write failed` or `out of memory`). It is 2 if the arguments are refused.";

@@ -3,19 +3,24 @@
 //!
 //! What a script is, the text that answers it, and the run between are in timer_script. Here is the program
 //! around them: `arguments` (what the user types), `asked` and `requested` (its ranges), `schemes`
-//! (the wheel), and `command`, over arguments, input and outputs, up to the exit status, with `server` and
-//! `clients` for two of its subcommands, and `show`, `showing` and `placement` for the one that draws where
-//! the timers stand. A module's definitions are in the file of its name in `specs/`.
+//! (the wheel), and `command`, over arguments, input and outputs, up to the exit status, with `server`
+//! (`forgiving` past bad lines), `clients` and `checker` for three of its subcommands, and `show`, `showing`
+//! and `placement` for the one that draws where the timers stand. A module's definitions are in the file of
+//! its name in `specs/`.
 #![tactic(auto)]
 
 #[cfg(test)]
 mod argument_tests;
 mod arguments;
 mod asked;
+mod checker;
+#[cfg(test)]
+mod checker_tests;
 mod clients;
 #[cfg(test)]
 mod clients_tests;
 mod command;
+mod forgiving;
 #[cfg(test)]
 mod handle_tests;
 mod help;
@@ -43,11 +48,11 @@ mod unread;
 use command::command;
 use std::process::ExitCode;
 use std::{env, io};
-use timer_script::Streams;
+use timer_script::{Streams, Watched};
 use unread::{after_name, end_without_arguments};
 
 fn main(rt: HostRuntime) -> ExitCode {
-    let mut faults = rt.stderr();
+    let mut faults = Watched::new(rt.stderr());
     let status = match all_arguments(&rt) {
         Ok(arguments) => command(
             &rt,

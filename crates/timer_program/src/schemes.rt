@@ -14,6 +14,7 @@ ghost use Rattle.timer_program.specs.Schemes.{IsWheelOf};
 ghost use Rattle.timer_program.specs.Showing.{HasShown};
 ghost use Rattle.timer_script.specs.Running.{HasRun};
 ghost use Rattle.timer_script.specs.Serving.{AreGood, HasServed};
+ghost use Rattle.timer_script.specs.Forgiving.{HasServedGood};
 ghost use Rattle.timer_script.specs.Watched.{has_failed};
 
 use crate::asked::{Play, Scheme};
@@ -23,7 +24,7 @@ use std::alloc::Global;
 use std::io::{Read, Write};
 use timer_base::{MakeFault, OutOfMemory, PlainWheel, Wheel};
 use timer_facility::{Checked, Facility};
-use timer_script::{Peer, RunFault, ServeFault, Watched, run, serve};
+use timer_script::{Peer, RunFault, ServeFault, Watched, run, serve, serve_good};
 use timer_wheels::{HashedWheel, HierWheel, Table};
 
 /// An empty wheel of one of the schemes.
@@ -65,7 +66,8 @@ impl OfScheme for HierWheel {
 /// The hashed wheel that is asked for. Fails only by memory, since its numbers are in their ranges.
 fn hashed_wheel(alloc: Global, asked: Play) -> Result<HashedWheel, OutOfMemory>
     requires { IsPlayable asked }
-    ensures state { IfOk result (λ wheel. ⟦<HashedWheel as Wheel>⟧.state wheel ≡ empty_wheel LAST asked.first_tick) }
+    ensures state { IfOk result (λ wheel. ⟦<HashedWheel as Wheel>⟧.state wheel
+        ≡ empty_wheel LAST asked.first_tick) }
     ensures slots { IfOk result (λ wheel. slots_of wheel ≡ asked.slots) }
 {
     match HashedWheel::new(alloc, asked.slots as usize, asked.first_tick) {
@@ -78,7 +80,8 @@ fn hashed_wheel(alloc: Global, asked: Play) -> Result<HashedWheel, OutOfMemory>
 /// The hierarchical wheel of a table. Fails only by memory.
 fn hier_wheel(alloc: Global, table: Table, first_tick: u64) -> Result<HierWheel, OutOfMemory>
     requires { first_tick ≤ last_of_table table }
-    ensures state { IfOk result (λ wheel. ⟦<HierWheel as Wheel>⟧.state wheel ≡ empty_wheel (last_of_table table) first_tick) }
+    ensures state { IfOk result (λ wheel. ⟦<HierWheel as Wheel>⟧.state wheel
+        ≡ empty_wheel (last_of_table table) first_tick) }
     ensures table { IfOk result (λ wheel. table_of wheel ≡ table) }
 {
     match HierWheel::with_table(alloc, table, first_tick) {
@@ -134,7 +137,8 @@ pub fn play_by_scheme<R: Read, S: Write>(
     requires config { checked ≡ config_of asked }
     requires reader_good { has_failed reader.old ≡ false }
     requires writer_good { has_failed writer.old ≡ false }
-    ensures { HasRun (opened (config_of asked) (scheme_last asked.scheme)) R.remaining S.contents reader.old reader.new writer.old writer.new result }
+    ensures { HasRun (opened (config_of asked) (scheme_last asked.scheme)) R.remaining S.contents reader.old
+        reader.new writer.old writer.new result }
 {
     match wheel_of(alloc, asked)? {
         SchemeWheel::Plain(wheel) => play_on(alloc, asked, wheel, checked, reader, writer),
@@ -143,7 +147,8 @@ pub fn play_by_scheme<R: Read, S: Write>(
     }
 }
 
-/// Plays the script of the reader over a new wheel, the one that is asked for, which stands at the first tick.
+/// Plays the script of the reader over a new wheel, the one that is asked for, which stands at the first
+/// tick.
 fn play_on<R: Read, S: Write, W: Wheel + OfScheme + Drop>(
     alloc: Global,
     _asked: Play,
@@ -159,7 +164,8 @@ fn play_on<R: Read, S: Write, W: Wheel + OfScheme + Drop>(
     requires due { (W.state wheel).due ≡ [] }
     requires now { (W.state wheel).now ≡ checked.first_tick }
     requires serial { (W.state wheel).last_serial < checked.first_serial }
-    ensures { HasRun (opened checked (W.state wheel).last_tick) R.remaining S.contents reader.old reader.new writer.old writer.new result }
+    ensures { HasRun (opened checked (W.state wheel).last_tick) R.remaining S.contents reader.old reader.new
+        writer.old writer.new result }
 {
     let facility = Facility::open(alloc, checked, wheel);
     run(alloc, reader, writer, facility)
@@ -177,7 +183,8 @@ pub fn serve_by_scheme<P: Peer>(
     requires playable { IsPlayable asked }
     requires config { checked ≡ config_of asked }
     requires good { AreGood (P.state peer.old) }
-    ensures { HasServed (opened (config_of asked) (scheme_last asked.scheme)) (P.state peer.old) (P.state peer.new) result }
+    ensures { HasServed (opened (config_of asked) (scheme_last asked.scheme)) (P.state peer.old)
+        (P.state peer.new) result }
 {
     match wheel_of(alloc, asked) {
         Ok(SchemeWheel::Plain(wheel)) => serve_on(alloc, asked, wheel, checked, peer),
@@ -187,7 +194,8 @@ pub fn serve_by_scheme<P: Peer>(
     }
 }
 
-/// Answers the peer's lines as they come, over a new wheel, the one that is asked for, which stands at the first tick.
+/// Answers the peer's lines as they come, over a new wheel, the one that is asked for, which stands at the
+/// first tick.
 fn serve_on<P: Peer, W: Wheel + OfScheme + Drop>(
     alloc: Global,
     _asked: Play,
@@ -201,10 +209,59 @@ fn serve_on<P: Peer, W: Wheel + OfScheme + Drop>(
     requires due { (W.state wheel).due ≡ [] }
     requires now { (W.state wheel).now ≡ checked.first_tick }
     requires serial { (W.state wheel).last_serial < checked.first_serial }
-    ensures { HasServed (opened checked (W.state wheel).last_tick) (P.state peer.old) (P.state peer.new) result }
+    ensures { HasServed (opened checked (W.state wheel).last_tick) (P.state peer.old)
+        (P.state peer.new) result }
 {
     let facility = Facility::open(alloc, checked, wheel);
     serve(alloc, peer, facility)
+}
+
+/// Answers the peer's good lines as they come and reports the bad ones, over a new wheel of the scheme that
+/// is asked for, as `serve_good` does.
+///
+/// Nothing is read before the wheel is made.
+pub fn serve_good_by_scheme<P: Peer, F: Write>(
+    alloc: Global,
+    asked: Play,
+    checked: Checked,
+    peer: &mut P,
+    faults: &mut Watched<F>,
+) -> Result<bool, ServeFault>
+    requires playable { IsPlayable asked }
+    requires config { checked ≡ config_of asked }
+    requires good { AreGood (P.state peer.old) }
+    ensures { HasServedGood (opened (config_of asked) (scheme_last asked.scheme))
+        (P.state peer.old) (P.state peer.new) F.contents faults.old faults.new result }
+{
+    match wheel_of(alloc, asked) {
+        Ok(SchemeWheel::Plain(wheel)) => serve_good_on(alloc, asked, wheel, checked, peer, faults),
+        Ok(SchemeWheel::Hashed(wheel)) => serve_good_on(alloc, asked, wheel, checked, peer, faults),
+        Ok(SchemeWheel::Hier(wheel)) => serve_good_on(alloc, asked, wheel, checked, peer, faults),
+        Err(OutOfMemory) => Err(ServeFault::OutOfMemory),
+    }
+}
+
+/// Answers the peer's good lines as they come and reports the bad ones, over a new wheel, the one that is
+/// asked for, which stands at the first tick.
+fn serve_good_on<P: Peer, W: Wheel + OfScheme + Drop, F: Write>(
+    alloc: Global,
+    _asked: Play,
+    wheel: W,
+    checked: Checked,
+    peer: &mut P,
+    faults: &mut Watched<F>,
+) -> Result<bool, ServeFault>
+    requires good { AreGood (P.state peer.old) }
+    requires asked { W.is_asked _asked wheel }
+    requires pending { (W.state wheel).pending ≡ [] }
+    requires due { (W.state wheel).due ≡ [] }
+    requires now { (W.state wheel).now ≡ checked.first_tick }
+    requires serial { (W.state wheel).last_serial < checked.first_serial }
+    ensures { HasServedGood (opened checked (W.state wheel).last_tick) (P.state peer.old) (P.state peer.new)
+        F.contents faults.old faults.new result }
+{
+    let facility = Facility::open(alloc, checked, wheel);
+    serve_good(alloc, peer, facility, faults)
 }
 
 /// Answers the peer's lines as they come and shows where the timers stand, over a new wheel of the scheme
@@ -220,7 +277,8 @@ pub fn show_by_scheme<P: Peer>(
     requires playable { IsPlayable asked }
     requires config { checked ≡ config_of asked }
     requires good { AreGood (P.state peer.old) }
-    ensures { HasShown (opened (config_of asked) (scheme_last asked.scheme)) (P.state peer.old) (P.state peer.new) result }
+    ensures { HasShown (opened (config_of asked) (scheme_last asked.scheme)) (P.state peer.old)
+        (P.state peer.new) result }
 {
     match wheel_of(alloc, asked) {
         Ok(SchemeWheel::Plain(wheel)) => show_on(alloc, asked, wheel, checked, peer),
@@ -245,7 +303,8 @@ fn show_on<P: Peer, W: Wheel + Placement + OfScheme + Drop>(
     requires due { (W.state wheel).due ≡ [] }
     requires now { (W.state wheel).now ≡ checked.first_tick }
     requires serial { (W.state wheel).last_serial < checked.first_serial }
-    ensures { HasShown (opened checked (W.state wheel).last_tick) (P.state peer.old) (P.state peer.new) result }
+    ensures { HasShown (opened checked (W.state wheel).last_tick) (P.state peer.old)
+        (P.state peer.new) result }
 {
     let facility = Facility::open(alloc, checked, wheel);
     show(alloc, peer, facility)

@@ -23,7 +23,8 @@ pub fn serve_lines<R: Read, W: Write, F: Write>(
 ) -> u8
     requires reader_good { has_failed streams.old.reader ≡ false }
     requires writer_good { has_failed streams.old.writer ≡ false }
-    ensures { HasServedLines asked R.remaining W.contents streams.old.reader streams.new.reader streams.old.writer streams.new.writer result }
+    ensures { HasServedLines asked R.remaining W.contents streams.old.reader streams.new.reader
+        streams.old.writer streams.new.writer result }
 {
     let checked = match asked.check() {
         Ok(checked) => checked,

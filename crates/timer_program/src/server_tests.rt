@@ -43,6 +43,19 @@ fn the_options_of_serve_are_those_of_play(rt: HostRuntime) {
         panic!(&rt; "refused");
     };
     same(&rt, read, Asked::Serve(asked));
+    let arguments = [
+        "serve",
+        "--scheme=hashed",
+        "--slots=8",
+        "--clients=2",
+        "--keep-going",
+        "--capacity=3",
+        "--first-tick=4",
+    ];
+    let Ok(read) = read_arguments(rt.alloc(), arguments.as_slice()) else {
+        panic!(&rt; "refused");
+    };
+    same(&rt, read, Asked::ServeGood(asked));
 }
 
 #[test]
@@ -77,6 +90,76 @@ fn lines_before_a_bad_one_are_answered(rt: HostRuntime) {
             check_ended(&rt, source, Sink::new(alloc), 1, text.as_bytes(), fault);
         }
     }
+}
+
+#[test]
+fn lines_past_a_bad_one_are_answered_where_that_is_asked_for(rt: HostRuntime) {
+    let alloc = rt.alloc();
+    let text = "started 0 1 1 5\nexpired 5 0 1 0\nend 5 0\n";
+    let rows = [
+        ("start 0 1 5 0\ntick 5\n", text, "", 0),
+        (
+            "tick 0\nstart 0 1 5 0\nstart 0 01 5 0\ntick 5\n",
+            text,
+            "bad line 1\nbad line 3\n",
+            1,
+        ),
+        (
+            "start 0 1 5 0\ntick 5",
+            "started 0 1 1 5\nend 0 1\n",
+            "bad line 2\n",
+            1,
+        ),
+    ];
+    for (script, text, faults, status) in rows {
+        for size in [1, 7, 100] {
+            let source = Source::of(script.as_bytes()).in_pieces(size);
+            let ended = call(&rt, &["serve", "--keep-going"], source, Sink::new(alloc));
+            has_left(
+                &rt,
+                script,
+                &ended,
+                status,
+                text.as_bytes(),
+                faults.as_bytes(),
+            );
+        }
+    }
+}
+
+#[test]
+fn a_read_that_fails_is_reported_after_the_bad_lines(rt: HostRuntime) {
+    let source = Source::of(b"tick 0\ntick 1\n")
+        .in_pieces(5)
+        .failing_after(10, ErrorKind::BrokenPipe);
+    let ended = call(
+        &rt,
+        &["serve", "--keep-going"],
+        source,
+        Sink::new(rt.alloc()),
+    );
+    has_left(&rt, "read", &ended, 1, b"", b"bad line 1\nread failed\n");
+}
+
+#[test]
+fn nothing_is_read_past_bad_lines_where_the_first_tick_is_refused(rt: HostRuntime) {
+    let arguments = [
+        "serve",
+        "--keep-going",
+        "--scheme=clock",
+        "--first-tick=8640000",
+    ];
+    let source = Source::of(b"tick 0\n");
+    let ended = call(&rt, arguments.as_slice(), source, Sink::new(rt.alloc()));
+    same(&rt, ended.asks, 0);
+    has_left(
+        &rt,
+        "refused",
+        &ended,
+        2,
+        b"",
+        b"first tick above 8639999\n",
+    );
 }
 
 #[test]

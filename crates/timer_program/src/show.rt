@@ -1,4 +1,5 @@
-//! The subcommand `show`: the lines of a stream are answered, and after each it is shown where the timers stand.
+//! The subcommand `show`: the lines of a stream are answered, and after each it is shown where the timers
+//! stand.
 ghost use Rattle.std.specs.Prelude.{◌≡◌, false};
 ghost use Rattle.timer_program.specs.Showing.{HasShownLines};
 ghost use Rattle.timer_script.specs.Watched.{has_failed};
@@ -23,7 +24,8 @@ pub fn show_stream<R: Read, W: Write, F: Write>(
 ) -> u8
     requires reader_good { has_failed streams.old.reader ≡ false }
     requires writer_good { has_failed streams.old.writer ≡ false }
-    ensures { HasShownLines asked R.remaining W.contents streams.old.reader streams.new.reader streams.old.writer streams.new.writer result }
+    ensures { HasShownLines asked R.remaining W.contents streams.old.reader streams.new.reader
+        streams.old.writer streams.new.writer result }
 {
     let checked = match asked.check() {
         Ok(checked) => checked,

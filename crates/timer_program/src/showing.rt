@@ -52,10 +52,12 @@ fn show_line<P: Peer, W: Wheel + Placement + Drop>(
 ) -> Result<(), ServeFault>
     requires good { AreGood (P.state peer.old) }
     requires answered { IsAnsweredSoFar session.old }
-    ensures shown { OnOk result (HasShownPiece session.old line.now (P.state peer.old) (P.state peer.new) session.new [] [] true) }
+    ensures shown { OnOk result (HasShownPiece session.old line.now (P.state peer.old)
+        (P.state peer.new) session.new [] [] true) }
     ensures good { OnOk result (AreGood (P.state peer.new)) }
     ensures answered { OnOk result (IsAnsweredSoFar session.new) }
-    ensures fault { IfErr result (λ fault. StopsPiece fault session.old line.now (P.state peer.old) (P.state peer.new) session.new) }
+    ensures fault { IfErr result (λ fault. StopsPiece fault session.old line.now (P.state peer.old)
+        (P.state peer.new) session.new) }
 {
     text.clear();
     let played = answer_line(session, line, text);
@@ -74,10 +76,12 @@ fn show_lines<P: Peer, W: Wheel + Placement + Drop>(
 ) -> Result<(), ServeFault>
     requires good { AreGood (P.state peer.old) }
     requires answered { IsAnsweredSoFar session.old }
-    ensures shown { OnOk result (HasShownPiece session.old bytes.now (P.state peer.old) (P.state peer.new) session.new [] [] true) }
+    ensures shown { OnOk result (HasShownPiece session.old bytes.now (P.state peer.old)
+        (P.state peer.new) session.new [] [] true) }
     ensures good { OnOk result (AreGood (P.state peer.new)) }
     ensures answered { OnOk result (IsAnsweredSoFar session.new) }
-    ensures fault { IfErr result (λ fault. StopsPiece fault session.old bytes.now (P.state peer.old) (P.state peer.new) session.new) }
+    ensures fault { IfErr result (λ fault. StopsPiece fault session.old bytes.now (P.state peer.old)
+        (P.state peer.new) session.new) }
 {
     let mut rest = bytes;
     while !rest.is_empty() {

@@ -1,5 +1,5 @@
-//! Readers and writers that pass bytes on in pieces of many sizes, and fail once: nothing is tried again, and what
-//! went out is the front of the text that the writer took.
+//! Readers and writers that pass bytes on in pieces of many sizes, and fail once: nothing is tried again, and
+//! what went out is the front of the text that the writer took.
 use crate::testing::{
     Fault, MIGRATION, MIGRATION_TEXT, SCHEMES, SIZES, Sink, Source, call, has_left, same, same_in,
 };

@@ -6,7 +6,7 @@ use std::io;
 use std::io::{ErrorKind, Read, Write};
 use std::process::Abort;
 use std::thread::Threads;
-use timer_script::Streams;
+use timer_script::{Streams, Watched};
 
 /// Compares in a function of its own, so that a test is a list of calls without branches.
 pub fn same<T: PartialEq + Debug + Drop>(rt: &impl Abort, found: T, expected: T) {
@@ -197,7 +197,7 @@ pub fn call<T: AllocGlobal + Threads>(
     sink: Sink,
 ) -> Ended {
     let mut streams = Streams::new(source, sink);
-    let mut faults = Vec::new(rt.alloc());
+    let mut faults = Watched::new(Vec::new(rt.alloc()));
     let status = command(rt, arguments, &mut streams, &mut faults);
     let Streams { reader, writer } = streams;
     let reader_failed = reader.failed();
@@ -205,7 +205,7 @@ pub fn call<T: AllocGlobal + Threads>(
     Ended {
         status,
         output: writer.into_inner().bytes,
-        faults,
+        faults: faults.into_inner(),
         asks: reader.into_inner().asks,
         reader_failed,
         writer_failed,

@@ -3,7 +3,8 @@ use Rattle.timer_program.proofs.IndentedLemmas.{front_begun_ok}
 use Rattle.timer_program.proofs.placement.push_hand.Goals as goal
 
 pub returns-then-list-lt-FIRST_MINUTE-clause-front : goal.returns-then-list-lt-FIRST_MINUTE-clause-front
-returns-then-list-lt-FIRST_MINUTE-clause-front c = front_begun_ok c.push_number.result _ _ (codes " second ") _ refl c.push_number.ensures.text
+returns-then-list-lt-FIRST_MINUTE-clause-front c = front_begun_ok c.push_number.result _ _
+    (codes " second ") _ refl c.push_number.ensures.text
 
 pub returns-then-list-lt-FIRST_HOUR-clause-front : goal.returns-then-list-lt-FIRST_HOUR-clause-front
 returns-then-list-lt-FIRST_HOUR-clause-front c =

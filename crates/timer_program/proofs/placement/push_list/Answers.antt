@@ -10,7 +10,8 @@ loop-preserved c =
     record {
       front = elim c.match-naming.branch [
         | in-Slots+in_ok-push_number-2 w ↦
-            subst (HasGrownByFront c.args.text.now.items) (search rules) (front_numbered _ _ w.push_number-in-Slots.new.text.items (codes ":") _ refl serial w.in_ok-push_number-2.ensures.text)
+            subst (HasGrownByFront c.args.text.now.items) (search rules)
+            (front_numbered _ _ w.push_number-in-Slots.new.text.items (codes ":") _ refl serial w.in_ok-push_number-2.ensures.text)
         | in_default-naming w ↦ subst (HasGrownByFront c.args.text.now.items) (search rules) serial
       ];
     }

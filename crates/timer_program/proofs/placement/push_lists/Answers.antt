@@ -9,7 +9,8 @@ loop-list-preserved c =
     let before = c.loop-list.invariant.indented in
     record {
       indented = elim c.if-not-is_empty.branch [
-        | then-not-is_empty+in_ok-push_list w ↦ subst (HasGrownByIndented c.args.text.now.items) (search rules) (grown_join _ _ w.push_list.new.text.items before w.in_ok-push_list.ensures.indented)
+        | then-not-is_empty+in_ok-push_list w ↦ subst (HasGrownByIndented c.args.text.now.items) (search rules)
+            (grown_join _ _ w.push_list.new.text.items before w.in_ok-push_list.ensures.indented)
         | else-not-is_empty w ↦ subst (HasGrownByIndented c.args.text.now.items) (search rules) before
       ];
     }

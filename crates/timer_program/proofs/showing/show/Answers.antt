@@ -9,7 +9,12 @@ use Rattle.timer_program.proofs.showing.show.Goals as goal
 
 -- nothing was read or written
 pub returns-in_default : goal.returns-in_default
-returns-in_default g c = (fresh c.args.facility.state, [], so_far_none c.args.facility.state (g.P.Peer.state c.args.peer.now), c.requires.good)
+returns-in_default g c = (
+  fresh c.args.facility.state,
+  [],
+  so_far_none c.args.facility.state (g.P.Peer.state c.args.peer.now),
+  c.requires.good,
+)
 
 pub loop-turned-init : goal.loop-turned-init
 loop-turned-init g c = record {
@@ -24,7 +29,8 @@ returns-in_default-read g c =
     let i = c.loop-turned.invariant in
     let e = c.in_default-read.ensures in (
       c.loop-turned.session,
-      so_far_failed c.args.facility.state (g.P.Peer.state c.args.peer.now) (g.P.Peer.state c.loop-turned.peer) (g.P.Peer.state c.read.new.self) c.loop-turned.session c.in_default-read.field-0 c.read.new.piece i.often.so_far i.answered e,
+      so_far_failed c.args.facility.state (g.P.Peer.state c.args.peer.now) (g.P.Peer.state c.loop-turned.peer)
+          (g.P.Peer.state c.read.new.self) c.loop-turned.session c.in_default-read.field-0 c.read.new.piece i.often.so_far i.answered e,
       i.answered,
       e.failed ∙ ap (λ b. b || true) i.good.reading,
       e.writing ∙ i.good.writing,
@@ -38,9 +44,12 @@ returns-then-n-eq0 g c =
     let q = g.P.Peer.state c.loop-turned.peer in
     let r = g.P.Peer.state c.read.new.self in
     let good : AreGood r = record { reading = e.failed ∙ ap (λ b. b || false) i.good.reading; writing = e.writing ∙ i.good.writing } in
-    let none : HasShownPiece s (take c.in-Ok-read.n c.read.new.piece) r r s [] [] true = subst (λ n. HasShownPiece s (take n c.read.new.piece) r r s [] [] true) (sym c.if-n-eq0.true) (piece_none s r) in
-    let so_far = so_far_more c.args.facility.state (g.P.Peer.state c.args.peer.now) q r r s s c.in-Ok-read.n c.read.new.piece [] [] true (search rules) (search rules) i.often.so_far i.answered e none in
-    shown_finish c.finish.result c.args.facility.state s (g.P.Peer.state c.args.peer.now) r (g.P.Peer.state c.finish.new.peer) c.now-now.ensures.sound (e.bytes.1 c.if-n-eq0.true (search rules)) i.answered good so_far
+    let none : HasShownPiece s (take c.in-Ok-read.n c.read.new.piece) r r s [] [] true =
+    subst (λ n. HasShownPiece s (take n c.read.new.piece) r r s [] [] true) (sym c.if-n-eq0.true) (piece_none s r) in
+    let so_far = so_far_more c.args.facility.state (g.P.Peer.state c.args.peer.now) q r r s s c.in-Ok-read.n c.read.new.piece [] [] true
+    (search rules) (search rules) i.often.so_far i.answered e none in
+    shown_finish c.finish.result c.args.facility.state s (g.P.Peer.state c.args.peer.now) r
+    (g.P.Peer.state c.finish.new.peer) c.now-now.ensures.sound (e.bytes.1 c.if-n-eq0.true (search rules)) i.answered good so_far
     c.finish.ensures.whole c.finish.ensures.sent c.finish.ensures.fault
 
 pub returns-in_err-show_lines : goal.returns-in_err-show_lines
@@ -54,11 +63,14 @@ returns-in_err-show_lines g c =
     let within : c.in-Ok-read.n ≤ length c.read.new.piece = search rules in
     let short : length c.read.new.piece ≤ PIECE = search rules in
     let room : vec_len c.loop-turned.piece ≡ PIECE = i.room in
-    let same : take c.in-Ok-read.n c.deref.result.now ≡ take c.in-Ok-read.n c.read.new.piece = front_of c.in-Ok-read.n (vec_len c.loop-turned.piece) c.read.new.piece (drop (length c.read.new.piece) c.loop-turned.piece.items) c.deref.result.now (omega arith) within c.deref.ensures.value in
+    let same : take c.in-Ok-read.n c.deref.result.now ≡ take c.in-Ok-read.n c.read.new.piece =
+    front_of c.in-Ok-read.n (vec_len c.loop-turned.piece) c.read.new.piece
+    (drop (length c.read.new.piece) c.loop-turned.piece.items) c.deref.result.now (omega arith) within c.deref.ensures.value in
     let stops : StopsPiece fault s (take c.in-Ok-read.n c.read.new.piece) r t c.show_lines.new.session =
     subst (λ x. StopsPiece fault s x r t c.show_lines.new.session) same c.in_err-show_lines.ensures.fault in
     subst (HasShown c.args.facility.state p t) (sym (passed_on c.from_residual.result fault c.from_residual.ensures.1))
-    (shown_stopped fault c.args.facility.state p (g.P.Peer.state c.loop-turned.peer) r t s c.show_lines.new.session c.in-Ok-read.n c.read.new.piece within short i.often.so_far i.answered c.in-Ok-read.ensures stops)
+    (shown_stopped fault c.args.facility.state p (g.P.Peer.state c.loop-turned.peer) r t s c.show_lines.new.session c.in-Ok-read.n
+    c.read.new.piece within short i.often.so_far i.answered c.in-Ok-read.ensures stops)
 
 pub loop-turned-preserved : goal.loop-turned-preserved
 loop-turned-preserved g c =
@@ -69,11 +81,15 @@ loop-turned-preserved g c =
     let within : c.in-Ok-read.n ≤ length c.read.new.piece = search rules in
     let short : length c.read.new.piece ≤ PIECE = search rules in
     let room : vec_len c.loop-turned.piece ≡ PIECE = i.room in
-    let same : take c.in-Ok-read.n c.deref.result.now ≡ take c.in-Ok-read.n c.read.new.piece = front_of c.in-Ok-read.n (vec_len c.loop-turned.piece) c.read.new.piece (drop (length c.read.new.piece) c.loop-turned.piece.items) c.deref.result.now (omega arith) within c.deref.ensures.value in
+    let same : take c.in-Ok-read.n c.deref.result.now ≡ take c.in-Ok-read.n c.read.new.piece =
+    front_of c.in-Ok-read.n (vec_len c.loop-turned.piece) c.read.new.piece
+    (drop (length c.read.new.piece) c.loop-turned.piece.items) c.deref.result.now (omega arith) within c.deref.ensures.value in
     let shown : HasShownPiece s (take c.in-Ok-read.n c.read.new.piece) r t c.show_lines.new.session [] [] true =
     subst (λ x. HasShownPiece s x r t c.show_lines.new.session [] [] true) same c.in_ok-show_lines.ensures.shown in
     record {
-      often = often_more c.args.facility.state (g.P.Peer.state c.args.peer.now) (g.P.Peer.state c.loop-turned.peer) r t s c.show_lines.new.session c.loop-turned.turned c.in-Ok-read.n c.read.new.piece within short
+      often = often_more c.args.facility.state (g.P.Peer.state c.args.peer.now)
+          (g.P.Peer.state c.loop-turned.peer) r t s c.show_lines.new.session c.loop-turned.turned c.in-Ok-read.n c.read.new.piece within
+          short
           i.often i.answered c.in-Ok-read.ensures shown c.if-n-eq0.false;
       good = c.in_ok-show_lines.ensures.good;
       answered = c.in_ok-show_lines.ensures.answered;
