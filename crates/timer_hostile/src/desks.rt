@@ -1,6 +1,7 @@
 //! Desks over lines of each kind, where a start, the close or a report is refused for memory.
 //!
-//! Each step is taken by a call of its own, or by a turn of one step, and a step that is refused is taken again.
+//! Each step is taken by a call of its own, or by a turn of one step, and a step that is refused is taken
+//! again.
 use crate::facilities::numbers;
 use crate::fault::{Fault, same, see};
 use crate::lines::{locked, request, ring};
@@ -358,8 +359,8 @@ pub fn close_in_memory(alloc: Global, by: By) -> Result<(), Fault> {
     close_at_desk(&mut desk, by)
 }
 
-/// A start that was refused for memory is held over a tick, and its deadline is counted from the tick at which
-/// it is accepted. Returns whether it was held.
+/// A start that was refused for memory is held over a tick, and its deadline is counted from the tick at
+/// which it is accepted. Returns whether it was held.
 pub fn hold_over_tick(alloc: Global, by: By) -> Result<bool, Fault> {
     let (mut end, inlet) = ring_with(alloc, &[(1, 7)])?;
     let mut desk = open(alloc, vec![in alloc; inlet]?)?;

@@ -1,8 +1,8 @@
 //! A drive over lines in memory, where an allocation of the drive, of its wheel or of a line is refused.
 //!
-//! Two starts stand in the line of each of two clients, and each turn serves one of each client and ticks. A drive
-//! that runs out of memory is driven on. Its turn had not begun, and then no deadline changes; or it held a request,
-//! went on and ticked, and then that request and the next are served a tick later.
+//! Two starts stand in the line of each of two clients, and each turn serves one of each client and ticks. A
+//! drive that runs out of memory is driven on. Its turn had not begun, and then no deadline changes; or it
+//! held a request, went on and ticked, and then that request and the next are served a tick later.
 //!
 //!     client, number                      0, 1     0, 2     1, 1     1, 2
 //!     interval                            2        1        1        3
@@ -36,7 +36,8 @@ fn lines(alloc: Global) -> Result<Vec<MemoryInlet>, Fault> {
     Ok(inlets)
 }
 
-/// Drives two clients to the goal, at the second try where the first is refused. Returns whether a request was held.
+/// Drives two clients to the goal, at the second try where the first is refused. Returns whether a request
+/// was held.
 pub fn drive_two(alloc: Global) -> Result<bool, Fault> {
     let desk = open(alloc, lines(alloc)?)?;
     let Driven { desk, outcome } = drive(alloc, desk, GOAL, LIMIT);
@@ -55,8 +56,8 @@ pub fn drive_two(alloc: Global) -> Result<bool, Fault> {
 
 /// Drives on after a refusal.
 ///
-/// A drive counts from its own beginning. So one that finds fewer requests than its goal comes to its limit once it
-/// has served them, and one that finds all of them ends as an undisturbed one does.
+/// A drive counts from its own beginning. So one that finds fewer requests than its goal comes to its limit
+/// once it has served them, and one that finds all of them ends as an undisturbed one does.
 fn drive_on(
     alloc: Global,
     desk: Desk<HierWheel, MemoryInlet>,
@@ -110,7 +111,8 @@ fn see_given(inlet: &MemoryInlet, wanted: &[Word]) -> Result<(), Fault> {
     Ok(())
 }
 
-/// The notice that a timer expired. Its action says whose it is: the starts have the actions 1 to 4, two of each client.
+/// The notice that a timer expired. Its action says whose it is: the starts have the actions 1 to 4, two of
+/// each client.
 fn expired(serial: u64, deadline: u64, action: u64) -> Word {
     let (client, number) = match action {
         1 => (0, 1),

@@ -8,7 +8,13 @@ use timer_facility::{Answer, CloseFault, Config, Facility, NotTaken, Notice, Rea
 
 /// The numbers of every scenario's facility.
 pub fn numbers(clients: u64, capacity: u64) -> Config
-    ensures { result ≡ record { clients = clients; capacity = capacity; first_tick = 0; first_serial = 1; first_number = 1 } }
+    ensures { result ≡ record {
+      clients = clients;
+      capacity = capacity;
+      first_tick = 0;
+      first_serial = 1;
+      first_number = 1;
+    } }
 {
     Config {
         clients,

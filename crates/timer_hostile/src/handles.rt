@@ -62,8 +62,8 @@ fn handle_of(taken: Result<Answer, NotTaken>) -> Result<Handle, Fault> {
     }
 }
 
-/// Handles that were never given, are dead, or are another client's: no request finds a timer by them, and what
-/// is pending still expires.
+/// Handles that were never given, are dead, or are another client's: no request finds a timer by them, and
+/// what is pending still expires.
 pub fn use_strange_handles<W: Wheel + Drop>(alloc: Global, wheel: W) -> Result<(), Fault>
     requires pending { (W.state wheel).pending ≡ [] }
     requires due { (W.state wheel).due ≡ [] }

@@ -36,7 +36,8 @@ pub fn hashed(alloc: Global, slots: usize) -> Result<HashedWheel, Fault>
 
 /// A hierarchy of wheels, at the second try where the first is refused.
 pub fn hier(alloc: Global, table: Table) -> Result<HierWheel, Fault>
-    ensures { IfOk result (λ wheel. ⟦<HierWheel as Wheel>⟧.state wheel ≡ empty_wheel (last_of_table table) 0) }
+    ensures { IfOk result (λ wheel. ⟦<HierWheel as Wheel>⟧.state wheel
+        ≡ empty_wheel (last_of_table table) 0) }
 {
     for _ in 0..2 {
         if let Ok(wheel) = HierWheel::with_table(alloc, table, 0) {
