@@ -2,6 +2,7 @@
  *
  * NAME
  *     timers_new, timers_free - make and free timers
+ *     timers_reserve - make room for timers
  *     timers_start, timers_restart, timers_stop - START_TIMER, RESTART, STOP_TIMER
  *     timers_start_at, timers_restart_at - the same, for a tick in place of an interval
  *     timers_tick, timers_advance - pass ticks
@@ -14,48 +15,53 @@
  *     cc prog.c $(pkg-config --cflags --libs timers)
  *
  * DESCRIPTION
- *     A `struct timers` owns timers and a clock of ticks. The length of a tick is the caller's choice: a
- *     millisecond, a frame, a retransmission unit. A timer is started with an interval in ticks and a
- *     value, its action. Only timers_tick and timers_advance advance the clock. A timer whose deadline is
- *     the present tick has expired: it is no longer pending, and waits until timers_expire takes it. Timers
- *     expire in the order of their deadlines, and those of one deadline in the order of their starts. While
- *     expired timers wait, others may be started, restarted and stopped, for instance by the work that the
- *     first of them triggers; only the clock stands still until all of them are taken (TIMERS_DUE). An
- *     expired timer that was not yet taken can be stopped and restarted too: after a timers_stop that
+ *     A `struct timers` owns timers and a clock of ticks. It is open from a timers_new that returned TIMERS_OK
+ *     to timers_free. The length of a tick is the caller's choice: a millisecond, a frame, a retransmission
+ *     unit. A timer is started with an interval in ticks and a value, its action. Only timers_tick and
+ *     timers_advance advance the clock. A timer whose deadline is the present tick has expired: it is no
+ *     longer pending, and waits until timers_expire takes it. Timers expire in the order of their deadlines,
+ *     and those of one deadline in the order of their starts.
+ *
+ *     While expired timers wait, others may be started, restarted and stopped, for instance by the work that
+ *     the first of them triggers. Only the clock can't advance until all of them are taken (TIMERS_DUE). An
+ *     expired timer that was not yet taken can be stopped and restarted too. After a timers_stop that
  *     returned TIMERS_OK, neither timers_expire nor timers_expire_batch hands the timer out. So if the work
  *     of one timer frees what the action of another points to, it stops the other, whether that has expired
  *     or not. A timer that timers_expire_batch has written to an array is taken, and can't be stopped any
- *     more: if the work of one can free what another of the array points to, take them one at a time.
+ *     more. If the work of one can free what another of the array points to, take them one at a time.
  *
  *     An interval counts from the present tick, the one up to which the clock was advanced last. While the
- *     clock is behind the real time, as it is while input is handled, a timer expires that much too early:
- *     advance the clock first, or give timers_start_at the tick that is meant. A caller that rounds the
- *     real time down to a tick starts a timer somewhere within that tick, so that an interval of n ticks
- *     lasts more than n - 1 and at most n: add 1 if it must last no less than n. An interval of 0 is
- *     refused: its timer would belong to a tick that has already begun, and whoever takes what expires
- *     until nothing is left might never finish. For work that is due at once, call it, or start a timer of
- *     1 tick.
+ *     clock is behind the real time, as it is while input is handled, a timer expires that much too early.
+ *     So advance the clock first, or give timers_start_at the tick that is meant. A caller that rounds the
+ *     real time down to a tick starts a timer somewhere within that tick. So an interval of n ticks lasts
+ *     more than n - 1 and at most n: add 1 if it must last no less than n. An interval of 0 is refused,
+ *     since its timer would belong to a tick that has already begun. With such timers, whoever takes what
+ *     expires until nothing is left might never finish. For work that is due at once, call it, or start a
+ *     timer of 1 tick.
  *
  *     Restart, stop, look and expire take constant time. So does a start, amortised: the timers are in
  *     tables that grow, and a start that finds them full moves all timers to larger ones. A tick takes time
- *     for the timers that expire at it and those that move to a lower wheel, and timers_advance skips
- *     stretches in which nothing happens. timers_next may walk one bucket. Only timers_new, timers_start
- *     and timers_start_at allocate. A restart never does, so a timer that the work of another re-arms by
- *     timers_restart needs no memory. Memory is kept for later starts until timers_free.
+ *     for the timers that expire at it and those that move to a lower wheel. timers_advance skips stretches
+ *     in which nothing happens. timers_next may walk one bucket. Only timers_new, timers_reserve,
+ *     timers_start and timers_start_at allocate. A restart never does, so a timer that the work of another
+ *     re-arms by timers_restart needs no memory. Memory is kept for later starts until timers_free. So a
+ *     start allocates only if more timers are held than ever before, and than timers_reserve made room for:
+ *     one that re-arms a timer that was just taken allocates nothing, either.
  *
  *     The library is proved: each function meets the contract stated in crates/timer_c/src/exports.rt, for
- *     every call that keeps the rules below. Nothing checks that a caller keeps them.
+ *     every call that keeps the rules below. Nothing checks that a caller keeps them. What allocates and how
+ *     long a call takes is in no contract: it follows from the code, and tests look for allocations.
  *
  * RULES
  *     1. A `struct timers` begins as TIMERS_INIT, or with all its bytes 0: static storage, calloc and
  *        memset will do. Only these functions write it. It must not be copied, since it owns memory; it may
  *        be moved by a memcpy after which the old one is not used. No function, timers_new included, may be
  *        given uninitialised memory: it could not be known whether that owns timers.
- *     2. A pointer argument is not NULL and points to an object of its type that this call alone uses; no
+ *     2. A pointer argument is not NULL and points to an object of its type that this call alone uses. No
  *        two arguments of one call overlap.
- *     3. Where an argument is only written (handle, restarted, action, passed, out), the object may be
- *        uninitialised: it has only integers, so that any bits are a value, and no function reads it. It is
- *        written exactly where the function says so, and otherwise unchanged.
+ *     3. If an argument is only written (handle, restarted, action, passed, out), the object may be
+ *        uninitialised. It has only integers, so any bits are a value, and no function reads it. It is
+ *        written exactly if the function's comment says so, and otherwise unchanged.
  *     4. Calls on one `struct timers` come one at a time, also those that take a const one. It may be
  *        handed from thread to thread, by a lock or by a thread's start or join. Calls on two of them are
  *        independent.
@@ -71,8 +77,7 @@
  *     A handle is for the `struct timers` that returned it. It is dead once its timer was stopped,
  *     restarted or taken, and never names another timer of that struct: serials continue after timers_free
  *     and timers_new. (Setting a struct to TIMERS_INIT again resets them.) Nothing marks to which struct a
- *     handle belongs: each struct counts serials from 1, so in another struct the same handle may name a
- *     timer that is there.
+ *     handle belongs. Each struct counts serials from 1, so the same handle may name a timer of another.
  *
  * ACTIONS
  *     An action is any 64 bits. For a pointer give (uint64_t)(uintptr_t)p, and read it as
@@ -114,8 +119,8 @@ extern "C" {
 
 enum timers_status {
 	TIMERS_OK = 0,
-	TIMERS_NOT_OPEN = 1,       /* it holds no timers: timers_new was not called, or timers_free was since */
-	TIMERS_OPEN = 2,           /* it holds timers already */
+	TIMERS_NOT_OPEN = 1,       /* not open: timers_new was not called, or timers_free was since */
+	TIMERS_OPEN = 2,           /* already open */
 	TIMERS_NO_TABLE = 3,       /* the table is none of enum timers_table */
 	TIMERS_NO_MEMORY = 4,      /* malloc or realloc returned NULL, or it has about 4.29 billion timers */
 	TIMERS_DUE = 5,            /* an expired timer was not yet taken: call timers_expire */
@@ -134,7 +139,7 @@ enum timers_table {
 
 #define TIMERS_LAST UINT64_C(1152921504606846975)   /* 2^60 - 1 */
 #define TIMERS_CLOCK_LAST UINT64_C(8639999)         /* day 99, 23:59:59 */
-#define TIMERS_NEVER UINT64_MAX                     /* of timers_wakeup and timers_next: no timer is held */
+#define TIMERS_NEVER UINT64_MAX                     /* of timers_wakeup and timers_next: nothing is pending */
 
 /* Private: see rule 1. */
 struct timers {
@@ -162,9 +167,19 @@ struct timer_expired {
 TIMERS_CHECKED
 enum timers_status timers_new(struct timers *t, uint32_t table, uint64_t first_tick);
 
-/* Frees the timers, if it holds any: pending and expired ones are dropped. timers_new may follow. Does
- * nothing if it holds none, so it may be called twice. */
+/* Frees the timers: pending and expired ones are dropped. timers_new may follow. Does nothing if `t` is not
+ * open, so it may be called twice. */
 void timers_free(struct timers *t);
+
+/* Makes room for `most` timers held at once, pending or expired and not yet taken, those that are held
+ * already among them. While fewer are held, a start then allocates nothing and does not return
+ * TIMERS_NO_MEMORY, whatever was started, stopped and taken before. The timers and the clock don't change.
+ * Takes about 64 bytes for each timer, and time for each: it may move those that are held. The memory is
+ * kept until timers_free, what was allocated before a failure too; room that is there already costs nothing.
+ * TIMERS_NO_MEMORY is returned for more than about 4.29 billion timers, too.
+ * TIMERS_NOT_OPEN, TIMERS_NO_MEMORY. */
+TIMERS_CHECKED
+enum timers_status timers_reserve(struct timers *t, size_t most);
 
 /* Starts a timer that expires after `interval` ticks, 1 or more, and hands `action` back with it.
  * Writes `*handle` at TIMERS_OK.
@@ -173,7 +188,7 @@ TIMERS_CHECKED
 enum timers_status timers_start(struct timers *t, uint64_t interval, uint64_t action, struct timer_handle *handle);
 
 /* Starts a timer that expires at the tick `deadline`, which is after the present one, as timers_start.
- * Returns TIMERS_ZERO_INTERVAL for a tick that is not. The other statuses are those of timers_start. */
+ * Returns TIMERS_ZERO_INTERVAL if it isn't. The other statuses are those of timers_start. */
 TIMERS_CHECKED
 enum timers_status timers_start_at(struct timers *t, uint64_t deadline, uint64_t action, struct timer_handle *handle);
 
@@ -196,8 +211,8 @@ enum timers_status timers_restart_at(struct timers *t, struct timer_handle handl
  * TIMERS_NOT_OPEN, TIMERS_NOT_PENDING. */
 enum timers_status timers_stop(struct timers *t, struct timer_handle handle, uint64_t *action);
 
-/* Writes `*out`, the timer with this handle, at TIMERS_OK. If its deadline is after timers_now it is
- * pending, and the difference is the number of ticks that it has left; otherwise it has expired and was not
+/* Writes `*out`, the timer with this handle, at TIMERS_OK. If its deadline is after timers_now, it is
+ * pending, and the difference is the number of ticks that it has left. Otherwise it has expired and was not
  * yet taken.
  * TIMERS_NOT_OPEN, TIMERS_NOT_PENDING. */
 TIMERS_CHECKED
@@ -205,9 +220,9 @@ enum timers_status timers_look(const struct timers *t, struct timer_handle handl
 
 /* Visits every timer, pending or expired and not yet taken, in no particular order. `*cursor` is 0 at the
  * first call. Each call that finds a timer writes it to `*out` and its handle to `*handle`, moves `*cursor`
- * on and returns true; at the end it returns false and writes nothing. Between two calls timers may be
- * started, stopped, restarted and taken: one that is there all the time is visited exactly once. A whole
- * visit takes time for the most timers that were ever held at once. false if it holds none. */
+ * on and returns true. At the end, or if `t` is not open, it returns false and writes nothing. Between two
+ * calls timers may be started, stopped, restarted and taken: one that is there all the time is visited
+ * exactly once. A whole visit takes time for the most timers that were ever there at once. */
 bool timers_each(const struct timers *t, size_t *cursor, struct timer_handle *handle,
                  struct timer_expired *out);
 
@@ -216,39 +231,39 @@ bool timers_each(const struct timers *t, size_t *cursor, struct timer_handle *ha
 enum timers_status timers_tick(struct timers *t);
 
 /* Passes at most `most` ticks, and stops at the first at which a timer expires. Writes `*passed`, how many
- * were passed, at TIMERS_OK: 0 only if `most` is 0, and fewer than `most` only if a timer has expired or the
- * clock is at its last tick.
+ * were passed, at TIMERS_OK. It is 0 only if `most` is 0, and less than `most` only if a timer has expired
+ * or the clock is at its last tick.
  * TIMERS_NOT_OPEN, TIMERS_DUE, TIMERS_CLOCK_END. */
 enum timers_status timers_advance(struct timers *t, uint64_t most, uint64_t *passed);
 
 /* Takes the first of the expired timers, in the order of their starts. Returns whether there was one, and
- * writes `*out` exactly then. false if it holds none. */
+ * writes `*out` exactly then. Returns false if not open. */
 bool timers_expire(struct timers *t, struct timer_expired *out);
 
 /* Takes the first of the expired timers, as many as there are and as fit into out[0] to out[room - 1].
- * Returns how many, and writes that many of `out`. `out` must not be NULL, even if `room` is 0. 0 if it
- * holds none. */
+ * Returns how many, and writes that many of `out`. `out` must not be NULL, even if `room` is 0. Returns 0
+ * if not open. */
 size_t timers_expire_batch(struct timers *t, struct timer_expired *out, size_t room);
 
-/* Whether an expired timer was not yet taken. false if it holds none. */
+/* Whether an expired timer was not yet taken. Returns false if not open. */
 bool timers_has_due(const struct timers *t);
 
-/* The present tick. 0 if it holds none. */
+/* The present tick. Returns 0 if not open. */
 uint64_t timers_now(const struct timers *t);
 
-/* How many timers are pending. Expired timers are not counted. 0 if it holds none. While expired timers
+/* How many timers are pending. Expired timers are not counted. Returns 0 if not open. While expired timers
  * wait, it takes time for each of them: timers_has_due says in constant time whether any wait. */
 size_t timers_len(const struct timers *t);
 
-/* The tick until which the caller may sleep: the present one if an expired timer waits to be taken,
- * TIMERS_NEVER if nothing is pending (or it holds none), and otherwise a tick after the present one, at
+/* The tick until which the caller may sleep. It is the present one if an expired timer waits to be taken,
+ * and TIMERS_NEVER if nothing is pending or `t` is not open. Otherwise it is a tick after the present one, at
  * most the first deadline, before which nothing expires. Call it again once the clock is there: it may be
  * before the first deadline, as the wheels don't search for that. Constant time. */
 uint64_t timers_wakeup(const struct timers *t);
 
-/* The deadline of the timer that is taken next, exactly: the present tick if an expired timer waits to be
- * taken, TIMERS_NEVER if nothing is pending (or it holds none), and otherwise the first pending deadline.
- * Takes constant time if that comes before the next multiple of 64 ticks (of TIMERS_CLOCK, 60), and
+/* The deadline of the timer that is taken next, exactly. It is the present tick if an expired timer waits to
+ * be taken, and TIMERS_NEVER if nothing is pending or `t` is not open. Otherwise it is the first pending
+ * deadline. Takes constant time if that comes before the next multiple of 64 ticks (of TIMERS_CLOCK, 60), and
  * otherwise walks the timers of one bucket. A loop that only sleeps can use timers_wakeup. */
 uint64_t timers_next(const struct timers *t);
 

@@ -132,6 +132,9 @@ public:
 		return whole == ticks::max() ? whole : whole + ticks(1);
 	}
 
+	/* timers_reserve: room for so many timers at once. Throws error: TIMERS_NOT_OPEN; std::bad_alloc. */
+	void reserve(std::size_t most) { check(timers_reserve(&raw_, most)); }
+
 	/* timers_start. Throws error: TIMERS_NOT_OPEN, TIMERS_ZERO_INTERVAL (of 0 or less), TIMERS_TOO_LATE,
 	 * TIMERS_SERIALS_SPENT; std::bad_alloc. */
 	template <class Rep, class Period>

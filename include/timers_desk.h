@@ -5,11 +5,12 @@
  *     timers_desk_serve, timers_desk_serve_all - take requests
  *     timers_desk_flush, timers_desk_flush_all - hand out words
  *     timers_desk_tick, timers_desk_advance - pass ticks
- *     timers_desk_close, timers_desk_settle - close, settle a finished line
+ *     timers_desk_close, timers_desk_settle, timers_desk_end - close, settle a finished line, end its words
  *     timers_desk_now, timers_desk_len, timers_desk_wakeup, timers_desk_outbox - read the state
  *     timers_line_start, timers_line_stop, timers_line_restart - send a request
  *     timers_line_receive - receive a word
- *     timers_line_finish, timers_line_free - end the requests, free a client's end
+ *     timers_line_finish, timers_line_ended - end the requests, learn that no word comes any more
+ *     timers_line_free - free a client's end
  *
  * SYNOPSIS
  *     #include <timers_desk.h>
@@ -30,6 +31,11 @@
  *     were sent. Each timer that was started and neither stopped nor restarted gets one more word, at the tick of its
  *     deadline or at the close. So a client knows by counting that it has all its words: one for each request, and one
  *     for each such timer.
+ *
+ *     A client that does not count can be told. It finishes, and hands its line to the owner, who calls timers_desk_end
+ *     and hands it back. The call is refused while something of the client is left at the desk. Once it is done, what
+ *     stands in the line is all that is still to be received: timers_line_receive returns false only if there is
+ *     nothing more, and timers_line_ended returns true.
  *
  *     Words wait in the client's outbox at the owner until a flush moves them into the line. A request is taken only if
  *     the outbox has room for its answer and for a word of each of the client's pending timers, so no word is ever
@@ -64,12 +70,13 @@
  *        by a memcpy after which the old one is not used.
  *     2. A pointer argument is not NULL and points to an object of its type, or for `lines` to as many as are
  *        passed, that this call alone uses; no two arguments of one call overlap.
- *     3. An object that a call only writes (number, word, passed, returned, standing) may be uninitialised.
+ *     3. An object that a call only writes (number, word, passed, returned, standing, unread) may be uninitialised.
  *     4. Calls on one struct come one at a time. A struct may be handed from thread to thread, by a lock, by a
  *        thread's start or join, or by a sequentially consistent atomic. Calls on two structs are independent:
  *        those of the owner and of its clients may overlap in every way.
- *     5. timers_desk_settle is given a line of the same desk. A line of another client is refused, and so is one of
- *        another desk whose client has another number; one of another desk with the same number is not noticed.
+ *     5. timers_desk_settle and timers_desk_end are given a line of the same desk. A line of another client is refused,
+ *        and so is one of another desk whose client has another number; one of another desk with the same number is
+ *        not noticed.
  *     6. malloc, realloc and free are one allocator that threads may share, and align as C requires.
  *     7. No call comes from a signal handler, or from the forked child of a process with threads.
  *
@@ -112,7 +119,8 @@ enum timers_desk_status {
 	TIMERS_DESK_IDLE = 20,           /* no request was known to stand in the line */
 	TIMERS_DESK_NO_ROOM = 21,        /* the client's outbox has no room for one more answer and one more notice */
 	TIMERS_DESK_OTHER_LINE = 22,     /* the line is another client's, or its desk was freed before it finished */
-	TIMERS_DESK_NOT_FINISHED = 23    /* the line has not finished */
+	TIMERS_DESK_NOT_FINISHED = 23,   /* the line has not finished */
+	TIMERS_DESK_LEFT = 24            /* something of the client is left at the desk */
 };
 
 /* Private: see rule 1. */
@@ -182,8 +190,8 @@ enum timers_desk_status timers_desk_serve(struct timers_desk *d, size_t client);
  * TIMERS_DESK_OK: at least one request was done. TIMERS_DESK_IDLE: none was. */
 enum timers_desk_status timers_desk_serve_all(struct timers_desk *d, uint64_t most);
 
-/* Moves words from each client's outbox into its line, until the outbox is empty or the line full. Returns whether a
- * word was moved. Does not allocate. */
+/* Moves words from each client's outbox into its line, in order, until the outbox is empty or the line full. Returns
+ * whether a word was moved. Nothing else changes. Does not allocate. */
 bool timers_desk_flush_all(struct timers_desk *d);
 
 /* The same for one client, and returns how many words were moved. 0 if there is no such client. */
@@ -213,18 +221,26 @@ enum timers_desk_status timers_desk_close(struct timers_desk *d, uint64_t *retur
  * TIMERS_DESK_NOT_FINISHED, TIMERS_DESK_OTHER_LINE (the desk was freed before it finished). */
 enum timers_desk_status timers_desk_settle(struct timers_desk *d, size_t client, struct timers_line *line, size_t *standing);
 
+/* Ends the words of a client that has finished, once its thread has handed the line over (rule 4). At TIMERS_DESK_OK it
+ * writes to `*unread` how many words stand in the line: with those that were received they are all that the client was
+ * given. The line may then be handed back and read to its end. Does not allocate.
+ * TIMERS_DESK_NOT_OPEN (either struct), TIMERS_DESK_NO_CLIENT, TIMERS_DESK_OTHER_LINE (it is another client's),
+ * TIMERS_DESK_NOT_FINISHED, TIMERS_DESK_OTHER_LINE (the desk was freed before it finished).
+ * TIMERS_DESK_LEFT: a request is held or stands in the line, a word waits in the outbox, or a timer is pending. */
+enum timers_desk_status timers_desk_end(struct timers_desk *d, size_t client, struct timers_line *line, size_t *unread);
+
 /* The present tick. 0 if it holds no desk. */
-uint64_t timers_desk_now(struct timers_desk *d);
+uint64_t timers_desk_now(const struct timers_desk *d);
 
 /* How many timers are pending, of all clients. 0 if it holds no desk. */
-size_t timers_desk_len(struct timers_desk *d);
+size_t timers_desk_len(const struct timers_desk *d);
 
 /* A tick after the present one and at most the first deadline, before which nothing expires. TIMERS_NEVER if
  * nothing is pending, or it holds no desk. */
-uint64_t timers_desk_wakeup(struct timers_desk *d);
+uint64_t timers_desk_wakeup(const struct timers_desk *d);
 
 /* How many words wait in a client's outbox. 0 if there is no such client, or it holds no desk. */
-size_t timers_desk_outbox(struct timers_desk *d, size_t client);
+size_t timers_desk_outbox(const struct timers_desk *d, size_t client);
 
 /* A client's calls. None of them allocates or waits. */
 
@@ -240,12 +256,16 @@ enum timers_desk_status timers_line_stop(struct timers_line *line, struct timer_
 enum timers_desk_status timers_line_restart(struct timers_line *line, struct timer_handle handle, uint64_t interval,
                                             uint64_t action, uint64_t *number);
 
-/* Receives the next word. Returns whether there was one, and writes `*word` exactly then. */
+/* Receives the next word. Returns whether there was one, and writes `*word` exactly then. Without one more may come,
+ * unless timers_line_ended says otherwise. */
 bool timers_line_receive(struct timers_line *line, struct timers_word *word);
 
 /* Ends the requests of this line. Words are still received.
  * TIMERS_DESK_NOT_OPEN, TIMERS_DESK_FINISHED. */
 enum timers_desk_status timers_line_finish(struct timers_line *line);
+
+/* Whether no word comes any more: the owner has ended them by timers_desk_end, and all were received. */
+bool timers_line_ended(const struct timers_line *line);
 
 /* Frees the client's end, if it holds one. What it sent is still taken, and words to it are lost. */
 void timers_line_free(struct timers_line *line);

@@ -61,6 +61,7 @@ class Expired(Structure):
 CALLS = {
     "new": (c_uint32, [POINTER(Held), c_uint32, c_uint64]),
     "free": (None, [POINTER(Held)]),
+    "reserve": (c_uint32, [POINTER(Held), c_size_t]),
     "start": (c_uint32, [POINTER(Held), c_uint64, c_uint64, POINTER(Handle)]),
     "restart": (c_uint32, [POINTER(Held), Handle, c_uint64, c_uint64, POINTER(Handle)]),
     "start_at": (c_uint32, [POINTER(Held), c_uint64, c_uint64, POINTER(Handle)]),
@@ -116,6 +117,10 @@ class Timers:
 
     def __exit__(self, *exception):
         self.close()
+
+    def reserve(self, most):
+        """Makes room for so many timers at once: starts then need no memory while fewer are held."""
+        self._do("reserve", word(most))
 
     def start(self, interval, action):
         """Starts a timer, and returns its handle."""

@@ -129,6 +129,7 @@ struct Held {
 unsafe extern "C" {
     fn timers_new(t: *mut Held, table: u32, first_tick: u64) -> c_uint;
     fn timers_free(t: *mut Held);
+    fn timers_reserve(t: *mut Held, most: usize) -> c_uint;
     fn timers_start(t: *mut Held, interval: u64, action: u64, handle: *mut Handle) -> c_uint;
     fn timers_start_at(t: *mut Held, deadline: u64, action: u64, handle: *mut Handle) -> c_uint;
     fn timers_restart(
@@ -201,6 +202,11 @@ impl Timers {
         let mut held = Held { at: std::ptr::null_mut(), mark: 0, last_serial: 0 };
         Error::of(unsafe { timers_new(&mut held, table as u32, first_tick) })?;
         Ok(Timers { held })
+    }
+
+    /// Makes room for `most` timers at once: starts then need no memory while fewer are held. `NoMemory`.
+    pub fn reserve(&mut self, most: usize) -> Result<(), Error> {
+        Error::of(unsafe { timers_reserve(&mut self.held, most) })
     }
 
     /// Starts a timer that expires after `interval` ticks. `ZeroInterval`, `TooLate`, `SerialsSpent`,

@@ -42,6 +42,7 @@ static void empty_structs(void)
 	CHECK(timers_line_start(&l, 1, 2, &n) == TIMERS_DESK_NOT_OPEN && n == 77);
 	CHECK(timers_line_stop(&l, h, &n) == TIMERS_DESK_NOT_OPEN && timers_line_restart(&l, h, 1, 2, &n) == TIMERS_DESK_NOT_OPEN && n == 77);
 	CHECK(!timers_line_receive(&l, &w) && timers_line_finish(&l) == TIMERS_DESK_NOT_OPEN);
+	CHECK(timers_desk_end(&d, 0, &l, &s) == TIMERS_DESK_NOT_OPEN && s == 78 && !timers_line_ended(&l));
 	timers_line_free(&l);
 	timers_desk_free(&d);
 }
@@ -167,6 +168,13 @@ static bool story(void)
 	while (timers_line_receive(&l[0], &w))
 		closed += w.kind == TIMERS_WORD_NOT_TAKEN && w.reason == TIMERS_DESK_CLOSED;
 	CHECK(returned == 5 && closed == 1);
+	/* the words of client 1 end: it has read them all, and nothing of it is left */
+	standing = 55;
+	CHECK(timers_desk_end(&d, 0, &l[0], &standing) == TIMERS_DESK_NOT_FINISHED && timers_desk_end(&d, 2, &l[1], &standing) == TIMERS_DESK_NO_CLIENT);
+	CHECK(timers_desk_end(&d, 0, &l[1], &standing) == TIMERS_DESK_OTHER_LINE && standing == 55);
+	CHECK(!timers_line_ended(&l[0]) && !timers_line_ended(&l[1]));
+	CHECK(timers_desk_end(&d, 1, &l[1], &standing) == TIMERS_DESK_OK && standing == 0 && timers_line_ended(&l[1]));
+	CHECK(!timers_line_receive(&l[1], &w) && timers_desk_end(&d, 1, &l[1], &standing) == TIMERS_DESK_OK && standing == 0);
 	timers_desk_free(&d);
 	CHECK(timers_line_start(&l[0], 9, 9, &n) == TIMERS_DESK_OK);        /* nobody will take it */
 	s = timers_line_finish(&l[0]);
@@ -217,9 +225,59 @@ static void slow_client(void)
 	timers_desk_free(&d);
 }
 
+/* The end of a client's words: refused while anything of it is left, and then nothing but its unread words comes. Client 1
+ * frees its end in the middle, and stops nothing. Returns whether memory ran out. */
+static bool ends(void)
+{
+	struct timers_desk d = TIMERS_DESK_INIT;
+	struct timers_line l[2] = { TIMERS_LINE_INIT, TIMERS_LINE_INIT };
+	struct timers_desk_config config = { 0, 100, 8, 4 };
+	struct timers_word w;
+	uint64_t n;
+	size_t unread = 55;
+	bool ran_out = false;
+	enum timers_desk_status s = timers_desk_new(&d, l, 2, &config);
+	if (s != TIMERS_DESK_OK) {
+		CHECK(s == TIMERS_DESK_NO_MEMORY && d.mark == 0 && l[0].mark == 0 && l[1].mark == 0);
+		return true;
+	}
+	CHECK(timers_line_start(&l[0], 5, 1, &n) == TIMERS_DESK_OK && timers_line_start(&l[0], 9, 2, &n) == TIMERS_DESK_OK);
+	CHECK(timers_line_start(&l[1], 7, 3, &n) == TIMERS_DESK_OK && timers_line_finish(&l[1]) == TIMERS_DESK_OK);
+	CHECK(timers_line_finish(&l[0]) == TIMERS_DESK_OK && !timers_line_ended(&l[0]));
+	/* requests stand, or one is held; then words wait; then timers are pending */
+	CHECK(timers_desk_end(&d, 0, &l[0], &unread) == TIMERS_DESK_LEFT && unread == 55);
+	for (int done = 0; done < 2;) {
+		s = timers_desk_serve(&d, 0);
+		CHECK(s == TIMERS_DESK_OK || s == TIMERS_DESK_NO_MEMORY);
+		done += s == TIMERS_DESK_OK;
+		ran_out |= s == TIMERS_DESK_NO_MEMORY;
+		CHECK(timers_desk_end(&d, 0, &l[0], &unread) == TIMERS_DESK_LEFT && !timers_line_ended(&l[0]));
+	}
+	timers_line_free(&l[1]);
+	CHECK(timers_desk_end(&d, 1, &l[1], &unread) == TIMERS_DESK_NOT_OPEN && unread == 55);
+	CHECK(timers_desk_flush(&d, 0) == 2 && timers_desk_end(&d, 0, &l[0], &unread) == TIMERS_DESK_LEFT);
+	/* a refusal takes nothing: the words are still received, and the timers expire */
+	CHECK(timers_line_receive(&l[0], &w) && w.kind == TIMERS_WORD_STARTED && w.number == 1);
+	for (int i = 0; i < 9; i++)
+		CHECK(timers_desk_tick(&d) == TIMERS_DESK_OK);
+	CHECK(timers_desk_end(&d, 0, &l[0], &unread) == TIMERS_DESK_LEFT && timers_desk_outbox(&d, 0) == 2 && unread == 55);
+	CHECK(timers_desk_flush_all(&d) && timers_desk_outbox(&d, 0) == 0 && !timers_desk_flush_all(&d));
+	CHECK(timers_desk_end(&d, 0, &l[0], &unread) == TIMERS_DESK_OK && unread == 3 && !timers_line_ended(&l[0]));
+	CHECK(timers_line_receive(&l[0], &w) && w.kind == TIMERS_WORD_STARTED && w.number == 2);
+	CHECK(timers_line_receive(&l[0], &w) && w.kind == TIMERS_WORD_EXPIRED && w.number == 1 && !timers_line_ended(&l[0]));
+	CHECK(timers_desk_end(&d, 0, &l[0], &unread) == TIMERS_DESK_OK && unread == 1);
+	timers_desk_free(&d);               /* what was given is still received */
+	CHECK(timers_line_receive(&l[0], &w) && w.kind == TIMERS_WORD_EXPIRED && w.number == 2 && timers_line_ended(&l[0]));
+	CHECK(!timers_line_receive(&l[0], &w) && timers_line_ended(&l[0]));
+	timers_line_free(&l[0]);
+	CHECK(!timers_line_ended(&l[0]));
+	return ran_out;
+}
+
 int main(void)
 {
 	empty_structs();
+	CHECK(!ends());
 	slow_client();
 	configurations();
 	CHECK(!story());
@@ -234,7 +292,18 @@ int main(void)
 	}
 	left = -1;
 	CHECK(blocks == 0);
-	printf("refused each allocation of the story in turn: %ld runs ran out of memory, no block is left\n", runs);
+	asked = 0;
+	CHECK(!ends());
+	all = asked;
+	for (long i = 0; i < all; i++) {
+		left = i;
+		runs += ends();
+		if (left >= 0)
+			break;
+	}
+	left = -1;
+	CHECK(blocks == 0);
+	printf("refused each allocation of both stories in turn: %ld runs ran out of memory, no block is left\n", runs);
 #endif
 	(void)left, (void)asked, (void)blocks;
 	puts("ok");
