@@ -1,13 +1,15 @@
 #!/usr/bin/env python3
 """Measures all that stands in README.md and docs/scale.md, and writes their tables and the plots of docs/.
 
-    page.py measure --work PROGRAM --timers PROGRAM [--parts wheels,play] [--quick]
+    page.py measure [--parts wheels,play] [--quick]
     page.py write
 
-`measure` takes some nine minutes on four cores that do nothing else; the results go to build/page. PROGRAM of
---work is that of crates/timer_desk_bench, that of --timers the product, and build/bench has to have the product
-in it. `write` puts what has been measured between the markers of the pages, `<!-- NAME -->` and `<!-- end -->`,
-and draws the plots: no figure of a table is typed by hand. Status 1: a part failed; 2: wrong arguments.
+`measure` takes some ten minutes on four cores that do nothing else; the results go to build/page. build_all has
+to have run before: it builds the product, its library for C and the peers. Other programs than those of this
+checkout are named by --work (crates/timer_desk_bench) and --timers (the product). `write` puts what has been
+measured between the markers of the pages, `<!-- NAME -->` and `<!-- end -->`, and draws the plots: no figure of a
+table is typed by hand. It writes a table as a whole, from the files of build/page; a table without a file stays as
+it stands. Status 1: a part failed; 2: wrong arguments, or a program is not there.
 """
 import argparse
 import datetime
@@ -22,7 +24,10 @@ import page_tables
 import runs
 
 HERE = os.path.dirname(os.path.abspath(__file__))
-DOCS = os.path.join(HERE, "..", "docs")
+TOP = os.path.join(HERE, "..")
+DOCS = os.path.join(TOP, "docs")
+WORK = os.path.join(TOP, "crates", "timer_desk_bench", "out", "timer_desk_bench")
+TIMERS = os.path.join(TOP, "crates", "timer_program", "out", "timer_program")
 FOLDER = os.path.join(HERE, "build", "page")
 IS_QUICK = "--quick" in sys.argv  # a third of the length, three repeats
 PAGES = [os.path.join(HERE, "README.md"), os.path.join(DOCS, "scale.md")]
@@ -74,12 +79,13 @@ def parts(work, timers):
         ],
         "quiet": [of_driver("quiet", "1", "5", QUIET, PEERS)],
         "lines": [of_script("lines", "lines", "--work", work, "--timers", timers)],
+        "wrappers": [of_script("wrappers", "wrappers")],
         "tail": [of_script("runs", "tail", "tail", "--repeats", "5")],
         "scale": [of_script("runs", "scale", "scale", "--repeats", "3", "--operations", "500000")],
         "steady": [of_driver("steady", "0.3", "3", "steady-10M", PEERS)],
         "again": [
             of_driver("again", "0.3", "5", SHORT, "timers-hier,timers-c"),
-            of_driver("again-quiet", "4", "5", QUIET, "timers-hier,timers-c,ref-apart"),
+            of_driver("again-quiet", "8", "5", QUIET, "timers-hier,timers-c,ref-apart"),
         ],
     }
 
@@ -101,8 +107,6 @@ def measure(chosen, work, timers):
         before = times()
         with open(file(f"{name}.log"), "w", encoding="utf-8") as log:
             for command in parts(work, timers)[name]:
-                if "" in command:  # a program that is not there
-                    continue
                 done = subprocess.run(command, stdout=log, stderr=subprocess.STDOUT, cwd=HERE, check=False)
                 done_well = done_well and done.returncode == 0
                 if done.returncode:
@@ -130,17 +134,21 @@ def put(text, name, made):
         return text
     first += len(f"<!-- {name} -->\n")
     last = text.index("<!-- end -->", first)
-    return text[:first] + made + "\n" + text[last:]
+    return text[:first] + (made + "\n" if made else "") + text[last:]
 
 
 def write():
     """Fills in the pages and draws the plots."""
+    if not os.path.isdir(FOLDER):
+        print(f"{FOLDER} is not there: nothing was measured", file=sys.stderr)
+        sys.exit(2)
     sections = page_tables.sections(FOLDER)
     for path in PAGES:
         with open(path, encoding="utf-8") as page:
             text = page.read()
         for name, made in sections.items():
             text = put(text, name, made)
+        text = page_tables.with_aims(FOLDER, text)
         with open(path, "w", encoding="utf-8") as page:
             page.write(text)
     page_tables.merge(FOLDER, file("bench.csv"))
@@ -160,8 +168,8 @@ def write():
 def main():
     parser = argparse.ArgumentParser()
     parser.add_argument("what", choices=["measure", "write"])
-    parser.add_argument("--work")
-    parser.add_argument("--timers")
+    parser.add_argument("--work", default=WORK)
+    parser.add_argument("--timers", default=TIMERS)
     parser.add_argument("--quick", action="store_true")
     parser.add_argument("--parts", default=",".join(parts("", "")))
     options = parser.parse_args()
@@ -171,7 +179,10 @@ def main():
     if options.what == "write":
         write()
     else:
-        programs = (os.path.abspath(path) if path else "" for path in (options.work, options.timers))
+        programs = [os.path.abspath(path) for path in (options.work, options.timers)]
+        for path in [*programs, os.path.join(HERE, "build", "bench")]:
+            if not os.path.exists(path):
+                parser.error(f"{path} is not there: run bench/build_all")
         sys.exit(0 if measure(chosen, *programs) else 1)
 
 

@@ -6,13 +6,14 @@ import os
 BENCH = ["wheels", "quiet", "steady"]  # the runs of build/bench with all candidates
 HIER, HASHED = "timers-hier", "timers-hash-64k"
 RIVALS = ["ref-hier", "ref-apart", "tokio-wheel"]  # of the hierarchy
+SUPERSEDED = ""  # older rows go once new ones stand
+MOST_OTHERS = 0.5  # cores that other processes take: above that the machine counts as busy
+BUSY_MARK = "\\*"
 COLUMNS = [
     HIER,
     "again",
-    "busy",
     "timers-c",
     "again-c",
-    "busy-c",
     "ref-apart",
     "tokio-wheel",
     "libuv",
@@ -52,7 +53,7 @@ def bench_rows(folder):
 def merge(folder, path):
     """One CSV of all these rows, for the plot."""
     rows = bench_rows(folder)
-    if rows:
+    if rows_of(folder, "wheels"):
         with open(path, "w", newline="", encoding="utf-8") as file:
             writer = csv.DictWriter(file, rows[0].keys())
             writer.writeheader()
@@ -81,7 +82,6 @@ def spread(row, is_slower=False):
     return f"**{text}**" if is_slower else text
 
 
-BUSY = {HIER: "busy", "timers-c": "busy-c"}
 AGAIN = {HIER: "again", "timers-c": "again-c"}  # the columns of the second run
 
 
@@ -92,16 +92,12 @@ def wheels(folder):
         if row["candidate"] in AGAIN:
             at[row["workload"], AGAIN[row["candidate"]]] = row
 
-    for row in rows_of(folder, "busy"):  # a shorter run at another time, whose file was kept
-        if row["candidate"] in BUSY:
-            at[row["workload"], BUSY[row["candidate"]]] = row
-
     def ratio(work, name):
         row = at.get((work, name))
         return float(row["ratio"]) if row and row["ratio"] else None
 
     def is_slower(work, name):
-        if not name.startswith(("timers-", "again", "busy")) or ratio(work, name) is None:
+        if not name.startswith(("timers-", "again")) or ratio(work, name) is None:
             return False
         peers = [ratio(work, peer) for peer in (["ref-hash-64k"] if name == HASHED else RIVALS)]
         return ratio(work, name) > min((peer for peer in peers if peer is not None), default=1e9)
@@ -111,8 +107,8 @@ def wheels(folder):
     made = [
         [work, *(spread(at.get((work, name)), is_slower(work, name)) for name in names)] for work in works
     ]
-    titles = {"again": "second run", "busy": "third run"}
-    return markdown(["", *(titles.get(name.split("-")[0], name) for name in names)], made)
+    titles = {"again": "second run", "again-c": "second run of timers-c"}
+    return markdown(["", *(titles.get(name, name) for name in names)], made)
 
 
 def units(folder):
@@ -215,7 +211,7 @@ def line_tables(folder):
     rows = rows_of(folder, "lines")
     ratio = {row["measure"]: row for row in rows if row["unit"] == "ratio"}
     least = {(row["measure"], row["facility"]): float(row["median"]) for row in rows if row["unit"] == "ns"}
-    desks = list(dict.fromkeys(name.rsplit(", ", 1)[0] for name in ratio if name.startswith("desk")))
+    desks = [name.removesuffix(", single calls") for name in ratio if name.endswith(", single calls")]
     made = [
         [
             desk,
@@ -294,52 +290,114 @@ def tail(folder):
     return markdown(["", "", *ranks], made)
 
 
-AIMS = [  # what is aimed at, the most that the ratio may be, and where it stands: file, workload or run, peer
-    ("10,000 timers of one tick, 1,000 ahead, to the C++ wheel", 1, "wheels", "burst-1000", HIER),
-    ("10,000 timers of one tick, 5,000 ahead, to the C++ wheel", 1, "wheels", "burst-5000", HIER),
-    ("a million pending, each of which expires, to the C++ wheel", 1, "wheels", "steady-1M", HIER),
-    ("a quiet tick, to the C++ wheel", 1.05, "again-quiet", "quiet-1k", HIER),
-    ("jumps, plain, to the C++ hierarchy", 3, "jumps-plain", "jumps-one", "play_ref"),
-    ("jumps, hashed, 256 slots, to the C++ hierarchy", 100, "jumps-hashed", "jumps-one", "play_ref"),
-    ("starts, to the tuned program", 0.8, "play", "starts", "play_tuned"),
-    ("starts and stops, to the tuned program", 0.8, "play", "mixed", "play_tuned"),
-    ("closes, to the tuned program", 0.8, "play", "closes", "play_tuned"),
-    ("desk, 8 clients, single calls, to the facility", 1.5, "lines", "desk, 8 clients, single calls", None),
-    ("desk, 8 clients, turns, to the facility", 2, "lines", "desk, 8 clients, turns", None),
-    ("threads on one core, to the C++ program", 1.3, "lines", "threads, 1 core", None),
-]
+THROUGH_C = " by `timers-c`"  # the wheel was not measured by itself, but through the library for C
+# Of each aim in the page: its figures. A figure has a name, the most that the ratio may be, and where it stands: the
+# part of page.py, its file, the workload or run, and the candidate or measure.
+AIMS = {
+    "Bursts and steady load": [
+        ("burst-1000", 1, "wheels", "wheels", "burst-1000", HIER),
+        ("burst-5000", 1, "wheels", "wheels", "burst-5000", HIER),
+        ("steady-1M", 1, "wheels", "wheels", "steady-1M", HIER),
+        ("steady-10M", 1, "steady", "steady", "steady-10M", HIER),
+    ],
+    "Jumps": [
+        ("plain", 3, "play", "jumps-plain", "jumps-one", "play_ref"),
+        ("hashed", 100, "play", "jumps-hashed", "jumps-one", "play_ref"),
+    ],
+    "The program, to the tuned one": [
+        (name, 1, "play", "play", name, "play_tuned") for name in ("starts", "mixed", "closes")
+    ],
+    "The program, to one that reserves": [
+        (name, 0.8, "play", "play", name, "play_ref --reserve") for name in ("starts", "mixed", "closes")
+    ],
+    "The desk, single calls": [
+        (f"{clients}", 1.5, "lines", "lines", "", f"desk, {clients}, single calls")
+        for clients in ("1 client", "8 clients", "64 clients")
+    ],
+    "The desk, turns": [
+        (f"{clients}", 2, "lines", "lines", "", f"desk, {clients}, turns")
+        for clients in ("1 client", "8 clients", "64 clients")
+    ],
+    "Threads on one core": [("", 1.3, "lines", "lines", "", "threads, 1 core")],
+    "A quiet tick": [
+        (name, 1.05, "again", "again-quiet", name, HIER) for name in ("quiet-1k", "quiet-100k", "quiet-1M")
+    ],
+}
 
 
-def reached(folder, name, work, peer):
+def reached(folder, name, work, measure):
     """The median of a ratio, or None."""
     for row in rows_of(folder, name):
-        if "workload" in row and (row["workload"], row["candidate"]) == (work, peer):
-            return float(row["ratio"])
-        if row.get("unit") == "ratio" and (row["run"], row["measure"]) == (
-            (work, peer) if peer else ("", work)
-        ):
+        if "workload" in row and (row["workload"], row["candidate"]) == (work, measure):
+            return float(row["ratio"]) if row["ratio"] else None
+        if row.get("unit") == "ratio" and (row["run"], row["measure"]) == (work, measure):
             return float(row["median"])
     return None
 
 
-def aims(folder):
-    """What was aimed at, and what was reached."""
+def is_busy(folder, part):
+    """Whether other work ran beside a part."""
+    path = os.path.join(folder, f"{part}.json")
+    if not os.path.exists(path):
+        return False
+    with open(path, encoding="utf-8") as file:
+        return json.load(file)["others"] > MOST_OTHERS
+
+
+def aim(folder, figures_of_aim):
+    """What was reached of an aim, or None if a figure of it was not measured."""
     made = []
-    for title, most, *where, peer in AIMS:
-        ratio = reached(folder, *where, peer)
-        if ratio is None and peer == HIER:
-            title, ratio = f"{title}, through the library for C", reached(folder, *where, "timers-c")
-        if ratio is not None:
-            shown = f"{ratio:.2f}" if ratio < 100 else f"{ratio:,.0f}"
-            made.append(
-                [
-                    title,
-                    f"{most:g}",
-                    shown if ratio <= most else f"**{shown}**",
-                    "yes" if ratio <= most else "**no**",
-                ]
-            )
-    return markdown(["Ratio", "At most", "Reached", "Met"], made) if made else None
+    for name, most, part, run, work, measure in figures_of_aim:
+        ratio, way = reached(folder, run, work, measure), ""
+        if ratio is None and measure == HIER:
+            ratio, way = reached(folder, run, work, "timers-c"), THROUGH_C
+        if ratio is None:
+            return None
+        shown = f"{ratio:.2f}" if ratio < 100 else f"{ratio:,.0f}"
+        shown = shown if ratio <= most else f"**{shown}**"
+        busy = BUSY_MARK if is_busy(folder, part) else ""
+        made.append(f"{name} {shown}{busy}{way}".strip())
+    return ", ".join(made)
+
+
+def with_aims(folder, text):
+    """The page with the figures of this run in its table of aims; the row of another aim stays as it is."""
+    lines = text.split("\n")
+    for at, line in enumerate(lines):
+        cells = line.split(" | ")
+        title = cells[0].removeprefix("| ")
+        if title in AIMS and len(cells) > 3 and (made := aim(folder, AIMS[title])):
+            lines[at] = " | ".join([*cells[:2], made, *cells[3:]])
+    return "\n".join(lines)
+
+
+def missing(folder):
+    """What was not measured, of that which has older rows in the page."""
+    measured = {row["candidate"] for row in bench_rows(folder)}
+    lacks = [f"`{name}`" for name in (HIER, HASHED) if name not in measured]
+    if not any(row["measure"].startswith("desk") for row in rows_of(folder, "lines")):
+        lacks.append("the desk and ring lines")
+    if not lacks:
+        return ""
+    return f"Not in these runs: {', '.join(lacks)}. Older rows of them are marked with the day and the code that they are of."
+
+
+def wrappers(folder):
+    """Nanoseconds of an operation through each wrapper of the library for C."""
+    rows = rows_of(folder, "wrappers")
+    names = list(dict.fromkeys(row["facility"] for row in rows))
+    at = {(row["measure"], row["facility"]): row for row in rows}
+
+    def cell(operation, name):
+        median, low, high = figures(at[operation, name])
+        return f"{median:.0f} ({low:.0f}-{high:.0f})"
+
+    made = [
+        [operation, *(cell(operation, name) for name in names)]
+        for operation in dict.fromkeys(row["measure"] for row in rows)
+    ]
+    busy = "\n\nOther work ran beside it: read the medians with their spreads." if is_busy(folder, "wrappers") else ""
+    return markdown(["ns", *names], made) + busy
 
 
 def cost(folder):
@@ -387,7 +445,7 @@ def settings(folder):
 def machine_note(folder):
     """One line for a plot."""
     found = settings(folder)
-    busy = "; other work ran beside it" if found and max(one["others"] for one in found) > 0.5 else ""
+    busy = "; other work ran beside it" if found and max(one["others"] for one in found) > MOST_OTHERS else ""
     return f"{found[0]['machine']}, {found[0]['date']}{busy}" if found else ""
 
 
@@ -395,9 +453,9 @@ def setting(folder):
     """Where and when, with the load."""
     found = settings(folder)
     if not found:
-        return ""
+        return None
     others, steal = (max(one[key] for one in found) for key in ("others", "steal"))
-    busy = " **Other work ran beside it: read the ratios with their spreads.**" if others > 0.5 else ""
+    busy = " **Other work ran beside it: read the ratios with their spreads.**" if others > MOST_OTHERS else ""
     return (
         f"{found[0]['date']}, on the code of this page's commit; {found[0]['machine']}. During no part did other "
         f"processes take more than {others:.1f} of the cores, nor the host's neighbours more than {steal:.1f}.{busy}"
@@ -416,11 +474,15 @@ def instructions(folder):
 
 def sections(folder):
     """Each section by the name of its marker."""
-    made = {"setting": setting(folder), "aims": aims(folder)}
+    made = {"setting": setting(folder)}
     if counted := instructions(folder):
         made["instructions"] = counted
-    if bench_rows(folder):
-        made |= {"wheels": wheels(folder), "bytes": bytes_a_timer(folder), "units": units(folder)}
+    if rows_of(folder, "wheels"):
+        made |= {"wheels": wheels(folder), "missing": missing(folder)}
+    if rows_of(folder, "steady"):
+        made |= {"bytes": bytes_a_timer(folder), "units": units(folder)}
+    if any(row["candidate"] == HIER for row in rows_of(folder, "wheels")):
+        made["older-wheels"] = SUPERSEDED
     if rows_of(folder, "play"):
         made["play"] = play(folder)
     if rows_of(folder, "jumps-hier"):
@@ -430,8 +492,12 @@ def sections(folder):
     if rows_of(folder, "lines"):
         made["desk"], made["threads"] = line_tables(folder)
         made["cost"] = cost(folder)
+    if any(row["measure"] == "line, round trips" for row in rows_of(folder, "lines")):
+        made["older-line"] = SUPERSEDED
+    if rows_of(folder, "wrappers"):
+        made["wrappers"] = wrappers(folder)
     if rows_of(folder, "scale"):
         made["scale"] = scale(folder)
     if rows_of(folder, "tail"):
         made["tail"] = tail(folder)
-    return {name: text for name, text in made.items() if text}
+    return {name: text for name, text in made.items() if text is not None}
