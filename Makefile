@@ -11,14 +11,15 @@
 # make bench-lines measures the owner's desk, ring lines and clients in threads against others
 # make bench-scale measures an operation with 1,000 to 10,000,000 timers pending (bench/build/scale.csv and .svg)
 # make bench-tail  measures how long single ticks and starts take (bench/build/tail.csv and .svg)
-# make docs        makes docs/pages and docs/hierarchy.svg from the scripts of examples/
+# make bench-desk  measures client threads in C, over a desk and around a mutex (bench/build/desk.csv)
+# make docs        makes docs/pages and docs/hierarchy.svg from the scripts of examples/, and counts lines for docs/proofs.md
 # make hostile     the program under memory limits and input and output errors
 # make fuzz        an hour of scripts, against a model of docs/formats.md (MINUTES=N)
 # make soak        64 clients of 10,000 timers each in threads, 100 times; prints progress
 # make clean       removes what was built
 #
 # CPU=x86-64-v3 builds program and libraries for that processor. x86-64, x86-64-v2 (the default) and x86-64-v3 can be
-# chosen; the first runs on all of x86-64.
+# chosen; the first runs on all of x86-64. `make try` has no such choice.
 
 KIT = $(dir $(shell rt doc))
 PROGRAM = crates/timer_program/out/timer_program
@@ -85,10 +86,11 @@ clean:
 	rm -rf crates/*/out build timers
 	$(MAKE) -C bench clean
 
-bench-scale bench-tail: bench-%: lib
+bench-scale bench-tail bench-desk: bench-%: lib
 	$(MAKE) -C bench $* TIMERS_C=$(CURDIR)/build/lib/libtimers.a RUN_OPTIONS="$(RUN_OPTIONS)"
 
 docs: all
 	TIMERS=$(CURDIR)/$(PROGRAM) tools/docs_pages docs
+	tools/line_counts docs/proofs.md
 
-.PHONY: all try run test lib install uninstall dist deb bench bench-lines bench-scale bench-tail docs hostile fuzz soak clean
+.PHONY: all try run test lib install uninstall dist deb bench bench-lines bench-scale bench-tail bench-desk docs hostile fuzz soak clean

@@ -1,6 +1,7 @@
 /* Loaded before a program (LD_PRELOAD), refuses the Nth allocation by malloc or realloc, N being REFUSE, and the Nth
  * start of a thread, N being REFUSE_THREAD. As the program ends, it writes into the file GROWTHS how many allocations
- * and how many starts of threads there were. Those before main are not counted.
+ * and how many starts of threads there were, and into the file SIZES the size of each allocation, one a line. Those
+ * before main are not counted.
  *
  * It includes no header, so that a compiler without the C library's headers builds it: the toolchain's own is one.
  * The numbers are those of Linux on x86-64. */
@@ -24,6 +25,11 @@ struct refusal {
 
 static struct refusal allocations;
 static struct refusal threads;
+
+/* The sizes of the first allocations, in their order. */
+enum { MOST_SIZES = 1 << 16 };
+static size_t sizes[MOST_SIZES];
+
 static _Atomic _Bool counts;
 
 static void *(*real_malloc)(size_t);
@@ -48,15 +54,37 @@ __attribute__((constructor)) static void begin(void)
 	counts = 1;
 }
 
-static void report(void)
+/* Opens the file that this variable names, or returns a negative number. */
+static int opened(const char *name)
 {
-	counts = 0;
-	const char *file = getenv("GROWTHS");
-	int fd = file ? open(file, O_WRONLY_CREAT_TRUNC, 0600) : -1;
+	const char *file = getenv(name);
+	return file && *file ? open(file, O_WRONLY_CREAT_TRUNC, 0600) : -1;
+}
+
+static void report_counts(void)
+{
+	int fd = opened("GROWTHS");
 	if (fd < 0)
 		return;
 	dprintf(fd, "%lu %lu\n", (unsigned long)allocations.count, (unsigned long)threads.count);
 	close(fd);
+}
+
+static void report_sizes(void)
+{
+	int fd = opened("SIZES");
+	if (fd < 0)
+		return;
+	for (unsigned long i = 0; i < allocations.count && i < MOST_SIZES; i++)
+		dprintf(fd, "%zu\n", sizes[i]);
+	close(fd);
+}
+
+static void report(void)
+{
+	counts = 0;
+	report_counts();
+	report_sizes();
 }
 
 __attribute__((destructor)) static void end(void) { report(); }
@@ -69,23 +97,34 @@ void _exit(int status)
 	__builtin_unreachable();
 }
 
-static _Bool refuses(struct refusal *calls) { return counts && ++calls->count == calls->wanted; }
+/* Counts a call, and returns its number, or 0 if it isn't counted. */
+static unsigned long counted(struct refusal *calls) { return counts ? ++calls->count : 0; }
+
+static _Bool refuses(struct refusal *calls, unsigned long number) { return number && number == calls->wanted; }
+
+static _Bool refuses_size(size_t size)
+{
+	unsigned long number = counted(&allocations);
+	if (number && number <= MOST_SIZES)
+		sizes[number - 1] = size;
+	return refuses(&allocations, number);
+}
 
 void *malloc(size_t size)
 {
 	if (!real_malloc)
 		real_malloc = (void *(*)(size_t))next_of("malloc");
-	return refuses(&allocations) ? 0 : real_malloc(size);
+	return refuses_size(size) ? 0 : real_malloc(size);
 }
 
 void *realloc(void *block, size_t size)
 {
 	if (!real_realloc)
 		real_realloc = (void *(*)(void *, size_t))next_of("realloc");
-	return refuses(&allocations) ? 0 : real_realloc(block, size);
+	return refuses_size(size) ? 0 : real_realloc(block, size);
 }
 
 int pthread_create(void *thread, const void *attributes, void *(*work)(void *), void *argument)
 {
-	return refuses(&threads) ? EAGAIN : real_create(thread, attributes, work, argument);
+	return refuses(&threads, counted(&threads)) ? EAGAIN : real_create(thread, attributes, work, argument);
 }

@@ -5,6 +5,9 @@ const INNER = 78;
 const OUTER = 98;
 const MOST_BUCKETS = 32; // shown of one wheel before the rest is folded
 const MOST_CHIPS = 24;   // shown of one bucket before the rest is folded
+const MOST_NUMBERS = 8;  // slots of one wheel that have their number on the ring
+const NEAR = 0.045;      // of a turn: two numbers on the ring don't touch
+const BESIDE = 0.14;     // of a turn: a number doesn't touch the words at a slot
 
 function make(tag, attributes, ...children) {
   const svg = ["svg", "circle", "path", "text", "g", "line", "title"].includes(tag);
@@ -30,6 +33,11 @@ function segment(from, to, inner, outer) {
   const at = (turn, radius) => point(turn, radius).map((n) => n.toFixed(2)).join(" ");
   return `M${at(from, outer)}A${outer} ${outer} 0 ${large} 1 ${at(to, outer)}L${at(to, inner)}A${inner} ${
       inner} 0 ${large} 0 ${at(from, inner)}Z`;
+}
+
+// The followed timer has a colour of its own, also among timers that moved.
+function colour(moved, followed) {
+  return moved.some(({serial}) => serial === followed) ? "is-followed" : "";
 }
 
 // The segment of a slot. Where there are many slots it is wider than its share, so that it can be seen.
@@ -80,29 +88,63 @@ class WheelCard {
       transform: "rotate(-90)"
     });
     this.title = make("title", {});
+    this.scale = make("g", {});
     this.svg = make("svg", {viewBox: "-120 -120 240 240", role: "img"}, this.title, track, this.held,
-        this.chosen, this.left, this.hand, this.digit);
-    const marks = slots < 8 ? [...Array(slots).keys()] : [0, 1, 2, 3].map((k) => Math.floor((k * slots) / 4));
-    for (const slot of marks) {
-      const [x, y] = point((slot + 0.5) / slots, 109);
-      this.svg.append(make("text", {class: "slot-label", x, y}, String(slot)));
-    }
+        this.chosen, this.left, this.hand, this.digit, this.scale);
     return this.svg;
   }
 
-  // Where a slot is on the screen.
+  // Where a slot is on the screen, at its outer edge.
   spot(slot) {
-    const box = (this.svg || this.list).getBoundingClientRect();
-    if (!this.svg) return [box.left + 10, box.top + 10];
-    const [x, y] = point((slot + 0.5) / this.play.wheels[this.wheel].slots, (INNER + OUTER) / 2);
-    return [box.left + ((x + 120) / 240) * box.width, box.top + ((y + 120) / 240) * box.height];
+    const [x, y] = point((slot + 0.5) / this.play.wheels[this.wheel].slots, OUTER + 3);
+    const {a, d, e, f} = this.svg.getScreenCTM();
+    return [a * x + e, d * y + f];
   }
 
   // `held` are the slots that have timers and their lists; `chosen` is the slot of the followed timer, or
-  // null; `left` are the slots that timers have just moved away from.
-  render({held, chosen, left}, now, followed) {
-    if (this.svg) this.renderRing(held, chosen, left, now);
-    this.renderBuckets(held, chosen, followed);
+  // null; `left` and `came` are the slots that timers have just moved away from and to, and their moves.
+  render({held, chosen, left, came}, now, followed) {
+    if (this.svg) {
+      this.renderRing(held, chosen, left, now);
+      this.renderScale(held, chosen, left, came, followed);
+    }
+    this.renderBuckets(held, chosen, left, came, followed);
+  }
+
+  // The numbers around the ring: where timers moved, where timers are if those are few, and the quarters.
+  renderScale(held, chosen, left, came, followed) {
+    const {slots} = this.play.wheels[this.wheel];
+    const quarters = slots < 8 ? [...Array(slots).keys()] :
+                                 [0, 1, 2, 3].map((k) => Math.floor((k * slots) / 4));
+    const occupied = held.length <= MOST_NUMBERS ? held.map(([slot]) => slot) : [];
+    if (chosen !== null) occupied.unshift(chosen);
+    const kind = (moved) => `moved-label ${colour(moved, followed)}`;
+    const wanted = [
+      ...[...came].map(([slot, moved]) => [slot, `now in slot ${slot}`, kind(moved)]),
+      ...[...left].map(([slot, moved]) => [slot, `was in slot ${slot}`, kind(moved)]),
+      ...occupied.map((slot) => [slot, String(slot), slot === chosen ? "is-followed" : "is-held"]),
+      ...quarters.map((slot) => [slot, String(slot), ""]),
+    ];
+    const put = [];
+    for (const label of wanted) {
+      const isFree = put.every(([other, , of]) => {
+        const apart = Math.abs(label[0] - other) / slots;
+        return Math.min(apart, 1 - apart) >= (of.startsWith("moved-label") ? BESIDE : NEAR);
+      });
+      if (isFree) put.push(label);
+    }
+    this.scale.replaceChildren(...put.flatMap((label) => this.scaleLabel(label, slots)));
+  }
+
+  // A number at the ring. That of a slot to or from which timers moved has words on a wide screen.
+  scaleLabel([slot, said, kind], slots) {
+    const [x, y] = point((slot + 0.5) / slots, 109);
+    if (!kind.startsWith("moved-label")) return [make("text", {class: `slot-label ${kind}`, x, y}, said)];
+    const side = x < 0 ? "is-left" : "is-right";
+    return [
+      make("text", {class: `slot-label ${kind} ${side}`, x: x + 5 * Math.sign(x), y}, said),
+      make("text", {class: `slot-label ${kind.replace("moved-label", "instead")}`, x, y}, String(slot)),
+    ];
   }
 
   segment(slot) {
@@ -116,22 +158,35 @@ class WheelCard {
     const digit = digitsOf(this.play.wheels, now)[this.wheel];
     this.held.setAttribute("d", held.map(([slot]) => (slot === chosen ? "" : this.segment(slot))).join(""));
     this.chosen.setAttribute("d", chosen === null ? "" : this.segment(chosen));
-    this.left.setAttribute("d", left.map((slot) => this.segment(slot)).join(""));
+    this.left.setAttribute("d", [...left.keys()].map((slot) => this.segment(slot)).join(""));
     this.digit.textContent = String(digit);
-    // The hand turns the way the clock went, also over slot 0.
-    const from = this.turn === null ? digit : this.turn;
-    const on = (((digit - from) % slots) + slots) % slots;
-    this.turn = from + (this.back && on ? on - slots : on);
+    this.turnTo(now);
     this.hand.setAttribute(
         "style", `transform: rotate(${(((this.turn + 0.5) / slots) * 360).toFixed(3)}deg)`);
     this.title.textContent = `${upper(name)}: the hand is at slot ${digit}, ${held.length} slot${
         held.length === 1 ? " has" : "s have"} timers`;
   }
 
-  renderBuckets(held, chosen, followed) {
+  // The hand turns the way the clock went, also over slot 0. Many turns are drawn as one.
+  turnTo(now) {
+    const {slots, ticks} = this.play.wheels[this.wheel];
+    const at = now / ticks;
+    const gone = this.at === undefined ? 0n : at - this.at;
+    const part = Number(gone % BigInt(slots));
+    const isWhole = gone >= BigInt(slots) || -gone >= BigInt(slots);
+    if (this.at === undefined) this.turn = Number(at % BigInt(slots));
+    this.turn += part + (isWhole ? (gone > 0n ? slots : -slots) : 0);
+    this.at = at;
+  }
+
+  renderBuckets(held, chosen, left, came, followed) {
     const shown = this.isOpen ? held : held.filter(([slot], at) => at < MOST_BUCKETS || slot === chosen);
-    const rows = shown.map(([slot, list]) => this.row(slot, list, slot === chosen ? followed : null));
-    if (!held.length) rows.push(make("li", {}, make("span", {class: "none"}, "empty")));
+    const rows = shown.map(([slot, list]) => this.row(slot, list, slot === chosen ? followed : null,
+        came.get(slot), followed));
+    for (const [slot, moved] of [...left].slice(0, MOST_NUMBERS))
+      rows.push(make("li", {class: "gone"}, make("span", {class: "name"}, this.slotName(slot)),
+          this.went(this.words.gone(moved), moved, followed)));
+    if (!held.length && !left.size) rows.push(make("li", {}, make("span", {class: "none"}, "empty")));
     if (shown.length < held.length)
       rows.push(make("li", {class: "rest"}, this.more(`and ${held.length - shown.length} more slots`, () => {
         this.isOpen = true;
@@ -154,12 +209,21 @@ class WheelCard {
         text);
   }
 
-  // The row of a bucket, where `has` is the followed timer if it stands there. It is made anew only if it
-  // changed.
-  row(slot, list, has) {
+  slotName(slot) {
+    return this.play.scheme === "plain" ?
+        "pending" :
+        this.words.place(keyOf(this.wheel, slot)).replace(/^wheel \d+ /, "");
+  }
+
+  went(said, moved, followed) { return make("span", {class: `went ${colour(moved, followed)}`}, said); }
+
+  // The row of a bucket, where `has` is the followed timer if it stands there, and `came` are the moves to it
+  // at this step. It is made anew only if it changed.
+  row(slot, list, has, came, followed) {
     const old = this.rows.get(slot);
     const isOpen = this.openBuckets.has(slot);
-    if (old && old.list === list && old.has === has && old.isOpen === isOpen) return old.element;
+    const isSame = old && old.list === list && old.has === has && old.isOpen === isOpen;
+    if (isSame && !came && !old.came) return old.element;
     const most = isOpen ? list.length : MOST_CHIPS;
     const shown = list.slice(0, most);
     if (has && !shown.some((written) => serialOf(written) === has))
@@ -167,12 +231,10 @@ class WheelCard {
     const chips = shown.map((written) => this.chip(written, has));
     if (shown.length < list.length)
       chips.push(this.more(`and ${list.length - shown.length} more`, () => this.openBuckets.add(slot)));
-    const name = this.play.scheme === "plain" ?
-        "pending" :
-        this.words.place(keyOf(this.wheel, slot)).replace(/^wheel \d+ /, "");
-    const element = make("li", {class: "bucket"}, make("span", {class: "name"}, name),
+    if (came) chips.push(this.went(this.words.came(came), came, followed));
+    const element = make("li", {class: "bucket"}, make("span", {class: "name"}, this.slotName(slot)),
         make("div", {class: "chips"}, ...chips));
-    this.rows.set(slot, {list, has, isOpen, element});
+    this.rows.set(slot, {list, has, came, isOpen, element});
     return element;
   }
 

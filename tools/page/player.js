@@ -1,6 +1,10 @@
 // The page: steps, the script's lines, the followed timer, and the controls.
 
-const MOST_EVENTS = 20; // of one timer's history
+const MOST_EVENTS = 20;   // of one timer's history
+const MOST_ARROWS = 12;   // of one step
+const READ_FIRST = 2000;  // milliseconds that Play rests at least where a timer moves or comes out
+const READ_LETTER = 20;   // and for each letter that is said there
+const LONGEST_STEPS = 4;  // whose height is measured
 
 const $ = (id) => document.getElementById(id);
 const play = new Play(JSON.parse($("data").textContent));
@@ -11,6 +15,7 @@ const shown = {
   timer: null
 };
 const calm = window.matchMedia("(prefers-reduced-motion: reduce)");
+const wide = window.matchMedia("(min-width: 860px)");
 
 function follow(serial) {
   if (serial !== null) shown.followed = serial;
@@ -26,13 +31,54 @@ const lines = new LineList(play, $("lines"), go);
 // What kind of news a sentence is, for its colour.
 function kindOf(said, isBad) {
   if (isBad || said.includes(" is refused as ")) return "fault";
-  return / (has|have) reached /.test(said) && !said.startsWith("The clock") ? "out" : "";
+  if (said.startsWith("By digits: ")) return "rule";
+  return /^Timers? .* expires?[,.]|timers have .* expire[,.]/.test(said) ? "out" : "";
+}
+
+function newsOf(step) {
+  const isBad = step > 0 && play.steps[step - 1].isBad === true;
+  const said = words.of(step).map((sentence) => make("p", {class: kindOf(sentence, isBad)}, sentence));
+  // Before the first line a wide screen has room for the beginning of the guide.
+  const guide = step || !wide.matches ? [] : words.guide().slice(0, 2).map((text) => make("p", {}, text));
+  return [...(step ? [lineNow(step)] : []), ...said, ...guide];
 }
 
 function renderNews(step) {
-  const isBad = step > 0 && play.steps[step - 1].isBad === true;
-  const said = words.of(step).map((sentence) => make("p", {class: kindOf(sentence, isBad)}, sentence));
-  $("news").replaceChildren(...said);
+  $("news").replaceChildren(...newsOf(step));
+  $("news").scrollTop = 0;
+}
+
+// The steps of which most is said, about.
+function longestSteps() {
+  const lengths = play.steps.map((_, at) => {
+    const said = words.of(at + 1);
+    return [said.join("").length + 60 * said.length, at + 1];
+  });
+  return lengths.sort((a, b) => b[0] - a[0]).slice(0, LONGEST_STEPS).map(([, step]) => step);
+}
+
+// On a wide screen the news has the height of its longest text, so that the wheels below it stay in place.
+function reserveNews() {
+  const news = $("news");
+  news.style.height = "";
+  if (!wide.matches) return;
+  shown.longest ??= longestSteps();
+  const width = `width: ${news.offsetWidth}px`;
+  const probe = make("div", {class: "news is-probe", "aria-hidden": "true", style: width});
+  news.after(probe);
+  let most = news.offsetHeight;
+  for (const step of [0, ...shown.longest]) {
+    probe.replaceChildren(...newsOf(step));
+    most = Math.max(most, probe.offsetHeight);
+  }
+  probe.remove();
+  news.style.height = `${Math.min(most + 1, Math.max(200, Math.round(window.innerHeight * 0.4)))}px`;
+}
+
+// The line of a step, above what happened: on a phone the script is further below.
+function lineNow(step) {
+  const {line} = play.steps[step - 1];
+  return make("p", {class: "line"}, `Line ${line + 1}: `, make("code", {}, play.lines[line]));
 }
 
 function digitRow(name, tick, level) {
@@ -100,10 +146,34 @@ function renderFollowed(step) {
         timer.events[0].step > step ? "It has not been started yet." : "It is no longer pending."));
   parts.push(history(timer, step));
   $("followed").replaceChildren(...parts);
+  showEvent();
+}
+
+// The present event of the followed timer is brought into sight where its column has a height of its own.
+function showEvent() {
+  const column = document.querySelector(".follow");
+  if (column.scrollHeight <= column.clientHeight) return;
+  const row = column.querySelector(".history .is-now");
+  if (!row) return;
+  const box = column.getBoundingClientRect();
+  const {top, bottom} = row.getBoundingClientRect();
+  if (bottom > box.bottom)
+    column.scrollTop += bottom - box.bottom + 8;
+  else if (top < box.top)
+    column.scrollTop -= box.top - top + 8;
+}
+
+function movesOf(step) {
+  return step ? play.steps[step - 1].events.filter((event) => event.kind === "moved") : [];
+}
+
+function addTo(map, slot, event) {
+  if (!map.has(slot)) map.set(slot, []);
+  map.get(slot).push(event);
 }
 
 function renderWheels(step) {
-  const parts = new Map(drawn.map((k) => [k, {held: [], chosen: null, left: []}]));
+  const parts = new Map(drawn.map((k) => [k, {held: [], chosen: null, left: new Map(), came: new Map()}]));
   const buckets = play.buckets(step);
   let count = 0;
   for (const key of [...buckets.keys()].sort((a, b) => a - b)) {
@@ -113,8 +183,9 @@ function renderWheels(step) {
   }
   const chosen = play.whereIs(shown.followed, step);
   if (chosen !== null) parts.get(placeOf(chosen).wheel).chosen = placeOf(chosen).slot;
-  for (const {kind, from} of step ? play.steps[step - 1].events : []) {
-    if (kind === "moved") parts.get(placeOf(from).wheel).left.push(placeOf(from).slot);
+  for (const event of movesOf(step)) {
+    addTo(parts.get(placeOf(event.from).wheel).left, placeOf(event.from).slot, event);
+    addTo(parts.get(placeOf(event.to).wheel).came, placeOf(event.to).slot, event);
   }
   for (const [k, card] of cards) card.render(parts.get(k), play.now(step), shown.followed);
   $("count").textContent = `${count} pending`;
@@ -123,10 +194,45 @@ function renderWheels(step) {
 // Where the timers that move at this step stand now, on the screen.
 function flights(step) {
   if (calm.matches || !step) return [];
-  const moved = play.steps[step - 1].events.filter(
-      (event) => event.kind === "moved" && cards.has(placeOf(event.from).wheel));
-  return moved.slice(0, 12).map(
-      (event) => [event.from, event.to].map((key) => cards.get(placeOf(key).wheel).spot(placeOf(key).slot)));
+  return movesOf(step).slice(0, MOST_ARROWS).map(spots);
+}
+
+function spots(event) {
+  return [event.from, event.to].map((key) => cards.get(placeOf(key).wheel).spot(placeOf(key).slot));
+}
+
+// An arrow from one point to another, bent aside of the rings.
+function arrow([x, y], [toX, toY], kind) {
+  const isAcross = Math.abs(toX - x) > Math.abs(toY - y);
+  const aside = Math.max(x, toX) + 60;
+  const [leaveX, leaveY] = isAcross ? [x, Math.min(y, toY) - 40] : [aside, y];
+  const [comeX, comeY] = isAcross ? [toX - 60 * Math.sign(toX - x), Math.min(y, toY) - 40] : [aside, toY - 20];
+  const length = Math.hypot(toX - comeX, toY - comeY) || 1;
+  const [along, down] = [(toX - comeX) / length, (toY - comeY) / length];
+  const at = (back, side) => `${(toX - back * along - side * down).toFixed(1)} ${
+      (toY - back * down + side * along).toFixed(1)}`;
+  const bend = [leaveX, leaveY, comeX, comeY].map((n) => n.toFixed(1)).join(" ");
+  return [
+    make("path", {class: `arrow ${kind}`, d: `M${x.toFixed(1)} ${y.toFixed(1)}C${bend} ${at(7, 0)}`}),
+    make("path", {class: `arrow-tip ${kind}`, d: `M${at(0, 0)}L${at(11, 5)}L${at(11, -5)}Z`}),
+  ];
+}
+
+// Arrows from where timers were to where they moved at this step; they stay until the next one.
+function renderArrows() {
+  const moved = movesOf(shown.step);
+  shown.arrows.replaceChildren();
+  if (!moved.length) return;
+  const {left, top} = $("wheels").getBoundingClientRect();
+  const seen = new Map();
+  for (const event of moved) {
+    const pair = `${event.from} ${event.to}`;
+    if (!seen.has(pair) || event.serial === shown.followed) seen.set(pair, event);
+  }
+  for (const event of [...seen.values()].slice(0, MOST_ARROWS)) {
+    const [from, to] = spots(event).map(([x, y]) => [x - left, y - top]);
+    shown.arrows.append(...arrow(from, to, event.serial === shown.followed ? "is-followed" : ""));
+  }
 }
 
 function fly(step) {
@@ -143,12 +249,13 @@ function render(step) {
   const from = shown.step;
   shown.step = step;
   document.body.classList.toggle("is-jump", Math.abs(step - from) > 1);
-  for (const card of cards.values()) card.back = step < from;
   $("now").textContent = String(play.now(step));
   $("face").textContent = words.face(play.now(step));
   renderNews(step);
   renderWheels(step);
+  renderArrows();
   lines.render(step);
+  if (step !== from) closeHelp();
   renderFollowed(step);
   $("slider").value = String(step);
   $("slider").setAttribute("aria-valuetext", `step ${step} of ${play.last}, tick ${play.now(step)}`);
@@ -156,6 +263,13 @@ function render(step) {
   $("first").disabled = $("back").disabled = step === 0;
   $("next").disabled = $("last").disabled = step === play.last;
   if (step === from + 1) fly(step);
+}
+
+// The help makes room at a step: on a phone for the wheels, and beside them for the timer's history, unless
+// the reader has opened it.
+function closeHelp() {
+  if (!wide.matches) $("intro").open = false;
+  if (!wide.matches || $("fields").dataset.kept === undefined) $("fields").open = false;
 }
 
 function go(step) {
@@ -170,11 +284,17 @@ function pause() {
   $("news").setAttribute("aria-live", "polite");
 }
 
+// How long Play rests at a step: longer where a timer moves or comes out, by the length of what is said.
+function rest(step) {
+  const isNews = step > 0 && play.steps[step - 1].events.some(
+      (event) => event.kind === "moved" || event.kind === "expired");
+  const reading = isNews ? READ_FIRST + READ_LETTER * $("news").textContent.length : 1000;
+  return reading / Number($("speed").value);
+}
+
 function playOn() {
-  shown.timer = setTimeout(() => {
-    playOn();
-    go(shown.step + 1);
-  }, 1000 / Number($("speed").value));
+  go(shown.step + 1);
+  if (shown.timer !== null) shown.timer = setTimeout(playOn, rest(shown.step));
 }
 
 function toggle() {
@@ -186,8 +306,8 @@ function toggle() {
   $("play").textContent = "Pause";
   // While it plays, a screen reader isn't flooded.
   $("news").setAttribute("aria-live", "off");
+  shown.timer = 0;
   playOn();
-  go(shown.step + 1);
 }
 
 function key(event) {
@@ -221,21 +341,50 @@ function followTyped() {
 
 function followNext(by) { follow(String(BigInt(shown.followed) + by)); }
 
+// Only a hierarchy has slots from which timers move.
+function isDrawn([kind]) { return (kind !== "left" && kind !== "arrow") || words.isHierarchy; }
+
+// The sign of a row of the legend, as it is drawn at the wheels.
+function signOf(kind) {
+  if (kind === "hand")
+    return [
+      make("line", {class: "hand", x1: 8, y1: 20, x2: 8, y2: 8}),
+      make("path", {class: "hand-tip", d: "M3 9L13 9L8 0Z"})
+    ];
+  if (kind === "arrow")
+    return [
+      make("path", {class: "arrow is-followed", d: "M1 14Q6 6 11 9"}),
+      make("path", {class: "arrow-tip is-followed", d: "M16 12L8.6 12.4L12.2 5Z"})
+    ];
+  return [make("path", {class: kind, d: "M4 4L12 4L11 16L5 16Z"})];
+}
+
+function legendRow([kind, said]) {
+  return make("span", {},
+      make("svg", {viewBox: "0 0 16 20", "aria-hidden": "true"}, ...signOf(kind)), said);
+}
+
 function fill() {
   $("title").textContent = play.title;
   $("command").textContent = play.command;
   $("scheme").textContent = words.scheme();
+  $("opening").textContent = OPENING[play.scheme];
   const keys = make("p", {}, "Keys: ", make("kbd", {}, "←"), " ", make("kbd", {}, "→"), " a step, ",
       make("kbd", {}, "space"), " play and pause, ", make("kbd", {}, "Home"), " ", make("kbd", {}, "End"),
       " first and last, ", make("kbd", {}, "f"), " another timer to follow.");
   $("guide").replaceChildren(...words.guide().map((said) => make("p", {}, said)), keys);
-  $("intro").open = window.innerWidth >= 860 && window.innerHeight >= 700;
+  if (play.scheme !== "plain") $("legend").replaceChildren(...LEGEND.filter(isDrawn).map(legendRow));
+  const row = ([word, said], between) => make("p", {}, make("b", {}, word), `${between}${said}`);
+  $("fields").replaceChildren(make("summary", {}, "What the numbers in a line are"),
+      ...words.fields().map((pair) => row(pair, " ")), ...words.glossary().map((pair) => row(pair, ": ")));
+  $("fields").querySelector("summary").onclick = () => { $("fields").dataset.kept = ""; };
+  $("intro").open = wide.matches;
   lines.show(0, AROUND);
-  $("wheels").replaceChildren(...[...cards.values()].map((card) => card.element));
+  shown.arrows = make("svg", {class: "arrows", "aria-hidden": "true"});
+  $("wheels").replaceChildren(...[...cards.values()].map((card) => card.element), shown.arrows);
   $("wheels").classList.toggle("is-single", cards.size === 1);
   const folded = play.wheels.map((_, k) => k).filter((k) => !cards.has(k));
-  $("folded").textContent =
-      folded.length ? `Not drawn, since no timer ever stands there: ${words.wheelsNamed(folded)}.` : "";
+  $("folded").textContent = words.folded(folded);
   $("slider").max = String(play.last);
 }
 
@@ -252,6 +401,10 @@ function listen() {
   $("before").onclick = () => followNext(-1n);
   $("after").onclick = () => followNext(1n);
   document.addEventListener("keydown", key);
+  window.addEventListener("resize", () => {
+    reserveNews();
+    renderArrows();
+  });
   const dark = window.matchMedia("(prefers-color-scheme: dark)");
   dark.addEventListener("change", () => setTheme(dark.matches ? "dark" : "light"));
   setTheme(dark.matches ? "dark" : "light");
@@ -259,4 +412,5 @@ function listen() {
 
 fill();
 listen();
+reserveNews();
 render(0);

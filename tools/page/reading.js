@@ -12,7 +12,14 @@
     return {
       now: text(document.querySelector("#now")),
       buckets: [...document.querySelectorAll(".bucket")].filter((node) => node.checkVisibility()).map(bucket),
+      gone: [...document.querySelectorAll(".gone")].map((node) => [
+        text(node.closest("article").querySelector("h3")), text(node.querySelector(".name")),
+        text(node.querySelector(".went")),
+      ]),
+      arrows: document.querySelectorAll(".arrows .arrow").length,
+      top: document.querySelector("#wheels").getBoundingClientRect().top,
       followed: document.querySelector("#serial").value,
+      news: text(document.querySelector("#news")),
       because: [...document.querySelectorAll(".because")].map(text).join(" "),
       line: here ? Number(text(here.querySelector(".number"))) : 0,
       answers: here ? [...here.querySelectorAll(".answer")].map(answer) : [],
@@ -46,5 +53,25 @@
   };
   window.unnamed = () => [...document.querySelectorAll("button, input, select")]
     .filter((node) => !(node.ariaLabel || text(node) || (node.labels && node.labels.length))).length;
+  // The lengths of the rests while it plays; they are not waited for.
+  window.played = () => new Promise((done) => {
+    const rests = {};
+    const wait = window.setTimeout;
+    const button = document.querySelector("#play");
+    window.setTimeout = (act, time) => {
+      rests[parseInt(text(document.querySelector("#at")), 10)] = time;
+      return wait(act, 0);
+    };
+    const see = () => (text(button) === "Play" ? done(JSON.stringify(rests)) : wait(see, 10));
+    button.click();
+    see();
+  });
+  // The bottom of what is marked in the history, and the top of the controls.
+  window.hidden = () => {
+    const bottom = (node) => (node ? node.getBoundingClientRect().bottom : 0);
+    const controls = document.querySelector(".controls").getBoundingClientRect().top;
+    return [".history .is-now", ".follow", ".stage"].filter(
+      (name) => bottom(document.querySelector(name)) > controls);
+  };
   window.current = () => JSON.stringify(read());
 })();

@@ -14,37 +14,89 @@ const REASONS = {
   "clock-end": "the clock stands at its last tick",
 };
 
+// What the page is about, in one sentence above the clock.
+const OPENING = {
+  plain: "All pending timers wait in one list, and the one with the nearest deadline is in front.",
+  hashed: "A timer waits in one slot of the wheel. The hand passes it once for each of its rounds," +
+      " and takes it out at its deadline.",
+  hier: "A timer far from its deadline waits in a coarse wheel, which has wide slots." +
+      " It moves to a finer wheel as its deadline comes near.",
+  clock: "A timer far from its deadline waits in a coarse wheel, that of days or hours." +
+      " It moves to a finer one, of minutes or seconds, as its deadline comes near.",
+};
+
 const GUIDE = {
   plain: [
-    "All pending timers stand in one list, in order of their deadlines." +
-        " At each tick the clock looks at the front of the list alone.",
+    "A timer is due at a tick of the clock, its deadline. All pending timers are in one list," +
+        " in order of their deadlines. At each tick the clock looks at the front of the list alone.",
     "A start has to find its place, so it takes the longer the more timers are pending." +
         " Timers are written serial:deadline.",
   ],
   hashed: [
-    "The wheel is a ring of slots, and the clock's hand goes on by one slot with each tick." +
-        " A timer stands in the slot (deadline mod slots), so the hand is there at its deadline.",
-    "A deadline further away than one turn has rounds: how often the hand passes the timer by." +
-        " They are written serial:rounds.",
-    "A tick looks at one slot alone, however many timers are pending.",
+    "A timer is due at a tick of the clock, its deadline. It waits in a slot of the wheel." +
+        " With each tick the clock's hand goes on by one slot, and looks at that slot alone.",
+    "A timer is in the slot (deadline mod slots), so the hand is there at its deadline.",
+    "If the deadline is further away than one turn, the timer has rounds:" +
+        " how often the hand passes it by. They are written serial:rounds.",
   ],
   hier: [
-    "Think of the hands of a clock, with 64 slots a wheel: wheel 0 goes on by one slot with each tick," +
-        " wheel 1 with each 64 ticks, wheel 2 with each 64 × 64, and so on." +
-        " So the hands show the digits of the present tick.",
-    "A timer stands at the highest wheel whose digit differs between its deadline and now," +
-        " in the slot of the deadline's digit." +
-        " When that wheel's hand reaches the slot, the bucket is emptied:" +
-        " its timers move to lower wheels, or are due.",
-    "A tick looks at one slot of one wheel, however many timers are pending and however far away they are.",
+    "A timer is due at a tick of the clock, its deadline. It waits in a slot of a wheel." +
+        " As in a clock, each wheel has a hand: that of wheel 0 goes on by one slot with each tick," +
+        " that of wheel 1 every 64 ticks, that of wheel 2 every 64² ticks.",
+    "So the hands show the digits of the present tick in base 64. Tick 128 is 2\u00a0×\u00a064\u00a0+\u00a00:" +
+        " wheel 1 is at 2, and wheel 0 at 0.",
+    "A timer with much time left is in a coarse wheel, with wide slots: the highest wheel" +
+        " at which the digits of now and of its deadline differ.",
+    "When that wheel's hand reaches the slot, the slot is emptied." +
+        " Its timers are near now: each moves to a finer wheel, with narrower slots, or is due.",
+    "A tick empties one slot of one wheel, however many timers are pending.",
   ],
   clock: [
-    "The wheels are those of a clock: 60 seconds, 60 minutes, 24 hours, 100 days, with a tick a second.",
-    "A timer stands at the highest wheel at which its deadline differs from the time now:" +
-        " one for the next hour stands at its hour. When the hand reaches it, it moves to its minute," +
-        " then to its second, and then it is due.",
+    "A timer is due at a tick of the clock, its deadline. A tick is a second here." +
+        " The wheels are those of a clock: 60 seconds, 60 minutes, 24 hours, 100 days.",
+    "A timer is in the highest wheel at which its deadline differs from the time now:" +
+        " one for the next hour is in its hour. When the hand reaches that hour, its slot is emptied:" +
+        " the timer moves to its minute, then to its second, and then it is due.",
   ],
 };
+
+// The colours and signs of the wheels.
+const LEGEND = [
+  ["hand", "the hand: the clock, at the present tick"],
+  ["held", "blue: a slot with timers"],
+  ["held-followed", "orange: the slot of the timer that you follow"],
+  ["left", "dashed: a slot that was emptied at this step"],
+  ["arrow", "from where to where a timer moved at this step"],
+];
+
+// The fields of the lines of a script, and of their answers.
+const FIELDS = {
+  start: "client · request · interval · action",
+  stop: "client · request · serial",
+  restart: "client · request · serial · interval · action",
+  tick: "how many ticks pass",
+  close: "ends the facility",
+  started: "client · request · serial · deadline",
+  stopped: "client · request · serial",
+  restarted: "client · request · old serial · new serial · deadline",
+  expired: "tick · client · serial · action",
+  closed: "how many timers are returned",
+  returned: "client · serial · deadline · action",
+  refused: "client · request · reason",
+};
+
+// The words of those fields, in half a sentence each.
+const GLOSSARY = [
+  ["client", "who asks, numbered from 0"],
+  ["request", "the client's count of requests"],
+  ["interval", "the ticks from now to the deadline"],
+  ["action", "a number given back at the end"],
+  ["serial", "the number of a timer, from 1 on"],
+  ["expired", "it came out at its deadline"],
+];
+
+// What a digit of each wheel of 64 slots counts.
+const WEIGHTS = ["", " × 64", ..."²³⁴⁵⁶⁷⁸⁹"].map((power, k) => (k < 2 ? power : ` × 64${power}`));
 
 function reasonOf(answer) { return REASONS[answer.slice(answer.lastIndexOf(" ") + 1)] || ""; }
 
@@ -61,6 +113,16 @@ function timersNamed(serials) {
 function upper(sentence) { return sentence.charAt(0).toUpperCase() + sentence.slice(1); }
 
 function ticksOf(count) { return `${count} tick${count === 1n ? "" : "s"}`; }
+
+function times(count) {
+  return count === 1n ? "once" : count === 2n ? "twice" : `${count} times`;
+}
+
+// A formula, which a line doesn't break inside. Only one that is long may be broken, before a sum's sign.
+function unbroken(formula) {
+  const whole = formula.replaceAll(" ", "\u00a0");
+  return formula.length <= 28 ? whole : whole.replaceAll("\u00a0+\u00a0", " +\u00a0");
+}
 
 class Words {
   constructor(play) {
@@ -86,13 +148,19 @@ class Words {
     return this.levels.map((k) => all[k]);
   }
 
+  // A tick by its digits: '2 × 64 + 0', or days and hours.
+  written(tick) {
+    const d = digitsOf(this.play.wheels, tick);
+    const two = (n) => String(n).padStart(2, "0");
+    if (this.play.scheme === "clock") return unbroken(`${d[3]} days ${two(d[2])}:${two(d[1])}:${two(d[0])}`);
+    while (d.length > this.levels.length && d[d.length - 1] === 0) d.pop();
+    return unbroken(d.map((digit, k) => `${digit}${WEIGHTS[k]}`).reverse().join(" + "));
+  }
+
   // The clock's face: digits, days and hours, or the slot.
   face(tick) {
-    const d = this.digits(tick);
-    const two = (n) => String(n).padStart(2, "0");
-    if (this.play.scheme === "clock") return `${d[0]} days ${two(d[1])}:${two(d[2])}:${two(d[3])}`;
-    if (this.play.scheme === "hier") return `digits ${d.join(" · ")}`;
-    return this.play.scheme === "hashed" ? `slot ${d[0]} of ${this.play.wheels[0].slots}` : "";
+    if (this.isHierarchy) return `=\u00a0${this.written(tick)}`;
+    return this.play.scheme === "hashed" ? `slot ${this.digits(tick)[0]} of ${this.play.wheels[0].slots}` : "";
   }
 
   wheelName(k) {
@@ -134,6 +202,21 @@ class Words {
         clock}) and the deadline's (${digit}) differ, so it stands in ${stands}.`;
   }
 
+  // The ticks of a slot, of which one is this deadline: from the tick at which the slot is emptied, to the last.
+  ticksOfSlot(deadline, wheel) {
+    const {ticks} = this.play.wheels[wheel];
+    const first = deadline - (deadline % ticks);
+    return [first, first + ticks - 1n];
+  }
+
+  // When a timer leaves a place of the hierarchy.
+  until(timer, key) {
+    const {wheel} = placeOf(key);
+    const [first, last] = this.ticksOfSlot(timer.deadline, wheel);
+    return first === last ? ` The hand is there at tick ${first}, and then the timer is due.` :
+                            ` That slot is for the deadlines ${first} to ${last}, and is emptied at tick ${first}.`;
+  }
+
   // A place in a sentence.
   placed(key) {
     const {wheel, slot} = placeOf(key);
@@ -145,24 +228,63 @@ class Words {
     const what = timer.old ? `restarts timer ${timer.old}, which is now timer ${timer.serial},` :
                              `starts timer ${timer.serial}`;
     return `Client ${timer.client} ${what} for ${ticksOf(timer.deadline - timer.start)}: tick ${
-        timer.start} + ${timer.deadline - timer.start} = ${timer.deadline}. ${this.why(timer, timer.start)}`;
+        unbroken(`${timer.start} + ${timer.deadline - timer.start} = ${timer.deadline}`)}${
+        this.isHierarchy ? `, which is ${this.written(timer.deadline)}` : ""}. ${this.why(timer, timer.start)}${
+        this.isHierarchy && event.to !== undefined ? this.until(timer, event.to) : ""}`;
   }
 
+  // What the slots of a wheel are for: 'each tick', or 'each 64 ticks'.
+  eachOf(wheel) {
+    const {ticks} = this.play.wheels[wheel];
+    return ticks === 1n ? "each tick" : `each ${ticks} ticks`;
+  }
+
+  // Why a slot that is for many ticks is emptied.
+  coarse(deadline, key) {
+    const {wheel} = placeOf(key);
+    const [first, last] = this.ticksOfSlot(deadline, wheel);
+    return `${upper(this.placed(key))} is one slot for ${last - first + 1n} ticks, ${first} to ${
+        last}, and can't tell them apart.`;
+  }
+
+  // The plain reason of a move, and then the rule by digits.
   moved(event, now) {
     const timer = this.play.timers.get(event.serial);
-    const from = this.placed(event.from);
-    const to = this.placed(event.to);
-    return `The clock has reached ${from}, and empties that bucket: timer ${timer.serial} moves to ${to}. ${
-        this.why(timer, now)}`;
+    const {wheel} = placeOf(event.to);
+    const [first] = this.ticksOfSlot(timer.deadline, placeOf(event.from).wheel);
+    return [
+      `Timer ${timer.serial} has ${ticksOf(timer.deadline - now)} left. ${
+          this.coarse(timer.deadline, event.from)} ${upper(this.wheelName(wheel))} has a slot for ${
+          this.eachOf(wheel)}, so the timer moves there as the clock comes to tick ${first}.`,
+      `By digits: it is due at ${timer.deadline} =\u00a0${this.written(timer.deadline)}, and now is ${
+          now} =\u00a0${this.written(now)}. ${
+          upper(this.wheelName(wheel))} is the highest wheel at which they differ, so the timer moves to ${
+          this.placed(event.to)}. Its slot there is chosen by its deadline, not by the slot it came from.`
+    ];
   }
 
   moves(events, now) {
     const moved = events.filter((event) => event.kind === "moved");
-    if (moved.length <= 2) return moved.map((event) => this.moved(event, now));
+    if (moved.length <= 2) return moved.flatMap((event) => this.moved(event, now));
     const places = new Set(moved.map((event) => event.from));
     const from = places.size === 1 ? this.placed(moved[0].from) : `${places.size} buckets`;
-    return [`The clock has reached ${from}: ${
-        timersNamed(moved.map((event) => event.serial))} move to lower wheels, as their digits say.`];
+    const {deadline} = this.play.timers.get(moved[0].serial);
+    const why = places.size === 1 ? ` ${this.coarse(deadline, moved[0].from)}` : "";
+    const who = upper(timersNamed(moved.map((event) => event.serial)));
+    return [`The clock has reached ${from}, and empties ${places.size === 1 ? "it" : "them"}.${why} ${
+        who} move to finer wheels, each to the slot of its deadline.`];
+  }
+
+  // How far the hand of the lowest wheel went, where more than one tick passed.
+  turned(ticks) {
+    if (this.play.scheme === "plain" || ticks <= 1n) return [];
+    const slots = BigInt(this.play.wheels[0].slots);
+    const whose = this.isHierarchy ? `The hand of ${this.wheelName(0)}` : "The hand";
+    const turns = ticks / slots;
+    const rest = ticks % slots;
+    const on = `on by ${rest} slot${rest === 1n ? "" : "s"}`;
+    if (!turns) return [`${whose} goes ${on}.`];
+    return [`${whose} goes round ${times(turns)}${rest ? `, and ${on}` : ""}: a turn is ${slots} ticks.`];
   }
 
   expired(events) {
@@ -182,13 +304,18 @@ class Words {
 
   ticked(step, at) {
     const before = this.play.now(at - 1);
-    const said = [`The clock goes from tick ${before} to tick ${step.now}.`];
+    const said = [
+      [`The clock goes from tick ${before} to tick ${step.now}.`, ...this.turned(step.now - before)].join(" ")
+    ];
     const passed = step.events.filter((event) => event.kind === "round");
     const more = [...this.moves(step.events, step.now), ...this.expired(step.events)];
     if (passed.length)
       more.push(
           `The clock passes ${timersNamed(passed.map((event) => event.serial))}: fewer rounds are left.`);
-    if (!more.length) said.push("Nothing moves, and nothing expires.");
+    if (!more.length)
+      said.push(this.isHierarchy && step.now > before ?
+              "The hands came to empty slots alone, so nothing moves, and nothing expires." :
+              "Nothing moves, and nothing expires.");
     if (this.play.whole.includes(step.line))
       more.push("More than 32 moves and expired timers on one line: it is shown as one step.");
     return [...said, ...more];
@@ -246,9 +373,44 @@ class Words {
   }
 
   guide() {
-    const hand = this.play.scheme === "plain" ? [] : ["The hand is the clock, and a filled slot has timers."];
-    const follow =
-        "Choose a timer's number to follow it: it is orange, and its history stands beside the clock.";
-    return [...GUIDE[this.play.scheme], ...hand, follow];
+    const follow = "Choose a timer's serial to follow that timer: it is orange then," +
+        " and its history is below 'Follow a timer'.";
+    return [...GUIDE[this.play.scheme], follow];
+  }
+
+  // The wheels that aren't drawn, of a hierarchy.
+  folded(wheels) {
+    if (!wheels.length) return "";
+    const names = this.play.scheme === "hier" ? this.wheelsNamed(wheels) :
+                                                listed(wheels.map((k) => this.wheelName(k)));
+    return wheels.length === 1 ? `${upper(names)} is not drawn: it is empty at every step.` :
+                                 `${upper(names)} are not drawn: they are empty at every step.`;
+  }
+
+  // What a timer did that came to a slot at this step, or left it.
+  came(events) {
+    const from = new Set(events.map((event) => event.from));
+    const who = timersNamed(events.map((event) => event.serial));
+    return `${who} came from ${from.size === 1 ? this.place(events[0].from) : `${from.size} slots`}`;
+  }
+
+  gone(events) {
+    const to = new Set(events.map((event) => event.to));
+    const who = timersNamed(events.map((event) => event.serial));
+    return `${who} ${events.length === 1 ? "was" : "were"} here → ${
+        to.size === 1 ? this.place(events[0].to) : `${to.size} slots of finer wheels`}`;
+  }
+
+  // The words of the fields that lines of this script have.
+  glossary() {
+    const said = this.fields().map(([word, names]) => `${word} ${names}`).join(" ");
+    return GLOSSARY.filter(([word]) => said.includes(word));
+  }
+
+  // The words that begin lines of this script or their answers, with their fields.
+  fields() {
+    const answers = this.play.steps.flatMap((step) => step.answers);
+    const used = new Set([...this.play.lines, ...answers].map((line) => line.split(" ")[0]));
+    return Object.entries(FIELDS).filter(([word]) => used.has(word));
   }
 }
