@@ -1,17 +1,19 @@
 #!/usr/bin/env python3
 """Measures all that stands in README.md and docs/scale.md, and writes their tables and the plots of docs/.
 
-    page.py measure [--parts wheels,play] [--quick]
+    page.py measure [--parts wheels,play] [--quick] [--load N]
     page.py write
 
-`measure` takes some ten minutes on four cores that do nothing else; the results go to build/page. build_all has
-to have run before: it builds the product, its library for C and the peers. Other programs than those of this
+`measure` takes some ten minutes on four cores that do nothing else; the results go to build/page. With --load N
+it keeps N processes counting beside each part, for the tables of a busy machine, and the results go to
+build/page/busy; then the parts are those of these tables. build_all has to have run before: it builds the product, its library for C and the peers. Other programs than those of this
 checkout are named by --work (crates/timer_desk_bench) and --timers (the product). `write` puts what has been
 measured between the markers of the pages, `<!-- NAME -->` and `<!-- end -->`, and draws the plots: no figure of a
 table is typed by hand. It writes a table as a whole, from the files of build/page; a table without a file stays as
 it stands. Status 1: a part failed; 2: wrong arguments, or a program is not there.
 """
 import argparse
+import contextlib
 import datetime
 import json
 import os
@@ -29,6 +31,9 @@ DOCS = os.path.join(TOP, "docs")
 WORK = os.path.join(TOP, "crates", "timer_desk_bench", "out", "timer_desk_bench")
 TIMERS = os.path.join(TOP, "crates", "timer_program", "out", "timer_program")
 FOLDER = os.path.join(HERE, "build", "page")
+BUSY = os.path.join(FOLDER, "busy")
+BUSY_PARTS = "wheels,quiet,steady,again,play,lines"
+IS_LOADED = any(word.startswith("--load") for word in sys.argv)
 IS_QUICK = "--quick" in sys.argv  # a third of the length, three repeats
 PAGES = [os.path.join(HERE, "README.md"), os.path.join(DOCS, "scale.md")]
 
@@ -41,7 +46,7 @@ PEERS = "timers-hier,timers-hash-64k,timers-c,ref-apart,ref-hash-64k,tokio-wheel
 
 
 def file(name):
-    return os.path.join(FOLDER, name)
+    return os.path.join(BUSY if IS_LOADED else FOLDER, name)
 
 
 def of_driver(name, scale, repeats, workloads, candidates):
@@ -99,9 +104,21 @@ def times():
     return time.time(), user + nice + system + irq + softirq, own.ru_utime + own.ru_stime, steal
 
 
+@contextlib.contextmanager
+def load(count):
+    """Keeps as many processes counting, each of them a core's worth of work."""
+    busy = [subprocess.Popen([sys.executable, "-c", "while True: pass"]) for _ in range(count)]
+    try:
+        yield
+    finally:
+        for process in busy:
+            process.kill()
+            process.wait()
+
+
 def measure(chosen, work, timers):
     """Runs the parts. Returns whether all of them came to their end."""
-    os.makedirs(FOLDER, exist_ok=True)
+    os.makedirs(file(""), exist_ok=True)
     done_well = True
     for name in chosen:
         before = times()
@@ -142,7 +159,7 @@ def write():
     if not os.path.isdir(FOLDER):
         print(f"{FOLDER} is not there: nothing was measured", file=sys.stderr)
         sys.exit(2)
-    sections = page_tables.sections(FOLDER)
+    sections = page_tables.sections(FOLDER) | page_tables.busy_sections(BUSY)
     for path in PAGES:
         with open(path, encoding="utf-8") as page:
             text = page.read()
@@ -151,7 +168,7 @@ def write():
         text = page_tables.with_aims(FOLDER, text)
         with open(path, "w", encoding="utf-8") as page:
             page.write(text)
-    page_tables.merge(FOLDER, file("bench.csv"))
+    page_tables.merge(FOLDER, BUSY, file("bench.csv"))
     for name, program in (
         ("bench", "plot"),
         ("scale", "plot_runs"),
@@ -171,9 +188,11 @@ def main():
     parser.add_argument("--work", default=WORK)
     parser.add_argument("--timers", default=TIMERS)
     parser.add_argument("--quick", action="store_true")
-    parser.add_argument("--parts", default=",".join(parts("", "")))
+    parser.add_argument("--parts")
+    parser.add_argument("--load", type=int, default=0)
     options = parser.parse_args()
-    chosen = options.parts.split(",")
+    all_parts = BUSY_PARTS if options.load else ",".join(parts("", ""))
+    chosen = (options.parts or all_parts).split(",")
     if not set(chosen) <= set(parts("", "")):
         parser.error(f"parts are {', '.join(parts('', ''))}")
     if options.what == "write":
@@ -183,7 +202,8 @@ def main():
         for path in [*programs, os.path.join(HERE, "build", "bench")]:
             if not os.path.exists(path):
                 parser.error(f"{path} is not there: run bench/build_all")
-        sys.exit(0 if measure(chosen, *programs) else 1)
+        with load(options.load):
+            sys.exit(0 if measure(chosen, *programs) else 1)
 
 
 if __name__ == "__main__":

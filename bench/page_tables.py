@@ -5,6 +5,7 @@ import os
 
 BENCH = ["wheels", "quiet", "steady"]  # the runs of build/bench with all candidates
 HIER, HASHED = "timers-hier", "timers-hash-64k"
+BUSY_HIER = "timers-hier, busy machine"
 RIVALS = ["ref-hier", "ref-apart", "tokio-wheel"]  # of the hierarchy
 SUPERSEDED = ""  # older rows go once new ones stand
 MOST_OTHERS = 0.5  # cores that other processes take: above that the machine counts as busy
@@ -50,9 +51,10 @@ def bench_rows(folder):
     )
 
 
-def merge(folder, path):
-    """One CSV of all these rows, for the plot."""
-    rows = bench_rows(folder)
+def merge(folder, busy, path):
+    """One CSV of all these rows, for the plot; a row of the hierarchy on a busy machine has a name of its own."""
+    again = [row | {"candidate": BUSY_HIER} for row in bench_rows(busy) if row["candidate"] == HIER]
+    rows = bench_rows(folder) + again
     if rows_of(folder, "wheels"):
         with open(path, "w", newline="", encoding="utf-8") as file:
             writer = csv.DictWriter(file, rows[0].keys())
@@ -470,6 +472,13 @@ def instructions(folder):
     with open(path, encoding="utf-8") as file:
         lines = [line.rstrip("\n") for line in file if line.startswith("|")]
     return "\n".join(lines) if len(lines) > 2 else None
+
+
+def busy_sections(folder):
+    """The sections of the runs on a busy machine, by the names of their markers."""
+    wanted = ["setting", "wheels", "play", "desk", "threads", "units"]
+    made = sections(folder) if os.path.isdir(folder) else {}
+    return {f"busy-{name}": made[name] for name in wanted if name in made}
 
 
 def sections(folder):

@@ -14,6 +14,7 @@ import sys
 
 SHOWN = [  # candidate, colour; the first ones are drawn last, over the others
     ("timers-hier", "#0b5cad"),
+    ("timers-hier, busy machine", "#9a3fb5"),
     ("timers-hier-stop-start", "#6aa5dd"),
     ("timers-c", "#2f7fd0"),
     ("timers-hash-64k", "#0f8a5f"),
