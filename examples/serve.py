@@ -16,7 +16,7 @@ PLAN = [  # what happens, and at which tick
 
 
 class TimeOuts:
-    """Time-outs in ticks. Each has a number of the caller's own, which `fired` gets where it fires."""
+    """Time-outs in ticks. Each has a number of the caller's own, which `fired` gets when it fires."""
 
     def __init__(self, program, fired):
         command = [program, "serve", "--clients", "1"]
@@ -33,7 +33,7 @@ class TimeOuts:
         print(line, file=self.server.stdin, flush=True)
 
     def listen(self, seconds=None):
-        """Waits for a line. Returns its fields, or None where a time-out fired or nothing came."""
+        """Waits for a line. Returns its fields, or None if a time-out fired or nothing came."""
         try:
             fields = self.lines.get(timeout=seconds)
         except queue.Empty:
@@ -59,7 +59,7 @@ class TimeOuts:
         _, _, _, self.serials[number], _ = self.ask("start", ticks, number)
 
     def stop(self, number):
-        """Whether it was stopped in time. Where it fired before, the request is refused as `no-such`."""
+        """Whether it was stopped in time. If it fired before, the request is refused as `no-such`."""
         return self.ask("stop", self.serials.pop(number))[0] == "stopped"
 
     def close(self):

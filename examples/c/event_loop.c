@@ -87,7 +87,7 @@ static void catch_up(uint64_t now)
 	}
 }
 
-/* How long poll may wait: until the next wake-up, or without end where none comes. */
+/* How long poll may wait: until the next wake-up, or without end if none comes. */
 static int patience(uint64_t now)
 {
 	uint64_t wakeup = timers_wakeup(&timers);

@@ -107,7 +107,7 @@ static size_t index_of(struct timer_handle handle)
 	return count;
 }
 
-/* A handle, mostly of a timer that is pending or due; its index in the list, or `count` where it names none. */
+/* A handle, mostly of a timer that is pending or due; its index in the list, or `count` if it names none. */
 static size_t random_handle(struct timer_handle *handle)
 {
 	if (count > 0 && below(4)) {
@@ -295,9 +295,9 @@ static void look(struct timers *t)
 	WANT("len", timers_len(t), count - due);
 	WANT("has due", timers_has_due(t), due > 0);
 	if (due > 0)
-		WANT("wake-up where some are due", wakeup, now);
+		WANT("wake-up when some are due", wakeup, now);
 	else if (count == 0)
-		WANT("wake-up where nothing is pending", wakeup, TIMERS_NEVER);
+		WANT("wake-up when nothing is pending", wakeup, TIMERS_NEVER);
 	else
 		WANT("wake-up in time", wakeup > now && wakeup <= list[0].deadline, 1);
 	WANT("next deadline", next, count == 0 ? TIMERS_NEVER : list[0].deadline);

@@ -1,6 +1,6 @@
 /* compare PROGRAM < SCRIPT   plays a script by the program, under several options, and by the model
  *
- * Status 0 where all agree in the text, the fault and the status. Otherwise it says where they differ, and
+ * Status 0 if all agree in the text, the fault and the status. Otherwise it says where they differ, and
  * aborts, so that a fuzzer keeps the script. Built by an instrumenting compiler, the model shows the fuzzer
  * which scripts are new. */
 #define _GNU_SOURCE

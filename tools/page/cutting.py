@@ -33,7 +33,7 @@ def sweeps(scheme, now, deadline):
 
 
 def stops(scheme, now, then, deadlines):
-    """The ticks after now and before `then` at which something happens, or None where there are too many."""
+    """The ticks after now and before `then` at which something happens, or None if there are too many."""
     found = set()
     for deadline in deadlines:
         if scheme.is_hierarchy():
