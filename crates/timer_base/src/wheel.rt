@@ -7,7 +7,7 @@
 //!     pending       the timers that wait for their deadline, by deadline and then serial, each with its place
 //!     due           the timers whose deadline is now, by serial, each with its place, until they are taken,
 //!                   withdrawn or revived
-//!     last_serial   the serial of the last start, 0 where there was none
+//!     last_serial   the serial of the last start, 0 if there was none
 //!
 //! Each call that changes a wheel is one equation on this record. The four routines of G. Varghese
 //! and T. Lauck, "Hashed and Hierarchical Timing Wheels" (SOSP 1987), are `start` (START_TIMER),
@@ -47,7 +47,7 @@ pub trait Wheel {
     fn has_due(&self) -> bool
         ensures { IsTrue result ↔ (0 < length (state self.now).due) };
 
-    /// The serial of the last start, or 0 where none was started.
+    /// The serial of the last start, or 0 if none was started.
     fn last_serial(&self) -> u64
         ensures { result ≡ (state self.now).last_serial };
 
@@ -79,14 +79,14 @@ pub trait Wheel {
         Ok(())
     }
 
-    /// Returns the pending timer with exactly this handle, place and serial, or None where there is none: a
+    /// Returns the pending timer with exactly this handle, place and serial, or None if there is none: a
     /// timer that is due is no longer pending. Does not allocate.
     fn look(&self, handle: Handle) -> Option<Timer>
         ensures { result ≡ timer_at handle (state self.now) };
 
     /// Removes the pending timer with exactly this handle (STOP_TIMER), and returns it.
     ///
-    /// Where there is none, nothing changes. Does not allocate.
+    /// If there is none, nothing changes. Does not allocate.
     fn stop(&mut self, handle: Handle) -> Option<Timer>
         ensures timer { result ≡ timer_at handle (state self.old) }
         ensures stopped { state self.new ≡ after_stop handle (state self.old) };
@@ -94,7 +94,7 @@ pub trait Wheel {
     /// Removes the pending timer with exactly this handle and starts another in its place (RESTART), and
     /// returns the new handle and the old timer.
     ///
-    /// Where there is none, nothing changes. Does not allocate. The place is a free choice of the wheel.
+    /// If there is none, nothing changes. Does not allocate. The place is a free choice of the wheel.
     fn restart(&mut self, handle: Handle, timer: Timer) -> Option<(Handle, Timer)>
         requires later { (state self.old).now < timer.deadline }
         requires deadline { timer.deadline ≤ (state self.old).last_tick }
@@ -113,7 +113,7 @@ pub trait Wheel {
 
     /// Passes at least one and at most `most` ticks, and returns how many.
     ///
-    /// Nothing becomes due before the last of them, and fewer than `most` are passed only where something
+    /// Nothing becomes due before the last of them, and fewer than `most` are passed only if something
     /// is due then.
     /// Does not allocate.
     fn advance(&mut self, most: u64) -> u64
@@ -131,7 +131,7 @@ pub trait Wheel {
         most
     }
 
-    /// Returns a tick until which nothing becomes due, or None exactly where nothing is pending.
+    /// Returns a tick until which nothing becomes due, or None exactly if nothing is pending.
     ///
     /// It is after the present tick and at most the first pending deadline, so an owner sleeps until
     /// then, calls `advance`, and calls this again. A wheel may wake its owner before the first deadline
@@ -141,7 +141,7 @@ pub trait Wheel {
 
     /// Returns the first pending deadline, or None exactly when nothing is pending.
     ///
-    /// It is exact where `quiet_until` may be early, and a wheel may have to walk timers to find it. Due
+    /// It is exact, while `quiet_until` may be early, and a wheel may have to walk timers to find it. Due
     /// timers may be waiting: they are not looked at. Does not allocate.
     fn next_deadline(&self) -> Option<u64>
         ensures { result ≡ next_deadline (state self.now).pending };
@@ -151,7 +151,7 @@ pub trait Wheel {
         ensures first { result ≡ first_due (state self.old) }
         ensures rest { state self.new ≡ after_expiry (state self.old) };
 
-    /// Returns the due timer with exactly this handle, place and serial, or None where there is none. A timer
+    /// Returns the due timer with exactly this handle, place and serial, or None if there is none. A timer
     /// that becomes due keeps its handle until it is taken. Does not allocate.
     fn look_due(&self, handle: Handle) -> Option<Timer>
         ensures { result ≡ due_at handle (state self.now) };
