@@ -114,7 +114,7 @@ impl<W: Wheel + Drop> Facility<W> {
 
     /// How many timers are pending. Those that wait to be handed out are not counted.
     ///
-    /// A wheel may count the expired timers that wait one by one, so this is O(1) only where none waits.
+    /// A wheel may count the expired timers that wait one by one, so this is O(1) only if none waits.
     /// Does not allocate.
     pub fn pending(&self) -> usize
         ensures pending { result ≡ length self.now.state.pending }
@@ -123,7 +123,7 @@ impl<W: Wheel + Drop> Facility<W> {
         self.wheel.len()
     }
 
-    /// How many timers of this client are pending. It is 0 where there is no such client.
+    /// How many timers of this client are pending. It is 0 if there is no such client.
     ///
     /// No timer may wait to be handed out. Does not allocate.
     pub fn pending_of(&self, client: u64) -> usize
@@ -158,7 +158,7 @@ impl<W: Wheel + Drop> Facility<W> {
         self.wheel.has_due() || self.handed < self.returned.len()
     }
 
-    /// The serial that the next accepted start or restart gets, or `LAST` + 1 where all are used up.
+    /// The serial that the next accepted start or restart gets, or `LAST` + 1 if all are used up.
     /// Does not allocate.
     pub fn next_serial(&self) -> u64
         ensures { result ≡ self.now.state.next_serial }
@@ -166,9 +166,9 @@ impl<W: Wheel + Drop> Facility<W> {
         self.next_serial
     }
 
-    /// The client's next request number, or None where there is no such client.
+    /// The client's next request number, or None if there is no such client.
     ///
-    /// It is `LAST` + 1 where the client has used up its numbers. Does not allocate.
+    /// It is `LAST` + 1 if the client has used up its numbers. Does not allocate.
     pub fn next_number(&self, client: u64) -> Option<u64>
         ensures { result ≡ slice_get self.now.state.numbers client }
     {
@@ -236,7 +236,7 @@ impl<W: Wheel + Drop> Facility<W> {
     /// Passes at least one and at most `limit` ticks, and returns how many. The timers that expire at the
     /// last of them wait to be handed out.
     ///
-    /// Nothing expires before the last of them, and fewer than `limit` are passed only where a timer
+    /// Nothing expires before the last of them, and fewer than `limit` are passed only if a timer
     /// expires then or the clock is at its end. A refusal changes nothing. Does not allocate. No timer may
     /// wait to be handed out.
     pub fn ticks(&mut self, limit: u64) -> Result<u64, TickFault>
@@ -257,7 +257,7 @@ impl<W: Wheel + Drop> Facility<W> {
         Ok(self.wheel.advance(limit.min(left)))
     }
 
-    /// Returns a tick until which nothing is handed out, or None exactly where nothing is pending.
+    /// Returns a tick until which nothing is handed out, or None exactly if nothing is pending.
     ///
     /// It is after the present tick and at most the first pending deadline, so an owner sleeps until
     /// then, calls `ticks`, and calls this again. Timers that wait to be handed out do not count. Does
@@ -296,7 +296,7 @@ impl<W: Wheel + Drop> Facility<W> {
         Ok(count)
     }
 
-    /// Hands out the next timer that waits, or returns None where none waits. Does not allocate.
+    /// Hands out the next timer that waits, or returns None if none waits. Does not allocate.
     pub fn next_out(&mut self) -> Option<Notice>
         ensures first { result ≡ slice_get self.old.waiting 0 }
         ensures rest { self.new ≡ record self.old { waiting = drop 1 self.old.waiting } }

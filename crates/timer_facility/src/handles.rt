@@ -67,7 +67,7 @@ impl Handles {
         }
     }
 
-    /// Drops the handles of timers that are no longer pending, where there are many. Does not allocate.
+    /// Drops the handles of timers that are no longer pending, if there are many. Does not allocate.
     pub fn forget<W: Wheel + Drop>(&mut self, facility: &Facility<W>)
         requires { AreRecorded self.old.list.items facility.now.state }
         ensures recorded { AreRecorded self.new.list.items facility.now.state }

@@ -26,8 +26,8 @@ pub fn each_timer_is_handed_out_once()
     ensures { (s : FacilityState) (placed : List Placed) → IsSound s → AreHandedOutOnce (history s placed) }
 {}
 
-/// Each timer that was started and not stopped is handed out: it expires where its deadline is reached, and
-/// is returned where the facility was closed before that.
+/// Each timer that was started and not stopped is handed out: it expires if its deadline is reached, and
+/// is returned if the facility was closed before that.
 pub fn each_timer_is_handed_out()
     ensures { (s : FacilityState) (placed : List Placed) → IsSound s → AreAllHandedOut s (history s placed) }
 {}
@@ -41,7 +41,7 @@ pub fn a_close_returns_the_others()
 {}
 
 /// The outs of events, and the state after them, do not depend on the places that a wheel chooses,
-/// where each stop and restart names its timer by serial.
+/// if each stop and restart names its timer by serial.
 pub fn bare_outs_do_not_depend_on_places()
     ensures { (s t : FacilityState) (placed others : List Placed) → bare_state s ≡ bare_state t
         → map (λ p. p.event) placed ≡ map (λ p. p.event) others
@@ -101,7 +101,7 @@ pub fn now_counts_the_accepted_ticks()
         → (state_after s placed).now ≡ s.now + accepted_ticks (history s placed) }
 {}
 
-/// A client that does not exist has no pending timer after a run, where it had none before.
+/// A client that does not exist has no pending timer after a run, if it had none before.
 pub fn no_timer_is_of_no_client()
     ensures { (s : FacilityState) (placed : List Placed) (client : ℕ) → length s.numbers ≤ client
         → pending_of s client ≡ 0 → pending_of (state_after s placed) client ≡ 0 }

@@ -100,7 +100,7 @@ fn ticks<W: Wheel + Drop>(
     facility.ticks(limit)
 }
 
-/// The serial of the next timer that is handed out, where it expired.
+/// The serial of the next timer that is handed out, if it expired.
 fn expired<W: Wheel + Drop>(facility: &mut Facility<W>) -> Option<u64> {
     match facility.next_out() {
         Some(Notice::Expired(timer)) => Some(timer.serial),
