@@ -14,7 +14,7 @@ use timer_facility::Facility;
 
 /// The text that answers a script.
 ///
-/// Fails, in this order, with `TooLong` where the script has more than `MOST_BYTES` bytes, and with
+/// Fails, in this order, with `TooLong` if the script has more than `MOST_BYTES` bytes, and with
 /// `Bad`, which names the first bad line. Never fails with `Read` or `Write`. Nothing may be pending
 /// in the facility or wait in it.
 pub fn answer_of<W: Wheel + Drop>(

@@ -38,7 +38,7 @@ static TICK: [Field; 1] = [Field::Count];
 /// The fields of a close.
 static CLOSE: [Field; 0] = [];
 
-/// What is wrong with a line, of which the bytes have the line feed too. Nothing where they are the line
+/// What is wrong with a line, of which the bytes have the line feed too. Nothing if they are the line
 /// of an event.
 ///
 /// Does not allocate.

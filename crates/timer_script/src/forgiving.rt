@@ -87,7 +87,7 @@ pub fn serve_good<P: Peer, W: Wheel + Drop, F: Write>(
     ensures { HasServedGood facility.state (P.state peer.old) (P.state peer.new)
         F.contents faults.old faults.new result }
 {
-    // What `owed` rests on is known of the state from here on.
+    // Brings what `owed` rests on into scope for the prover.
     let _now = facility.now();
     let Ok(mut piece) = blank(alloc, PIECE) else {
         return Err(ServeFault::OutOfMemory);

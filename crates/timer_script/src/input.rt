@@ -52,7 +52,7 @@ fn read_once<R: Read>(
 
 /// The bytes up to the reader's end.
 ///
-/// Fails with `Read` where the reader failed, and with `TooLong` once it gave more than `MOST_BYTES`
+/// Fails with `Read` if the reader failed, and with `TooLong` once it gave more than `MOST_BYTES`
 /// bytes, of which one is read.
 pub fn read_script<R: Read>(alloc: Global, reader: &mut Watched<R>) -> Result<Vec<u8>, RunFault>
     requires { reader.old.failed ≡ false }

@@ -36,7 +36,7 @@ pub fn one_bad_line()
     ensures one { (bytes : List ℕ) (m n : ℕ) → IsBadLine bytes m → IsBadLine bytes n → m ≡ n }
 {}
 
-/// The answer to events is one text, whichever wheel the facility stands on: it tells no place.
+/// The answer to events is one text, whichever wheel the facility stands on: it contains no places.
 pub fn each_wheel_gives_the_same_text()
     ensures { (s t : FacilityState) (events : List Event) (answer other : List ℕ)
         → bare_state s ≡ bare_state t
@@ -45,7 +45,7 @@ pub fn each_wheel_gives_the_same_text()
     players_give_the_same();
 }
 
-/// Two pieces that are fed one after the other are as one.
+/// Feeding a piece and then another equals feeding the two joined.
 pub fn pieces_join()
     ensures { (a b c : SessionState) (bytes more x y z : List ℕ) → HasFed a bytes x y b → HasFed b more y z c
         → HasFed a (bytes ++ more) x z c }
@@ -64,7 +64,7 @@ pub fn a_session_answers_as_a_run()
     each_wheel_gives_the_same_text();
 }
 
-/// Where a session ends at a bad line, that is the first one of the bytes that it was fed, however they
+/// If a session ends at a bad line, that is the first one of the bytes that it was fed, however they
 /// go on once it failed, and the text answers the lines before it.
 pub fn a_session_stops_at_the_first_bad_line()
     ensures failed { (s : FacilityState) (bytes more text : List ℕ) (end : SessionState) (n : ℕ)
@@ -75,7 +75,7 @@ pub fn a_session_stops_at_the_first_bad_line()
         → end.unwritten ≡ [] → WhyNotEnded (Bad n) end new → IsStoppedAt s bytes text n }
 {}
 
-/// The calls of a peer, where they are known, are prompt, however serving ends: before each read every
+/// The calls of a peer, if they are known, are prompt, however serving ends: before each read every
 /// complete line that came was answered, and the answers were flushed.
 pub fn served_calls_are_prompt()
     ensures { (before : FacilityState) (peer after : PeerState) (result : Result Unit ServeFault)

@@ -44,7 +44,7 @@ pub enum LineReason {
 /// What is wrong with a line.
 #[derive(Clone, Copy, Debug, PartialEq, Eq)]
 pub struct LineFault {
-    /// Where the line goes wrong, in bytes and counted from 1. One past its end where the line has no end.
+    /// Where the line goes wrong, in bytes and counted from 1. One past its end if the line has no end.
     pub column: usize,
     /// The field that goes wrong there, if it is in one.
     pub field: Option<Field>,

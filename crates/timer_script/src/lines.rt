@@ -57,7 +57,7 @@ pub fn read_number(bytes: &[u8]) -> Option<(u64, &[u8])>
 }
 
 /// The bytes after a word that stands at the front. The first byte alone tells most words apart: so it is
-/// compared first, and the whole word only where that byte is the same.
+/// compared first, and the whole word only if that byte is the same.
 #[inline(always)]
 #[tactic(auto, unfolding(crate::specs::Lines::strip))]
 fn after_word<'a>(bytes: &'a [u8], word: &[u8]) -> Option<&'a [u8]>

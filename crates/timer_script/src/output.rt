@@ -1,4 +1,4 @@
-//! Writes a text by a loop of its own over `write`, so that it is known how much went out where the
+//! Writes a text by a loop of its own over `write`, so that it is known how much went out if the
 //! writer fails. No error is retried.
 ghost use Rattle.std.specs.Prelude.{◌≡◌, ◌<◌, length, take, Ok, IfOk, IfErr, OnOk, true, false};
 ghost use Rattle.std.specs.Io.KnownBytes.{Appends};
@@ -11,7 +11,7 @@ use std::io::Write;
 
 /// Writes the text and nothing else.
 ///
-/// `Write` is the only error. It comes where the writer failed, or took no byte, and has the number of
+/// `Write` is the only error. It comes if the writer failed, or took no byte, and has the number of
 /// bytes of the text that were written before.
 pub fn write_text<S: Write>(writer: &mut Watched<S>, text: &[u8]) -> Result<(), RunFault>
     requires { has_failed writer.old ≡ false }

@@ -27,8 +27,8 @@ use timer_facility::{Event, Facility, Out, Player};
 /// never copied; a longer one grows. Room that is not used costs an address range, and no pages.
 const GROWTH: usize = 4;
 
-/// Plays an event, and adds the line of each of its outs to the text. `outs` is used up, for its memory
-/// alone.
+/// Plays an event, and adds the line of each of its outs to the text. `outs` is a scratch buffer,
+/// reused.
 fn play_event<W: Wheel + Drop>(
     player: &mut Player<W>,
     event: Event,
@@ -78,7 +78,7 @@ pub fn answer_to<W: Wheel + Drop>(
         × IsAnswer facility.state events answer.items) }
     ensures fault { IfErr result (λ fault. GivesNoAnswer fault script.now) }
 {
-    // What `owed` rests on is known of the state from here on.
+    // Brings what `owed` rests on into scope for the prover.
     let _now = facility.now();
     let mut player = Player::open(alloc, facility);
     let Ok(mut answer) = Vec::with_capacity(alloc, script.len().saturating_mul(GROWTH)) else {
@@ -93,9 +93,9 @@ pub fn answer_to<W: Wheel + Drop>(
 
 /// Reads a script to its end, plays it on the facility, and writes the text that answers it.
 ///
-/// Fails with `Read` only where the reader failed in this call, and with `Write` only where the writer
+/// Fails with `Read` only if the reader failed in this call, and with `Write` only if the writer
 /// did. No error is retried. After `Write` a prefix of the text was written, of that many bytes; after
-/// any other fault nothing was. At most one byte more is read than a script may have, and where that
+/// any other fault nothing was. At most one byte more is read than a script may have, and if that
 /// many came the run fails with `TooLong`. Neither the reader nor the writer may have failed before,
 /// and nothing may be pending in the facility or wait in it.
 pub fn run<R: Read, S: Write, W: Wheel + Drop>(

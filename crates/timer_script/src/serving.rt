@@ -18,7 +18,7 @@ use timer_facility::Facility;
 /// The most bytes of one turn.
 pub const PIECE: usize = 65536;
 
-/// Writes the text and nothing else, and flushes. Fails where a write or the flush fails, or a write
+/// Writes the text and nothing else, and flushes. Fails if a write or the flush fails, or a write
 /// takes no byte.
 pub fn send<P: Peer>(peer: &mut P, text: &[u8]) -> Result<(), ServeFault>
     requires { (P.state peer.old).write_failed ≡ false }
@@ -86,7 +86,7 @@ fn turn<P: Peer, W: Wheel + Drop>(
     }
 }
 
-/// Writes and flushes the end line, where no line is held in part.
+/// Writes and flushes the end line, if no line is held in part.
 pub fn finish<P: Peer, W: Wheel + Drop>(
     session: &mut Session<W>,
     peer: &mut P,
@@ -120,7 +120,7 @@ pub fn serve<P: Peer, W: Wheel + Drop>(
     requires waiting { facility.waiting ≡ [] }
     ensures { HasServed facility.state (P.state peer.old) (P.state peer.new) result }
 {
-    // What `owed` rests on is known of the state from here on.
+    // Brings what `owed` rests on into scope for the prover.
     let _now = facility.now();
     let Ok(mut piece) = blank(alloc, PIECE) else {
         return Err(ServeFault::OutOfMemory);

@@ -25,7 +25,7 @@ struct Recording<'a> {
 }
 
 impl Recording<'_> {
-    /// Counts a call, and fails where it is the one that fails.
+    /// Counts a call, and fails if it is the one that fails.
     fn count(&mut self) -> io::Result<()>
         ensures reading { self.new.read_failed ≡ self.old.read_failed }
         ensures writing { self.new.write_failed ≡ self.old.write_failed }

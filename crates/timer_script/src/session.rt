@@ -3,7 +3,7 @@
 //!     piece --cut--> lines --parse--> events --play--> outs --text--> the text of the piece
 //!
 //! Each line is answered by the call that feeds its line feed. Between two calls a session keeps the bytes
-//! of an incomplete line, and the outs of the last line where their text could not be allocated. For
+//! of an incomplete line, and the outs of the last line if their text could not be allocated. For
 //! example:
 //!
 //!     feed          text                    held
@@ -144,7 +144,7 @@ impl<W: Wheel + Drop> Session<W> {
 
     /// Ends the script: appends the end line to the text. The session then takes no more bytes.
     ///
-    /// Fails with `Bad` after a bad line, and where a line is incomplete, which then stays held. After
+    /// Fails with `Bad` after a bad line, and if a line is incomplete, which then stays held. After
     /// `OutOfMemory` nothing is lost, and the call may be repeated.
     pub fn end(&mut self, text: &mut Vec<u8>) -> Result<(), SessionFault>
         ensures text { OnOk result (text.new.items ≡ text.old.items ++ lines_of self.old.unwritten
@@ -173,7 +173,7 @@ impl<W: Wheel + Drop> Session<W> {
         Ok(())
     }
 
-    /// The error of every further call, where it takes no more bytes.
+    /// The error of every further call, if it takes no more bytes.
     fn fault(&self) -> Option<SessionFault>
         ensures over { IfSome result (λ fault. IsOver fault self.now) }
         ensures only { IfSome result (λ fault. (other : SessionFault) → IsOver other self.now
@@ -196,7 +196,7 @@ impl<W: Wheel + Drop> Session<W> {
         !self.held.is_empty()
     }
 
-    /// Fails at the line after those that were played: it is bad.
+    /// The error for the next line, which is bad.
     fn bad_line(&self) -> SessionFault
         ensures { result ≡ SessionFault.Bad (next_line self.now) }
     {
@@ -235,7 +235,7 @@ impl<W: Wheel + Drop> Session<W> {
         Ok(())
     }
 
-    /// Consumes bytes up to the end of a line, plays it where it is complete, and writes its outs.
+    /// Consumes bytes up to the end of a line, plays it if it is complete, and writes its outs.
     fn take_line(&mut self, bytes: &[u8], text: &mut Vec<u8>) -> Result<usize, FeedStop>
         requires some { 0 < length bytes.now }
         requires answered { IsAnsweredSoFar self.old }
@@ -264,7 +264,7 @@ impl<W: Wheel + Drop> Session<W> {
         Ok(n)
     }
 
-    /// Consumes bytes up to the end of a line, and plays it where it is complete. Returns how many it
+    /// Consumes bytes up to the end of a line, and plays it if it is complete. Returns how many it
     /// consumed, and whether they are a bad line. The only error is out of memory, and then nothing changes.
     fn play_line(&mut self, bytes: &[u8]) -> Result<(usize, bool), OutOfMemory>
         requires some { 0 < length bytes.now }

@@ -94,7 +94,7 @@ impl Sieve {
         Ok(())
     }
 
-    /// Reports a line that has not ended, which is bad where the input ends. The only error is out of memory.
+    /// Reports a line that has not ended, which is bad if the input ends. The only error is out of memory.
     pub fn end(&mut self) -> Result<(), OutOfMemory>
         ensures good { self.new.good.items ≡ [] }
         ensures held { self.new.held.items ≡ self.old.held.items }

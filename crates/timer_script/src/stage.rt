@@ -1,6 +1,6 @@
-//! How far a session has come.
+//! The state of a session.
 
-/// How far a session has come.
+/// Whether a session goes on, and why not.
 #[derive(Clone, Copy, Debug, PartialEq, Eq)]
 pub enum Stage {
     /// Lines may come.

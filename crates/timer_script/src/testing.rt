@@ -12,7 +12,7 @@ pub fn same<T: PartialEq + Debug + Drop>(rt: &impl Abort, found: T, expected: T)
     assert_eq!(rt; found, expected);
 }
 
-/// The same in a row of a table, which is shown where the two differ.
+/// The same in a row of a table, which is shown when the two differ.
 pub fn same_in<R: Debug + Drop, T: PartialEq + Debug + Drop>(
     rt: &impl Abort,
     row: R,

@@ -87,7 +87,7 @@ fn check_calls(rt: &impl Abort, alloc: Global, fails_at: u64) {
     );
 }
 
-/// So many bytes, where the call does not fail.
+/// So many bytes, if the call does not fail.
 fn taken(bytes: usize, fails: bool) -> Option<usize> {
     if fails { None } else { Some(bytes) }
 }
