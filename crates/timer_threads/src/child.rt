@@ -25,7 +25,7 @@ pub struct Child {
 }
 
 impl Child {
-    /// Starts a client's thread. Fails where no thread can be started.
+    /// Starts a client's thread. Fails if no thread can be started.
     pub fn start<G: Gate + Drop + Send + 'static>(
         rt: &impl Threads,
         end: ClientEnd,

@@ -68,7 +68,7 @@ impl Client {
         self.sent == self.count && self.started == self.count && self.expired == self.count
     }
 
-    /// Sends a request where the gate lets it go, reads a word, and returns whether one of the two was
+    /// Sends a request if the gate lets it go, reads a word, and returns whether one of the two was
     /// done.
     pub fn work_once<G: Gate>(&mut self, gate: &mut G) -> bool
         requires sound { IsSound self.old }

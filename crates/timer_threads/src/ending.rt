@@ -18,9 +18,9 @@ use timer_wheels::HierWheel;
 /// `threads_run`.
 ///
 /// Out of memory comes before a client, and the desk's limit last. The client failed, or something of it is
-/// left: a held request, a request in its line or a word in its outbox; or, where nothing is left of any
+/// left: a held request, a request in its line or a word in its outbox; or, if nothing is left of any
 /// client, its line could not be finished or its words were not all read. No client before it failed, and
-/// nothing of one before it is left. Where the requests of a client could not be ended, the desk is not
+/// nothing of one before it is left. If the requests of a client could not be ended, the desk is not
 /// wound up, and it is the first client that failed.
 pub fn end_all(
     alloc: Global,

@@ -1,6 +1,6 @@
 //! Why a run of clients in threads failed.
 
-/// Why clients in threads did not come to their end. Of several reasons it is the first of these.
+/// Why a run of clients in threads failed: the first of these that applies.
 #[derive(Clone, Copy, Debug, PartialEq, Eq)]
 pub enum ThreadsFault {
     /// Allocation failed, or a thread could not be started.

@@ -38,7 +38,7 @@ fn empty(rt: &impl Abort, alloc: Global) -> Facility<HierWheel> {
     Facility::open(alloc, checked, wheel)
 }
 
-/// Goes on only where no timer waits to be handed out.
+/// Goes on only if no timer waits to be handed out.
 fn settle(rt: &impl Abort, facility: &Facility<HierWheel>)
     ensures { facility.now.waiting ≡ [] }
 {

@@ -1,4 +1,4 @@
-//! What clients left is taken apart, and who of them failed is found.
+//! Splits the clients' results, and finds the first client that failed.
 ghost use Rattle.std.specs.Prelude.{◌≡◌, IfOk, IfSome, IsNone};
 ghost use Rattle.timer_threads.specs.Parted.{NoneFailed, AllEnded, IsFirstFailed, lower_of, AreParted};
 
@@ -20,7 +20,7 @@ pub fn first_failed(all: &[Worked]) -> Option<usize>
     None
 }
 
-/// The lower of two clients, where there are any.
+/// The lower of two clients, if there are any.
 pub fn lower(one: Option<usize>, other: Option<usize>) -> Option<usize>
     ensures { result ≡ lower_of one other }
 {
@@ -31,7 +31,7 @@ pub fn lower(one: Option<usize>, other: Option<usize>) -> Option<usize>
     }
 }
 
-/// The ends and the readers of what the clients left. None where a client's requests could not be
+/// The ends and the readers of what the clients left. None if a client's requests could not be
 /// ended.
 pub fn parted(
     alloc: Global,

@@ -1,10 +1,10 @@
-//! What a client's thread promises of what it gives back.
+//! The postcondition of a client's thread.
 use crate::worked::Worked;
 use std::snapshot::Snapshot;
 use std::thread::Promise;
 use timer_desk::ClientEnd;
 
-/// What is given back is of the line of this end; and where nothing failed, so many requests were
+/// What is given back is of the line of this end; and if nothing failed, so many requests were
 /// sent, and as many timers started and expired.
 #[derive(Drop)]
 pub struct Finishes {

@@ -44,7 +44,7 @@ fn take_steps<W: Wheel + Drop, I: Inlet + Drop>(
     }
 }
 
-/// Goes on only where these are just those members of a report, but for places.
+/// Goes on only if these are just those members of a report, but for places.
 fn are_members(rt: &impl Abort, report: &[Done], wanted: &[Done]) {
     same(rt, report.len(), wanted.len());
     for (done, member) in report.iter().zip(wanted.iter()) {
@@ -99,7 +99,7 @@ fn served(client: usize, served: Served) -> Done {
     Done::Served { client, served }
 }
 
-/// The same, where the request became an accepted start.
+/// The same, if the request became an accepted start.
 fn did(client: usize, numbered: Numbered, serial: u64, deadline: u64) -> Done {
     let word = started(numbered.number, serial, deadline);
     served(client, Served::Did { numbered, word })
@@ -242,7 +242,7 @@ fn end<W: Wheel + Drop>(
     inlets
 }
 
-/// Goes on only where the line of client c was given just these words, but for places.
+/// Goes on only if the line of client c was given just these words, but for places.
 fn are_given(rt: &impl Abort, inlets: &[MemoryInlet], c: usize, words: &[Word]) {
     let Some(inlet) = inlets.get(c) else {
         panic!(rt; "no line");
@@ -369,7 +369,7 @@ fn rows_of_a_desk_over_hierarchies_of_wheels(rt: HostRuntime) {
     rows_over_hierarchy(&rt, rt.alloc(), Table::Clock);
 }
 
-/// Goes on only where the client receives just these words, but for places.
+/// Goes on only if the client receives just these words, but for places.
 fn receives(rt: &impl Abort, end: &mut ClientEnd, words: &[Word]) {
     for word in words {
         same(rt, end.receive().map(bare), Some(*word));

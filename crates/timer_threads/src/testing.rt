@@ -19,7 +19,7 @@ pub fn same<T: PartialEq + Debug + Drop>(rt: &impl Abort, found: T, expected: T)
     assert_eq!(rt; found, expected);
 }
 
-/// Goes on only where the desk has so many clients.
+/// Goes on only if the desk has so many clients.
 pub fn has_clients<W: Wheel + Drop, I: Inlet + Drop>(
     rt: &impl Abort,
     desk: &Desk<W, I>,
@@ -84,7 +84,7 @@ pub fn hierarchy(rt: &impl Abort, alloc: Global, table: Table) -> HierWheel
     }
 }
 
-/// The same, whose first start runs out of memory where `refuses` says so.
+/// The same, whose first start runs out of memory if `refuses` says so.
 pub fn refusing(rt: &impl Abort, alloc: Global, refuses: bool) -> Refusing<HierWheel>
     ensures pending { (hier_state result.wheel).pending ≡ [] }
     ensures due { (hier_state result.wheel).due ≡ [] }
@@ -115,7 +115,7 @@ pub fn two<T: Drop>(rt: &impl Abort, alloc: Global, first: T, second: T) -> Vec<
     list
 }
 
-/// Goes on only where nothing waits at the desk.
+/// Goes on only if nothing waits at the desk.
 pub fn idle<W: Wheel + Drop, I: Inlet + Drop>(rt: &impl Abort, desk: &Desk<W, I>)
     ensures { AllIdle desk.now }
 {
@@ -223,7 +223,7 @@ pub fn bare_done(done: Done) -> Done {
     }
 }
 
-/// Goes on only where these are just those words, but for places.
+/// Goes on only if these are just those words, but for places.
 pub fn are_words(rt: &impl Abort, words: &[Word], wanted: &[Word]) {
     same(rt, words.len(), wanted.len());
     for (word, other) in words.iter().zip(wanted.iter()) {

@@ -18,7 +18,7 @@ use timer_desk::{ClientEnd, Desk, Inlet, LockedEnd, RingInlet, Step, Word, locke
 use timer_facility::{Answer, Notice, Request};
 use timer_wheels::{HierWheel, Table};
 
-/// After so many turns in a row that passed nothing on a side gives up.
+/// Idle turns, one after another, before a side gives up.
 const LIMIT: u64 = 10_000_000;
 
 static TWO_OF_100: &str =
@@ -37,7 +37,7 @@ impl Gate for Door {
 }
 
 /// Lets requests go once the other gate was asked too: at its first ask it looks for the other, and
-/// where it never sees it, nothing goes. So clients that run one after another fail.
+/// if it never sees it, nothing goes. So clients that run one after another fail.
 #[derive(Drop)]
 struct Meet {
     mine: Arc<AtomicU64, Global>,
@@ -289,7 +289,7 @@ fn turn_of_one<I: Inlet + Drop>(rt: &impl Abort, desk: &mut Desk<HierWheel, I>) 
     desk.flush(0)
 }
 
-/// Goes on only where these are the answers to two starts, each before its timer, one after the other.
+/// Goes on only if these are the answers to two starts, each before its timer, one after the other.
 fn are_paced(rt: &impl Abort, words: &[Word]) {
     assert!(rt; words.len() == 4);
     let first = told(words[0]);

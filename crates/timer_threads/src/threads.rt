@@ -61,7 +61,7 @@ fn new_facility(alloc: Global, clients: u64) -> Result<Facility<HierWheel>, OutO
     Ok(Facility::open(alloc, checked, wheel))
 }
 
-/// Makes a line and starts a thread for each gate, up to the first that can't be had.
+/// Makes a line and starts a thread for each gate, until one fails.
 fn start_all<G: Gate + Drop + Send + 'static>(
     rt: &impl Threads,
     alloc: Global,

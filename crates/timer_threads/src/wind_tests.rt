@@ -23,7 +23,7 @@ fn a_drive_over_an_empty_line_comes_to_its_limit(rt: HostRuntime) {
     same(&rt, driven.desk.facility().now(), 1000);
 }
 
-/// Goes on only where the desk holds the request whose start ran out of memory, and the rest of its
+/// Goes on only if the desk holds the request whose start ran out of memory, and the rest of its
 /// turn was done: a flush of no word, and a tick.
 fn holds_the_request(rt: &impl Abort, desk: &Desk<Refusing<HierWheel>, RingInlet>) {
     has_clients(rt, desk, 1);

@@ -1,10 +1,10 @@
-//! What a client's work leaves.
+//! The result of a client's run.
 use timer_desk::{ClientReader, RequestsEnded};
 
 /// What is left of a client that has finished.
 #[derive(Drop)]
 pub struct Worked {
-    /// What is left of its requests. None only where the owner's end was dropped.
+    /// What is left of its requests. None only if the owner's end was dropped.
     pub ended: Option<RequestsEnded>,
     /// The reader of its words.
     pub reader: ClientReader,

@@ -1,4 +1,4 @@
-//! A client's work, from its end of the line to what is left of it.
+//! Runs one client to its end, and returns what is left of its line.
 ghost use Rattle.std.specs.Prelude.{◌≤◌};
 ghost use Rattle.timer_base.specs.declared.limits.TheConstants.{LAST};
 ghost use Rattle.timer_desk.specs.Ring.{line_of_end};
