@@ -14,7 +14,7 @@ use timer_facility::ConfigFault;
 
 static NO_ARGUMENTS: [&str; 0] = [];
 
-/// What is played where nothing else is asked for.
+/// What is played when nothing else is asked for.
 fn usual() -> Play {
     Play {
         scheme: Scheme::Hier,
@@ -25,7 +25,7 @@ fn usual() -> Play {
     }
 }
 
-/// Goes on only where the arguments ask to play this.
+/// Goes on only if the arguments ask to play this.
 fn asks_to_play(rt: &impl Abort, alloc: Global, arguments: &[&str], asked: Play) {
     match read_arguments(alloc, arguments) {
         Ok(read) => same_in(rt, arguments, read, Asked::Play(asked)),
@@ -223,7 +223,7 @@ fn help_and_version_are_written_where_they_are_asked_for(rt: HostRuntime) {
     }
 }
 
-/// Goes on only where the help that these arguments ask for ends with this text.
+/// Goes on only if the help that these arguments ask for ends with this text.
 fn help_ends_with<T: AllocGlobal + Abort + Threads>(rt: &T, arguments: &[&str], text: &str) {
     let Ok(wanted) = format!(in rt.alloc(); "{text}\n") else {
         panic!(rt; "out of memory");

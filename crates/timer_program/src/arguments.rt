@@ -27,7 +27,7 @@ use clap::{Arg, ArgAction, ArgMatches, Command, Error, value_parser};
 use std::alloc::{AllocError, Global};
 use std::convert::AsStr;
 
-/// What the arguments ask for, where it is not help.
+/// What the arguments ask for, if it is not help.
 #[derive(Clone, Copy, Debug, PartialEq, Eq)]
 pub enum Asked {
     /// `play`: play the script on standard input.
@@ -166,7 +166,7 @@ fn check_command<'a>(alloc: Global) -> Command<'a> {
         .after_help(CHECKS)
 }
 
-/// The whole command line. A subcommand may be left out only where there are no arguments at all.
+/// The whole command line. A subcommand may be left out only if there are no arguments at all.
 fn program<'a>(alloc: Global) -> Result<Command<'a>, AllocError> {
     Command::new(alloc, NAME)
         .bin_name(NAME)?
@@ -195,7 +195,7 @@ fn scheme_of(name: &str) -> Option<Scheme>
     }
 }
 
-/// What the options of `play`, `serve` or `show` ask for, where each has a value.
+/// What the options of `play`, `serve` or `show` ask for, if each has a value.
 fn play_of(options: &ArgMatches) -> Option<Play> {
     Some(Play {
         scheme: scheme_of(options.get_str("scheme")?)?,
@@ -206,7 +206,7 @@ fn play_of(options: &ArgMatches) -> Option<Play> {
     })
 }
 
-/// What the options of `threads` ask for, where each has a value.
+/// What the options of `threads` ask for, if each has a value.
 fn clients_of(options: &ArgMatches) -> Option<Clients> {
     Some(Clients {
         clients: options.get_one::<u64>("clients")?,
@@ -214,7 +214,7 @@ fn clients_of(options: &ArgMatches) -> Option<Clients> {
     })
 }
 
-/// What the options of the subcommand of this name ask for, where each has a value.
+/// What the options of the subcommand of this name ask for, if each has a value.
 fn asked_of(name: &str, options: &ArgMatches) -> Option<Asked>
     ensures { IfSome result (λ asked. name.now ≡ subcommand_of asked) }
 {

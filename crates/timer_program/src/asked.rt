@@ -1,4 +1,4 @@
-//! What the command line asks to be played, and the ranges of it.
+//! The options of `play`, `serve` and `show`, and their ranges.
 ghost use Rattle.std.specs.Prelude.{◌≡◌, ◌<◌, ◌≤◌, IfOk, IfErr, OnOk};
 ghost use Rattle.timer_program.specs.Asked.{scheme_last, config_of, IsPlayable, IsRefused};
 
@@ -70,7 +70,7 @@ impl Play {
         }
     }
 
-    /// What the facility is opened with, where each number is in its range. Does not allocate.
+    /// What the facility is opened with, if each number is in its range. Does not allocate.
     pub fn check(&self) -> Result<Checked, PlayFault>
         ensures config { IfOk result (λ checked. checked ≡ config_of self.now) }
         ensures playable { OnOk result (IsPlayable self.now) }

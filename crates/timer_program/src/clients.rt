@@ -13,11 +13,11 @@ use std::thread::Threads;
 use timer_script::{RunFault, Watched, write_text};
 use timer_threads::{Open, ThreadsFault, threads_run};
 
-/// After so many turns in a row that passed nothing on, each side gives up.
+/// Idle turns, one after another, before a side gives up.
 const LIMIT: u64 = 10_000_000;
 
 /// Runs the clients that are asked for, writes their text, and returns the exit status. Nothing is
-/// written where a number is out of range or the run fails. Waits for the clients' threads.
+/// written if a number is out of range or the run fails. Waits for the clients' threads.
 pub fn run_clients<W: Write, F: Write>(
     rt: &impl Threads,
     alloc: Global,

@@ -29,7 +29,7 @@ use timer_script::{RunFault, Streams, Watched, write_text};
 /// reported in one line on `faults`; or a checked script has a bad line, and each is reported on standard
 /// output; or a stream that is served past bad lines has one, and each is reported on `faults`. 2: the
 /// arguments are refused, for the reason that `faults` gets; nothing is read or written. An error in
-/// writing to `faults` is ignored. Neither the reader nor the writer may have failed before. Waits where
+/// writing to `faults` is ignored. Neither the reader nor the writer may have failed before. Waits if
 /// clients run in threads.
 pub fn command<T: AllocGlobal + Threads, S: AsStr, R: Read, W: Write, F: Write>(
     rt: &T,

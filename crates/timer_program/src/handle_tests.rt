@@ -35,7 +35,7 @@ fn facility<W: Wheel + Drop>(rt: &impl Abort, alloc: Global, wheel: W) -> Facili
     Facility::open(alloc, checked, wheel)
 }
 
-/// Goes on only where nothing waits to be handed out.
+/// Goes on only if nothing waits to be handed out.
 fn settle<W: Wheel + Drop>(rt: &impl Abort, facility: &Facility<W>)
     ensures { facility.now.waiting ≡ [] }
 {

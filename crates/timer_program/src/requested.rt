@@ -1,4 +1,4 @@
-//! What `threads` is asked for, and the ranges of it.
+//! The options of `threads`, and their ranges.
 ghost use Rattle.std.specs.Prelude.{IsTrue, ◌↔◌};
 
 /// The most clients, and the most timers of each.
@@ -6,7 +6,7 @@ const MOST_CLIENTS: u64 = 64;
 
 const MOST_TIMERS: u64 = 10_000;
 
-/// What `threads` is asked for.
+/// The options of `threads`.
 #[derive(Clone, Copy, Debug, PartialEq, Eq)]
 pub struct Clients {
     pub clients: u64,

@@ -44,7 +44,7 @@ static ENDS: [(usize, &str); 5] = [
     (46, "end 130 0\n"),
 ];
 
-/// The last line of the text of a front, where it ends at a line.
+/// The last line of the text of a front, if it ends at a line.
 fn last_line(front: &[u8]) -> Option<&'static str> {
     for (len, line) in ENDS {
         if len == front.len() {

@@ -13,7 +13,7 @@ pub fn same<T: PartialEq + Debug + Drop>(rt: &impl Abort, found: T, expected: T)
     assert_eq!(rt; found, expected);
 }
 
-/// The same in a row of a table, which is shown where the two differ.
+/// The same in a row of a table, which is shown if the two differ.
 pub fn same_in<R: Debug + Drop, T: PartialEq + Debug + Drop>(
     rt: &impl Abort,
     row: R,
@@ -212,7 +212,7 @@ pub fn call<T: AllocGlobal + Threads>(
     }
 }
 
-/// Goes on only where a call of the program ended with this exit status, and this is all that it wrote.
+/// Goes on only if a call of the program ended with this exit status, and this is all that it wrote.
 pub fn has_left<R: Debug + Drop>(
     rt: &impl Abort,
     row: R,

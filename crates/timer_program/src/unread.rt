@@ -1,4 +1,4 @@
-//! The arguments that the system hands over, and the end where they cannot be read.
+//! The arguments that the system hands over, and how unreadable ones are reported.
 ghost use Rattle.std.specs.Prelude.{◌≡◌, ◌≢◌, drop};
 
 use crate::reporting::report;
@@ -15,8 +15,8 @@ pub fn after_name<S>(arguments: &[S]) -> &[S]
     }
 }
 
-/// Ends the program where its arguments could not be read, and returns the exit status: 1 where
-/// memory ran out, and 2 where an argument is not UTF-8. Either is reported in one line.
+/// Ends the program if its arguments could not be read, and returns the exit status: 1 if
+/// memory ran out, and 2 if an argument is not UTF-8. Either is reported in one line.
 pub fn end_without_arguments<F: Write>(kind: ErrorKind, faults: &mut F) -> u8
     ensures out_of_memory { kind ≡ ErrorKind.OutOfMemory → result ≡ 1 }
     ensures not_utf8 { kind ≢ ErrorKind.OutOfMemory → result ≡ 2 }
