@@ -1,5 +1,4 @@
-//! Runs clients in threads over and over, with gates that hold them back by chance, and prints how far
-//! it is.
+//! Runs clients in threads over and over, with random delays of their requests, and prints progress.
 //!
 //!     timer_soak           3 runs of 4 clients with 100 timers each
 //!     timer_soak long      100 runs of 64 clients with 10,000 timers each
@@ -16,7 +15,7 @@ use std::process::ExitCode;
 use std::thread::Threads;
 use timer_threads::{Gate, threads_run};
 
-/// After so many turns in a row that passed nothing on a side gives up.
+/// Idle turns, one after another, before a side gives up.
 const LIMIT: u64 = 10_000_000;
 
 /// Lets three of four requests go, by chance.
