@@ -1,4 +1,4 @@
-//! Desks over lines of each kind, where a start, the close or a report is refused for memory.
+//! Desks over lines of each kind: a start, the close or a report is refused for memory.
 //!
 //! Each step is taken by a call of its own, or by a turn of one step, and a step that is refused is taken
 //! again.
@@ -28,7 +28,7 @@ pub enum By {
 /// How many words an outbox has room for.
 const ROOM: usize = 4;
 
-/// A desk of so many clients over these lines, at the second try where the first is refused.
+/// A desk of so many clients over these lines, at the second try if the first is refused.
 pub fn open<I: Inlet + Drop>(alloc: Global, inlets: Vec<I>) -> Result<Desk<HierWheel, I>, Fault> {
     let wheel = hier(alloc, Table::Wide)?;
     let clients = inlets.len();
@@ -84,7 +84,7 @@ fn try_serve<I: Inlet + Drop>(
     }
 }
 
-/// Serves the client, at the second try where the first is refused for memory.
+/// Serves the client, at the second try if the first is refused for memory.
 fn serve<I: Inlet + Drop>(
     desk: &mut Desk<HierWheel, I>,
     c: usize,
@@ -172,7 +172,7 @@ fn try_close<I: Inlet + Drop>(
     }
 }
 
-/// Closes, at the second try where the first is refused for memory.
+/// Closes, at the second try if the first is refused for memory.
 fn close<I: Inlet + Drop>(desk: &mut Desk<HierWheel, I>, by: By) -> Result<u64, Fault> {
     for _ in 0..2 {
         let before = shown(desk);
@@ -186,7 +186,7 @@ fn close<I: Inlet + Drop>(desk: &mut Desk<HierWheel, I>, by: By) -> Result<u64, 
     Err(Fault::RefusedTwice)
 }
 
-/// Puts so many words of the client into its line, all that its outbox has: at the second try where a put is
+/// Puts so many words of the client into its line, all that its outbox has: at the second try if a put is
 /// refused for memory.
 fn flush<I: Inlet + Drop>(
     desk: &mut Desk<HierWheel, I>,
@@ -252,7 +252,7 @@ fn submit(end: &mut ClientEnd, number: u64, interval: u64, action: u64) -> Resul
     same(sent, Ok(number), "a request that is sent")
 }
 
-/// Goes on only where the client receives just these words, but for places.
+/// Goes on only if the client receives just these words, but for places.
 fn see_words(end: &mut ClientEnd, words: &[Word]) -> Result<(), Fault> {
     for word in words {
         same(end.receive().map(bare), Some(*word), "a word")?;
@@ -285,7 +285,7 @@ pub fn close_over_rings(alloc: Global, by: By) -> Result<(), Fault> {
     close_and_receive(&mut desk, by, &mut zero, &mut one)
 }
 
-/// Closes, and goes on only where each client receives its words.
+/// Closes, and goes on only if each client receives its words.
 fn close_and_receive(
     desk: &mut Desk<HierWheel, RingInlet>,
     by: By,
@@ -333,7 +333,7 @@ fn submit_three(rt: &impl Wait, zero: &mut LockedEnd, one: &mut LockedEnd) -> Re
     submit_locked(rt, one, 1, 3, 2)
 }
 
-/// Closes, and goes on only where each client receives its words.
+/// Closes, and goes on only if each client receives its words.
 fn close_and_receive_locked<I: Inlet + Drop>(
     rt: &impl Wait,
     desk: &mut Desk<HierWheel, I>,

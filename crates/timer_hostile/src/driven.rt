@@ -1,4 +1,4 @@
-//! A drive over lines in memory, where an allocation of the drive, of its wheel or of a line is refused.
+//! A drive over lines in memory: an allocation of the drive, of its wheel or of a line is refused.
 //!
 //! Two starts stand in the line of each of two clients, and each turn serves one of each client and ticks. A
 //! drive that runs out of memory is driven on. Its turn had not begun, and then no deadline changes; or it
@@ -7,7 +7,7 @@
 //!     client, number                      0, 1     0, 2     1, 1     1, 2
 //!     interval                            2        1        1        3
 //!     served at, deadline                 0, 2     1, 2     0, 1     1, 4
-//!     the same where the first is held    1, 3     2, 3     0, 1     1, 4
+//!     the same if the first is held       1, 3     2, 3     0, 1     1, 4
 use crate::desks::{bare, numbered, open, started};
 use crate::fault::{Fault, same, see};
 use std::alloc::Global;
@@ -36,7 +36,7 @@ fn lines(alloc: Global) -> Result<Vec<MemoryInlet>, Fault> {
     Ok(inlets)
 }
 
-/// Drives two clients to the goal, at the second try where the first is refused. Returns whether a request
+/// Drives two clients to the goal, at the second try if the first is refused. Returns whether a request
 /// was held.
 pub fn drive_two(alloc: Global) -> Result<bool, Fault> {
     let desk = open(alloc, lines(alloc)?)?;
@@ -74,7 +74,7 @@ fn drive_on(
     Ok(desk)
 }
 
-/// Goes on only where each line was given its words, and nothing is left at the desk.
+/// Goes on only if each line was given its words, and nothing is left at the desk.
 fn see_lines(desk: Desk<HierWheel, MemoryInlet>, is_held: bool) -> Result<(), Fault> {
     same(desk.facility().pending(), 0, "a timer that is pending")?;
     let inlets = end_desk(desk)?;
@@ -101,7 +101,7 @@ fn end_desk(desk: Desk<HierWheel, MemoryInlet>) -> Result<Vec<MemoryInlet>, Faul
     Ok(inlets)
 }
 
-/// Goes on only where the line was given just these words, but for places.
+/// Goes on only if the line was given just these words, but for places.
 fn see_given(inlet: &MemoryInlet, wanted: &[Word]) -> Result<(), Fault> {
     let given = inlet.given();
     same(given.len(), wanted.len(), "how many words were given")?;
@@ -129,7 +129,7 @@ fn expired(serial: u64, deadline: u64, action: u64) -> Word {
     }))
 }
 
-/// The words of the two clients where each start was accepted at its first try.
+/// The words of the two clients if each start was accepted at its first try.
 fn words() -> ([Word; 4], [Word; 4]) {
     (
         [
@@ -147,7 +147,7 @@ fn words() -> ([Word; 4], [Word; 4]) {
     )
 }
 
-/// The words of the two clients where the first start of client 0 was held over a tick.
+/// The words of the two clients if the first start of client 0 was held over a tick.
 fn words_after_hold() -> ([Word; 4], [Word; 4]) {
     (
         [

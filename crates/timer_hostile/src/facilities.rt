@@ -1,4 +1,4 @@
-//! A facility, where a start or the close is refused for memory.
+//! A facility: a start or the close is refused for memory.
 ghost use Rattle.std.specs.Prelude.{◌≡◌, [], OnOk};
 
 use crate::fault::{Fault, same, see};
@@ -49,7 +49,7 @@ fn readers_of<W: Wheel + Drop>(facility: &Facility<W>) -> Shown
     }
 }
 
-/// Goes on only where nothing waits to be handed out.
+/// Goes on only if nothing waits to be handed out.
 fn settle<W: Wheel + Drop>(facility: &Facility<W>) -> Result<(), Fault>
     ensures { OnOk result (facility.now.waiting ≡ []) }
 {
@@ -59,7 +59,7 @@ fn settle<W: Wheel + Drop>(facility: &Facility<W>) -> Result<(), Fault>
     Ok(())
 }
 
-/// Takes a request, at the second try where the first is refused for memory.
+/// Takes a request, at the second try if the first is refused for memory.
 pub fn take<W: Wheel + Drop>(
     facility: &mut Facility<W>,
     client: u64,
@@ -80,7 +80,7 @@ pub fn take<W: Wheel + Drop>(
     Err(Fault::RefusedTwice)
 }
 
-/// Closes, at the second try where the first is refused for memory.
+/// Closes, at the second try if the first is refused for memory.
 pub fn close<W: Wheel + Drop>(facility: &mut Facility<W>) -> Result<u64, Fault> {
     for _ in 0..2 {
         settle(facility)?;
@@ -120,7 +120,7 @@ fn start<W: Wheel + Drop>(
     }
 }
 
-/// Goes on only where the timer with this serial is handed out next: by a close, or expired.
+/// Goes on only if the timer with this serial is handed out next: by a close, or expired.
 fn see_handed<W: Wheel + Drop>(
     facility: &mut Facility<W>,
     serial: u64,

@@ -26,7 +26,7 @@ impl<T: Drop> From<AllocFailed<T>> for Fault {
     }
 }
 
-/// Goes on only where this holds.
+/// Goes on only if this holds.
 pub fn see(holds: bool, what: &'static str) -> Result<(), Fault>
     ensures { OnOk result (holds ≡ true) }
 {
@@ -37,7 +37,7 @@ pub fn see(holds: bool, what: &'static str) -> Result<(), Fault>
     }
 }
 
-/// Goes on only where these are the same. Compares in a function of its own, so that it is proved once.
+/// Goes on only if these are the same. Compares in a function of its own, so that it is proved once.
 pub fn same<T: PartialEq + Drop>(found: T, wanted: T, what: &'static str) -> Result<(), Fault> {
     see(found == wanted, what)
 }

@@ -30,7 +30,7 @@ impl<W: Wheel + Drop> Caller<W> {
         })?)
     }
 
-    /// Goes on only where neither a stop nor a restart finds a timer.
+    /// Goes on only if neither a stop nor a restart finds a timer.
     fn see_no_such(&mut self, handle: Handle) -> Result<(), Fault> {
         let no_such = Ok(Answer::Refused(Reason::NoSuch));
         same(self.ask(Request::Stop(handle))?, no_such, "a stop")?;
@@ -113,7 +113,7 @@ fn start_and_end<W: Wheel + Drop>(caller: &mut Caller<W>) -> Result<Started, Fau
     })
 }
 
-/// Goes on only where no strange handle finds a timer, and the two that are pending expire.
+/// Goes on only if no strange handle finds a timer, and the two that are pending expire.
 fn see_strange<W: Wheel + Drop>(caller: &mut Caller<W>, started: Started) -> Result<(), Fault> {
     for handle in strange_handles(started) {
         caller.see_no_such(handle)?;

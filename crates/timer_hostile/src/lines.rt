@@ -1,4 +1,4 @@
-//! Lines of each kind, where their makers, `take` or `put` are refused.
+//! Lines of each kind: their makers, `take` or `put` are refused.
 use crate::fault::{Fault, same};
 use std::alloc::Global;
 use std::sync::Wait;
@@ -24,7 +24,7 @@ fn word(number: u64) -> Word {
     }
 }
 
-/// A ring line, at the second try where the first is refused.
+/// A ring line, at the second try if the first is refused.
 pub fn ring(alloc: Global) -> Result<(ClientEnd, RingInlet), Fault> {
     for _ in 0..2 {
         if let Ok(ends) = ring_line(alloc, ROOM, 1) {
@@ -34,7 +34,7 @@ pub fn ring(alloc: Global) -> Result<(ClientEnd, RingInlet), Fault> {
     Err(Fault::RefusedTwice)
 }
 
-/// A locked line, at the second try where the first is refused.
+/// A locked line, at the second try if the first is refused.
 pub fn locked<'a, R: Wait>(
     rt: &'a R,
     alloc: Global,
@@ -47,7 +47,7 @@ pub fn locked<'a, R: Wait>(
     Err(Fault::RefusedTwice)
 }
 
-/// What a put returns, at the second try where the first is refused for memory.
+/// What a put returns, at the second try if the first is refused for memory.
 fn put<I: Inlet>(inlet: &mut I, word: Word) -> Result<Put, Fault> {
     for _ in 0..2 {
         match inlet.put(word) {
@@ -58,7 +58,7 @@ fn put<I: Inlet>(inlet: &mut I, word: Word) -> Result<Put, Fault> {
     Err(Fault::RefusedTwice)
 }
 
-/// What a take returns, at the second try where the first is refused for memory.
+/// What a take returns, at the second try if the first is refused for memory.
 fn take<I: Inlet>(inlet: &mut I) -> Result<Taken, Fault> {
     for _ in 0..2 {
         match inlet.take() {
@@ -101,7 +101,7 @@ fn fill(inlet: &mut MemoryInlet) -> Result<(), Fault> {
     same(inlet.put(more), Put::Full(more), "a full line")
 }
 
-/// Goes on only where these words filled a line.
+/// Goes on only if these words filled a line.
 fn see_given(words: &[Word]) -> Result<(), Fault> {
     same(words.len(), ROOM, "how many words were given")?;
     let mut number = 0u64;

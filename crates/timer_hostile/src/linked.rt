@@ -1,4 +1,4 @@
-//! Lists of nodes, where a push is refused.
+//! Lists of nodes: a push is refused.
 use crate::fault::{Fault, same, see};
 use std::alloc::Global;
 use timer_base::{OutOfMemory, Timer};
@@ -17,7 +17,7 @@ fn node(serial: u64) -> Node {
     }
 }
 
-/// Lists, at the second try where the first is refused.
+/// Lists, at the second try if the first is refused.
 fn make(alloc: Global, lists: usize) -> Result<Links, Fault> {
     if lists > 65537 {
         return Err(Fault::Wrong("too many lists"));
@@ -49,7 +49,7 @@ fn has_serials(links: &Links, count: u64) -> bool {
     at.is_none()
 }
 
-/// Pushes the node with this serial, after all those before it. False where that is refused.
+/// Pushes the node with this serial, after all those before it. False if that is refused.
 fn try_push(links: &mut Links, serial: u64) -> Result<bool, Fault> {
     if links.lists() == 0 || serial == 0 {
         return Err(Fault::Wrong("no list"));

@@ -1,4 +1,4 @@
-//! Lists of events, where `play` stops for memory and is called again with the rest.
+//! Lists of events: `play` stops for memory and is called again with the rest.
 use crate::facilities::numbers;
 use crate::fault::{Fault, same};
 use crate::wheels::hier;
@@ -57,7 +57,7 @@ fn bare(out: Out) -> Out {
     }
 }
 
-/// Goes on only where these outs are those that are wanted, but for places.
+/// Goes on only if these outs are those that are wanted, but for places.
 fn see_outs(outs: &[Out], wanted: &[Out]) -> Result<(), Fault> {
     same(outs.len(), wanted.len(), "how many outs there are")?;
     for (out, want) in outs.iter().zip(wanted.iter()) {
@@ -75,7 +75,7 @@ fn player(alloc: Global) -> Result<Player<HierWheel>, Fault> {
     Ok(Player::open(alloc, Facility::open(alloc, checked, wheel)))
 }
 
-/// Plays the events, and the rest of them where memory stopped it. What comes of both is what is wanted.
+/// Plays the events, and the rest of them if memory stopped it. What comes of both is what is wanted.
 fn play(player: &mut Player<HierWheel>, events: &[Event], wanted: &[Out]) -> Result<(), Fault> {
     let stop = match player.play(events) {
         Ok(outs) => return see_outs(&outs, wanted),
@@ -92,7 +92,7 @@ fn play(player: &mut Player<HierWheel>, events: &[Event], wanted: &[Out]) -> Res
     }
 }
 
-/// Goes on only where the clock stands at this tick and nothing is pending.
+/// Goes on only if the clock stands at this tick and nothing is pending.
 fn see_end(player: &Player<HierWheel>, now: u64) -> Result<(), Fault> {
     let facility = player.facility();
     let end = (facility.now(), facility.pending());

@@ -5,7 +5,7 @@ use timer_base::{Handle, Timer};
 use timer_facility::{Answer, Notice, Out};
 use timer_script::text_of;
 
-/// Makes a text, again where that was refused, and compares it.
+/// Makes a text, again if that was refused, and compares it.
 pub fn write_text_of_outs(alloc: Global) -> Result<(), Fault> {
     let handle = Handle {
         place: 0,

@@ -1,4 +1,4 @@
-//! Wheels of each scheme, where a start or a list is refused.
+//! Wheels of each scheme: a start or a list is refused.
 ghost use Rattle.std.specs.Prelude.{◌≡◌, IfOk};
 ghost use Rattle.timer_base.specs.declared.limits.TheConstants.{LAST};
 ghost use Rattle.timer_base.specs.declared.plain.PlainWheel.{PlainWheel};
@@ -22,7 +22,7 @@ pub fn plain(alloc: Global) -> Result<PlainWheel, Fault>
     PlainWheel::new(alloc, 0).map_err(|_| Fault::Wrong("the plain wheel"))
 }
 
-/// A hashed wheel, at the second try where the first is refused.
+/// A hashed wheel, at the second try if the first is refused.
 pub fn hashed(alloc: Global, slots: usize) -> Result<HashedWheel, Fault>
     ensures { IfOk result (λ wheel. ⟦<HashedWheel as Wheel>⟧.state wheel ≡ empty_wheel LAST 0) }
 {
@@ -34,7 +34,7 @@ pub fn hashed(alloc: Global, slots: usize) -> Result<HashedWheel, Fault>
     Err(Fault::RefusedTwice)
 }
 
-/// A hierarchy of wheels, at the second try where the first is refused.
+/// A hierarchy of wheels, at the second try if the first is refused.
 pub fn hier(alloc: Global, table: Table) -> Result<HierWheel, Fault>
     ensures { IfOk result (λ wheel. ⟦<HierWheel as Wheel>⟧.state wheel
         ≡ empty_wheel (last_of_table table) 0) }
@@ -53,7 +53,7 @@ fn deadline_of(serial: u64) -> u64 {
     serial.wrapping_mul(37) % (STARTS + 1)
 }
 
-/// The pending timers, at the second try where the first is refused.
+/// The pending timers, at the second try if the first is refused.
 fn list<W: Wheel>(wheel: &W) -> Result<Vec<Timer>, Fault> {
     for _ in 0..2 {
         if let Ok(timers) = wheel.list() {
@@ -63,7 +63,7 @@ fn list<W: Wheel>(wheel: &W) -> Result<Vec<Timer>, Fault> {
     Err(Fault::RefusedTwice)
 }
 
-/// Goes on only where the timers with the serials from 1 to `last` are pending, and no others.
+/// Goes on only if the timers with the serials from 1 to `last` are pending, and no others.
 fn see_pending<W: Wheel>(wheel: &W, last: u64) -> Result<(), Fault> {
     let shown = (
         wheel.now(),
@@ -76,7 +76,7 @@ fn see_pending<W: Wheel>(wheel: &W, last: u64) -> Result<(), Fault> {
     see_timers(&timers, last)
 }
 
-/// Goes on only where these are the timers with the serials from 1 to `last`, by deadline.
+/// Goes on only if these are the timers with the serials from 1 to `last`, by deadline.
 fn see_timers(timers: &[Timer], last: u64) -> Result<(), Fault> {
     same(timers.len() as u64, last, "how many timers are listed")?;
     let mut before = 0;
@@ -90,7 +90,7 @@ fn see_timers(timers: &[Timer], last: u64) -> Result<(), Fault> {
     Ok(())
 }
 
-/// Starts the next timer. False where that is refused.
+/// Starts the next timer. False if that is refused.
 fn try_start<W: Wheel>(wheel: &mut W) -> Result<bool, Fault> {
     let last = wheel.last_serial();
     if last >= LAST {
