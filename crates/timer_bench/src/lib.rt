@@ -15,7 +15,7 @@ use timer_wheels::{HashedWheel, HierWheel};
 /// The slots of the hashed wheel that is measured: the most that there can be.
 const SLOTS: usize = 65536;
 
-/// Replays a trace over the hierarchy of wheels. The last of the sums is not 0 where it gave up.
+/// Replays a trace over the hierarchy of wheels. The last of the sums is not 0 if it gave up.
 #[unsafe(no_mangle)]
 pub extern "C" fn timers_bench_hier(
     alloc: Global,
@@ -37,7 +37,7 @@ pub extern "C" fn timers_bench_hier_stop_start(
     replay_hier(alloc, Pushing::StopAndStart, operations, owners, sums);
 }
 
-/// Replays a trace over the hashed wheel. The last of the sums is not 0 where it gave up.
+/// Replays a trace over the hashed wheel. The last of the sums is not 0 if it gave up.
 #[unsafe(no_mangle)]
 pub extern "C" fn timers_bench_hashed(
     alloc: Global,
