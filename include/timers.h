@@ -9,6 +9,7 @@
  *     timers_expire, timers_expire_batch - take expired timers
  *     timers_look, timers_each - read one timer, visit all of them
  *     timers_now, timers_len, timers_has_due, timers_wakeup, timers_next - read the state
+ *     timers_counts - read what the wheels did so far
  *
  * SYNOPSIS
  *     #include <timers.h>
@@ -59,7 +60,7 @@
  *        given uninitialised memory: it could not be known whether that owns timers.
  *     2. A pointer argument is not NULL and points to an object of its type that this call alone uses. No
  *        two arguments of one call overlap.
- *     3. If an argument is only written (handle, restarted, action, passed, out), the object may be
+ *     3. If an argument is only written (handle, restarted, action, passed, out, counts), the object may be
  *        uninitialised. It has only integers, so any bits are a value, and no function reads it. It is
  *        written exactly if the function's comment says so, and otherwise unchanged.
  *     4. Calls on one `struct timers` come one at a time, also those that take a const one. It may be
@@ -159,6 +160,13 @@ struct timer_expired {
 	uint64_t deadline;   /* the tick at which it expired; of timers_look, at which it expires */
 	uint64_t serial;     /* that of its handle */
 	uint64_t action;     /* the action that its start or restart was given */
+};
+
+/* What the wheels did since timers_new. */
+struct timer_counts {
+	uint64_t starts;     /* timers that were started or restarted */
+	uint64_t moves;      /* how often a timer moved to a lower wheel */
+	uint64_t visits;     /* buckets that were visited */
 };
 
 /* Makes timers with this table (enum timers_table), none of them pending, at the first tick. `t` holds them
@@ -267,6 +275,15 @@ uint64_t timers_wakeup(const struct timers *t);
  * otherwise walks the timers of one bucket. A loop that only sleeps can use timers_wakeup. */
 uint64_t timers_next(const struct timers *t);
 
+/* Writes `*counts`, what the wheels did since timers_new, at TIMERS_OK. `starts` counts each start and restart
+ * that returned TIMERS_OK. `moves` is at most 9 times `starts` (of TIMERS_CLOCK, 3 times). `visits` counts one
+ * for each tick of timers_tick. Of timers_advance it counts one for each multiple of 64 ticks (of TIMERS_CLOCK,
+ * 60) that is passed, and one for its last tick if that is no such multiple and a timer expires there. A stop
+ * and taking expired timers count nothing. Constant time. Does not allocate.
+ * TIMERS_NOT_OPEN. */
+TIMERS_CHECKED
+enum timers_status timers_counts(const struct timers *t, struct timer_counts *counts);
+
 /* The text of a status, for messages. */
 static inline const char *timers_message(enum timers_status status)
 {
@@ -301,6 +318,8 @@ TIMERS_ASSERT(sizeof(struct timer_handle) == 16 && offsetof(struct timer_handle,
               && offsetof(struct timer_handle, serial) == 8, "struct timer_handle");
 TIMERS_ASSERT(sizeof(struct timer_expired) == 24 && offsetof(struct timer_expired, deadline) == 0
               && offsetof(struct timer_expired, serial) == 8 && offsetof(struct timer_expired, action) == 16, "struct timer_expired");
+TIMERS_ASSERT(sizeof(struct timer_counts) == 24 && offsetof(struct timer_counts, starts) == 0
+              && offsetof(struct timer_counts, moves) == 8 && offsetof(struct timer_counts, visits) == 16, "struct timer_counts");
 #undef TIMERS_ASSERT
 #undef TIMERS_CHECKED
 

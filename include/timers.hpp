@@ -249,6 +249,14 @@ public:
 	std::optional<ticks> wakeup() const noexcept { return unless_never(timers_wakeup(&raw_)); }
 	std::optional<ticks> next() const noexcept { return unless_never(timers_next(&raw_)); }
 
+	/* timers_counts: the starts, moves and visits since the timers were made. Throws error: TIMERS_NOT_OPEN. */
+	timer_counts counts() const
+	{
+		timer_counts so_far;
+		check(timers_counts(&raw_, &so_far));
+		return so_far;
+	}
+
 	/* For the calls of C that are not here. */
 	::timers *raw() noexcept { return &raw_; }
 

@@ -58,6 +58,10 @@ class Expired(Structure):
     _fields_ = [("deadline", c_uint64), ("serial", c_uint64), ("action", c_uint64)]
 
 
+class Counts(Structure):
+    _fields_ = [("starts", c_uint64), ("moves", c_uint64), ("visits", c_uint64)]
+
+
 CALLS = {
     "new": (c_uint32, [POINTER(Held), c_uint32, c_uint64]),
     "free": (None, [POINTER(Held)]),
@@ -78,6 +82,7 @@ CALLS = {
     "wakeup": (c_uint64, [POINTER(Held)]),
     "next": (c_uint64, [POINTER(Held)]),
     "each": (c_bool, [POINTER(Held), POINTER(c_size_t), POINTER(Handle), POINTER(Expired)]),
+    "counts": (c_uint32, [POINTER(Held), POINTER(Counts)]),
 }
 
 
@@ -215,6 +220,12 @@ class Timers:
         """The deadline of the timer that is taken next, exactly, or None if no timer is held."""
         tick = self._call["next"](self._held)
         return None if tick == NEVER else tick
+
+    def counts(self):
+        """What the wheels did since they were made, as (starts, moves, visits)."""
+        counts = Counts()
+        self._do("counts", byref(counts))
+        return counts.starts, counts.moves, counts.visits
 
     def __iter__(self):
         """Visits all timers, pending and expired, in no particular order: pairs of a handle and what `look` says.

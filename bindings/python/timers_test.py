@@ -130,9 +130,26 @@ def come_to_the_last_tick(library):
         assert refused(timers.advance, 1) == CLOCK_END
 
 
+def count_the_moves(library):
+    """A timer for 11 days 11:15:15, started at 10:24:30, moves at 11:00:00 and at 11:15:00."""
+    with Timers(library, CLOCK, 987870) as timers:
+        handle = timers.start_at(990915, 7)
+        assert timers.counts() == (1, 0, 0)
+        timers.advance(989999 - 987870)
+        assert timers.counts() == (1, 0, 35)
+        timers.advance(990899 - 989999)
+        assert timers.counts() == (1, 1, 50)
+        assert timers.advance(16) == [(990915, handle.serial, 7)]
+        assert timers.counts() == (1, 2, 52)
+        timers.stop(timers.restart(timers.start(1, 8), 2, 9))
+        assert timers.counts() == (3, 2, 52)
+    assert refused(timers.counts) == NOT_OPEN
+
+
 if __name__ == "__main__":
     library = sys.argv[1] if len(sys.argv) > 1 else "libtimers.so.1"
     compare(library)
     meet_the_edges(library)
     stop_what_expired(library)
     come_to_the_last_tick(library)
+    count_the_moves(library)

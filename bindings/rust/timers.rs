@@ -117,6 +117,18 @@ pub struct Timer {
     pub action: u64,
 }
 
+/// What the wheels did since they were made.
+#[repr(C)]
+#[derive(Clone, Copy, Debug, Default, Eq, PartialEq)]
+pub struct Counts {
+    /// Timers that were started or restarted.
+    pub starts: u64,
+    /// How often a timer moved to a lower wheel.
+    pub moves: u64,
+    /// Buckets that were visited.
+    pub visits: u64,
+}
+
 /// `struct timers`. It may be moved.
 #[repr(C)]
 struct Held {
@@ -158,6 +170,7 @@ unsafe extern "C" {
     fn timers_len(t: *const Held) -> usize;
     fn timers_wakeup(t: *const Held) -> u64;
     fn timers_next(t: *const Held) -> u64;
+    fn timers_counts(t: *const Held, counts: *mut Counts) -> c_uint;
 }
 
 /// Timers and their clock.
@@ -318,5 +331,13 @@ impl Timers {
     /// The deadline of the timer that is taken next, exactly; `None` if no timer is held.
     pub fn next_deadline(&self) -> Option<u64> {
         Some(unsafe { timers_next(&self.held) }).filter(|&tick| tick != NEVER)
+    }
+
+    /// How often timers were started, moved to a lower wheel, and looked for, since the timers were made.
+    pub fn counts(&self) -> Counts {
+        let mut counts = Counts::default();
+        // They are written, since the timers are open.
+        unsafe { timers_counts(&self.held, &mut counts) };
+        counts
     }
 }

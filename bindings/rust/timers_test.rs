@@ -4,7 +4,7 @@ mod timers;
 use std::collections::BTreeMap;
 use std::thread;
 use std::time::Duration;
-use timers::{at_least, Error, Handle, Table, Timer, Timers, LAST, LAST_OF_CLOCK};
+use timers::{at_least, Counts, Error, Handle, Table, Timer, Timers, LAST, LAST_OF_CLOCK};
 
 /// Knuth's generator of 64 bits, of which the upper ones are used.
 struct Random(u64);
@@ -126,7 +126,23 @@ fn meet_the_edges() {
     println!("the edges are as its pages say");
 }
 
+/// At tick 0 a timer for tick 65 stands in wheel 1. It moves to wheel 0 at tick 64, and expires at 65. One for
+/// tick 64 expires as its bucket of wheel 1 is visited.
+fn count_the_moves() {
+    let mut timers = Timers::new(Table::Wide, 0).unwrap();
+    let counts = |starts, moves, visits| Counts { starts, moves, visits };
+    assert_eq!(timers.counts(), counts(0, 0, 0));
+    timers.start(65, 1).unwrap();
+    timers.start(64, 2).unwrap();
+    assert_eq!((timers.advance(63), timers.counts()), (Ok(63), counts(2, 0, 0)));
+    assert_eq!((timers.tick(), timers.counts()), (Ok(()), counts(2, 1, 1)));
+    assert_eq!((timers.expire().map(|timer| timer.action), timers.expire()), (Some(2), None));
+    assert_eq!((timers.advance(9), timers.counts()), (Ok(1), counts(2, 1, 2)));
+    println!("the moves are counted");
+}
+
 fn main() {
     compare(20000);
     meet_the_edges();
+    count_the_moves();
 }

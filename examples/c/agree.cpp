@@ -156,6 +156,7 @@ static void meet_the_edges()
 	Timers moved = std::move(timers);
 	HOLDS(moved.size() == 1 && timers.size() == 0 && !timers.stop(first));
 	HOLDS(refusal([&] { timers.start(1ms, &number); }) == TIMERS_NOT_OPEN);
+	HOLDS(refusal([&] { timers.counts(); }) == TIMERS_NOT_OPEN);
 	timers = std::move(moved);
 	Timers &same = timers;
 	timers = std::move(same);
@@ -172,6 +173,18 @@ static void meet_the_edges()
 	counters.catch_up(1min, [](const auto &timer) { timer.action(); });
 	HOLDS(runs == 2);
 	std::cout << "the edges are as the header says\n";
+}
+
+/* 61 seconds are 1 minute and 1 second, so that timer moves from the minutes to the seconds at second 60. Visits are
+ * those at the seconds 59, 60 and 61. */
+static void count_the_moves()
+{
+	timing::timers<std::chrono::seconds> timers(TIMERS_CLOCK);
+	timers.start(61s, 1);
+	timers.start(59s, 2);
+	timers.catch_up(std::chrono::seconds(61), [](const auto &) {});
+	const timer_counts counts = timers.counts();
+	HOLDS(counts.starts == 2 && counts.moves == 1 && counts.visits == 3);
 }
 
 /* How many of 1,000 starts memory is refused to, while none is given out. */
@@ -214,5 +227,6 @@ int main()
 	compare(20000);
 	round_intervals();
 	meet_the_edges();
+	count_the_moves();
 	run_out_of_memory();
 }

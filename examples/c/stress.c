@@ -39,11 +39,42 @@ static uint64_t next_random(void)
 }
 static uint64_t below(uint64_t limit) { return next_random() % limit; }
 
-/* The model: all timers by deadline, then serial. list[0 .. due) expired and were not yet taken. */
-struct entry { uint64_t deadline, serial, action; size_t place; };
+/* The model: all timers by deadline, then serial. list[0 .. due) expired and were not yet taken. `from` is the tick at
+ * which it was started. */
+struct entry { uint64_t deadline, serial, action, from; size_t place; };
 static struct entry *list;
 static size_t count, room, due;
 static uint64_t now, last_tick, last_serial;
+
+/* What the wheels should have counted since they were made; the moves are those of timers that are no longer in the
+ * list. The units of the wheels are the ticks of a slot, from the highest wheel down. */
+static struct timer_counts counted;
+static uint64_t units[10], wheels;
+
+static void set_units(bool wide)
+{
+	static const uint64_t clock_units[] = { 86400, 3600, 60, 1 };
+	wheels = wide ? 10 : 4;
+	for (uint64_t i = 0; i < wheels; i++)
+		units[i] = wide ? UINT64_C(1) << (6 * (9 - i)) : clock_units[i];
+}
+
+/* How often a timer has moved by now. Its bucket in a wheel is emptied at its deadline, rounded down to the unit of that
+ * wheel, and it stands in the highest wheel at which that is not the present slot. */
+static uint64_t moves_of(const struct entry *e)
+{
+	uint64_t at = e->from, moves = 0;
+	for (uint64_t i = 0; i < wheels; i++) {
+		uint64_t emptied = e->deadline / units[i] * units[i];
+		if (emptied == at / units[i] * units[i])
+			continue;
+		if (emptied > now)
+			break;
+		at = emptied;
+		moves += emptied != e->deadline;
+	}
+	return moves;
+}
 
 static void insert(struct entry e)
 {
@@ -63,6 +94,7 @@ static void insert(struct entry e)
 
 static void take_out(size_t i)
 {
+	counted.moves += moves_of(&list[i]);
 	due -= i < due;
 	memmove(list + i, list + i + 1, (count - i - 1) * sizeof *list);
 	count--;
@@ -125,7 +157,7 @@ static size_t random_handle(struct timer_handle *handle)
 	return index_of(*handle);
 }
 
-static uint64_t statuses[11], starts, restarts, stops, revivals, withdrawals, expiries, ticks, refused_while_due, most_pending, visits, early_wakeups;
+static uint64_t statuses[11], starts, restarts, stops, revivals, withdrawals, expiries, ticks, refused_while_due, most_pending, visits, early_wakeups, most_moves;
 
 static void seen(enum timers_status status)
 {
@@ -152,9 +184,10 @@ static void do_start(struct timers *t)
 	seen(status);
 	if (status == TIMERS_OK) {
 		WANT("serial", handle.serial, ++last_serial);
-		insert((struct entry){ now + interval, handle.serial, action, handle.place });
+		insert((struct entry){ now + interval, handle.serial, action, now, handle.place });
 		most_pending = count > most_pending ? count : most_pending;
 		starts++;
+		counted.starts++;
 	} else {
 		WANT("handle kept", handle.place == 11 && handle.serial == 12, 1);
 	}
@@ -175,9 +208,10 @@ static void do_restart(struct timers *t)
 		WANT("serial of the restarted", restarted.serial, ++last_serial);
 		revivals += at < due;
 		take_out(at);
-		insert((struct entry){ now + interval, restarted.serial, action, restarted.place });
+		insert((struct entry){ now + interval, restarted.serial, action, now, restarted.place });
 		WANT("the old handle", timers_stop(t, handle, &action), TIMERS_NOT_PENDING);
 		restarts++;
+		counted.starts++;
 	} else {
 		WANT("new handle kept", restarted.place == 11 && restarted.serial == 12, 1);
 	}
@@ -226,6 +260,7 @@ static void do_tick(struct timers *t)
 	if (status == TIMERS_OK) {
 		now++;
 		ticks++;
+		counted.visits++;
 		count_due();
 	}
 }
@@ -245,10 +280,13 @@ static void advance_by(struct timers *t, uint64_t most)
 	if (count > 0 && list[0].deadline - now < wanted)
 		wanted = list[0].deadline - now;
 	WANT("ticks passed", passed, wanted);
+	uint64_t slots = units[wheels - 2], first = now;
 	now += wanted;
 	ticks += wanted;
-	if (wanted > 0)
+	if (wanted > 0) {
 		count_due();
+		counted.visits += now / slots - first / slots + (due > 0 && now % slots > 0);
+	}
 }
 
 static void do_advance(struct timers *t)
@@ -304,6 +342,19 @@ static void look(struct timers *t)
 	early_wakeups += wakeup < next;
 }
 
+static void look_at_counts(struct timers *t)
+{
+	struct timer_counts counts;
+	uint64_t moves = counted.moves;
+	for (size_t i = 0; i < count; i++)
+		moves += moves_of(&list[i]);
+	WANT("counts", timers_counts(t, &counts), TIMERS_OK);
+	WANT("starts counted", counts.starts, counted.starts);
+	WANT("moves counted", counts.moves, moves);
+	WANT("visits counted", counts.visits, counted.visits);
+	most_moves = counts.moves > most_moves ? counts.moves : most_moves;
+}
+
 /* Visits all timers, and stops one in eight as it comes to them: each is visited once, with its deadline and action. */
 static void do_visit(struct timers *t)
 {
@@ -339,6 +390,7 @@ static void want_closed(struct timers *t)
 {
 	struct timer_handle handle = { 7, 7 };
 	struct timer_expired e = { 7, 7, 7 };
+	struct timer_counts counts = { 7, 7, 7 };
 	uint64_t word = 7;
 	size_t place = 7;
 	WANT("start, not open", timers_start(t, 1, 1, &handle), TIMERS_NOT_OPEN);
@@ -357,6 +409,8 @@ static void want_closed(struct timers *t)
 	WANT("wake-up, not open", timers_wakeup(t), TIMERS_NEVER);
 	WANT("next, not open", timers_next(t), TIMERS_NEVER);
 	WANT("visit, not open", timers_each(t, &place, &handle, &e), false);
+	WANT("counts, not open", timers_counts(t, &counts), TIMERS_NOT_OPEN);
+	WANT("counts kept, not open", counts.starts == 7 && counts.moves == 7 && counts.visits == 7, 1);
 	WANT("kept, not open", handle.place == 7 && handle.serial == 7 && e.serial == 7 && word == 7 && place == 7, 1);
 	timers_free(t);
 }
@@ -370,6 +424,8 @@ static void open_anew(struct timers *t)
 	WANT("too late", timers_new(t, table, last_tick + 1), TIMERS_TOO_LATE);
 	now = below(4) ? below(100000) : last_tick - below(100000);
 	count = due = 0;
+	counted = (struct timer_counts){ 0, 0, 0 };
+	set_units(table == TIMERS_WIDE);
 	while (WITH_REFUSALS(timers_new(t, table, now)) == TIMERS_NO_MEMORY)
 		want_closed(t);
 	WANT("new", result, TIMERS_OK);
@@ -390,6 +446,7 @@ static void go_to_the_end(struct timers *t)
 	do_advance(t);
 	do_start(t);
 	look(t);
+	look_at_counts(t);
 }
 
 /* The text of a status that should have occurred and never did, or NULL. */
@@ -426,8 +483,10 @@ int main(int argc, char **argv)
 		default: do_expire(&t);
 		}
 		look(&t);
-		if (below(1000) == 0)
+		if (below(1000) == 0) {
+			look_at_counts(&t);
 			do_visit(&t);
+		}
 		if (calls_done % 20000 == 0)
 			spread = UINT64_C(1) << (3 + below(14));
 		/* Now and then begin anew, with timers pending and due. Serials go on. */
@@ -446,9 +505,10 @@ int main(int argc, char **argv)
 		printf(" %" PRIu64, statuses[i]);
 	printf("\n");
 	printf("of these, restarts of expired timers %" PRIu64 ", stops of expired timers %" PRIu64 "; visits of all timers %" PRIu64
-	       ", wake-ups before the next deadline %" PRIu64 "\n", revivals, withdrawals, visits, early_wakeups);
-	if (revivals == 0 || withdrawals == 0 || visits == 0 || early_wakeups == 0) {
-		printf("no expired timer was restarted, or none was stopped, or none was visited, or no wake-up came early\n");
+	       ", wake-ups before the next deadline %" PRIu64 ", most moves to a lower wheel %" PRIu64 "\n",
+	       revivals, withdrawals, visits, early_wakeups, most_moves);
+	if (revivals == 0 || withdrawals == 0 || visits == 0 || early_wakeups == 0 || most_moves == 0) {
+		printf("no expired timer was restarted, none was stopped, none was visited, no wake-up came early, or none moved\n");
 		return 1;
 	}
 	const char *never = missing();

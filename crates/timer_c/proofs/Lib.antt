@@ -2,3 +2,4 @@ pub mod ParkedParts
 pub mod SlotParts
 pub mod Batches
 pub mod FrameSteps
+pub mod FewMoves

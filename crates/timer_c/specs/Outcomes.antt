@@ -7,9 +7,12 @@ use Rattle.timer_base.specs.declared.timer.Handle as base
 use Rattle.timer_base.specs.WakeUps.{IsWakeUp, next_deadline}
 use Rattle.timer_base.specs.WheelState.{WheelState, empty_wheel, after_start, after_tick}
 use Rattle.timer_wheels.specs.HeldPlaces.{AreBefore, AreElsewhere}
+use Rattle.timer_wheels.specs.HierWheel.{WheelCounts, counts_of, hier_state}
+use Rattle.timer_wheels.specs.declared.hier.HierWheel.{HierWheel}
 use Rattle.timer_wheels.specs.declared.table.TheConstants.{LAST_OF_CLOCK}
 use Rattle.timer_total.specs.Refusals.{next_timer, timer_due, left_until, held_at, after_removal, IsStartable, IsAt}
 use Rattle.timer_total.specs.Ticks.{Passes, numbered}
+use Rattle.timer_c.specs.declared.shapes.Counts.{Counts}
 use Rattle.timer_c.specs.declared.shapes.Handle.{Handle}
 use Rattle.timer_c.specs.declared.shapes.Expired.{Expired}
 use Rattle.timer_c.specs.declared.status.TheConstants.{NO_TABLE, NO_MEMORY, DUE, NOT_PENDING, ZERO_INTERVAL, TOO_LATE, SERIALS_SPENT, CLOCK_END, WIDE, CLOCK, NEVER}
@@ -148,3 +151,13 @@ IsVisited from w next handle out =
 -- no timer is left for a visit from this place on
 abbrev pub IsAllVisited : ℕ → WheelState → Type 0
 IsAllVisited from w = AreBefore from w.pending × AreBefore from w.due
+
+-- the counts of a wheel as C's struct
+abbrev pub tell_counts : WheelCounts → Counts
+tell_counts counts = record { starts = counts.starts; moves = counts.moves; visits = counts.visits }
+
+-- these are the counts of a wheel in this state, but for the last serial, which is counted beside the wheel
+pub record AreCountsOf (w : WheelState) (counts : Counts) : Type 0 where
+  pub wheel : HierWheel
+  pub held : numbered w.last_serial (hier_state wheel) ≡ w
+  pub counted : counts ≡ tell_counts (counts_of wheel)

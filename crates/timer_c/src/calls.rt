@@ -1,12 +1,13 @@
 //! The calls on timers that are held, over any wheel, with C's statuses and structs.
-ghost use Rattle.std.specs.Prelude.{◌≡◌, ◌<◌, ◌++◌, ◌↔◌, true, false, Some, None, [], map, take, drop, length, min};
+ghost use Rattle.std.specs.Prelude.{◌≡◌, ◌*◌, ◌<◌, ◌≤◌, ◌++◌, ◌↔◌, true, false, Some, None, [], map, take, drop, length, min};
 ghost use Rattle.timer_base.specs.Pending.{timers_of};
 ghost use Rattle.timer_base.specs.WheelState.{first_due, after_tick, after_expiry};
-ghost use Rattle.timer_c.specs.Outcomes.{IsStarted, IsStartedAt, WhyNotStarted, IsRestarted, IsRestartedAt, WhyNotRestarted, IsSeen, IsStopped, WhyNotStopped, IsTicked, IsAdvanced, WhyNotTicked, IsNextCall, IsNextDeadline, IsVisited, IsAllVisited, told, tell, after_expiries};
+ghost use Rattle.timer_c.specs.Outcomes.{IsStarted, IsStartedAt, WhyNotStarted, IsRestarted, IsRestartedAt, WhyNotRestarted, IsSeen, IsStopped, WhyNotStopped, IsTicked, IsAdvanced, WhyNotTicked, IsNextCall, IsNextDeadline, IsVisited, IsAllVisited, AreCountsOf, told, tell, tell_counts, after_expiries};
 ghost use Rattle.timer_total.specs.Refusals.{left_until};
+ghost use Rattle.timer_wheels.specs.HierWheel.{counts_of};
 ghost use Rattle.timer_c.specs.declared.status.TheConstants.{OK, NO_MEMORY};
 
-use crate::shapes::{Expired, Handle};
+use crate::shapes::{Counts, Expired, Handle};
 use crate::status::{
     CLOCK_END, DUE, NEVER, NO_MEMORY, NOT_PENDING, OK, SERIALS_SPENT, TOO_LATE, ZERO_INTERVAL,
 };
@@ -234,6 +235,26 @@ pub(crate) fn each(
     *handle = given(found);
     *out = expired(timer);
     true
+}
+
+/// What the wheel that is held counted.
+pub(crate) fn counts(timers: &Timers<HierWheel>) -> Counts
+    ensures held { AreCountsOf timers.now result }
+    ensures few_moves { result.moves ≤ 9 * result.starts }
+{
+    counted(timers.wheel())
+}
+
+/// What a wheel counted, as C's struct.
+fn counted(wheel: &HierWheel) -> Counts
+    ensures value { result ≡ tell_counts (counts_of wheel.now) }
+    ensures few_moves { result.moves ≤ 9 * result.starts }
+{
+    Counts {
+        starts: wheel.starts(),
+        moves: wheel.moves(),
+        visits: wheel.visits(),
+    }
 }
 
 /// A handle as C's struct.

@@ -3,11 +3,11 @@
 //! The contracts have the same parts: what the call did where it returns `OK`; the first reason that holds
 //! where it returns another status; that nothing changed then; and that nothing but the state of the timers
 //! ever changes in what C holds.
-ghost use Rattle.std.specs.Prelude.{◌≡◌, ◌<◌, ◌≤◌, ◌⊎◌, ◌↔◌, ◌++◌, true, false, Some, None, [], map, take, drop, length, min, IsTrue};
+ghost use Rattle.std.specs.Prelude.{◌≡◌, ◌*◌, ◌<◌, ◌≤◌, ◌⊎◌, ◌↔◌, ◌++◌, true, false, Some, None, [], map, take, drop, length, min, IsTrue};
 ghost use Rattle.timer_base.specs.Pending.{timers_of};
 ghost use Rattle.timer_base.specs.WheelState.{first_due, after_expiry};
 ghost use Rattle.timer_c.specs.Frames.{IsOpen, IsShut, with_timers};
-ghost use Rattle.timer_c.specs.Outcomes.{IsEmptyAt, IsOpenable, WhyNoWheel, IsStarted, IsStartedAt, WhyNotStarted, IsRestarted, IsRestartedAt, WhyNotRestarted, IsSeen, IsStopped, WhyNotStopped, IsTicked, IsAdvanced, WhyNotTicked, IsNextCall, IsNextDeadline, IsVisited, IsAllVisited, told, tell, after_expiries};
+ghost use Rattle.timer_c.specs.Outcomes.{IsEmptyAt, IsOpenable, WhyNoWheel, IsStarted, IsStartedAt, WhyNotStarted, IsRestarted, IsRestartedAt, WhyNotRestarted, IsSeen, IsStopped, WhyNotStopped, IsTicked, IsAdvanced, WhyNotTicked, IsNextCall, IsNextDeadline, IsVisited, IsAllVisited, AreCountsOf, told, tell, after_expiries};
 ghost use Rattle.timer_c.specs.declared.status.TheConstants.{OK, NOT_OPEN, OPEN, NO_MEMORY, NEVER};
 ghost use Rattle.timer_total.specs.Refusals.{left_until};
 
@@ -15,7 +15,7 @@ use crate::calls;
 use crate::held::Held;
 use crate::opening::wheel_of;
 use crate::parked::Parked;
-use crate::shapes::{Expired, Handle};
+use crate::shapes::{Counts, Expired, Handle};
 use crate::status::{NEVER, NO_MEMORY, NOT_OPEN, OK, OPEN};
 use std::alloc::Global;
 use timer_total::Timers;
@@ -339,4 +339,21 @@ pub extern "C" fn timers_each(
         return false;
     }
     calls::each(t.slot.timers(), cursor, handle, out)
+}
+
+/// Writes what the wheels counted since `timers_new`, and changes nothing. The counts are those of a wheel in
+/// the state that is held: the contracts of the other calls show that state, and no counts.
+#[unsafe(no_mangle)]
+pub extern "C" fn timers_counts(t: &mut Held, counts: &mut Counts) -> u32
+    ensures counted { result ≡ OK → IsOpen t.old × AreCountsOf t.old.slot.state counts.new }
+    ensures few_moves { result ≡ OK → counts.new.moves ≤ 9 * counts.new.starts }
+    ensures refused { 0 < result → (result ≡ NOT_OPEN) × IsShut t.old }
+    ensures kept { 0 < result → counts.new ≡ counts.old }
+    ensures same { t.new ≡ t.old }
+{
+    if !t.slot.holds() {
+        return NOT_OPEN;
+    }
+    *counts = calls::counts(t.slot.timers());
+    OK
 }

@@ -24,5 +24,5 @@ mod slot;
 mod status;
 
 pub use held::Held;
-pub use shapes::{Expired, Handle};
+pub use shapes::{Counts, Expired, Handle};
 pub use slot::Slot;

@@ -21,3 +21,15 @@ pub struct Expired {
     /// The action that its start or restart was given.
     pub action: u64,
 }
+
+/// What the wheels did since they were made: `struct timer_counts`.
+#[repr(C)]
+#[derive(Clone, Copy, Debug, PartialEq, Eq)]
+pub struct Counts {
+    /// Timers that were started or restarted.
+    pub starts: u64,
+    /// How often a timer moved to a lower wheel.
+    pub moves: u64,
+    /// Buckets that were visited, counting those that were known to be empty.
+    pub visits: u64,
+}

@@ -1,0 +1,97 @@
+/* How often timers were started, moved to a lower wheel, and looked for. The numbers in counts.stdout were worked out by
+ * hand from the rule of the wheels: a timer stands in the wheel of the highest digit in which its deadline differs from
+ * now. When the lower digits of now become 0, its bucket is emptied: it expires then, or moves to a lower wheel.
+ *
+ *     deadline, from tick 0               moves
+ *       64 = 1 * 64 + 0                   none: it expires when the bucket in wheel 1 is emptied, at tick 64
+ *       65 = 1 * 64 + 1                   to wheel 0 at tick 64
+ *     4097 = 1 * 4096 + 0 * 64 + 1        to wheel 0 at tick 4096
+ *     4161 = 1 * 4096 + 1 * 64 + 1        to wheel 1 at tick 4096, to wheel 0 at tick 4160
+ *
+ * On the clock, from 10:24:30: 11:15:15 moves to the minutes at 11:00:00, and to the seconds at 11:15:00. */
+#include <inttypes.h>
+#include <stdio.h>
+#include <stdlib.h>
+
+#include <timers.h>
+
+static struct timers t = TIMERS_INIT;
+
+static void check(enum timers_status status)
+{
+	if (status != TIMERS_OK) {
+		printf("%s\n", timers_message(status));
+		exit(1);
+	}
+}
+
+static struct timer_handle start_at(uint64_t deadline)
+{
+	struct timer_handle handle;
+	check(timers_start_at(&t, deadline, 0, &handle));
+	return handle;
+}
+
+static void take_all(void)
+{
+	struct timer_expired e;
+	while (timers_expire(&t, &e))
+		;
+}
+
+/* Passes the ticks up to the last deadline, by timers_advance. */
+static void advance_to_the_end(void)
+{
+	uint64_t passed;
+	while (timers_len(&t) > 0) {
+		check(timers_advance(&t, UINT64_MAX, &passed));
+		take_all();
+	}
+}
+
+static void show(const char *run)
+{
+	struct timer_counts c;
+	check(timers_counts(&t, &c));
+	printf("%s: %" PRIu64 " starts, %" PRIu64 " moves, %" PRIu64 " visits\n", run, c.starts, c.moves, c.visits);
+	timers_free(&t);
+}
+
+int main(void)
+{
+	struct timer_handle handle;
+	uint64_t action;
+
+	/* timers_tick visits a bucket at each tick. */
+	check(timers_new(&t, TIMERS_WIDE, 0));
+	start_at(64);
+	start_at(65);
+	start_at(4161);
+	while (timers_len(&t) > 0) {
+		check(timers_tick(&t));
+		take_all();
+	}
+	show("tick by tick");
+
+	/* timers_advance counts the 65 multiples of 64 up to 4161, and the ticks 65 and 4161. */
+	check(timers_new(&t, TIMERS_WIDE, 0));
+	start_at(64);
+	start_at(65);
+	start_at(4161);
+	advance_to_the_end();
+	show("many ticks at once");
+
+	/* It counts the 51 multiples of 60 from second 987,870 to second 990,915, and the latter. */
+	check(timers_new(&t, TIMERS_CLOCK, 987870));
+	start_at(990915);
+	advance_to_the_end();
+	show("day 11, 10:24:30 to 11:15:15");
+
+	/* A restart counts as a start. What was stopped did not move. 64 multiples of 64, and tick 4097. */
+	check(timers_new(&t, TIMERS_WIDE, 0));
+	check(timers_restart_at(&t, start_at(65), 4097, 0, &handle));
+	check(timers_stop(&t, start_at(200), &action));
+	advance_to_the_end();
+	show("a restart and a stop");
+	return 0;
+}
