@@ -38,7 +38,7 @@ pub(crate) fn start<W: Wheel + Drop>(
 {
     match timers.start(interval, action) {
         Ok(made) => {
-            *handle = given(made);
+            *handle = to_c_handle(made);
             OK
         }
         Err(StartFault::ZeroInterval) => ZERO_INTERVAL,
@@ -73,9 +73,9 @@ pub(crate) fn restart<W: Wheel + Drop>(
     ensures refused { 0 < result → WhyNotRestarted handle interval timers.old result }
     ensures kept { 0 < result → (timers.new ≡ timers.old) × (restarted.new ≡ restarted.old) }
 {
-    match timers.restart(named(handle), interval, action) {
+    match timers.restart(from_c_handle(handle), interval, action) {
         Ok(made) => {
-            *restarted = given(made);
+            *restarted = to_c_handle(made);
             OK
         }
         Err(RestartFault::NotPending) => NOT_PENDING,
@@ -106,9 +106,9 @@ pub(crate) fn look<W: Wheel + Drop>(timers: &Timers<W>, handle: Handle, out: &mu
     ensures refused { 0 < result → WhyNotStopped handle timers.now result }
     ensures kept { 0 < result → out.new ≡ out.old }
 {
-    match timers.look(named(handle)) {
+    match timers.look(from_c_handle(handle)) {
         Some(timer) => {
-            *out = expired(timer);
+            *out = to_c_expired(timer);
             OK
         }
         None => NOT_PENDING,
@@ -120,7 +120,7 @@ pub(crate) fn stop<W: Wheel + Drop>(timers: &mut Timers<W>, handle: Handle, acti
     ensures refused { 0 < result → WhyNotStopped handle timers.old result }
     ensures kept { 0 < result → (timers.new ≡ timers.old) × (action.new ≡ action.old) }
 {
-    match timers.stop(named(handle)) {
+    match timers.stop(from_c_handle(handle)) {
         Some(timer) => {
             *action = timer.action;
             OK
@@ -163,7 +163,7 @@ pub(crate) fn expire<W: Wheel + Drop>(timers: &mut Timers<W>, out: &mut Expired)
 {
     match timers.expire() {
         Some(timer) => {
-            *out = expired(timer);
+            *out = to_c_expired(timer);
             true
         }
         None => false,
@@ -179,7 +179,7 @@ pub(crate) fn expire_batch<W: Wheel + Drop>(timers: &mut Timers<W>, out: &mut [E
     let room = out.len();
     for count in 0..room {
         match timers.expire() {
-            Some(timer) => out[count] = expired(timer),
+            Some(timer) => out[count] = to_c_expired(timer),
             None => return count,
         }
     }
@@ -232,8 +232,8 @@ pub(crate) fn each(
         return false;
     };
     *cursor = found.place + 1;
-    *handle = given(found);
-    *out = expired(timer);
+    *handle = to_c_handle(found);
+    *out = to_c_expired(timer);
     true
 }
 
@@ -242,11 +242,11 @@ pub(crate) fn counts(timers: &Timers<HierWheel>) -> Counts
     ensures held { AreCountsOf timers.now result }
     ensures few_moves { result.moves ≤ 9 * result.starts }
 {
-    counted(timers.wheel())
+    to_c_counts(timers.wheel())
 }
 
 /// What a wheel counted, as C's struct.
-fn counted(wheel: &HierWheel) -> Counts
+fn to_c_counts(wheel: &HierWheel) -> Counts
     ensures value { result ≡ tell_counts (counts_of wheel.now) }
     ensures few_moves { result.moves ≤ 9 * result.starts }
 {
@@ -258,7 +258,7 @@ fn counted(wheel: &HierWheel) -> Counts
 }
 
 /// A handle as C's struct.
-fn given(handle: timer_base::Handle) -> Handle
+fn to_c_handle(handle: timer_base::Handle) -> Handle
     ensures { result ≡ record { place = handle.place; serial = handle.serial } }
 {
     Handle {
@@ -268,7 +268,7 @@ fn given(handle: timer_base::Handle) -> Handle
 }
 
 /// A handle as the wheel's type.
-fn named(handle: Handle) -> timer_base::Handle
+fn from_c_handle(handle: Handle) -> timer_base::Handle
     ensures { result ≡ record { place = handle.place; serial = handle.serial } }
 {
     timer_base::Handle {
@@ -278,7 +278,7 @@ fn named(handle: Handle) -> timer_base::Handle
 }
 
 /// An expired timer as C's struct.
-fn expired(timer: Timer) -> Expired
+fn to_c_expired(timer: Timer) -> Expired
     ensures { result ≡ tell timer }
 {
     Expired {

@@ -4,5 +4,5 @@ pub returns-clause-held : goal.returns-clause-held
 returns-clause-held c = record {
   wheel = c.wheel.result.now;
   held = c.wheel.ensures;
-  counted = c.counted.ensures.value;
+  counted = c.to_c_counts.ensures.value;
 }

@@ -17,5 +17,5 @@ loop-count-preserved g c =
     c.loop-count.invariant.taken first room c.expire.ensures.rest in
     record {
       taken = subst (λ (e : Expired). IsTaken (n + 1) c.args.out.now c.args.timers.now (slice_set out n e) c.expire.new.self)
-          (sym c.expired.ensures) next;
+          (sym c.to_c_expired.ensures) next;
     }

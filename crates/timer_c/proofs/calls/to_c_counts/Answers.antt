@@ -1,7 +1,7 @@
 use Rattle.std.proofs.Common.{ℕ, ◌*◌, ◌≤◌, sym, subst}
 use Rattle.timer_wheels.specs.HierWheel.{table_of, counts_of}
 use Rattle.timer_c.proofs.FewMoves.{few_moves}
-use Rattle.timer_c.proofs.calls.counted.Goals as goal
+use Rattle.timer_c.proofs.calls.to_c_counts.Goals as goal
 
 pub returns-clause-few_moves : goal.returns-clause-few_moves
 returns-clause-few_moves c =
