@@ -4,7 +4,7 @@ use Rattle.std.specs.Prelude.{Option, Some, None, map, take, drop, slice_get, sl
 use Rattle.timer_base.specs.declared.timer.Timer.{Timer}
 use Rattle.timer_base.specs.Pending.{Entry, timers_of}
 use Rattle.timer_base.specs.WheelState.{WheelState, first_due, after_expiry}
-use Rattle.timer_c.specs.declared.shapes.Expired.{Expired}
+use Rattle.timer_c.specs.declared.layout.Expired.{Expired}
 use Rattle.timer_c.specs.Outcomes.{tell, after_expiries}
 
 -- this many were taken, and are written over the front of the array

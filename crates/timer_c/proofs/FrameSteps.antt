@@ -4,20 +4,20 @@ use Rattle.std.specs.Prelude.{Some, None}
 use Rattle.timer_base.specs.declared.timer.Timer.{Timer}
 use Rattle.timer_base.specs.Pending.{Entry}
 use Rattle.timer_base.specs.WheelState.{WheelState, first_due, after_expiry}
-use Rattle.timer_c.specs.declared.held.Held.{Held}
-use Rattle.timer_c.specs.declared.slot.Slot.{Slot}
+use Rattle.timer_c.specs.declared.c_timers.CTimers.{CTimers}
+use Rattle.timer_c.specs.declared.owned_cell.OwnedCell.{OwnedCell}
 use Rattle.timer_c.specs.Lent.{with_state}
 use Rattle.timer_c.specs.Frames.{with_timers}
 
-abbrev pub holding : Held → Slot → Held
+abbrev pub holding : CTimers → OwnedCell → CTimers
 holding t slot = record t { slot = slot }
 
 -- where the slot was only read
-pub looked : (t : Held) (slot : Slot) → slot ≡ t.slot → holding t slot ≡ with_timers t slot.state
-looked t slot e = ap (λ (s : Slot). holding t (with_state s slot.state)) e
+pub looked : (t : CTimers) (slot : OwnedCell) → slot ≡ t.slot → holding t slot ≡ with_timers t slot.state
+looked t slot e = ap (λ (s : OwnedCell). holding t (with_state s slot.state)) e
 
 -- where the timers are what they were
-pub kept : (t : Held) (slot : Slot) (state : WheelState) → slot ≡ t.slot → state ≡ slot.state → holding t (with_state slot state) ≡ t
+pub kept : (t : CTimers) (slot : OwnedCell) (state : WheelState) → slot ≡ t.slot → state ≡ slot.state → holding t (with_state slot state) ≡ t
 kept t slot state e f = ap (λ (w : WheelState). holding t (with_state slot w)) f ∙ ap (holding t) e
 
 none_of : (t : Timer) → (Some t ≡ None) → ⊥

@@ -1,5 +1,5 @@
-pub mod ParkedParts
-pub mod SlotParts
+pub mod RawBoxParts
+pub mod OwnedCellParts
 pub mod Batches
 pub mod FrameSteps
 pub mod FewMoves

@@ -1,17 +1,17 @@
 -- What C holds, before and after a call.
 use Rattle.std.specs.Prelude.{◌≡◌, true, false}
 use Rattle.timer_base.specs.WheelState.{WheelState}
-use Rattle.timer_c.specs.declared.held.Held.{Held}
+use Rattle.timer_c.specs.declared.c_timers.CTimers.{CTimers}
 use Rattle.timer_c.specs.Slots.{is_open}
 
 -- it holds timers
-abbrev pub IsOpen : Held → Type 0
+abbrev pub IsOpen : CTimers → Type 0
 IsOpen t = is_open t.slot.mark ≡ true
 
 -- it holds none
-abbrev pub IsShut : Held → Type 0
+abbrev pub IsShut : CTimers → Type 0
 IsShut t = is_open t.slot.mark ≡ false
 
 -- the same, with timers of this state
-abbrev pub with_timers : Held → WheelState → Held
+abbrev pub with_timers : CTimers → WheelState → CTimers
 with_timers t state = record t { slot = record t.slot { state = state } }

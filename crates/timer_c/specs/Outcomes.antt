@@ -12,9 +12,9 @@ use Rattle.timer_wheels.specs.declared.hier.HierWheel.{HierWheel}
 use Rattle.timer_wheels.specs.declared.table.TheConstants.{LAST_OF_CLOCK}
 use Rattle.timer_total.specs.Refusals.{next_timer, timer_due, left_until, held_at, after_removal, IsStartable, IsAt}
 use Rattle.timer_total.specs.Ticks.{Passes, numbered}
-use Rattle.timer_c.specs.declared.shapes.Counts.{Counts}
-use Rattle.timer_c.specs.declared.shapes.Handle.{Handle}
-use Rattle.timer_c.specs.declared.shapes.Expired.{Expired}
+use Rattle.timer_c.specs.declared.layout.Counts.{Counts}
+use Rattle.timer_c.specs.declared.layout.Handle.{Handle}
+use Rattle.timer_c.specs.declared.layout.Expired.{Expired}
 use Rattle.timer_c.specs.declared.status.TheConstants.{NO_TABLE, NO_MEMORY, DUE, NOT_PENDING, ZERO_INTERVAL, TOO_LATE, SERIALS_SPENT, CLOCK_END, WIDE, CLOCK, NEVER}
 
 -- an empty wheel with this table, at its first tick, with this last serial

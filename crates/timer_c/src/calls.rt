@@ -7,7 +7,7 @@ ghost use Rattle.timer_total.specs.Refusals.{left_until};
 ghost use Rattle.timer_wheels.specs.HierWheel.{counts_of};
 ghost use Rattle.timer_c.specs.declared.status.TheConstants.{OK, NO_MEMORY};
 
-use crate::shapes::{Counts, Expired, Handle};
+use crate::layout::{Counts, Expired, Handle};
 use crate::status::{
     CLOCK_END, DUE, NEVER, NO_MEMORY, NOT_PENDING, OK, SERIALS_SPENT, TOO_LATE, ZERO_INTERVAL,
 };

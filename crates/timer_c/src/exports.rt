@@ -11,11 +11,11 @@ ghost use Rattle.timer_c.specs.Outcomes.{IsEmptyAt, IsOpenable, WhyNoWheel, IsSt
 ghost use Rattle.timer_c.specs.declared.status.TheConstants.{OK, NOT_OPEN, OPEN, NO_MEMORY, NEVER};
 ghost use Rattle.timer_total.specs.Refusals.{left_until};
 
+use crate::c_timers::CTimers;
 use crate::calls;
-use crate::held::Held;
+use crate::layout::{Counts, Expired, Handle};
 use crate::opening::wheel_of;
-use crate::parked::Parked;
-use crate::shapes::{Counts, Expired, Handle};
+use crate::raw_box::RawBox;
 use crate::status::{NEVER, NO_MEMORY, NOT_OPEN, OK, OPEN};
 use std::alloc::Global;
 use timer_total::Timers;
@@ -23,7 +23,7 @@ use timer_total::Timers;
 /// Makes timers with this table, none of them pending, at the first tick. `t` holds them until
 /// `timers_free`. Serials continue after those of the timers that `t` held before.
 #[unsafe(no_mangle)]
-pub extern "C" fn timers_new(alloc: Global, t: &mut Held, table: u32, first_tick: u64) -> u32
+pub extern "C" fn timers_new(alloc: Global, t: &mut CTimers, table: u32, first_tick: u64) -> u32
     ensures made { result ≡ OK → IsShut t.old × IsOpen t.new
         × IsEmptyAt table first_tick t.old.last_serial t.new.slot.state }
     ensures refused { 0 < result → ((result ≡ OPEN) × IsOpen t.old)
@@ -40,7 +40,7 @@ pub extern "C" fn timers_new(alloc: Global, t: &mut Held, table: u32, first_tick
     };
     match Box::new(alloc, Timers::over(wheel, t.last_serial)) {
         Ok(timers) => {
-            t.slot.put(Parked::park(timers));
+            t.slot.put(RawBox::park(timers));
             OK
         }
         Err(_) => NO_MEMORY,
@@ -49,7 +49,7 @@ pub extern "C" fn timers_new(alloc: Global, t: &mut Held, table: u32, first_tick
 
 /// Frees the timers, where there are any, and keeps their last serial.
 #[unsafe(no_mangle)]
-pub extern "C" fn timers_free(alloc: Global, t: &mut Held)
+pub extern "C" fn timers_free(alloc: Global, t: &mut CTimers)
     ensures shut { IsShut t.new }
     ensures serial { IsOpen t.old → t.new.last_serial ≡ t.old.slot.state.last_serial }
     ensures kept { IsShut t.old → t.new ≡ t.old }
@@ -62,7 +62,7 @@ pub extern "C" fn timers_free(alloc: Global, t: &mut Held)
 
 /// Makes room for `most` timers at one time, pending and expired ones together. Nothing else changes.
 #[unsafe(no_mangle)]
-pub extern "C" fn timers_reserve(t: &mut Held, most: usize) -> u32
+pub extern "C" fn timers_reserve(t: &mut CTimers, most: usize) -> u32
     ensures reserved { result ≡ OK → IsOpen t.old }
     ensures refused { 0 < result → ((result ≡ NOT_OPEN) × IsShut t.old)
         ⊎ (IsOpen t.old × (result ≡ NO_MEMORY)) }
@@ -76,7 +76,12 @@ pub extern "C" fn timers_reserve(t: &mut Held, most: usize) -> u32
 
 /// Starts a timer that expires after `interval` ticks, and writes its handle.
 #[unsafe(no_mangle)]
-pub extern "C" fn timers_start(t: &mut Held, interval: u64, action: u64, handle: &mut Handle) -> u32
+pub extern "C" fn timers_start(
+    t: &mut CTimers,
+    interval: u64,
+    action: u64,
+    handle: &mut Handle,
+) -> u32
     ensures started { result ≡ OK → IsOpen t.old × IsStarted interval action t.old.slot.state t.new.slot.state
         handle.new }
     ensures refused { 0 < result → ((result ≡ NOT_OPEN) × IsShut t.old)
@@ -93,7 +98,7 @@ pub extern "C" fn timers_start(t: &mut Held, interval: u64, action: u64, handle:
 /// Starts a timer that expires at this tick, and writes its handle.
 #[unsafe(no_mangle)]
 pub extern "C" fn timers_start_at(
-    t: &mut Held,
+    t: &mut CTimers,
     deadline: u64,
     action: u64,
     handle: &mut Handle,
@@ -115,7 +120,7 @@ pub extern "C" fn timers_start_at(
 /// place, and writes its handle.
 #[unsafe(no_mangle)]
 pub extern "C" fn timers_restart(
-    t: &mut Held,
+    t: &mut CTimers,
     handle: Handle,
     interval: u64,
     action: u64,
@@ -137,7 +142,7 @@ pub extern "C" fn timers_restart(
 /// Stops the timer with exactly this handle as `timers_restart`, and starts one that expires at this tick.
 #[unsafe(no_mangle)]
 pub extern "C" fn timers_restart_at(
-    t: &mut Held,
+    t: &mut CTimers,
     handle: Handle,
     deadline: u64,
     action: u64,
@@ -159,7 +164,7 @@ pub extern "C" fn timers_restart_at(
 
 /// Writes the timer with exactly this handle, pending or expired and not yet taken, and changes nothing.
 #[unsafe(no_mangle)]
-pub extern "C" fn timers_look(t: &mut Held, handle: Handle, out: &mut Expired) -> u32
+pub extern "C" fn timers_look(t: &mut CTimers, handle: Handle, out: &mut Expired) -> u32
     ensures seen { result ≡ OK → IsOpen t.old × IsSeen handle t.old.slot.state out.new }
     ensures refused { 0 < result → ((result ≡ NOT_OPEN) × IsShut t.old)
         ⊎ (IsOpen t.old × WhyNotStopped handle t.old.slot.state result) }
@@ -174,7 +179,7 @@ pub extern "C" fn timers_look(t: &mut Held, handle: Handle, out: &mut Expired) -
 
 /// Stops the timer with exactly this handle, pending or expired and not yet taken, and writes its action.
 #[unsafe(no_mangle)]
-pub extern "C" fn timers_stop(t: &mut Held, handle: Handle, action: &mut u64) -> u32
+pub extern "C" fn timers_stop(t: &mut CTimers, handle: Handle, action: &mut u64) -> u32
     ensures stopped { result ≡ OK → IsOpen t.old × IsStopped handle t.old.slot.state t.new.slot.state
         action.new }
     ensures refused { 0 < result → ((result ≡ NOT_OPEN) × IsShut t.old)
@@ -190,7 +195,7 @@ pub extern "C" fn timers_stop(t: &mut Held, handle: Handle, action: &mut u64) ->
 
 /// Advances the clock by one tick. The timers that expire wait for `timers_expire`.
 #[unsafe(no_mangle)]
-pub extern "C" fn timers_tick(t: &mut Held) -> u32
+pub extern "C" fn timers_tick(t: &mut CTimers) -> u32
     ensures ticked { result ≡ OK → IsOpen t.old × IsTicked t.old.slot.state t.new.slot.state }
     ensures refused { 0 < result → ((result ≡ NOT_OPEN) × IsShut t.old)
         ⊎ (IsOpen t.old × WhyNotTicked t.old.slot.state result) }
@@ -206,7 +211,7 @@ pub extern "C" fn timers_tick(t: &mut Held) -> u32
 /// Passes at most `most` ticks, stops at the first at which a timer expires, and writes how many were
 /// passed: 0 only where `most` is 0.
 #[unsafe(no_mangle)]
-pub extern "C" fn timers_advance(t: &mut Held, most: u64, passed: &mut u64) -> u32
+pub extern "C" fn timers_advance(t: &mut CTimers, most: u64, passed: &mut u64) -> u32
     ensures advanced { result ≡ OK → IsOpen t.old × IsAdvanced most passed.new t.old.slot.state
         t.new.slot.state }
     ensures refused { 0 < result → ((result ≡ NOT_OPEN) × IsShut t.old)
@@ -222,7 +227,7 @@ pub extern "C" fn timers_advance(t: &mut Held, most: u64, passed: &mut u64) -> u
 
 /// Takes the first of the expired timers. Returns whether there was one.
 #[unsafe(no_mangle)]
-pub extern "C" fn timers_expire(t: &mut Held, out: &mut Expired) -> bool
+pub extern "C" fn timers_expire(t: &mut CTimers, out: &mut Expired) -> bool
     ensures first { result ≡ true → IsOpen t.old × (told (first_due t.old.slot.state) ≡ Some out.new) }
     ensures none { result ≡ false → (t.new ≡ t.old) × (out.new ≡ out.old) }
     ensures drained { result ≡ false → IsOpen t.old → first_due t.old.slot.state ≡ None }
@@ -237,7 +242,7 @@ pub extern "C" fn timers_expire(t: &mut Held, out: &mut Expired) -> bool
 
 /// Takes the first of the expired timers, as many as fit into `out`. Returns how many.
 #[unsafe(no_mangle)]
-pub extern "C" fn timers_expire_batch(t: &mut Held, out: &mut [Expired]) -> usize
+pub extern "C" fn timers_expire_batch(t: &mut CTimers, out: &mut [Expired]) -> usize
     ensures count { IsOpen t.old → result ≡ min (length out.old) (length t.old.slot.state.due) }
     ensures told { IsOpen t.old → out.new ≡ map tell (take result (timers_of t.old.slot.state.due))
         ++ drop result out.old }
@@ -253,7 +258,7 @@ pub extern "C" fn timers_expire_batch(t: &mut Held, out: &mut [Expired]) -> usiz
 
 /// Whether a timer expired and was not yet taken.
 #[unsafe(no_mangle)]
-pub extern "C" fn timers_has_due(t: &mut Held) -> bool
+pub extern "C" fn timers_has_due(t: &mut CTimers) -> bool
     ensures due { IsOpen t.old → (IsTrue result ↔ (0 < length t.old.slot.state.due)) }
     ensures not_open { IsShut t.old → result ≡ false }
     ensures same { t.new ≡ t.old }
@@ -266,7 +271,7 @@ pub extern "C" fn timers_has_due(t: &mut Held) -> bool
 
 /// The present tick, or 0 where no timers are held.
 #[unsafe(no_mangle)]
-pub extern "C" fn timers_now(t: &mut Held) -> u64
+pub extern "C" fn timers_now(t: &mut CTimers) -> u64
     ensures now { IsOpen t.old → result ≡ t.old.slot.state.now }
     ensures not_open { IsShut t.old → result ≡ 0 }
     ensures same { t.new ≡ t.old }
@@ -280,7 +285,7 @@ pub extern "C" fn timers_now(t: &mut Held) -> u64
 /// How many timers are pending, or 0 where no timers are held. Expired timers that were not yet taken are
 /// not counted.
 #[unsafe(no_mangle)]
-pub extern "C" fn timers_len(t: &mut Held) -> usize
+pub extern "C" fn timers_len(t: &mut CTimers) -> usize
     ensures pending { IsOpen t.old → result ≡ length t.old.slot.state.pending }
     ensures not_open { IsShut t.old → result ≡ 0 }
     ensures same { t.new ≡ t.old }
@@ -294,7 +299,7 @@ pub extern "C" fn timers_len(t: &mut Held) -> usize
 /// The tick until which C may sleep: the present one where an expired timer waits, `NEVER` where
 /// nothing is pending or no timers are held, and otherwise one before which nothing expires.
 #[unsafe(no_mangle)]
-pub extern "C" fn timers_wakeup(t: &mut Held) -> u64
+pub extern "C" fn timers_wakeup(t: &mut CTimers) -> u64
     ensures tick { IsOpen t.old → IsNextCall result t.old.slot.state }
     ensures not_open { IsShut t.old → result ≡ NEVER }
     ensures same { t.new ≡ t.old }
@@ -308,7 +313,7 @@ pub extern "C" fn timers_wakeup(t: &mut Held) -> u64
 /// The deadline of the timer that is handed out next: the present tick when an expired one waits, `NEVER`
 /// when no timer is held, and otherwise exactly the first pending deadline.
 #[unsafe(no_mangle)]
-pub extern "C" fn timers_next(t: &mut Held) -> u64
+pub extern "C" fn timers_next(t: &mut CTimers) -> u64
     ensures deadline { IsOpen t.old → IsNextDeadline result t.old.slot.state }
     ensures not_open { IsShut t.old → result ≡ NEVER }
     ensures same { t.new ≡ t.old }
@@ -323,7 +328,7 @@ pub extern "C" fn timers_next(t: &mut Held) -> u64
 /// and moves the cursor past it. Returns whether there was one.
 #[unsafe(no_mangle)]
 pub extern "C" fn timers_each(
-    t: &mut Held,
+    t: &mut CTimers,
     cursor: &mut usize,
     handle: &mut Handle,
     out: &mut Expired,
@@ -344,7 +349,7 @@ pub extern "C" fn timers_each(
 /// Writes what the wheels counted since `timers_new`, and changes nothing. The counts are those of a wheel in
 /// the state that is held: the contracts of the other calls show that state, and no counts.
 #[unsafe(no_mangle)]
-pub extern "C" fn timers_counts(t: &mut Held, counts: &mut Counts) -> u32
+pub extern "C" fn timers_counts(t: &mut CTimers, counts: &mut Counts) -> u32
     ensures counted { result ≡ OK → IsOpen t.old × AreCountsOf t.old.slot.state counts.new }
     ensures few_moves { result ≡ OK → counts.new.moves ≤ 9 * counts.new.starts }
     ensures refused { 0 < result → (result ≡ NOT_OPEN) × IsShut t.old }

@@ -1,7 +1,7 @@
 use Rattle.std.proofs.Common.{◌≡◌, ◌+◌, ◌<◌, ◌∙◌, length, sym, subst, arith}
 use Rattle.std.specs.Prelude.{Some, slice_set}
 use Rattle.timer_base.specs.WheelState.{first_due}
-use Rattle.timer_c.specs.declared.shapes.Expired.{Expired}
+use Rattle.timer_c.specs.declared.layout.Expired.{Expired}
 use Rattle.timer_c.proofs.Batches.{IsTaken, taken_none, taken_next}
 use Rattle.timer_c.proofs.calls.expire_batch.Goals as goal
 

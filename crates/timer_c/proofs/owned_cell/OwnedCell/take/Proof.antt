@@ -26,13 +26,13 @@ use Rattle.std.proofs.raw_atomic.Walks.{proved}
 use Rattle.std.specs.Box.Ownership.{box_owns}
 use Rattle.std_heap.proofs.Handle.{heap_val, heap_Tells}
 use Rattle.timer_c.specs.Slots.{is_open, owned_if, token}
-use Rattle.timer_c.specs.contracts.slot.Slot.{the_row as S}
-use Rattle.timer_c.proofs.slot.Slot.TheLaws.{lowers}
-use Rattle.timer_c.proofs.ParkedParts.{two, fits_first, pack}
-use Rattle.timer_c.proofs.SlotParts.{T, Z, LZ, G, word, shut}
-use Rattle.timer_c.specs.contracts.slot.Slot.take as f
-use Rattle.timer_c.proofs.slot.Slot.take.Statement.{statement}
-use Rattle.timer_c.proofs.slot.Slot.take.Code as code
+use Rattle.timer_c.specs.contracts.owned_cell.OwnedCell.{the_row as S}
+use Rattle.timer_c.proofs.owned_cell.OwnedCell.TheLaws.{lowers}
+use Rattle.timer_c.proofs.RawBoxParts.{two, fits_first, pack}
+use Rattle.timer_c.proofs.OwnedCellParts.{T, Z, LZ, G, word, shut}
+use Rattle.timer_c.specs.contracts.owned_cell.OwnedCell.take as f
+use Rattle.timer_c.proofs.owned_cell.OwnedCell.take.Statement.{statement}
+use Rattle.timer_c.proofs.owned_cell.OwnedCell.take.Code as code
 
 abbrev stayed : Stays f.ended.signature.params f.ended.kept
 stayed = (stay_ref (0 ∷ []) tt (plain (λ _. S)), (stay_dropped (plain (λ _. Z)) yes, tt))

@@ -22,8 +22,8 @@ use Rattle.std_heap.specs.contracts.GlobalAllocator.TheImpl.{ghosts}
 use Rattle.std_heap.proofs.Global.TheLaws as heap
 use Rattle.timer_c.specs.Slots.{owned_at, the_timers}
 use Rattle.timer_base.specs.WheelState.{WheelState}
-use Rattle.timer_c.specs.contracts.slot.Slot as slot
-use Rattle.timer_c.proofs.ParkedParts.{two, Parked}
+use Rattle.timer_c.specs.contracts.owned_cell.OwnedCell as slot
+use Rattle.timer_c.proofs.RawBoxParts.{two, RawBox}
 
 abbrev pub T : RattleType
 T = the_timers
@@ -38,7 +38,7 @@ abbrev pub G : Ghosts Z.Denot
 G = ghosts
 
 abbrev pub P : RattleType
-P = Parked T Z LZ G
+P = RawBox T Z LZ G
 
 abbrev pub word : ℕ → ℕ → ℕ → Val
 word mark b o = two (vptr b o) (vint w64 mark)

@@ -15,7 +15,7 @@ use Rattle.timer_wheels.specs.contracts.hier.HierWheelWheel.TheImpl as wheel
 use Rattle.timer_wheels.proofs.hier.HierWheel.TheSendSync as hier'
 use Rattle.timer_total.proofs.timers.Timers.TheSendSync as timers'
 use Rattle.timer_c.specs.Slots.{is_open, owned_if, heap, the_timers}
-use Rattle.timer_c.specs.contracts.slot.Slot.{the_row, the_type}
+use Rattle.timer_c.specs.contracts.owned_cell.OwnedCell.{the_row, the_type}
 
 timers_send : IsSend the_timers
 timers_send = timers'.the_send hier.the_row wheel.ghosts hier'.the_send

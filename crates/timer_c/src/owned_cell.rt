@@ -1,6 +1,6 @@
 //! The two machine words by which C's struct owns the timers on the heap.
 //!
-//! All code that touches a raw pointer is here and in `parked`. A slot whose mark is `HELD` owns the
+//! All code that touches a raw pointer is here and in `raw_box`. A slot whose mark is `HELD` owns the
 //! timers at its address and the right to free their block; a slot with any other mark owns nothing,
 //! so that a struct whose bytes are all 0 is an empty slot. Its ghost field is the state of the timers.
 ghost use Rattle.std.specs.Prelude.{◌≡◌, true, false};
@@ -8,7 +8,7 @@ ghost use Rattle.std.specs.Borrow.{Lends, sem};
 ghost use Rattle.timer_base.specs.WheelState.{WheelState};
 ghost use Rattle.timer_c.specs.Slots.{is_open};
 
-use crate::parked::Parked;
+use crate::raw_box::RawBox;
 use std::alloc::Global;
 use std::marker::Model;
 use timer_total::Timers;
@@ -19,19 +19,19 @@ pub const HELD: u64 = 1;
 
 /// The timers on the heap, if it holds any.
 #[repr(C)]
-pub struct Slot {
+pub struct OwnedCell {
     at: *mut u8,
     pub mark: u64,
     pub ghost state: { WheelState },
 }
 
-impl Model for Slot {
+impl Model for OwnedCell {
     ghost use Rattle.timer_c.specs.Slots.{owned_at};
 
     ghost also_owns = { λ s. owned_at s.mark s.at s.state };
 }
 
-impl Slot {
+impl OwnedCell {
     /// Whether it holds timers.
     pub(crate) fn holds(&mut self) -> bool
         ensures value { result ≡ is_open self.old.mark }
@@ -44,13 +44,13 @@ impl Slot {
     ghost use Rattle.timer_c.specs.Lent.{with_state, the_timers, the_slot};
 
     /// Keeps the timers. What the slot owned before would be lost, so it must be empty.
-    pub(crate) fn put(&mut self, timers: Parked<Timers<HierWheel>, Global>)
+    pub(crate) fn put(&mut self, timers: RawBox<Timers<HierWheel>, Global>)
         requires { is_open self.old.mark ≡ false }
         ensures open { self.new.mark ≡ HELD }
         ensures state { self.new.state ≡ timers.value }
     {
         // Ownership of the value moves with its address. The allocator is always the heap.
-        let Parked { alloc: _, at } = timers;
+        let RawBox { alloc: _, at } = timers;
         // C sees an address of bytes. The slot was empty, so its old address pointed to nothing.
         self.at = at as *mut u8;
         // From here on the slot owns what is at that address.
@@ -58,15 +58,15 @@ impl Slot {
     }
 
     /// Gives the timers back, and is empty.
-    pub(crate) fn take(&mut self, alloc: Global) -> Parked<Timers<HierWheel>, Global>
+    pub(crate) fn take(&mut self, alloc: Global) -> RawBox<Timers<HierWheel>, Global>
         requires { is_open self.old.mark ≡ true }
         ensures shut { self.new.mark ≡ 0 }
         ensures state { result.value ≡ self.old.state }
     {
         // From here on the slot owns nothing, and the address that stays in it is never followed.
         self.mark = 0;
-        // The same address, as one of timers: the parked box owns what the slot owned.
-        Parked {
+        // The same address, as one of timers: the raw box owns what the slot owned.
+        RawBox {
             alloc,
             at: self.at as *mut Timers<HierWheel>,
         }
@@ -84,5 +84,5 @@ impl Slot {
     }
 }
 
-// The timers may go to another thread, and their block may be freed there (proofs/slot/Slot/TheSendSync).
-unsafe impl Send for Slot {}
+// The timers may go to another thread, and their block may be freed there (proofs/owned_cell/OwnedCell/TheSendSync).
+unsafe impl Send for OwnedCell {}

@@ -31,19 +31,19 @@ use Rattle.core.proofs.cell.Inside.{Good}
 use Rattle.std_alloc.proofs.BoxSteps.Form as box
 use Rattle.std_alloc.proofs.BoxSteps.Steps.{box_out, box_in}
 use Rattle.std.proofs.raw_atomic.Walks.{proved_at, leaves}
-use Rattle.timer_c.proofs.ParkedParts.{two, Parked, fits_first, fits_last, unpack}
+use Rattle.timer_c.proofs.RawBoxParts.{two, RawBox, fits_first, fits_last, unpack}
 use Rattle.std_alloc.specs.contracts.boxed.Box.from_raw as callee
 use Rattle.std_alloc.proofs.boxed.Box.from_raw.Met.{met}
-use Rattle.timer_c.specs.contracts.parked.Parked.unpark as f
-use Rattle.timer_c.proofs.parked.Parked.unpark.Statement.{statement}
-use Rattle.timer_c.proofs.parked.Parked.unpark.Code as code
+use Rattle.timer_c.specs.contracts.raw_box.RawBox.unpark as f
+use Rattle.timer_c.proofs.raw_box.RawBox.unpark.Statement.{statement}
+use Rattle.timer_c.proofs.raw_box.RawBox.unpark.Code as code
 
 pub unpark_spec : {M : Type 1} → statement M
 unpark_spec 𝓤 𝓛 𝓜 𝓡 wired T A L LA g d dx dd allocator glue glued =
     let R : RattleType = param 0 T in let Z : RattleType = param 1 A in let LZ = param_laws 1 A LA in
     let E : box.Bx = record { row = T; laws = L; al = record { row = A; laws = LA; g = g; d = d; drops = dd } }
     in let B : RattleType = box.B E in
-    let P : RattleType = Parked R Z LZ g in
+    let P : RattleType = RawBox R Z LZ g in
     let En = f.ended T A g d dx dd in let c = f.clauses T A g d dx dd 𝓛 𝓜.mem 𝓡.returns in
     let at = bounded (a_type ∷ a_type ∷ []) (T, (A, tt)) (dcons d (dcons dx (dcons dd dnil))) in let fn = inst_fn at code.function in
     let stays : Stays En.signature.params En.kept = (stay_dropped (plain (λ _. P)) no, tt) in

@@ -17,11 +17,11 @@ use denote.Triple.Walked.{Stays, walk_of, stay_ref, Goes-ref, ends_at}
 use Rattle.core.proofs.mem.Facts.{says_two}
 use Rattle.std.proofs.raw_atomic.Walks.{proved}
 use Rattle.timer_c.specs.Slots.{is_open}
-use Rattle.timer_c.specs.contracts.slot.Slot.{the_row as S}
-use Rattle.timer_c.proofs.slot.Slot.TheLaws.{lowers, the_row_laws}
-use Rattle.timer_c.specs.contracts.slot.Slot.holds as f
-use Rattle.timer_c.proofs.slot.Slot.holds.Statement.{statement}
-use Rattle.timer_c.proofs.slot.Slot.holds.Code as code
+use Rattle.timer_c.specs.contracts.owned_cell.OwnedCell.{the_row as S}
+use Rattle.timer_c.proofs.owned_cell.OwnedCell.TheLaws.{lowers, the_row_laws}
+use Rattle.timer_c.specs.contracts.owned_cell.OwnedCell.holds as f
+use Rattle.timer_c.proofs.owned_cell.OwnedCell.holds.Statement.{statement}
+use Rattle.timer_c.proofs.owned_cell.OwnedCell.holds.Code as code
 
 abbrev stayed : Stays f.ended.signature.params f.ended.kept
 stayed = (stay_ref (0 ∷ []) tt (plain (λ _. S)), tt)

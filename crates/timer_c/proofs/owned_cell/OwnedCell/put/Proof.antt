@@ -24,13 +24,13 @@ use denote.Triple.Walked.{Stays, walk_of, stay_dropped, Goes-dropped, stay_ref, 
 use Rattle.core.proofs.mem.Facts.{says_two}
 use Rattle.std.proofs.raw_atomic.Walks.{proved_at}
 use Rattle.timer_c.specs.Slots.{is_open}
-use Rattle.timer_c.specs.contracts.slot.Slot.{the_row as S}
-use Rattle.timer_c.proofs.slot.Slot.TheLaws.{lowers}
-use Rattle.timer_c.proofs.ParkedParts.{two, fits_first, unpack}
-use Rattle.timer_c.proofs.SlotParts.{T, Z, LZ, G, P, word, shut}
-use Rattle.timer_c.specs.contracts.slot.Slot.put as f
-use Rattle.timer_c.proofs.slot.Slot.put.Statement.{statement}
-use Rattle.timer_c.proofs.slot.Slot.put.Code as code
+use Rattle.timer_c.specs.contracts.owned_cell.OwnedCell.{the_row as S}
+use Rattle.timer_c.proofs.owned_cell.OwnedCell.TheLaws.{lowers}
+use Rattle.timer_c.proofs.RawBoxParts.{two, fits_first, unpack}
+use Rattle.timer_c.proofs.OwnedCellParts.{T, Z, LZ, G, P, word, shut}
+use Rattle.timer_c.specs.contracts.owned_cell.OwnedCell.put as f
+use Rattle.timer_c.proofs.owned_cell.OwnedCell.put.Statement.{statement}
+use Rattle.timer_c.proofs.owned_cell.OwnedCell.put.Code as code
 
 abbrev stayed : Stays f.ended.signature.params f.ended.kept
 stayed = (stay_ref (0 ∷ []) tt (plain (λ _. S)), (stay_dropped (plain (λ _. P)) yes, tt))

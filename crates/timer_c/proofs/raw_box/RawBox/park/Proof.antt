@@ -32,12 +32,12 @@ use Rattle.std.specs.Box.Ownership.{box_owns}
 use Rattle.std_alloc.proofs.BoxSteps.Form as box
 use Rattle.std_alloc.proofs.BoxSteps.Steps.{box_out, box_in}
 use Rattle.std.proofs.raw_atomic.Walks.{proved_at, leaves}
-use Rattle.timer_c.proofs.ParkedParts.{two, fits_first, fits_last, pack}
+use Rattle.timer_c.proofs.RawBoxParts.{two, fits_first, fits_last, pack}
 use Rattle.std_alloc.specs.contracts.boxed.Box.into_raw_with_allocator as callee
 use Rattle.std_alloc.proofs.boxed.Box.into_raw_with_allocator.Met.{met}
-use Rattle.timer_c.specs.contracts.parked.Parked.park as f
-use Rattle.timer_c.proofs.parked.Parked.park.Statement.{statement}
-use Rattle.timer_c.proofs.parked.Parked.park.Code as code
+use Rattle.timer_c.specs.contracts.raw_box.RawBox.park as f
+use Rattle.timer_c.proofs.raw_box.RawBox.park.Statement.{statement}
+use Rattle.timer_c.proofs.raw_box.RawBox.park.Code as code
 
 pub park_spec : {M : Type 1} → statement M
 park_spec 𝓤 𝓛 𝓜 𝓡 wired T A L LA g d dx dd allocator glue glued =
@@ -82,7 +82,7 @@ park_spec 𝓤 𝓛 𝓜 𝓡 wired T A L LA g d dx dd allocator glue glued =
     -- [the allocator; nothing; the tokens; what the box owned]
     lands_as ! (ap only (eu ∙ (λ j. vstruct (of_list ((ep ∙ ap (λ (p : Ptr). ptr_val p ∷ []) e') j ++ (eh j ++ []))) ∷ []))) refl
     (fits_last (layout Z) b' o' h' fits') $
-    -- the allocator first, then the address, and both as a `Parked`
+    -- the allocator first, then the address, and both as a `RawBox`
     sets ! (of_opd ! (get_in ! (fld ! refl (stop !)) (sub ! 1 refl (whole !)))) refl fits' $
     sets ! (of_opd ! (get_in ! (fld ! refl (stop !)) (sub ! 0 refl (whole !)))) refl (tt, tt) $
     sets ! (agg ! (and_then ! (get ! refl) (and_then ! (get ! refl) (no_more !)))) refl (fits_first (layout Z) b' o' h' fits') $

@@ -27,7 +27,7 @@ use Rattle.core.specs.declared.alloc.Allocator.{Ghosts}
 use Rattle.core.proofs.alloc.Calls.{Al, handle_tells}
 use Rattle.core.proofs.cell.Inside.{Good}
 use Rattle.std.specs.Box.Ownership.{box_owns}
-use Rattle.timer_c.specs.contracts.parked.Parked as parked
+use Rattle.timer_c.specs.contracts.raw_box.RawBox as parked
 
 abbrev pub two : Val → Val → Val
 two v w = vstruct (vcons v (vcons w vnil))
@@ -43,17 +43,17 @@ pub fits_last : (α : Ty) (b o : ℕ) (word : Val) → T (has_ty α word) × WT 
 fits_last α b o word fits = (and_true (has_ty α word) fits.0, (tt, (fits.1, tt)))
 
 module _ (R Z : RattleType) (L : Laws Z) (g : Ghosts Z.Denot) where
-  abbrev pub Parked : RattleType
-  Parked = parked.the_row R Z g
+  abbrev pub RawBox : RattleType
+  RawBox = parked.the_row R Z g
 
   abbrev by : Al
   by = record { row = Z; laws = L; g = g; d = impl [] tnil dnil; drops = impl [] tnil dnil }
 
   module _ {M : Type 1} {𝓤 : Ura M} {𝓛 : Logic 𝓤} {K : Type 0} {Γ : List (Item 𝓤)} {G : Goal 𝓤 𝓛.H} where
-    pub unpack : K → (p : Parked.Denot) (vs : List Val)
+    pub unpack : K → (p : RawBox.Denot) (vs : List Val)
         → ((b o : ℕ) (word : Val) → p.at ≡ block_ptr b o → vs ≡ two word (vptr b o) ∷ [] → Good (layout Z) word
         → Seq K 𝓛 (‵ (Z.own_val p.alloc (word ∷ [])) ∷ ‵ (box_owns (g.dealloc_token p.alloc) R (block_ptr b o) p.value) ∷ Γ) G)
-        → Seq K 𝓛 (‵ (Parked.own_val p vs) ∷ Γ) G
+        → Seq K 𝓛 (‵ (RawBox.own_val p vs) ∷ Γ) G
     unpack t p vs rest =
         -- the fields apart from what is owned beside them
         fsplit t $ fpick t (λ words. fsplit t $ feq_l t (λ stored. fsplit t $
@@ -70,7 +70,7 @@ module _ (R Z : RattleType) (L : Laws Z) (g : Ghosts Z.Denot) where
         (subst (λ (ws : List Val). vs ≡ vstruct (of_list (ws ++ (words.1.0 ++ []))) ∷ []) one stored))) fits)))))
 
     pub pack : K → (b o : ℕ) (word : Val) (a : Z.Denot) (x : R.Denot)
-        → Step K 𝓛 (‵ (Parked.own_val (record { alloc = a; at = block_ptr b o; value = x }) (two word (vptr b o) ∷ [])) ∷ Γ) G
+        → Step K 𝓛 (‵ (RawBox.own_val (record { alloc = a; at = block_ptr b o; value = x }) (two word (vptr b o) ∷ [])) ∷ Γ) G
         (‵ (Z.own_val a (word ∷ [])) ∷ ‵ (box_owns (g.dealloc_token a) R (block_ptr b o) x) ∷ Γ) G
     pack t b o word a x = step (λ rest.
         nothing t $ feq_i t (List Val) (vptr b o ∷ []) (vptr b o ∷ []) refl $ fjoin t $ move t (1 ∷ 0 ∷ []) $ fjoin t $

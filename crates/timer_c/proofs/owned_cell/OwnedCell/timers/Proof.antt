@@ -32,12 +32,12 @@ use Rattle.std.specs.Box.Ownership.{box_owns}
 use Rattle.timer_c.specs.Slots.{is_open, owned_if, the_timers, token}
 use Rattle.timer_base.specs.WheelState.{WheelState}
 use Rattle.timer_c.specs.Lent.{with_state}
-use Rattle.timer_c.specs.contracts.slot.Slot as slot
-use Rattle.timer_c.specs.contracts.slot.Slot.{the_row as S}
-use Rattle.timer_c.proofs.slot.Slot.TheLaws.{lowers}
-use Rattle.timer_c.specs.contracts.slot.Slot.timers as f
-use Rattle.timer_c.proofs.slot.Slot.timers.Statement.{statement}
-use Rattle.timer_c.proofs.slot.Slot.timers.Code as code
+use Rattle.timer_c.specs.contracts.owned_cell.OwnedCell as slot
+use Rattle.timer_c.specs.contracts.owned_cell.OwnedCell.{the_row as S}
+use Rattle.timer_c.proofs.owned_cell.OwnedCell.TheLaws.{lowers}
+use Rattle.timer_c.specs.contracts.owned_cell.OwnedCell.timers as f
+use Rattle.timer_c.proofs.owned_cell.OwnedCell.timers.Statement.{statement}
+use Rattle.timer_c.proofs.owned_cell.OwnedCell.timers.Code as code
 
 abbrev stayed : Stays f.ended.signature.params f.ended.kept
 stayed = (stay_dropped (mut_ref_to (0 ∷ []) tt (plain (λ _. S))) no, tt)
