@@ -48,6 +48,8 @@ mod driving_tests;
 #[cfg(test)]
 mod locked_tests;
 #[cfg(test)]
+mod reader_tests;
+#[cfg(test)]
 mod tests;
 #[cfg(test)]
 mod ticking_tests;
