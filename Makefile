@@ -11,7 +11,7 @@
 # make bench-lines measures the owner's desk, ring lines and clients in threads against others
 # make bench-scale measures an operation with 1,000 to 10,000,000 timers pending (bench/build/scale.csv and .svg)
 # make bench-tail  measures how long single ticks and starts take (bench/build/tail.csv and .svg)
-# make bench-desk  measures client threads in C, over a desk and around a mutex (bench/build/desk.csv)
+# make bench-desk  measures client threads over a desk, over C++ rings and around a mutex (bench/build/desk.csv)
 # make docs        makes docs/pages and docs/hierarchy.svg from the scripts of examples/, and counts lines for docs/proofs.md
 # make hostile     the program under memory limits and input and output errors
 # make fuzz        an hour of scripts, against a model of docs/formats.md (MINUTES=N)

@@ -1,11 +1,13 @@
 #!/usr/bin/env python3
-"""Measures a desk from C beside the same threads around a mutex, and prints the rows as a Markdown table.
+"""Measures a desk from C beside the same threads over C++ rings and around a mutex, and prints the rows as a Markdown table.
 
-    desk.py [--program PROGRAM] [--clients 1,8,64] [--cores 1,2,4] [--repeats N] [--timers N] [--limit SECONDS] [--csv FILE]
+    desk.py [--program PROGRAM] [--ring PROGRAM] [--clients 1,8,64] [--cores 1,2,4] [--repeats N] [--timers N] [--limit SECONDS]
+            [--csv FILE]
 
-PROGRAM is build/desk_threads: bench/desk_threads.c says what it does and what it times. Each row is one number of clients
-and of cores: a desk with lines of 64 (and room for 1,024 words), one with lines of 1,024 (room 4,096), and the mutex. The
-three take turns. Rates are medians of the repeats, and so are percentiles; `most` is the most of all repeats.
+The programs are build/desk_threads and build/desk_ring: bench/desk_threads.c says what a client does and what is timed, and
+bench/desk_ring.cpp what the owner of the rings does. Each row is one number of clients and of cores: a desk with lines of 64
+(and room for 1,024 words), one with lines of 1,024 (room 4,096), C++ rings of both sizes, and the mutex. The five take
+turns. Rates are medians of the repeats, and so are percentiles; `most` is the most of all repeats.
 
 --limit is for all runs together, 170 seconds by default. Rows that are not reached by then are left out, and a line says how
 many; a run that is not done after 30 seconds ends the measurement. Status 1: a run failed; 2: wrong arguments.
@@ -14,7 +16,11 @@ import argparse, csv, os, statistics, subprocess, sys, time
 
 HERE = os.path.dirname(os.path.abspath(__file__))
 CORES = sorted(os.sched_getaffinity(0))
-WAYS = {"desk, line 64": ("desk", "64", "1024"), "desk, line 1,024": ("desk", "1024", "4096"), "mutex": ("mutex",)}
+SIZES = {"line 64": ["64", "1024"], "line 1,024": ["1024", "4096"]}
+# The program of each way, what comes before the numbers of clients and timers, and what comes after them.
+WAYS = {f"desk, {name}": ("program", ["desk"], sizes) for name, sizes in SIZES.items()}
+WAYS |= {f"C++ ring, {name}": ("ring", [], sizes) for name, sizes in SIZES.items()}
+WAYS["mutex"] = ("program", ["mutex"], [])
 FIELDS = ["words", "seconds", "start_p50", "start_p999", "start_most", "answer_p50", "answer_p999", "answer_most"]
 
 
@@ -23,10 +29,10 @@ def fail(text, status=1):
     sys.exit(status)
 
 
-def run(program, way, clients, timers, cores):
+def run(programs, way, clients, timers, cores):
     """The numbers that one run prints, by name."""
-    mode, *sizes = WAYS[way]
-    command = [program, mode, str(clients), str(timers), *sizes]
+    program, mode, sizes = WAYS[way]
+    command = [programs[program], *mode, str(clients), str(timers), *sizes]
     try:
         done = subprocess.run(command, stdin=subprocess.DEVNULL, capture_output=True, text=True, timeout=30,
                               preexec_fn=lambda: os.sched_setaffinity(0, set(CORES[:cores])))
@@ -69,6 +75,7 @@ def numbers(text):
 def main():
     parser = argparse.ArgumentParser(allow_abbrev=False)
     parser.add_argument("--program", default=os.path.join(HERE, "build", "desk_threads"))
+    parser.add_argument("--ring", default=os.path.join(HERE, "build", "desk_ring"))
     parser.add_argument("--clients", type=numbers, default=[1, 8, 64])
     parser.add_argument("--cores", type=numbers, default=[1, 2, 4])
     parser.add_argument("--repeats", type=int, default=3)
@@ -76,8 +83,10 @@ def main():
     parser.add_argument("--limit", type=float, default=170)
     parser.add_argument("--csv")
     options = parser.parse_args()
-    if not os.access(options.program, os.X_OK):
-        fail(f"{options.program} is not built: make -C bench build/desk_threads TIMERS_C=..", 2)
+    programs = {"program": options.program, "ring": options.ring}
+    for program in programs.values():
+        if not os.access(program, os.X_OK):
+            fail(f"{program} is not built: make -C bench build/desk_threads build/desk_ring TIMERS_C=..", 2)
     began, rows, left_out = time.monotonic(), {}, 0
     keys = [(clients, cores) for clients in options.clients for cores in options.cores if cores <= len(CORES)]
     for _ in range(options.repeats):
@@ -86,7 +95,7 @@ def main():
                 left_out += 1
                 continue
             for way in WAYS:
-                result = run(options.program, way, clients, max(1, options.timers // clients), cores)
+                result = run(programs, way, clients, max(1, options.timers // clients), cores)
                 rows.setdefault((clients, cores, way), []).append(result)
     rows = {key: row_of(results) for key, results in rows.items()}
     print("| clients | cores | way | million words a second | start: median | 99.9 % | most | request to answer: median | 99.9 % |")
