@@ -5,7 +5,8 @@
  *     timers_desk_serve, timers_desk_serve_all - take requests
  *     timers_desk_flush, timers_desk_flush_all - hand out words
  *     timers_desk_tick, timers_desk_advance - pass ticks
- *     timers_desk_close, timers_desk_settle, timers_desk_end - close, settle a finished line, end its words
+ *     timers_desk_close, timers_desk_settle - close, settle a finished line
+ *     timers_desk_end, timers_desk_end_all - end the words of finished lines
  *     timers_desk_now, timers_desk_len, timers_desk_wakeup, timers_desk_outbox - read the state
  *     timers_line_start, timers_line_stop, timers_line_restart - send a request
  *     timers_line_receive - receive a word
@@ -35,7 +36,7 @@
  *     A client that does not count can be told. It finishes, and hands its line to the owner, who calls timers_desk_end
  *     and hands it back. The call is refused while something of the client is left at the desk. Once it is done, what
  *     stands in the line is all that is still to be received: timers_line_receive returns false only if there is
- *     nothing more, and timers_line_ended returns true.
+ *     nothing more, and timers_line_ended returns true. timers_desk_end_all does the same for all clients at once.
  *
  *     Words wait in the client's outbox at the owner until a flush moves them into the line. A request is taken only if
  *     the outbox has room for its answer and for a word of each of the client's pending timers, so no word is ever
@@ -70,13 +71,14 @@
  *        by a memcpy after which the old one is not used.
  *     2. A pointer argument is not NULL and points to an object of its type, or for `lines` to as many as are
  *        passed, that this call alone uses; no two arguments of one call overlap.
- *     3. An object that a call only writes (number, word, passed, returned, standing, unread) may be uninitialised.
+ *     3. An object that a call only writes (number, word, passed, returned, standing, unread, client) may be
+ *        uninitialised.
  *     4. Calls on one struct come one at a time. A struct may be handed from thread to thread, by a lock, by a
  *        thread's start or join, or by a sequentially consistent atomic. Calls on two structs are independent:
  *        those of the owner and of its clients may overlap in every way.
- *     5. timers_desk_settle and timers_desk_end are given a line of the same desk. A line of another client is refused,
- *        and so is one of another desk whose client has another number; one of another desk with the same number is
- *        not noticed.
+ *     5. timers_desk_settle, timers_desk_end and timers_desk_end_all are given lines of the same desk. A line of another
+ *        client is refused, and so is one of another desk whose client has another number; one of another desk with
+ *        the same number is not noticed.
  *     6. malloc, realloc and free are one allocator that threads may share, and align as C requires.
  *     7. No call comes from a signal handler, or from the forked child of a process with threads.
  *
@@ -115,7 +117,7 @@ enum timers_desk_status {
 	TIMERS_DESK_AHEAD = 16,          /* of a word: an earlier number is missing; never with one line for each client */
 	TIMERS_DESK_LINE_FULL = 17,      /* the line has no room for another request now */
 	TIMERS_DESK_FINISHED = 18,       /* the line has finished */
-	TIMERS_DESK_OUT_OF_RANGE = 19,   /* a number of the configuration, or the number of lines, is out of its range */
+	TIMERS_DESK_OUT_OF_RANGE = 19,   /* a number of the configuration is out of its range, or the number of lines is wrong */
 	TIMERS_DESK_IDLE = 20,           /* no request was known to stand in the line */
 	TIMERS_DESK_NO_ROOM = 21,        /* the client's outbox has no room for one more answer and one more notice */
 	TIMERS_DESK_OTHER_LINE = 22,     /* the line is another client's, or its desk was freed before it finished */
@@ -228,6 +230,15 @@ enum timers_desk_status timers_desk_settle(struct timers_desk *d, size_t client,
  * TIMERS_DESK_NOT_FINISHED, TIMERS_DESK_OTHER_LINE (the desk was freed before it finished).
  * TIMERS_DESK_LEFT: a request is held or stands in the line, a word waits in the outbox, or a timer is pending. */
 enum timers_desk_status timers_desk_end(struct timers_desk *d, size_t client, struct timers_line *line, size_t *unread);
+
+/* Ends the words of every client, each as timers_desk_end does: lines[0] to lines[clients - 1] are the clients' lines, all of
+ * them handed over. Those that can be ended are ended, whatever is left of the others, and the call may be repeated. Does
+ * not allocate. TIMERS_DESK_OK: the words of all have ended.
+ * TIMERS_DESK_NOT_OPEN (the desk), TIMERS_DESK_OUT_OF_RANGE (`clients` is not the number of clients): nothing has changed.
+ * Otherwise it writes to `*client` the first client whose words have not ended, whose line is as it was, and returns why:
+ * TIMERS_DESK_NOT_OPEN (the line), TIMERS_DESK_OTHER_LINE (it is another client's), TIMERS_DESK_NOT_FINISHED,
+ * TIMERS_DESK_OTHER_LINE (the desk was freed before it finished), TIMERS_DESK_LEFT. */
+enum timers_desk_status timers_desk_end_all(struct timers_desk *d, struct timers_line *lines, size_t clients, size_t *client);
 
 /* The present tick. 0 if it holds no desk. */
 uint64_t timers_desk_now(const struct timers_desk *d);

@@ -43,6 +43,7 @@ static void empty_structs(void)
 	CHECK(timers_line_stop(&l, h, &n) == TIMERS_DESK_NOT_OPEN && timers_line_restart(&l, h, 1, 2, &n) == TIMERS_DESK_NOT_OPEN && n == 77);
 	CHECK(!timers_line_receive(&l, &w) && timers_line_finish(&l) == TIMERS_DESK_NOT_OPEN);
 	CHECK(timers_desk_end(&d, 0, &l, &s) == TIMERS_DESK_NOT_OPEN && s == 78 && !timers_line_ended(&l));
+	CHECK(timers_desk_end_all(&d, &l, 1, &s) == TIMERS_DESK_NOT_OPEN && s == 78);
 	timers_line_free(&l);
 	timers_desk_free(&d);
 }
@@ -274,10 +275,63 @@ static bool ends(void)
 	return ran_out;
 }
 
+static void swap(struct timers_line *a, struct timers_line *b)
+{
+	struct timers_line other = *a;
+	*a = *b;
+	*b = other;
+}
+
+/* The end of all clients' words at once: those that can be ended are, and the first that can't is named. */
+static void ends_all(void)
+{
+	struct timers_desk d = TIMERS_DESK_INIT;
+	struct timers_line l[3] = { TIMERS_LINE_INIT, TIMERS_LINE_INIT, TIMERS_LINE_INIT };
+	struct timers_desk_config config = { 0, 100, 8, 4 };
+	struct timers_word w;
+	uint64_t n;
+	size_t c = 77;
+	CHECK(timers_desk_new(&d, l, 3, &config) == TIMERS_DESK_OK);
+	CHECK(timers_desk_end_all(&d, l, 2, &c) == TIMERS_DESK_OUT_OF_RANGE && timers_desk_end_all(&d, l, 0, &c) == TIMERS_DESK_OUT_OF_RANGE);
+	CHECK(c == 77 && timers_desk_end_all(&d, l, 3, &c) == TIMERS_DESK_NOT_FINISHED && c == 0);
+	/* a request of client 0 stands, client 1 has not finished, and the words of client 2 end all the same */
+	CHECK(timers_line_start(&l[0], 5, 1, &n) == TIMERS_DESK_OK && timers_line_start(&l[1], 9, 2, &n) == TIMERS_DESK_OK);
+	CHECK(timers_line_finish(&l[0]) == TIMERS_DESK_OK && timers_line_finish(&l[2]) == TIMERS_DESK_OK);
+	CHECK(timers_desk_end_all(&d, l, 3, &c) == TIMERS_DESK_LEFT && c == 0);
+	CHECK(!timers_line_ended(&l[0]) && !timers_line_ended(&l[1]) && timers_line_ended(&l[2]));
+	/* client 0 has an answer and an expiry to read, and then client 1 is the first that is left */
+	owner_turn(&d);
+	CHECK(timers_desk_end_all(&d, l, 3, &c) == TIMERS_DESK_LEFT && c == 0);
+	for (int i = 0; i < 9; i++)
+		CHECK(timers_desk_tick(&d) == TIMERS_DESK_OK);
+	owner_turn(&d);
+	CHECK(timers_desk_end_all(&d, l, 3, &c) == TIMERS_DESK_NOT_FINISHED && c == 1);
+	CHECK(timers_line_receive(&l[0], &w) && w.kind == TIMERS_WORD_STARTED && !timers_line_ended(&l[0]));
+	CHECK(timers_line_receive(&l[0], &w) && w.kind == TIMERS_WORD_EXPIRED && w.action == 1 && timers_line_ended(&l[0]));
+	/* the lines are taken by number */
+	CHECK(timers_line_finish(&l[1]) == TIMERS_DESK_OK);
+	swap(&l[1], &l[2]);
+	c = 77;
+	CHECK(timers_desk_end_all(&d, l, 3, &c) == TIMERS_DESK_OTHER_LINE && c == 1 && !timers_line_ended(&l[2]));
+	swap(&l[1], &l[2]);
+	c = 77;
+	CHECK(timers_desk_end_all(&d, l, 3, &c) == TIMERS_DESK_OK && c == 77 && !timers_line_ended(&l[1]));
+	CHECK(timers_line_receive(&l[1], &w) && timers_line_receive(&l[1], &w) && w.action == 2 && timers_line_ended(&l[1]));
+	/* a line that was freed is named, and so is none where there is no desk */
+	timers_line_free(&l[1]);
+	CHECK(timers_desk_end_all(&d, l, 3, &c) == TIMERS_DESK_NOT_OPEN && c == 1);
+	timers_desk_free(&d);
+	c = 77;
+	CHECK(timers_desk_end_all(&d, l, 3, &c) == TIMERS_DESK_NOT_OPEN && c == 77);
+	timers_line_free(&l[0]);
+	timers_line_free(&l[2]);
+}
+
 int main(void)
 {
 	empty_structs();
 	CHECK(!ends());
+	ends_all();
 	slow_client();
 	configurations();
 	CHECK(!story());

@@ -5,3 +5,4 @@ pub mod FrameSteps
 pub mod MakingLemmas
 pub mod RoundLemmas
 pub mod PlacingLemmas
+pub mod EndingLemmas

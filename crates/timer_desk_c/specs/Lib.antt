@@ -10,3 +10,4 @@ pub mod Advancing
 pub mod Rounds
 pub mod Serving
 pub mod Ending
+pub mod EndingAll

@@ -8,14 +8,17 @@ ghost use Rattle.timer_facility.specs.State.{FacilityState};
 ghost use Rattle.timer_desk.specs.declared.ring.RingInlet.{RingInlet};
 ghost use Rattle.timer_desk.specs.Desk.{clients_of, backlog_at};
 ghost use Rattle.timer_desk.specs.Ring.{line_of_inlet};
+ghost use Rattle.timer_desk.specs.Winding.{KeepsLines};
 ghost use Rattle.timer_desk_c.specs.Frames.{IsOpen, IsShut, with_desk, HasLine, HasNoLine, with_line};
 ghost use Rattle.timer_desk_c.specs.Desks.{IsFit, IsMade, AllEmpty, IsOneHeld, WhyNotMade, HasServed, HasTicked, HasClosed, IsNextTick, IsSettled, IsGivenAs, IsAsBefore, WhyNotSettled};
 ghost use Rattle.timer_desk_c.specs.Rounds.{HasServedAll, HasFlushedAll};
 ghost use Rattle.timer_desk_c.specs.Advancing.{HasAdvanced, WhyNotAdvanced, HasFlushed};
 ghost use Rattle.timer_desk_c.specs.Ending.{IsTied, OnlySettles, HasEnded, WhyNotEnded};
+ghost use Rattle.timer_desk_c.specs.EndingAll.{AreTied, OnlyStates, AllTried, AllEnded, WhyNotAllEnded};
 ghost use Rattle.timer_desk_c.specs.declared.status.TheConstants.{OK, NOT_OPEN, OPEN, NO_CLIENT, LEFT, NEVER};
 
 use crate::ending::end;
+use crate::ending_all::end_all;
 use crate::held::{HeldDesk, HeldLine};
 use crate::making::{Made, make};
 use crate::parked::Parked;
@@ -291,4 +294,38 @@ pub extern "C" fn timers_desk_end(
     }
     let number = line.client;
     end(d.slot.desk(), client, number, line.slot.line(), unread)
+}
+
+/// Ends the words of each client, unless something of it is left at the desk. `lines` has the line of each
+/// client, at the client's number.
+///
+/// Returns `OK` if the words of all have ended. Otherwise it returns the reason of the first client for which
+/// they have not, as `timers_desk_end` does, and writes its number. The others have ended if they could.
+#[unsafe(no_mangle)]
+pub extern "C" fn timers_desk_end_all(
+    d: &mut HeldDesk,
+    lines: &mut [HeldLine],
+    client: &mut usize,
+) -> u32
+    requires lines { IsOpen d.old → length lines.old ≡ clients_of d.old.slot.state
+        → AreTied d.old.slot.state lines.old }
+    ensures ended { result ≡ OK → IsOpen d.old × AllEnded d.old.slot.state lines.old lines.new }
+    ensures refused { 0 < result → ((result ≡ NOT_OPEN) × IsShut d.old)
+        ⊎ (IsOpen d.old × WhyNotAllEnded client.new result d.old.slot.state lines.old lines.new) }
+    ensures tried { IsOpen d.old → length lines.old ≡ clients_of d.old.slot.state
+        → AllTried d.old.slot.state lines.old lines.new }
+
+    // The number is written only if a client is to blame.
+    ensures client { result ≡ OK → client.new ≡ client.old }
+    ensures shut { IsShut d.old → (d.new ≡ d.old) × (lines.new ≡ lines.old) × (client.new ≡ client.old) }
+    ensures other_lines { IsOpen d.old → length lines.old ≢ clients_of d.old.slot.state
+        → (d.new ≡ d.old) × (lines.new ≡ lines.old) × (client.new ≡ client.old) }
+
+    ensures desk { KeepsLines d.old.slot.state d.new.slot.state }
+    ensures only { (d.new ≡ with_desk d.old d.new.slot.state) × OnlyStates lines.old lines.new }
+{
+    if !d.slot.holds() {
+        return NOT_OPEN;
+    }
+    end_all(d.slot.desk(), lines, client)
 }

@@ -6,7 +6,7 @@
 //!
 //!     desk_exports   the owner's calls: each tests whether a desk is held, and passes the call on
 //!     line_exports   a client's calls, the same for its line
-//!     calls, rounds, advancing, settling, ending    what they do to a desk, with C's statuses
+//!     calls, rounds, advancing, settling, ending, ending_all    what they do to a desk, with C's statuses
 //!     line           a client's end, before and after it has finished
 //!     messages       words as C's struct
 //!     making, placing    a new desk, and its lines put into C's structs
@@ -21,6 +21,7 @@ mod calls;
 mod desk_exports;
 mod desk_slot;
 mod ending;
+mod ending_all;
 mod held;
 mod line;
 mod line_exports;
