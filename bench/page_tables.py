@@ -474,11 +474,27 @@ def instructions(folder):
     return "\n".join(lines) if len(lines) > 2 else None
 
 
+# What stands before each table of a busy machine. A page without such a measurement has only the markers.
+BUSY_TITLES = {
+    "wheels": "### On a busy machine\n\nThe same rows, while as many processes as there are cores did nothing but "
+    "count. Waiting is not in processor time,\nbut caches and the two threads of a core are shared with the neighbours.",
+    "play": "The same beside processes that count, one for each core:",
+    "desk": "The same beside processes that count, one for each core. Threads that spin then wait for the system to run "
+    "the other one:",
+    "threads": "",
+    "units": "The same while as many processes as there are cores did nothing but count:",
+}
+
+
 def busy_sections(folder):
     """The sections of the runs on a busy machine, by the names of their markers."""
-    wanted = ["setting", "wheels", "play", "desk", "threads", "units"]
     made = sections(folder) if os.path.isdir(folder) else {}
-    return {f"busy-{name}": made[name] for name in wanted if name in made}
+    setting_of = {"wheels": made.get("setting", "")}
+    return {
+        f"busy-{name}": "\n\n".join(part for part in (title, setting_of.get(name), made[name]) if part)
+        for name, title in BUSY_TITLES.items()
+        if name in made
+    }
 
 
 def sections(folder):
