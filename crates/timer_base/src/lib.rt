@@ -21,6 +21,3 @@ pub use plain::PlainWheel;
 pub use sorting::sort_timers;
 pub use timer::{Handle, Timer};
 pub use wheel::Wheel;
-
-#[cfg(test)]
-mod tests;

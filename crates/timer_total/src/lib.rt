@@ -11,6 +11,3 @@ mod timers;
 
 pub use fault::{RestartFault, StartFault, TickFault};
 pub use timers::Timers;
-
-#[cfg(test)]
-mod tests;

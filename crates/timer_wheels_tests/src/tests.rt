@@ -1,10 +1,10 @@
 //! The worked rows, over every wheel: the schemes and their sizes are the columns.
-use crate::testing::{Call, Pace, advance, expire, has_serials, play, start, timer};
-use crate::{HashedWheel, HierWheel, Table};
+use crate::testing::{Call, Pace, play};
 use std::alloc::Global;
 use std::process::Abort;
 use std::test::Fail;
-use timer_base::{OutOfMemory, PlainWheel, Wheel};
+use timer_base::PlainWheel;
+use timer_wheels::{HashedWheel, HierWheel, LAST_OF_CLOCK, Table};
 
 /// The numbers of slots of the hashed wheels.
 const SIZES: [usize; 4] = [1, 8, 256, 65536];
@@ -238,35 +238,101 @@ const ROWS: [Row; 20] = [
     ),
 ];
 
-/// Makes a row's calls on each wheel whose clock goes so far.
-fn play_on_every_wheel(rt: &impl Abort, alloc: Global, row: Row, pace: Pace) -> Result<(), Fail> {
-    let (name, first_tick, calls) = row;
-    play(
-        rt,
-        alloc,
-        &mut PlainWheel::new(alloc, first_tick)?,
-        calls,
-        pace,
-    )?;
+/// 64^k and 63 * 64^k for k from 0 to 9: the first and the last slot of each wheel of `Table::Wide`, seen
+/// from tick 0. Every other one is stopped.
+const WIDE_SLOTS: Row = (
+    "wide_slots",
+    0,
+    &[
+        Call::Start(1),
+        Call::Start(63),
+        Call::Start(64),
+        Call::Start(4032),
+        Call::Start(4096),
+        Call::Start(258048),
+        Call::Start(262144),
+        Call::Start(16515072),
+        Call::Start(16777216),
+        Call::Start(1056964608),
+        Call::Start(1073741824),
+        Call::Start(67645734912),
+        Call::Start(68719476736),
+        Call::Start(4329327034368),
+        Call::Start(4398046511104),
+        Call::Start(277076930199552),
+        Call::Start(281474976710656),
+        Call::Start(17732923532771328),
+        Call::Start(18014398509481984),
+        Call::Start(1134907106097364992),
+        Call::Stop(1),
+        Call::Stop(3),
+        Call::Stop(5),
+        Call::Stop(7),
+        Call::Stop(9),
+        Call::Stop(11),
+        Call::Stop(13),
+        Call::Stop(15),
+        Call::Stop(17),
+        Call::Stop(19),
+        Call::Until(
+            1134907106097364992,
+            &[
+                (63, 2),
+                (4032, 4),
+                (258048, 6),
+                (16515072, 8),
+                (1056964608, 10),
+                (67645734912, 12),
+                (4329327034368, 14),
+                (277076930199552, 16),
+                (17732923532771328, 18),
+                (1134907106097364992, 20),
+            ],
+        ),
+    ],
+);
+
+/// The first and the last slot of each wheel of `Table::Clock`, from tick 0.
+const CLOCK_SLOTS: Row = (
+    "clock_slots",
+    0,
+    &[
+        Call::Start(1),
+        Call::Start(59),
+        Call::Start(60),
+        Call::Start(3540),
+        Call::Start(3600),
+        Call::Start(82800),
+        Call::Start(86400),
+        Call::Start(8553600),
+        Call::Stop(1),
+        Call::Stop(3),
+        Call::Stop(5),
+        Call::Stop(7),
+        Call::Until(8553600, &[(59, 2), (3540, 4), (82800, 6), (8553600, 8)]),
+    ],
+);
+
+/// Makes a row's calls on each wheel, by the table of days too if the row's ticks are on that clock.
+fn play_on_every_wheel(
+    rt: &impl Abort,
+    alloc: Global,
+    row: Row,
+    pace: Pace,
+    by_clock: bool,
+) -> Result<(), Fail> {
+    let (_name, first_tick, calls) = row;
+    let mut wheel = PlainWheel::new(alloc, first_tick)?;
+    play(rt, alloc, &mut wheel, calls, pace)?;
     for slots in SIZES {
-        play(
-            rt,
-            alloc,
-            &mut HashedWheel::new(alloc, slots, first_tick)?,
-            calls,
-            pace,
-        )?;
-    }
-    play(
-        rt,
-        alloc,
-        &mut HierWheel::new(alloc, first_tick)?,
-        calls,
-        pace,
-    )?;
-    if first_tick <= 8639999 {
-        let mut wheel = HierWheel::with_table(alloc, Table::Clock, first_tick)?;
+        let mut wheel = HashedWheel::new(alloc, slots, first_tick)?;
         play(rt, alloc, &mut wheel, calls, pace)?;
+    }
+    for table in [Table::Wide, Table::Clock] {
+        if by_clock || table == Table::Wide {
+            let mut wheel = HierWheel::with_table(alloc, table, first_tick)?;
+            play(rt, alloc, &mut wheel, calls, pace)?;
+        }
     }
     Ok(())
 }
@@ -274,104 +340,15 @@ fn play_on_every_wheel(rt: &impl Abort, alloc: Global, row: Row, pace: Pace) -> 
 #[test]
 fn every_wheel_expires_the_same_timers(rt: HostRuntime) -> Result<(), Fail> {
     for row in ROWS {
-        play_on_every_wheel(&rt, rt.alloc(), row, Pace::SingleTicks)?;
-        play_on_every_wheel(&rt, rt.alloc(), row, Pace::ManyTicks)?;
-    }
-    Ok(())
-}
-
-#[test]
-fn a_restarted_timer_stands_behind_the_others(rt: HostRuntime) -> Result<(), Fail> {
-    let calls = [Call::Start(5), Call::Start(5), Call::Restart(1, 5)];
-    for slots in SIZES {
-        let mut wheel = HashedWheel::new(rt.alloc(), slots, 0)?;
-        play(&rt, rt.alloc(), &mut wheel, &calls, Pace::SingleTicks)?;
-        assert!(rt; slots > 0);
-        assert!(rt;
-            has_serials(&rt, wheel.links(), 5 % slots, &[2, 3]),
-            "{slots} slots"
-        );
-    }
-    for table in [Table::Wide, Table::Clock] {
-        let mut wheel = HierWheel::with_table(rt.alloc(), table, 0)?;
-        play(&rt, rt.alloc(), &mut wheel, &calls, Pace::SingleTicks)?;
-        assert!(rt; has_serials(&rt, wheel.links(), 5, &[2, 3]));
-        assert_eq!(rt; wheel.starts(), 3);
-        assert_eq!(rt; wheel.now(), 0);
-    }
-    Ok(())
-}
-
-/// 64^k and 63 * 64^k for k from 0 to 9: the first and the last slot of each wheel of `Table::Wide`, seen
-/// from tick 0.
-const WIDE_SLOTS: [u64; 20] = [
-    1,
-    63,
-    64,
-    4032,
-    4096,
-    258048,
-    262144,
-    16515072,
-    16777216,
-    1056964608,
-    1073741824,
-    67645734912,
-    68719476736,
-    4329327034368,
-    4398046511104,
-    277076930199552,
-    281474976710656,
-    17732923532771328,
-    18014398509481984,
-    1134907106097364992,
-];
-
-/// The first and the last slot of each wheel of `Table::Clock`, from tick 0.
-const CLOCK_SLOTS: [u64; 8] = [1, 59, 60, 3540, 3600, 82800, 86400, 8553600];
-
-/// Starts a timer for each deadline, in order, finds each, stops every other one, and meets the rest in turn.
-fn starts_far_timers<W: Wheel>(
-    rt: &impl Abort,
-    alloc: Global,
-    wheel: &mut W,
-    deadlines: &[u64],
-) -> Result<(), OutOfMemory> {
-    let mut handles = Vec::new(alloc);
-    for deadline in deadlines {
-        handles.push(start(rt, wheel, *deadline)?)?;
-    }
-    for (handle, deadline) in handles.iter().zip(deadlines) {
-        let expected = Some(timer(handle.serial, *deadline));
-        assert_eq!(rt; wheel.look(*handle), expected, "deadline {deadline}");
-        if handle.serial % 2 == 1 {
-            assert_eq!(rt; wheel.stop(*handle), expected, "deadline {deadline}");
-        }
-    }
-    for (handle, deadline) in handles.iter().zip(deadlines) {
-        if handle.serial % 2 == 0 {
-            let now = wheel.now();
-            assert!(rt; now < *deadline);
-            let left = *deadline - now;
-            assert_eq!(rt; advance(rt, wheel, left), left, "deadline {deadline}");
-            expire(rt, wheel, [handle.serial].as_slice());
-        }
+        let by_clock = row.1 <= LAST_OF_CLOCK;
+        play_on_every_wheel(&rt, rt.alloc(), row, Pace::SingleTicks, by_clock)?;
+        play_on_every_wheel(&rt, rt.alloc(), row, Pace::ManyTicks, by_clock)?;
     }
     Ok(())
 }
 
 #[test]
 fn a_timer_is_started_however_far_its_deadline_is(rt: HostRuntime) -> Result<(), Fail> {
-    let deadlines = WIDE_SLOTS.as_slice();
-    let mut wheel = PlainWheel::new(rt.alloc(), 0)?;
-    starts_far_timers(&rt, rt.alloc(), &mut wheel, deadlines)?;
-    for slots in SIZES {
-        let mut wheel = HashedWheel::new(rt.alloc(), slots, 0)?;
-        starts_far_timers(&rt, rt.alloc(), &mut wheel, deadlines)?;
-    }
-    let mut wheel = HierWheel::new(rt.alloc(), 0)?;
-    starts_far_timers(&rt, rt.alloc(), &mut wheel, deadlines)?;
-    let mut wheel = HierWheel::with_table(rt.alloc(), Table::Clock, 0)?;
-    starts_far_timers(&rt, rt.alloc(), &mut wheel, CLOCK_SLOTS.as_slice())?;
-    Ok(())
+    play_on_every_wheel(&rt, rt.alloc(), WIDE_SLOTS, Pace::ManyTicks, false)?;
+    play_on_every_wheel(&rt, rt.alloc(), CLOCK_SLOTS, Pace::ManyTicks, true)
 }

@@ -1,9 +1,9 @@
 //! Where the timers of a hierarchy of wheels stand, as the pictures show them, and the counts.
 use crate::testing::{advance, expire, has_serials, start, tick_until};
-use crate::{HierWheel, Table};
 use std::process::Abort;
 use std::test::Fail;
 use timer_base::{LAST, MakeFault, OutOfMemory, Wheel};
+use timer_wheels::{HierWheel, LAST_OF_CLOCK, Table};
 
 /// One step of a picture. Serials are counted from 1.
 #[derive(Clone, Copy, Drop)]
@@ -232,11 +232,8 @@ fn see(rt: &impl Abort, picture: Picture, wheel: &mut HierWheel) -> Result<(), O
             Step::Until(tick) => tick_until(rt, wheel, tick),
             Step::In(level, slot, serials) => {
                 let list = list_of(rt, table, level, slot);
-                assert!(rt;
-                    has_serials(rt, wheel.links(), list, serials),
-                    "{name}: not in ({level}, {slot}) at tick {}",
-                    wheel.now()
-                );
+                let there = has_serials(rt, wheel.links(), list, serials);
+                assert!(rt; there, "{name}: not in ({level}, {slot})");
                 assert_eq!(rt; wheel.len(), serials.len());
             }
             Step::Due(serials) => expire(rt, wheel, serials),
@@ -261,58 +258,52 @@ fn each_timer_stands_where_the_pictures_show_it(rt: HostRuntime) -> Result<(), F
     Ok(())
 }
 
-#[test]
-fn many_ticks_stop_at_the_first_due_timer(rt: HostRuntime) -> Result<(), Fail> {
-    let mut wheel = HierWheel::new(rt.alloc(), 0)?;
-    for deadline in [5, 64, 64, 4161] {
-        start(&rt, &mut wheel, deadline)?;
-    }
-    let calls: [(u64, u64, &[u64]); 4] = [
-        (10, 5, &[1]),
-        (100, 59, &[2, 3]),
-        (4096, 4096, &[]),
-        (1, 1, &[4]),
-    ];
-    for (most, passed, due) in calls {
-        assert_eq!(rt; advance(&rt, &mut wheel, most), passed);
-        expire(&rt, &mut wheel, due);
-    }
-    assert_eq!(rt; (wheel.now(), wheel.moves(), wheel.visits()), (4161, 2, 67));
-    Ok(())
-}
+/// A first tick, the deadlines, the calls of `advance`, and then the moves and the visits. A call has the most
+/// ticks, those that were passed, and the serials that are due then.
+type Flight = (
+    u64,
+    &'static [u64],
+    &'static [(u64, u64, &'static [u64])],
+    (u64, u64),
+);
+
+const FLIGHTS: [Flight; 2] = [
+    (
+        0,
+        &[5, 64, 64, 4161],
+        &[
+            (10, 5, &[1]),
+            (100, 59, &[2, 3]),
+            (4096, 4096, &[]),
+            (1, 1, &[4]),
+        ],
+        (2, 67),
+    ),
+    // The clock face.
+    (987870, &[990915], &[(3045, 3045, &[1])], (1, 49)),
+];
 
 #[test]
-fn the_clock_face_needs_few_visits(rt: HostRuntime) -> Result<(), Fail> {
-    let mut wheel = HierWheel::new(rt.alloc(), 987870)?;
-    start(&rt, &mut wheel, 990915)?;
-    assert_eq!(rt; advance(&rt, &mut wheel, 3045), 3045);
-    assert_eq!(rt; (wheel.moves(), wheel.visits()), (1, 49));
-    Ok(())
-}
-
-#[test]
-fn the_clock_face_moves_at_the_hour_and_at_the_minute(rt: HostRuntime) -> Result<(), Fail> {
-    let mut wheel = HierWheel::with_table(rt.alloc(), Table::Clock, 987870)?;
-    start(&rt, &mut wheel, 990915)?;
-    for (tick, moves) in [
-        (989999, 0),
-        (990000, 1),
-        (990899, 1),
-        (990900, 2),
-        (990915, 2),
-    ] {
-        assert!(rt; wheel.now() < tick);
-        let ticks = tick - wheel.now();
-        assert_eq!(rt; advance(&rt, &mut wheel, ticks), ticks);
-        assert_eq!(rt; wheel.moves(), moves, "at tick {tick}");
+fn many_ticks_need_few_visits(rt: HostRuntime) -> Result<(), Fail> {
+    for flight in FLIGHTS {
+        let (first_tick, deadlines, calls, counts) = flight;
+        let mut wheel = HierWheel::new(rt.alloc(), first_tick)?;
+        for deadline in deadlines {
+            start(&rt, &mut wheel, *deadline)?;
+        }
+        for call in calls {
+            let (most, passed, due) = *call;
+            assert_eq!(rt; advance(&rt, &mut wheel, most), passed);
+            expire(&rt, &mut wheel, due);
+        }
+        assert_eq!(rt; (wheel.moves(), wheel.visits()), counts);
     }
-    assert!(rt; wheel.has_due());
     Ok(())
 }
 
 #[test]
 fn a_first_tick_past_the_last_one_is_refused(rt: HostRuntime) -> Result<(), Fail> {
-    for (table, last) in [(Table::Wide, LAST), (Table::Clock, 8639999)] {
+    for (table, last) in [(Table::Wide, LAST), (Table::Clock, LAST_OF_CLOCK)] {
         assert_eq!(rt;
             HierWheel::with_table(rt.alloc(), table, last + 1).err(),
             Some(MakeFault::FirstTick)
@@ -320,9 +311,5 @@ fn a_first_tick_past_the_last_one_is_refused(rt: HostRuntime) -> Result<(), Fail
         let wheel = HierWheel::with_table(rt.alloc(), table, last)?;
         assert_eq!(rt; (wheel.now(), wheel.last_tick()), (last, last));
     }
-    assert_eq!(rt;
-        HierWheel::new(rt.alloc(), LAST + 1).err(),
-        Some(MakeFault::FirstTick)
-    );
     Ok(())
 }
