@@ -23,10 +23,3 @@ pub use facility::Facility;
 pub use limits::{MOST_CLIENTS, MOST_PENDING};
 pub use player::{PlayStop, Player};
 pub use request::{Answer, CloseFault, NotTaken, Notice, Reason, Request, TickFault};
-
-#[cfg(test)]
-mod player_tests;
-#[cfg(test)]
-mod refusing;
-#[cfg(test)]
-mod tests;
