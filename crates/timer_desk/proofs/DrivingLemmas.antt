@@ -17,44 +17,64 @@ use Rattle.timer_desk.specs.Inlet.{LineKind}
 use Rattle.timer_desk.specs.Backlog.{BacklogState}
 use Rattle.timer_desk.specs.Report.{HeldIsLast, asked, asked_in, flushed}
 use Rattle.timer_desk.specs.Desk.{DeskState, clients_of, side_at, steps_of, step_in, AreBehind, Told, InRange}
-use Rattle.timer_desk.specs.Driving.{left_for, all_left, IsFit, IsOfClient, IsDone, IsShort, HasCounted, NoneRanOut, tick_in, ticks_in, turns_in, EndsIdle, Turns, TurnsOnce, Drives}
+use Rattle.timer_desk.specs.Driving.{left_for, all_left, PassesTicks, IsFit, IsOfClient, IsDone, IsShort, HasCounted, NoneRanOut, tick_in, ticks_in, turns_in, EndsIdle, Turns, TurnsOnce, Drives}
 use Rattle.timer_desk.proofs.ReportJoining.{Told-joined, Told-nothing, AreBehind-joined, IsLaw, AreOwed-in_time}
 
 flushed_joined : (c : ℕ) (r q : List Done) → flushed c (r ++ q) ≡ flushed c r + flushed c q
 flushed_joined c [] q = omega arith
 flushed_joined c (d ∷ r) q = let n = flushed_joined c r q in omega arith
 
-fit_in_range : (n : ℕ) (step : Step) → IsFit n step → InRange n step
-fit_in_range n (Steps.Serve c) h = h
-fit_in_range n Steps.Tick h = tt
-fit_in_range n Steps.Close h = tt
-fit_in_range n (Steps.Flush c) h = h
+fit_in_range : (n : ℕ) (last step : Step) → PassesTicks last → IsFit n last step → InRange n step
+fit_in_range n last (Steps.Serve c) p h = h
+fit_in_range n last Steps.Tick p h = tt
+fit_in_range n last (Steps.Ticks limit) p h = subst PassesTicks h p
+fit_in_range n last Steps.Close p h = tt
+fit_in_range n last (Steps.Flush c) p h = h
 
-fit_of_client : (n : ℕ) (step : Step) → IsOfClient n step → IsFit n step
-fit_of_client n (Steps.Serve c) h = h
-fit_of_client n Steps.Tick h = absurd h
-fit_of_client n Steps.Close h = absurd h
-fit_of_client n (Steps.Flush c) h = h
+fit_of_client : (n : ℕ) (last step : Step) → IsOfClient n step → IsFit n last step
+fit_of_client n last (Steps.Serve c) h = h
+fit_of_client n last Steps.Tick h = absurd h
+fit_of_client n last (Steps.Ticks limit) h = absurd h
+fit_of_client n last Steps.Close h = absurd h
+fit_of_client n last (Steps.Flush c) h = h
 
 tick_none : (n : ℕ) (step : Step) → IsOfClient n step → tick_in step ≡ 0
 tick_none n (Steps.Serve c) h = refl
 tick_none n Steps.Tick h = absurd h
+tick_none n (Steps.Ticks limit) h = absurd h
 tick_none n Steps.Close h = absurd h
 tick_none n (Steps.Flush c) h = refl
 
-fit_tick : (n : ℕ) → All (IsFit n) (Steps.Tick ∷ [])
-fit_tick n zero d l = tt
-fit_tick n (suc k) d l = absurd (omega arith)
+fit_last : (n : ℕ) (last : Step) → PassesTicks last → IsFit n last last
+fit_last n (Steps.Serve c) p = absurd p
+fit_last n Steps.Tick p = refl
+fit_last n (Steps.Ticks limit) p = refl
+fit_last n Steps.Close p = absurd p
+fit_last n (Steps.Flush c) p = absurd p
 
--- a turn serves and flushes clients, and then ticks
-pub All-fit : (n : ℕ) (steps : List Step) → All (IsOfClient n) steps → All (IsFit n) (steps ++ Steps.Tick ∷ [])
-All-fit n steps h = All-append (IsFit n) steps (Steps.Tick ∷ []) (λ k d l. fit_of_client n (get_or steps k d) (h k d l)) (fit_tick n)
+tick_last : (last : Step) → PassesTicks last → tick_in last ≡ 1
+tick_last (Steps.Serve c) p = absurd p
+tick_last Steps.Tick p = refl
+tick_last (Steps.Ticks limit) p = refl
+tick_last Steps.Close p = absurd p
+tick_last (Steps.Flush c) p = absurd p
 
-pub ticks_in-one : (n : ℕ) (steps : List Step) → All (IsOfClient n) steps → ticks_in (steps ++ Steps.Tick ∷ []) ≡ 1
-ticks_in-one n [] h = refl
-ticks_in-one n (step ∷ steps) h =
+fit_one : (n : ℕ) (last : Step) → PassesTicks last → All (IsFit n last) (last ∷ [])
+fit_one n last p zero d l = fit_last n last p
+fit_one n last p (suc k) d l = absurd (omega arith)
+
+-- a turn serves and flushes clients, and then passes ticks
+pub All-fit : (n : ℕ) (last : Step) (steps : List Step) → PassesTicks last → All (IsOfClient n) steps
+    → All (IsFit n last) (steps ++ last ∷ [])
+All-fit n last steps p h = All-append (IsFit n last) steps (last ∷ [])
+    (λ k d l. fit_of_client n last (get_or steps k d) (h k d l)) (fit_one n last p)
+
+pub ticks_in-one : (n : ℕ) (last : Step) (steps : List Step) → PassesTicks last → All (IsOfClient n) steps
+    → ticks_in (steps ++ last ∷ []) ≡ 1
+ticks_in-one n last [] p h = let here : tick_in last ≡ 1 = tick_last last p in omega arith
+ticks_in-one n last (step ∷ steps) p h =
     let here : tick_in step ≡ 0 = tick_none n step (h 0 step (omega arith)) in
-    let rest : ticks_in (steps ++ Steps.Tick ∷ []) ≡ 1 = ticks_in-one n steps (λ k d l. h (suc k) d (omega arith)) in
+    let rest : ticks_in (steps ++ last ∷ []) ≡ 1 = ticks_in-one n last steps p (λ k d l. h (suc k) d (omega arith)) in
     omega arith
 
 ticks_in-append : (xs ys : List Step) → ticks_in (xs ++ ys) ≡ ticks_in xs + ticks_in ys
@@ -64,8 +84,8 @@ ticks_in-append (x ∷ xs) ys = let n = ticks_in-append xs ys in omega arith
 turns_in-append : (r q : List Done) → turns_in (r ++ q) ≡ turns_in r + turns_in q
 turns_in-append r q = ap ticks_in (flat_map-append step_in r q) ∙ ticks_in-append (steps_of r) (steps_of q)
 
-pub All-in_range : (n : ℕ) (steps : List Step) → All (IsFit n) steps → All (InRange n) steps
-All-in_range n steps h = λ k d l. fit_in_range n (get_or steps k d) (h k d l)
+pub All-in_range : (n : ℕ) (last : Step) (steps : List Step) → PassesTicks last → All (IsFit n last) steps → All (InRange n) steps
+All-in_range n last steps p h = λ k d l. fit_in_range n last (get_or steps k d) p (h k d l)
 
 -- a client for which something is left to do
 record OneLeft (goal : ℕ) (ps : List Progress) (p : Progress) : Type 0 where
@@ -90,9 +110,9 @@ pub some_left : (goal : ℕ) (ps : List Progress) → ¬ ((c : ℕ) (d : Progres
     → 0 < all_left goal ps
 some_left goal ps h = ⊎_elim (λ a. a) (λ a. absurd (h (nothing_left goal ps (omega arith)))) (cases_lt 0 (all_left goal ps))
 
-module _ {I : Type 0} (kind : LineKind I) where
+module _ {I : Type 0} (kind : LineKind I) (last : Step) where
   pub Turns-nothing : (goal : ℕ) (refused : Bool) (x : DeskState I) (ps : List Progress)
-      → ((c : ℕ) (i : I) (b : BacklogState) → c < clients_of x → HeldIsLast (side_at kind x c i b)) → Turns kind goal refused x x ps ps
+      → ((c : ℕ) (i : I) (b : BacklogState) → c < clients_of x → HeldIsLast (side_at kind x c i b)) → Turns kind last goal refused x x ps ps
   Turns-nothing goal refused x ps held = record {
     report = [];
     told = Told-nothing kind x held;
@@ -104,15 +124,15 @@ module _ {I : Type 0} (kind : LineKind I) where
 
   pub Turns-one : (goal : ℕ) (refused : Bool) (x y : DeskState I) (ps qs : List Progress) (report : List Done) (steps : List Step) (n : ℕ)
       → n ≡ clients_of x → Told kind report x y
-      → steps_of report ≡ steps → All (IsFit n) steps → AreBehind false report
+      → steps_of report ≡ steps → All (IsFit n last) steps → AreBehind false report
       → (refused ≡ false → NoneRanOut report)
       → ((c : ℕ) (p : Progress) → c < length ps → HasCounted goal (length (asked c report)) (flushed c report) (get_or ps c p)
       (get_or qs c p))
-      → Turns kind goal refused x y ps qs
+      → Turns kind last goal refused x y ps qs
   Turns-one goal refused x y ps qs report steps n e told is fit behind memory counted = record {
     report = report;
     told = told;
-    fit = subst (λ m. All (IsFit m) (steps_of report)) e (subst (All (IsFit n)) (sym is) fit);
+    fit = subst (λ m. All (IsFit m last) (steps_of report)) e (subst (All (IsFit n last)) (sym is) fit);
     behind = behind;
     memory = memory;
     counted = counted;
@@ -120,11 +140,11 @@ module _ {I : Type 0} (kind : LineKind I) where
 
   pub TurnsOnce-one : (goal : ℕ) (refused : Bool) (x y : DeskState I) (ps qs : List Progress) (report : List Done) (steps : List Step)
       (n : ℕ) → n ≡ clients_of x → Told kind report x y
-      → steps_of report ≡ steps → All (IsFit n) steps → ticks_in steps ≡ 1 → AreBehind false report
+      → steps_of report ≡ steps → All (IsFit n last) steps → ticks_in steps ≡ 1 → AreBehind false report
       → (refused ≡ false → NoneRanOut report)
       → ((c : ℕ) (p : Progress) → c < length ps → HasCounted goal (length (asked c report)) (flushed c report) (get_or ps c p)
       (get_or qs c p))
-      → TurnsOnce kind goal refused x y ps qs
+      → TurnsOnce kind last goal refused x y ps qs
   unfolding Turns-one
   TurnsOnce-one goal refused x y ps qs report steps n e told is fit one behind memory counted = record {
     turns = Turns-one goal refused x y ps qs report steps n e told is fit behind memory counted;
@@ -132,15 +152,15 @@ module _ {I : Type 0} (kind : LineKind I) where
   }
 
   pub Turns-joined : (goal : ℕ) (refused : Bool) (x y z : DeskState I) (ps qs rs : List Progress) → length qs ≡ length ps
-      → Turns kind goal false x y ps qs → Turns kind goal refused y z qs rs
-      → Turns kind goal refused x z ps rs
+      → Turns kind last goal false x y ps qs → Turns kind last goal refused y z qs rs
+      → Turns kind last goal refused x z ps rs
   Turns-joined goal refused x y z ps qs rs len f g = record {
     report = f.report ++ g.report;
     told = Told-joined kind f.report g.report x y z f.told g.told;
     fit =
-        subst (All (IsFit (clients_of x))) (sym (flat_map-append step_in f.report g.report))
-        (All-append (IsFit (clients_of x)) (steps_of f.report) (steps_of g.report) f.fit
-        (subst (λ n. All (IsFit n) (steps_of g.report)) f.told.clients.same_clients g.fit));
+        subst (All (IsFit (clients_of x) last)) (sym (flat_map-append step_in f.report g.report))
+        (All-append (IsFit (clients_of x) last) (steps_of f.report) (steps_of g.report) f.fit
+        (subst (λ n. All (IsFit n last) (steps_of g.report)) f.told.clients.same_clients g.fit));
     behind = AreBehind-joined false f.report g.report f.behind g.behind;
     memory = λ e. All-append (λ done. (c : ℕ) → done ≢ Dones.Served c NoMemory) f.report g.report (f.memory refl) (g.memory e);
     counted = λ c p l.
@@ -162,7 +182,7 @@ module _ {I : Type 0} (kind : LineKind I) where
 
   -- from nothing, what was done is counted up to the goal
   counted_up : (goal : ℕ) (refused : Bool) (x y : DeskState I) (qs : List Progress) (n : ℕ) → n ≡ clients_of x
-      → (t : Turns kind goal refused x y (replicate n nothing) qs)
+      → (t : Turns kind last goal refused x y (replicate n nothing) qs)
       → (c : ℕ) → c < clients_of x
       → ((get_or qs c nothing).served ≡ min (length (asked c t.report)) goal)
       × ((get_or qs c nothing).flushed ≡ min (flushed c t.report) (2 * goal))
@@ -179,22 +199,22 @@ module _ {I : Type 0} (kind : LineKind I) where
   -- turns, and after them so many that changed no count
   pub record IdleSince (goal idle : ℕ) (x y : DeskState I) (ps qs : List Progress) : Type 0 where
     pub was : DeskState I
-    pub passed : Turns kind goal false x was ps qs
-    pub since : Turns kind goal false was y qs qs
+    pub passed : Turns kind last goal false x was ps qs
+    pub since : Turns kind last goal false was y qs qs
     pub many : turns_in since.report ≡ idle
 
   -- all of them together
   pub idle_whole : (goal idle : ℕ) (x y : DeskState I) (ps qs : List Progress) → length qs ≡ length ps → IdleSince goal idle x y ps qs
-      → Turns kind goal false x y ps qs
+      → Turns kind last goal false x y ps qs
   idle_whole goal idle x y ps qs len h = Turns-joined goal false x h.was y ps qs qs len h.passed h.since
 
-  pub idle_first : (goal : ℕ) (x y z : DeskState I) (ps qs : List Progress) → Turns kind goal false x y ps qs
-      → (t : Turns kind goal false y z qs qs) → turns_in t.report ≡ 1
+  pub idle_first : (goal : ℕ) (x y z : DeskState I) (ps qs : List Progress) → Turns kind last goal false x y ps qs
+      → (t : Turns kind last goal false y z qs qs) → turns_in t.report ≡ 1
       → IdleSince goal 1 x z ps qs
   idle_first goal x y z ps qs f t one = record { was = y; passed = f; since = t; many = one }
 
   pub idle_more : (goal idle : ℕ) (x y z : DeskState I) (ps qs : List Progress) → IdleSince goal idle x y ps qs
-      → (t : Turns kind goal false y z qs qs) → turns_in t.report ≡ 1 → IdleSince goal (idle + 1) x z ps qs
+      → (t : Turns kind last goal false y z qs qs) → turns_in t.report ≡ 1 → IdleSince goal (idle + 1) x z ps qs
   unfolding Turns-joined
   idle_more goal idle x y z ps qs h t one = record {
     was = h.was;
@@ -231,12 +251,12 @@ module _ {I : Type 0} (kind : LineKind I) where
 
   pub Drives-turns : (goal limit : ℕ) (refused : Bool) (x y : DeskState I) (qs : List Progress) (outcome : DriveEnd) (n : ℕ)
       → IsLaw x.facility → n ≡ clients_of x
-      → length qs ≡ n → (t : Turns kind goal refused x y (replicate n (record { served = 0; flushed = 0 })) qs)
+      → length qs ≡ n → (t : Turns kind last goal refused x y (replicate n (record { served = 0; flushed = 0 })) qs)
       → (outcome ≡ DriveEnds.Done → (c : ℕ) (p : Progress) → c < clients_of x → IsDone goal (get_or qs c p))
       → (outcome ≡ DriveEnds.Limit → 0 < limit → 0 < all_left goal qs)
       → (¬ (outcome ≡ DriveEnds.OutOfMemory) → refused ≡ false)
       → (outcome ≡ DriveEnds.Limit → EndsIdle goal limit (clients_of x) t.report)
-      → Drives kind goal limit x y outcome
+      → Drives kind last goal limit x y outcome
   Drives-turns goal limit refused x y qs outcome n law e len t done left memory idle = record {
     report = t.report;
     told = t.told;

@@ -31,7 +31,7 @@ use Rattle.timer_desk.specs.Backlog.{BacklogState, empty_backlog, with_word, wit
 use Rattle.timer_desk.specs.declared.report.Served.TheVariants.{NoMemory}
 use Rattle.timer_desk.specs.Extends.{Extends, Extends-refl}
 use Rattle.timer_desk.specs.Report.{Side, side_of, HeldIsLast, got_but_held, held_list, is_held, held_after, may_hold, Tells, Runs, asked, asked_in, words, words_in, flushed, flushed_in, events, events_in, outs, tick_outs, placed}
-use Rattle.timer_desk.specs.Right.{AtEach, IsRight, IsRightMember, IsRightClose, pending_after}
+use Rattle.timer_desk.specs.Right.{AtEach, IsRight, IsRightMember, IsRightClose, IsRightPass, pending_after}
 use Rattle.timer_desk.specs.Holding.{HoldsAfter, Holds}
 use Rattle.timer_desk.proofs.HoldingLemmas.{holds-notices}
 use Rattle.timer_desk.proofs.ReportJoining.{not_held}
@@ -100,11 +100,11 @@ flushed-notices : (c : ℕ) (ns : List Notice) → flushed c (map Dones.Noticed 
 flushed-notices c [] = refl
 flushed-notices c (n ∷ ns) = let h = flushed-notices c ns in omega arith
 
-events-notices : (ns : List Notice) → events (map Dones.Noticed ns) ≡ []
+pub events-notices : (ns : List Notice) → events (map Dones.Noticed ns) ≡ []
 events-notices [] = refl
 events-notices (n ∷ ns) = events-notices ns
 
-outs-notices : (ns : List Notice) → outs (map Dones.Noticed ns) ≡ map (λ n. Outs.Notice n) ns
+pub outs-notices : (ns : List Notice) → outs (map Dones.Noticed ns) ≡ map (λ n. Outs.Notice n) ns
 outs-notices [] = refl
 outs-notices (n ∷ ns) = ap (λ l. Outs.Notice n ∷ l) (outs-notices ns)
 
@@ -148,6 +148,10 @@ closes-notices : (s : FacilityState) (past : List Done) (ns : List Notice) → A
 closes-notices s past [] = tt
 closes-notices s past (n ∷ ns) = ((λ is. absurd (cc)), closes-notices s (past ++ Dones.Noticed n ∷ []) ns)
 
+passes-notices : (s : FacilityState) (past : List Done) (ns : List Notice) → AtEach (IsRightPass s) past (map Dones.Noticed ns)
+passes-notices s past [] = tt
+passes-notices s past (n ∷ ns) = ((λ limit passed is. absurd (cc)), passes-notices s (past ++ Dones.Noticed n ∷ []) ns)
+
 in_time-notices : (s : FacilityState) (past : List Done) (ns : List Notice)
     → outs (past ++ map Dones.Noticed ns) ≡ (run s (events (past ++ map Dones.Noticed ns))).outs → AreInTime s past (map Dones.Noticed ns)
 in_time-notices s past [] h = subst (λ r. outs r ≡ (run s (events r)).outs) (append-nil past) h
@@ -168,6 +172,18 @@ pub record IsOwners (first : Done) : Type 0 where
 
 pub of_tick : (r : Result (Unit {0}) TickFault) → IsOwners (Dones.Ticked r)
 of_tick r = record {
+  no_request = λ c. refl;
+  no_word = λ c. refl;
+  none_flushed = λ c. refl;
+  same_held = λ c before. refl;
+  is_right = λ c room len left pending. tt;
+  no_serve = λ c h. absurd (cc);
+  holds = λ m c s held. refl;
+  in_time = λ s report h. (refl, h);
+}
+
+pub of_pass : (limit : ℕ) (r : Result ℕ TickFault) → IsOwners (Dones.Passed limit r)
+of_pass limit r = record {
   no_request = λ c. refl;
   no_word = λ c. refl;
   none_flushed = λ c. refl;
@@ -214,11 +230,11 @@ module _ {I : Type 0} (kind : LineKind I) where
   -- a tick or a close, and its notices
   pub Told-noted : (first : Done) (ns : List Notice) (f f' : FacilityView) (inlets : List I) (bs bs' : List BacklogState) → IsOwners first
       → IsDesk kind f inlets bs → bs' ≡ with_notices ns bs → HasRoom bs' f' → Runs (first ∷ map Dones.Noticed ns) f.state f'.state
-      → IsRightClose f.state [] first []
+      → IsRightClose f.state [] first [] → IsRightPass f.state [] first []
       → let old : DeskState I = record { facility = f.state; inlets = inlets; backlogs = bs } in
       let new : DeskState I = record { facility = f'.state; inlets = inlets; backlogs = bs' } in
       Told kind (first ∷ map Dones.Noticed ns) old new
-  Told-noted first ns f f' inlets bs bs' o d e room runs closes = record {
+  Told-noted first ns f f' inlets bs bs' o d e room runs closes passes = record {
     clients = record {
       same_clients = refl;
       lines = λ c i l. kind.reflexive (get_or inlets c i);
@@ -235,6 +251,7 @@ module _ {I : Type 0} (kind : LineKind I) where
         subst (λ (x : BacklogState). Holds kind.take_may_refuse c f.state held [] (first ∷ map Dones.Noticed ns) x.held) (sym there)
         (held, o.holds kind.take_may_refuse c f.state held, holds-notices kind.take_may_refuse c f.state held (first ∷ []) ns);
     closes = (closes, closes-notices f.state (first ∷ []) ns);
+    passes = (passes, passes-notices f.state (first ∷ []) ns);
   }
     where
       right_side : (c : ℕ) (i : I) (b : BacklogState) → c < length inlets
@@ -463,7 +480,7 @@ module _ {I : Type 0} (kind : LineKind I) where
       subst (Runs (Dones.Ticked r ∷ map Dones.Noticed (tick_notices f.state)) f.state) (sym (ap (λ (v : FacilityView). v.state) left))
       (Runs-ticked f g r e h) in
       Told-noted kind (Dones.Ticked r) (tick_notices f.state) f f' inlets bs bs' (of_tick r) d (noted
-      ∙ ap (λ ns. with_notices ns bs) waits) room runs (λ is. absurd (cc))
+      ∙ ap (λ ns. with_notices ns bs) waits) room runs (λ is. absurd (cc)) (λ limit passed is. absurd (cc))
 
   pub IsDesk-tick : (f g f' : FacilityView) (inlets : List I) (bs bs' : List BacklogState)
       → IsDesk kind f inlets bs → g ≡ view_after (step f.state Tick 0)
@@ -484,7 +501,7 @@ module _ {I : Type 0} (kind : LineKind I) where
       subst (Runs (Dones.Closed r ∷ map Dones.Noticed (close_notices f.state r)) f.state) (sym (ap (λ (v : FacilityView). v.state) left))
       (Runs-closed f g r h) in
       Told-noted kind (Dones.Closed r) (close_notices f.state r) f f' inlets bs bs' (of_close r) d (noted
-      ∙ ap (λ ns. with_notices ns bs) waits) room runs (right_close f g r h)
+      ∙ ap (λ ns. with_notices ns bs) waits) room runs (right_close f g r h) (λ limit passed is. absurd (cc))
 
   pub IsDesk-close : (f g f' : FacilityView) (r : Result ℕ CloseFault) (inlets : List I) (bs bs' : List BacklogState)
       → IsDesk kind f inlets bs → HasClosed f g r
@@ -494,8 +511,8 @@ module _ {I : Type 0} (kind : LineKind I) where
       IsDesk-noted kind g.waiting f f' inlets bs bs' d noted (ap (λ (v : FacilityView). v.waiting) left)
       (ap (λ (v : FacilityView). length v.state.numbers) left ∙ numbers_close f g r h) room
 
-  -- the members that a tick or a close appends
-  added_are : (before after : List Done) (first : Done) (g : FacilityView) (ns : List Notice) → g.waiting ≡ ns
+  -- the members that ticks or a close append
+  pub added_are : (before after : List Done) (first : Done) (g : FacilityView) (ns : List Notice) → g.waiting ≡ ns
       → after ≡ (before ++ first ∷ []) ++ map Dones.Noticed g.waiting
       → after ≡ before ++ (first ∷ map Dones.Noticed ns)
   added_are before after first g ns waits e = e ∙ ap (λ xs. (before ++ first ∷ []) ++ map Dones.Noticed xs) waits

@@ -9,4 +9,5 @@ pub mod ReportOfOne
 pub mod ProgressLemmas
 pub mod WindingLemmas
 pub mod TickingLemmas
+pub mod PassLemmas
 pub mod FlushingLemmas

@@ -13,10 +13,11 @@ use Rattle.timer_desk.specs.declared.report.Done.{Done}
 use Rattle.timer_desk.specs.declared.report.Done.TheVariants as Dones
 use Rattle.timer_desk.specs.Inlet.{LineKind}
 use Rattle.timer_desk.specs.Backlog.{BacklogState}
-use Rattle.timer_facility.specs.Facility.{NeedsMemory}
+use Rattle.timer_facility.specs.Facility.{NeedsMemory, view_after}
+use Rattle.timer_facility.specs.Ticked.{ticks, AreTicked}
 use Rattle.timer_desk.specs.Extends.{Extends, Extends-refl, Extends-front, Extends-is, Extends-trans}
 use Rattle.timer_desk.specs.Report.{Side, got_but_held, held_list, is_held, held_after_serve, held_after, may_hold, HeldIsLast, Tells, Runs, asked, words, flushed, events, outs, asked_in, words_in, events_in, outs_in}
-use Rattle.timer_desk.specs.Right.{AtEach, IsRightServe, IsRightMember, IsNeeded, outbox_after, pending_after, IsRight, IsRightClose}
+use Rattle.timer_desk.specs.Right.{AtEach, IsRightServe, IsRightMember, IsNeeded, outbox_after, pending_after, IsRight, IsRightClose, IsRightPass}
 use Rattle.timer_desk.specs.Desk.{DeskState, clients_of, side_at, ToldSides, Told, AreInTime, AreOwed, AreBehind}
 use Rattle.timer_desk.proofs.ReportHeld.{got_but_held_is}
 use Rattle.timer_desk.proofs.HoldingLemmas.{Holds-joined}
@@ -82,6 +83,7 @@ member_keeps c (Dones.Served client served) = elim (client == c) as
       | false ↦ inr (refl, refl)
     ]
 member_keeps c (Dones.Ticked result) = inr (refl, refl)
+member_keeps c (Dones.Passed limit passed) = inr (refl, refl)
 member_keeps c (Dones.Closed result) = inr (refl, refl)
 member_keeps c (Dones.Noticed notice) = inr (refl, refl)
 member_keeps c (Dones.Flushed client count) = inr (refl, refl)
@@ -148,6 +150,7 @@ pub moved : (c room room' len len' left left' p p' : ℕ) (d : Done) → room �
 moved c room room' len len' left left' p p' (Dones.Served client served) r a b e h =
     λ is. subst (λ n. IsRightServe n len' left' p' served) r (serve_moved room len len' left left' p p' served a b e (h is))
 moved c room room' len len' left left' p p' (Dones.Ticked result) r a b e h = tt
+moved c room room' len len' left left' p p' (Dones.Passed limit passed) r a b e h = tt
 moved c room room' len len' left left' p p' (Dones.Closed result) r a b e h = tt
 moved c room room' len len' left left' p p' (Dones.Noticed notice) r a b e h = tt
 moved c room room' len len' left left' p p' (Dones.Flushed client count) r a b e h = tt
@@ -249,6 +252,13 @@ closes-joined r q s t e h k =
     AtEach-joined (IsRightClose s) (IsRightClose t) (IsRightClose s) r q (λ past d later p. p)
     (λ past d later p is. ap (λ (v : FacilityState). v.is_closed) (sym (state-joined s t r past e)) ∙ p is) h k
 
+passes-joined : (r q : List Done) (s t : FacilityState) → t ≡ (run s (events r)).state → AtEach (IsRightPass s) [] r
+    → AtEach (IsRightPass t) [] q → AtEach (IsRightPass s) [] (r ++ q)
+passes-joined r q s t e h k =
+    AtEach-joined (IsRightPass s) (IsRightPass t) (IsRightPass s) r q (λ past d later p. p)
+    (λ past d later p limit passed is. subst (λ (v : FacilityState). AreTicked limit passed v (view_after (run v (ticks passed))))
+    (state-joined s t r past e) (p limit passed is)) h k
+
 -- Notices in time.
 
 module _ (s s' : FacilityState) (r : List Done) (runs : Runs r s s') where
@@ -269,6 +279,11 @@ module _ (s s' : FacilityState) (r : List Done) (runs : Runs r s s') where
     same_so_far past h.0,
     subst (λ p. AreInTime s p ds) (sym (append_assoc r past (Dones.Ticked result ∷ [])))
         (then_in_time (past ++ Dones.Ticked result ∷ []) ds h.1),
+  )
+  then_in_time past (Dones.Passed limit passed ∷ ds) h = (
+    same_so_far past h.0,
+    subst (λ p. AreInTime s p ds) (sym (append_assoc r past (Dones.Passed limit passed ∷ [])))
+        (then_in_time (past ++ Dones.Passed limit passed ∷ []) ds h.1),
   )
   then_in_time past (Dones.Closed result ∷ ds) h = (
     same_so_far past h.0,
@@ -294,6 +309,11 @@ in_time-append s past (Dones.Ticked result ∷ ds) q h k = (
   h.0,
   in_time-append s (past ++ Dones.Ticked result ∷ []) ds q h.1
       (subst (λ p. AreInTime s p q) (sym (append_assoc past (Dones.Ticked result ∷ []) ds)) k),
+)
+in_time-append s past (Dones.Passed limit passed ∷ ds) q h k = (
+  h.0,
+  in_time-append s (past ++ Dones.Passed limit passed ∷ []) ds q h.1
+      (subst (λ p. AreInTime s p q) (sym (append_assoc past (Dones.Passed limit passed ∷ []) ds)) k),
 )
 in_time-append s past (Dones.Closed result ∷ ds) q h k = (
   h.0,
@@ -337,6 +357,7 @@ module _ {I : Type 0} (kind : LineKind I) where
         (λ past. state-joined x.facility y.facility r past f.facility.state_is) (f.holds c b low) (g.holds c b (let e =
         f.clients.same_clients in omega arith));
     closes = closes-joined r q x.facility y.facility f.facility.state_is f.closes g.closes;
+    passes = passes-joined r q x.facility y.facility f.facility.state_is f.passes g.passes;
   }
 
 -- The empty report.
@@ -370,6 +391,7 @@ module _ {I : Type 0} (kind : LineKind I) where
     right = λ c i b low. tt;
     holds = λ c b low. refl;
     closes = tt;
+    passes = tt;
   }
 
 -- Notices after their tick or close.
@@ -378,6 +400,7 @@ pub AreBehind-weaken : (b : Bool) (r : List Done) → AreBehind false r → AreB
 AreBehind-weaken b [] h = tt
 AreBehind-weaken b (Dones.Served client served ∷ r) h = h
 AreBehind-weaken b (Dones.Ticked result ∷ r) h = h
+AreBehind-weaken b (Dones.Passed limit passed ∷ r) h = h
 AreBehind-weaken b (Dones.Closed result ∷ r) h = h
 AreBehind-weaken b (Dones.Noticed notice ∷ r) h = absurd (let e = h.0 in cc)
 AreBehind-weaken b (Dones.Flushed client count ∷ r) h = h
@@ -386,6 +409,7 @@ pub AreBehind-joined : (b : Bool) (r q : List Done) → AreBehind b r → AreBeh
 AreBehind-joined b [] q h k = AreBehind-weaken b q k
 AreBehind-joined b (Dones.Served client served ∷ r) q h k = AreBehind-joined false r q h k
 AreBehind-joined b (Dones.Ticked result ∷ r) q h k = AreBehind-joined true r q h k
+AreBehind-joined b (Dones.Passed limit passed ∷ r) q h k = AreBehind-joined true r q h k
 AreBehind-joined b (Dones.Closed result ∷ r) q h k = AreBehind-joined true r q h k
 AreBehind-joined b (Dones.Noticed notice ∷ r) q h k = (h.0, AreBehind-joined b r q h.1 k)
 AreBehind-joined b (Dones.Flushed client count ∷ r) q h k = AreBehind-joined false r q h k
@@ -413,6 +437,10 @@ AreOwed-in_time s law past (Dones.Served client served ∷ ds) h =
 AreOwed-in_time s law past (Dones.Ticked result ∷ ds) h = (
   owed_so_far s law past h.0,
   AreOwed-in_time s law (past ++ Dones.Ticked result ∷ []) ds h.1,
+)
+AreOwed-in_time s law past (Dones.Passed limit passed ∷ ds) h = (
+  owed_so_far s law past h.0,
+  AreOwed-in_time s law (past ++ Dones.Passed limit passed ∷ []) ds h.1,
 )
 AreOwed-in_time s law past (Dones.Closed result ∷ ds) h = (
   owed_so_far s law past h.0,

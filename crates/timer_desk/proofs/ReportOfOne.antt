@@ -15,7 +15,7 @@ use Rattle.timer_desk.specs.Backlog.{BacklogState, notices_for}
 use Rattle.timer_desk.specs.Asking.{RanOutOfMemory}
 use Rattle.timer_desk.specs.Extends.{Extends, Extends-refl}
 use Rattle.timer_desk.specs.Report.{Side, side_of, got_but_held, held_list, is_held, HeldIsLast, left_of, Tells, Runs, asked, asked_in, request_in, words, words_in, word_in, flushed, flushed_in, held_after, held_after_serve}
-use Rattle.timer_desk.specs.Right.{IsRight, IsRightMember, IsNeeded, IsRightClose, outbox_after, pending_after}
+use Rattle.timer_desk.specs.Right.{IsRight, IsRightMember, IsNeeded, IsRightClose, IsRightPass, outbox_after, pending_after}
 use Rattle.timer_desk.specs.Desk.{IsDesk, Told, AreInTime}
 use Rattle.timer_desk.proofs.ReportJoining.{not_held, moved}
 use Rattle.timer_desk.proofs.HandingLemmas.{desk_of}
@@ -48,6 +48,7 @@ pub record IsOf (c : ℕ) (done : Done) : Type 0 where
   pub holds_there : (may_refuse : Bool) (k : ℕ) (s : FacilityState) (held : Option Numbered) → k ≢ c
       → HoldsAfter may_refuse k s held done held
   pub no_close : (s : FacilityState) → IsRightClose s [] done []
+  pub no_pass : (s : FacilityState) → IsRightPass s [] done []
   pub in_time : (s t : FacilityState) → Runs (done ∷ []) s t → AreInTime s [] (done ∷ [])
 
 pub of_serve : (c : ℕ) (served : Served) → IsOf c (Dones.Served c served)
@@ -64,6 +65,7 @@ of_serve c served = record {
   );
   holds_there = λ m k s held h. ((λ is. absurd (h (sym is))), (λ _. refl));
   no_close = λ s is. absurd (cc);
+  no_pass = λ s limit passed is. absurd (cc);
   in_time = λ s t runs. (refl, runs.outs_are);
 }
   where
@@ -84,6 +86,7 @@ of_flush c count = record {
   holds_here = λ m s a b t wants. same_held a.backlog.held b.backlog.held t.held_first t.none_held;
   holds_there = λ m k s held h. refl;
   no_close = λ s is. absurd (cc);
+  no_pass = λ s limit passed is. absurd (cc);
   in_time = λ s t runs. (refl, runs.outs_are);
 }
 
@@ -143,6 +146,7 @@ module _ {I : Type 0} (kind : LineKind I) where
     right = λ k j e l. (right_at k j e l (either (c == k)), tt);
     holds = λ k e l. holds_at k e l (either (c == k));
     closes = (o.no_close f.state, tt);
+    passes = (o.no_pass f.state, tt);
   }
     where
       as_many : length backlogs ≡ length inlets

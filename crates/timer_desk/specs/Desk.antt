@@ -15,7 +15,7 @@ use Rattle.timer_desk.specs.declared.report.Step.TheVariants as Steps
 use Rattle.timer_desk.specs.Inlet.{LineKind}
 use Rattle.timer_desk.specs.Backlog.{BacklogState, empty_backlog, HasRoom}
 use Rattle.timer_desk.specs.Report.{Side, side_of, HeldIsLast, Tells, Runs, events, outs}
-use Rattle.timer_desk.specs.Right.{AtEach, IsRight, IsRightClose}
+use Rattle.timer_desk.specs.Right.{AtEach, IsRight, IsRightClose, IsRightPass}
 use Rattle.timer_desk.specs.Holding.{Holds}
 
 -- the facility, in which nothing waits; and for each client its line and its backlog
@@ -53,6 +53,7 @@ AllIdle d = (c : ℕ) → c < clients_of d → IsIdle (backlog_at d c)
 abbrev pub step_in : Done → List Step
 step_in (Dones.Served client served) = Steps.Serve client ∷ []
 step_in (Dones.Ticked result) = Steps.Tick ∷ []
+step_in (Dones.Passed limit passed) = Steps.Ticks limit ∷ []
 step_in (Dones.Closed result) = Steps.Close ∷ []
 step_in (Dones.Noticed notice) = []
 step_in (Dones.Flushed client count) = Steps.Flush client ∷ []
@@ -67,6 +68,7 @@ abbrev pub AreBehind : Bool → List Done → Type 0
 AreBehind allowed [] = Unit {0}
 AreBehind allowed (Dones.Served client served ∷ report) = AreBehind false report
 AreBehind allowed (Dones.Ticked result ∷ report) = AreBehind true report
+AreBehind allowed (Dones.Passed limit passed ∷ report) = AreBehind true report
 AreBehind allowed (Dones.Closed result ∷ report) = AreBehind true report
 AreBehind allowed (Dones.Noticed notice ∷ report) = (allowed ≡ true) × AreBehind allowed report
 AreBehind allowed (Dones.Flushed client count ∷ report) = AreBehind false report
@@ -87,10 +89,11 @@ AreOwed s past (Dones.Noticed notice ∷ report) = AreOwed s (past ++ Dones.Noti
 AreOwed s past (done ∷ report) = (notices_in (outs past) ≡ owed s (history s (events past)))
     × AreOwed s (past ++ done ∷ []) report
 
--- the step's client is one of these
+-- the step's client is one of these, and of many ticks it asks for one at least
 abbrev pub InRange : ℕ → Step → Type 0
 InRange clients (Steps.Serve c) = c < clients
 InRange clients Steps.Tick = Unit {0}
+InRange clients (Steps.Ticks limit) = 0 < limit
 InRange clients Steps.Close = Unit {0}
 InRange clients (Steps.Flush c) = c < clients
 
@@ -145,6 +148,7 @@ module _ {I : Type 0} (kind : LineKind I) where
         → Holds kind.take_may_refuse c old.facility (get_or old.backlogs c b).held [] report
         (get_or new.backlogs c b).held
     pub closes : AtEach (IsRightClose old.facility) [] report
+    pub passes : AtEach (IsRightPass old.facility) [] report
 
   -- a step, and what it appends to the report
   pub record AddsStep (taken : Step) (before after : List Done) (old new : DeskState I) : Type 0 where

@@ -34,17 +34,28 @@ pub record HasCounted (goal requests words : ℕ) (old new : Progress) : Type 0 
   pub served : new.served ≡ old.served + min requests (goal - old.served)
   pub flushed : new.flushed ≡ old.flushed + min words (2 * goal - old.flushed)
 
--- the step's client is one of these, and the step is not a close
-abbrev pub IsFit : ℕ → Step → Type 0
-IsFit clients (Steps.Serve c) = c < clients
-IsFit clients Steps.Tick = Unit {0}
-IsFit clients Steps.Close = ⊥
-IsFit clients (Steps.Flush c) = c < clients
+-- the step passes ticks: one, or many at once
+abbrev pub PassesTicks : Step → Type 0
+PassesTicks (Steps.Serve c) = ⊥
+PassesTicks Steps.Tick = Unit {0}
+PassesTicks (Steps.Ticks limit) = 0 < limit
+PassesTicks Steps.Close = ⊥
+PassesTicks (Steps.Flush c) = ⊥
+
+-- a step of a drive whose turns end in the step `last`: its client is one of these, or it passes the ticks of
+-- that step, and it is not a close
+abbrev pub IsFit : ℕ → Step → Step → Type 0
+IsFit clients last (Steps.Serve c) = c < clients
+IsFit clients last Steps.Tick = last ≡ Steps.Tick
+IsFit clients last (Steps.Ticks limit) = last ≡ Steps.Ticks limit
+IsFit clients last Steps.Close = ⊥
+IsFit clients last (Steps.Flush c) = c < clients
 
 -- the step is a serve or a flush of one of these
 abbrev pub IsOfClient : ℕ → Step → Type 0
 IsOfClient clients (Steps.Serve c) = c < clients
 IsOfClient clients Steps.Tick = ⊥
+IsOfClient clients (Steps.Ticks limit) = ⊥
 IsOfClient clients Steps.Close = ⊥
 IsOfClient clients (Steps.Flush c) = c < clients
 
@@ -70,19 +81,20 @@ pub record IsShort (goal clients : ℕ) (report : List Done) : Type 0 where
   pub among : client < clients
   pub fewer : (length (asked client report) < goal) ⊎ (flushed client report < 2 * goal)
 
--- 1 where the step is a tick
+-- 1 where the step passes ticks, however many
 abbrev pub tick_in : Step → ℕ
 tick_in (Steps.Serve c) = 0
 tick_in Steps.Tick = 1
+tick_in (Steps.Ticks limit) = 1
 tick_in Steps.Close = 0
 tick_in (Steps.Flush c) = 0
 
--- how many of the steps are ticks
+-- how many of the steps pass ticks
 abbrev pub ticks_in : List Step → ℕ
 ticks_in [] = 0
 ticks_in (step ∷ steps) = tick_in step + ticks_in steps
 
--- how many turns of a drive a report is of: each ends in a tick, its only one
+-- how many turns of a drive a report is of: each ends in a step that passes ticks, its only one
 abbrev pub turns_in : List Done → ℕ
 turns_in report = ticks_in (steps_of report)
 
@@ -98,33 +110,33 @@ pub record EndsIdle (goal limit clients : ℕ) (report : List Done) : Type 0 whe
   pub none_flushed : (c : ℕ) → c < clients → min (flushed c report) (2 * goal)
       ≡ min (flushed c before) (2 * goal)
 
-module _ {I : Type 0} (kind : LineKind I) where
+module _ {I : Type 0} (kind : LineKind I) (last : Step) where
   -- there is a report without a close that leads from the one desk to the other, and it was counted; unless a
   -- turn was refused, no serve ran out of memory
   pub record Turns (goal : ℕ) (refused : Bool) (old new : DeskState I)
       (before after : List Progress) : Type 0 where
     pub report : List Done
     pub told : Told kind report old new
-    pub fit : All (IsFit (clients_of old)) (steps_of report)
+    pub fit : All (IsFit (clients_of old) last) (steps_of report)
     pub behind : AreBehind false report
     pub memory : refused ≡ false → NoneRanOut report
     pub counted : (c : ℕ) (p : Progress) → c < length before
         → HasCounted goal (length (asked c report)) (flushed c report) (get_or before c p) (get_or after c p)
 
-  -- so for one turn: unless it was refused, it has one tick
+  -- so for one turn: unless it was refused, it ends in one step that passes ticks
   pub record TurnsOnce (goal : ℕ) (refused : Bool) (old new : DeskState I)
       (before after : List Progress) : Type 0 where
     pub turns : Turns goal refused old new before after
     pub once : refused ≡ false → turns_in turns.report ≡ 1
 
-  -- There is a report without a close that leads from the one desk to the other. Where the drive is done,
-  -- each client had `goal` requests served and twice as many words flushed; where a limit above 0 ended it,
-  -- some client had not, and the last `limit` turns passed nothing on. Only a drive that ended out of memory
-  -- has a serve that ran out of memory.
+  -- There is a report without a close that leads from the one desk to the other, of turns that end in the step
+  -- `last`. Where the drive is done, each client had `goal` requests served and twice as many words flushed;
+  -- where a limit above 0 ended it, some client had not, and the last `limit` turns passed nothing on. Only a
+  -- drive that ended out of memory has a serve that ran out of memory.
   pub record Drives (goal limit : ℕ) (old new : DeskState I) (outcome : DriveEnd) : Type 0 where
     pub report : List Done
     pub told : Told kind report old new
-    pub fit : All (IsFit (clients_of old)) (steps_of report)
+    pub fit : All (IsFit (clients_of old) last) (steps_of report)
     pub behind : AreBehind false report
     pub owed : AreOwed old.facility [] report
     pub served : outcome ≡ DriveEnds.Done → (c : ℕ) → c < clients_of old → goal ≤ length (asked c report)

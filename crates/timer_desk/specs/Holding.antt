@@ -28,6 +28,7 @@ abbrev pub HoldsAfter : Bool → ℕ → FacilityState → Option Numbered → D
 HoldsAfter may_refuse c s before (Dones.Served client served) after =
     (client ≡ c → HoldsAfterServe may_refuse c s before served after) × (client ≢ c → after ≡ before)
 HoldsAfter may_refuse c s before (Dones.Ticked result) after = after ≡ before
+HoldsAfter may_refuse c s before (Dones.Passed limit passed) after = after ≡ before
 HoldsAfter may_refuse c s before (Dones.Closed result) after = after ≡ before
 HoldsAfter may_refuse c s before (Dones.Noticed notice) after = after ≡ before
 HoldsAfter may_refuse c s before (Dones.Flushed client count) after = after ≡ before

@@ -9,6 +9,7 @@ use Rattle.timer_facility.specs.declared.event.Out.TheVariants as Outs
 use Rattle.timer_facility.specs.State.{FacilityState, SingleEvent, Tick, Close}
 use Rattle.timer_facility.specs.Facility.{asked as event_asked, place_in}
 use Rattle.timer_facility.specs.Run.{Placed, run}
+use Rattle.timer_facility.specs.Ticked.{ticks}
 use Rattle.timer_desk.specs.declared.word.Numbered.{Numbered}
 use Rattle.timer_desk.specs.declared.word.Word.{Word}
 use Rattle.timer_desk.specs.declared.word.Word.TheVariants as Words
@@ -37,6 +38,7 @@ word_in (Did numbered word) = word ∷ []
 abbrev pub asked_in : ℕ → Done → List Numbered
 asked_in c (Dones.Served client served) = if client == c then request_in served else []
 asked_in c (Dones.Ticked result) = []
+asked_in c (Dones.Passed limit passed) = []
 asked_in c (Dones.Closed result) = []
 asked_in c (Dones.Noticed notice) = []
 asked_in c (Dones.Flushed client count) = []
@@ -44,6 +46,7 @@ asked_in c (Dones.Flushed client count) = []
 abbrev pub words_in : ℕ → Done → List Word
 words_in c (Dones.Served client served) = if client == c then word_in served else []
 words_in c (Dones.Ticked result) = []
+words_in c (Dones.Passed limit passed) = []
 words_in c (Dones.Closed result) = []
 words_in c (Dones.Noticed notice) = if client_of notice == c then Words.Notice notice ∷ [] else []
 words_in c (Dones.Flushed client count) = []
@@ -51,6 +54,7 @@ words_in c (Dones.Flushed client count) = []
 abbrev pub flushed_in : ℕ → Done → ℕ
 flushed_in c (Dones.Served client served) = 0
 flushed_in c (Dones.Ticked result) = 0
+flushed_in c (Dones.Passed limit passed) = 0
 flushed_in c (Dones.Closed result) = 0
 flushed_in c (Dones.Noticed notice) = 0
 flushed_in c (Dones.Flushed client count) = if client == c then count else 0
@@ -69,6 +73,7 @@ abbrev pub held_after : ℕ → Bool → Done → Bool
 held_after c before (Dones.Served client served) =
     if client == c then held_after_serve before served else before
 held_after c before (Dones.Ticked result) = before
+held_after c before (Dones.Passed limit passed) = before
 held_after c before (Dones.Closed result) = before
 held_after c before (Dones.Noticed notice) = before
 held_after c before (Dones.Flushed client count) = before
@@ -105,9 +110,15 @@ close_events (Ok count) = placed Close 0 ∷ []
 close_events (Err CloseFaults.Closed) = placed Close 0 ∷ []
 close_events (Err CloseFaults.OutOfMemory) = []
 
+-- so many ticks were passed, or one was refused
+abbrev pub passed_events : Result ℕ TickFault → List Placed
+passed_events (Ok passed) = ticks passed
+passed_events (Err fault) = ticks 1
+
 abbrev pub events_in : Done → List Placed
 events_in (Dones.Served client served) = served_events client served
 events_in (Dones.Ticked result) = placed Tick 0 ∷ []
+events_in (Dones.Passed limit passed) = passed_events passed
 events_in (Dones.Closed result) = close_events result
 events_in (Dones.Noticed notice) = []
 events_in (Dones.Flushed client count) = []
@@ -130,6 +141,7 @@ close_outs (Err CloseFaults.OutOfMemory) = []
 abbrev pub outs_in : Done → List Out
 outs_in (Dones.Served client served) = served_outs client served
 outs_in (Dones.Ticked result) = tick_outs result
+outs_in (Dones.Passed limit passed) = tick_outs passed
 outs_in (Dones.Closed result) = close_outs result
 outs_in (Dones.Noticed notice) = Outs.Notice notice ∷ []
 outs_in (Dones.Flushed client count) = []

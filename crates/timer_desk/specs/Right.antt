@@ -1,9 +1,10 @@
 -- When the members of a report are right: which serves and closes may have which result.
-use Rattle.std.specs.Prelude.{◌≡◌, ℕ, ◌+◌, ◌-◌, ◌<◌, ◌≤◌, ◌⊎◌, Bool, true, false, List, [], ◌∷◌, ◌++◌, length, Err}
+use Rattle.std.specs.Prelude.{◌≡◌, ℕ, ◌+◌, ◌-◌, ◌<◌, ◌≤◌, ◌⊎◌, Bool, true, false, List, [], ◌∷◌, ◌++◌, length, Ok, Err}
 use Rattle.timer_facility.specs.declared.request.CloseFault.TheVariants.{OutOfMemory}
 use Rattle.timer_facility.specs.State.{FacilityState, pending_of}
 use Rattle.timer_facility.specs.Run.{run}
-use Rattle.timer_facility.specs.Facility.{NeedsMemory}
+use Rattle.timer_facility.specs.Facility.{NeedsMemory, view_after}
+use Rattle.timer_facility.specs.Ticked.{ticks, AreTicked}
 use Rattle.timer_desk.specs.declared.word.Numbered.{Numbered}
 use Rattle.timer_desk.specs.declared.report.Served.{Served}
 use Rattle.timer_desk.specs.declared.report.Served.TheVariants.{Idle, NoRoom, NoMemory, Did}
@@ -29,6 +30,7 @@ abbrev pub IsRightMember : ℕ → ℕ → ℕ → ℕ → ℕ → Done → Type
 IsRightMember c room len left pending (Dones.Served client served) = client ≡ c
     → IsRightServe room len left pending served
 IsRightMember c room len left pending (Dones.Ticked result) = Unit {0}
+IsRightMember c room len left pending (Dones.Passed limit passed) = Unit {0}
 IsRightMember c room len left pending (Dones.Closed result) = Unit {0}
 IsRightMember c room len left pending (Dones.Noticed notice) = Unit {0}
 IsRightMember c room len left pending (Dones.Flushed client count) = Unit {0}
@@ -63,3 +65,10 @@ pub record IsRight (may_refuse : Bool) (c : ℕ) (s : FacilityState) (a b : Side
 abbrev pub IsRightClose : FacilityState → List Done → Done → List Done → Type 0
 IsRightClose s past done later = done ≡ Dones.Closed (Err OutOfMemory)
     → (run s (events past)).state.is_closed ≡ false
+
+-- Many ticks at once are accepted one by one. Only the last hands out anything, and fewer than were asked for
+-- are passed only where it does or the clock is at its end.
+abbrev pub IsRightPass : FacilityState → List Done → Done → List Done → Type 0
+IsRightPass s past done later = (limit passed : ℕ) → done ≡ Dones.Passed limit (Ok passed)
+    → AreTicked limit passed (run s (events past)).state
+    (view_after (run (run s (events past)).state (ticks passed)))

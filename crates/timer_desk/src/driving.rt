@@ -2,7 +2,7 @@
 ghost use Rattle.std.specs.Prelude.{◌≡◌, ◌≤◌, ◌<◌, ◌↔◌, ℕ, false, All, IfOk, OnErr, length, vec_len};
 ghost use Rattle.timer_base.specs.declared.limits.TheConstants.{LAST};
 ghost use Rattle.timer_desk.specs.Desk.{clients_of};
-ghost use Rattle.timer_desk.specs.Driving.{IsFit, NoneRanOut, is_refused, ticks_in, TurnsOnce, Drives, IsTurned};
+ghost use Rattle.timer_desk.specs.Driving.{PassesTicks, IsFit, NoneRanOut, is_refused, ticks_in, TurnsOnce, Drives, IsTurned};
 
 use crate::desk::Desk;
 use crate::inlet::Inlet;
@@ -55,7 +55,42 @@ pub fn drive<W: Wheel + Drop, I: Inlet + Drop>(
 ) -> Driven<W, I>
     requires goal { goal ≤ LAST }
     requires limit { limit ≤ LAST }
-    ensures { Drives I.kind goal limit desk result.desk result.outcome }
+    ensures { Drives I.kind Step.Tick goal limit desk result.desk result.outcome }
+{
+    run_turns(alloc, desk, goal, limit, Step::Tick)
+}
+
+/// Runs turns of the desk as `drive` does, but each ends with up to `ticks` ticks at once, in place of one.
+///
+/// These ticks end at the first that hands out something, and the next turn flushes it. So a desk that has
+/// slept passes the ticks that it missed in a few turns.
+pub fn drive_by<W: Wheel + Drop, I: Inlet + Drop>(
+    alloc: Global,
+    desk: Desk<W, I>,
+    goal: u64,
+    limit: u64,
+    ticks: u64,
+) -> Driven<W, I>
+    requires goal { goal ≤ LAST }
+    requires limit { limit ≤ LAST }
+    requires ticks { 0 < ticks }
+    ensures { Drives I.kind (Step.Ticks ticks) goal limit desk result.desk result.outcome }
+{
+    run_turns(alloc, desk, goal, limit, Step::Ticks(ticks))
+}
+
+/// Runs turns of the desk that end in the step `last`.
+fn run_turns<W: Wheel + Drop, I: Inlet + Drop>(
+    alloc: Global,
+    desk: Desk<W, I>,
+    goal: u64,
+    limit: u64,
+    last: Step,
+) -> Driven<W, I>
+    requires goal { goal ≤ LAST }
+    requires limit { limit ≤ LAST }
+    requires last { PassesTicks last }
+    ensures { Drives I.kind last goal limit desk result.desk result.outcome }
 {
     let mut desk = desk;
     notices_are_owed();
@@ -74,7 +109,7 @@ pub fn drive<W: Wheel + Drop, I: Inlet + Drop>(
                 outcome: DriveEnd::Done,
             };
         }
-        match one_turn(alloc, &mut desk, &mut progress, goal) {
+        match one_turn(alloc, &mut desk, &mut progress, goal, last) {
             Turned::Passed => idle = 0,
             Turned::Idle => {
                 idle += 1;
@@ -94,22 +129,24 @@ pub fn drive<W: Wheel + Drop, I: Inlet + Drop>(
     }
 }
 
-/// Runs one turn, and counts its progress.
+/// Runs one turn that ends in the step `last`, and counts its progress.
 fn one_turn<W: Wheel + Drop, I: Inlet + Drop>(
     alloc: Global,
     desk: &mut Desk<W, I>,
     progress: &mut Vec<Progress>,
     goal: u64,
+    last: Step,
 ) -> Turned
     requires goal { goal ≤ LAST }
     requires clients { vec_len progress.old ≡ clients_of desk.old }
-    ensures turns { TurnsOnce I.kind goal (is_refused result) desk.old desk.new
+    requires last { PassesTicks last }
+    ensures turns { TurnsOnce I.kind last goal (is_refused result) desk.old desk.new
         progress.old.items progress.new.items }
     ensures turned { IsTurned goal progress.old.items progress.new.items result }
     ensures clients { vec_len progress.new ≡ clients_of desk.new }
 {
     desk.keeps();
-    let Ok(steps) = steps_of_turn(alloc, progress, goal) else {
+    let Ok(steps) = steps_of_turn(alloc, progress, goal, last) else {
         return Turned::Refused;
     };
     let Ok(report) = desk.turn(&steps) else {
@@ -122,9 +159,15 @@ fn one_turn<W: Wheel + Drop, I: Inlet + Drop>(
     if passed { Turned::Passed } else { Turned::Idle }
 }
 
-/// The steps of one turn.
-fn steps_of_turn(alloc: Global, progress: &[Progress], goal: u64) -> Result<Vec<Step>, AllocError>
-    ensures fit { IfOk result (λ steps. All (IsFit (length progress.now)) steps.items) }
+/// The steps of one turn, the last of which is `last`.
+fn steps_of_turn(
+    alloc: Global,
+    progress: &[Progress],
+    goal: u64,
+    last: Step,
+) -> Result<Vec<Step>, AllocError>
+    requires last { PassesTicks last }
+    ensures fit { IfOk result (λ steps. All (IsFit (length progress.now) last) steps.items) }
     ensures once { IfOk result (λ steps. ticks_in steps.items ≡ 1) }
 {
     let mut steps = Vec::with_capacity(alloc, 2 * progress.len() + 1)?;
@@ -136,7 +179,7 @@ fn steps_of_turn(alloc: Global, progress: &[Progress], goal: u64) -> Result<Vec<
     for client in 0..progress.len() {
         steps.push_reserved(Step::Flush(client));
     }
-    steps.push_reserved(Step::Tick);
+    steps.push_reserved(last);
     Ok(steps)
 }
 

@@ -31,7 +31,7 @@ mod winding;
 mod word;
 
 pub use desk::Desk;
-pub use driving::{DriveEnd, Driven, drive};
+pub use driving::{DriveEnd, Driven, drive, drive_by};
 pub use inlet::{Inlet, Put, Taken};
 pub use locked::{LockedEnd, LockedInlet};
 pub use locked_maker::locked_line;

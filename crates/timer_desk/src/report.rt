@@ -15,11 +15,13 @@ pub enum Served {
     Did { numbered: Numbered, word: Word },
 }
 
-/// One step of a turn. The number is that of a client.
+/// One step of a turn. The number is that of a client, or how many ticks.
 #[derive(Clone, Copy, Debug, PartialEq, Eq)]
 pub enum Step {
     Serve(usize),
     Tick,
+    /// At least one tick and at most so many, up to the first that hands out something. Not 0.
+    Ticks(u64),
     Close,
     Flush(usize),
 }
@@ -27,11 +29,22 @@ pub enum Step {
 /// One member of a report: the result of a step, or a notice of the tick or the close before it.
 #[derive(Clone, Copy, Debug, PartialEq, Eq)]
 pub enum Done {
-    Served { client: usize, served: Served },
+    Served {
+        client: usize,
+        served: Served,
+    },
     Ticked(Result<(), TickFault>),
+    /// Of at most `limit` ticks so many were passed. Only the last of them handed out anything.
+    Passed {
+        limit: u64,
+        passed: Result<u64, TickFault>,
+    },
     Closed(Result<u64, CloseFault>),
     /// The notice was pushed to the back of its client's outbox.
     Noticed(Notice),
     /// `count` words of the client were put into its line.
-    Flushed { client: usize, count: usize },
+    Flushed {
+        client: usize,
+        count: usize,
+    },
 }

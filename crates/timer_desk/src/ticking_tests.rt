@@ -4,8 +4,8 @@ use crate::tests::{same, start};
 use std::alloc::Global;
 use std::process::Abort;
 use std::test::Fail;
-use timer_base::PlainWheel;
-use timer_facility::{Config, Facility};
+use timer_base::{PlainWheel, Timer};
+use timer_facility::{Config, Facility, Notice, TickFault};
 
 /// A desk at tick 0, whose one client asks for a timer of this interval.
 fn desk_of_one_client(
@@ -58,5 +58,46 @@ fn a_desk_that_slept_passes_its_ticks_at_once_up_to_the_first_expiry(
     same(&rt, desk.ticks(1000), Ok(500));
     same(&rt, (desk.facility().now(), waiting(&desk)), (2500, 2));
     same(&rt, desk.ticks(1000), Ok(1000));
+    Ok(())
+}
+
+/// The report of one step that passes up to 1,000 ticks.
+fn report_of_ticks(rt: &impl Abort, desk: &mut Desk<PlainWheel, MemoryInlet>) -> Vec<Done> {
+    match desk.turn(&[Step::Ticks(1000)]) {
+        Ok(report) => report,
+        Err(_) => panic!(rt; "out of memory"),
+    }
+}
+
+#[test]
+fn many_ticks_are_one_step_of_a_turn(rt: HostRuntime) -> Result<(), Fail> {
+    let alloc = rt.alloc();
+    let mut desk = desk_of_one_client(&rt, alloc, 1500)?;
+    assert!(rt; serve(&mut desk));
+    let of = |passed| Done::Passed {
+        limit: 1000,
+        passed,
+    };
+    let notice = Done::Noticed(Notice::Expired(Timer {
+        serial: 1,
+        client: 0,
+        number: 1,
+        deadline: 1500,
+        action: 7,
+    }));
+    assert_eq!(rt;
+        report_of_ticks(&rt, &mut desk).as_slice(),
+        [of(Ok(1000))].as_slice()
+    );
+    assert_eq!(rt;
+        report_of_ticks(&rt, &mut desk).as_slice(),
+        [of(Ok(500)), notice].as_slice()
+    );
+    same(&rt, (desk.facility().now(), waiting(&desk)), (1500, 2));
+    same(&rt, desk.close(), Ok(0));
+    assert_eq!(rt;
+        report_of_ticks(&rt, &mut desk).as_slice(),
+        [of(Err(TickFault::Closed))].as_slice()
+    );
     Ok(())
 }

@@ -3,7 +3,7 @@
 //! Memory for the whole report is reserved before the first step. A step adds one member; a tick or a close
 //! adds a notice of each timer that it hands out, and each of these was pending before the turn or
 //! was started by a serve during it. So two members a step, and one for each pending timer, are enough.
-ghost use Rattle.std.specs.Prelude.{◌≡◌, [], ◌≤◌, ◌+◌, length, All, IfOk, OnErr, vec_len, vec_capacity, false};
+ghost use Rattle.std.specs.Prelude.{◌≡◌, [], ◌<◌, ◌≤◌, ◌+◌, length, All, IfOk, OnErr, vec_len, vec_capacity, false};
 ghost use Rattle.timer_facility.specs.Facility.{with_nothing_waiting};
 ghost use Rattle.timer_desk.specs.Backlog.{HasRoom};
 ghost use Rattle.timer_desk.specs.Desk.{clients_of, InRange, Told, AddsStep, steps_of, AreBehind, AreOwed};
@@ -58,6 +58,7 @@ impl<W: Wheel + Drop, I: Inlet + Drop> Desk<W, I> {
                 report.push_reserved(Done::Served { client, served });
             }
             Step::Tick => self.tick_into(report),
+            Step::Ticks(limit) => self.ticks_into(limit, report),
             Step::Close => self.close_into(report),
             Step::Flush(client) => {
                 let count = self.flush(client);
@@ -77,6 +78,21 @@ impl<W: Wheel + Drop, I: Inlet + Drop> Desk<W, I> {
         what_is_handed_out_was_pending();
         let result = self.facility.tick();
         report.push_reserved(Done::Ticked(result));
+        hand_out_into(&mut self.facility, &mut self.backlogs, report);
+    }
+
+    /// `ticks`, which appends its result and its notices to the report.
+    fn ticks_into(&mut self, limit: u64, report: &mut Vec<Done>)
+        requires some { 0 < limit }
+        requires room { vec_len report.old + 1 + length self.old.facility.pending ≤ vec_capacity report.old }
+        ensures adds { AddsStep I.kind (Step.Ticks limit) report.old.items report.new.items self.old self.new }
+        ensures capacity { vec_capacity report.new ≡ vec_capacity report.old }
+        ensures room { vec_len report.new + length self.new.facility.pending
+            ≤ vec_len report.old + length self.old.facility.pending + 1 }
+    {
+        what_is_handed_out_was_pending();
+        let passed = self.facility.ticks(limit);
+        report.push_reserved(Done::Passed { limit, passed });
         hand_out_into(&mut self.facility, &mut self.backlogs, report);
     }
 

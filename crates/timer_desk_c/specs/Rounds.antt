@@ -33,6 +33,7 @@ starved (Serveds.Did numbered word) = false
 abbrev pub did_request : Done → Bool
 did_request (Dones.Served client served) = did served
 did_request (Dones.Ticked result) = false
+did_request (Dones.Passed limit passed) = false
 did_request (Dones.Closed result) = false
 did_request (Dones.Noticed notice) = false
 did_request (Dones.Flushed client count) = false
@@ -41,6 +42,7 @@ did_request (Dones.Flushed client count) = false
 abbrev pub ran_out : Done → Bool
 ran_out (Dones.Served client served) = starved served
 ran_out (Dones.Ticked result) = false
+ran_out (Dones.Passed limit passed) = false
 ran_out (Dones.Closed result) = false
 ran_out (Dones.Noticed notice) = false
 ran_out (Dones.Flushed client count) = false
@@ -49,6 +51,7 @@ ran_out (Dones.Flushed client count) = false
 abbrev pub served_none : ℕ → Done → Bool
 served_none c (Dones.Served client served) = if client == c then not (did served) else false
 served_none c (Dones.Ticked result) = false
+served_none c (Dones.Passed limit passed) = false
 served_none c (Dones.Closed result) = false
 served_none c (Dones.Noticed notice) = false
 served_none c (Dones.Flushed client count) = false
@@ -57,6 +60,7 @@ served_none c (Dones.Flushed client count) = false
 abbrev pub flushed_one : ℕ → Done → Bool
 flushed_one c (Dones.Served client served) = false
 flushed_one c (Dones.Ticked result) = false
+flushed_one c (Dones.Passed limit passed) = false
 flushed_one c (Dones.Closed result) = false
 flushed_one c (Dones.Noticed notice) = false
 flushed_one c (Dones.Flushed client count) = client == c
@@ -65,6 +69,7 @@ flushed_one c (Dones.Flushed client count) = client == c
 abbrev pub moved_a_word : Done → Bool
 moved_a_word (Dones.Served client served) = false
 moved_a_word (Dones.Ticked result) = false
+moved_a_word (Dones.Passed limit passed) = false
 moved_a_word (Dones.Closed result) = false
 moved_a_word (Dones.Noticed notice) = false
 moved_a_word (Dones.Flushed client count) = nat_lt 0 count
@@ -73,6 +78,7 @@ moved_a_word (Dones.Flushed client count) = nat_lt 0 count
 abbrev pub IsServe : Done → Type 0
 IsServe (Dones.Served client served) = Unit {0}
 IsServe (Dones.Ticked result) = ⊥
+IsServe (Dones.Passed limit passed) = ⊥
 IsServe (Dones.Closed result) = ⊥
 IsServe (Dones.Noticed notice) = ⊥
 IsServe (Dones.Flushed client count) = ⊥
@@ -81,6 +87,7 @@ IsServe (Dones.Flushed client count) = ⊥
 abbrev pub IsFlush : Done → Type 0
 IsFlush (Dones.Served client served) = ⊥
 IsFlush (Dones.Ticked result) = ⊥
+IsFlush (Dones.Passed limit passed) = ⊥
 IsFlush (Dones.Closed result) = ⊥
 IsFlush (Dones.Noticed notice) = ⊥
 IsFlush (Dones.Flushed client count) = Unit {0}

@@ -85,6 +85,11 @@ fn call<W: Wheel + Drop, I: Inlet + Drop>(
             Done::Served { client, served }
         }
         Step::Tick => Done::Ticked(desk.tick()),
+        Step::Ticks(limit) => {
+            assert!(rt; limit > 0);
+            let passed = desk.ticks(limit);
+            Done::Passed { limit, passed }
+        }
         Step::Close => Done::Closed(desk.close()),
         Step::Flush(client) => {
             assert!(rt; client < desk.clients());

@@ -7,7 +7,7 @@ use Rattle.timer_desk.proofs.driving.one_turn.Goals as goal
 
 pub returns-in_default-clause-turns : goal.returns-in_default-clause-turns
 returns-in_default-clause-turns g c = record {
-  turns = Turns-nothing g.I.Inlet.kind c.args.goal true c.args.desk.now c.args.progress.now.items c.keeps.ensures.held;
+  turns = Turns-nothing g.I.Inlet.kind c.args.last c.args.goal true c.args.desk.now c.args.progress.now.items c.keeps.ensures.held;
   once = λ is. absurd (cc);
 }
 
@@ -19,7 +19,7 @@ returns-then-passed-clause-turns g c =
     let is : steps_of report ≡ c.in-Ok.steps.items = c.in-Ok-turn.ensures.steps ∙ c.deref-2.ensures.value in
     let as_many = ap (λ ps. length ps) c.deref.ensures.value in
     let n : length c.deref.result.now ≡ clients_of c.args.desk.now = omega (arith, as_many, c.requires.clients, c.args.progress.now.ok) in
-    TurnsOnce-one g.I.Inlet.kind c.args.goal false c.args.desk.now c.turn.new.self before after report c.in-Ok.steps.items
+    TurnsOnce-one g.I.Inlet.kind c.args.last c.args.goal false c.args.desk.now c.turn.new.self before after report c.in-Ok.steps.items
     (length c.deref.result.now) n c.in-Ok-turn.ensures.told is
     c.in-Ok.ensures.fit c.in-Ok.ensures.once c.in-Ok-turn.ensures.behind
     (λ _. subst NoneRanOut c.deref-4.ensures.value (c.if-has_refusal.ensures.0 refl))
@@ -34,7 +34,7 @@ returns-clause-turns g c =
     let is : steps_of report ≡ c.in-Ok.steps.items = c.in-Ok-turn.ensures.steps ∙ c.deref-2.ensures.value in
     let as_many = ap (λ ps. length ps) c.deref.ensures.value in
     let n : length c.deref.result.now ≡ clients_of c.args.desk.now = omega (arith, as_many, c.requires.clients, c.args.progress.now.ok) in
-    TurnsOnce-one g.I.Inlet.kind c.args.goal false c.args.desk.now c.turn.new.self before after report c.in-Ok.steps.items
+    TurnsOnce-one g.I.Inlet.kind c.args.last c.args.goal false c.args.desk.now c.turn.new.self before after report c.in-Ok.steps.items
     (length c.deref.result.now) n c.in-Ok-turn.ensures.told is
     c.in-Ok.ensures.fit c.in-Ok.ensures.once c.in-Ok-turn.ensures.behind
     (λ _. subst NoneRanOut c.deref-4.ensures.value (c.if-has_refusal.ensures.0 refl))
