@@ -438,38 +438,106 @@ fn each_call_returns_what_its_row_says(rt: HostRuntime) -> Result<(), Fail> {
     Ok(())
 }
 
-/// The five numbers of a configuration, and which of them is refused.
-static CONFIGS: [(u64, u64, u64, u64, u64, Option<ConfigFault>); 12] = [
-    (0, 1024, 0, 1, 1, Some(ConfigFault::Clients)),
-    (65, 1024, 0, 1, 1, Some(ConfigFault::Clients)),
-    (2, 0, 0, 1, 1, Some(ConfigFault::Capacity)),
-    (2, 1048577, 0, 1, 1, Some(ConfigFault::Capacity)),
-    (2, 1024, LAST + 1, 1, 1, Some(ConfigFault::FirstTick)),
-    (2, 1024, 0, 0, 1, Some(ConfigFault::FirstSerial)),
-    (2, 1024, 0, LAST + 1, 1, Some(ConfigFault::FirstSerial)),
-    (2, 1024, 0, 1, 0, Some(ConfigFault::FirstNumber)),
-    (2, 1024, 0, 1, LAST + 1, Some(ConfigFault::FirstNumber)),
-    (0, 0, LAST + 1, 0, 0, Some(ConfigFault::Clients)),
-    (2, 1024, 0, 1, 1, None),
-    (64, 1048576, LAST, LAST, LAST, None),
+/// Configurations with a number out of its range, and the first of them.
+static REFUSED: [(Config, ConfigFault); 10] = [
+    (
+        Config {
+            clients: 0,
+            ..CONFIG
+        },
+        ConfigFault::Clients,
+    ),
+    (
+        Config {
+            clients: 65,
+            ..CONFIG
+        },
+        ConfigFault::Clients,
+    ),
+    (
+        Config {
+            capacity: 0,
+            ..CONFIG
+        },
+        ConfigFault::Capacity,
+    ),
+    (
+        Config {
+            capacity: 1048577,
+            ..CONFIG
+        },
+        ConfigFault::Capacity,
+    ),
+    (
+        Config {
+            first_tick: LAST + 1,
+            ..CONFIG
+        },
+        ConfigFault::FirstTick,
+    ),
+    (
+        Config {
+            first_serial: 0,
+            ..CONFIG
+        },
+        ConfigFault::FirstSerial,
+    ),
+    (
+        Config {
+            first_serial: LAST + 1,
+            ..CONFIG
+        },
+        ConfigFault::FirstSerial,
+    ),
+    (
+        Config {
+            first_number: 0,
+            ..CONFIG
+        },
+        ConfigFault::FirstNumber,
+    ),
+    (
+        Config {
+            first_number: LAST + 1,
+            ..CONFIG
+        },
+        ConfigFault::FirstNumber,
+    ),
+    (
+        Config {
+            clients: 0,
+            capacity: 0,
+            ..CONFIG
+        },
+        ConfigFault::Clients,
+    ),
+];
+
+/// The lowest numbers and the highest ones.
+static ACCEPTED: [Config; 2] = [
+    Config {
+        clients: 1,
+        capacity: 1,
+        first_tick: 0,
+        first_serial: 1,
+        first_number: 1,
+    },
+    Config {
+        clients: 64,
+        capacity: 1048576,
+        first_tick: LAST,
+        first_serial: LAST,
+        first_number: LAST,
+    },
 ];
 
 #[test]
-fn each_number_of_a_configuration_has_its_range(rt: HostRuntime) {
-    for (clients, capacity, first_tick, first_serial, first_number, fault) in CONFIGS {
-        let config = Config {
-            clients,
-            capacity,
-            first_tick,
-            first_serial,
-            first_number,
-        };
-        match config.check() {
-            Ok(checked) => {
-                assert_eq!(rt; checked.config(), config);
-                assert_eq!(rt; fault, None, "at {config:?}");
-            }
-            Err(found) => assert_eq!(rt; Some(found), fault, "at {config:?}"),
-        }
+fn each_number_of_a_configuration_has_its_range(rt: HostRuntime) -> Result<(), Fail> {
+    for (config, fault) in REFUSED {
+        assert_eq!(rt; config.check().err(), Some(fault), "at {config:?}");
     }
+    for config in ACCEPTED {
+        assert_eq!(rt; config.check()?.config(), config);
+    }
+    Ok(())
 }

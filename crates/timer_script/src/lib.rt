@@ -54,22 +54,3 @@ pub use stage::Stage;
 pub use streams::Streams;
 pub use text::text_of;
 pub use watched::Watched;
-
-#[cfg(test)]
-mod checking_tests;
-#[cfg(test)]
-mod forgiving_tests;
-#[cfg(test)]
-mod prompt_tests;
-#[cfg(test)]
-mod script_tests;
-#[cfg(test)]
-mod serving_tests;
-#[cfg(test)]
-mod session_tests;
-#[cfg(test)]
-mod testing;
-#[cfg(test)]
-mod text_tests;
-#[cfg(test)]
-mod watched_tests;

@@ -1,13 +1,11 @@
 //! Sessions, fed in pieces of many sizes.
-use crate::fault::SessionFault;
-use crate::session::{FeedStop, Session};
-use crate::stage::Stage;
 use crate::testing::{plain_facility, same, same_in};
 use std::alloc::Global;
 use std::process::Abort;
 use timer_base::PlainWheel;
+use timer_script::{FeedStop, Session, SessionFault, Stage};
 
-static LONG: &str =
+const LONG: &str =
     "start 0 1 5 0\n000000000000000000000000000000000000000000000000000000000000000000000000000000000000000000000000000000000000000";
 
 /// A session of one client over a plain wheel.
@@ -45,45 +43,66 @@ fn feed_all(
     end(session, text)
 }
 
-/// Feeds a script in pieces of many sizes, and compares its answers and how each session ended.
-fn check_row(
-    rt: &impl Abort,
-    alloc: Global,
-    name: &str,
-    script: &str,
-    answer: &str,
+/// A script, its answers, and how its session ends.
+#[derive(Clone, Copy)]
+struct Row {
+    script: &'static str,
+    answer: &'static str,
     end: Result<(), SessionFault>,
-) {
-    for size in [1, 2, 3, 7, 14, 15, 50, 108, 1000] {
-        let mut text = Vec::new(alloc);
-        let mut session = session(rt, alloc);
-        let ended = feed_all(&mut session, script.as_bytes(), size, &mut text);
-        same_in(rt, (name, size), ended, end);
-        same_in(rt, (name, size), text.as_slice(), answer.as_bytes());
-    }
 }
+
+/// The last row has a line that is longer than any good one.
+static ROWS: [Row; 6] = [
+    Row {
+        script: "",
+        answer: "end 0 0\n",
+        end: Ok(()),
+    },
+    Row {
+        script: "start 0 1 5 1\nrestart 0 2 1 7 2\ntick 7\nclose\n",
+        answer: "started 0 1 1 5\nrestarted 0 2 1 2 7\nexpired 7 0 2 2\nclosed 0\nend 7 0\n",
+        end: Ok(()),
+    },
+    Row {
+        script: "start 0 1 5 0\nstart 0 02 5 0\nclose\n",
+        answer: "started 0 1 1 5\n",
+        end: Err(SessionFault::Bad { line: 2 }),
+    },
+    Row {
+        script: "start 0 1 5 0\nstart 0 2 5 0",
+        answer: "started 0 1 1 5\n",
+        end: Err(SessionFault::Bad { line: 2 }),
+    },
+    Row {
+        script: "start 0 1 5 0\n\nclose\n",
+        answer: "started 0 1 1 5\n",
+        end: Err(SessionFault::Bad { line: 2 }),
+    },
+    Row {
+        script: LONG,
+        answer: "started 0 1 1 5\n",
+        end: Err(SessionFault::Bad { line: 2 }),
+    },
+];
+
+/// The sizes of pieces.
+static SIZES: [usize; 9] = [1, 2, 3, 7, 14, 15, 50, 108, 1000];
 
 #[test]
 fn a_session_gives_the_same_in_pieces_of_any_size(rt: HostRuntime) {
-    let alloc = rt.alloc();
-    let bad = Err(SessionFault::Bad { line: 2 });
-    check_row(&rt, alloc, "empty", "", "end 0 0\n", Ok(()));
-    check_row(
-        &rt,
-        alloc,
-        "restart",
-        "start 0 1 5 1\nrestart 0 2 1 7 2\ntick 7\nclose\n",
-        "started 0 1 1 5\nrestarted 0 2 1 2 7\nexpired 7 0 2 2\nclosed 0\nend 7 0\n",
-        Ok(()),
-    );
-    let rows = [
-        ("zero", "start 0 1 5 0\nstart 0 02 5 0\nclose\n"),
-        ("cut", "start 0 1 5 0\nstart 0 2 5 0"),
-        ("blank", "start 0 1 5 0\n\nclose\n"),
-        ("long", LONG),
-    ];
-    for (name, script) in rows {
-        check_row(&rt, alloc, name, script, "started 0 1 1 5\n", bad);
+    for row in ROWS {
+        for size in SIZES {
+            let mut text = Vec::new(rt.alloc());
+            let mut session = session(&rt, rt.alloc());
+            let end = feed_all(&mut session, row.script.as_bytes(), size, &mut text);
+            same_in(&rt, (row.script, size), end, row.end);
+            same_in(
+                &rt,
+                (row.script, size),
+                text.as_slice(),
+                row.answer.as_bytes(),
+            );
+        }
     }
 }
 

@@ -5,16 +5,14 @@ ghost use Rattle.timer_script.specs.Peer.{moment_of};
 ghost use Rattle.timer_script.specs.Session.{fresh};
 ghost use Rattle.timer_script.specs.Serving.{IsPrompt};
 
-use crate::fault::ServeFault;
-use crate::laws::served_calls_are_prompt;
-use crate::peer::Peer;
-use crate::serving::serve;
 use crate::testing::{plain_facility, same};
 use std::alloc::Global;
 use std::io;
 use std::process::Abort;
 use timer_base::PlainWheel;
 use timer_facility::Facility;
+use timer_script::laws::served_calls_are_prompt;
+use timer_script::{Peer, ServeFault, serve};
 
 /// Gives its bytes in pieces of `size`, and keeps each call: `<` and what came, `>` and what went, or `!`
 /// for a flush. No call fails.

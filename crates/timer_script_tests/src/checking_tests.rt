@@ -1,15 +1,12 @@
 //! Reports of bad lines: each reason with its column, and the column against its definition.
-use crate::checking::check;
-use crate::explaining::fault_in_line;
-use crate::fault::RunFault;
-use crate::line_fault::{Field, LineFault, LineReason};
-use crate::script::parse_script;
 use crate::testing::{same, same_in};
-use crate::watched::Watched;
 use std::alloc::Global;
 use std::io;
 use std::io::{ErrorKind, Read, Write};
 use std::process::Abort;
+use timer_script::{
+    Field, LineFault, LineReason, RunFault, Watched, check, fault_in_line, parse_script,
+};
 
 /// Gives its bytes in pieces of three. The call of this number fails, counted from 0.
 #[derive(Drop)]

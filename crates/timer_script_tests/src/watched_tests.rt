@@ -1,13 +1,11 @@
 //! What a watched reader or writer, and a peer of the two, ask of the ones inside: one call for each call,
 //! with the whole piece, and none again.
-use crate::peer::Peer;
-use crate::streams::Streams;
 use crate::testing::same_in;
-use crate::watched::Watched;
 use std::alloc::Global;
 use std::io;
 use std::io::{ErrorKind, Read, Write};
 use std::process::Abort;
+use timer_script::{Peer, Streams, Watched};
 
 /// Writes its calls down: `<` and the piece of a read, `>` and that of a write, `!` for a flush. One of
 /// them fails, counted from 0.
@@ -58,38 +56,28 @@ impl Write for Recorder {
     }
 }
 
+/// How many bytes, if the call does not fail.
+fn taken(bytes: usize, fails: bool) -> Option<usize> {
+    if fails { None } else { Some(bytes) }
+}
+
 /// Makes a call of each kind, of which this one fails inside, and compares what failed.
 fn check_calls(rt: &impl Abort, alloc: Global, fails_at: u64) {
     let mut watched = Watched::new(Recorder::new(alloc, fails_at));
     let mut piece = *b"room";
+    let read = (watched.read(&mut piece).ok(), watched.failed());
+    let written = (watched.write(b"text").ok(), watched.failed());
+    let flushed = (watched.flush().is_ok(), watched.failed());
+    same_in(rt, fails_at, read, (taken(4, fails_at == 0), fails_at == 0));
     same_in(
         rt,
         fails_at,
-        watched.read(&mut piece).ok(),
-        taken(4, fails_at == 0),
+        written,
+        (taken(4, fails_at == 1), fails_at <= 1),
     );
-    same_in(rt, fails_at, watched.failed(), fails_at == 0);
-    same_in(
-        rt,
-        fails_at,
-        watched.write(b"text").ok(),
-        taken(4, fails_at == 1),
-    );
-    same_in(rt, fails_at, watched.failed(), fails_at <= 1);
-    same_in(rt, fails_at, watched.flush().is_err(), fails_at == 2);
-    same_in(rt, fails_at, watched.failed(), fails_at <= 2);
-    let inner = watched.into_inner();
-    same_in(
-        rt,
-        fails_at,
-        inner.log.as_slice(),
-        b"<room>text!".as_slice(),
-    );
-}
-
-/// So many bytes, if the call does not fail.
-fn taken(bytes: usize, fails: bool) -> Option<usize> {
-    if fails { None } else { Some(bytes) }
+    same_in(rt, fails_at, flushed, (fails_at != 2, fails_at <= 2));
+    let log = watched.into_inner().log;
+    same_in(rt, fails_at, log.as_slice(), b"<room>text!".as_slice());
 }
 
 #[test]
@@ -106,44 +94,20 @@ fn check_streams(rt: &impl Abort, alloc: Global, fails_at: u64) {
     let writer = Recorder::new(alloc, fails_at.wrapping_sub(1));
     let mut streams = Streams::new(reader, writer);
     let mut piece = *b"room";
-    same_in(
-        rt,
-        fails_at,
-        Peer::read(&mut streams, &mut piece).ok(),
-        taken(4, fails_at == 0),
-    );
-    same_in(
-        rt,
-        fails_at,
-        Peer::write(&mut streams, b"text").ok(),
-        taken(4, fails_at == 1),
-    );
-    same_in(
-        rt,
-        fails_at,
-        Peer::flush(&mut streams).is_err(),
-        fails_at == 2,
-    );
+    let read = Peer::read(&mut streams, &mut piece).ok();
+    let written = Peer::write(&mut streams, b"text").ok();
+    let flushed = Peer::flush(&mut streams).is_ok();
+    same_in(rt, fails_at, read, taken(4, fails_at == 0));
+    same_in(rt, fails_at, written, taken(4, fails_at == 1));
+    same_in(rt, fails_at, flushed, fails_at != 2);
     let Streams { reader, writer } = streams;
-    same_in(rt, fails_at, reader.failed(), fails_at == 0);
-    same_in(
-        rt,
-        fails_at,
-        writer.failed(),
-        fails_at == 1 || fails_at == 2,
-    );
-    same_in(
-        rt,
-        fails_at,
-        reader.into_inner().log.as_slice(),
-        b"<room".as_slice(),
-    );
-    same_in(
-        rt,
-        fails_at,
-        writer.into_inner().log.as_slice(),
-        b">text!".as_slice(),
-    );
+    let failed = (reader.failed(), writer.failed());
+    let wanted = (fails_at == 0, fails_at == 1 || fails_at == 2);
+    same_in(rt, fails_at, failed, wanted);
+    let log = reader.into_inner().log;
+    same_in(rt, fails_at, log.as_slice(), b"<room".as_slice());
+    let log = writer.into_inner().log;
+    same_in(rt, fails_at, log.as_slice(), b">text!".as_slice());
 }
 
 #[test]

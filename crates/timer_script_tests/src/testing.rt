@@ -23,6 +23,20 @@ pub fn same_in<R: Debug + Drop, T: PartialEq + Debug + Drop>(
 }
 
 /// A facility over the plain wheel, with nothing in it.
+pub fn facility(rt: &impl Abort, alloc: Global, config: Config) -> Facility<PlainWheel>
+    ensures pending { result.state.pending ≡ [] }
+    ensures waiting { result.waiting ≡ [] }
+{
+    let Ok(checked) = config.check() else {
+        panic!(rt; "out of range");
+    };
+    let Ok(wheel) = PlainWheel::new(alloc, config.first_tick) else {
+        panic!(rt; "out of memory");
+    };
+    Facility::open(alloc, checked, wheel)
+}
+
+/// The same, whose first tick is 0, and whose first numbers are 1.
 pub fn plain_facility(
     rt: &impl Abort,
     alloc: Global,
@@ -39,11 +53,5 @@ pub fn plain_facility(
         first_serial: 1,
         first_number: 1,
     };
-    let Ok(checked) = config.check() else {
-        panic!(rt; "out of range");
-    };
-    let Ok(wheel) = PlainWheel::new(alloc, 0) else {
-        panic!(rt; "out of memory");
-    };
-    Facility::open(alloc, checked, wheel)
+    facility(rt, alloc, config)
 }
