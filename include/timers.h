@@ -239,7 +239,7 @@ bool timers_each(const struct timers *t, size_t *cursor, struct timer_handle *ha
 enum timers_status timers_tick(struct timers *t);
 
 /* Passes at most `most` ticks, and stops at the first at which a timer expires. Writes `*passed`, how many
- * were passed, at TIMERS_OK. It is 0 only if `most` is 0, and less than `most` only if a timer has expired
+ * were passed, at TIMERS_OK. It is 0 only if `most` is 0. It is less than `most` only if a timer has expired
  * or the clock is at its last tick.
  * TIMERS_NOT_OPEN, TIMERS_DUE, TIMERS_CLOCK_END. */
 enum timers_status timers_advance(struct timers *t, uint64_t most, uint64_t *passed);
@@ -277,8 +277,8 @@ uint64_t timers_next(const struct timers *t);
 
 /* Writes `*counts`, what the wheels did since timers_new, at TIMERS_OK. `starts` counts each start and restart
  * that returned TIMERS_OK. `moves` is at most 9 times `starts` (of TIMERS_CLOCK, 3 times). `visits` counts one
- * for each tick of timers_tick. Of timers_advance it counts one for each multiple of 64 ticks (of TIMERS_CLOCK,
- * 60) that is passed, and one for its last tick if that is no such multiple and a timer expires there. A stop
+ * for each tick of timers_tick. Of timers_advance it counts one for each multiple of 64 ticks that is passed (of
+ * TIMERS_CLOCK, 60). It also counts its last tick if that is no such multiple and a timer expires there. A stop
  * and taking expired timers count nothing. Constant time. Does not allocate.
  * TIMERS_NOT_OPEN. */
 TIMERS_CHECKED

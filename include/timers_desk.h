@@ -170,8 +170,8 @@ struct timers_word {
 
 /* The owner's calls. */
 
-/* Makes a desk with `clients` clients, 1 to 64, over the clock of TIMERS_WIDE. lines[0] to lines[clients - 1] hold the
- * clients' ends from then on, until timers_line_free. `lines` must not be NULL, even if `clients` is 0.
+/* Makes a desk with `clients` clients, 1 to 64, over the clock of TIMERS_WIDE. From then on lines[0] to
+ * lines[clients - 1] hold the clients' ends. `lines` must not be NULL, even if `clients` is 0.
  * TIMERS_DESK_OPEN, TIMERS_DESK_OUT_OF_RANGE, TIMERS_DESK_NO_MEMORY: nothing has changed then. */
 enum timers_desk_status timers_desk_new(struct timers_desk *d, struct timers_line *lines, size_t clients,
                                         const struct timers_desk_config *config);
@@ -205,8 +205,8 @@ size_t timers_desk_flush(struct timers_desk *d, size_t client);
 enum timers_desk_status timers_desk_tick(struct timers_desk *d);
 
 /* Passes at most `most` ticks, up to the first at which a timer expires. At TIMERS_DESK_OK it writes to `*passed` how
- * many: 0 only if `most` is 0, and fewer than `most` only if a timer has expired or the clock is at its last tick. Jumps
- * over stretches in which nothing happens. Does not allocate.
+ * many: 0 only if `most` is 0. They are fewer than `most` only if a timer has expired or the clock is at its last tick.
+ * Jumps over stretches in which nothing happens. Does not allocate.
  * TIMERS_DESK_NOT_OPEN, TIMERS_DESK_CLOSED, TIMERS_DESK_CLOCK_END. */
 enum timers_desk_status timers_desk_advance(struct timers_desk *d, uint64_t most, uint64_t *passed);
 
@@ -217,14 +217,15 @@ enum timers_desk_status timers_desk_advance(struct timers_desk *d, uint64_t most
 enum timers_desk_status timers_desk_close(struct timers_desk *d, uint64_t *returned);
 
 /* Settles the line of a client that has finished, once its thread has handed the line over (rule 4). At TIMERS_DESK_OK it
- * writes to `*standing` how many of the client's requests still stand in the line. If that is 0, the last serve did not
- * return TIMERS_DESK_NO_MEMORY, and the outbox is empty, nothing of this client is left at the desk but pending timers.
+ * writes to `*standing` how many of the client's requests still stand in the line. Only pending timers of this client are
+ * left at the desk if three things hold. It is 0, the last serve did not return TIMERS_DESK_NO_MEMORY, and the outbox is
+ * empty.
  * TIMERS_DESK_NOT_OPEN (either struct), TIMERS_DESK_NO_CLIENT, TIMERS_DESK_OTHER_LINE (it is another client's),
  * TIMERS_DESK_NOT_FINISHED, TIMERS_DESK_OTHER_LINE (the desk was freed before it finished). */
 enum timers_desk_status timers_desk_settle(struct timers_desk *d, size_t client, struct timers_line *line, size_t *standing);
 
 /* Ends the words of a client that has finished, once its thread has handed the line over (rule 4). At TIMERS_DESK_OK it
- * writes to `*unread` how many words stand in the line: with those that were received they are all that the client was
+ * writes to `*unread` how many words stand in the line. With those that were received they are all that the client was
  * given. The line may then be handed back and read to its end. Does not allocate.
  * TIMERS_DESK_NOT_OPEN (either struct), TIMERS_DESK_NO_CLIENT, TIMERS_DESK_OTHER_LINE (it is another client's),
  * TIMERS_DESK_NOT_FINISHED, TIMERS_DESK_OTHER_LINE (the desk was freed before it finished).
