@@ -13,7 +13,7 @@ use timer_desk::{
     ClientEnd, Desk, Done, Inlet, LockedEnd, MemoryInlet, Numbered, OpenFault, RingInlet, Served,
     Step, Word,
 };
-use timer_facility::{Answer, CloseFault, Facility, NotTaken, Notice};
+use timer_facility::{Answer, CloseFault, Facility, NotTaken, Notice, Request};
 use timer_wheels::{HierWheel, Table};
 
 /// How a step is taken.
@@ -101,22 +101,19 @@ fn serve<I: Inlet + Drop>(
     Err(Fault::RefusedTwice)
 }
 
-/// The word for an accepted start, without its place.
-pub fn started(number: u64, serial: u64, deadline: u64) -> Word {
-    let handle = Handle { place: 0, serial };
-    Word::Answered {
-        number,
-        answer: Answer::Started { handle, deadline },
-    }
-}
-
 /// The word without the place of a handle, which is a free choice of the wheel.
 pub fn bare(word: Word) -> Word {
     match word {
         Word::Answered {
             number,
             answer: Answer::Started { handle, deadline },
-        } => started(number, handle.serial, deadline),
+        } => Word::Answered {
+            number,
+            answer: Answer::Started {
+                handle: Handle { place: 0, ..handle },
+                deadline,
+            },
+        },
         word => word,
     }
 }
@@ -128,22 +125,6 @@ fn bare_served(served: Served) -> Served {
             word: bare(word),
         },
         served => served,
-    }
-}
-
-/// The start under this number.
-pub fn numbered(number: u64, interval: u64, action: u64) -> Numbered {
-    Numbered {
-        number,
-        request: request(interval, action),
-    }
-}
-
-/// The serve of an accepted start.
-fn did(number: u64, interval: u64, action: u64, serial: u64, deadline: u64) -> Served {
-    Served::Did {
-        numbered: numbered(number, interval, action),
-        word: started(number, serial, deadline),
     }
 }
 
@@ -203,47 +184,135 @@ fn flush<I: Inlet + Drop>(
     same(count, wanted, "how many words went")
 }
 
+/// A step of the row on a close, and what comes of it.
+#[derive(Clone, Copy)]
+enum RowStep {
+    Serve(usize, Served),
+    Close(u64),
+}
+
 /// The steps of the row on a close, over two lines.
+static CLOSE_AT_DESK: [RowStep; 4] = [
+    RowStep::Serve(
+        0,
+        Served::Did {
+            numbered: Numbered {
+                number: 1,
+                request: Request::Start {
+                    interval: 5,
+                    action: 1,
+                },
+            },
+            word: Word::Answered {
+                number: 1,
+                answer: Answer::Started {
+                    handle: Handle {
+                        place: 0,
+                        serial: 1,
+                    },
+                    deadline: 5,
+                },
+            },
+        },
+    ),
+    RowStep::Serve(
+        1,
+        Served::Did {
+            numbered: Numbered {
+                number: 1,
+                request: Request::Start {
+                    interval: 3,
+                    action: 2,
+                },
+            },
+            word: Word::Answered {
+                number: 1,
+                answer: Answer::Started {
+                    handle: Handle {
+                        place: 0,
+                        serial: 2,
+                    },
+                    deadline: 3,
+                },
+            },
+        },
+    ),
+    RowStep::Close(2),
+    RowStep::Serve(
+        0,
+        Served::Did {
+            numbered: Numbered {
+                number: 2,
+                request: Request::Start {
+                    interval: 1,
+                    action: 3,
+                },
+            },
+            word: Word::NotTaken {
+                number: 2,
+                reason: NotTaken::Closed,
+            },
+        },
+    ),
+];
+
+/// The words of client 0 at the close.
+static OF_ZERO: [Word; 3] = [
+    Word::Answered {
+        number: 1,
+        answer: Answer::Started {
+            handle: Handle {
+                place: 0,
+                serial: 1,
+            },
+            deadline: 5,
+        },
+    },
+    Word::Notice(Notice::Returned(Timer {
+        serial: 1,
+        client: 0,
+        number: 1,
+        deadline: 5,
+        action: 1,
+    })),
+    Word::NotTaken {
+        number: 2,
+        reason: NotTaken::Closed,
+    },
+];
+
+/// The words of client 1 at the close.
+static OF_ONE: [Word; 2] = [
+    Word::Answered {
+        number: 1,
+        answer: Answer::Started {
+            handle: Handle {
+                place: 0,
+                serial: 2,
+            },
+            deadline: 3,
+        },
+    },
+    Word::Notice(Notice::Returned(Timer {
+        serial: 2,
+        client: 1,
+        number: 1,
+        deadline: 3,
+        action: 2,
+    })),
+];
+
+/// Takes the steps of the row on a close.
 fn close_at_desk<I: Inlet + Drop>(desk: &mut Desk<HierWheel, I>, by: By) -> Result<(), Fault> {
-    let first = did(1, 5, 1, 1, 5);
-    same(serve(desk, 0, by)?, first, "the first start")?;
-    let other = did(1, 3, 2, 2, 3);
-    same(serve(desk, 1, by)?, other, "the other client's start")?;
-    same(close(desk, by)?, 2, "how many are returned")?;
-    let closed = Served::Did {
-        numbered: numbered(2, 1, 3),
-        word: not_taken(2),
-    };
-    same(serve(desk, 0, by)?, closed, "a start after the close")?;
+    for step in CLOSE_AT_DESK {
+        match step {
+            RowStep::Serve(c, wanted) => same(serve(desk, c, by)?, wanted, "a serve")?,
+            RowStep::Close(count) => same(close(desk, by)?, count, "a close")?,
+        }
+    }
     same(shown(desk), (0, 0, 3, 2), "what waits at the end")?;
     flush(desk, 0, 3)?;
     flush(desk, 1, 2)
-}
-
-/// The word for a request that comes after the close.
-fn not_taken(number: u64) -> Word {
-    Word::NotTaken {
-        number,
-        reason: NotTaken::Closed,
-    }
-}
-
-fn returned(serial: u64, client: u64, deadline: u64, action: u64) -> Word {
-    Word::Notice(Notice::Returned(Timer {
-        serial,
-        client,
-        number: 1,
-        deadline,
-        action,
-    }))
-}
-
-/// The words of the two clients at the close.
-fn words_at_close() -> ([Word; 3], [Word; 2]) {
-    (
-        [started(1, 1, 5), returned(1, 0, 5, 1), not_taken(2)],
-        [started(1, 2, 3), returned(2, 1, 3, 2)],
-    )
 }
 
 /// Sends a request, which goes out under this number.
@@ -293,9 +362,8 @@ fn close_and_receive(
     one: &mut ClientEnd,
 ) -> Result<(), Fault> {
     close_at_desk(desk, by)?;
-    let (of_zero, of_one) = words_at_close();
-    see_words(zero, &of_zero)?;
-    see_words(one, &of_one)
+    see_words(zero, &OF_ZERO)?;
+    see_words(one, &OF_ONE)
 }
 
 /// Sends a request over a locked line.
@@ -342,22 +410,111 @@ fn close_and_receive_locked<I: Inlet + Drop>(
     one: &mut LockedEnd,
 ) -> Result<(), Fault> {
     close_at_desk(desk, by)?;
-    let (of_zero, of_one) = words_at_close();
-    see_locked_words(rt, zero, &of_zero)?;
-    see_locked_words(rt, one, &of_one)
+    see_locked_words(rt, zero, &OF_ZERO)?;
+    see_locked_words(rt, one, &OF_ONE)
 }
+
+/// The requests of the two clients.
+static REQUESTS_OF_ZERO: [Numbered; 2] = [
+    Numbered {
+        number: 1,
+        request: Request::Start {
+            interval: 5,
+            action: 1,
+        },
+    },
+    Numbered {
+        number: 2,
+        request: Request::Start {
+            interval: 1,
+            action: 3,
+        },
+    },
+];
+
+static REQUESTS_OF_ONE: [Numbered; 1] = [Numbered {
+    number: 1,
+    request: Request::Start {
+        interval: 3,
+        action: 2,
+    },
+}];
 
 /// A close over lines in memory.
 pub fn close_in_memory(alloc: Global, by: By) -> Result<(), Fault> {
-    let zero = vec![in alloc; numbered(1, 5, 1), numbered(2, 1, 3)]?;
-    let one = vec![in alloc; numbered(1, 3, 2)]?;
-    let inlets = vec![in alloc;
-        MemoryInlet::new(alloc, zero, 10),
-        MemoryInlet::new(alloc, one, 10),
-    ]?;
-    let mut desk = open(alloc, inlets)?;
+    let mut desk = open(
+        alloc,
+        in_memory(alloc, &REQUESTS_OF_ZERO, &REQUESTS_OF_ONE)?,
+    )?;
     close_at_desk(&mut desk, by)
 }
+
+/// Two lines in memory, in which these requests stand.
+pub fn in_memory(
+    alloc: Global,
+    zero: &[Numbered],
+    one: &[Numbered],
+) -> Result<Vec<MemoryInlet>, Fault> {
+    let mut inlets = Vec::new(alloc);
+    for requests in [zero, one] {
+        let mut standing = Vec::new(alloc);
+        standing.extend_from_slice(requests)?;
+        inlets.push(MemoryInlet::new(alloc, standing, 10))?;
+    }
+    Ok(inlets)
+}
+
+/// What a serve of the start does that is held over a tick, or not.
+static HELD_BEFORE: Served = Served::Did {
+    numbered: Numbered {
+        number: 1,
+        request: Request::Start {
+            interval: 1,
+            action: 7,
+        },
+    },
+    word: Word::Answered {
+        number: 1,
+        answer: Answer::Started {
+            handle: Handle {
+                place: 0,
+                serial: 1,
+            },
+            deadline: 1,
+        },
+    },
+};
+
+static HELD_AFTER: Served = Served::Did {
+    numbered: Numbered {
+        number: 1,
+        request: Request::Start {
+            interval: 1,
+            action: 7,
+        },
+    },
+    word: Word::Answered {
+        number: 1,
+        answer: Answer::Started {
+            handle: Handle {
+                place: 0,
+                serial: 1,
+            },
+            deadline: 2,
+        },
+    },
+};
+
+static HELD_WORDS: [Word; 1] = [Word::Answered {
+    number: 1,
+    answer: Answer::Started {
+        handle: Handle {
+            place: 0,
+            serial: 1,
+        },
+        deadline: 2,
+    },
+}];
 
 /// A start that was refused for memory is held over a tick, and its deadline is counted from the tick at
 /// which it is accepted. Returns whether it was held.
@@ -372,7 +529,7 @@ pub fn hold_over_tick(alloc: Global, by: By) -> Result<bool, Fault> {
         "what is held",
     )?;
     see(desk.tick().is_ok(), "a tick")?;
-    if bare_served(first) == did(1, 1, 7, 1, 1) {
+    if bare_served(first) == HELD_BEFORE {
         return Ok(false);
     }
     serve_after_tick(&mut desk, &mut end, by)?;
@@ -385,8 +542,7 @@ fn serve_after_tick(
     end: &mut ClientEnd,
     by: By,
 ) -> Result<(), Fault> {
-    let second = did(1, 1, 7, 1, 2);
-    same(serve(desk, 0, by)?, second, "the start after the tick")?;
+    same(serve(desk, 0, by)?, HELD_AFTER, "the start after the tick")?;
     flush(desk, 0, 1)?;
-    see_words(end, &[started(1, 1, 2)])
+    see_words(end, &HELD_WORDS)
 }

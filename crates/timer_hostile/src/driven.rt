@@ -8,12 +8,12 @@
 //!     interval                            2        1        1        3
 //!     served at, deadline                 0, 2     1, 2     0, 1     1, 4
 //!     the same if the first is held       1, 3     2, 3     0, 1     1, 4
-use crate::desks::{bare, numbered, open, started};
+use crate::desks::{bare, in_memory, open};
 use crate::fault::{Fault, same, see};
 use std::alloc::Global;
-use timer_base::Timer;
-use timer_desk::{Desk, DriveEnd, Driven, MemoryInlet, Word, drive};
-use timer_facility::Notice;
+use timer_base::{Handle, Timer};
+use timer_desk::{Desk, DriveEnd, Driven, MemoryInlet, Numbered, Word, drive};
+use timer_facility::{Answer, Notice, Request};
 use timer_wheels::HierWheel;
 
 /// How many requests of each client are served.
@@ -25,21 +25,198 @@ const LIMIT: u64 = 10;
 /// The tick at which the last word is in its line.
 const END: u64 = 5;
 
-/// Two lines with two starts each.
-fn lines(alloc: Global) -> Result<Vec<MemoryInlet>, Fault> {
-    let zero = vec![in alloc; numbered(1, 2, 1), numbered(2, 1, 2)]?;
-    let one = vec![in alloc; numbered(1, 1, 3), numbered(2, 3, 4)]?;
-    let inlets = vec![in alloc;
-        MemoryInlet::new(alloc, zero, 10),
-        MemoryInlet::new(alloc, one, 10),
-    ]?;
-    Ok(inlets)
-}
+/// Two starts of each client.
+static REQUESTS_OF_ZERO: [Numbered; 2] = [
+    Numbered {
+        number: 1,
+        request: Request::Start {
+            interval: 2,
+            action: 1,
+        },
+    },
+    Numbered {
+        number: 2,
+        request: Request::Start {
+            interval: 1,
+            action: 2,
+        },
+    },
+];
+
+static REQUESTS_OF_ONE: [Numbered; 2] = [
+    Numbered {
+        number: 1,
+        request: Request::Start {
+            interval: 1,
+            action: 3,
+        },
+    },
+    Numbered {
+        number: 2,
+        request: Request::Start {
+            interval: 3,
+            action: 4,
+        },
+    },
+];
+
+/// The words of the two clients if each start was accepted at its first try.
+static OF_ZERO: [Word; 4] = [
+    Word::Answered {
+        number: 1,
+        answer: Answer::Started {
+            handle: Handle {
+                place: 0,
+                serial: 1,
+            },
+            deadline: 2,
+        },
+    },
+    Word::Answered {
+        number: 2,
+        answer: Answer::Started {
+            handle: Handle {
+                place: 0,
+                serial: 3,
+            },
+            deadline: 2,
+        },
+    },
+    Word::Notice(Notice::Expired(Timer {
+        serial: 1,
+        client: 0,
+        number: 1,
+        deadline: 2,
+        action: 1,
+    })),
+    Word::Notice(Notice::Expired(Timer {
+        serial: 3,
+        client: 0,
+        number: 2,
+        deadline: 2,
+        action: 2,
+    })),
+];
+
+static OF_ONE: [Word; 4] = [
+    Word::Answered {
+        number: 1,
+        answer: Answer::Started {
+            handle: Handle {
+                place: 0,
+                serial: 2,
+            },
+            deadline: 1,
+        },
+    },
+    Word::Notice(Notice::Expired(Timer {
+        serial: 2,
+        client: 1,
+        number: 1,
+        deadline: 1,
+        action: 3,
+    })),
+    Word::Answered {
+        number: 2,
+        answer: Answer::Started {
+            handle: Handle {
+                place: 0,
+                serial: 4,
+            },
+            deadline: 4,
+        },
+    },
+    Word::Notice(Notice::Expired(Timer {
+        serial: 4,
+        client: 1,
+        number: 2,
+        deadline: 4,
+        action: 4,
+    })),
+];
+
+/// The words of the two clients if the first start of client 0 was held over a tick.
+static OF_ZERO_AFTER_HOLD: [Word; 4] = [
+    Word::Answered {
+        number: 1,
+        answer: Answer::Started {
+            handle: Handle {
+                place: 0,
+                serial: 2,
+            },
+            deadline: 3,
+        },
+    },
+    Word::Answered {
+        number: 2,
+        answer: Answer::Started {
+            handle: Handle {
+                place: 0,
+                serial: 4,
+            },
+            deadline: 3,
+        },
+    },
+    Word::Notice(Notice::Expired(Timer {
+        serial: 2,
+        client: 0,
+        number: 1,
+        deadline: 3,
+        action: 1,
+    })),
+    Word::Notice(Notice::Expired(Timer {
+        serial: 4,
+        client: 0,
+        number: 2,
+        deadline: 3,
+        action: 2,
+    })),
+];
+
+static OF_ONE_AFTER_HOLD: [Word; 4] = [
+    Word::Answered {
+        number: 1,
+        answer: Answer::Started {
+            handle: Handle {
+                place: 0,
+                serial: 1,
+            },
+            deadline: 1,
+        },
+    },
+    Word::Notice(Notice::Expired(Timer {
+        serial: 1,
+        client: 1,
+        number: 1,
+        deadline: 1,
+        action: 3,
+    })),
+    Word::Answered {
+        number: 2,
+        answer: Answer::Started {
+            handle: Handle {
+                place: 0,
+                serial: 3,
+            },
+            deadline: 4,
+        },
+    },
+    Word::Notice(Notice::Expired(Timer {
+        serial: 3,
+        client: 1,
+        number: 2,
+        deadline: 4,
+        action: 4,
+    })),
+];
 
 /// Drives two clients to the goal, at the second try if the first is refused. Returns whether a request
 /// was held.
 pub fn drive_two(alloc: Global) -> Result<bool, Fault> {
-    let desk = open(alloc, lines(alloc)?)?;
+    let desk = open(
+        alloc,
+        in_memory(alloc, &REQUESTS_OF_ZERO, &REQUESTS_OF_ONE)?,
+    )?;
     let Driven { desk, outcome } = drive(alloc, desk, GOAL, LIMIT);
     let is_held = desk.clients() > 0 && desk.held(0).is_some();
     let desk = match outcome {
@@ -78,11 +255,15 @@ fn drive_on(
 fn see_lines(desk: Desk<HierWheel, MemoryInlet>, is_held: bool) -> Result<(), Fault> {
     same(desk.facility().pending(), 0, "a timer that is pending")?;
     let inlets = end_desk(desk)?;
-    let (of_zero, of_one) = if is_held { words_after_hold() } else { words() };
+    let (of_zero, of_one) = if is_held {
+        (&OF_ZERO_AFTER_HOLD, &OF_ONE_AFTER_HOLD)
+    } else {
+        (&OF_ZERO, &OF_ONE)
+    };
     match (inlets.first(), inlets.last()) {
         (Some(zero), Some(one)) => {
-            see_given(zero, &of_zero)?;
-            see_given(one, &of_one)
+            see_given(zero, of_zero)?;
+            see_given(one, of_one)
         }
         _ => Err(Fault::Wrong("the lines of a desk")),
     }
@@ -109,58 +290,4 @@ fn see_given(inlet: &MemoryInlet, wanted: &[Word]) -> Result<(), Fault> {
         same(bare(*word), *want, "a word that was given")?;
     }
     Ok(())
-}
-
-/// The notice that a timer expired. Its action says whose it is: the starts have the actions 1 to 4, two of
-/// each client.
-fn expired(serial: u64, deadline: u64, action: u64) -> Word {
-    let (client, number) = match action {
-        1 => (0, 1),
-        2 => (0, 2),
-        3 => (1, 1),
-        _ => (1, 2),
-    };
-    Word::Notice(Notice::Expired(Timer {
-        serial,
-        client,
-        number,
-        deadline,
-        action,
-    }))
-}
-
-/// The words of the two clients if each start was accepted at its first try.
-fn words() -> ([Word; 4], [Word; 4]) {
-    (
-        [
-            started(1, 1, 2),
-            started(2, 3, 2),
-            expired(1, 2, 1),
-            expired(3, 2, 2),
-        ],
-        [
-            started(1, 2, 1),
-            expired(2, 1, 3),
-            started(2, 4, 4),
-            expired(4, 4, 4),
-        ],
-    )
-}
-
-/// The words of the two clients if the first start of client 0 was held over a tick.
-fn words_after_hold() -> ([Word; 4], [Word; 4]) {
-    (
-        [
-            started(1, 2, 3),
-            started(2, 4, 3),
-            expired(2, 3, 1),
-            expired(4, 3, 2),
-        ],
-        [
-            started(1, 1, 1),
-            expired(1, 1, 3),
-            started(2, 3, 4),
-            expired(3, 4, 4),
-        ],
-    )
 }

@@ -7,43 +7,255 @@ use timer_base::{Handle, Timer};
 use timer_facility::{Answer, Event, Facility, NotTaken, Notice, Out, Player, TickFault};
 use timer_wheels::{HierWheel, Table};
 
-fn start(client: u64, number: u64, interval: u64, action: u64) -> Event {
-    Event::Start {
-        client,
-        number,
-        interval,
-        action,
-    }
+/// Events, their outs without places, and the tick at which nothing is pending any more.
+#[derive(Clone, Copy)]
+pub struct Row {
+    events: &'static [Event],
+    outs: &'static [Out],
+    end: u64,
 }
 
-/// An accepted start, without its place.
-fn started(client: u64, number: u64, serial: u64, deadline: u64) -> Out {
-    let handle = Handle { place: 0, serial };
-    Out::Answered {
-        client,
-        number,
-        answer: Answer::Started { handle, deadline },
-    }
-}
+/// A timer moves to a lower wheel, and expires with another of its tick.
+pub const MIGRATION: Row = Row {
+    events: &[
+        Event::Start {
+            client: 0,
+            number: 1,
+            interval: 130,
+            action: 1,
+        },
+        Event::Ticks { count: 128 },
+        Event::Start {
+            client: 1,
+            number: 1,
+            interval: 2,
+            action: 2,
+        },
+        Event::Ticks { count: 2 },
+    ],
+    outs: &[
+        Out::Answered {
+            client: 0,
+            number: 1,
+            answer: Answer::Started {
+                handle: Handle {
+                    place: 0,
+                    serial: 1,
+                },
+                deadline: 130,
+            },
+        },
+        Out::Answered {
+            client: 1,
+            number: 1,
+            answer: Answer::Started {
+                handle: Handle {
+                    place: 0,
+                    serial: 2,
+                },
+                deadline: 130,
+            },
+        },
+        Out::Notice(Notice::Expired(Timer {
+            serial: 1,
+            client: 0,
+            number: 1,
+            deadline: 130,
+            action: 1,
+        })),
+        Out::Notice(Notice::Expired(Timer {
+            serial: 2,
+            client: 1,
+            number: 1,
+            deadline: 130,
+            action: 2,
+        })),
+    ],
+    end: 130,
+};
 
-/// The timer of the client's request with this number.
-fn timer(client: u64, number: u64, serial: u64, deadline: u64, action: u64) -> Timer {
-    Timer {
-        serial,
-        client,
-        number,
-        deadline,
-        action,
-    }
-}
+/// One of three timers is stopped.
+pub const STOP_MIDDLE: Row = Row {
+    events: &[
+        Event::Start {
+            client: 0,
+            number: 1,
+            interval: 10,
+            action: 1,
+        },
+        Event::Start {
+            client: 0,
+            number: 2,
+            interval: 10,
+            action: 2,
+        },
+        Event::Start {
+            client: 0,
+            number: 3,
+            interval: 10,
+            action: 3,
+        },
+        Event::Stop {
+            client: 0,
+            number: 4,
+            serial: 2,
+        },
+        Event::Ticks { count: 10 },
+    ],
+    outs: &[
+        Out::Answered {
+            client: 0,
+            number: 1,
+            answer: Answer::Started {
+                handle: Handle {
+                    place: 0,
+                    serial: 1,
+                },
+                deadline: 10,
+            },
+        },
+        Out::Answered {
+            client: 0,
+            number: 2,
+            answer: Answer::Started {
+                handle: Handle {
+                    place: 0,
+                    serial: 2,
+                },
+                deadline: 10,
+            },
+        },
+        Out::Answered {
+            client: 0,
+            number: 3,
+            answer: Answer::Started {
+                handle: Handle {
+                    place: 0,
+                    serial: 3,
+                },
+                deadline: 10,
+            },
+        },
+        Out::Answered {
+            client: 0,
+            number: 4,
+            answer: Answer::Stopped { serial: 2 },
+        },
+        Out::Notice(Notice::Expired(Timer {
+            serial: 1,
+            client: 0,
+            number: 1,
+            deadline: 10,
+            action: 1,
+        })),
+        Out::Notice(Notice::Expired(Timer {
+            serial: 3,
+            client: 0,
+            number: 3,
+            deadline: 10,
+            action: 3,
+        })),
+    ],
+    end: 10,
+};
 
-fn expired(timer: Timer) -> Out {
-    Out::Notice(Notice::Expired(timer))
-}
-
-fn returned(timer: Timer) -> Out {
-    Out::Notice(Notice::Returned(timer))
-}
+/// Three timers are returned by a close, and nothing is accepted after it.
+pub const CLOSE: Row = Row {
+    events: &[
+        Event::Start {
+            client: 0,
+            number: 1,
+            interval: 5,
+            action: 1,
+        },
+        Event::Start {
+            client: 1,
+            number: 1,
+            interval: 3,
+            action: 2,
+        },
+        Event::Start {
+            client: 0,
+            number: 2,
+            interval: 5,
+            action: 3,
+        },
+        Event::Close,
+        Event::Start {
+            client: 0,
+            number: 3,
+            interval: 1,
+            action: 4,
+        },
+        Event::Ticks { count: 2 },
+        Event::Close,
+    ],
+    outs: &[
+        Out::Answered {
+            client: 0,
+            number: 1,
+            answer: Answer::Started {
+                handle: Handle {
+                    place: 0,
+                    serial: 1,
+                },
+                deadline: 5,
+            },
+        },
+        Out::Answered {
+            client: 1,
+            number: 1,
+            answer: Answer::Started {
+                handle: Handle {
+                    place: 0,
+                    serial: 2,
+                },
+                deadline: 3,
+            },
+        },
+        Out::Answered {
+            client: 0,
+            number: 2,
+            answer: Answer::Started {
+                handle: Handle {
+                    place: 0,
+                    serial: 3,
+                },
+                deadline: 5,
+            },
+        },
+        Out::Closed { count: 3 },
+        Out::Notice(Notice::Returned(Timer {
+            serial: 2,
+            client: 1,
+            number: 1,
+            deadline: 3,
+            action: 2,
+        })),
+        Out::Notice(Notice::Returned(Timer {
+            serial: 1,
+            client: 0,
+            number: 1,
+            deadline: 5,
+            action: 1,
+        })),
+        Out::Notice(Notice::Returned(Timer {
+            serial: 3,
+            client: 0,
+            number: 2,
+            deadline: 5,
+            action: 3,
+        })),
+        Out::NotTaken {
+            client: 0,
+            number: 3,
+            reason: NotTaken::Closed,
+        },
+        Out::TickRefused(TickFault::Closed),
+        Out::CloseRefused,
+    ],
+    end: 0,
+};
 
 /// The out without the place of a handle, which is a free choice of the wheel.
 fn bare(out: Out) -> Out {
@@ -52,7 +264,14 @@ fn bare(out: Out) -> Out {
             client,
             number,
             answer: Answer::Started { handle, deadline },
-        } => started(client, number, handle.serial, deadline),
+        } => Out::Answered {
+            client,
+            number,
+            answer: Answer::Started {
+                handle: Handle { place: 0, ..handle },
+                deadline,
+            },
+        },
         out => out,
     }
 }
@@ -92,90 +311,11 @@ fn play(player: &mut Player<HierWheel>, events: &[Event], wanted: &[Out]) -> Res
     }
 }
 
-/// Goes on only if the clock stands at this tick and nothing is pending.
-fn see_end(player: &Player<HierWheel>, now: u64) -> Result<(), Fault> {
+/// Plays a row.
+pub fn play_row(alloc: Global, row: Row) -> Result<(), Fault> {
+    let mut player = player(alloc)?;
+    play(&mut player, row.events, row.outs)?;
     let facility = player.facility();
     let end = (facility.now(), facility.pending());
-    same(end, (now, 0), "the end of a row")
-}
-
-/// A timer moves to a lower wheel, and expires with another of its tick.
-pub fn play_migration(alloc: Global) -> Result<(), Fault> {
-    let mut player = player(alloc)?;
-    let events = [
-        start(0, 1, 130, 1),
-        Event::Ticks { count: 128 },
-        start(1, 1, 2, 2),
-        Event::Ticks { count: 2 },
-    ];
-    let outs = [
-        started(0, 1, 1, 130),
-        started(1, 1, 2, 130),
-        expired(timer(0, 1, 1, 130, 1)),
-        expired(timer(1, 1, 2, 130, 2)),
-    ];
-    play(&mut player, &events, &outs)?;
-    see_end(&player, 130)
-}
-
-/// One of three timers is stopped.
-pub fn play_stop_middle(alloc: Global) -> Result<(), Fault> {
-    let mut player = player(alloc)?;
-    let events = [
-        start(0, 1, 10, 1),
-        start(0, 2, 10, 2),
-        start(0, 3, 10, 3),
-        Event::Stop {
-            client: 0,
-            number: 4,
-            serial: 2,
-        },
-        Event::Ticks { count: 10 },
-    ];
-    let outs = [
-        started(0, 1, 1, 10),
-        started(0, 2, 2, 10),
-        started(0, 3, 3, 10),
-        Out::Answered {
-            client: 0,
-            number: 4,
-            answer: Answer::Stopped { serial: 2 },
-        },
-        expired(timer(0, 1, 1, 10, 1)),
-        expired(timer(0, 3, 3, 10, 3)),
-    ];
-    play(&mut player, &events, &outs)?;
-    see_end(&player, 10)
-}
-
-/// Three timers are returned by a close, and nothing is accepted after it.
-pub fn play_close(alloc: Global) -> Result<(), Fault> {
-    let mut player = player(alloc)?;
-    let events = [
-        start(0, 1, 5, 1),
-        start(1, 1, 3, 2),
-        start(0, 2, 5, 3),
-        Event::Close,
-        start(0, 3, 1, 4),
-        Event::Ticks { count: 2 },
-        Event::Close,
-    ];
-    let outs = [
-        started(0, 1, 1, 5),
-        started(1, 1, 2, 3),
-        started(0, 2, 3, 5),
-        Out::Closed { count: 3 },
-        returned(timer(1, 1, 2, 3, 2)),
-        returned(timer(0, 1, 1, 5, 1)),
-        returned(timer(0, 2, 3, 5, 3)),
-        Out::NotTaken {
-            client: 0,
-            number: 3,
-            reason: NotTaken::Closed,
-        },
-        Out::TickRefused(TickFault::Closed),
-        Out::CloseRefused,
-    ];
-    play(&mut player, &events, &outs)?;
-    see_end(&player, 0)
+    same(end, (row.end, 0), "the end of a row")
 }

@@ -6,7 +6,7 @@ use crate::fault::Fault;
 use crate::handles::use_strange_handles;
 use crate::lines::{use_locked_line, use_memory_line, use_ring_line};
 use crate::linked::push_a_hundred;
-use crate::played::{play_close, play_migration, play_stop_middle};
+use crate::played::{CLOSE, MIGRATION, Row, STOP_MIDDLE, play_row};
 use crate::texts::write_text_of_outs;
 use crate::wheels::{hashed, hier, list_a_few, plain, start_a_hundred};
 use std::alloc::Global;
@@ -29,9 +29,8 @@ pub enum Scenario {
     Starts(Kind),
     Lists(Kind),
     Facility(Kind),
-    Migration,
-    StopMiddle,
-    Close,
+    /// A list of events.
+    Events(Row),
     Text,
     MemoryLine,
     LockedLine,
@@ -69,9 +68,9 @@ pub const SCENARIOS: [(&str, Scenario); 37] = [
     ("facility-hashed", Scenario::Facility(EIGHT)),
     ("facility-hier", Scenario::Facility(WIDE)),
     ("facility-clock", Scenario::Facility(CLOCK)),
-    ("migration", Scenario::Migration),
-    ("stop-middle", Scenario::StopMiddle),
-    ("close", Scenario::Close),
+    ("migration", Scenario::Events(MIGRATION)),
+    ("stop-middle", Scenario::Events(STOP_MIDDLE)),
+    ("close", Scenario::Events(CLOSE)),
     ("text", Scenario::Text),
     ("memory-line", Scenario::MemoryLine),
     ("locked-line", Scenario::LockedLine),
@@ -99,9 +98,7 @@ pub fn play<R: AllocGlobal + Wait>(rt: &R, scenario: Scenario) -> Result<bool, F
         Scenario::Starts(kind) => starts(alloc, kind)?,
         Scenario::Lists(kind) => lists(alloc, kind)?,
         Scenario::Facility(kind) => facility(alloc, kind)?,
-        Scenario::Migration => play_migration(alloc)?,
-        Scenario::StopMiddle => play_stop_middle(alloc)?,
-        Scenario::Close => play_close(alloc)?,
+        Scenario::Events(row) => play_row(alloc, row)?,
         Scenario::Text => write_text_of_outs(alloc)?,
         Scenario::MemoryLine => use_memory_line(alloc)?,
         Scenario::LockedLine => use_locked_line(rt, alloc)?,
