@@ -1,3 +1,0 @@
-pub mod IndentedLemmas
-pub mod AnswerLines
-pub mod ShowingLemmas

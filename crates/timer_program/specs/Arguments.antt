@@ -3,23 +3,23 @@ use Rattle.std.specs.Prelude.{◌≡◌, ◌⊎◌, ℕ, List, [], ◌∷◌, co
 use Rattle.std.specs.List.{slice_index}
 use Rattle.clap.specs.declared.error.kind.ErrorKind.{ErrorKind}
 use Rattle.clap.specs.declared.error.kind.ErrorKind.TheVariants as kinds
-use Rattle.timer_program.specs.declared.arguments.Asked.{Asked}
-use Rattle.timer_program.specs.declared.arguments.Asked.TheVariants.{Play, Serve, ServeGood, Show, Threads, Check}
+use Rattle.timer_program.specs.declared.arguments.Subcommand.{Subcommand}
+use Rattle.timer_program.specs.declared.arguments.Subcommand.TheVariants.{Play, Serve, ServeGood, Show, Threads, Check}
 
--- the name of the subcommand that is asked for
-abbrev pub subcommand_of : Asked → List ℕ
-subcommand_of (Play asked) = codes "play"
-subcommand_of (Serve asked) = codes "serve"
-subcommand_of (ServeGood asked) = codes "serve"
-subcommand_of (Show asked) = codes "show"
-subcommand_of (Threads asked) = codes "threads"
-subcommand_of Check = codes "check"
+-- the name of a subcommand, as it is typed
+abbrev pub subcommand_name : Subcommand → List ℕ
+subcommand_name (Play options) = codes "play"
+subcommand_name (Serve options) = codes "serve"
+subcommand_name (ServeGood options) = codes "serve"
+subcommand_name (Show options) = codes "show"
+subcommand_name (Threads options) = codes "threads"
+subcommand_name Check = codes "check"
 
 -- the subcommand that the arguments after the program's name name: the first of them, or `play` where there
 -- is none
-abbrev pub named : {S : Type 0} → (S → List ℕ) → List S → List ℕ
-named text [] = codes "play"
-named text (first ∷ rest) = text first
+abbrev pub first_or_play : {S : Type 0} → (S → List ℕ) → List S → List ℕ
+first_or_play text [] = codes "play"
+first_or_play text (first ∷ rest) = text first
 
 -- help or the version is asked for
 abbrev pub IsShown : ErrorKind → Type 0

@@ -1,4 +1,4 @@
-//! The arguments of the program: what to play, or a request for help.
+//! The arguments of the program: a subcommand with its options, or a request for help.
 //!
 //!     timers                        the same as `timers play`
 //!     timers play [OPTIONS]         plays the script on standard input
@@ -12,34 +12,33 @@
 //! `clap` reads the arguments, writes the help, and says why arguments are refused.
 ghost use Rattle.std.specs.Prelude.{◌≡◌, IfSome, IfOk, IfErr, IsTrue, Any};
 ghost use Rattle.clap.specs.Values.{kind_of};
-ghost use Rattle.timer_program.specs.Arguments.{named, subcommand_of, IsShown, IsShortOfText, AsksForText};
-ghost use Rattle.timer_program.specs.Asked.{name_of};
+ghost use Rattle.timer_commands.specs.Options.{name_of};
+ghost use Rattle.timer_program.specs.Arguments.{first_or_play, subcommand_name, IsShown, IsShortOfText, AsksForText};
 
-use crate::asked::{Play, Scheme};
 use crate::help::{
     ABOUT, CHECK_ABOUT, CHECK_USAGE, CHECKS, NAME, PLACEMENTS, PLAY_ABOUT, PLAY_USAGE, SCHEMES,
     SCRIPTS, SERVE_ABOUT, SERVE_USAGE, SHOW_ABOUT, SHOW_USAGE, STREAMS, THREADS, THREADS_ABOUT,
     USAGE, VERSION,
 };
-use crate::requested::Clients;
 use clap::error::ErrorKind;
 use clap::{Arg, ArgAction, ArgMatches, Command, Error, value_parser};
 use std::alloc::{AllocError, Global};
 use std::convert::AsStr;
+use timer_commands::{RunOptions, Scheme, ThreadsOptions};
 
-/// What the arguments ask for, if it is not help.
+/// A subcommand with its options.
 #[derive(Clone, Copy, Debug, PartialEq, Eq)]
-pub enum Asked {
+pub enum Subcommand {
     /// `play`: play the script on standard input.
-    Play(Play),
+    Play(RunOptions),
     /// `serve`: answer the lines of standard input as they come.
-    Serve(Play),
+    Serve(RunOptions),
     /// `serve --keep-going`: answer the good ones as they come, and report the bad ones.
-    ServeGood(Play),
+    ServeGood(RunOptions),
     /// `show`: answer them, and show after each where the timers stand.
-    Show(Play),
+    Show(RunOptions),
     /// `threads`: run clients in threads of their own.
-    Threads(Clients),
+    Threads(ThreadsOptions),
     /// `check`: report each bad line of the script on standard input.
     Check,
 }
@@ -195,9 +194,9 @@ fn scheme_of(name: &str) -> Option<Scheme>
     }
 }
 
-/// What the options of `play`, `serve` or `show` ask for, if each has a value.
-fn play_of(options: &ArgMatches) -> Option<Play> {
-    Some(Play {
+/// The options of `play`, `serve` or `show`, if each has a value.
+fn run_options(options: &ArgMatches) -> Option<RunOptions> {
+    Some(RunOptions {
         scheme: scheme_of(options.get_str("scheme")?)?,
         slots: options.get_one::<u64>("slots")?,
         clients: options.get_one::<u64>("clients")?,
@@ -206,38 +205,40 @@ fn play_of(options: &ArgMatches) -> Option<Play> {
     })
 }
 
-/// What the options of `threads` ask for, if each has a value.
-fn clients_of(options: &ArgMatches) -> Option<Clients> {
-    Some(Clients {
+/// The options of `threads`, if each has a value.
+fn threads_options(options: &ArgMatches) -> Option<ThreadsOptions> {
+    Some(ThreadsOptions {
         clients: options.get_one::<u64>("clients")?,
         timers: options.get_one::<u64>("timers")?,
     })
 }
 
-/// What the options of the subcommand of this name ask for, if each has a value.
-fn asked_of(name: &str, options: &ArgMatches) -> Option<Asked>
-    ensures { IfSome result (λ asked. name.now ≡ subcommand_of asked) }
+/// The subcommand of this name, if each of its options has a value.
+fn subcommand_of(name: &str, options: &ArgMatches) -> Option<Subcommand>
+    ensures { IfSome result (λ subcommand. name.now ≡ subcommand_name subcommand) }
 {
     match name {
-        "play" => Some(Asked::Play(play_of(options)?)),
-        "serve" if options.get_flag("keep-going") => Some(Asked::ServeGood(play_of(options)?)),
-        "serve" => Some(Asked::Serve(play_of(options)?)),
-        "show" => Some(Asked::Show(play_of(options)?)),
-        "threads" => Some(Asked::Threads(clients_of(options)?)),
-        "check" => Some(Asked::Check),
+        "play" => Some(Subcommand::Play(run_options(options)?)),
+        "serve" if options.get_flag("keep-going") => Some(Subcommand::ServeGood(run_options(
+            options,
+        )?)),
+        "serve" => Some(Subcommand::Serve(run_options(options)?)),
+        "show" => Some(Subcommand::Show(run_options(options)?)),
+        "threads" => Some(Subcommand::Threads(threads_options(options)?)),
+        "check" => Some(Subcommand::Check),
         _ => None,
     }
 }
 
-/// What some arguments ask for, of which the first is this name.
-fn parsed<S: AsStr>(alloc: Global, name: &str, arguments: &[S]) -> Result<Asked, Error>
-    ensures { IfOk result (λ asked. name.now ≡ subcommand_of asked) }
+/// The subcommand of some arguments, of which the first is this name.
+fn parsed<S: AsStr>(alloc: Global, name: &str, arguments: &[S]) -> Result<Subcommand, Error>
+    ensures { IfOk result (λ subcommand. name.now ≡ subcommand_name subcommand) }
 {
     let matches = program(alloc)?.try_get_matches_from(arguments)?;
     if let Some((_, options)) = matches.subcommand()
-        && let Some(asked) = asked_of(name, options)
+        && let Some(subcommand) = subcommand_of(name, options)
     {
-        return Ok(asked);
+        return Ok(subcommand);
     }
     // An option without a value is refused as any other mistake in the arguments.
     Err(refusal(alloc)?)
@@ -285,11 +286,12 @@ fn any_of_text<S: AsStr>(arguments: &[S]) -> bool
     false
 }
 
-/// What the arguments ask for. No arguments ask for `play`.
+/// The subcommand of the arguments. No arguments are `play`.
 ///
 /// An error is a request for help or for the version, a refusal, or out of memory.
-pub fn read_arguments<S: AsStr>(alloc: Global, arguments: &[S]) -> Result<Asked, Error>
-    ensures call { IfOk result (λ asked. named S.text arguments.now ≡ subcommand_of asked) }
+pub fn read_arguments<S: AsStr>(alloc: Global, arguments: &[S]) -> Result<Subcommand, Error>
+    ensures call { IfOk result (λ subcommand.
+        first_or_play S.text arguments.now ≡ subcommand_name subcommand) }
     ensures text { IfErr result (λ error. IsShown (kind_of error)
         → Any (λ argument. AsksForText (S.text argument)) arguments.now) }
 {

@@ -2,24 +2,19 @@
 ghost use Rattle.std.specs.Prelude.{◌≡◌, ◌≢◌, ◌≤◌, ◌⊎◌, ℕ, List, false, true};
 ghost use Rattle.std.specs.Io.KnownBytes.{Appends};
 ghost use Rattle.clap.specs.Values.{kind_of};
-ghost use Rattle.timer_program.specs.Command.{HasPlayed, HasDone, HasEnded};
+ghost use Rattle.timer_program.specs.Command.{HasDone, HasEnded};
 ghost use Rattle.timer_script.specs.Watched.{inner_of, has_failed};
 
-use crate::arguments::{Asked, read_arguments};
-use crate::asked::Play;
-use crate::checker::check_script;
-use crate::clients::run_clients;
-use crate::forgiving::serve_good_lines;
-use crate::reporting::report;
-use crate::schemes::play_by_scheme;
-use crate::server::serve_lines;
-use crate::show::show_stream;
+use crate::arguments::{Subcommand, read_arguments};
 use clap::Error;
 use clap::error::ErrorKind;
 use std::alloc::Global;
 use std::convert::AsStr;
 use std::io::{Read, Write};
 use std::thread::Threads;
+use timer_commands::{
+    check_script, play_script, report, run_clients, serve_good_lines, serve_lines, show_lines,
+};
 use timer_script::{RunFault, Streams, Watched, write_text};
 
 /// Runs the program on the arguments after its name, and returns its exit status.
@@ -44,13 +39,13 @@ pub fn command<T: AllocGlobal + Threads, S: AsStr, R: Read, W: Write, F: Write>(
         faults.old faults.new result }
 {
     let read = read_arguments(rt.alloc(), arguments);
-    do_asked(rt, read, streams, faults)
+    run_subcommand(rt, read, streams, faults)
 }
 
-/// Does what the arguments were read as, and returns the exit status.
-fn do_asked<T: AllocGlobal + Threads, R: Read, W: Write, F: Write>(
+/// Runs the subcommand that the arguments were read as, or reports the error, and returns the exit status.
+fn run_subcommand<T: AllocGlobal + Threads, R: Read, W: Write, F: Write>(
     rt: &T,
-    read: Result<Asked, Error>,
+    read: Result<Subcommand, Error>,
     streams: &mut Streams<R, W>,
     faults: &mut Watched<F>,
 ) -> u8
@@ -62,44 +57,15 @@ fn do_asked<T: AllocGlobal + Threads, R: Read, W: Write, F: Write>(
 {
     let alloc = rt.alloc();
     match read {
-        Ok(Asked::Play(asked)) => play(
-            alloc,
-            asked,
-            &mut streams.reader,
-            &mut streams.writer,
-            faults,
-        ),
-        Ok(Asked::Serve(asked)) => serve_lines(alloc, asked, streams, faults),
-        Ok(Asked::ServeGood(asked)) => serve_good_lines(alloc, asked, streams, faults),
-        Ok(Asked::Show(asked)) => show_stream(alloc, asked, streams, faults),
-        Ok(Asked::Threads(asked)) => run_clients(rt, alloc, asked, &mut streams.writer, faults),
-        Ok(Asked::Check) => check_script(alloc, &mut streams.reader, &mut streams.writer, faults),
-        Err(error) => end_unplayed(alloc, &error, &mut streams.writer, faults),
-    }
-}
-
-/// Plays the script of the reader, and returns the exit status.
-fn play<R: Read, W: Write, F: Write>(
-    alloc: Global,
-    asked: Play,
-    reader: &mut Watched<R>,
-    writer: &mut Watched<W>,
-    faults: &mut F,
-) -> u8
-    requires reader_good { has_failed reader.old ≡ false }
-    requires writer_good { has_failed writer.old ≡ false }
-    ensures { HasPlayed asked R.remaining W.contents reader.old reader.new writer.old writer.new result }
-{
-    let checked = match asked.check() {
-        Ok(checked) => checked,
-        Err(fault) => {
-            let _ = writeln!(faults, "{fault}");
-            return 2;
+        Ok(Subcommand::Play(options)) => play_script(alloc, options, streams, faults),
+        Ok(Subcommand::Serve(options)) => serve_lines(alloc, options, streams, faults),
+        Ok(Subcommand::ServeGood(options)) => serve_good_lines(alloc, options, streams, faults),
+        Ok(Subcommand::Show(options)) => show_lines(alloc, options, streams, faults),
+        Ok(Subcommand::Threads(options)) => {
+            run_clients(rt, alloc, options, &mut streams.writer, faults)
         }
-    };
-    match play_by_scheme(alloc, asked, checked, reader, writer) {
-        Ok(()) => 0,
-        Err(fault) => report(fault, faults),
+        Ok(Subcommand::Check) => check_script(alloc, streams, faults),
+        Err(error) => end_unplayed(alloc, &error, &mut streams.writer, faults),
     }
 }
 

@@ -1,5 +1,5 @@
 //! The worked examples: scripts and the texts that answer them, with each scheme.
-use crate::testing::{MIGRATION, MIGRATION_TEXT, Sink, Source, call, has_left, same, same_in};
+use crate::testing::{call, has_left, same_in};
 use std::alloc::Global;
 use std::process::Abort;
 use std::thread::Threads;
@@ -49,7 +49,11 @@ fn expiring_rows() -> [Row; 8] {
             "start 0 1 4096 1\ntick 4090\nstart 1 1 6 2\ntick 5\nstart 0 2 1 3\ntick 1\n",
             "started 0 1 1 4096\nstarted 1 1 2 4096\nstarted 0 2 3 4096\nexpired 4096 0 1 1\nexpired 4096 1 2 2\nexpired 4096 0 3 3\nend 4096 0\n",
         ),
-        usual_row("migration", MIGRATION, MIGRATION_TEXT),
+        usual_row(
+            "migration",
+            "start 0 1 130 1\ntick 128\nstart 1 1 2 2\ntick 2\n",
+            "started 0 1 1 130\nstarted 1 1 2 130\nexpired 130 0 1 1\nexpired 130 1 2 2\nend 130 0\n",
+        ),
         usual_row(
             "rounds",
             "start 0 1 1 11\nstart 0 2 8 12\nstart 0 3 9 13\nstart 0 4 16 14\nstart 0 5 8 15\ntick 16\n",
@@ -207,11 +211,8 @@ fn play_row<T: AllocGlobal + Abort + Threads>(
 ) {
     let alloc = rt.alloc();
     let arguments = command_line(rt, alloc, command, scheme, row.options);
-    let source = Source::of(row.script.as_bytes());
-    let ended = call(rt, &arguments, source, Sink::new(alloc));
+    let ended = call(rt, &arguments, row.script.as_bytes(), usize::MAX);
     has_left(rt, row.name, &ended, 0, row.text.as_bytes(), b"");
-    let failed = (ended.reader_failed, ended.writer_failed);
-    same_in(rt, row.name, failed, (false, false));
 }
 
 /// Plays and serves the rows with each scheme that gives their text.
@@ -237,38 +238,55 @@ fn worked_rows_give_their_text_with_each_scheme(rt: HostRuntime) {
     }
 }
 
-/// Starts of so many timers by client 63, and one by a client that there is not.
-fn starts(rt: &impl Abort, alloc: Global, count: u64) -> Vec<u8> {
-    let mut script = Vec::new(alloc);
-    for number in 1..=count {
-        let Ok(line) = format!(in alloc; "start 63 {number} 1 0\n") else {
-            panic!(rt; "out of memory");
-        };
-        let Ok(()) = script.extend_from_slice(line.as_bytes()) else {
-            panic!(rt; "out of memory");
-        };
-    }
-    let Ok(()) = script.extend_from_slice(b"start 64 1 1 0\n") else {
-        panic!(rt; "out of memory");
-    };
-    script
-}
+/// Scripts with a bad line, and what is reported: `bad_lines`.
+static BAD_LINES: [(&str, &str); 19] = [
+    ("start 0 1 5 0\nstart 0 01 5 0\n", "bad line 2\n"),
+    ("start 0 1 5 0\nstart 0 2 5 0", "bad line 2\n"),
+    ("tick 0\n", "bad line 1\n"),
+    ("tick 1000001\n", "bad line 1\n"),
+    ("\n", "bad line 1\n"),
+    ("start 0 1 5 1152921504606846976\n", "bad line 1\n"),
+    ("start 0 1 5 99999999999999999999\n", "bad line 1\n"),
+    ("start  0 1 5 0\n", "bad line 1\n"),
+    ("start 0 1 5 0 \n", "bad line 1\n"),
+    ("start 0 1 +5 0\n", "bad line 1\n"),
+    ("start 0\t1 5 0\n", "bad line 1\n"),
+    ("Start 0 1 5 0\n", "bad line 1\n"),
+    ("stop 1 2 3 4\n", "bad line 1\n"),
+    ("close\n\r\n", "bad line 2\n"),
+    ("restart 0 2 1 5\n", "bad line 1\n"),
+    ("start 0 1 5 0\r\n", "bad line 1\n"),
+    (" close\n", "bad line 1\n"),
+    ("close\n# comment\n", "bad line 2\n"),
+    ("close\nclose", "bad line 2\n"),
+];
 
 #[test]
-fn no_arguments_play_with_64_clients_and_1024_timers(rt: HostRuntime) {
-    let alloc = rt.alloc();
-    let script = starts(&rt, alloc, 1025);
-    let ended = call(
-        &rt,
-        NO_OPTIONS.as_slice(),
-        Source::of(&script),
-        Sink::new(alloc),
-    );
-    let front = b"started 63 1 1 1\nstarted 63 2 2 1\n";
-    let back =
-        b"started 63 1024 1024 1\nrefused 63 1025 full\nrefused 64 1 no-client\nend 0 1024\n";
-    same(&rt, ended.status, 0);
-    same(&rt, ended.output.starts_with(front), true);
-    same(&rt, ended.output.ends_with(back), true);
-    same(&rt, ended.faults.is_empty(), true);
+fn bad_lines_are_named_and_nothing_is_written_with_each_scheme(rt: HostRuntime) {
+    for (script, line) in BAD_LINES {
+        for scheme in ["plain", "hashed", "hier", "clock"] {
+            let arguments = ["play", "--scheme", scheme];
+            let ended = call(&rt, &arguments, script.as_bytes(), usize::MAX);
+            has_left(&rt, script, &ended, 1, b"", line.as_bytes());
+        }
+    }
+}
+
+static FOUR_OF_1000: &str = "\
+client 0 sent 1000 started 1000 expired 1000
+client 1 sent 1000 started 1000 expired 1000
+client 2 sent 1000 started 1000 expired 1000
+client 3 sent 1000 started 1000 expired 1000
+end
+";
+
+/// The row `threads`.
+#[test]
+fn four_clients_of_1000_timers_run_where_nothing_else_is_asked_for(rt: HostRuntime) {
+    let all = ["threads", "--clients", "4", "--timers", "1000"].as_slice();
+    for arguments in [["threads"].as_slice(), all] {
+        let ended = call(&rt, arguments, b"no script", usize::MAX);
+        has_left(&rt, arguments, &ended, 0, FOUR_OF_1000.as_bytes(), b"");
+        same_in(&rt, arguments, ended.unread, 9);
+    }
 }

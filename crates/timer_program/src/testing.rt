@@ -1,9 +1,9 @@
-//! Comparisons, readers and writers that fail once, and what a call of the program leaves.
+//! Comparisons, a writer that fails, and what a call of the program leaves.
 use crate::command::command;
 use std::alloc::Global;
 use std::fmt::Debug;
 use std::io;
-use std::io::{ErrorKind, Read, Write};
+use std::io::{ErrorKind, Write};
 use std::process::Abort;
 use std::thread::Threads;
 use timer_script::{Streams, Watched};
@@ -23,156 +23,25 @@ pub fn same_in<R: Debug + Drop, T: PartialEq + Debug + Drop>(
     assert_eq!(rt; found, expected, "{row:?}");
 }
 
-/// Two timers of one deadline, started at different ticks: the script of the row `migration`.
-pub static MIGRATION: &str = "start 0 1 130 1\ntick 128\nstart 1 1 2 2\ntick 2\n";
-
-/// What answers it.
-pub static MIGRATION_TEXT: &str =
-    "started 0 1 1 130\nstarted 1 1 2 130\nexpired 130 0 1 1\nexpired 130 1 2 2\nend 130 0\n";
-
-/// Sizes of pieces, from a byte at a time to more than the whole text.
-pub static SIZES: [usize; 12] = [1, 2, 3, 5, 7, 8, 13, 21, 34, 55, 82, 100];
-
-/// The schemes, each as a whole command line.
-pub static SCHEMES: [&[&str]; 4] = [
-    &["play", "--scheme", "plain"],
-    &["play", "--scheme", "hashed"],
-    &["play", "--scheme", "hier"],
-    &["play", "--scheme", "clock"],
-];
-
-/// What a reader or a writer does once, after the bytes that it passes on. Then it would go on.
-#[derive(Clone, Copy)]
-pub enum Fault {
-    Nothing,
-    /// Takes no byte. A reader does nothing of the kind.
-    TakesNone,
-    Fails(ErrorKind),
-}
-
-/// Gives its bytes in pieces of `size`, and has its fault after `room` of them.
+/// Takes bytes until it is full, and then fails.
 #[derive(Drop)]
-pub struct Source<'a> {
-    rest: &'a [u8],
-    size: usize,
+struct Sink {
+    bytes: Vec<u8>,
     room: usize,
-    fault: Fault,
-    asks: u64,
-}
-
-impl<'a> Source<'a> {
-    /// A reader of all these bytes in small pieces.
-    pub fn of(rest: &'a [u8]) -> Source<'a> {
-        Source {
-            rest,
-            size: 3,
-            room: usize::MAX,
-            fault: Fault::Nothing,
-            asks: 0,
-        }
-    }
-
-    pub fn in_pieces(self, size: usize) -> Source<'a> {
-        Source { size, ..self }
-    }
-
-    pub fn failing_after(self, room: usize, kind: ErrorKind) -> Source<'a> {
-        Source {
-            room,
-            fault: Fault::Fails(kind),
-            ..self
-        }
-    }
-}
-
-impl Read for Source<'_> {
-    fn read(&mut self, buf: &mut [u8]) -> io::Result<usize> {
-        self.asks = self.asks.saturating_add(1);
-        if self.room == 0 {
-            self.room = usize::MAX;
-            if let Fault::Fails(kind) = self.fault {
-                return Err(io::Error::from(kind));
-            }
-        }
-        let n = self.size.min(self.room).min(self.rest.len()).min(buf.len());
-        let (front, rest) = self.rest.split_at(n);
-        buf[..n].copy_from_slice(front);
-        self.rest = rest;
-        self.room -= n;
-        Ok(n)
-    }
-}
-
-/// Takes bytes in pieces of `size`, and has its fault after `room` of them. Counts its flushes.
-#[derive(Drop)]
-pub struct Sink {
-    pub bytes: Vec<u8>,
-    size: usize,
-    room: usize,
-    fault: Fault,
-    /// The error of the first flush at which so many bytes are here.
-    unflushed: Option<(usize, ErrorKind)>,
-    pub flushes: u64,
-}
-
-impl Sink {
-    /// A writer with room for all.
-    pub fn new(alloc: Global) -> Sink {
-        Sink {
-            bytes: Vec::new(alloc),
-            size: 5,
-            room: usize::MAX,
-            fault: Fault::Nothing,
-            unflushed: None,
-            flushes: 0,
-        }
-    }
-
-    pub fn in_pieces(self, size: usize) -> Sink {
-        Sink { size, ..self }
-    }
-
-    pub fn with_fault_after(self, room: usize, fault: Fault) -> Sink {
-        Sink {
-            room,
-            fault,
-            ..self
-        }
-    }
-
-    /// Takes all bytes, and fails at the first flush after this many of them.
-    pub fn failing_to_flush_after(self, len: usize, kind: ErrorKind) -> Sink {
-        Sink {
-            unflushed: Some((len, kind)),
-            ..self
-        }
-    }
 }
 
 impl Write for Sink {
     fn write(&mut self, buf: &[u8]) -> io::Result<usize> {
         if self.room == 0 {
-            self.room = usize::MAX;
-            match self.fault {
-                Fault::Nothing => {}
-                Fault::TakesNone => return Ok(0),
-                Fault::Fails(kind) => return Err(io::Error::from(kind)),
-            }
+            return Err(io::Error::from(ErrorKind::StorageFull));
         }
-        let n = self.size.min(self.room).min(buf.len());
+        let n = self.room.min(buf.len());
         self.bytes.extend_from_slice(&buf[..n])?;
         self.room -= n;
         Ok(n)
     }
 
     fn flush(&mut self) -> io::Result<()> {
-        self.flushes = self.flushes.saturating_add(1);
-        if let Some((len, kind)) = self.unflushed
-            && self.bytes.len() >= len
-        {
-            self.unflushed = None;
-            return Err(io::Error::from(kind));
-        }
         Ok(())
     }
 }
@@ -183,32 +52,30 @@ pub struct Ended {
     pub status: u8,
     pub output: Vec<u8>,
     pub faults: Vec<u8>,
-    /// How often the reader was asked.
-    pub asks: u64,
-    pub reader_failed: bool,
-    pub writer_failed: bool,
+    /// How many bytes of the input were not read.
+    pub unread: usize,
 }
 
-/// Calls the program.
+/// Calls the program, with room for so many bytes of output.
 pub fn call<T: AllocGlobal + Threads>(
     rt: &T,
     arguments: &[&str],
-    source: Source,
-    sink: Sink,
+    input: &[u8],
+    room: usize,
 ) -> Ended {
-    let mut streams = Streams::new(source, sink);
+    let sink = Sink {
+        bytes: Vec::new(rt.alloc()),
+        room,
+    };
+    let mut streams = Streams::new(input, sink);
     let mut faults = Watched::new(Vec::new(rt.alloc()));
     let status = command(rt, arguments, &mut streams, &mut faults);
     let Streams { reader, writer } = streams;
-    let reader_failed = reader.failed();
-    let writer_failed = writer.failed();
     Ended {
         status,
         output: writer.into_inner().bytes,
         faults: faults.into_inner(),
-        asks: reader.into_inner().asks,
-        reader_failed,
-        writer_failed,
+        unread: reader.into_inner().len(),
     }
 }
 

@@ -1,10 +1,10 @@
 use Rattle.timer_program.proofs.command.command.Goals as goal
 
--- what the arguments were read as was done
+-- the subcommand that the arguments were read as was run
 pub returns : goal.returns
 returns g c = record {
   read = c.read_arguments-read.result;
   called = c.read_arguments-read.ensures.call;
   asked = c.read_arguments-read.ensures.text;
-  done = c.do_asked.ensures;
+  done = c.run_subcommand.ensures;
 }

@@ -1,0 +1,3 @@
+pub mod IndentedLemmas
+pub mod AnswerLines
+pub mod ShowStreamLemmas

@@ -1,0 +1,8 @@
+use Rattle.timer_commands.specs.Indented.{HasGrownByFront}
+use Rattle.timer_commands.proofs.render.PlainWheelPlacement.push_placement.Given as goal
+
+-- the line has begun
+abbrev pub invariant-loop-timer : goal.invariant-loop-timer
+invariant-loop-timer l = record {
+  front : HasGrownByFront l.fn.text.items l.text.items;
+}

@@ -1,0 +1,57 @@
+-- Clients in threads: the ranges of their options, and how a call with them ends.
+use Rattle.std.specs.Prelude.{◌≡◌, ℕ, ◌≤◌, ◌⊎◌, ◌++◌, true, false, List, Option, Result, Ok, Err, Vec, codes, decimal}
+use Rattle.std.specs.Io.KnownBytes.{Appends}
+use Rattle.timer_threads.specs.declared.fault.ThreadsFault.{ThreadsFault}
+use Rattle.timer_threads.specs.declared.fault.ThreadsFault.TheVariants as faults
+use Rattle.timer_threads.specs.Threads.{whole_text}
+use Rattle.timer_commands.specs.declared.threads_options.ThreadsOptions.{ThreadsOptions}
+use Rattle.timer_script.specs.declared.watched.Watched.{Watched}
+use Rattle.timer_script.specs.Watched.{inner_of, has_failed}
+
+-- 1 to 64 clients, with 1 to 10,000 timers each
+pub record AreFew (options : ThreadsOptions) : Type 0 where
+  pub some_clients : 1 ≤ options.clients
+  pub few_clients : options.clients ≤ 64
+  pub some_timers : 1 ≤ options.timers
+  pub few_timers : options.timers ≤ 10000
+
+-- the clients ran to their end and their whole text was written, or not
+pub record HasRunClients {S : Type 0} (options : ThreadsOptions) (contents : S
+    → Option (List ℕ)) (writer writer' : Watched S) (status : ℕ) : Type 0 where
+  pub in_range : status ≤ 2
+  -- 0: the whole text was written
+  pub written : status ≡ 0
+      → AreFew options × Appends (contents (inner_of writer)) (contents (inner_of writer'))
+      (whole_text options.clients options.timers)
+      × (has_failed writer' ≡ false)
+  -- 1: the writer failed, or nothing was written
+  pub failed : status ≡ 1 → AreFew options × ((has_failed writer' ≡ true) ⊎ (writer' ≡ writer))
+  -- 2: an option is out of range, and nothing was written
+  pub refused : status ≡ 2 → ¬ (AreFew options) × (writer' ≡ writer)
+
+-- the line of an error of this client
+abbrev pub client_fault : ℕ → List ℕ
+client_fault client = codes "client " ++ decimal client ++ codes " failed\n"
+
+-- the line of an error
+abbrev pub fault_line : ThreadsFault → List ℕ
+fault_line faults.OutOfMemory = codes "out of memory\n"
+fault_line (faults.Client client) = client_fault client
+fault_line faults.Desk = codes "desk failed\n"
+
+-- a text was written whole, or a writer failed
+abbrev pub WritesWhole : {S : Type 0} → (S → Option (List ℕ)) → Watched S → Watched S → List ℕ → Type 0
+WritesWhole contents writer writer' text =
+    (has_failed writer' ≡ true)
+    ⊎ ((has_failed writer' ≡ false) × Appends (contents (inner_of writer)) (contents (inner_of writer')) text)
+
+-- what was written of a run of clients: its text; or nothing, and on the other writer the line of its error
+abbrev pub HasEndedClients : {S F A : Type 0} → Result (Vec ℕ A) ThreadsFault → (S → Option (List ℕ))
+    → (F → Option (List ℕ))
+    → (writer writer' : Watched S) (faults faults' : Watched F) → ℕ → Type 0
+HasEndedClients (Ok text) contents contents-of-faults writer writer' errors errors' status =
+    ((status ≡ 0) × (has_failed writer' ≡ false) × Appends (contents (inner_of writer))
+    (contents (inner_of writer')) text.items)
+    ⊎ ((status ≡ 1) × (has_failed writer' ≡ true))
+HasEndedClients (Err fault) contents contents-of-faults writer writer' errors errors' status =
+    (status ≡ 1) × (writer' ≡ writer) × WritesWhole contents-of-faults errors errors' (fault_line fault)

@@ -1,0 +1,6 @@
+pub mod Options
+pub mod Schemes
+pub mod Clients
+pub mod Indented
+pub mod ShowStream
+pub mod Subcommands

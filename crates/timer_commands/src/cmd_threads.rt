@@ -1,0 +1,103 @@
+//! The subcommand `threads`: clients in threads of their own, and one line for each.
+ghost use Rattle.std.specs.Prelude.{◌≡◌, IfOk, OnOk, OnErr, IsTrue, ◌↔◌, vec_len, true, false};
+ghost use Rattle.std.specs.Io.KnownBytes.{Appends};
+ghost use Rattle.timer_commands.specs.Clients.{AreFew, HasRunClients, HasEndedClients, fault_line, client_fault};
+ghost use Rattle.timer_script.specs.Watched.{inner_of, has_failed};
+
+use crate::reporting::report;
+use crate::threads_options::ThreadsOptions;
+use itoa::Buffer;
+use std::alloc::{AllocError, Global};
+use std::io::Write;
+use std::thread::Threads;
+use timer_script::{RunFault, Watched, write_text};
+use timer_threads::{Open, ThreadsFault, threads_run};
+
+/// Idle turns, one after another, before a side gives up.
+const LIMIT: u64 = 10_000_000;
+
+/// Runs as many clients as the options say, writes their text, and returns the exit status. Nothing is
+/// written if a number is out of range or the run fails. Waits for the clients' threads.
+pub fn run_clients<W: Write, F: Write>(
+    rt: &impl Threads,
+    alloc: Global,
+    options: ThreadsOptions,
+    writer: &mut Watched<W>,
+    faults: &mut F,
+) -> u8
+    requires { has_failed writer.old ≡ false }
+    ensures { HasRunClients options W.contents writer.old writer.new result }
+{
+    if !options.is_in_range() {
+        let _ = writeln!(faults, "the number of clients or of timers is out of range");
+        return 2;
+    }
+    let Ok(gates) = open_gates(alloc, options.clients as usize) else {
+        return report(RunFault::OutOfMemory, faults);
+    };
+    let ended = threads_run(rt, alloc, gates, options.timers, LIMIT);
+    end_clients(ended, writer, &mut Watched::new(faults))
+}
+
+/// Writes the text of clients that came to their end, or reports in one line why they did not, and
+/// returns the exit status. An error in reporting is ignored.
+pub fn end_clients<W: Write, F: Write>(
+    ended: Result<Vec<u8>, ThreadsFault>,
+    writer: &mut Watched<W>,
+    faults: &mut Watched<F>,
+) -> u8
+    requires writer_good { has_failed writer.old ≡ false }
+    requires faults_good { has_failed faults.old ≡ false }
+    ensures { HasEndedClients ended W.contents F.contents writer.old writer.new faults.old faults.new result }
+{
+    match ended {
+        Ok(text) => match write_text(writer, &text) {
+            Ok(()) => 0,
+            Err(fault) => report(fault, faults),
+        },
+        Err(fault) => {
+            let _ = write_fault(fault, faults);
+            1
+        }
+    }
+}
+
+/// Writes the line of an error of a run of clients. Does not allocate.
+fn write_fault<F: Write>(fault: ThreadsFault, faults: &mut Watched<F>) -> Result<(), RunFault>
+    requires { has_failed faults.old ≡ false }
+    ensures ok { OnOk result (Appends (F.contents (inner_of faults.old)) (F.contents (inner_of faults.new))
+        (fault_line fault)) }
+    ensures good { OnOk result (has_failed faults.new ≡ false) }
+    ensures failed { OnErr result (has_failed faults.new ≡ true) }
+{
+    match fault {
+        ThreadsFault::OutOfMemory => write_text(faults, b"out of memory\n"),
+        ThreadsFault::Client(client) => write_client(client, faults),
+        ThreadsFault::Desk => write_text(faults, b"desk failed\n"),
+    }
+}
+
+/// Writes the line of an error of this client.
+fn write_client<F: Write>(client: usize, faults: &mut Watched<F>) -> Result<(), RunFault>
+    requires { has_failed faults.old ≡ false }
+    ensures ok { OnOk result (Appends (F.contents (inner_of faults.old)) (F.contents (inner_of faults.new))
+        (client_fault client)) }
+    ensures good { OnOk result (has_failed faults.new ≡ false) }
+    ensures failed { OnErr result (has_failed faults.new ≡ true) }
+{
+    let mut buffer = Buffer::new();
+    write_text(faults, b"client ")?;
+    write_text(faults, buffer.format(client as u64).as_bytes())?;
+    write_text(faults, b" failed\n")
+}
+
+/// An open gate for each client.
+fn open_gates(alloc: Global, clients: usize) -> Result<Vec<Open>, AllocError>
+    ensures { IfOk result (λ gates. vec_len gates ≡ clients) }
+{
+    let mut gates = Vec::with_capacity(alloc, clients)?;
+    for _ in 0..clients {
+        gates.push_reserved(Open);
+    }
+    Ok(gates)
+}

@@ -1,0 +1,92 @@
+//! The options of `play`, `serve` and `show`, and their ranges.
+ghost use Rattle.std.specs.Prelude.{◌≡◌, ◌<◌, ◌≤◌, IfOk, IfErr, OnOk};
+ghost use Rattle.timer_commands.specs.Options.{scheme_last, config_of, IsPlayable, IsRefused};
+
+use thiserror::Error;
+use timer_base::LAST;
+use timer_facility::{Checked, Config, ConfigFault};
+use timer_wheels::{LAST_OF_CLOCK, MOST_SLOTS};
+
+/// How timers are kept. Each scheme gives the same text up to the last tick of its clock.
+#[derive(Clone, Copy, Debug, PartialEq, Eq)]
+pub enum Scheme {
+    /// One list, which each tick goes through.
+    Plain,
+    /// Buckets in a ring, one for each remainder of the deadline.
+    Hashed,
+    /// Ten wheels of 64 slots, one for each digit of the deadline.
+    Hier,
+    /// Wheels of 60 seconds, 60 minutes, 24 hours and 100 days.
+    Clock,
+}
+
+/// The options of `play`, `serve` and `show`.
+#[derive(Clone, Copy, Debug, PartialEq, Eq)]
+pub struct RunOptions {
+    pub scheme: Scheme,
+    /// The buckets of the hashed wheel: 1 to 65,536. The other schemes ignore it.
+    pub slots: u64,
+    pub clients: u64,
+    pub capacity: u64,
+    /// At most the last tick of the scheme.
+    pub first_tick: u64,
+}
+
+/// Which option is out of range, in the order in which they are tested.
+#[derive(Clone, Copy, Debug, PartialEq, Eq, Error)]
+pub enum OptionsFault {
+    #[error("{0}")]
+    Config(ConfigFault),
+    #[error("the number of slots is out of range")]
+    Slots,
+    /// The first tick is above the last tick of the scheme.
+    #[error("first tick above {last}")]
+    FirstTick { last: u64 },
+}
+
+impl Scheme {
+    /// The last tick of its clock.
+    fn last_tick(&self) -> u64
+        ensures { result ≡ scheme_last self.now }
+    {
+        match self {
+            Scheme::Plain | Scheme::Hashed | Scheme::Hier => LAST,
+            Scheme::Clock => LAST_OF_CLOCK,
+        }
+    }
+}
+
+impl RunOptions {
+    /// What the facility is opened with: serials and request numbers begin at 1.
+    fn config(&self) -> Config
+        ensures { result ≡ config_of self.now }
+    {
+        Config {
+            clients: self.clients,
+            capacity: self.capacity,
+            first_tick: self.first_tick,
+            first_serial: 1,
+            first_number: 1,
+        }
+    }
+
+    /// What the facility is opened with, if each number is in its range. Does not allocate.
+    pub fn check(&self) -> Result<Checked, OptionsFault>
+        ensures config { IfOk result (λ checked. checked ≡ config_of self.now) }
+        ensures playable { OnOk result (IsPlayable self.now) }
+        ensures fault { IfErr result (λ fault. IsRefused fault self.now) }
+    {
+        let checked = match self.config().check() {
+            Ok(checked) => checked,
+            Err(fault) => return Err(OptionsFault::Config(fault)),
+        };
+        if self.slots == 0 || self.slots > MOST_SLOTS as u64 {
+            return Err(OptionsFault::Slots);
+        }
+        let last = self.scheme.last_tick();
+        if self.first_tick > last {
+            return Err(OptionsFault::FirstTick { last });
+        }
+        Ok(checked)
+    }
+}

@@ -1,0 +1,16 @@
+//! Tests of the subcommands, over their public functions: texts, readers and writers that fail, clients in
+//! threads, and handles of timers that are gone. Not part of the program.
+#![tactic(auto)]
+
+#[cfg(test)]
+mod handle_tests;
+#[cfg(test)]
+mod long_tests;
+#[cfg(test)]
+mod show_tests;
+#[cfg(test)]
+mod stream_tests;
+#[cfg(test)]
+mod testing;
+#[cfg(test)]
+mod threads_tests;

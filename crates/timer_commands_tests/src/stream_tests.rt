@@ -1,0 +1,314 @@
+//! Readers and writers that pass bytes on in pieces of many sizes, and fail once: nothing is tried again, and
+//! what went out is the front of the text that the writer took.
+use crate::testing::{
+    Fault, MIGRATION, MIGRATION_TEXT, Reading, SCHEMES, SIZES, Sink, Source, USUAL, call, has_left,
+    same, same_in,
+};
+use std::alloc::Global;
+use std::io::ErrorKind;
+use std::process::Abort;
+use timer_commands::{OptionsFault, RunOptions, Scheme};
+use timer_facility::ConfigFault;
+
+static ONE_TIMER: &str = "start 0 1 1 7\ntick 1\n";
+
+static KINDS: [ErrorKind; 3] = [
+    ErrorKind::Interrupted,
+    ErrorKind::WouldBlock,
+    ErrorKind::BrokenPipe,
+];
+
+/// What a writer may do in mid-stream.
+static FAULTS: [Fault; 3] = [
+    Fault::TakesNone,
+    Fault::Fails(ErrorKind::Interrupted),
+    Fault::Fails(ErrorKind::BrokenPipe),
+];
+
+/// A subcommand, its script, and what it leaves: the exit status, the output, and the reports.
+type Row = (Reading, &'static str, u8, &'static str, &'static str);
+
+/// Scripts without a bad line, and with some.
+static ROWS: [Row; 11] = [
+    (Reading::Play, MIGRATION, 0, MIGRATION_TEXT, ""),
+    (Reading::Play, "close\ntick 0\n", 1, "", "bad line 2\n"),
+    (Reading::Serve, MIGRATION, 0, MIGRATION_TEXT, ""),
+    (
+        Reading::Serve,
+        "start 0 1 5 0\nstart 0 01 5 0\ntick 5\n",
+        1,
+        "started 0 1 1 5\n",
+        "bad line 2\n",
+    ),
+    (
+        Reading::Serve,
+        "start 0 1 5 0\ntick 5\ntick 1",
+        1,
+        "started 0 1 1 5\nexpired 5 0 1 0\n",
+        "bad line 3\n",
+    ),
+    (Reading::ServeGood, MIGRATION, 0, MIGRATION_TEXT, ""),
+    (
+        Reading::ServeGood,
+        "tick 0\nstart 0 1 5 0\nstart 0 01 5 0\ntick 5\ntick 5",
+        1,
+        "started 0 1 1 5\nexpired 5 0 1 0\nend 5 0\n",
+        "bad line 1\nbad line 3\nbad line 5\n",
+    ),
+    (
+        Reading::Show,
+        "start 0 1 5 0\nstart 0 01 5 0\ntick 5\n",
+        1,
+        "started 0 1 1 5\n  now 0\n  wheel 0 slot 5: 1\n",
+        "bad line 2\n",
+    ),
+    (
+        Reading::Show,
+        "start 0 1 5 0\ntick 5\ntick 1",
+        1,
+        "started 0 1 1 5\n  now 0\n  wheel 0 slot 5: 1\nexpired 5 0 1 0\n  now 5\n",
+        "bad line 3\n",
+    ),
+    (
+        Reading::Check,
+        "start 0 1 0 7\nstart 77 9 5 7\ntick 1000000\nclose\nclose\n",
+        0,
+        "",
+        "",
+    ),
+    (
+        Reading::Check,
+        "tick 0\ntick 1\nclose",
+        1,
+        "line 1, column 6: count: out of range 1 to 1000000\nline 3, column 6: no line end\n",
+        "",
+    ),
+];
+
+#[test]
+fn pieces_of_any_size_change_nothing(rt: HostRuntime) {
+    for (subcommand, script, status, text, faults) in ROWS {
+        for read in SIZES {
+            for written in SIZES {
+                let source = Source::of(script.as_bytes()).in_pieces(read);
+                let sink = Sink::new(rt.alloc()).in_pieces(written);
+                let ended = call(rt.alloc(), subcommand, USUAL, source, sink);
+                let row = (script, read, written);
+                has_left(&rt, row, &ended, status, text.as_bytes(), faults.as_bytes());
+            }
+        }
+    }
+}
+
+/// Runs a subcommand with a reader that fails after so many bytes, and compares what it leaves.
+fn read_fails(
+    rt: &impl Abort,
+    alloc: Global,
+    (subcommand, script, status, text, faults): Row,
+    options: RunOptions,
+    room: usize,
+) {
+    for kind in KINDS {
+        let source = Source::of(script.as_bytes())
+            .in_pieces(5)
+            .failing_after(room, kind);
+        let ended = call(alloc, subcommand, options, source, Sink::new(alloc));
+        has_left(rt, room, &ended, status, text.as_bytes(), faults.as_bytes());
+        same_in(rt, room, ended.reader_failed, true);
+    }
+}
+
+/// What has come before the read fails: a part of a line, some lines, all of them.
+static FAILED_READS: [(usize, Row); 8] = [
+    (46, (Reading::Play, MIGRATION, 1, "", "read failed\n")),
+    (3, (Reading::Serve, MIGRATION, 1, "", "read failed\n")),
+    (
+        16,
+        (
+            Reading::Serve,
+            MIGRATION,
+            1,
+            "started 0 1 1 130\n",
+            "read failed\n",
+        ),
+    ),
+    (
+        46,
+        (
+            Reading::Serve,
+            MIGRATION,
+            1,
+            "started 0 1 1 130\nstarted 1 1 2 130\nexpired 130 0 1 1\nexpired 130 1 2 2\n",
+            "read failed\n",
+        ),
+    ),
+    (
+        10,
+        (
+            Reading::ServeGood,
+            "tick 0\ntick 1\n",
+            1,
+            "",
+            "bad line 1\nread failed\n",
+        ),
+    ),
+    (
+        14,
+        (
+            Reading::Show,
+            "start 0 1 5 0\ntick 5\n",
+            1,
+            "started 0 1 1 5\n  now 0\n  wheel 0 slot 5: 1\n",
+            "read failed\n",
+        ),
+    ),
+    (3, (Reading::Check, "tick 0\n", 1, "", "read failed\n")),
+    (7, (Reading::Check, "tick 0\n", 1, "", "read failed\n")),
+];
+
+#[test]
+fn a_reader_that_fails_once_ends_the_call(rt: HostRuntime) {
+    for (room, row) in FAILED_READS {
+        read_fails(&rt, rt.alloc(), row, USUAL, room);
+    }
+}
+
+/// Runs a subcommand with a writer that takes this front of its text and then has this fault.
+fn write_fails(
+    rt: &impl Abort,
+    alloc: Global,
+    subcommand: Reading,
+    options: RunOptions,
+    script: &str,
+    front: &[u8],
+) {
+    let room = front.len();
+    for fault in FAULTS {
+        let sink = Sink::new(alloc).with_fault_after(room, fault);
+        let source = Source::of(script.as_bytes()).in_pieces(7);
+        let ended = call(alloc, subcommand, options, source, sink);
+        has_left(rt, room, &ended, 1, front, b"write failed\n");
+        let failed = (ended.reader_failed, ended.writer_failed);
+        same_in(rt, room, failed, (false, true));
+    }
+}
+
+#[test]
+fn a_writer_that_fails_once_at_any_byte_ends_the_call(rt: HostRuntime) {
+    let shown =
+        "started 0 1 1 5\n  now 0\n  wheel 0 slot 5: 1\nexpired 5 0 1 0\n  now 5\nend 5 0\n";
+    let checked = "line 1, column 6: count: out of range 1 to 1000000\n";
+    for (subcommand, script, text) in [
+        (Reading::Play, MIGRATION, MIGRATION_TEXT),
+        (Reading::Serve, MIGRATION, MIGRATION_TEXT),
+        (Reading::Show, "start 0 1 5 0\ntick 5\n", shown),
+        (Reading::Check, "tick 0\n", checked),
+    ] {
+        let text = text.as_bytes();
+        for room in 0..text.len() {
+            write_fails(&rt, rt.alloc(), subcommand, USUAL, script, &text[..room]);
+        }
+    }
+}
+
+#[test]
+fn io_faults_end_the_run_with_each_scheme(rt: HostRuntime) {
+    let row = (Reading::Play, ONE_TIMER, 1, "", "read failed\n");
+    let front = b"started 0 1 1 1\nexpi";
+    for scheme in SCHEMES {
+        let options = RunOptions { scheme, ..USUAL };
+        read_fails(&rt, rt.alloc(), row, options, 3);
+        write_fails(
+            &rt,
+            rt.alloc(),
+            Reading::Play,
+            options,
+            ONE_TIMER,
+            front.as_slice(),
+        );
+    }
+}
+
+#[test]
+fn a_stream_ends_at_the_flush_that_fails(rt: HostRuntime) {
+    // The bytes after which a flush fails, and those that the flush was for: what had been answered then.
+    let rows = [
+        (0, 0),
+        (1, 18),
+        (18, 18),
+        (19, 36),
+        (37, 72),
+        (72, 72),
+        (73, 82),
+    ];
+    for (len, answered) in rows {
+        let sink = Sink::new(rt.alloc()).failing_to_flush_after(len, ErrorKind::BrokenPipe);
+        let (front, _) = MIGRATION_TEXT.as_bytes().split_at(answered);
+        let source = Source::of(MIGRATION.as_bytes()).in_pieces(7);
+        let ended = call(rt.alloc(), Reading::Serve, USUAL, source, sink);
+        has_left(&rt, len, &ended, 1, front, b"write failed\n");
+    }
+}
+
+#[test]
+fn each_line_that_is_shown_is_flushed(rt: HostRuntime) {
+    let source = Source::of(b"tick 1\nclose\ntick 1\n").in_pieces(100);
+    let ended = call(
+        rt.alloc(),
+        Reading::Show,
+        USUAL,
+        source,
+        Sink::new(rt.alloc()),
+    );
+    same(&rt, (ended.status, ended.flushes), (0, 4));
+}
+
+#[test]
+fn refused_options_read_nothing(rt: HostRuntime) {
+    let late = RunOptions {
+        scheme: Scheme::Clock,
+        first_tick: 8640000,
+        ..USUAL
+    };
+    for subcommand in [
+        Reading::Play,
+        Reading::Serve,
+        Reading::ServeGood,
+        Reading::Show,
+    ] {
+        let source = Source::of(b"tick 0\n");
+        let ended = call(rt.alloc(), subcommand, late, source, Sink::new(rt.alloc()));
+        let line = b"first tick above 8639999\n";
+        has_left(&rt, subcommand, &ended, 2, b"", line.as_slice());
+        same_in(&rt, subcommand, ended.asks, 0);
+    }
+}
+
+#[test]
+fn each_refusal_of_options_has_its_text(rt: HostRuntime) {
+    let slots = "the number of slots is out of range";
+    for (fault, text) in [
+        (
+            OptionsFault::Config(ConfigFault::Clients),
+            "the number of clients is out of range",
+        ),
+        (
+            OptionsFault::Config(ConfigFault::Capacity),
+            "the capacity is out of range",
+        ),
+        (
+            OptionsFault::Config(ConfigFault::FirstTick),
+            "the first tick is out of range",
+        ),
+        (OptionsFault::Slots, slots),
+        (
+            OptionsFault::FirstTick { last: 8639999 },
+            "first tick above 8639999",
+        ),
+    ] {
+        let Ok(found) = format!(in rt.alloc(); "{fault}") else {
+            panic!(&rt; "out of memory");
+        };
+        same_in(&rt, text, found.as_str(), text);
+    }
+}

@@ -1,0 +1,256 @@
+//! Comparisons, readers and writers that fail once, and what a subcommand leaves.
+use std::alloc::Global;
+use std::fmt::Debug;
+use std::io;
+use std::io::{ErrorKind, Read, Write};
+use std::process::Abort;
+use timer_commands::{
+    RunOptions, Scheme, check_script, play_script, serve_good_lines, serve_lines, show_lines,
+};
+use timer_script::{Streams, Watched};
+
+/// Compares in a function of its own, so that a test is a list of calls without branches.
+pub fn same<T: PartialEq + Debug + Drop>(rt: &impl Abort, found: T, expected: T) {
+    assert_eq!(rt; found, expected);
+}
+
+/// The same in a row of a table, which is shown if the two differ.
+pub fn same_in<R: Debug + Drop, T: PartialEq + Debug + Drop>(
+    rt: &impl Abort,
+    row: R,
+    found: T,
+    expected: T,
+) {
+    assert_eq!(rt; found, expected, "{row:?}");
+}
+
+/// Two timers of one deadline, started at different ticks: the script of the row `migration`.
+pub const MIGRATION: &str = "start 0 1 130 1\ntick 128\nstart 1 1 2 2\ntick 2\n";
+
+/// What answers it.
+pub const MIGRATION_TEXT: &str =
+    "started 0 1 1 130\nstarted 1 1 2 130\nexpired 130 0 1 1\nexpired 130 1 2 2\nend 130 0\n";
+
+/// Sizes of pieces, from a byte at a time to more than the whole text.
+pub static SIZES: [usize; 12] = [1, 2, 3, 5, 7, 8, 13, 21, 34, 55, 82, 100];
+
+/// The options if none is given, with the tenth part of the slots.
+pub const USUAL: RunOptions = RunOptions {
+    scheme: Scheme::Hier,
+    slots: 25,
+    clients: 64,
+    capacity: 1024,
+    first_tick: 0,
+};
+
+/// The schemes.
+pub const SCHEMES: [Scheme; 4] = [Scheme::Plain, Scheme::Hashed, Scheme::Hier, Scheme::Clock];
+
+/// What a reader or a writer does once, after the bytes that it passes on. Then it would go on.
+#[derive(Clone, Copy)]
+pub enum Fault {
+    Nothing,
+    /// Takes no byte. A reader does nothing of the kind.
+    TakesNone,
+    Fails(ErrorKind),
+}
+
+/// Gives its bytes in pieces of `size`, and has its fault after `room` of them.
+#[derive(Drop)]
+pub struct Source<'a> {
+    rest: &'a [u8],
+    size: usize,
+    room: usize,
+    fault: Fault,
+    asks: u64,
+}
+
+impl<'a> Source<'a> {
+    /// A reader of all these bytes in small pieces.
+    pub fn of(rest: &'a [u8]) -> Source<'a> {
+        Source {
+            rest,
+            size: 3,
+            room: usize::MAX,
+            fault: Fault::Nothing,
+            asks: 0,
+        }
+    }
+
+    pub fn in_pieces(self, size: usize) -> Source<'a> {
+        Source { size, ..self }
+    }
+
+    pub fn failing_after(self, room: usize, kind: ErrorKind) -> Source<'a> {
+        Source {
+            room,
+            fault: Fault::Fails(kind),
+            ..self
+        }
+    }
+}
+
+impl Read for Source<'_> {
+    fn read(&mut self, buf: &mut [u8]) -> io::Result<usize> {
+        self.asks = self.asks.saturating_add(1);
+        if self.room == 0 {
+            self.room = usize::MAX;
+            if let Fault::Fails(kind) = self.fault {
+                return Err(io::Error::from(kind));
+            }
+        }
+        let n = self.size.min(self.room).min(self.rest.len()).min(buf.len());
+        let (front, rest) = self.rest.split_at(n);
+        buf[..n].copy_from_slice(front);
+        self.rest = rest;
+        self.room -= n;
+        Ok(n)
+    }
+}
+
+/// Takes bytes in pieces of `size`, and has its fault after `room` of them. Counts its flushes.
+#[derive(Drop)]
+pub struct Sink {
+    pub bytes: Vec<u8>,
+    size: usize,
+    room: usize,
+    fault: Fault,
+    /// The error of the first flush at which so many bytes are here.
+    unflushed: Option<(usize, ErrorKind)>,
+    pub flushes: u64,
+}
+
+impl Sink {
+    /// A writer with room for all.
+    pub fn new(alloc: Global) -> Sink {
+        Sink {
+            bytes: Vec::new(alloc),
+            size: 5,
+            room: usize::MAX,
+            fault: Fault::Nothing,
+            unflushed: None,
+            flushes: 0,
+        }
+    }
+
+    pub fn in_pieces(self, size: usize) -> Sink {
+        Sink { size, ..self }
+    }
+
+    pub fn with_fault_after(self, room: usize, fault: Fault) -> Sink {
+        Sink {
+            room,
+            fault,
+            ..self
+        }
+    }
+
+    /// Takes all bytes, and fails at the first flush after this many of them.
+    pub fn failing_to_flush_after(self, len: usize, kind: ErrorKind) -> Sink {
+        Sink {
+            unflushed: Some((len, kind)),
+            ..self
+        }
+    }
+}
+
+impl Write for Sink {
+    fn write(&mut self, buf: &[u8]) -> io::Result<usize> {
+        if self.room == 0 {
+            self.room = usize::MAX;
+            match self.fault {
+                Fault::Nothing => {}
+                Fault::TakesNone => return Ok(0),
+                Fault::Fails(kind) => return Err(io::Error::from(kind)),
+            }
+        }
+        let n = self.size.min(self.room).min(buf.len());
+        self.bytes.extend_from_slice(&buf[..n])?;
+        self.room -= n;
+        Ok(n)
+    }
+
+    fn flush(&mut self) -> io::Result<()> {
+        self.flushes = self.flushes.saturating_add(1);
+        if let Some((len, kind)) = self.unflushed
+            && self.bytes.len() >= len
+        {
+            self.unflushed = None;
+            return Err(io::Error::from(kind));
+        }
+        Ok(())
+    }
+}
+
+/// A subcommand that reads a script.
+#[derive(Clone, Copy, Debug)]
+pub enum Reading {
+    Play,
+    Serve,
+    ServeGood,
+    Show,
+    Check,
+}
+
+/// What a subcommand left.
+#[derive(Drop)]
+pub struct Ended {
+    pub status: u8,
+    pub output: Vec<u8>,
+    pub faults: Vec<u8>,
+    /// How often the reader was asked.
+    pub asks: u64,
+    /// How often the writer was flushed.
+    pub flushes: u64,
+    pub reader_failed: bool,
+    pub writer_failed: bool,
+}
+
+/// Runs a subcommand.
+pub fn call(
+    alloc: Global,
+    subcommand: Reading,
+    options: RunOptions,
+    source: Source,
+    sink: Sink,
+) -> Ended {
+    let mut streams = Streams::new(source, sink);
+    let mut faults = Watched::new(Vec::new(alloc));
+    let status = match subcommand {
+        Reading::Play => play_script(alloc, options, &mut streams, &mut faults),
+        Reading::Serve => serve_lines(alloc, options, &mut streams, &mut faults),
+        Reading::ServeGood => serve_good_lines(alloc, options, &mut streams, &mut faults),
+        Reading::Show => show_lines(alloc, options, &mut streams, &mut faults),
+        Reading::Check => check_script(alloc, &mut streams, &mut faults),
+    };
+    let Streams { reader, writer } = streams;
+    let reader_failed = reader.failed();
+    let writer_failed = writer.failed();
+    let sink = writer.into_inner();
+    Ended {
+        status,
+        flushes: sink.flushes,
+        output: sink.bytes,
+        faults: faults.into_inner(),
+        asks: reader.into_inner().asks,
+        reader_failed,
+        writer_failed,
+    }
+}
+
+/// Goes on only if a subcommand ended with this exit status, and this is all that it wrote.
+pub fn has_left<R: Debug + Drop>(
+    rt: &impl Abort,
+    row: R,
+    ended: &Ended,
+    status: u8,
+    output: &[u8],
+    faults: &[u8],
+) {
+    let left = (
+        ended.status,
+        ended.output.as_slice(),
+        ended.faults.as_slice(),
+    );
+    same_in(rt, row, left, (status, output, faults));
+}

@@ -1,9 +1,0 @@
-use Rattle.std.proofs.Common.{◌≡◌, ◌≤◌, vec_len}
-use Rattle.std.specs.Prelude.{vec_capacity}
-use Rattle.timer_program.proofs.clients.open_gates.Given as goal
-
-abbrev pub invariant-loop : goal.invariant-loop
-invariant-loop l = record {
-  len : vec_len l.gates ≡ l.counter;
-  capacity : l.clients ≤ vec_capacity l.gates;
-}

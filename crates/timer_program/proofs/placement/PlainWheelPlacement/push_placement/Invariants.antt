@@ -1,8 +1,0 @@
-use Rattle.timer_program.specs.Indented.{HasGrownByFront}
-use Rattle.timer_program.proofs.placement.PlainWheelPlacement.push_placement.Given as goal
-
--- the line has begun
-abbrev pub invariant-loop-timer : goal.invariant-loop-timer
-invariant-loop-timer l = record {
-  front : HasGrownByFront l.fn.text.items l.text.items;
-}
