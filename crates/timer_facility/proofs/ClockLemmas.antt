@@ -146,7 +146,7 @@ none_run : (s : FacilityState) (c : ℕ) (ps : List Placed) → HasNone c s → 
 none_run s c [] h = h
 none_run s c (p ∷ ps) h = none_run (step s p.event p.place).state c ps (none_step s c p.event p.place h)
 
--- where no timer of a client that there is not is pending, none ever will be
+-- if no timer of a client that does not exist is pending, none ever will be
 pub pending-no_client : (s : FacilityState) (ps : List Placed) (client : ℕ) → length s.numbers ≤ client → pending_of s client ≡ 0
     → pending_of (state_after s ps) client ≡ 0
 pending-no_client s ps client l h = (none_run s client ps (record { no_client = l; none = h })).none

@@ -73,7 +73,7 @@ no_entries : (es : List Entry) → timers_of es ≡ [] → es ≡ []
 no_entries [] h = refl
 no_entries (e ∷ es) h = absurd (cc)
 
--- where nothing waits, nothing is due
+-- if nothing waits, nothing is due
 pub nothing_due : {p : Parts} {v : FacilityView} → AreParts p → view_of p ≡ v → v.waiting ≡ [] → p.wheel.due ≡ []
 nothing_due {p} {v} a e h =
     let x : (view_of p).waiting ≡ [] = ap (λ (u : FacilityView). u.waiting) e ∙ h in
@@ -648,7 +648,7 @@ parts-expiry {p} a t h w' e =
     } in
     subst (λ (u : Wheels.WheelState). AreParts (with_one_less t.client (record p { wheel = u }))) (sym e) here
 
--- where nothing is due, removing the first due timer changes nothing
+-- if nothing is due, removing the first due timer changes nothing
 pub parts-nothing_due : {p : Parts} → AreParts p → Wheels.first_due p.wheel ≡ None → (w' : Wheels.WheelState)
     → w' ≡ Wheels.after_expiry p.wheel → AreParts (record p { wheel = w' })
 parts-nothing_due {p} a h w' e = subst (λ (u : Wheels.WheelState). AreParts (record p { wheel = u })) (sym (e ∙ nothing_first p.wheel h)) a

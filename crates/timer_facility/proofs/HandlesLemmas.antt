@@ -76,7 +76,7 @@ is_same n = grind (arith, nat_tests)
 pub is_less : (m n : ℕ) → m < n → (m == n) ≡ false
 is_less m n l = grind (arith, nat_tests)
 
--- the last handle is found by its serial, where the others have lower ones
+-- the last handle is found by its serial, if the others have lower ones
 place_at-last : (hs : HandleList) (h : Handle) (serial : ℕ) → h.serial ≡ serial → AllByRecursion (λ k. k.serial < serial) hs
     → place_at serial (hs ++ h ∷ []) ≡ Some h.place
 place_at-last [] h serial e a = let same : (h.serial == serial) ≡ true = ap (λ n. n == serial) e ∙ is_same serial in rw same refl
@@ -209,7 +209,7 @@ recorded-restart s new handles client number handle interval action answer a h =
       (recorded_renewal handles s client number (place_in answer) handle interval action answer (not_taken s client number) a h.answered);
 }
 
--- the handle is the recorded one of this serial, where there is one
+-- the handle is the recorded one of this serial, if there is one
 pub record IsHandleOf (handles : HandleList) (serial : ℕ) (handle : Handle) : Type 0 where
   pub same_serial : handle.serial ≡ serial
   pub same_place : (place : ℕ) → place_at serial handles ≡ Some place → handle.place ≡ place

@@ -53,7 +53,7 @@ left_refused now last false fault i h = elim (either (now == last)) [
   | inr k ↦ let e = rw k at h in absurd (cc)
 ]
 
--- no tick is left where one is refused
+-- no tick is left if one is refused
 pub ticks_left-refused : (s : FacilityState) (fault : TickFault) → s.now ≤ s.last → tick_refusal s ≡ Some fault → ticks_left s ≡ 0
 unfolding tick_refusal
 ticks_left-refused s fault i h = left_refused s.now s.last s.is_closed fault i h

@@ -22,7 +22,7 @@ both_are : (s t : FacilityState) (xs ys : List Notice) → s ≡ t → xs ≡ ys
     → let a : FacilityView = record { state = s; waiting = xs } in let b : FacilityView = record { state = t; waiting = ys } in a ≡ b
 both_are s t xs ys e f = cc
 
--- one more tick, where nothing was handed out before it
+-- one more tick, if nothing was handed out before it
 view-more : (s : FacilityState) (n : ℕ) → notices (history s (ticks n)) ≡ []
     → view_after (step (state_after s (ticks n)) Tick 0) ≡ view_after (run s (ticks (suc n)))
 view-more s n h =

@@ -118,7 +118,7 @@ pub not_among : (s : ℕ) (t : Timer) (xs : List Timer) → IsNotAmong s xs → 
 not_among s t [] n a = absurd a
 not_among s t (x ∷ xs) n a = elim a [ inl h ↦ rw h n.0 | inr h ↦ not_among s t xs n.1 h ]
 
--- where serials are distinct, whoever has the serial of t is t
+-- if serials are distinct, whoever has the serial of t is t
 abbrev pub IsOnly : Timer → Timer → Type 0
 IsOnly t x = x.serial ≡ t.serial → x ≡ t
 

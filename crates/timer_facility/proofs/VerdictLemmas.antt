@@ -172,7 +172,7 @@ timely s interval h =
       unspent = at_most LAST s.next_serial c.0;
     }
 
--- three tests, and the case where none of them holds
+-- three tests, and the case in which none of them holds
 three_tests : {X : Type 0} (x y z r : X) (rest : Option X) (a b c : Bool)
     → (if a then Some x else if b then Some y else if c then Some z else None) ≡ Some r
     → (if a then Some x else if b then Some y else if c then Some z else rest) ≡ Some r

@@ -2,7 +2,7 @@
 -- answers alone.
 --
 -- A history is a list of events, each with its outs. `owed s h`, for a history h that begins in state s, is
--- for each accepted tick in turn the timers due at it, as `Expired`; then, where h has an accepted close, all
+-- for each accepted tick in turn the timers due at it, as `Expired`; then, if h has an accepted close, all
 -- other timers that were started and not stopped, by deadline and then serial, as `Returned`. It keeps no
 -- list of pending timers: it filters the timers started by the serials stopped. The lemma `notices_are_owed`
 -- states that the notices of every run are what is owed for it.
@@ -19,7 +19,7 @@ use Rattle.timer_facility.specs.declared.event.Out.TheVariants as Outs
 use Rattle.timer_facility.specs.State.{FacilityState, SingleEvent, Asked, Tick, Start, Restart, RestartSerial}
 use Rattle.timer_facility.specs.Run.{Happened, notices}
 
--- the timer of a start and its answer, where it was accepted
+-- the timer of a start and its answer, if it was accepted
 abbrev pub timer_started : ℕ → ℕ → ℕ → Out → List Timer
 timer_started client number action (Outs.Answered c n (Started handle deadline)) =
     record {
@@ -37,7 +37,7 @@ timers_started client number action [] = []
 timers_started client number action (out ∷ outs) =
     timer_started client number action out ++ timers_started client number action outs
 
--- the new timer of a restart and its answer, where it was accepted
+-- the new timer of a restart and its answer, if it was accepted
 abbrev pub timer_restarted : ℕ → ℕ → ℕ → Out → List Timer
 timer_restarted client number action (Outs.Answered c n (Restarted handle deadline old)) =
     record {
@@ -104,7 +104,7 @@ abbrev pub any_out : (Out → Bool) → List Out → Bool
 any_out test [] = false
 any_out test (out ∷ outs) = test out || any_out test outs
 
--- a tick is accepted where it is not refused
+-- a tick is accepted if it is not refused
 abbrev pub ticks_by : SingleEvent → List Out → ℕ
 ticks_by Tick outs = if any_out is_tick_refusal outs then 0 else 1
 ticks_by _ outs = 0
@@ -167,8 +167,8 @@ abbrev pub IsIn : {X : Type 0} → X → List X → Type 0
 IsIn x [] = ⊥
 IsIn x (y ∷ ys) = (x ≡ y) ⊎ IsIn x ys
 
--- each timer that was started and not stopped is handed out: where its deadline was reached it expired, and
--- where a close came before that it was returned
+-- each timer that was started and not stopped is handed out: if its deadline was reached it expired, and
+-- if a close came before that it was returned
 pub record AreAllHandedOut (s : FacilityState) (hs : List Happened) : Type 0 where
   pub expired : (t : Timer) → IsIn t (started s hs) → is_among t.serial (stopped hs) ≡ false
       → t.deadline ≤ s.now + accepted_ticks hs → IsIn (Expired t) (notices hs)

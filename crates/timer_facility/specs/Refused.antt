@@ -23,7 +23,7 @@ abbrev pub refusals_in : List Out → List Refusal
 refusals_in [] = []
 refusals_in (out ∷ outs) = refusal_in out ++ refusals_in outs
 
--- the refusal of a verdict, and none where the event is accepted
+-- the refusal of a verdict, and none if the event is accepted
 abbrev pub refusals_of : Option Refusal → List Refusal
 refusals_of None = []
 refusals_of (Some refusal) = refusal ∷ []

@@ -27,7 +27,7 @@ pub record FacilityState : Type 0 where
 abbrev pub number_of : FacilityState → ℕ → ℕ
 number_of s client = slice_index s.numbers client
 
--- 1 where the timer is the client's
+-- 1 if the timer is the client's
 abbrev pub one_of : ℕ → Timer → ℕ
 one_of client t = if t.client == client then 1 else 0
 

@@ -22,5 +22,5 @@ pub record AreTicked (limit passed : ℕ) (s : FacilityState) (new : FacilityVie
   pub ticked : new ≡ view_after (run s (ticks passed))
   -- nothing was handed out before the last of them
   pub quiet : (n : ℕ) → n < passed → notices (history s (ticks n)) ≡ []
-  -- it stops early only where something waits
+  -- it stops early only if something waits
   pub early : passed < min limit (s.last - s.now) → 0 < length new.waiting

@@ -53,12 +53,12 @@ interval_refusal s interval =
     else if nat_lt LAST s.next_serial then Some SerialsSpent
     else None
 
--- a stop is refused where it names no timer
+-- a stop is refused if it names no timer
 abbrev pub stop_refusal : Option Timer → Option Reason
 stop_refusal None = Some NoSuch
 stop_refusal (Some t) = None
 
--- a restart is refused where it names no timer, and then where the new one can't be started; it needs no room
+-- a restart is refused if it names no timer, and then if the new one can't be started; it needs no room
 abbrev pub restart_refusal : Option Timer → Option Reason → Option Reason
 restart_refusal None reason = Some NoSuch
 restart_refusal (Some t) reason = reason
@@ -86,7 +86,7 @@ pub data Refusal : Type 0 where
   TickRefused : TickFault → Refusal
   CloseRefused : Refusal
 
--- a request is refused where it is not taken, and then where it is refused for a reason
+-- a request is refused if it is not taken, and then if it is refused for a reason
 abbrev pub verdict_on_request : Option NotTaken → Option Reason → Option Refusal
 verdict_on_request (Some not_taken) reason = Some (RequestNotTaken not_taken)
 verdict_on_request None (Some reason) = Some (RequestRefused reason)
@@ -96,7 +96,7 @@ abbrev pub verdict_on_tick : Option TickFault → Option Refusal
 verdict_on_tick (Some fault) = Some (TickRefused fault)
 verdict_on_tick None = None
 
--- the verdict on an event: None where it is accepted, or else the first rule that refuses it
+-- the verdict on an event: None if it is accepted, or else the first rule that refuses it
 abbrev pub verdict : FacilityState → SingleEvent → Option Refusal
 verdict s (Asked client number wanted) = verdict_on_request (not_taken s client number)
     (refusal s client wanted)

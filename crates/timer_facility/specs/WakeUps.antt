@@ -14,7 +14,7 @@ pub record IsWakeUp (tick : ℕ) (s : FacilityState) : Type 0 where
   -- ticks that end before it hand nothing out
   pub quiet : (n : ℕ) → s.now + n < tick → notices (history s (ticks n)) ≡ []
 
--- a tick to wake up at, and none exactly where nothing is pending
+-- a tick to wake up at, and none exactly if nothing is pending
 abbrev pub IsQuietUntil : Option ℕ → FacilityState → Type 0
 IsQuietUntil None s = s.pending ≡ []
 IsQuietUntil (Some tick) s = IsWakeUp tick s

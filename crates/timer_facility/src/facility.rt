@@ -95,6 +95,16 @@ impl<W: Wheel + Drop> Facility<W> {
         }
     }
 
+    /// Makes room in the wheel for as many timers as the facility may hold.
+    ///
+    /// The only error is out of memory. Nothing else changes, either way. An owner who calls this right after
+    /// `open` pays for memory there: over a wheel of this project no start allocates or copies a table later.
+    pub fn reserve(&mut self) -> Result<(), OutOfMemory>
+        ensures { self.new ≡ self.old }
+    {
+        self.wheel.reserve(self.capacity as usize)
+    }
+
     /// The present tick. Does not allocate.
     pub fn now(&self) -> u64
         ensures now { result ≡ self.now.state.now }

@@ -238,7 +238,8 @@ impl<W: Wheel + Drop> Player<W> {
 
     /// Plays `count` ticks, up to the first that is refused.
     fn play_ticks(&mut self, count: u64, outs: &mut Vec<Out>) -> Result<(), OutOfMemory>
-        ensures ok { OnOk result (AddsRun self.old (Event.Ticks count) outs.old.items outs.new.items self.new) }
+        ensures ok { OnOk result (AddsRun self.old
+            (Event.Ticks count) outs.old.items outs.new.items self.new) }
         ensures state { OnErr result (self.new ≡ self.old) }
         ensures outs { OnErr result (outs.new.items ≡ outs.old.items) }
     {

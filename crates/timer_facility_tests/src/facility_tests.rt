@@ -31,6 +31,7 @@ pub fn facility(alloc: Global, config: Config) -> Result<Facility<PlainWheel>, F
 /// A call of a facility. A request begins with its client and its number.
 #[derive(Clone, Copy, Debug)]
 enum Call {
+    Reserve,
     /// With its interval.
     Start(u64, u64, u64),
     Stop(u64, u64, Handle),
@@ -48,6 +49,8 @@ enum Call {
 /// What a call returns. The place of a handle is left out, which is a free choice of the wheel.
 #[derive(Clone, Copy, Debug, PartialEq, Eq)]
 enum Returned {
+    /// Whether there was memory.
+    Reserved(bool),
     /// The serial and the deadline.
     Started(u64, u64),
     Stopped(u64),
@@ -159,6 +162,7 @@ fn close(rt: &impl Abort, facility: &mut Facility<PlainWheel>) -> Returned {
 /// Makes a call. The action of a timer is its number, and 10 more.
 fn make(rt: &impl Abort, facility: &mut Facility<PlainWheel>, call: Call) -> Returned {
     match call {
+        Call::Reserve => Returned::Reserved(facility.reserve().is_ok()),
         Call::Start(client, number, interval) => {
             let action = number.wrapping_add(10);
             take(
@@ -264,6 +268,7 @@ static ROWS: [Row; 7] = [
         name: "many ticks stop where something waits",
         config: CONFIG,
         calls: &[
+            (Call::Reserve, Returned::Reserved(true)),
             (Call::Start(0, 1, 5), Returned::Started(1, 5)),
             (Call::Start(0, 2, 64), Returned::Started(2, 64)),
             (Call::Start(0, 3, 64), Returned::Started(3, 64)),

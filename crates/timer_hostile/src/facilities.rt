@@ -141,6 +141,36 @@ fn see_handed<W: Wheel + Drop>(
     }
 }
 
+/// How many timers a facility with room may hold.
+const ROOM: u64 = 1000;
+
+/// Makes room for all timers, at the second try if the first is refused, and starts so many of them.
+pub fn start_with_room<W: Wheel + Drop>(alloc: Global, wheel: W, starts: u64) -> Result<(), Fault>
+    requires pending { (W.state wheel).pending ≡ [] }
+    requires due { (W.state wheel).due ≡ [] }
+    requires now { (W.state wheel).now ≡ 0 }
+    requires serial { (W.state wheel).last_serial ≡ 0 }
+{
+    let Ok(checked) = numbers(1, ROOM).check() else {
+        return Err(Fault::Wrong("the numbers of a facility"));
+    };
+    let mut facility = Facility::open(alloc, checked, wheel);
+    reserve(&mut facility)?;
+    for number in 1..=starts {
+        start(&mut facility, 0, number, number, number)?;
+    }
+    same(facility.pending() as u64, starts, "how many are pending")
+}
+
+fn reserve<W: Wheel + Drop>(facility: &mut Facility<W>) -> Result<(), Fault> {
+    for _ in 0..2 {
+        if facility.reserve().is_ok() {
+            return Ok(());
+        }
+    }
+    Err(Fault::RefusedTwice)
+}
+
 /// Starts up to the capacity, lets one timer expire, and closes.
 pub fn start_and_close<W: Wheel + Drop>(alloc: Global, wheel: W) -> Result<(), Fault>
     requires pending { (W.state wheel).pending ≡ [] }

@@ -1,7 +1,7 @@
 //! The scenarios under their names.
 use crate::desks::{By, close_in_memory, close_over_locks, close_over_rings, hold_over_tick};
 use crate::driven::drive_two;
-use crate::facilities::start_and_close;
+use crate::facilities::{start_and_close, start_with_room};
 use crate::fault::Fault;
 use crate::handles::use_strange_handles;
 use crate::lines::{use_locked_line, use_memory_line, use_ring_line};
@@ -29,6 +29,8 @@ pub enum Scenario {
     Starts(Kind),
     Lists(Kind),
     Facility(Kind),
+    /// So many starts at a facility that has room for a thousand timers.
+    Room(Kind, u64),
     /// A list of events.
     Events(Row),
     Text,
@@ -50,7 +52,7 @@ const WIDE: Kind = Kind::Hier(Table::Wide);
 const CLOCK: Kind = Kind::Hier(Table::Clock);
 
 /// Each scenario with its name.
-pub const SCENARIOS: [(&str, Scenario); 37] = [
+pub static SCENARIOS: [(&str, Scenario); 45] = [
     ("pushes-9", Scenario::Pushes(9)),
     ("pushes-257", Scenario::Pushes(257)),
     ("pushes-641", Scenario::Pushes(641)),
@@ -68,6 +70,14 @@ pub const SCENARIOS: [(&str, Scenario); 37] = [
     ("facility-hashed", Scenario::Facility(EIGHT)),
     ("facility-hier", Scenario::Facility(WIDE)),
     ("facility-clock", Scenario::Facility(CLOCK)),
+    ("room-plain-1", Scenario::Room(Kind::Plain, 1)),
+    ("room-plain-1000", Scenario::Room(Kind::Plain, 1000)),
+    ("room-hashed-1", Scenario::Room(EIGHT, 1)),
+    ("room-hashed-1000", Scenario::Room(EIGHT, 1000)),
+    ("room-hier-1", Scenario::Room(WIDE, 1)),
+    ("room-hier-1000", Scenario::Room(WIDE, 1000)),
+    ("room-clock-1", Scenario::Room(CLOCK, 1)),
+    ("room-clock-1000", Scenario::Room(CLOCK, 1000)),
     ("migration", Scenario::Events(MIGRATION)),
     ("stop-middle", Scenario::Events(STOP_MIDDLE)),
     ("close", Scenario::Events(CLOSE)),
@@ -98,6 +108,7 @@ pub fn play<R: AllocGlobal + Wait>(rt: &R, scenario: Scenario) -> Result<bool, F
         Scenario::Starts(kind) => starts(alloc, kind)?,
         Scenario::Lists(kind) => lists(alloc, kind)?,
         Scenario::Facility(kind) => facility(alloc, kind)?,
+        Scenario::Room(kind, starts) => room(alloc, kind, starts)?,
         Scenario::Events(row) => play_row(alloc, row)?,
         Scenario::Text => write_text_of_outs(alloc)?,
         Scenario::MemoryLine => use_memory_line(alloc)?,
@@ -134,6 +145,14 @@ fn facility(alloc: Global, kind: Kind) -> Result<(), Fault> {
         Kind::Plain => start_and_close(alloc, plain(alloc)?),
         Kind::Hashed(slots) => start_and_close(alloc, hashed(alloc, slots)?),
         Kind::Hier(table) => start_and_close(alloc, hier(alloc, table)?),
+    }
+}
+
+fn room(alloc: Global, kind: Kind, starts: u64) -> Result<(), Fault> {
+    match kind {
+        Kind::Plain => start_with_room(alloc, plain(alloc)?, starts),
+        Kind::Hashed(slots) => start_with_room(alloc, hashed(alloc, slots)?, starts),
+        Kind::Hier(table) => start_with_room(alloc, hier(alloc, table)?, starts),
     }
 }
 

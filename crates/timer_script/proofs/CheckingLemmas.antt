@@ -58,7 +58,7 @@ cut_at bytes n some within free whole =
 
 -- ---- the report
 
--- the verdicts on all lines, where these are on those that are left
+-- the verdicts on all lines, if these are on those that are left
 pub record Leads (script : List ℕ) (others : List (Option LineFault)) (lines bad : ℕ) (text : List ℕ) : Type 0 where
   pub all : List (Option LineFault)
   pub right : AreVerdicts all (cut_lines script)

@@ -1,4 +1,4 @@
--- Bytes are the line of an event exactly where the reader reads all of them.
+-- Bytes are the line of an event exactly if the reader reads all of them.
 use Rattle.std.proofs.Common.{◌≡◌, ◌==◌, false, ℕ, List, [], ◌++◌, length, Option, Some, None, sym, ap, ◌∙◌, append-nil, eq-eqb}
 use Rattle.std.proofs.lemmas.Bool.{both_ways}
 use Rattle.std.proofs.lemmas.Option.{none-some}

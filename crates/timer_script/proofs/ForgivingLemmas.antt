@@ -523,7 +523,7 @@ whole_answer {F} before p q contents w w' s held number clean numbers turns soun
     (sym script.lines) in
     subst (λ xs. IsAnswer before xs (k.text ++ last_line s)) same answer
 
--- what serving returns where the end line was written or not
+-- what serving returns if the end line was written, or not
 abbrev pub ended_with : Result Unit ServeFault → Bool → Result Bool ServeFault
 ended_with (Ok u) clean = Ok clean
 ended_with (Err fault) clean = Err fault

@@ -30,6 +30,6 @@ stops_reading faults.OutOfMemory a b c failed old room got short fits h =
     ((old ++ h.0.0, Consumes-trans a b c old h.0.0 got h.0.1, omega (arith, h.0.2, length-append old h.0.0)), h.1)
 stops_reading (faults.Write written) a b c failed old room got short fits h = absurd h
 
--- where nothing was read yet, memory ran out
+-- if nothing was read yet, memory ran out
 pub stops_at_once : (a : Option (List ℕ)) (failed : Bool) → failed ≡ false → StopsReading faults.OutOfMemory a a failed
 stops_at_once a failed good = (([], Consumes-nil a, omega arith), good)

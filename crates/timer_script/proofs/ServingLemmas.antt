@@ -213,7 +213,7 @@ served_turn faults.Write before s new p q r f stops =
     (inl (new, stops.0, stops.1, stops.2, passed_join (fresh before) s new p q r stops.0 stops.1 stops.2 f stops.3), stops.4, stops.5)
 served_turn faults.TooLong before s new p q r f stops = absurd stops
 
--- what was sent, where no line is held at the end, and the end line, are the answer
+-- what was sent, if no line is held at the end, and the end line, are the answer
 pub answered_all : (before : FacilityState) (s : SessionState) (p q : PeerState) (bytes sent : List ℕ) → IsSound before
     → IsAtEnd q.remaining → IsAnsweredSoFar s → s.held ≡ [] → HasFed (fresh before) bytes [] sent s
     → HasAnsweredAll before p q bytes (sent ++ last_line s)

@@ -77,7 +77,7 @@ take_short zero (x ∷ xs) l = absurd (omega arith)
 take_short (suc m) [] l = refl
 take_short (suc m) (x ∷ xs) l = ap (λ t. x ∷ t) (take_short m xs (omega arith))
 
--- where nothing can be read of the front of a line, it is that of no event
+-- if nothing can be read of the front of a line, it is that of no event
 read_none : (front held : List ℕ) → HasNoFeed front → held ≡ take MOST_LINE (front ++ 10 ∷ []) → line_at held ≡ None
     → BeginsNoLine (front ++ 10 ∷ [])
 read_none front held none is unread event rest fits e =

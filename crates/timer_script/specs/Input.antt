@@ -34,7 +34,7 @@ pub record HasRead (old new : Option (List ℕ)) (failed : Bool) (bytes bytes' :
   pub at_end : n ≡ 0 → IsAtEnd new
   pub good : failed ≡ false
 
--- why one read appended nothing; where the reader failed, no byte was read, and else at most `room` were
+-- why one read appended nothing; if the reader failed, no byte was read, and else at most `room` were
 abbrev pub FailsToRead : RunFault → ℕ → Option (List ℕ) → Option (List ℕ) → Bool → Type 0
 FailsToRead faults.Read room old new failed = Keeps old new × (failed ≡ true)
 FailsToRead faults.TooLong room old new failed = ⊥

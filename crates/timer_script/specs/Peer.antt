@@ -17,10 +17,10 @@ moment_of call = if slice_index call 0 == 60 then Came
 
 -- what is known of a peer
 pub record PeerState : Type 0 where
-  -- the bytes that it has still to give, and those that it took, where they are known
+  -- the bytes that it has still to give, and those that it took, if they are known
   pub remaining : Option (List ℕ)
   pub contents : Option (List ℕ)
-  -- the calls so far, where they are known
+  -- the calls so far, if they are known
   pub moments : Option (List Moment)
   -- a read failed
   pub read_failed : Bool

@@ -223,7 +223,7 @@ fn number_len(bytes: &[u8], field: Field) -> usize
     len
 }
 
-/// What is wrong where a space and a field should follow.
+/// What is wrong if a space and a field should follow.
 fn fault_in_gap(line: &[u8], at: usize, before: Option<Field>, field: Field) -> LineFault
     requires { at ≤ length line.now }
     ensures { IsFaultOf result line.now }
@@ -258,7 +258,7 @@ fn fault_in_number(line: &[u8], at: usize, len: usize, field: Field) -> LineFaul
     fault_at(line, at, Some(field), reason)
 }
 
-/// What is wrong where the line should end.
+/// What is wrong if the line should end.
 fn fault_at_end(line: &[u8], at: usize, before: Option<Field>) -> LineFault
     requires { at ≤ length line.now }
     ensures { IsFaultOf result line.now }

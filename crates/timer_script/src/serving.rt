@@ -66,7 +66,8 @@ fn turn<P: Peer, W: Wheel + Drop>(
     requires short { length piece.old ≤ PIECE }
     requires good { AreGood (P.state peer.old) }
     requires answered { IsAnsweredSoFar session.old }
-    ensures ok { IfOk result (λ n. HasTurned session.old (P.state peer.old) (P.state peer.new) session.new n) }
+    ensures ok { IfOk result (λ n. HasTurned session.old (P.state peer.old)
+        (P.state peer.new) session.new n) }
     ensures fault { IfErr result (λ fault. StopsTurn fault session.old (P.state peer.old)
         (P.state peer.new) session.new) }
 {

@@ -5,8 +5,8 @@ use std::process::Abort;
 use timer_base::PlainWheel;
 use timer_script::{FeedStop, Session, SessionFault, Stage};
 
-const LONG: &str =
-    "start 0 1 5 0\n000000000000000000000000000000000000000000000000000000000000000000000000000000000000000000000000000000000000000";
+const LONG: &str = "start 0 1 5 0\n00000000000000000000000000000000000000000000000000000000000000\
+    0000000000000000000000000000000000000000000000000";
 
 /// A session of one client over a plain wheel.
 fn session(rt: &impl Abort, alloc: Global) -> Session<PlainWheel> {
