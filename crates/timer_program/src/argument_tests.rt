@@ -243,7 +243,8 @@ fn help_and_version_are_written_where_they_are_asked_for(rt: HostRuntime) {
         let is_whole = output.starts_with(front.as_bytes()) && output.ends_with(end.as_bytes());
         same_in(&rt, arguments, is_whole, true);
         let cut = call(&rt, arguments, b"x", 7);
-        has_left(&rt, arguments, &cut, 1, &output[..7], b"write failed\n");
+        let (taken, _) = output.split_at(output.len().min(7));
+        has_left(&rt, arguments, &cut, 1, taken, b"write failed\n");
     }
 }
 

@@ -50,20 +50,82 @@ static SCHEME_NAMES: [&str; 4] = ["plain", "hashed", "hier", "clock"];
 static PLAY: [&str; 1] = ["play"];
 
 /// An option that takes a number in a range.
-fn number<'a>(
-    alloc: Global,
-    name: &'a str,
-    value_name: &'a str,
+#[derive(Clone, Copy)]
+struct NumberOption {
+    name: &'static str,
+    value_name: &'static str,
     range: (i64, i64),
-    default: &'a str,
-    help: &'a str,
-) -> Arg<'a> {
-    Arg::new(alloc, name)
-        .long(name)
-        .value_name(value_name)
-        .value_parser(value_parser!(u64).range(range.0..=range.1))
-        .default_value(default)
-        .help(help)
+    default: &'static str,
+    help: &'static str,
+}
+
+/// The numbers of `play`, `serve` and `show`.
+static RUN_NUMBERS: [NumberOption; 4] = [
+    NumberOption {
+        name: "slots",
+        value_name: "SLOTS",
+        range: (1, 65536),
+        default: "256",
+        help: "The buckets of the hashed wheel, 1 to 65536; ignored by the other schemes",
+    },
+    NumberOption {
+        name: "clients",
+        value_name: "CLIENTS",
+        range: (1, 64),
+        default: "64",
+        help: "The number of clients, 1 to 64; they are numbered from 0",
+    },
+    NumberOption {
+        name: "capacity",
+        value_name: "TIMERS",
+        range: (1, 1048576),
+        default: "1024",
+        help: "The most timers that may be pending at a time, 1 to 1048576",
+    },
+    NumberOption {
+        name: "first-tick",
+        value_name: "TICK",
+        range: (0, 1152921504606846975),
+        default: "0",
+        help: "The tick at which the clock begins, 0 to the last tick of the scheme",
+    },
+];
+
+/// The numbers of `threads`.
+static THREADS_NUMBERS: [NumberOption; 2] = [
+    NumberOption {
+        name: "clients",
+        value_name: "CLIENTS",
+        range: (1, 64),
+        default: "4",
+        help: "The number of clients, 1 to 64, each in a thread of its own",
+    },
+    NumberOption {
+        name: "timers",
+        value_name: "TIMERS",
+        range: (1, 10000),
+        default: "1000",
+        help: "The number of timers that each client starts, 1 to 10000",
+    },
+];
+
+/// Adds options that take numbers.
+fn add_numbers<'a>(
+    alloc: Global,
+    command: Command<'a>,
+    numbers: &[NumberOption],
+) -> Result<Command<'a>, AllocError> {
+    let mut command = command;
+    for number in numbers {
+        let option = Arg::new(alloc, number.name)
+            .long(number.name)
+            .value_name(number.value_name)
+            .value_parser(value_parser!(u64).range(number.range.0..=number.range.1))
+            .default_value(number.default)
+            .help(number.help);
+        command = command.arg(option)?;
+    }
+    Ok(command)
 }
 
 /// A subcommand with the options of `play`.
@@ -80,47 +142,12 @@ fn playing_command<'a>(
         .value_parser(SCHEME_NAMES.as_slice())
         .default_value("hier")
         .help("How timers are kept; each scheme gives the same text up to its last tick");
-    let slots = number(
-        alloc,
-        "slots",
-        "SLOTS",
-        (1, 65536),
-        "256",
-        "The buckets of the hashed wheel, 1 to 65536; ignored by the other schemes",
-    );
-    let clients = number(
-        alloc,
-        "clients",
-        "CLIENTS",
-        (1, 64),
-        "64",
-        "The number of clients, 1 to 64; they are numbered from 0",
-    );
-    let capacity = number(
-        alloc,
-        "capacity",
-        "TIMERS",
-        (1, 1048576),
-        "1024",
-        "The most timers that may be pending at a time, 1 to 1048576",
-    );
-    let first_tick = number(
-        alloc,
-        "first-tick",
-        "TICK",
-        (0, 1152921504606846975),
-        "0",
-        "The tick at which the clock begins, 0 to the last tick of the scheme",
-    );
-    Command::new(alloc, name)
+    let command = Command::new(alloc, name)
         .override_usage(usage)
         .about(about)
         .after_help(after_help)
-        .arg(scheme)?
-        .arg(slots)?
-        .arg(clients)?
-        .arg(capacity)?
-        .arg(first_tick)
+        .arg(scheme)?;
+    add_numbers(alloc, command, &RUN_NUMBERS)
 }
 
 /// The subcommand `serve` with the options of `play` and its own.
@@ -134,27 +161,10 @@ fn serve_command<'a>(alloc: Global) -> Result<Command<'a>, AllocError> {
 
 /// The subcommand `threads` with its options.
 fn threads_command<'a>(alloc: Global) -> Result<Command<'a>, AllocError> {
-    let clients = number(
-        alloc,
-        "clients",
-        "CLIENTS",
-        (1, 64),
-        "4",
-        "The number of clients, 1 to 64, each in a thread of its own",
-    );
-    let timers = number(
-        alloc,
-        "timers",
-        "TIMERS",
-        (1, 10000),
-        "1000",
-        "The number of timers that each client starts, 1 to 10000",
-    );
-    Command::new(alloc, "threads")
+    let command = Command::new(alloc, "threads")
         .about(THREADS_ABOUT)
-        .after_help(THREADS)
-        .arg(clients)?
-        .arg(timers)
+        .after_help(THREADS);
+    add_numbers(alloc, command, &THREADS_NUMBERS)
 }
 
 /// The subcommand `check`, which has no options.
@@ -165,20 +175,33 @@ fn check_command<'a>(alloc: Global) -> Command<'a> {
         .after_help(CHECKS)
 }
 
+/// The subcommands, in the order of the help.
+static SUBCOMMANDS: [&str; 5] = ["play", "serve", "show", "threads", "check"];
+
+/// The command line of the subcommand of this name; of another name, that of `check`.
+fn command_line<'a>(alloc: Global, name: &str) -> Result<Command<'a>, AllocError> {
+    match name {
+        "play" => playing_command(alloc, "play", PLAY_USAGE, PLAY_ABOUT, SCHEMES),
+        "serve" => serve_command(alloc),
+        "show" => playing_command(alloc, "show", SHOW_USAGE, SHOW_ABOUT, PLACEMENTS),
+        "threads" => threads_command(alloc),
+        _ => Ok(check_command(alloc)),
+    }
+}
+
 /// The whole command line. A subcommand may be left out only if there are no arguments at all.
 fn program<'a>(alloc: Global) -> Result<Command<'a>, AllocError> {
-    Command::new(alloc, NAME)
+    let mut whole = Command::new(alloc, NAME)
         .bin_name(NAME)?
         .version(VERSION)
         .override_usage(USAGE)
         .about(ABOUT)
         .after_help(SCRIPTS)
-        .no_binary_name(true)
-        .subcommand(playing_command(alloc, "play", PLAY_USAGE, PLAY_ABOUT, SCHEMES)?)?
-        .subcommand(serve_command(alloc)?)?
-        .subcommand(playing_command(alloc, "show", SHOW_USAGE, SHOW_ABOUT, PLACEMENTS)?)?
-        .subcommand(threads_command(alloc)?)?
-        .subcommand(check_command(alloc))
+        .no_binary_name(true);
+    for name in SUBCOMMANDS {
+        whole = whole.subcommand(command_line(alloc, name)?)?;
+    }
+    Ok(whole)
 }
 
 /// The scheme of this name.
