@@ -1,7 +1,6 @@
 //! Calls of `show`. The placements are those of docs/walkthroughs.md.
 use crate::testing::{Reading, Sink, Source, USUAL, call, has_left};
 use std::alloc::Global;
-use std::process::Abort;
 use timer_commands::{RunOptions, Scheme};
 
 /// Options, a script, and what is shown.
