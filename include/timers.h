@@ -50,8 +50,10 @@
  *     one that re-arms a timer that was just taken allocates nothing, either.
  *
  *     The library is proved: each function meets the contract stated in crates/timer_c/src/exports.rt, for
- *     every call that keeps the rules below. Nothing checks that a caller keeps them. What allocates and how
- *     long a call takes is in no contract: it follows from the code, and tests look for allocations.
+ *     every call that keeps the rules below. Nothing checks that a caller keeps them. So it is proved that no
+ *     start returns TIMERS_NO_MEMORY while fewer timers are held than timers_reserve made room for. What
+ *     allocates and how long a call takes is in no contract: it follows from the code, and tests look for
+ *     allocations.
  *
  * RULES
  *     1. A `struct timers` begins as TIMERS_INIT, or with all its bytes 0: static storage, calloc and

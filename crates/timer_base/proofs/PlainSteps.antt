@@ -9,7 +9,7 @@ use Rattle.timer_base.specs.Order.{in_order, itself, insert_by_deadline, AreRisi
 use Rattle.timer_base.specs.OrderLaws.{either, in_order-newest, filter-in_order, in_order-same, AllAt-filter, AreRising-filter, length-in_order}
 use Rattle.timer_base.specs.OneOrder.{map-itself}
 use Rattle.timer_base.specs.Pending.{Entry, put, is_due_at}
-use Rattle.timer_base.specs.WheelState.{WheelState, after_start, after_tick}
+use Rattle.timer_base.specs.WheelState.{WheelState, after_start, after_tick, with_room, held_count}
 use Rattle.timer_base.specs.PlainState.{IsKept, AreDueAfter, is_after, due_count, at_first_place, plain_state}
 
 after_one : (now : ℕ) (t : Timer) → now ≤ t.deadline → is_due_at now t ≡ false → now < t.deadline
@@ -48,8 +48,8 @@ filter-map p (t ∷ ts) = elim (either (p t)) [
 ]
 
 pub state_is : (n : ℕ) {p q d e : List Entry} (l : ℕ) → p ≡ q → d ≡ e
-    → let a : WheelState = record { last_tick = LAST; now = n; pending = p; due = d; last_serial = l } in
-    let b : WheelState = record { last_tick = LAST; now = n; pending = q; due = e; last_serial = l } in a ≡ b
+    → let a : WheelState = record { last_tick = LAST; now = n; pending = p; due = d; last_serial = l; room = 0 } in
+    let b : WheelState = record { last_tick = LAST; now = n; pending = q; due = e; last_serial = l; room = 0 } in a ≡ b
 state_is n l h k = cc
 
 -- A tick.
@@ -212,6 +212,12 @@ due_count_is now last ts = length-map (filter (is_due_at now) ts)
 
 pub due_count-le : (now last : ℕ) (ts : List Timer) → AllByRecursion (IsKept now last) ts → due_count now ts ≤ length ts
 due_count-le now last ts k = let all = all_counted now last ts k in omega arith
+
+-- all timers are pending or due
+pub held_count-all : (now last room : ℕ) (ts : List Timer) → AllByRecursion (IsKept now last) ts
+    → held_count (with_room room (plain_state now last ts)) ≡ length ts
+held_count-all now last room ts k = let all = all_counted now last ts k in
+    omega (arith, length-pending now last ts, due_count_is now last ts)
 
 pub pending_count : (now last : ℕ) (ts : List Timer) → AllByRecursion (IsKept now last) ts
     → length ts - due_count now ts ≡ length (plain_state now last ts).pending

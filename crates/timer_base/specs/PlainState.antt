@@ -29,7 +29,7 @@ is_due_with tick serial t = has_serial serial t && is_due_at tick t
 abbrev pub at_first_place : Timer → Entry
 at_first_place t = record { place = 0; timer = t }
 
--- the wheel state of the timers
+-- the wheel state of the timers, with no room
 abbrev pub plain_state : ℕ → ℕ → List Timer → WheelState
 plain_state now last_serial timers = record {
   last_tick = LAST;
@@ -37,6 +37,7 @@ plain_state now last_serial timers = record {
   pending = map at_first_place (in_order itself (filter (is_after now) timers));
   due = map at_first_place (filter (is_due_at now) timers);
   last_serial = last_serial;
+  room = 0;
 }
 
 -- each deadline is after the tick

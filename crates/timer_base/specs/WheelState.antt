@@ -1,5 +1,5 @@
 -- The abstract state of a wheel, and the state after each call.
-use Rattle.std.specs.Prelude.{◌≡◌, ℕ, ◌+◌, ◌<◌, ◌≤◌, zero, suc, List, [], Option, Some, None, drop, slice_get, length}
+use Rattle.std.specs.Prelude.{◌≡◌, ℕ, ◌+◌, ◌<◌, ◌≤◌, zero, suc, max, List, [], Option, Some, None, drop, slice_get, length}
 use Rattle.std.specs.List.{AllByRecursion}
 use Rattle.timer_base.specs.declared.timer.Timer.{Timer}
 use Rattle.timer_base.specs.declared.timer.Handle.{Handle}
@@ -18,6 +18,8 @@ pub record WheelState : Type 0 where
   pub due : List Entry
   -- 0 where none was started
   pub last_serial : ℕ
+  -- for so many timers at one time, pending and due, room was made; `reserve` alone changes it
+  pub room : ℕ
 
 -- a new wheel
 abbrev pub empty_wheel : ℕ → ℕ → WheelState
@@ -27,7 +29,20 @@ empty_wheel last_tick first_tick = record {
   pending = [];
   due = [];
   last_serial = 0;
+  room = 0;
 }
+
+-- the same wheel with room for so many timers
+abbrev pub with_room : ℕ → WheelState → WheelState
+with_room room w = record w { room = room }
+
+-- room is made for at least so many timers
+abbrev pub after_reserve : ℕ → WheelState → WheelState
+after_reserve most w = with_room (max w.room most) w
+
+-- so many timers are held, pending and due
+abbrev pub held_count : WheelState → ℕ
+held_count w = length w.pending + length w.due
 
 -- a timer is started at a place
 abbrev pub after_start : ℕ → Timer → WheelState → WheelState
@@ -116,3 +131,16 @@ pub record IsWellFormed (w : WheelState) : Type 0 where
   pub each : AllByRecursion (IsPending w.last_tick w.now w.last_serial) (timers_of w.pending)
   pub due_now : AllByRecursion (λ t. t.deadline ≡ w.now) (timers_of w.due)
   pub due_rising : AreRising 0 (timers_of w.due)
+
+-- room changes nothing in the invariant
+pub with_room-well_formed : (room : ℕ) (w : WheelState) → IsWellFormed w → IsWellFormed (with_room room w)
+with_room-well_formed room w h = record {
+  last_in_range = h.last_in_range;
+  now_in_range = h.now_in_range;
+  serial_in_range = h.serial_in_range;
+  ordered = h.ordered;
+  distinct = h.distinct;
+  each = h.each;
+  due_now = h.due_now;
+  due_rising = h.due_rising;
+}

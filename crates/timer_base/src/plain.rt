@@ -23,7 +23,7 @@ ghost use Rattle.timer_base.specs.OrderLaws.{AreRising-prop};
 ghost use Rattle.timer_base.specs.Pending.{has_serial, is_due_at};
 ghost use Rattle.timer_base.specs.PlainState.{IsKept, IsKept-prop, AreDueAfter, IsJump, is_after, is_pending_with, is_due_with, due_count, earliest, first_after, plain_state, plain_state-well_formed};
 ghost use Rattle.timer_base.specs.WakeUps.{IsQuietUntil, next_deadline};
-ghost use Rattle.timer_base.specs.WheelState.{empty_wheel};
+ghost use Rattle.timer_base.specs.WheelState.{empty_wheel, with_room, with_room-well_formed};
 
 use crate::fault::{MakeFault, OutOfMemory};
 use crate::limits::LAST;
@@ -41,10 +41,13 @@ pub struct PlainWheel {
     timers: Vec<Timer>,
     // How many of them are due, so that `len` needs no scan.
     due: usize,
+    // For how many timers `reserve` made room.
+    room: usize,
     ghost now_in_range: { now ≤ LAST },
     ghost serial_in_range: { last_serial ≤ LAST },
     ghost rising: { AreRising 0 timers.items } by { AreRising-prop 0 timers.items },
     ghost kept: { AllByRecursion (IsKept now last_serial) timers.items } by { IsKept-prop now last_serial timers.items },
+    ghost has_room: { room ≤ vec_capacity timers },
     ghost counted: { due ≡ due_count now timers.items } by { ℕ_set _ _ },
 }
 
@@ -65,6 +68,7 @@ impl PlainWheel {
             last_serial: 0,
             timers: Vec::new(alloc),
             due: 0,
+            room: 0,
         })
     }
 
@@ -90,16 +94,18 @@ impl PlainWheel {
         ensures timers { self.new.timers.items ≡ self.old.timers.items }
         ensures now { self.new.now ≡ self.old.now + ticks }
         ensures last_serial { self.new.last_serial ≡ self.old.last_serial }
+        ensures room { self.new.room ≡ self.old.room }
     {
         self.now += ticks;
     }
 }
 
 impl Wheel for PlainWheel {
-    ghost state = { λ w. plain_state w.now w.last_serial w.timers.items };
+    ghost state = { λ w. with_room w.room (plain_state w.now w.last_serial w.timers.items) };
 
-    ghost well_formed = { λ w. plain_state-well_formed w.now w.last_serial w.timers.items w.now_in_range
-        w.serial_in_range w.rising w.kept };
+    ghost well_formed = { λ w. with_room-well_formed w.room (plain_state w.now w.last_serial w.timers.items)
+        (plain_state-well_formed w.now w.last_serial w.timers.items w.now_in_range w.serial_in_range w.rising
+        w.kept) };
 
     fn last_tick(&self) -> u64 {
         LAST
@@ -122,7 +128,9 @@ impl Wheel for PlainWheel {
     }
 
     fn start(&mut self, timer: Timer) -> Result<Handle, OutOfMemory> {
-        self.timers.push(timer)?;
+        let Ok(()) = self.timers.push(timer) else {
+            return Err(OutOfMemory);
+        };
         self.last_serial = timer.serial;
         Ok(Handle {
             place: 0,
@@ -132,6 +140,7 @@ impl Wheel for PlainWheel {
 
     fn reserve(&mut self, most: usize) -> Result<(), OutOfMemory> {
         self.timers.reserve(most.saturating_sub(self.timers.len()))?;
+        self.room = self.room.max(most);
         Ok(())
     }
 
@@ -303,6 +312,7 @@ fn drop_serial(timers: &mut Vec<Timer>, serial: u64)
     ensures items { timers.new.items ≡ filter (λ t. not (has_serial serial t)) timers.old.items }
     ensures room { length timers.new.items < length timers.old.items
         → vec_len timers.new < vec_capacity timers.new }
+    ensures capacity { vec_capacity timers.new ≡ vec_capacity timers.old }
 {
     timers.retain(|t| t.serial != serial);
 }
@@ -310,7 +320,8 @@ fn drop_serial(timers: &mut Vec<Timer>, serial: u64)
 /// Pushes a timer where a removed one left room.
 fn push_in_room(timers: &mut Vec<Timer>, timer: Timer)
     requires { vec_len timers.old < vec_capacity timers.old }
-    ensures { timers.new.items ≡ timers.old.items ++ timer ∷ [] }
+    ensures items { timers.new.items ≡ timers.old.items ++ timer ∷ [] }
+    ensures capacity { vec_capacity timers.new ≡ vec_capacity timers.old }
 {
     timers.push_reserved(timer);
 }
@@ -324,7 +335,8 @@ fn keep_pending(timers: &mut Vec<Timer>, tick: u64)
 
 /// Keeps the timers that are due at the tick, in their order.
 fn keep_due(timers: &mut Vec<Timer>, tick: u64)
-    ensures { timers.new.items ≡ filter (is_due_at tick) timers.old.items }
+    ensures items { timers.new.items ≡ filter (is_due_at tick) timers.old.items }
+    ensures capacity { vec_capacity timers.new ≡ vec_capacity timers.old }
 {
     timers.retain(|t| t.deadline == tick);
 }

@@ -8,17 +8,18 @@
 //!     due           the timers whose deadline is now, by serial, each with its place, until they are taken,
 //!                   withdrawn or revived
 //!     last_serial   the serial of the last start, 0 if there was none
+//!     room          for how many timers at one time, pending and due, room was made
 //!
 //! Each call that changes a wheel is one equation on this record. The four routines of G. Varghese
 //! and T. Lauck, "Hashed and Hierarchical Timing Wheels" (SOSP 1987), are `start` (START_TIMER),
 //! `stop` (STOP_TIMER), `per_tick` (PER_TICK_BOOKKEEPING) and `expire` (the timers that their
 //! EXPIRY_PROCESSING is for).
-ghost use Rattle.std.specs.Prelude.{◌≡◌, ◌<◌, ◌≤◌, ◌-◌, ◌↔◌, [], length, IsTrue, IfOk, OnErr, MatchOption};
+ghost use Rattle.std.specs.Prelude.{◌≡◌, ◌<◌, ◌≤◌, ◌-◌, ◌↔◌, [], length, IsTrue, IfOk, OnOk, OnErr, MatchOption};
 ghost use Rattle.timer_base.specs.declared.limits.TheConstants.{LAST};
 ghost use Rattle.timer_base.specs.Names.{NamesOne};
 ghost use Rattle.timer_base.specs.Pending.{timers_of};
 ghost use Rattle.timer_base.specs.WakeUps.{IsQuietUntil, next_deadline};
-ghost use Rattle.timer_base.specs.WheelState.{WheelState, IsWellFormed, timer_at, first_due, after_start, after_stop, after_tick, after_expiry, after_clear, after_restart, old_timer, due_at, after_withdrawal, after_revival, Advances};
+ghost use Rattle.timer_base.specs.WheelState.{WheelState, IsWellFormed, timer_at, first_due, after_start, after_reserve, held_count, after_stop, after_tick, after_expiry, after_clear, after_restart, old_timer, due_at, after_withdrawal, after_revival, Advances};
 
 use crate::fault::OutOfMemory;
 use crate::timer::{Handle, Timer};
@@ -54,7 +55,8 @@ pub trait Wheel {
     /// Starts a timer (START_TIMER), and returns its handle.
     ///
     /// The only error is out of memory, and then nothing changes. A wheel with a limited number of places
-    /// returns it at its limit too, though no allocation failed. The place is a free choice of the wheel.
+    /// returns it at its limit too, though no allocation failed. While fewer timers are held, pending and
+    /// due, than `reserve` made room for, there is no error. The place is a free choice of the wheel.
     /// Due timers may be waiting, here and in `look`, `stop`, `restart`, `withdraw`, `revive`, `list` and
     /// `clear`.
     fn start(&mut self, timer: Timer) -> Result<Handle, OutOfMemory>
@@ -65,18 +67,21 @@ pub trait Wheel {
         ensures named { IfOk result (λ handle. handle.serial ≡ timer.serial) }
         ensures started { IfOk result (λ handle. state self.new
             ≡ after_start handle.place timer (state self.old)) }
+        ensures full { OnErr result ((state self.old).room ≤ held_count (state self.old)) }
         ensures err { OnErr result (state self.new ≡ state self.old) };
 
     /// Makes room for `most` timers at one time, pending or due, those that are here among them. The only
     /// error is out of memory; no timer changes, either way.
     ///
-    /// A wheel of this project then starts timers with no allocation while it has fewer than `most`, also
-    /// after others were removed. The contract doesn't say so: the state of a wheel has no memory in it. A
-    /// wheel that doesn't write this call makes no room.
-    fn reserve(&mut self, _most: usize) -> Result<(), OutOfMemory>
-        ensures { state self.new ≡ state self.old }
+    /// A start then succeeds while there are fewer than `most`, also after others were removed. A wheel of
+    /// this project doesn't allocate then. One that doesn't write this call makes no room, and returns out
+    /// of memory.
+    fn reserve(&mut self, most: usize) -> Result<(), OutOfMemory>
+        ensures ok { OnOk result (state self.new ≡ after_reserve most (state self.old)) }
+        ensures err { OnErr result (state self.new ≡ state self.old) }
     {
-        Ok(())
+        let _most = most;
+        Err(OutOfMemory)
     }
 
     /// Returns the pending timer with exactly this handle, place and serial, or None if there is none: a

@@ -10,7 +10,7 @@ use Rattle.timer_wheels.specs.HeldPlaces.{AreBefore, AreElsewhere}
 use Rattle.timer_wheels.specs.HierWheel.{WheelCounts, counts_of, hier_state}
 use Rattle.timer_wheels.specs.declared.hier.HierWheel.{HierWheel}
 use Rattle.timer_wheels.specs.declared.table.TheConstants.{LAST_OF_CLOCK}
-use Rattle.timer_total.specs.Refusals.{next_timer, timer_due, left_until, held_at, after_removal, IsStartable, IsAt}
+use Rattle.timer_total.specs.Refusals.{next_timer, timer_due, left_until, held_at, after_removal, IsStartable, IsRoomUsed, IsAt}
 use Rattle.timer_total.specs.Ticks.{Passes, numbered}
 use Rattle.timer_c.specs.declared.layout.Counts.{Counts}
 use Rattle.timer_c.specs.declared.layout.Handle.{Handle}
@@ -49,7 +49,7 @@ WhyNotStarted interval old status =
     ⊎ ((status ≡ TOO_LATE) × (0 < interval) × (old.last_tick < old.now + interval))
     ⊎ ((status ≡ SERIALS_SPENT) × (0 < interval) × (old.now + interval ≤ old.last_tick)
     × (LAST ≤ old.last_serial))
-    ⊎ ((status ≡ NO_MEMORY) × IsStartable interval old)
+    ⊎ ((status ≡ NO_MEMORY) × IsStartable interval old × IsRoomUsed old)
 
 -- the handle as the wheel's type
 abbrev pub named : Handle → base.Handle

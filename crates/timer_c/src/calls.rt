@@ -1,7 +1,7 @@
 //! The calls on timers that are held, over any wheel, with C's statuses and structs.
 ghost use Rattle.std.specs.Prelude.{◌≡◌, ◌*◌, ◌<◌, ◌≤◌, ◌++◌, ◌↔◌, true, false, Some, None, [], map, take, drop, length, min};
 ghost use Rattle.timer_base.specs.Pending.{timers_of};
-ghost use Rattle.timer_base.specs.WheelState.{first_due, after_tick, after_expiry};
+ghost use Rattle.timer_base.specs.WheelState.{first_due, after_reserve, after_tick, after_expiry};
 ghost use Rattle.timer_c.specs.Outcomes.{IsStarted, IsStartedAt, WhyNotStarted, IsRestarted, IsRestartedAt, WhyNotRestarted, IsSeen, IsStopped, WhyNotStopped, IsTicked, IsAdvanced, WhyNotTicked, IsNextCall, IsNextDeadline, IsVisited, IsAllVisited, AreCountsOf, told, tell, tell_counts, after_expiries};
 ghost use Rattle.timer_total.specs.Refusals.{left_until};
 ghost use Rattle.timer_wheels.specs.HierWheel.{counts_of};
@@ -17,8 +17,9 @@ use timer_wheels::HierWheel;
 
 /// Makes room for `most` timers at one time, pending and expired ones together.
 pub(crate) fn reserve<W: Wheel + Drop>(timers: &mut Timers<W>, most: usize) -> u32
+    ensures reserved { result ≡ OK → timers.new ≡ after_reserve most timers.old }
     ensures refused { 0 < result → result ≡ NO_MEMORY }
-    ensures same { timers.new ≡ timers.old }
+    ensures kept { 0 < result → timers.new ≡ timers.old }
 {
     match timers.reserve(most) {
         Ok(()) => OK,

@@ -5,7 +5,7 @@
 //! ever changes in what C holds.
 ghost use Rattle.std.specs.Prelude.{◌≡◌, ◌*◌, ◌<◌, ◌≤◌, ◌⊎◌, ◌↔◌, ◌++◌, true, false, Some, None, [], map, take, drop, length, min, IsTrue};
 ghost use Rattle.timer_base.specs.Pending.{timers_of};
-ghost use Rattle.timer_base.specs.WheelState.{first_due, after_expiry};
+ghost use Rattle.timer_base.specs.WheelState.{first_due, after_reserve, after_expiry};
 ghost use Rattle.timer_c.specs.Frames.{IsOpen, IsShut, with_timers};
 ghost use Rattle.timer_c.specs.Outcomes.{IsEmptyAt, IsOpenable, WhyNoWheel, IsStarted, IsStartedAt, WhyNotStarted, IsRestarted, IsRestartedAt, WhyNotRestarted, IsSeen, IsStopped, WhyNotStopped, IsTicked, IsAdvanced, WhyNotTicked, IsNextCall, IsNextDeadline, IsVisited, IsAllVisited, AreCountsOf, told, tell, after_expiries};
 ghost use Rattle.timer_c.specs.declared.status.TheConstants.{OK, NOT_OPEN, OPEN, NO_MEMORY, NEVER};
@@ -60,13 +60,16 @@ pub extern "C" fn timers_free(alloc: Global, t: &mut CTimers)
     }
 }
 
-/// Makes room for `most` timers at one time, pending and expired ones together. Nothing else changes.
+/// Makes room for `most` timers at one time, pending and expired ones together. Nothing else changes. While
+/// fewer are held, a start finds memory.
 #[unsafe(no_mangle)]
 pub extern "C" fn timers_reserve(t: &mut CTimers, most: usize) -> u32
-    ensures reserved { result ≡ OK → IsOpen t.old }
+    ensures reserved { result ≡ OK → IsOpen t.old
+        × (t.new.slot.state ≡ after_reserve most t.old.slot.state) }
     ensures refused { 0 < result → ((result ≡ NOT_OPEN) × IsShut t.old)
         ⊎ (IsOpen t.old × (result ≡ NO_MEMORY)) }
-    ensures same { t.new ≡ t.old }
+    ensures kept { 0 < result → t.new ≡ t.old }
+    ensures only { t.new ≡ with_timers t.old t.new.slot.state }
 {
     if !t.slot.holds() {
         return NOT_OPEN;

@@ -1,5 +1,5 @@
 -- The nodes and links represent one value alone: whatever lists satisfy `IsLinked` are `lists_of`.
-use Rattle.std.proofs.Common.{◌≡◌, ◌<◌, ◌≤◌, ◌+◌, ℕ, zero, suc, true, false, List, [], ◌∷◌, ◌++◌, length, refl, sym, ◌∙◌, ap, subst, arith, Vec}
+use Rattle.std.proofs.Common.{inl, inr, ◌⊎◌, ◌≡◌, ◌<◌, ◌≤◌, ◌+◌, ℕ, zero, suc, true, false, List, [], ◌∷◌, ◌++◌, length, refl, sym, ◌∙◌, ap, subst, arith, Vec}
 use Rattle.std.specs.Prelude.{Some, None, nat_lt, ◌-◌}
 use Rattle.std.proofs.lemmas.Bool.Decides.{nat_tests}
 use Rattle.std.proofs.lemmas.List.{ext_get_or, append_assoc, with_items_is}
@@ -9,9 +9,9 @@ use Rattle.slab.specs.Slab.{Slab, get, slab_len}
 use Rattle.timer_links.specs.declared.node.Node.{Node}
 use Rattle.timer_links.specs.declared.ring.Sides.{Sides}
 use Rattle.timer_links.specs.declared.links.Links.TheInside.{Inside}
-use Rattle.timer_links.specs.Lists.{list_at, row_count}
+use Rattle.timer_links.specs.Lists.{LinksState, list_at, row_count}
 use Rattle.timer_links.specs.Ring.{sides_at, key_of, IsChain}
-use Rattle.timer_links.specs.Links.{places, walk, lists_of, IsLinked}
+use Rattle.timer_links.specs.Links.{places, walk, lists_of, IsLinked, HasRoom}
 use Rattle.timer_links.proofs.Rows.{length_list_at}
 use Rattle.timer_links.proofs.Rings.{node_at-here}
 
@@ -63,11 +63,51 @@ pub closed : (n : ℕ) (nodes : Slab Node) (s : List Sides) (v : List (List (ℕ
     → IsLinked n nodes s (lists_of n nodes s)
 closed n nodes s v h = let P : List (List (ℕ × Node)) → Type 0 = λ x. IsLinked n nodes s x in subst P (sym (lists_are n nodes s v h)) h
 
-pub opened : (s : Inside) (v : List (List (ℕ × Node))) → lists_of s.lists s.nodes s.sides.items ≡ v
-    → IsLinked s.lists s.nodes s.sides.items (lists_of s.lists s.nodes s.sides.items) → IsLinked s.lists s.nodes s.sides.items v
-opened s v e h = let P : List (List (ℕ × Node)) → Type 0 = λ x. IsLinked s.lists s.nodes s.sides.items x in subst P e h
+-- the lists of a value, which is open
+pub opened : (s : Inside) (v : LinksState) → record { lists = lists_of s.lists s.nodes s.sides.items; room = s.room } ≡ v
+    → IsLinked s.lists s.nodes s.sides.items (lists_of s.lists s.nodes s.sides.items) × HasRoom s.room s.lists s.nodes s.sides.items
+    → IsLinked s.lists s.nodes s.sides.items v.lists
+opened s v e h = let P : List (List (ℕ × Node)) → Type 0 = λ x. IsLinked s.lists s.nodes s.sides.items x in
+    subst P (ap (λ (r : LinksState). r.lists) e) h.0
 
 -- what was written to the slice of a vector is the vector's
 pub written : {Z : Type 0} (n : ℕ) (nodes : Slab Node) (sides : Vec Sides Z) (ws : List Sides) (v : List (List (ℕ × Node)))
     → length ws ≡ sides.len → IsLinked n nodes ws v → IsLinked n nodes (with_items sides ws).items v
 written n nodes sides ws v e h = let P : List Sides → Type 0 = λ x. IsLinked n nodes x v in subst P (sym (with_items_is sides ws e)) h
+
+-- room that was made stays: the nodes' memory is as large, and no place is gone
+pub room_stays : (room n : ℕ) (old new : Slab Node) (s t : List Sides) → HasRoom room n old s → new.capacity ≡ old.capacity
+    → length s ≤ length t → HasRoom room n new t
+room_stays room n old new s t h e l = record {
+  fits = let k : room ≤ old.capacity = h.fits in omega arith;
+  places = λ p. let k : n + old.capacity ≤ length s = h.places p in omega arith;
+}
+
+pub room_written : {Z : Type 0} (room n : ℕ) (old new : Slab Node) (sides : Vec Sides Z) (ws : List Sides)
+    → HasRoom room n old sides.items → new.capacity ≡ old.capacity → length ws ≡ sides.len
+    → HasRoom room n new (with_items sides ws).items
+room_written room n old new sides ws h e k = let P : List Sides → Type 0 = λ x. HasRoom room n new x in
+    let m = sides.ok in
+    subst P (sym (with_items_is sides ws k)) (room_stays room n old new sides.items ws h e (omega arith))
+
+-- no room was made yet
+pub no_room : (n : ℕ) (nodes : Slab Node) (s : List Sides) → HasRoom 0 n nodes s
+no_room n nodes s = record {
+  fits = omega arith;
+  places = λ p. absurd (omega arith);
+}
+
+-- the value of these fields is the state with these lists and this room
+pub state_is : (w : LinksState) (x : List (List (ℕ × Node))) (room : ℕ) → x ≡ w.lists → room ≡ w.room
+    → record { lists = x; room = room } ≡ w
+state_is w x room e k =
+    let f : List (List (ℕ × Node)) → LinksState = λ y. record { lists = y; room = room } in
+    let g : ℕ → LinksState = λ y. record { lists = w.lists; room = y } in
+    ap f e ∙ ap g k
+
+-- a key that was given out in this room has its place
+pub has_place : (room n key : ℕ) (nodes : Slab Node) (s : List Sides) → HasRoom room n nodes s → key < nodes.capacity → key ≡
+    nodes.vacant_key
+    → (0 < room) ⊎ (n + nodes.vacant_key < length s) → n + key < length s
+has_place room n key nodes s h b e (inl p) = let k : n + nodes.capacity ≤ length s = h.places p in omega arith
+has_place room n key nodes s h b e (inr l) = rw e l

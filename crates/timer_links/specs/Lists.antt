@@ -2,6 +2,11 @@
 use Rattle.std.specs.Prelude.{◌≡◌, ◌<◌, ℕ, ◌+◌, not, ◌==◌, if◌then◌else◌, List, [], ◌∷◌, ◌++◌, length, map, filter, Option, Some, None, slice_index_or, slice_set}
 use Rattle.timer_links.specs.declared.node.Node.{Node}
 
+-- the lists, and for how many nodes at one time room was made
+pub record LinksState : Type 0 where
+  pub lists : List (List (ℕ × Node))
+  pub room : ℕ
+
 -- the node under a key of one list
 abbrev pub node_in : ℕ → List (ℕ × Node) → Option Node
 node_in key [] = None

@@ -9,9 +9,11 @@
 //!
 //! The nodes are in a `Slab`, whose keys these are. Their order is kept apart from them, as rings in one
 //! array (`ring`), so that changing a neighbour's link never touches the neighbour's node.
-ghost use Rattle.std.specs.Prelude.{◌≡◌, ◌≢◌, ◌<◌, ◌≤◌, ◌↔◌, ◌+◌, IsTrue, Some, None, IfOk, OnOk, OnErr, IfErr, IfSome, IsSome, length, map, [], replicate};
+ghost use Rattle.std.specs.Prelude.{◌≡◌, ◌≢◌, ◌<◌, ◌≤◌, ◌↔◌, ◌+◌, ◌⊎◌, max, IsTrue, Some, None, IfOk, OnOk, OnErr, IfErr, IfSome, IsSome, length, map, [], replicate};
 ghost use Rattle.timer_links.specs.Lists.{node_at, first_key, with_row, row_count, list_at, without_key, front_moved, appended, PopsFront, AreApart, IsNext, SetsRounds, SetsNode, MovesBack, IsAloneIn, HasRounds};
 ghost use Rattle.timer_links.specs.Keys.{IsFirstUsed};
+ghost use Rattle.slab.specs.Slab.{HasRoomFor, slab_len};
+ghost use Rattle.timer_links.specs.Links.{HasRoom};
 ghost use Rattle.timer_links.specs.Ring.{IsGrown};
 ghost use Rattle.timer_links.specs.declared.ring.TheConstants.{PLACES};
 
@@ -46,26 +48,33 @@ pub struct Links {
     nodes: Slab<Node>,
     sides: Vec<Sides>,
     lists: usize,
+    // For how many nodes `reserve` made room. It stays when the nodes grow beyond it.
+    room: usize,
 }
 
 impl Model for Links {
-    ghost use Rattle.std.specs.Prelude.{List, ℕ};
-    ghost use Rattle.timer_links.specs.declared.node.Node.{Node};
-    ghost use Rattle.timer_links.specs.Links.{IsLinked, lists_of};
+    ghost use Rattle.timer_links.specs.Lists.{LinksState};
+    ghost use Rattle.timer_links.specs.Links.{IsLinked, HasRoom, lists_of};
 
-    ghost Value = { List (List (ℕ × Node)) };
+    ghost Value = { LinksState };
 
-    ghost view = { λ s. lists_of s.lists s.nodes s.sides.items };
+    ghost view = { λ s. record {
+      lists = lists_of s.lists s.nodes s.sides.items;
+      room = s.room;
+    } };
 
-    ghost invariant = { λ s. IsLinked s.lists s.nodes s.sides.items
-        (lists_of s.lists s.nodes s.sides.items) };
+    ghost invariant = { λ s. IsLinked s.lists s.nodes s.sides.items (lists_of s.lists s.nodes s.sides.items)
+        × HasRoom s.room s.lists s.nodes s.sides.items };
 }
 
 impl Links {
     /// Makes `lists` empty lists, at most 65,537. The only error is out of memory.
     pub fn new(alloc: Global, lists: usize) -> Result<Links, OutOfMemory>
         requires { lists ≤ 65537 }
-        ensures { IfOk result (λ links. links ≡ replicate lists []) }
+        ensures { IfOk result (λ links. links ≡ record {
+          lists = replicate lists [];
+          room = 0;
+        }) }
     {
         let mut sides = Vec::with_capacity(alloc, lists)?;
         for list in 0..lists {
@@ -79,13 +88,14 @@ impl Links {
             nodes: Slab::new(alloc),
             sides,
             lists,
+            room: 0,
         })
     }
 
     /// Does nothing at run time. Its contract is a lemma: no key is in two places.
     #[inline]
     pub fn keys_are_apart(&self)
-        ensures { AreApart self.now }
+        ensures { AreApart self.now.lists }
     {
         // Read, so that the prover knows the invariant here.
         let _nodes = &self.nodes;
@@ -94,7 +104,7 @@ impl Links {
     /// The node under this key, or None where the key is not in use. Does not allocate.
     #[inline]
     pub fn get(&self, key: usize) -> Option<Node>
-        ensures { result ≡ node_at key self.now }
+        ensures { result ≡ node_at key self.now.lists }
     {
         match self.nodes.get(key) {
             Some(node) => Some(*node),
@@ -105,8 +115,8 @@ impl Links {
     /// The key of the first node of a list, or None where the list is empty. Does not allocate.
     #[inline]
     pub fn front(&self, list: usize) -> Option<usize>
-        requires { list < length self.now }
-        ensures { result ≡ first_key (list_at list self.now) }
+        requires { list < length self.now.lists }
+        ensures { result ≡ first_key (list_at list self.now.lists) }
     {
         key_at(self.sides[list].after, self.lists)
     }
@@ -114,9 +124,9 @@ impl Links {
     /// The same as `front`, with a proof that the key is in use.
     #[inline]
     fn used_front(&self, list: usize) -> Option<usize>
-        requires { list < length self.now }
-        ensures key { result ≡ first_key (list_at list self.now) }
-        ensures used { IfSome result (λ key. IsSome (node_at key self.now)) }
+        requires { list < length self.now.lists }
+        ensures key { result ≡ first_key (list_at list self.now.lists) }
+        ensures used { IfSome result (λ key. IsSome (node_at key self.now.lists)) }
     {
         // Read, so that the prover knows the invariant here.
         let _nodes = &self.nodes;
@@ -126,8 +136,8 @@ impl Links {
     /// Whether a list has no node. Does not allocate.
     #[inline]
     pub fn is_empty(&self, list: usize) -> bool
-        requires { list < length self.now }
-        ensures { IsTrue result ↔ (list_at list self.now ≡ []) }
+        requires { list < length self.now.lists }
+        ensures { IsTrue result ↔ (list_at list self.now.lists ≡ []) }
     {
         self.sides[list].after as usize == list
     }
@@ -135,8 +145,8 @@ impl Links {
     /// The key after this one in its list, or None where it is the last one. Does not allocate.
     #[inline]
     pub fn next(&self, key: usize) -> Option<usize>
-        requires { IsSome (node_at key self.now) }
-        ensures { IsNext key self.now result }
+        requires { IsSome (node_at key self.now.lists) }
+        ensures { IsNext key self.now.lists result }
     {
         key_at(self.sides[self.lists + key].after, self.lists)
     }
@@ -144,9 +154,9 @@ impl Links {
     /// The rounds of the node under this key, and the key after it: one look-up of each. Does not allocate.
     #[inline]
     pub fn step(&self, key: usize) -> Step
-        requires { IsSome (node_at key self.now) }
-        ensures rounds { HasRounds key self.now result.rounds }
-        ensures next { IsNext key self.now result.next }
+        requires { IsSome (node_at key self.now.lists) }
+        ensures rounds { HasRounds key self.now.lists result.rounds }
+        ensures next { IsNext key self.now.lists result.next }
     {
         Step {
             rounds: self.nodes[key].rounds,
@@ -157,7 +167,7 @@ impl Links {
     /// How many lists there are. Does not allocate.
     #[inline]
     pub fn lists(&self) -> usize
-        ensures { result ≡ length self.now }
+        ensures { result ≡ length self.now.lists }
     {
         self.lists
     }
@@ -165,46 +175,49 @@ impl Links {
     /// How many nodes are in all lists together. Does not allocate.
     #[inline]
     pub fn len(&self) -> usize
-        ensures { result ≡ row_count self.now }
+        ensures { result ≡ row_count self.now.lists }
     {
         self.nodes.len()
     }
 
     /// Makes room for `most` nodes at one time, those that are here among them. No list changes.
     ///
-    /// While fewer nodes are here, `push_back` then needs no memory, also after others were removed. The
+    /// While fewer nodes are here, `push_back` then does not fail, also after others were removed. The
     /// error is out of memory, as that of `push_back`. What was allocated is kept, after an error too.
     pub fn reserve(&mut self, most: usize) -> Result<(), OutOfMemory>
-        ensures { self.new ≡ self.old }
+        ensures ok { OnOk result (self.new ≡ record self.old { room = max self.old.room most }) }
+        ensures err { OnErr result (self.new ≡ self.old) }
     {
-        make_room(&mut self.nodes, &mut self.sides, self.lists, most)
+        let more = most.saturating_sub(self.nodes.len());
+        let Ok(()) = make_room(&mut self.nodes, &mut self.sides, self.lists, more) else {
+            return Err(OutOfMemory);
+        };
+        self.room = self.room.max(most);
+        Ok(())
     }
 
     /// Adds a node at the back of a list, and returns its key, which was not in use.
     ///
     /// On an error nothing changes, and the node is handed back. The error is out of memory: an
     /// allocation failed, or the number of lists plus the key would be 4,294,967,296, which is more
-    /// than a link of 32 bits can name. Which unused key the node gets is a free choice.
+    /// than a link of 32 bits can name. There is none while fewer nodes are here than `reserve` made room
+    /// for. Which unused key the node gets is a free choice.
     // Inlined with all that it calls: a key that comes back through memory costs a start up to a half.
     #[inline(always)]
     pub fn push_back(&mut self, list: usize, node: Node) -> Result<usize, (Node, OutOfMemory)>
-        requires { list < length self.old }
-        ensures fresh { IfOk result (λ key. node_at key self.old ≡ None) }
-        ensures pushed { IfOk result (λ key. self.new ≡ with_row list (key, node) self.old) }
+        requires { list < length self.old.lists }
+        ensures fresh { IfOk result (λ key. node_at key self.old.lists ≡ None) }
+        ensures pushed { IfOk result (λ key. self.new.lists ≡ with_row list (key, node) self.old.lists) }
+        ensures room { self.new.room ≡ self.old.room }
+        ensures full { OnErr result (self.old.room ≤ row_count self.old.lists) }
         ensures err { OnErr result (self.new ≡ self.old) }
         ensures handed_back { IfErr result (λ failed. failed.0 ≡ node) }
     {
         // All that can fail comes before the first change that a caller could see.
-        let key = self.nodes.vacant_key();
-        if key >= PLACES - self.lists {
-            return Err((node, OutOfMemory));
-        }
-        let Ok(()) = reserve_place(&mut self.sides, self.lists + key) else {
+        let Ok(()) = make_way(&mut self.nodes, &mut self.sides, self.lists, self.room) else {
             return Err((node, OutOfMemory));
         };
-        let Ok(key) = self.nodes.insert(node) else {
-            return Err((node, OutOfMemory));
-        };
+        let key = self.nodes.insert_reserved(node);
         let place = (self.lists + key) as u32;
         join_last(self.sides.as_mut_slice(), list as u32, place);
         Ok(key)
@@ -214,8 +227,9 @@ impl Links {
     ///
     /// The other nodes keep their lists, their order and their keys. Does not allocate.
     pub fn unlink(&mut self, key: usize) -> Option<Node>
-        ensures node { result ≡ node_at key self.old }
-        ensures taken { self.new ≡ map (without_key key) self.old }
+        ensures node { result ≡ node_at key self.old.lists }
+        ensures taken { self.new.lists ≡ map (without_key key) self.old.lists }
+        ensures room { self.new.room ≡ self.old.room }
     {
         if !self.nodes.contains(key) {
             return None;
@@ -228,10 +242,11 @@ impl Links {
     /// The other nodes keep their lists, their order and their keys. Does not allocate.
     #[inline]
     pub fn take(&mut self, key: usize) -> Taken
-        requires { IsSome (node_at key self.old) }
-        ensures node { Some result.node ≡ node_at key self.old }
-        ensures taken { self.new ≡ map (without_key key) self.old }
-        ensures emptied { IsAloneIn key self.old result.emptied }
+        requires { IsSome (node_at key self.old.lists) }
+        ensures node { Some result.node ≡ node_at key self.old.lists }
+        ensures taken { self.new.lists ≡ map (without_key key) self.old.lists }
+        ensures room { self.new.room ≡ self.old.room }
+        ensures emptied { IsAloneIn key self.old.lists result.emptied }
     {
         let sides = self.sides[self.lists + key];
         let node = self.nodes.remove(key);
@@ -246,8 +261,8 @@ impl Links {
     /// beside it. Does not allocate.
     #[inline]
     pub fn alone_in(&self, key: usize) -> Option<usize>
-        requires { IsSome (node_at key self.now) }
-        ensures { IsAloneIn key self.now result }
+        requires { IsSome (node_at key self.now.lists) }
+        ensures { IsAloneIn key self.now.lists result }
     {
         only_neighbour(self.sides[self.lists + key])
     }
@@ -255,8 +270,9 @@ impl Links {
     /// Removes the first node of a list, with its key, or returns None where the list is empty.
     /// Does not allocate.
     pub fn pop_front(&mut self, list: usize) -> Option<(usize, Node)>
-        requires { list < length self.old }
-        ensures { PopsFront list self.old result self.new }
+        requires { list < length self.old.lists }
+        ensures popped { PopsFront list self.old.lists result self.new.lists }
+        ensures room { self.new.room ≡ self.old.room }
     {
         let key = self.used_front(list)?;
         let after = self.sides[self.lists + key].after;
@@ -268,8 +284,9 @@ impl Links {
     /// Changes the rounds of a node where it stands. Does not allocate.
     #[inline]
     pub fn set_rounds(&mut self, key: usize, rounds: u64)
-        requires { IsSome (node_at key self.old) }
-        ensures { SetsRounds key rounds self.old self.new }
+        requires { IsSome (node_at key self.old.lists) }
+        ensures set { SetsRounds key rounds self.old.lists self.new.lists }
+        ensures room { self.new.room ≡ self.old.room }
     {
         self.nodes[key].rounds = rounds;
     }
@@ -278,17 +295,19 @@ impl Links {
     /// Does not allocate.
     #[inline]
     pub fn set_node(&mut self, key: usize, node: Node)
-        requires { IsSome (node_at key self.old) }
-        ensures { SetsNode key node self.old self.new }
+        requires { IsSome (node_at key self.old.lists) }
+        ensures set { SetsNode key node self.old.lists self.new.lists }
+        ensures room { self.new.room ≡ self.old.room }
     {
         self.nodes[key] = node;
     }
 
     /// Moves a node to the back of a list, which may be its own. It keeps its key. Does not allocate.
     pub fn move_back(&mut self, key: usize, list: usize)
-        requires used { IsSome (node_at key self.old) }
-        requires list { list < length self.old }
-        ensures { MovesBack key list self.old self.new }
+        requires used { IsSome (node_at key self.old.lists) }
+        requires list { list < length self.old.lists }
+        ensures moved { MovesBack key list self.old.lists self.new.lists }
+        ensures room { self.new.room ≡ self.old.room }
     {
         let place = self.lists + key;
         let Sides { before, after } = self.sides[place];
@@ -301,9 +320,10 @@ impl Links {
     ///
     /// It keeps its key. Where the list is empty nothing changes. Does not allocate.
     pub fn move_front(&mut self, from: usize, to: usize)
-        requires from { from < length self.old }
-        requires to { to < length self.old }
-        ensures { self.new ≡ front_moved from to self.old }
+        requires from { from < length self.old.lists }
+        requires to { to < length self.old.lists }
+        ensures moved { self.new.lists ≡ front_moved from to self.old.lists }
+        ensures room { self.new.room ≡ self.old.room }
     {
         let Some(key) = self.used_front(from) else {
             return;
@@ -319,10 +339,11 @@ impl Links {
     ///
     /// However long the lists are, only the links at their ends are written. Does not allocate.
     pub fn append(&mut self, from: usize, to: usize)
-        requires from { from < length self.old }
-        requires to { to < length self.old }
+        requires from { from < length self.old.lists }
+        requires to { to < length self.old.lists }
         requires apart { to ≢ from }
-        ensures { self.new ≡ appended from to self.old }
+        ensures appended { self.new.lists ≡ appended from to self.old.lists }
+        ensures room { self.new.room ≡ self.old.room }
     {
         let Some(_) = self.front(from) else {
             return;
@@ -343,7 +364,7 @@ impl Links {
     ///
     /// It looks at each key on the way: there are no more keys than there ever were nodes at one time.
     pub fn used_from(&self, from: usize) -> Option<usize>
-        ensures found { IsFirstUsed from self.now result }
+        ensures found { IsFirstUsed from self.now.lists result }
         ensures in_range { IfSome result (λ key. key < PLACES) }
     {
         for key in from..self.sides.len() - self.lists {
@@ -355,31 +376,88 @@ impl Links {
     }
 }
 
-/// Makes the arrays long enough for `most` nodes at one time, whatever keys these get: a key is below the
+/// Makes room for one more node and its place. On an error no node and no link changes.
+///
+/// Where room was promised, there is none only if all that is there is in use, and then it grows at once
+/// for all the nodes that fit.
+#[inline(always)]
+fn make_way(
+    nodes: &mut Slab<Node>,
+    sides: &mut Vec<Sides>,
+    lists: usize,
+    room: usize,
+) -> Result<(), OutOfMemory>
+    requires roots { lists ≤ length sides.old.items }
+    requires few { length sides.old.items ≤ PLACES }
+    requires room { HasRoom room lists nodes.old sides.old.items }
+    ensures nodes { nodes.new ≡ record nodes.old { capacity = nodes.new.capacity } }
+    ensures kept { IsGrown sides.old.items sides.new.items }
+    ensures few { length sides.new.items ≤ PLACES }
+    ensures room { HasRoom room lists nodes.new sides.new.items }
+    ensures fits { OnOk result (HasRoomFor nodes.new 1) }
+    ensures place { OnOk result ((0 < room) ⊎ (lists + nodes.new.vacant_key < length sides.new.items)) }
+    ensures full { OnErr result (room ≤ slab_len nodes.old) }
+{
+    if room > 0 {
+        if nodes.len() < nodes.capacity() {
+            return Ok(());
+        }
+        return make_room(nodes, sides, lists, 1);
+    }
+    let key = nodes.vacant_key();
+    if key >= PLACES - lists {
+        return Err(OutOfMemory);
+    }
+    reserve_place(sides, lists + key)?;
+    nodes.reserve(1)?;
+    Ok(())
+}
+
+/// Makes room for so many nodes more, and a place for each key that they can get: a key is below the
 /// capacity of the nodes. On an error no node and no link changes.
+///
+/// The nodes are copied to grow, so that they are as they were if the places can't grow with them.
 #[cold]
 #[inline(never)]
 fn make_room(
     nodes: &mut Slab<Node>,
     sides: &mut Vec<Sides>,
     lists: usize,
-    most: usize,
+    more: usize,
 ) -> Result<(), OutOfMemory>
     requires roots { lists ≤ length sides.old.items }
     requires few { length sides.old.items ≤ PLACES }
     ensures nodes { nodes.new ≡ record nodes.old { capacity = nodes.new.capacity } }
+    ensures larger { nodes.old.capacity ≤ nodes.new.capacity }
     ensures kept { IsGrown sides.old.items sides.new.items }
     ensures few { length sides.new.items ≤ PLACES }
-    ensures room { OnOk result (most ≤ nodes.new.capacity) }
+    ensures fits { OnOk result (HasRoomFor nodes.new more) }
     ensures places { OnOk result (lists + nodes.new.capacity ≤ length sides.new.items) }
+    ensures err { OnErr result (nodes.new ≡ nodes.old) }
 {
-    nodes.reserve(most.saturating_sub(nodes.len()))?;
-    let capacity = nodes.capacity();
-    if capacity > PLACES - lists {
+    if nodes.capacity() - nodes.len() >= more {
+        return reserve_places(sides, lists, nodes.capacity());
+    }
+    let mut larger = nodes.clone()?;
+    larger.reserve(more)?;
+    reserve_places(sides, lists, larger.capacity())?;
+    *nodes = larger;
+    Ok(())
+}
+
+/// Makes the array long enough for the roots and so many keys. On an error no link in it changes.
+fn reserve_places(sides: &mut Vec<Sides>, lists: usize, keys: usize) -> Result<(), OutOfMemory>
+    requires roots { lists ≤ length sides.old.items }
+    requires few { length sides.old.items ≤ PLACES }
+    ensures kept { IsGrown sides.old.items sides.new.items }
+    ensures few { length sides.new.items ≤ PLACES }
+    ensures places { OnOk result (lists + keys ≤ length sides.new.items) }
+{
+    if keys > PLACES - lists {
         return Err(OutOfMemory);
     }
-    if capacity == 0 {
+    if keys == 0 {
         return Ok(());
     }
-    reserve_place(sides, lists + capacity - 1)
+    reserve_place(sides, lists + keys - 1)
 }

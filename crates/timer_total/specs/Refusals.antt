@@ -3,7 +3,7 @@ use Rattle.std.specs.Prelude.{ℕ, ◌≡◌, ◌+◌, ◌-◌, ◌<◌, ◌≤�
 use Rattle.timer_base.specs.declared.limits.TheConstants.{LAST}
 use Rattle.timer_base.specs.declared.timer.Timer.{Timer}
 use Rattle.timer_base.specs.declared.timer.Handle.{Handle}
-use Rattle.timer_base.specs.WheelState.{WheelState, timer_at, due_at, after_stop, after_withdrawal}
+use Rattle.timer_base.specs.WheelState.{WheelState, held_count, timer_at, due_at, after_stop, after_withdrawal}
 use Rattle.timer_total.specs.declared.fault.StartFault.{StartFault}
 use Rattle.timer_total.specs.declared.fault.StartFault.TheVariants as start
 use Rattle.timer_total.specs.declared.fault.RestartFault.{RestartFault}
@@ -38,6 +38,10 @@ timer_due deadline action w = record {
 -- a timer with this interval may be started where memory is available
 abbrev pub IsStartable : ℕ → WheelState → Type 0
 IsStartable interval w = (0 < interval) × (w.now + interval ≤ w.last_tick) × (w.last_serial < LAST)
+
+-- as many timers are held as room was made for, or more: only then a start may find no memory
+abbrev pub IsRoomUsed : WheelState → Type 0
+IsRoomUsed w = w.room ≤ held_count w
 
 -- why a start is refused before anything is allocated: the first test that holds
 abbrev pub WhyNotStarted : ℕ → WheelState → StartFault → Type 0

@@ -1,9 +1,9 @@
 //! A wheel whose calls have no preconditions.
-ghost use Rattle.std.specs.Prelude.{◌≡◌, ◌+◌, ◌<◌, ◌≤◌, ◌↔◌, ◌⊎◌, ℕ, [], length, IsTrue, IfOk, IfErr, OnErr, None, Some};
+ghost use Rattle.std.specs.Prelude.{◌≡◌, ◌+◌, ◌<◌, ◌≤◌, ◌↔◌, ◌⊎◌, ℕ, [], length, IsTrue, IfOk, IfErr, OnOk, OnErr, None, Some};
 ghost use Rattle.timer_base.specs.declared.limits.TheConstants.{LAST};
 ghost use Rattle.timer_base.specs.WakeUps.{IsQuietUntil, next_deadline};
-ghost use Rattle.timer_base.specs.WheelState.{WheelState, first_due, after_start, after_tick, after_expiry};
-ghost use Rattle.timer_total.specs.Refusals.{next_timer, timer_due, left_until, held_at, after_removal, IsStartable, IsAt, WhyNotStarted, WhyNotRestarted, WhyNotTicked};
+ghost use Rattle.timer_base.specs.WheelState.{WheelState, first_due, after_start, after_reserve, after_tick, after_expiry};
+ghost use Rattle.timer_total.specs.Refusals.{next_timer, timer_due, left_until, held_at, after_removal, IsStartable, IsRoomUsed, IsAt, WhyNotStarted, WhyNotRestarted, WhyNotTicked};
 ghost use Rattle.timer_total.specs.Ticks.{Passes, numbered};
 
 use crate::fault::{RestartFault, StartFault, TickFault};
@@ -92,8 +92,11 @@ impl<W: Wheel + Drop> Timers<W> {
 
     /// Makes room for `most` timers at one time, pending ones and those that expired and were not yet taken.
     /// No timer changes. The only error is out of memory, and what was allocated is kept then too.
+    ///
+    /// While fewer are held, a start then finds memory, also after others were removed.
     pub fn reserve(&mut self, most: usize) -> Result<(), OutOfMemory>
-        ensures { self.new ≡ self.old }
+        ensures ok { OnOk result (self.new ≡ after_reserve most self.old) }
+        ensures err { OnErr result (self.new ≡ self.old) }
     {
         self.wheel.reserve(most)
     }
@@ -105,7 +108,7 @@ impl<W: Wheel + Drop> Timers<W> {
         ensures named { IfOk result (λ handle. handle.serial ≡ self.old.last_serial + 1) }
         ensures in_order { IfOk result (λ _. IsStartable interval self.old) }
         ensures fault { IfErr result (λ fault. WhyNotStarted interval self.old fault
-            ⊎ ((fault ≡ StartFault.OutOfMemory) × IsStartable interval self.old)) }
+            ⊎ ((fault ≡ StartFault.OutOfMemory) × IsStartable interval self.old × IsRoomUsed self.old)) }
         ensures err { OnErr result (self.new ≡ self.old) }
     {
         self.admit(interval)?;
@@ -158,7 +161,8 @@ impl<W: Wheel + Drop> Timers<W> {
         ensures named { IfOk result (λ handle. handle.serial ≡ self.old.last_serial + 1) }
         ensures in_order { IfOk result (λ _. IsStartable (left_until deadline self.old) self.old) }
         ensures fault { IfErr result (λ fault. WhyNotStarted (left_until deadline self.old) self.old fault
-            ⊎ ((fault ≡ StartFault.OutOfMemory) × IsStartable (left_until deadline self.old) self.old)) }
+            ⊎ ((fault ≡ StartFault.OutOfMemory) × IsStartable (left_until deadline self.old) self.old
+            × IsRoomUsed self.old)) }
         ensures err { OnErr result (self.new ≡ self.old) }
     {
         let interval = self.until(deadline);

@@ -278,7 +278,8 @@ all_at d [] k a = absurd (omega arith)
 all_at d (r ∷ rs) k a = record {
   has = inl a.0;
   none_earlier = of_timers d (r ∷ rs)
-      (All-weaken (λ row. (timer_in row).deadline ≡ d) (λ row. d ≤ (timer_in row).deadline) (r ∷ rs) (λ row e. let x : (timer_in row).deadline
+      (All-weaken (λ row. (timer_in row).deadline ≡ d) (λ row. d ≤ (timer_in row).deadline) (r ∷ rs) (λ row e. let x : (timer_in
+      row).deadline
       ≡ d = e in omega arith) a);
 }
 
@@ -304,28 +305,28 @@ pub none_is_next : (t : Table) (b : Buckets) (words : List ℕ) → IsHier t b w
 none_is_next t b words h f =
     let e : b.slots ≡ slots (radices t) = h.has_slots in
     let k : slots (radices t) ≤ 640 = (of_table t).few_slots in
-    let rows : rows_below b.slots b.links ≡ [] = rows_below-none b.slots b.links
-    (λ s c. no_rows_there (list_at s b.links) (sym (h.marked.0 s c) ∙ f s (omega arith))) in
+    let rows : rows_below b.slots b.links.lists ≡ [] = rows_below-none b.slots b.links.lists
+    (λ s c. no_rows_there (list_at s b.links.lists) (sym (h.marked.0 s c) ∙ f s (omega arith))) in
     sym (ap (λ (y : List (ℕ × Node)). next_deadline (pending_in y)) rows)
 
 module _ (t : Table) (b : Buckets) (words : List ℕ) (h : IsHier t b words) (l : ℕ) (f : IsFirstSet words (Some l)) where
   pub first_below : l < b.slots
   first_below = first_in t b words h l f.0 f.1
 
-  standing : (s : ℕ) → s < b.slots → AllByRecursion (IsStanding (radices t) b.tick s) (list_at s b.links)
-  standing s k = standing-rows (radices t) b.last_tick b.tick b.last_serial s (list_at s b.links)
-      (all-list_at (λ row. IsPending b.last_tick b.tick b.last_serial (timer_in row)) b.slots b.links b.pending s k) (h.placed s k)
+  standing : (s : ℕ) → s < b.slots → AllByRecursion (IsStanding (radices t) b.tick s) (list_at s b.links.lists)
+  standing s k = standing-rows (radices t) b.last_tick b.tick b.last_serial s (list_at s b.links.lists)
+      (all-list_at (λ row. IsPending b.last_tick b.tick b.last_serial (timer_in row)) b.slots b.links.lists b.pending s k) (h.placed s k)
 
-  some_there : 0 < length (list_at l b.links)
-  some_there = filled_some t b words h (list_at l b.links) (sym (h.marked.0 l first_below) ∙ f.1)
+  some_there : 0 < length (list_at l b.links.lists)
+  some_there = filled_some t b words h (list_at l b.links.lists) (sym (h.marked.0 l first_below) ∙ f.1)
 
   -- a deadline of the first bucket with a timer is before those of the later buckets
-  not_later : (d s : ℕ) (row : ℕ × Node) → IsLeast d (timers_in (list_at l b.links)) → l < s → IsStanding (radices t) b.tick s row
+  not_later : (d s : ℕ) (row : ℕ × Node) → IsLeast d (timers_in (list_at l b.links.lists)) → l < s → IsStanding (radices t) b.tick s row
       → d ≤ (timer_in row).deadline
   not_later d s row m c w =
       let u = deadline_in d (λ (u : Timer). (b.tick < u.deadline)
-      × (bucket (radices t) b.tick u.deadline ≡ l)) (timers_in (list_at l b.links))
-      (timers_standing (radices t) b.tick l (list_at l b.links) (standing l first_below)) m.has in
+      × (bucket (radices t) b.tick u.deadline ≡ l)) (timers_in (list_at l b.links.lists))
+      (timers_standing (radices t) b.tick l (list_at l b.links.lists) (standing l first_below)) m.has in
       let e : u.0.deadline ≡ d = u.2 in
       let p : bucket (radices t) b.tick u.0.deadline ≡ l = u.1.1 in
       let q : bucket (radices t) b.tick (timer_in row).deadline ≡ s = w.placed in
@@ -333,39 +334,39 @@ module _ (t : Table) (b : Buckets) (words : List ℕ) (h : IsHier t b words) (l 
       (of_table t).is_table u.1.0 w.later (omega arith) in
       omega arith
 
-  not_sooner : (d s : ℕ) → IsLeast d (timers_in (list_at l b.links)) → s < b.slots
-      → AllByRecursion (λ row. d ≤ (timer_in row).deadline) (list_at s b.links)
+  not_sooner : (d s : ℕ) → IsLeast d (timers_in (list_at l b.links.lists)) → s < b.slots
+      → AllByRecursion (λ row. d ≤ (timer_in row).deadline) (list_at s b.links.lists)
   not_sooner d s m k = elim (cases_lt s l) [
     | inl c ↦ let P : List (ℕ × Node) → Type 0 = AllByRecursion (λ row. d ≤ (timer_in row).deadline)
-        in subst P (sym (no_rows_there (list_at s b.links) (sym (h.marked.0 s k) ∙ f.2 s c))) tt
+        in subst P (sym (no_rows_there (list_at s b.links.lists) (sym (h.marked.0 s k) ∙ f.2 s c))) tt
     | inr c ↦ elim (cases_eq s l) [
-      | inl e ↦ let P : ℕ → Type 0 = λ n. AllByRecursion (λ row. d ≤ (timer_in row).deadline) (list_at n b.links)
-          in subst P (sym e) (of_rows d (list_at l b.links) m.none_earlier)
-      | inr n ↦ All-weaken (IsStanding (radices t) b.tick s) (λ row. d ≤ (timer_in row).deadline) (list_at s b.links)
+      | inl e ↦ let P : ℕ → Type 0 = λ n. AllByRecursion (λ row. d ≤ (timer_in row).deadline) (list_at n b.links.lists)
+          in subst P (sym e) (of_rows d (list_at l b.links.lists) m.none_earlier)
+      | inr n ↦ All-weaken (IsStanding (radices t) b.tick s) (λ row. d ≤ (timer_in row).deadline) (list_at s b.links.lists)
           (λ row w. not_later d s row m (omega arith) w) (standing s k)
     ]
   ]
 
-  least_of_first : (d : ℕ) → IsLeast d (timers_in (list_at l b.links)) → Some d ≡ next_deadline (state_of b).pending
+  least_of_first : (d : ℕ) → IsLeast d (timers_in (list_at l b.links.lists)) → Some d ≡ next_deadline (state_of b).pending
   least_of_first d m =
-      let n : length b.links ≡ b.slots + 1 = b.has_lists in
-      least_is_next (Some d) (rows_below b.slots b.links) (record {
-        has = has_below d b.slots l b.links first_below (let k : l < b.slots = first_below in omega arith) m.has;
-        none_earlier = of_timers d (rows_below b.slots b.links)
-            (all-rows_below (λ row. d ≤ (timer_in row).deadline) b.slots b.links (λ s k. not_sooner d s m k));
+      let n : length b.links.lists ≡ b.slots + 1 = b.has_lists in
+      least_is_next (Some d) (rows_below b.slots b.links.lists) (record {
+        has = has_below d b.slots l b.links.lists first_below (let k : l < b.slots = first_below in omega arith) m.has;
+        none_earlier = of_timers d (rows_below b.slots b.links.lists)
+            (all-rows_below (λ row. d ≤ (timer_in row).deadline) b.slots b.links.lists (λ s k. not_sooner d s m k));
       })
 
   -- its least deadline is the first one of all
-  pub first_is_next : (o : Option ℕ) → IsLeastDeadline o (timers_in (list_at l b.links)) → o ≡ next_deadline (state_of b).pending
-  first_is_next None m = absurd (some_rows (list_at l b.links) some_there m)
+  pub first_is_next : (o : Option ℕ) → IsLeastDeadline o (timers_in (list_at l b.links.lists)) → o ≡ next_deadline (state_of b).pending
+  first_is_next None m = absurd (some_rows (list_at l b.links.lists) some_there m)
   first_is_next (Some d) m = least_of_first d m
 
   -- and on the lowest wheel that is the tick of its visit
   pub visit_is_next : (visit : ℕ) → visit ≡ list_visit (radices t) l b.tick → l < lowest_radix (radices t)
       → Some visit ≡ next_deadline (state_of b).pending
   visit_is_next visit e k =
-      least_of_first visit (all_at visit (list_at l b.links) some_there
-      (All-weaken (IsStanding (radices t) b.tick l) (λ row. (timer_in row).deadline ≡ visit) (list_at l b.links)
+      least_of_first visit (all_at visit (list_at l b.links.lists) some_there
+      (All-weaken (IsStanding (radices t) b.tick l) (λ row. (timer_in row).deadline ≡ visit) (list_at l b.links.lists)
       (λ row w. let x : list_visit (radices t) l b.tick ≡ (timer_in row).deadline =
       lowest_visit (radices t) b.tick (timer_in row).deadline l (of_table t).is_table (of_table t).more_wheels w.later w.placed k
       in sym (e ∙ x))

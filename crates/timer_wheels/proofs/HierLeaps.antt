@@ -1,4 +1,5 @@
 -- Lemmas for `leap`: the first visit ahead, the clock set forward to it, and the loop of `advance_until_due`.
+use Rattle.timer_wheels.proofs.RoomLemmas.{leaps-with_room, wake_up-with_room}
 use Rattle.std.proofs.Common.{◌≡◌, ◌<◌, ◌≤◌, ◌+◌, ◌-◌, ◌*◌, ℕ, List, [], ◌∷◌, length, sym, ◌∙◌, ap, subst, inl, inr, arith}
 use Rattle.std.specs.Prelude.{Some}
 use Rattle.std.specs.List.{AllByRecursion}
@@ -6,7 +7,7 @@ use Rattle.std.proofs.lemmas.Bool.{cases_lt}
 use Rattle.timer_base.specs.declared.limits.TheConstants.{LAST}
 use Rattle.timer_base.specs.OrderLaws.{All-weaken}
 use Rattle.timer_base.specs.WakeUps.{IsWakeUp}
-use Rattle.timer_base.specs.WheelState.{WheelState, IsPending, after_tick, after_ticks, Advances}
+use Rattle.timer_base.specs.WheelState.{with_room, WheelState, IsPending, after_tick, after_ticks, Advances}
 use Rattle.timer_links.specs.declared.node.Node.{Node}
 use Rattle.timer_links.specs.Lists.{list_at}
 use Rattle.timer_wheels.specs.declared.buckets.Buckets.{Buckets}
@@ -56,14 +57,15 @@ module _ (t : Table) (b : Buckets) (words : List ℕ) (h : IsHier t b words) whe
   known_rows s [] p q = tt
   known_rows s (r ∷ rs) p q = (known_row s r p.0 q.0, known_rows s rs p.1 q.1)
 
-  known : (s : ℕ) → s < b.slots → AllByRecursion (IsKnown (radices t) b.tick s) (list_at s b.links)
-  known s k = known_rows s (list_at s b.links) (all-list_at (λ row.
-      IsPending b.last_tick b.tick b.last_serial (timer_in row)) b.slots b.links b.pending s k) (h.placed s k)
+  known : (s : ℕ) → s < b.slots → AllByRecursion (IsKnown (radices t) b.tick s) (list_at s b.links.lists)
+  known s k = known_rows s (list_at s b.links.lists) (all-list_at (λ row.
+      IsPending b.last_tick b.tick b.last_serial (timer_in row)) b.slots b.links.lists b.pending s k) (h.placed s k)
 
-  none_where : (s : ℕ) → s < b.slots → bit_of words s ≡ 0 → list_at s b.links ≡ []
-  none_where s k z = no_rows_there (list_at s b.links) (sym (h.marked.0 s k) ∙ z)
+  none_where : (s : ℕ) → s < b.slots → bit_of words s ≡ 0 → list_at s b.links.lists ≡ []
+  none_where s k z = no_rows_there (list_at s b.links.lists) (sym (h.marked.0 s k) ∙ z)
 
-  pub none_ahead : (visit : ℕ) → ((s : ℕ) → s < 640 → bit_of words s ≡ 0) → AreNotVisitedBefore (radices t) b.slots b.tick visit b.links
+  pub none_ahead : (visit : ℕ) → ((s : ℕ) → s < 640 → bit_of words s ≡ 0) → AreNotVisitedBefore (radices t) b.slots b.tick visit
+      b.links.lists
   none_ahead visit f s k = let P : List (ℕ × Node) → Type 0 = AllByRecursion (λ row. visit
       ≤ timer_visit (radices t) b.tick (timer_in row).deadline) in let r : b.slots ≤ 640 = slots_fit
       in subst P (sym (none_where s k (f s (omega arith)))) tt
@@ -79,12 +81,12 @@ module _ (t : Table) (b : Buckets) (words : List ℕ) (h : IsHier t b words) whe
   first_in_range l f = let c : l < b.slots = first_in l f.0 f.1 in let e : b.slots ≡ slots (radices t) = h.has_slots in omega arith
 
   pub first_ahead : (l visit : ℕ) → visit ≡ list_visit (radices t) l b.tick → IsFirstSet words (Some l)
-      → AreNotVisitedBefore (radices t) b.slots b.tick visit b.links
+      → AreNotVisitedBefore (radices t) b.slots b.tick visit b.links.lists
   first_ahead l visit e f s k = elim (cases_lt s l) [
     | inl c ↦ let P : List (ℕ × Node) → Type 0 = AllByRecursion (λ row. visit ≤ timer_visit (radices t) b.tick (timer_in row).deadline)
         in subst P (sym (none_where s k (f.2 s c))) tt
     | inr c ↦ All-weaken (IsKnown (radices t) b.tick s) (λ row. visit ≤ timer_visit (radices t) b.tick (timer_in row).deadline)
-        (list_at s b.links)
+        (list_at s b.links.lists)
         (λ row w.
         let p : bucket (radices t) b.tick (timer_in row).deadline ≡ s = w.placed in
         let x : list_visit (radices t) l b.tick ≤ timer_visit (radices t) b.tick (timer_in row).deadline =
@@ -107,7 +109,7 @@ module _ (t : Table) (b : Buckets) (words : List ℕ) (h : IsHier t b words) whe
   pub first_later : (l visit : ℕ) → visit ≡ list_visit (radices t) l b.tick → IsFirstSet words (Some l) → b.tick < visit
   first_later l visit e f =
       let c : l < b.slots = first_in l f.0 f.1 in
-      let x : b.tick < list_visit (radices t) l b.tick = later_by l (list_at l b.links) (sym (h.marked.0 l c) ∙ f.1) (known l c) in
+      let x : b.tick < list_visit (radices t) l b.tick = later_by l (list_at l b.links.lists) (sym (h.marked.0 l c) ∙ f.1) (known l c) in
       omega arith
 
   pub filled_some : (rows : List (ℕ × Node)) → filled rows ≡ 1 → 0 < length rows
@@ -118,51 +120,54 @@ module _ (t : Table) (b : Buckets) (words : List ℕ) (h : IsHier t b words) whe
   pub first_wakes : (l visit : ℕ) → visit ≡ list_visit (radices t) l b.tick → IsFirstSet words (Some l) → IsWakeUp visit (state_of b)
   first_wakes l visit e f =
       let c : l < b.slots = first_in l f.0 f.1 in
-      wakes b.slots b.last_tick b.tick b.last_serial b.links visit l c (filled_some (list_at l b.links) (sym (h.marked.0 l c) ∙ f.1))
+      wake_up-with_room b.links.room _ _ (wakes b.slots b.last_tick b.tick b.last_serial b.links.lists visit l c (filled_some (list_at l
+      b.links.lists) (sym (h.marked.0 l c) ∙ f.1))
       (first_later l visit e f)
       (λ s k. All-weaken (λ row. visit ≤ timer_visit (radices t) b.tick (timer_in row).deadline) (λ row. visit ≤ (timer_in row).deadline)
-      (list_at s b.links)
+      (list_at s b.links.lists)
       (λ row q.
       let p : visit ≤ timer_visit (radices t) b.tick (timer_in row).deadline = q in
       let x : timer_visit (radices t) b.tick (timer_in row).deadline ≤ (timer_in row).deadline =
       visit_in_time (radices t) b.tick (timer_in row).deadline (of_table t).is_table in
       omega arith)
-      (first_ahead l visit e f s k))
+      (first_ahead l visit e f s k)))
 
   pub none_wakes : ((s : ℕ) → s < 640 → bit_of words s ≡ 0) → (state_of b).pending ≡ []
-  none_wakes f = sleeps b.slots b.last_tick b.tick b.last_serial b.links
+  none_wakes f = sleeps b.slots b.last_tick b.tick b.last_serial b.links.lists
       (λ s k. none_where s k (f s (let r : b.slots ≤ 640 = slots_fit in omega arith)))
 
 -- The clock alone advances.
 
 pub record HasSkipped (t : Table) (b : Buckets) (tick : ℕ) : Type 0 where
-  pub pending : ArePending b.last_tick tick b.last_serial (rows_below b.slots b.links)
-  pub placed : EachRow (IsPlaced (radices t) tick) b.slots b.links
-  pub leaps : Leaps (radices t) 0 (state_of b) (wheel_state b.slots b.last_tick tick b.last_serial b.links)
+  pub pending : ArePending b.last_tick tick b.last_serial (rows_below b.slots b.links.lists)
+  pub placed : EachRow (IsPlaced (radices t) tick) b.slots b.links.lists
+  pub leaps : Leaps (radices t) 0 (state_of b)
+      (with_room b.links.room (wheel_state b.slots b.last_tick tick b.last_serial b.links.lists))
 
 module _ (t : Table) (b : Buckets) (words : List ℕ) (h : IsHier t b words) (z : (state_of b).due ≡ []) where
-  skipped_by : (n tick : ℕ) → b.tick + n ≡ tick → AreNotVisitedBefore (radices t) b.slots b.tick (tick + 1) b.links
+  skipped_by : (n tick : ℕ) → b.tick + n ≡ tick → AreNotVisitedBefore (radices t) b.slots b.tick (tick + 1) b.links.lists
       → HasSkipped t b (b.tick + n)
   skipped_by n tick e q =
       let near : b.tick + n < tick + 1 = omega arith in
       let i = (of_table t).is_table in
       let d = last_digits t b words h in
       record {
-        pending = leapt_pending (radices t) b.last_tick b.tick (tick + 1) n i d near b.slots b.last_serial b.links b.pending q;
-        placed = leapt_placed (radices t) b.last_tick b.tick (tick + 1) n i d near b.slots b.last_serial b.links b.pending q h.placed;
-        leaps = leapt (radices t) b.last_tick b.tick (tick + 1) n i d near b.slots b.last_serial b.links b.pending q z;
+        pending = leapt_pending (radices t) b.last_tick b.tick (tick + 1) n i d near b.slots b.last_serial b.links.lists b.pending q;
+        placed = leapt_placed (radices t) b.last_tick b.tick (tick + 1) n i d near b.slots b.last_serial b.links.lists b.pending q h.placed;
+        leaps = leaps-with_room b.links.room _ _ _ _
+            (leapt (radices t) b.last_tick b.tick (tick + 1) n i d near b.slots b.last_serial b.links.lists b.pending q z);
       }
 
-  pub skipped : (tick : ℕ) → b.tick ≤ tick → AreNotVisitedBefore (radices t) b.slots b.tick (tick + 1) b.links → HasSkipped t b tick
+  pub skipped : (tick : ℕ) → b.tick ≤ tick → AreNotVisitedBefore (radices t) b.slots b.tick (tick + 1) b.links.lists → HasSkipped t b tick
   skipped tick l q = let e : b.tick + (tick - b.tick) ≡ tick = omega arith in let P : ℕ → Type 0 = HasSkipped t b
       in subst P e (skipped_by (tick - b.tick) tick e q)
 
 -- One leap, and the tick after it.
 
-pub near_end : (table : List ℕ) (b : Buckets) (visit tick : ℕ) → tick < visit → AreNotVisitedBefore table b.slots b.tick visit b.links
-    → AreNotVisitedBefore table b.slots b.tick (tick + 1) b.links
+pub near_end : (table : List ℕ) (b : Buckets) (visit tick : ℕ) → tick < visit → AreNotVisitedBefore table b.slots b.tick visit b.links.lists
+    → AreNotVisitedBefore table b.slots b.tick (tick + 1) b.links.lists
 near_end table b visit tick h a s k = All-weaken (λ row. visit ≤ timer_visit table b.tick (timer_in row).deadline) (λ row. tick + 1
-    ≤ timer_visit table b.tick (timer_in row).deadline) (list_at s b.links) (λ row q. let x : visit
+    ≤ timer_visit table b.tick (timer_in row).deadline) (list_at s b.links.lists) (λ row q. let x : visit
     ≤ timer_visit table b.tick (timer_in row).deadline = q in omega arith) (a s k)
 
 pub leap_and_tick : (table : List ℕ) (moves : ℕ) (old mid new : WheelState) → Leaps table 0 old mid → mid.due ≡ [] → new ≡ after_tick mid

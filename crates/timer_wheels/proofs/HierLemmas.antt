@@ -1,4 +1,5 @@
 -- The invariant of a hierarchy of wheels when it is made, after a start and a restart, and what `links` shows.
+use Rattle.timer_wheels.proofs.RoomLemmas.{shows-with_room}
 use Rattle.std.proofs.Common.{◌≡◌, ◌<◌, ◌≤◌, ◌+◌, ◌*◌, ℕ, zero, suc, List, [], ◌∷◌, length, refl, sym, ◌∙◌, ap, subst, inl, inr, arith}
 use Rattle.std.specs.Prelude.{Bool, filter, map, Option, Some, None, MatchOption, nat_lt, replicate}
 use Rattle.timer_base.specs.declared.timer.Timer.{Timer}
@@ -71,8 +72,9 @@ list_at-replicate s zero = refl
 list_at-replicate zero (suc n) = refl
 list_at-replicate (suc s) (suc n) = list_at-replicate s n
 
-pub new_placed : (table : List ℕ) (b : Buckets) (n : ℕ) → b.links ≡ replicate n [] → EachRow (IsPlaced table b.tick) b.slots b.links
-new_placed table b n e = each-none (IsPlaced table b.tick) b.slots b.links (λ s h. ap (list_at s) e ∙ list_at-replicate s n)
+pub new_placed : (table : List ℕ) (b : Buckets) (n : ℕ) → b.links.lists ≡ replicate n [] → EachRow (IsPlaced table b.tick) b.slots
+    b.links.lists
+new_placed table b n e = each-none (IsPlaced table b.tick) b.slots b.links.lists (λ s h. ap (list_at s) e ∙ list_at-replicate s n)
 
 pub new_paid : (table : List ℕ) (b : Buckets) (last first : ℕ) → state_of b ≡ empty_wheel last first
     → IsPaid table 0 0 b.tick (state_of b).pending
@@ -83,14 +85,14 @@ new_paid table b last first e = let h : levels_of table b.tick (state_of b).pend
 
 module _ (table : List ℕ) (old new : Buckets) where
   pub started_placed : (list place : ℕ) (t : Timer) → list < old.slots → list ≡ bucket table old.tick t.deadline
-      → EachRow (IsPlaced table old.tick) old.slots old.links
-      → new.links ≡ with_row list (place, record { timer = t; rounds = 0 }) old.links → IsSameFrame old new
-      → EachRow (IsPlaced table new.tick) new.slots new.links
+      → EachRow (IsPlaced table old.tick) old.slots old.links.lists
+      → new.links.lists ≡ with_row list (place, record { timer = t; rounds = 0 }) old.links.lists → IsSameFrame old new
+      → EachRow (IsPlaced table new.tick) new.slots new.links.lists
   started_placed list place t h at p e f =
-      let Q : ℕ → Type 0 = λ k. EachRow (IsPlaced table k) new.slots new.links in
-      let R : ℕ → Type 0 = λ k. EachRow (IsPlaced table old.tick) k new.links in
+      let Q : ℕ → Type 0 = λ k. EachRow (IsPlaced table k) new.slots new.links.lists in
+      let R : ℕ → Type 0 = λ k. EachRow (IsPlaced table old.tick) k new.links.lists in
       let P : List (List (ℕ × Node)) → Type 0 = λ lists. EachRow (IsPlaced table old.tick) old.slots lists in
-      let len : length old.links ≡ old.slots + 1 = old.has_lists in
+      let len : length old.links.lists ≡ old.slots + 1 = old.has_lists in
       subst Q (sym f.tick) (subst R (sym f.slots) (subst P (sym e)
       (each-with_row (IsPlaced table old.tick) old.slots list (
         place,
@@ -98,7 +100,7 @@ module _ (table : List ℕ) (old new : Buckets) where
           timer = t;
           rounds = 0;
         },
-      ) old.links (omega arith) (sym at, refl) p)))
+      ) old.links.lists (omega arith) (sym at, refl) p)))
 
   pub started_paid : (place starts moves : ℕ) (t : Timer) → IsClock table → IsPaid table starts moves old.tick (state_of old).pending
       → old.tick < t.deadline → t.deadline ≤ last_of table → state_of new ≡ after_start place t (state_of old) → IsSameFrame old new
@@ -128,13 +130,13 @@ module _ (table : List ℕ) (old new : Buckets) where
   placed_lists now key n (Some t) before after m p = let P : List (List (ℕ × Node)) → Type 0 = λ lists. EachRow (IsPlaced table now) n lists
       in subst P (sym m) (each-without_key (IsPlaced table now) n key before p)
 
-  pub stopped_placed : (key : ℕ) (found : Option Timer) → MatchOption found (new.links ≡ old.links) (λ t. new.links
-      ≡ map (without_key key) old.links) → EachRow (IsPlaced table old.tick) old.slots old.links → IsSameFrame old new
-      → EachRow (IsPlaced table new.tick) new.slots new.links
+  pub stopped_placed : (key : ℕ) (found : Option Timer) → MatchOption found (new.links.lists ≡ old.links.lists) (λ t. new.links.lists
+      ≡ map (without_key key) old.links.lists) → EachRow (IsPlaced table old.tick) old.slots old.links.lists → IsSameFrame old new
+      → EachRow (IsPlaced table new.tick) new.slots new.links.lists
   stopped_placed key found m p f =
-      let Q : ℕ → Type 0 = λ k. EachRow (IsPlaced table k) new.slots new.links in
-      let R : ℕ → Type 0 = λ k. EachRow (IsPlaced table old.tick) k new.links in
-      subst Q (sym f.tick) (subst R (sym f.slots) (placed_lists old.tick key old.slots found old.links new.links m p))
+      let Q : ℕ → Type 0 = λ k. EachRow (IsPlaced table k) new.slots new.links.lists in
+      let R : ℕ → Type 0 = λ k. EachRow (IsPlaced table old.tick) k new.links.lists in
+      subst Q (sym f.tick) (subst R (sym f.slots) (placed_lists old.tick key old.slots found old.links.lists new.links.lists m p))
 
   pub stopped_paid : (handle : Handle) (starts moves : ℕ) → IsPaid table starts moves old.tick (state_of old).pending
       → state_of new ≡ after_stop handle (state_of old) → IsSameFrame old new → IsPaid table starts moves new.tick (state_of new).pending
@@ -203,11 +205,12 @@ revived_few old new handle place starts t h k e = let x : new.last_serial ≡ t.
 
 -- What the buckets show.
 
-pub shown : (table : List ℕ) (b : Buckets) → b.slots ≡ slots table → EachRow (IsPlaced table b.tick) b.slots b.links
-    → ShowsBuckets (slots table) (bucket_at table b.tick) no_rounds (state_of b) b.links
+pub shown : (table : List ℕ) (b : Buckets) → b.slots ≡ slots table → EachRow (IsPlaced table b.tick) b.slots b.links.lists
+    → ShowsBuckets (slots table) (bucket_at table b.tick) no_rounds (state_of b) b.links.lists
 shown table b s p =
-    let P : ℕ → Type 0 = λ n. ShowsBuckets n (bucket_at table b.tick) no_rounds (state_of b) b.links in
-    subst P s (shows b.slots (bucket_at table b.tick) no_rounds b.links b.has_lists p b.last_tick b.tick b.last_serial b.in_order)
+    let P : ℕ → Type 0 = λ n. ShowsBuckets n (bucket_at table b.tick) no_rounds (state_of b) b.links.lists in
+    subst P s (shows-with_room b.links.room _ _ _ _ _ (shows b.slots (bucket_at table b.tick) no_rounds b.links.lists b.has_lists p
+    b.last_tick b.tick b.last_serial b.in_order))
 
 -- Counts that do not overflow.
 

@@ -593,6 +593,7 @@ state last_tick tick last_serial pending due = record {
   pending = pending;
   due = due;
   last_serial = last_serial;
+  room = 0;
 }
 
 pub record IsNext (table : List ℕ) (n last_tick a last_serial moves : ℕ) (lists new : List (List (ℕ × Node))) : Type 0 where

@@ -2,6 +2,7 @@
 pub mod DigitLaws
 pub mod RowLemmas
 pub mod BucketLemmas
+pub mod RoomLemmas
 pub mod WalkLemmas
 pub mod WideDigits
 pub mod MigrationLemmas

@@ -15,31 +15,31 @@ use Rattle.timer_wheels.proofs.TableLaws.{of_table}
 use Rattle.timer_wheels.proofs.HierTicks.{IsBefore, IsNext, before_of, next_of, all_may_migrate, all_of_tick}
 
 module _ (t : Table) (b : Buckets) (words : List ℕ) (h : IsHier t b words) (z : (state_of b).due ≡ []) (l : b.tick < b.last_tick) where
-  before_tick : IsBefore (radices t) b.last_tick b.tick b.last_serial b.links
+  before_tick : IsBefore (radices t) b.last_tick b.tick b.last_serial b.links.lists
   before_tick =
       let k = of_table t in
       let P : ℕ → Type 0 = HasDigits (radices t) in
-      before_of (radices t) b.slots b.last_tick b.tick b.last_serial b.links h.has_slots k.is_table (subst P (sym h.clock) k.digits) l
+      before_of (radices t) b.slots b.last_tick b.tick b.last_serial b.links.lists h.has_slots k.is_table (subst P (sym h.clock) k.digits) l
       b.has_lists h.placed b.pending b.distinct b.in_order z
 
   pub may_migrate_at : (list : ℕ) → list ≡ emptied (radices t) (b.tick + 1)
-      → AllByRecursion (MayMigrate (radices t) (b.tick + 1) list) (list_at list b.links)
+      → AllByRecursion (MayMigrate (radices t) (b.tick + 1) list) (list_at list b.links.lists)
   may_migrate_at list e =
-      let P : ℕ → Type 0 = λ k. AllByRecursion (MayMigrate (radices t) (b.tick + 1) k) (list_at k b.links) in
+      let P : ℕ → Type 0 = λ k. AllByRecursion (MayMigrate (radices t) (b.tick + 1) k) (list_at k b.links.lists) in
       let c : b.last_tick ≡ last_of (radices t) = h.clock in
-      subst P (sym e) (all_may_migrate (radices t) b.last_tick b.tick b.last_serial b.links before_tick (omega arith))
+      subst P (sym e) (all_may_migrate (radices t) b.last_tick b.tick b.last_serial b.links.lists before_tick (omega arith))
 
   pub all_of_tick_at : (list : ℕ) → list ≡ emptied (radices t) (b.tick + 1) → list < lowest_radix (radices t)
-      → AllByRecursion (IsOfTick (b.tick + 1)) (list_at list b.links)
+      → AllByRecursion (IsOfTick (b.tick + 1)) (list_at list b.links.lists)
   all_of_tick_at list e k =
-      let P : ℕ → Type 0 = λ k. AllByRecursion (IsOfTick (b.tick + 1)) (list_at k b.links) in
-      subst P (sym e) (all_of_tick (radices t) b.last_tick b.tick b.last_serial b.links before_tick
+      let P : ℕ → Type 0 = λ k. AllByRecursion (IsOfTick (b.tick + 1)) (list_at k b.links.lists) in
+      subst P (sym e) (all_of_tick (radices t) b.last_tick b.tick b.last_serial b.links.lists before_tick
       (none_below (radices t) (b.tick + 1) (omega arith)))
 
   pub next_at : (list moves : ℕ) (new : List (List (ℕ × Node))) → list ≡ emptied (radices t) (b.tick + 1)
-      → new ≡ migrated (radices t) (b.tick + 1) list b.links → moves ≡ length (left_rows (b.tick + 1) (list_at list b.links))
-      → IsNext (radices t) b.slots b.last_tick b.tick b.last_serial moves b.links new
+      → new ≡ migrated (radices t) (b.tick + 1) list b.links.lists → moves ≡ length (left_rows (b.tick + 1) (list_at list b.links.lists))
+      → IsNext (radices t) b.slots b.last_tick b.tick b.last_serial moves b.links.lists new
   next_at list moves new e f k =
-      next_of (radices t) b.slots b.last_tick b.tick b.last_serial moves b.links new h.has_slots before_tick
-      (f ∙ ap (λ (v : ℕ). migrated (radices t) (b.tick + 1) v b.links) e)
-      (k ∙ ap (λ (v : ℕ). length (left_rows (b.tick + 1) (list_at v b.links))) e)
+      next_of (radices t) b.slots b.last_tick b.tick b.last_serial moves b.links.lists new h.has_slots before_tick
+      (f ∙ ap (λ (v : ℕ). migrated (radices t) (b.tick + 1) v b.links.lists) e)
+      (k ∙ ap (λ (v : ℕ). length (left_rows (b.tick + 1) (list_at v b.links.lists))) e)

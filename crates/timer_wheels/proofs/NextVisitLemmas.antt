@@ -149,8 +149,8 @@ module _ (t : Table) (b : Buckets) (words : List ℕ) (h : IsHier t b words) (l 
   first_some =
       let c : l < b.slots = first_in t b words h l f.0 f.1 in
       let s : l < slots (radices t) = first_in_range t b words h l f in
-      let r : 0 < length (list_at l b.links) = filled_some t b words h (list_at l b.links) (sym (h.marked.0 l c) ∙ f.1) in
-      some_at (slots (radices t)) (bucket_at (radices t) b.tick) no_rounds (state_of b) b.links
+      let r : 0 < length (list_at l b.links.lists) = filled_some t b words h (list_at l b.links.lists) (sym (h.marked.0 l c) ∙ f.1) in
+      some_at (slots (radices t)) (bucket_at (radices t) b.tick) no_rounds (state_of b) b.links.lists
       (shown (radices t) b h.has_slots h.placed) l s r
 
   first_moves : (n : ℕ) → visit ≡ b.tick + n → (0 < length (entries_due visit (state_of b).pending))
@@ -189,6 +189,6 @@ module _ (t : Table) (b : Buckets) (words : List ℕ) (h : IsHier t b words) (l 
       let P : ℕ → Type 0 = λ k. (0 < length (after_ticks k (state_of b)).due) ⊎ (0 < hops_of (radices t) b.tick k (state_of b).pending) in
       record {
         none_before = leapt_hops (radices t) b.last_tick b.tick visit n (of_table t).is_table (last_digits t b words h)
-            (omega arith) b.slots b.last_serial b.links b.pending (first_ahead t b words h l visit e f);
+            (omega arith) b.slots b.last_serial b.links.lists b.pending (first_ahead t b words h l visit e f);
         some = subst P s (next_by n (omega arith));
       }

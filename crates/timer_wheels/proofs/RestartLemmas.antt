@@ -9,7 +9,7 @@ use Rattle.timer_base.specs.WheelState.{IsPending, timer_at, after_start, after_
 use Rattle.timer_links.specs.declared.node.Node.{Node}
 use Rattle.timer_links.specs.Lists.{list_at, node_at, with_row, without_key, AreApart}
 use Rattle.timer_wheels.specs.declared.buckets.Buckets.{Buckets}
-use Rattle.timer_wheels.specs.Buckets.{state_of}
+use Rattle.timer_wheels.specs.Buckets.{roomless_state, state_of}
 use Rattle.timer_wheels.specs.BucketLists.{timer_in, timers_in, rows_below, wheel_state, ArePending, AreDue, AreInOrder, EachRow}
 use Rattle.timer_wheels.proofs.RowLemmas.{all-list_at}
 use Rattle.timer_wheels.proofs.ReplaceLemmas.{is_used}
@@ -21,29 +21,30 @@ pub record MayRestart (b : Buckets) (bucket : ℕ) (timer : Timer) : Type 0 wher
   pub in_range : timer.deadline ≤ b.last_tick
   pub fresh : b.last_serial < timer.serial
 
-module _ (b : Buckets) (handle : Handle) (bucket rounds : ℕ) (timer : Timer) (m : MayRestart b bucket timer) (apart : AreApart b.links)
+module _ (b : Buckets) (handle : Handle) (bucket rounds : ℕ) (timer : Timer) (m : MayRestart b bucket timer) (apart : AreApart
+    b.links.lists)
     (old : Timer) (e : timer_at handle (state_of b) ≡ Some old) where
   abbrev rest : List (List (ℕ × Node))
-  rest = map (without_key handle.place) b.links
+  rest = map (without_key handle.place) b.links.lists
 
   abbrev node : Node
   node = record { timer = timer; rounds = rounds }
 
-  parts : IsSeparated b.tick b.slots b.links
-  parts = separated b.last_tick b.tick b.last_serial b.slots b.links b.pending b.due
+  parts : IsSeparated b.tick b.slots b.links.lists
+  parts = separated b.last_tick b.tick b.last_serial b.slots b.links.lists b.pending b.due
 
   rest_length : length rest ≡ b.slots + 1
-  rest_length = length-map b.links (without_key handle.place) ∙ b.has_lists
+  rest_length = length-map b.links.lists (without_key handle.place) ∙ b.has_lists
 
   in_rest : bucket < length rest
   in_rest = let h : bucket < b.slots = m.in_slots in let l : length rest ≡ b.slots + 1 = rest_length in omega arith
 
   rest_pending : ArePending b.last_tick b.tick b.last_serial (rows_below b.slots rest)
-  rest_pending = stopped-pending b.slots b.last_tick b.tick b.last_serial handle.place b.links b.pending
+  rest_pending = stopped-pending b.slots b.last_tick b.tick b.last_serial handle.place b.links.lists b.pending
 
-  pub restart_used : IsSome (node_at handle.place b.links)
-  restart_used = let f = look-has b.tick b.slots handle b.links b.has_lists parts apart old b.distinct e
-      in is_used handle.place f.node b.links f.at
+  pub restart_used : IsSome (node_at handle.place b.links.lists)
+  restart_used = let f = look-has b.tick b.slots handle b.links.lists b.has_lists parts apart old b.distinct e
+      in is_used handle.place f.node b.links.lists f.at
 
   pub restart_length : length (with_row bucket (handle.place, node) rest) ≡ b.slots + 1
   restart_length = length-set rest bucket (list_at bucket rest ++ (handle.place, node) ∷ []) ∙ rest_length
@@ -54,11 +55,11 @@ module _ (b : Buckets) (handle : Handle) (bucket rounds : ℕ) (timer : Timer) (
 
   pub restart_distinct : AreDistinct (timers_in (rows_below b.slots (with_row bucket (handle.place, node) rest)))
   restart_distinct = started-distinct b.slots b.last_tick b.tick b.last_serial bucket handle.place node rest m.in_slots in_rest m.fresh
-      rest_pending (stopped-distinct b.slots handle.place b.links b.distinct)
+      rest_pending (stopped-distinct b.slots handle.place b.links.lists b.distinct)
 
   pub restart_past : AreDue b.tick (list_at b.slots (with_row bucket (handle.place, node) rest))
   restart_past = past-with_row b.tick b.slots bucket (handle.place, node) rest m.in_slots
-      (past-without_key b.tick b.slots handle.place b.links b.due)
+      (past-without_key b.tick b.slots handle.place b.links.lists b.due)
 
   pub restart_in_order : AreInOrder (b.slots + 1) (with_row bucket (handle.place, node) rest)
   restart_in_order =
@@ -66,13 +67,14 @@ module _ (b : Buckets) (handle : Handle) (bucket rounds : ℕ) (timer : Timer) (
       in_order-with_row (b.slots + 1) bucket (handle.place, node) rest in_rest (omega arith)
       (AreBelow-pending b.last_tick b.tick b.last_serial timer.serial (list_at bucket rest) m.fresh
       (all-list_at (λ row. IsPending b.last_tick b.tick b.last_serial (timer_in row)) b.slots rest rest_pending bucket m.in_slots))
-      (stopped-in_order (b.slots + 1) handle.place b.links b.in_order)
+      (stopped-in_order (b.slots + 1) handle.place b.links.lists b.in_order)
 
   pub restart_state : wheel_state b.slots b.last_tick b.tick timer.serial (with_row bucket (handle.place, node) rest)
-      ≡ after_start handle.place timer (after_stop handle (state_of b))
+      ≡ after_start handle.place timer (after_stop handle (roomless_state b))
   restart_state =
       started b.slots b.last_tick b.tick b.last_serial bucket handle.place node rest m.in_slots in_rest m.fresh rest_pending
-      ∙ ap (after_start handle.place timer) (stop-found b.tick b.slots handle b.links b.has_lists parts apart b.last_tick b.last_serial old
+      ∙ ap (after_start handle.place timer) (stop-found b.tick b.slots handle b.links.lists b.has_lists parts apart b.last_tick
+      b.last_serial old
       rest b.distinct e refl)
 
 -- each row satisfies the wheel's own invariant

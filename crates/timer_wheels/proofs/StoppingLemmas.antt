@@ -63,53 +63,55 @@ list_if_alone_in_range l [] [] h = h
 list_if_alone_in_range l [] (x ∷ xs) h = tt
 list_if_alone_in_range l (x ∷ xs) rest h = tt
 
-module _ (t : Table) (b : Buckets) (words : List ℕ) (h : IsHier t b words) (apart : AreApart b.links) where
-  parts : IsSeparated b.tick b.slots b.links
-  parts = separated b.last_tick b.tick b.last_serial b.slots b.links b.pending b.due
+module _ (t : Table) (b : Buckets) (words : List ℕ) (h : IsHier t b words) (apart : AreApart b.links.lists) where
+  parts : IsSeparated b.tick b.slots b.links.lists
+  parts = separated b.last_tick b.tick b.last_serial b.slots b.links.lists b.pending b.due
 
-  was_in_slots : (key : ℕ) (node : Node) → b.tick < node.timer.deadline → (s : StandsIn key node b.links) → s.l < b.slots
+  was_in_slots : (key : ℕ) (node : Node) → b.tick < node.timer.deadline → (s : StandsIn key node b.links.lists) → s.l < b.slots
   was_in_slots key node later s =
-      let len : length b.links ≡ b.slots + 1 = b.has_lists in
-      let r : s.l < length b.links = s.in_range in
+      let len : length b.links.lists ≡ b.slots + 1 = b.has_lists in
+      let r : s.l < length b.links.lists = s.in_range in
       let n : s.l ≢ b.slots = λ (e : s.l ≡ b.slots). (
       let P : List (ℕ × Node) → Type 0 = AreDue b.tick in
-      let at : list_at b.slots b.links ≡ s.front ++ (key, node) ∷ s.rest = ap (λ (v : ℕ). list_at v b.links) (sym e) ∙ s.at in
+      let at : list_at b.slots b.links.lists ≡ s.front ++ (key, node) ∷ s.rest = ap (λ (v : ℕ). list_at v b.links.lists) (sym e) ∙ s.at in
       let d : node.timer.deadline ≡ b.tick = (all-rest (λ row. (timer_in row).deadline
       ≡ b.tick) s.front ((key, node) ∷ s.rest) (subst P at b.due)).0 in
       omega arith) in
       omega arith
 
   -- the bits after a stop
-  marked_at : (key : ℕ) (node : Node) (emptied : Option ℕ) (words2 : List ℕ) → b.tick < node.timer.deadline → StandsIn key node b.links
-      → IsAloneIn key b.links emptied → Clears emptied words words2 → AreMarked b.slots words2 (map (without_key key) b.links)
+  marked_at : (key : ℕ) (node : Node) (emptied : Option ℕ) (words2 : List ℕ) → b.tick < node.timer.deadline → StandsIn key node
+      b.links.lists
+      → IsAloneIn key b.links.lists emptied → Clears emptied words words2 → AreMarked b.slots words2 (map (without_key key) b.links.lists)
   marked_at key node emptied words2 later s e c =
       let w = was_in_slots key node later s in
       let P : Option ℕ → Type 0 = λ o. Clears o words words2 in
-      taken_out b.slots words words2 key s.l node s.front s.rest b.links (map (without_key key) b.links) w s.in_range s.at
+      taken_out b.slots words words2 key s.l node s.front s.rest b.links.lists (map (without_key key) b.links.lists) w s.in_range s.at
       (apart s.l s.front (key, node) s.rest s.in_range s.at).1
       (subst P (e s.l s.front node s.rest s.in_range s.at) c) h.marked
 
-  emptied_at : (key : ℕ) (node : Node) (emptied : Option ℕ) → b.tick < node.timer.deadline → StandsIn key node b.links
-      → IsAloneIn key b.links emptied → MatchOption emptied (Unit {0}) (λ l. l < 640)
+  emptied_at : (key : ℕ) (node : Node) (emptied : Option ℕ) → b.tick < node.timer.deadline → StandsIn key node b.links.lists
+      → IsAloneIn key b.links.lists emptied → MatchOption emptied (Unit {0}) (λ l. l < 640)
   emptied_at key node emptied later s e = let P : Option ℕ → Type 0 = λ o. MatchOption o (Unit {0}) (λ l. l < 640)
       in subst P (sym (e s.l s.front node s.rest s.in_range s.at)) (list_if_alone_in_range s.l s.front s.rest (let k : s.l < b.slots =
       was_in_slots key node later s in let x : b.slots ≡ slots (radices t) = h.has_slots
       in let y : slots (radices t) ≤ 640 = (of_table t).few_slots in omega arith))
 
   pub marked_after : (handle : Handle) (timer : Timer) (emptied : Option ℕ) (words2 : List ℕ) → timer_at handle (state_of b) ≡ Some timer
-      → IsAloneIn handle.place b.links emptied → Clears emptied words words2
-      → AreMarked b.slots words2 (map (without_key handle.place) b.links)
-  marked_after handle timer emptied words2 q e c = let f = look-has b.tick b.slots handle b.links b.has_lists parts apart timer b.distinct q
-      in marked_at handle.place f.node emptied words2 f.later (stands_in handle.place f.node b.links f.at) e c
+      → IsAloneIn handle.place b.links.lists emptied → Clears emptied words words2
+      → AreMarked b.slots words2 (map (without_key handle.place) b.links.lists)
+  marked_after handle timer emptied words2 q e c = let f = look-has b.tick b.slots handle b.links.lists b.has_lists parts apart timer
+      b.distinct q
+      in marked_at handle.place f.node emptied words2 f.later (stands_in handle.place f.node b.links.lists f.at) e c
 
   pub emptied_in : (handle : Handle) (timer : Timer) (emptied : Option ℕ) → timer_at handle (state_of b) ≡ Some timer
-      → IsAloneIn handle.place b.links emptied → MatchOption emptied (Unit {0}) (λ l. l < 640)
-  emptied_in handle timer emptied q e = let f = look-has b.tick b.slots handle b.links b.has_lists parts apart timer b.distinct q
-      in emptied_at handle.place f.node emptied f.later (stands_in handle.place f.node b.links f.at) e
+      → IsAloneIn handle.place b.links.lists emptied → MatchOption emptied (Unit {0}) (λ l. l < 640)
+  emptied_in handle timer emptied q e = let f = look-has b.tick b.slots handle b.links.lists b.has_lists parts apart timer b.distinct q
+      in emptied_at handle.place f.node emptied f.later (stands_in handle.place f.node b.links.lists f.at) e
 
   -- the links of the buckets after a stop
   pub stopped_links : (found : Option Timer) (timer : Timer) (key : ℕ) (new : List (List (ℕ × Node))) → found ≡ Some timer
-      → MatchOption found (new ≡ b.links) (λ t. new ≡ map (without_key key) b.links) → new ≡ map (without_key key) b.links
+      → MatchOption found (new ≡ b.links.lists) (λ t. new ≡ map (without_key key) b.links.lists) → new ≡ map (without_key key) b.links.lists
   stopped_links None timer key new e m = absurd (cc)
   stopped_links (Some u) timer key new e m = m
 

@@ -56,47 +56,50 @@ all-entries P (r ∷ rs) a = (a.0, all-entries P rs a.1)
 some_timer : (t : Timer) (o : Option Timer) → Some t ≡ o → IsSome o
 some_timer t o e = subst IsSome e refl
 
-module _ (b : Buckets) (apart : AreApart b.links) where
-  under : (l : ℕ) → l < b.slots + 1 → AllByRecursion (λ row. node_at row.0 b.links ≡ Some row.1) (list_at l b.links)
-  under l h = let n : length b.links ≡ b.slots + 1 = b.has_lists in under_from b.links l [] (list_at l b.links) apart (omega arith) refl
+module _ (b : Buckets) (apart : AreApart b.links.lists) where
+  under : (l : ℕ) → l < b.slots + 1 → AllByRecursion (λ row. node_at row.0 b.links.lists ≡ Some row.1) (list_at l b.links.lists)
+  under l h = let n : length b.links.lists ≡ b.slots + 1 = b.has_lists in under_from b.links.lists l [] (list_at l b.links.lists) apart
+      (omega arith) refl
 
-  under_below : AllByRecursion (λ row. node_at row.0 b.links ≡ Some row.1) (rows_below b.slots b.links)
-  under_below = all-rows_below (λ row. node_at row.0 b.links ≡ Some row.1) b.slots b.links (λ s h. under s (omega arith))
+  under_below : AllByRecursion (λ row. node_at row.0 b.links.lists ≡ Some row.1) (rows_below b.slots b.links.lists)
+  under_below = all-rows_below (λ row. node_at row.0 b.links.lists ≡ Some row.1) b.slots b.links.lists (λ s h. under s (omega arith))
 
   -- what holds of the places of all rows, holds of those of the pending timers
-  of_pending : (P : Entry → Type 0) → ((row : ℕ × Node) → node_at row.0 b.links ≡ Some row.1 → P (entry_of row))
+  of_pending : (P : Entry → Type 0) → ((row : ℕ × Node) → node_at row.0 b.links.lists ≡ Some row.1 → P (entry_of row))
       → AllByRecursion P (state_of b).pending
-  of_pending P f = All-in_order timer_of P (entries_of (rows_below b.slots b.links))
-      (all-entries P (rows_below b.slots b.links) (All-weaken (λ row. node_at row.0 b.links
-      ≡ Some row.1) (λ row. P (entry_of row)) (rows_below b.slots b.links) f under_below))
+  of_pending P f = All-in_order timer_of P (entries_of (rows_below b.slots b.links.lists))
+      (all-entries P (rows_below b.slots b.links.lists) (All-weaken (λ row. node_at row.0 b.links.lists
+      ≡ Some row.1) (λ row. P (entry_of row)) (rows_below b.slots b.links.lists) f under_below))
 
   -- and of those of the due timers
-  of_due : (P : Entry → Type 0) → ((row : ℕ × Node) → node_at row.0 b.links ≡ Some row.1 → P (entry_of row))
+  of_due : (P : Entry → Type 0) → ((row : ℕ × Node) → node_at row.0 b.links.lists ≡ Some row.1 → P (entry_of row))
       → AllByRecursion P (state_of b).due
-  of_due P f = all-entries P (list_at b.slots b.links) (All-weaken (λ row. node_at row.0 b.links
-      ≡ Some row.1) (λ row. P (entry_of row)) (list_at b.slots b.links) f (under b.slots (omega arith)))
+  of_due P f = all-entries P (list_at b.slots b.links.lists) (All-weaken (λ row. node_at row.0 b.links.lists
+      ≡ Some row.1) (λ row. P (entry_of row)) (list_at b.slots b.links.lists) f (under b.slots (omega arith)))
 
-  held_under : (handle : Handle) (node : Node) → Some node ≡ node_at handle.place b.links → node.timer.serial ≡ handle.serial
+  held_under : (handle : Handle) (node : Node) → Some node ≡ node_at handle.place b.links.lists → node.timer.serial ≡ handle.serial
       → IsHeld handle (state_of b)
   held_under handle node e s = elim (cases_lt b.tick node.timer.deadline) [
     | inl h ↦ inl (some_timer node.timer (timer_at handle (state_of b))
-        (look-some b.tick b.slots handle b.links b.has_lists (separated b.last_tick b.tick b.last_serial b.slots b.links b.pending b.due)
+        (look-some b.tick b.slots handle b.links.lists b.has_lists (separated b.last_tick b.tick b.last_serial b.slots b.links.lists
+        b.pending b.due)
         apart node e s h b.distinct))
     | inr h ↦ inr (some_timer node.timer (due_at handle (state_of b))
-        (due-some b.tick b.slots handle b.links b.has_lists (all_later b) b.due apart node e s h))
+        (due-some b.tick b.slots handle b.links.lists b.has_lists (all_later b) b.due apart node e s h))
   ]
 
-  pub none_held : (from : ℕ) → IsFirstUsed from b.links None → IsFirstHeld from (state_of b) None
+  pub none_held : (from : ℕ) → IsFirstUsed from b.links.lists None → IsFirstHeld from (state_of b) None
   none_held from u = (
-    of_pending (λ entry. entry.place < from) (λ row e. before from b.links u row e),
-    of_due (λ entry. entry.place < from) (λ row e. before from b.links u row e),
+    of_pending (λ entry. entry.place < from) (λ row e. before from b.links.lists u row e),
+    of_due (λ entry. entry.place < from) (λ row e. before from b.links.lists u row e),
   )
 
-  pub first_held : (from : ℕ) (handle : Handle) (node : Node) → IsFirstUsed from b.links (Some handle.place)
-      → Some node ≡ node_at handle.place b.links → node.timer.serial ≡ handle.serial → IsFirstHeld from (state_of b) (Some handle)
+  pub first_held : (from : ℕ) (handle : Handle) (node : Node) → IsFirstUsed from b.links.lists (Some handle.place)
+      → Some node ≡ node_at handle.place b.links.lists → node.timer.serial ≡ handle.serial → IsFirstHeld from (state_of b) (Some handle)
   first_held from handle node u e s = (
     u.0,
     held_under handle node e s,
-    of_pending (λ entry. (entry.place < from) ⊎ (handle.place ≤ entry.place)) (λ row k. elsewhere from handle.place b.links u.2 row k),
-    of_due (λ entry. (entry.place < from) ⊎ (handle.place ≤ entry.place)) (λ row k. elsewhere from handle.place b.links u.2 row k),
+    of_pending (λ entry. (entry.place < from) ⊎ (handle.place ≤ entry.place)) (λ row k. elsewhere from handle.place b.links.lists u.2 row
+        k),
+    of_due (λ entry. (entry.place < from) ⊎ (handle.place ≤ entry.place)) (λ row k. elsewhere from handle.place b.links.lists u.2 row k),
   )

@@ -12,7 +12,7 @@ use Rattle.timer_base.specs.WheelState.{WheelState, IsPending, due_at, after_sta
 use Rattle.timer_links.specs.declared.node.Node.{Node}
 use Rattle.timer_links.specs.Lists.{list_at, node_in, node_at, first_of, with_row, without_key, AreApart}
 use Rattle.timer_wheels.specs.declared.buckets.Buckets.{Buckets}
-use Rattle.timer_wheels.specs.Buckets.{state_of, AddsRow}
+use Rattle.timer_wheels.specs.Buckets.{roomless_state, state_of, AddsRow}
 use Rattle.timer_wheels.specs.BucketLists.{timer_in, timers_in, entry_of, entries_of, rows_below, wheel_state, ArePending, AreDue, AreInOrder}
 use Rattle.timer_wheels.proofs.RowLemmas.{all-append, all-front, all-rest, all-list_at, rows_below-above, timers-append, IsNotAmong-front, IsNotAmong-rest, IsNotAmong-others}
 use Rattle.timer_wheels.proofs.BucketLemmas.{HasNode, AreLater, node_at-parts, apart_from, other_place, other_serial, this_handle, node_in-here, node_in-there, started, started-pending, started-distinct, past-with_row, in_order-with_row, AreBelow-pending}
@@ -146,11 +146,11 @@ module _ (now n : ℕ) (handle : Handle) (lists : List (List (ℕ × Node))) (le
 -- the due timer under the handle's place, and the others
 pub record HasDue (b : Buckets) (handle : Handle) (t : Timer) : Type 0 where
   pub node : Node
-  pub at : node_at handle.place b.links ≡ Some node
+  pub at : node_at handle.place b.links.lists ≡ Some node
   pub timer : node.timer ≡ t
   pub front : List (ℕ × Node)
   pub rest : List (ℕ × Node)
-  pub is : list_at b.slots b.links ≡ front ++ (handle.place, node) ∷ rest
+  pub is : list_at b.slots b.links.lists ≡ front ++ (handle.place, node) ∷ rest
 
 cases_le : (x y : ℕ) → (x ≤ y) ⊎ (y < x)
 cases_le x y = elim (cases_lt y x) [ inl h ↦ inr h | inr h ↦ inl (omega arith) ]
@@ -165,39 +165,43 @@ no_timer t e = cc
 same_timer : (a b : Timer) → Some a ≡ Some b → a ≡ b
 same_timer a b e = cc
 
-pub all_later : (b : Buckets) → AreLater b.tick (rows_below b.slots b.links)
-all_later b = later_rows b.last_tick b.tick b.last_serial (rows_below b.slots b.links) b.pending
+pub all_later : (b : Buckets) → AreLater b.tick (rows_below b.slots b.links.lists)
+all_later b = later_rows b.last_tick b.tick b.last_serial (rows_below b.slots b.links.lists) b.pending
 
-module _ (b : Buckets) (handle : Handle) (apart : AreApart b.links) where
-  found_due : (t : Timer) (found : Option Node) → node_at handle.place b.links ≡ found → due_at handle (state_of b) ≡ Some t
+module _ (b : Buckets) (handle : Handle) (apart : AreApart b.links.lists) where
+  found_due : (t : Timer) (found : Option Node) → node_at handle.place b.links.lists ≡ found → due_at handle (state_of b) ≡ Some t
       → HasDue b handle t
-  found_due t None e d = absurd (no_timer t (sym d ∙ sym (due-none b.tick b.slots handle b.links b.has_lists (all_later b) b.due apart None
+  found_due t None e d = absurd (no_timer t (sym d ∙ sym (due-none b.tick b.slots handle b.links.lists b.has_lists (all_later b) b.due
+      apart None
       (sym e) tt)))
   found_due t (Some node) e d = elim (cases_eq node.timer.serial handle.serial) [
     | inl s ↦ elim (cases_le node.timer.deadline b.tick) [
       | inl l ↦
-          let i = stands_in handle.place node (list_at b.slots b.links)
-          (due_there b.tick b.slots handle b.links b.has_lists (all_later b) b.due apart node e l) in
+          let i = stands_in handle.place node (list_at b.slots b.links.lists)
+          (due_there b.tick b.slots handle b.links.lists b.has_lists (all_later b) b.due apart node e l) in
           record {
             node = node;
             at = e;
-            timer = same_timer node.timer t (due-some b.tick b.slots handle b.links b.has_lists (all_later b) b.due apart node (sym e) s l
+            timer = same_timer node.timer t (due-some b.tick b.slots handle b.links.lists b.has_lists (all_later b) b.due apart node (sym
+                e) s l
                 ∙ d);
             front = i.front;
             rest = i.rest;
             is = i.is;
           }
-      | inr l ↦ absurd (no_timer t (sym d ∙ sym (due-none b.tick b.slots handle b.links b.has_lists (all_later b) b.due apart (Some node)
+      | inr l ↦ absurd (no_timer t (sym d ∙ sym (due-none b.tick b.slots handle b.links.lists b.has_lists (all_later b) b.due apart (Some
+          node)
           (sym e) (inr l))))
     ]
-    | inr s ↦ absurd (no_timer t (sym d ∙ sym (due-none b.tick b.slots handle b.links b.has_lists (all_later b) b.due apart (Some node)
+    | inr s ↦ absurd (no_timer t (sym d ∙ sym (due-none b.tick b.slots handle b.links.lists b.has_lists (all_later b) b.due apart (Some
+        node)
         (sym e) (inl s))))
   ]
 
   pub has_due : (t : Timer) → due_at handle (state_of b) ≡ Some t → HasDue b handle t
-  has_due t d = found_due t (node_at handle.place b.links) refl d
+  has_due t d = found_due t (node_at handle.place b.links.lists) refl d
 
-module _ (b : Buckets) (handle : Handle) (apart : AreApart b.links) (t : Timer) (d : due_at handle (state_of b) ≡ Some t) where
+module _ (b : Buckets) (handle : Handle) (apart : AreApart b.links.lists) (t : Timer) (d : due_at handle (state_of b) ≡ Some t) where
   abbrev f : HasDue b handle t
   f = has_due b handle apart t d
 
@@ -206,28 +210,28 @@ module _ (b : Buckets) (handle : Handle) (apart : AreApart b.links) (t : Timer) 
 
   -- the lists without it
   abbrev rest : List (List (ℕ × Node))
-  rest = slice_set b.links b.slots (f.front ++ f.rest)
+  rest = slice_set b.links.lists b.slots (f.front ++ f.rest)
 
-  in_links : b.slots < length b.links
-  in_links = let h : length b.links ≡ b.slots + 1 = b.has_lists in omega arith
+  in_links : b.slots < length b.links.lists
+  in_links = let h : length b.links.lists ≡ b.slots + 1 = b.has_lists in omega arith
 
-  pub withdrawn_is : map (without_key handle.place) b.links ≡ rest
+  pub withdrawn_is : map (without_key handle.place) b.links.lists ≡ rest
   withdrawn_is = (apart b.slots f.front row f.rest in_links f.is).1
 
-  pub withdrawn_used : IsSome (node_at handle.place b.links)
-  withdrawn_used = is_used handle.place f.node b.links f.at
+  pub withdrawn_used : IsSome (node_at handle.place b.links.lists)
+  withdrawn_used = is_used handle.place f.node b.links.lists f.at
 
-  rest_rows : rows_below b.slots rest ≡ rows_below b.slots b.links
-  rest_rows = rows_below-above b.slots b.slots b.links (f.front ++ f.rest) (omega arith)
+  rest_rows : rows_below b.slots rest ≡ rows_below b.slots b.links.lists
+  rest_rows = rows_below-above b.slots b.slots b.links.lists (f.front ++ f.rest) (omega arith)
 
   rest_due : list_at b.slots rest ≡ f.front ++ f.rest
-  rest_due = get_or-set_same b.links b.slots (f.front ++ f.rest) [] in_links
+  rest_due = get_or-set_same b.links.lists b.slots (f.front ++ f.rest) [] in_links
 
-  rest_other : (s : ℕ) → s < b.slots → list_at s rest ≡ list_at s b.links
-  rest_other s h = get_or-set_other b.links b.slots s (f.front ++ f.rest) [] (let m : s ≢ b.slots = omega arith in m)
+  rest_other : (s : ℕ) → s < b.slots → list_at s rest ≡ list_at s b.links.lists
+  rest_other s h = get_or-set_other b.links.lists b.slots s (f.front ++ f.rest) [] (let m : s ≢ b.slots = omega arith in m)
 
   rest_length : length rest ≡ b.slots + 1
-  rest_length = length-set b.links b.slots (f.front ++ f.rest) ∙ b.has_lists
+  rest_length = length-set b.links.lists b.slots (f.front ++ f.rest) ∙ b.has_lists
 
   rest_pending : ArePending b.last_tick b.tick b.last_serial (rows_below b.slots rest)
   rest_pending = let P : List (ℕ × Node) → Type 0 = ArePending b.last_tick b.tick b.last_serial in subst P (sym rest_rows) b.pending
@@ -248,7 +252,7 @@ module _ (b : Buckets) (handle : Handle) (apart : AreApart b.links) (t : Timer) 
   rest_in_order : AreInOrder (b.slots + 1) rest
   rest_in_order s h = elim (cases_eq s b.slots) [
     | inl q ↦ rw (q, rest_due) (rising_without 0 row f.front f.rest due_in_order)
-    | inr x ↦ rw (get_or-set_other b.links b.slots s (f.front ++ f.rest) [] x) (b.in_order s h)
+    | inr x ↦ rw (get_or-set_other b.links.lists b.slots s (f.front ++ f.rest) [] x) (b.in_order s h)
   ]
 
   others : IsNotAmong (timer_in row).serial (timers_in f.front ++ timers_in f.rest)
@@ -258,10 +262,10 @@ module _ (b : Buckets) (handle : Handle) (apart : AreApart b.links) (t : Timer) 
       in
       IsNotAmong-others (timer_in row) (timers_in f.front) (timers_in f.rest) all
 
-  rest_state : wheel_state b.slots b.last_tick b.tick b.last_serial rest ≡ after_withdrawal handle (state_of b)
+  rest_state : wheel_state b.slots b.last_tick b.tick b.last_serial rest ≡ after_withdrawal handle (roomless_state b)
   rest_state =
-      let w : WheelState = state_of b in
-      let less : entries_of (list_at b.slots rest) ≡ without_serial f.node.timer.serial (entries_of (list_at b.slots b.links)) =
+      let w : WheelState = roomless_state b in
+      let less : entries_of (list_at b.slots rest) ≡ without_serial f.node.timer.serial (entries_of (list_at b.slots b.links.lists)) =
       ap entries_of rest_due
       ∙ (sym (without_one row f.front f.rest (IsNotAmong-front (timer_in row).serial (timers_in f.front) (timers_in f.rest) others)
       (IsNotAmong-rest (timer_in row).serial (timers_in f.front) (timers_in f.rest) others))
@@ -272,35 +276,35 @@ module _ (b : Buckets) (handle : Handle) (apart : AreApart b.links) (t : Timer) 
 
   -- A withdrawal, by the lists that it leaves.
 
-  pub withdrawn_length : length (map (without_key handle.place) b.links) ≡ b.slots + 1
+  pub withdrawn_length : length (map (without_key handle.place) b.links.lists) ≡ b.slots + 1
   withdrawn_length = ap (λ (y : List (List (ℕ × Node))). length y) withdrawn_is ∙ rest_length
 
-  pub withdrawn_pending : ArePending b.last_tick b.tick b.last_serial (rows_below b.slots (map (without_key handle.place) b.links))
+  pub withdrawn_pending : ArePending b.last_tick b.tick b.last_serial (rows_below b.slots (map (without_key handle.place) b.links.lists))
   withdrawn_pending = let P : List (List (ℕ × Node)) → Type 0 = λ y. ArePending b.last_tick b.tick b.last_serial (rows_below b.slots y)
       in subst P (sym withdrawn_is) rest_pending
 
-  pub withdrawn_distinct : AreDistinct (timers_in (rows_below b.slots (map (without_key handle.place) b.links)))
+  pub withdrawn_distinct : AreDistinct (timers_in (rows_below b.slots (map (without_key handle.place) b.links.lists)))
   withdrawn_distinct = let P : List (List (ℕ × Node)) → Type 0 = λ y. AreDistinct (timers_in (rows_below b.slots y))
       in subst P (sym withdrawn_is) rest_distinct
 
-  pub withdrawn_past : AreDue b.tick (list_at b.slots (map (without_key handle.place) b.links))
+  pub withdrawn_past : AreDue b.tick (list_at b.slots (map (without_key handle.place) b.links.lists))
   withdrawn_past = let P : List (List (ℕ × Node)) → Type 0 = λ y. AreDue b.tick (list_at b.slots y) in subst P (sym withdrawn_is) rest_past
 
-  pub withdrawn_in_order : AreInOrder (b.slots + 1) (map (without_key handle.place) b.links)
+  pub withdrawn_in_order : AreInOrder (b.slots + 1) (map (without_key handle.place) b.links.lists)
   withdrawn_in_order = let P : List (List (ℕ × Node)) → Type 0 = AreInOrder (b.slots + 1) in subst P (sym withdrawn_is) rest_in_order
 
-  pub withdrawn_state : wheel_state b.slots b.last_tick b.tick b.last_serial (map (without_key handle.place) b.links)
-      ≡ after_withdrawal handle (state_of b)
+  pub withdrawn_state : wheel_state b.slots b.last_tick b.tick b.last_serial (map (without_key handle.place) b.links.lists)
+      ≡ after_withdrawal handle (roomless_state b)
   withdrawn_state = ap (wheel_state b.slots b.last_tick b.tick b.last_serial) withdrawn_is ∙ rest_state
 
-  pub withdrawn_other : (s : ℕ) → s < b.slots → list_at s (map (without_key handle.place) b.links) ≡ list_at s b.links
+  pub withdrawn_other : (s : ℕ) → s < b.slots → list_at s (map (without_key handle.place) b.links.lists) ≡ list_at s b.links.lists
   withdrawn_other s h = ap (list_at s) withdrawn_is ∙ rest_other s h
 
   -- Another timer is started in its place.
 
   module _ (bucket rounds : ℕ) (timer : Timer) (m : MayRestart b bucket timer) where
     abbrev less : List (List (ℕ × Node))
-    less = map (without_key handle.place) b.links
+    less = map (without_key handle.place) b.links.lists
 
     abbrev node : Node
     node = record { timer = timer; rounds = rounds }
@@ -332,12 +336,12 @@ module _ (b : Buckets) (handle : Handle) (apart : AreApart b.links) (t : Timer) 
         withdrawn_in_order
 
     pub revived_state : wheel_state b.slots b.last_tick b.tick timer.serial (with_row bucket (handle.place, node) less)
-        ≡ after_start handle.place timer (after_withdrawal handle (state_of b))
+        ≡ after_start handle.place timer (after_withdrawal handle (roomless_state b))
     revived_state =
         started b.slots b.last_tick b.tick b.last_serial bucket handle.place node less m.in_slots in_less m.fresh withdrawn_pending
         ∙ ap (after_start handle.place timer) withdrawn_state
 
-    pub revived_lists : AddsRow b.slots bucket (handle.place, node) b.links (with_row bucket (handle.place, node) less)
+    pub revived_lists : AddsRow b.slots bucket (handle.place, node) b.links.lists (with_row bucket (handle.place, node) less)
     revived_lists = record {
       here = get_or-set_same less bucket (list_at bucket less ++ (handle.place, node) ∷ []) [] in_less
           ∙ ap (λ (r : List (ℕ × Node)). r ++ (handle.place, node) ∷ []) (withdrawn_other bucket m.in_slots);

@@ -38,7 +38,7 @@ rows_below (suc n) (rows ∷ lists) = rows ++ rows_below n lists
 abbrev pub pending_in : List (ℕ × Node) → List Entry
 pending_in rows = in_order timer_of (entries_of rows)
 
--- the state of a wheel with n buckets
+-- the state of a wheel with n buckets and no room
 abbrev pub wheel_state : ℕ → ℕ → ℕ → ℕ → List (List (ℕ × Node)) → WheelState
 wheel_state n last_tick now last_serial lists = record {
   last_tick = last_tick;
@@ -46,6 +46,7 @@ wheel_state n last_tick now last_serial lists = record {
   pending = pending_in (rows_below n lists);
   due = entries_of (list_at n lists);
   last_serial = last_serial;
+  room = 0;
 }
 
 -- each row is of a pending timer

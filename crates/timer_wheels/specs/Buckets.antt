@@ -1,16 +1,21 @@
 -- The state that `Buckets` represents, and how its calls change the lists.
 use Rattle.std.specs.Prelude.{◌≡◌, ◌≢◌, ◌<◌, ◌++◌, ℕ, List, [], ◌∷◌, map, Option, Some, None, MatchOption}
 use Rattle.timer_base.specs.declared.timer.Timer.{Timer}
-use Rattle.timer_base.specs.WheelState.{WheelState, IsWellFormed}
+use Rattle.timer_base.specs.WheelState.{WheelState, IsWellFormed, with_room, with_room-well_formed}
 use Rattle.timer_links.specs.declared.node.Node.{Node}
 use Rattle.timer_links.specs.Lists.{list_at, with_row, without_key}
 use Rattle.timer_wheels.specs.declared.buckets.Buckets.{Buckets}
 use Rattle.timer_wheels.specs.BucketLists.{wheel_state}
 use Rattle.timer_wheels.specs.BucketLaws.{wheel_state-well_formed}
 
+-- the wheel whose buckets these are, but for its room
+abbrev pub roomless_state : Buckets → WheelState
+roomless_state buckets =
+    wheel_state buckets.slots buckets.last_tick buckets.tick buckets.last_serial buckets.links.lists
+
 -- the wheel whose buckets these are
 abbrev pub state_of : Buckets → WheelState
-state_of buckets = wheel_state buckets.slots buckets.last_tick buckets.tick buckets.last_serial buckets.links
+state_of buckets = with_room buckets.links.room (roomless_state buckets)
 
 -- the clock and the number of buckets are unchanged
 pub record IsSameFrame (old new : Buckets) : Type 0 where
@@ -46,6 +51,8 @@ pub record AddsRow (n l : ℕ) (row : ℕ × Node) (old new : List (List (ℕ ×
 -- the invariant of the buckets implies that of every wheel
 pub state_of-well_formed : (buckets : Buckets) → IsWellFormed (state_of buckets)
 state_of-well_formed buckets =
-    wheel_state-well_formed buckets.slots buckets.last_tick buckets.tick buckets.last_serial buckets.links
+    with_room-well_formed buckets.links.room (roomless_state buckets)
+    (wheel_state-well_formed buckets.slots buckets.last_tick buckets.tick buckets.last_serial
+    buckets.links.lists
     buckets.last_in_range buckets.tick_in_range buckets.serial_in_range buckets.pending buckets.distinct
-    buckets.due buckets.in_order
+    buckets.due buckets.in_order)

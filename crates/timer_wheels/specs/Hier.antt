@@ -11,11 +11,11 @@ use Rattle.timer_wheels.specs.BucketLists.{EachRow, EachRow-prop}
 
 -- each row of the buckets is in its timer's bucket
 abbrev pub ArePlaced : Table → Buckets → Type 0
-ArePlaced table b = EachRow (IsPlaced (radices table) b.tick) b.slots b.links
+ArePlaced table b = EachRow (IsPlaced (radices table) b.tick) b.slots b.links.lists
 
 pub ArePlaced-prop : (table : Table) (b : Buckets) → IsProp (ArePlaced table b)
 ArePlaced-prop table b = EachRow-prop (IsPlaced (radices table) b.tick)
-    (IsPlaced-prop (radices table) b.tick) b.slots b.links
+    (IsPlaced-prop (radices table) b.tick) b.slots b.links.lists
 
 -- the potential of the pending timers: the sum of their levels
 abbrev pub potential : Table → Buckets → ℕ
@@ -28,4 +28,4 @@ pub record IsHier (table : Table) (b : Buckets) (words : List ℕ) : Type 0 wher
   -- each timer stands in its bucket
   pub placed : ArePlaced table b
   -- the bits mark which buckets have timers
-  pub marked : AreMarked b.slots words b.links
+  pub marked : AreMarked b.slots words b.links.lists

@@ -44,8 +44,8 @@ pub fn first_of_wheels(table: Table, buckets: &Buckets, occupied: &Occupied) -> 
 
 /// The least deadline of the timers in the first `count` lists. It walks all of them.
 fn least_below(links: &Links, count: usize) -> Option<u64>
-    requires { count < length links.now }
-    ensures { IsLeastDeadline result (timers_in (rows_below count links.now)) }
+    requires { count < length links.now.lists }
+    ensures { IsLeastDeadline result (timers_in (rows_below count links.now.lists)) }
 {
     let mut least = None;
     for list in 0..count {
@@ -56,8 +56,8 @@ fn least_below(links: &Links, count: usize) -> Option<u64>
 
 /// The least deadline of the timers in one list. It walks the whole list.
 fn least_in(links: &Links, list: usize) -> Option<u64>
-    requires { list < length links.now }
-    ensures { IsLeastDeadline result (timers_in (list_at list links.now)) }
+    requires { list < length links.now.lists }
+    ensures { IsLeastDeadline result (timers_in (list_at list links.now.lists)) }
 {
     links.keys_are_apart();
     let mut least = None;

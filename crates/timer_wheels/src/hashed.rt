@@ -17,11 +17,11 @@
 //! A bucket is in order of starting and not of deadlines, so a start needs no walk. The rounds are
 //! counted from the interval less 1, since an interval of N ends when the clock is back at the slot
 //! for the first time.
-ghost use Rattle.std.specs.Prelude.{◌≡◌, ◌⊎◌, ◌<◌, ◌≤◌, ◌+◌, ◌-◌, ◌%◌, [], IfOk, IfErr, OnErr, Some, None, MatchOption};
+ghost use Rattle.std.specs.Prelude.{◌≡◌, ◌⊎◌, ◌<◌, ◌≤◌, ◌+◌, ◌-◌, ◌%◌, [], IfOk, IfErr, OnOk, OnErr, Some, None, MatchOption};
 ghost use Rattle.std.specs.Option.{IfSome};
 ghost use Rattle.timer_base.specs.declared.limits.TheConstants.{LAST};
 ghost use Rattle.timer_base.specs.WakeUps.{IsQuietUntil};
-ghost use Rattle.timer_base.specs.WheelState.{empty_wheel, first_due, timer_at, after_start, after_stop, after_tick, after_expiry, after_clear, after_restart, after_withdrawal, after_revival, due_at, old_timer, Advances};
+ghost use Rattle.timer_base.specs.WheelState.{empty_wheel, first_due, timer_at, after_start, after_reserve, held_count, after_stop, after_tick, after_expiry, after_clear, after_restart, after_withdrawal, after_revival, due_at, old_timer, Advances};
 ghost use Rattle.timer_wheels.specs.Hashed.{slot_of, rounds_of, IsHashed, AreInBuckets, AreInBuckets-prop, IsNextSweep};
 
 use crate::buckets::Buckets;
@@ -49,7 +49,7 @@ pub struct HashedWheel {
     ghost has_slots: { 0 < buckets.slots },
     ghost slots_in_range: { buckets.slots ≤ 65536 },
     ghost at_tick: { slot ≡ buckets.tick % buckets.slots },
-    ghost in_buckets: { AreInBuckets buckets.slots buckets.tick buckets.links } by { AreInBuckets-prop buckets.slots buckets.tick buckets.links },
+    ghost in_buckets: { AreInBuckets buckets.slots buckets.tick buckets.links.lists } by { AreInBuckets-prop buckets.slots buckets.tick buckets.links.lists },
 }
 
 impl HashedWheel {
@@ -91,7 +91,7 @@ impl HashedWheel {
     /// by serial, each under its handle's place with (deadline - now - 1) div N rounds. List N holds
     /// the due ones, by serial.
     pub fn links(&self) -> &Links
-        ensures { IsHashed (slots_of self.now) (hashed_state self.now) result.now }
+        ensures { IsHashed (slots_of self.now) (hashed_state self.now) result.now.lists }
     {
         &self.buckets.links
     }
@@ -170,6 +170,7 @@ impl Wheel for HashedWheel {
         ensures named { IfOk result (λ handle. handle.serial ≡ timer.serial) }
         ensures started { IfOk result (λ handle. hashed_state self.new
             ≡ after_start handle.place timer (hashed_state self.old)) }
+        ensures full { OnErr result ((hashed_state self.old).room ≤ held_count (hashed_state self.old)) }
         ensures err { OnErr result (hashed_state self.new ≡ hashed_state self.old) }
         ensures slots { slots_of self.new ≡ slots_of self.old }
     {
@@ -178,7 +179,8 @@ impl Wheel for HashedWheel {
     }
 
     fn reserve(&mut self, most: usize) -> Result<(), OutOfMemory>
-        ensures same { hashed_state self.new ≡ hashed_state self.old }
+        ensures ok { OnOk result (hashed_state self.new ≡ after_reserve most (hashed_state self.old)) }
+        ensures err { OnErr result (hashed_state self.new ≡ hashed_state self.old) }
         ensures slots { slots_of self.new ≡ slots_of self.old }
     {
         self.buckets.reserve(most)

@@ -47,11 +47,11 @@
 //!
 //! A timer may skip wheels: in Wide one for 4097 moves once, from wheel 2 to wheel 0. Slot 0 of a wheel
 //! stays empty, since at that wheel the deadline's digit is above that of now.
-ghost use Rattle.std.specs.Prelude.{◌≡◌, ◌+◌, ◌-◌, ◌*◌, ◌<◌, ◌≤◌, ◌↔◌, ◌⊎◌, [], length, IsTrue, IfOk, IfErr, OnErr, MatchOption};
+ghost use Rattle.std.specs.Prelude.{◌≡◌, ◌+◌, ◌-◌, ◌*◌, ◌<◌, ◌≤◌, ◌↔◌, ◌⊎◌, [], length, IsTrue, IfOk, IfErr, OnOk, OnErr, MatchOption};
 ghost use Rattle.std.specs.Option.{IfSome};
 ghost use Rattle.timer_base.specs.declared.limits.TheConstants.{LAST};
 ghost use Rattle.timer_base.specs.WakeUps.{IsQuietUntil};
-ghost use Rattle.timer_base.specs.WheelState.{empty_wheel, timer_at, first_due, after_start, after_stop, after_tick, after_expiry, after_clear, after_restart, after_withdrawal, after_revival, due_at, old_timer, Advances};
+ghost use Rattle.timer_base.specs.WheelState.{empty_wheel, timer_at, first_due, after_start, after_reserve, held_count, after_stop, after_tick, after_expiry, after_clear, after_restart, after_withdrawal, after_revival, due_at, old_timer, Advances};
 ghost use Rattle.timer_wheels.specs.Buckets.{state_of, state_of-well_formed};
 ghost use Rattle.timer_wheels.specs.Digits.{slots, last_of};
 ghost use Rattle.timer_wheels.specs.Leap.{IsNextVisit};
@@ -117,7 +117,7 @@ pub struct HierWheel {
     ghost has_clock: { buckets.last_tick ≡ last_of (radices table) },
     // Each timer stands in its bucket.
     ghost placed: { ArePlaced table buckets } by { ArePlaced-prop table buckets },
-    ghost marked: { AreMarked buckets.slots occupied buckets.links } by { AreMarked-prop buckets.slots occupied buckets.links },
+    ghost marked: { AreMarked buckets.slots occupied buckets.links.lists } by { AreMarked-prop buckets.slots occupied buckets.links.lists },
     ghost few_starts: { counts.starts ≤ buckets.last_serial },
     ghost few_skipped: { counts.skipped ≤ buckets.tick },
     // A start allows one move for each wheel but the highest, and each move lowers a level. So what is left
@@ -188,7 +188,7 @@ impl HierWheel {
     /// in `Table::Wide`. The timers of a bucket stand by serial, each under its handle's place, with
     /// rounds 0. Does not allocate.
     pub fn links(&self) -> &Links
-        ensures { ShowsWheels (radices (table_of self.now)) (hier_state self.now) result.now }
+        ensures { ShowsWheels (radices (table_of self.now)) (hier_state self.now) result.now.lists }
     {
         &self.buckets.links
     }
@@ -266,6 +266,7 @@ impl Wheel for HierWheel {
         ensures named { IfOk result (λ handle. handle.serial ≡ timer.serial) }
         ensures started { IfOk result (λ handle. hier_state self.new
             ≡ after_start handle.place timer (hier_state self.old)) }
+        ensures full { OnErr result ((hier_state self.old).room ≤ held_count (hier_state self.old)) }
         ensures err { OnErr result (hier_state self.new ≡ hier_state self.old) }
         ensures counted { IfOk result (λ handle. counts_of self.new ≡ with_start (counts_of self.old)) }
         ensures not_counted { OnErr result (counts_of self.new ≡ counts_of self.old) }
@@ -280,7 +281,8 @@ impl Wheel for HierWheel {
     }
 
     fn reserve(&mut self, most: usize) -> Result<(), OutOfMemory>
-        ensures same { hier_state self.new ≡ hier_state self.old }
+        ensures ok { OnOk result (hier_state self.new ≡ after_reserve most (hier_state self.old)) }
+        ensures err { OnErr result (hier_state self.new ≡ hier_state self.old) }
         ensures counts { counts_of self.new ≡ counts_of self.old }
         ensures table { table_of self.new ≡ table_of self.old }
     {

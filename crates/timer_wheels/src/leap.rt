@@ -80,7 +80,7 @@ fn next_visit(table: Table, buckets: &Buckets, occupied: &Occupied, end: u64) ->
     requires end { end ≤ buckets.now.last_tick }
     ensures later { buckets.now.tick < result }
     ensures not_before { AreNotVisitedBefore (radices table) buckets.now.slots buckets.now.tick result
-        buckets.now.links }
+        buckets.now.links.lists }
 {
     match first_visit(table, buckets, occupied) {
         Some(visit) => visit,
@@ -95,7 +95,7 @@ pub fn first_visit(table: Table, buckets: &Buckets, occupied: &Occupied) -> Opti
     ensures quiet { IsQuietUntil result (state_of buckets.now) }
     ensures next { IfSome result (λ tick. IsNextVisit (radices table) tick (state_of buckets.now)) }
     ensures not_before { IsVisitBound (radices table) buckets.now.slots buckets.now.tick result
-        buckets.now.links }
+        buckets.now.links.lists }
 {
     match occupied.first() {
         Some(list) => Some(visit_of(table, list, buckets.tick)),
@@ -110,7 +110,7 @@ fn skip_to(table: Table, buckets: &mut Buckets, occupied: &Occupied, tick: u64)
     requires later { buckets.old.tick ≤ tick }
     requires in_range { tick ≤ buckets.old.last_tick }
     requires not_before { AreNotVisitedBefore (radices table) buckets.old.slots buckets.old.tick
-        (tick + 1) buckets.old.links }
+        (tick + 1) buckets.old.links.lists }
     ensures leaps { Leaps (radices table) 0 (state_of buckets.old) (state_of buckets.new) }
     ensures hier { IsHier table buckets.new occupied.now }
     ensures tick { buckets.new.tick ≡ tick }

@@ -52,15 +52,16 @@ fn empty_bucket(
     list: usize,
     tick: u64,
 ) -> u64
-    requires lists { length links.old ≡ slots (radices table) + 1 }
+    requires lists { length links.old.lists ≡ slots (radices table) + 1 }
     requires list { list < slots (radices table) }
-    requires rows { AllByRecursion (MayMigrate (radices table) tick list) (list_at list links.old) }
+    requires rows { AllByRecursion (MayMigrate (radices table) tick list) (list_at list links.old.lists) }
     requires lowest { list < lowest_radix (radices table)
-        → AllByRecursion (IsOfTick tick) (list_at list links.old) }
-    requires marked { AreMarked (slots (radices table)) occupied.old links.old }
-    ensures migrated { links.new ≡ migrated (radices table) tick list links.old }
-    ensures moves { result ≡ length (left_rows tick (list_at list links.old)) }
-    ensures marked { AreMarked (slots (radices table)) occupied.new links.new }
+        → AllByRecursion (IsOfTick tick) (list_at list links.old.lists) }
+    requires marked { AreMarked (slots (radices table)) occupied.old links.old.lists }
+    ensures migrated { links.new.lists ≡ migrated (radices table) tick list links.old.lists }
+    ensures room { links.new.room ≡ links.old.room }
+    ensures moves { result ≡ length (left_rows tick (list_at list links.old.lists)) }
+    ensures marked { AreMarked (slots (radices table)) occupied.new links.new.lists }
 {
     if links.is_empty(list) {
         return 0;
@@ -80,14 +81,15 @@ fn empty_bucket(
 // Kept out of line, since a tick seldom needs it.
 #[inline(never)]
 fn migrate(table: Table, links: &mut Links, occupied: &mut Occupied, list: usize, tick: u64) -> u64
-    requires lists { length links.old ≡ slots (radices table) + 1 }
+    requires lists { length links.old.lists ≡ slots (radices table) + 1 }
     requires list { list < slots (radices table) }
-    requires rows { AllByRecursion (MayMigrate (radices table) tick list) (list_at list links.old) }
+    requires rows { AllByRecursion (MayMigrate (radices table) tick list) (list_at list links.old.lists) }
     requires clear { bit_of occupied.old list ≡ 0 }
-    requires marked { AreMarkedBut (slots (radices table)) list occupied.old links.old }
-    ensures migrated { links.new ≡ migrated (radices table) tick list links.old }
-    ensures moves { result ≡ length (left_rows tick (list_at list links.old)) }
-    ensures marked { AreMarked (slots (radices table)) occupied.new links.new }
+    requires marked { AreMarkedBut (slots (radices table)) list occupied.old links.old.lists }
+    ensures migrated { links.new.lists ≡ migrated (radices table) tick list links.old.lists }
+    ensures room { links.new.room ≡ links.old.room }
+    ensures moves { result ≡ length (left_rows tick (list_at list links.old.lists)) }
+    ensures marked { AreMarked (slots (radices table)) occupied.new links.new.lists }
 {
     match table {
         Table::Wide => migrate_one_by_one(Table::Wide, links, occupied, list, tick),
@@ -105,14 +107,15 @@ fn migrate_one_by_one(
     list: usize,
     tick: u64,
 ) -> u64
-    requires lists { length links.old ≡ slots (radices table) + 1 }
+    requires lists { length links.old.lists ≡ slots (radices table) + 1 }
     requires list { list < slots (radices table) }
-    requires rows { AllByRecursion (MayMigrate (radices table) tick list) (list_at list links.old) }
+    requires rows { AllByRecursion (MayMigrate (radices table) tick list) (list_at list links.old.lists) }
     requires clear { bit_of occupied.old list ≡ 0 }
-    requires marked { AreMarkedBut (slots (radices table)) list occupied.old links.old }
-    ensures migrated { links.new ≡ migrated (radices table) tick list links.old }
-    ensures moves { result ≡ length (left_rows tick (list_at list links.old)) }
-    ensures marked { AreMarked (slots (radices table)) occupied.new links.new }
+    requires marked { AreMarkedBut (slots (radices table)) list occupied.old links.old.lists }
+    ensures migrated { links.new.lists ≡ migrated (radices table) tick list links.old.lists }
+    ensures room { links.new.room ≡ links.old.room }
+    ensures moves { result ≡ length (left_rows tick (list_at list links.old.lists)) }
+    ensures marked { AreMarked (slots (radices table)) occupied.new links.new.lists }
 {
     let due = buckets_of(table);
     let mut moves = 0;
@@ -137,8 +140,8 @@ fn migrate_one_by_one(
 
 /// The deadline of the first timer of a list.
 fn front_deadline(links: &Links, list: usize) -> Option<u64>
-    requires { list < length links.now }
-    ensures { result ≡ first_deadline (list_at list links.now) }
+    requires { list < length links.now.lists }
+    ensures { result ≡ first_deadline (list_at list links.now.lists) }
 {
     links.keys_are_apart();
     let key = links.front(list)?;
@@ -149,8 +152,8 @@ fn front_deadline(links: &Links, list: usize) -> Option<u64>
 /// The deadline of the second timer of a list.
 #[inline(always)]
 fn next_deadline(links: &Links, list: usize) -> Option<u64>
-    requires { list < length links.now }
-    ensures { result ≡ second_deadline (list_at list links.now) }
+    requires { list < length links.now.lists }
+    ensures { result ≡ second_deadline (list_at list links.now.lists) }
 {
     links.keys_are_apart();
     let first = links.front(list)?;

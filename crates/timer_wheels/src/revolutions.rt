@@ -29,7 +29,7 @@ pub fn skip_revolutions(buckets: &mut Buckets, most: u64) -> u64
     requires nothing_due { (state_of buckets.old).due ≡ [] }
     requires before_last { most ≤ buckets.old.last_tick - buckets.old.tick }
     requires has_slots { 0 < buckets.old.slots }
-    requires in_buckets { AreInBuckets buckets.old.slots buckets.old.tick buckets.old.links }
+    requires in_buckets { AreInBuckets buckets.old.slots buckets.old.tick buckets.old.links.lists }
     ensures at_most { result ≤ most }
     ensures skipped { state_of buckets.new ≡ record (state_of buckets.old) {
       now =
@@ -40,7 +40,7 @@ pub fn skip_revolutions(buckets: &mut Buckets, most: u64) -> u64
     ensures same_slot { buckets.new.tick % buckets.old.slots ≡ buckets.old.tick % buckets.old.slots }
     ensures last_tick { buckets.new.last_tick ≡ buckets.old.last_tick }
     ensures slots { buckets.new.slots ≡ buckets.old.slots }
-    ensures in_buckets { AreInBuckets buckets.new.slots buckets.new.tick buckets.new.links }
+    ensures in_buckets { AreInBuckets buckets.new.slots buckets.new.tick buckets.new.links.lists }
 {
     let slots = buckets.slots;
     let revolution = slots as u64;
@@ -60,9 +60,9 @@ pub fn skip_revolutions(buckets: &mut Buckets, most: u64) -> u64
 
 /// The fewest rounds of a timer in the first `count` lists, or `most` if each has more.
 fn fewest_rounds(links: &Links, count: usize, most: u64) -> u64
-    requires { count ≤ length links.now }
+    requires { count ≤ length links.now.lists }
     ensures at_most { result ≤ most }
-    ensures fewest { (s : ℕ) → s < count → AllByRecursion (HasRoundsLeft result) (list_at s links.now) }
+    ensures fewest { (s : ℕ) → s < count → AllByRecursion (HasRoundsLeft result) (list_at s links.now.lists) }
 {
     let mut fewest = most;
     for list in 0..count {
@@ -73,9 +73,9 @@ fn fewest_rounds(links: &Links, count: usize, most: u64) -> u64
 
 /// The fewest rounds of a timer in one list, or `most` if each has more.
 fn fewest_in_list(links: &Links, list: usize, most: u64) -> u64
-    requires { list < length links.now }
+    requires { list < length links.now.lists }
     ensures at_most { result ≤ most }
-    ensures fewest { AllByRecursion (HasRoundsLeft result) (list_at list links.now) }
+    ensures fewest { AllByRecursion (HasRoundsLeft result) (list_at list links.now.lists) }
 {
     let mut fewest = most;
     let mut at = links.front(list);
@@ -93,12 +93,14 @@ fn fewest_in_list(links: &Links, list: usize, most: u64) -> u64
 
 /// Takes rounds from each timer of the first `count` lists.
 fn count_down_lists(links: &mut Links, count: usize, rounds: u64)
-    requires count { count ≤ length links.old }
-    requires enough { (s : ℕ) → s < count → AllByRecursion (HasRoundsLeft rounds) (list_at s links.old) }
-    ensures length { length links.new ≡ length links.old }
-    ensures counted { (s : ℕ) → s < count → list_at s links.new
-        ≡ map (with_fewer_rounds rounds) (list_at s links.old) }
-    ensures others { (s : ℕ) → count ≤ s → list_at s links.new ≡ list_at s links.old }
+    requires count { count ≤ length links.old.lists }
+    requires enough { (s : ℕ) → s < count
+        → AllByRecursion (HasRoundsLeft rounds) (list_at s links.old.lists) }
+    ensures length { length links.new.lists ≡ length links.old.lists }
+    ensures counted { (s : ℕ) → s < count → list_at s links.new.lists
+        ≡ map (with_fewer_rounds rounds) (list_at s links.old.lists) }
+    ensures others { (s : ℕ) → count ≤ s → list_at s links.new.lists ≡ list_at s links.old.lists }
+    ensures room { links.new.room ≡ links.old.room }
 {
     for list in 0..count {
         count_down_list(links, list, rounds);
@@ -107,9 +109,11 @@ fn count_down_lists(links: &mut Links, count: usize, rounds: u64)
 
 /// Takes rounds from each timer of one list.
 fn count_down_list(links: &mut Links, list: usize, rounds: u64)
-    requires list { list < length links.old }
-    requires enough { AllByRecursion (HasRoundsLeft rounds) (list_at list links.old) }
-    ensures { links.new ≡ slice_set links.old list (map (with_fewer_rounds rounds) (list_at list links.old)) }
+    requires list { list < length links.old.lists }
+    requires enough { AllByRecursion (HasRoundsLeft rounds) (list_at list links.old.lists) }
+    ensures counted { links.new.lists
+        ≡ slice_set links.old.lists list (map (with_fewer_rounds rounds) (list_at list links.old.lists)) }
+    ensures room { links.new.room ≡ links.old.room }
 {
     let mut at = links.front(list);
     for step in 0..links.len() {

@@ -8,7 +8,8 @@ invariant_of-buckets-clause-pending c = (skipped c.args.table c.args.buckets.now
     c.args.tick c.requires.later c.requires.not_before).pending
 
 pub invariant_of-buckets-clause-due : goal.invariant_of-buckets-clause-due
-invariant_of-buckets-clause-due c = none_past c.args.tick (list_at c.args.buckets.now.slots c.args.buckets.now.links) c.requires.nothing_due
+invariant_of-buckets-clause-due c = none_past c.args.tick (list_at c.args.buckets.now.slots c.args.buckets.now.links.lists)
+    c.requires.nothing_due
 
 pub returns-clause-leaps : goal.returns-clause-leaps
 returns-clause-leaps c = (skipped c.args.table c.args.buckets.now c.args.occupied.now c.requires.hier c.requires.nothing_due c.args.tick

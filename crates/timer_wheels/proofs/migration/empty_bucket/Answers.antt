@@ -14,20 +14,20 @@ in_lists : (l n k : ℕ) → l < n → k ≡ n + 1 → l < k
 in_lists l n k a b = omega arith
 
 pub is_empty-requires : goal.is_empty-requires
-is_empty-requires c = in_lists c.args.list (slots (radices c.args.table)) (length c.args.links.now) c.requires.list c.requires.lists
+is_empty-requires c = in_lists c.args.list (slots (radices c.args.table)) (length c.args.links.now.lists) c.requires.list c.requires.lists
 
 pub remove-requires : goal.remove-requires
 remove-requires c = in_word c.args.list (slots (radices c.args.table)) c.requires.list (of_table c.args.table).few_slots
 
 pub returns-then-list-lowest_slots-clause-migrated : goal.returns-then-list-lowest_slots-clause-migrated
 returns-then-list-lowest_slots-clause-migrated c =
-    c.append.ensures ∙ append_whole (radices c.args.table) c.buckets_of.result c.args.tick c.args.list c.args.links.now
+    c.append.ensures.appended ∙ append_whole (radices c.args.table) c.buckets_of.result c.args.tick c.args.list c.args.links.now.lists
     c.buckets_of.ensures.value c.requires.lists c.requires.list
     (c.requires.lowest (below c.args.list c.lowest_slots.result
     (lowest_radix (radices c.args.table)) c.lowest_slots.ensures.value c.if-list-lowest_slots.true))
 
 pub returns-then-list-lowest_slots-clause-moves : goal.returns-then-list-lowest_slots-clause-moves
 returns-then-list-lowest_slots-clause-moves c =
-    ap (λ (y : List (ℕ × Node)). length y) (sym (none_left_over c.args.tick (list_at c.args.list c.args.links.now)
+    ap (λ (y : List (ℕ × Node)). length y) (sym (none_left_over c.args.tick (list_at c.args.list c.args.links.now.lists)
     (c.requires.lowest (below c.args.list c.lowest_slots.result
     (lowest_radix (radices c.args.table)) c.lowest_slots.ensures.value c.if-list-lowest_slots.true))))

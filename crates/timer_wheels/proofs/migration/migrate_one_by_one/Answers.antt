@@ -1,6 +1,6 @@
 use Rattle.std.proofs.Common.{◌≡◌, ◌<◌, ◌≤◌, ◌+◌, ℕ, List, length, sym, ◌∙◌, ap, subst, arith}
 use Rattle.timer_links.specs.declared.node.Node.{Node}
-use Rattle.timer_links.specs.Lists.{row_count}
+use Rattle.timer_links.specs.Lists.{LinksState, row_count}
 use Rattle.timer_wheels.specs.Digits.{slots}
 use Rattle.timer_wheels.specs.Occupied.{bit_of, filled, AreMarkedBut}
 use Rattle.timer_wheels.specs.Tables.{radices}
@@ -20,42 +20,51 @@ loop-step-preserved c =
     let t = radices c.args.table in
     let n = slots (radices c.args.table) in
     let i = c.loop-step.invariant in
-    let b = in_lists c.args.list n c.args.links.now c.requires.lists c.requires.list in
-    let f = first_row t c.args.list c.args.tick c.loop-step.step c.loop-step.moves c.in-Some.deadline c.args.links.now c.loop-step.links
+    let b = in_lists c.args.list n c.args.links.now.lists c.requires.lists c.requires.list in
+    let f = first_row t c.args.list c.args.tick c.loop-step.step c.loop-step.moves c.in-Some.deadline c.args.links.now.lists
+    c.loop-step.links.lists
     i.emptying (sym c.in-Some.is ∙ i.ahead) in
     elim c.if-deadline-tick.branch [
       | then-deadline-tick w ↦ record {
-        emptying = next_due t c.args.list c.args.tick c.loop-step.step c.loop-step.moves c.in-Some.deadline c.args.links.now
-            c.loop-step.links c.if-deadline-tick.links b i.emptying f c.buckets_of-due.result c.if-deadline-tick.moves
-            c.buckets_of-due.ensures.value w.if-deadline-tick.true (w.links-is ∙ w.move_front.ensures) w.moves-is;
-        ahead = ahead_due t c.args.list c.args.tick c.loop-step.step c.loop-step.moves c.in-Some.deadline c.args.links.now c.loop-step.links
-            c.if-deadline-tick.links b i.emptying f c.buckets_of-due.result c.next_deadline-ahead.result c.buckets_of-due.ensures.value
-            w.if-deadline-tick.true (w.links-is ∙ w.move_front.ensures) c.next_deadline-ahead.ensures;
+        room = ap (λ (x : LinksState). x.room) w.links-is ∙ (w.move_front.ensures.room ∙ i.room);
+        emptying = next_due t c.args.list c.args.tick c.loop-step.step c.loop-step.moves c.in-Some.deadline c.args.links.now.lists
+            c.loop-step.links.lists c.if-deadline-tick.links.lists b i.emptying f c.buckets_of-due.result c.if-deadline-tick.moves
+            c.buckets_of-due.ensures.value w.if-deadline-tick.true (ap (λ (x : LinksState). x.lists) w.links-is ∙
+            w.move_front.ensures.moved) w.moves-is;
+        ahead = ahead_due t c.args.list c.args.tick c.loop-step.step c.loop-step.moves c.in-Some.deadline c.args.links.now.lists
+            c.loop-step.links.lists
+            c.if-deadline-tick.links.lists b i.emptying f c.buckets_of-due.result c.next_deadline-ahead.result
+            c.buckets_of-due.ensures.value
+            w.if-deadline-tick.true (ap (λ (x : LinksState). x.lists) w.links-is ∙ w.move_front.ensures.moved)
+            c.next_deadline-ahead.ensures;
         clear = ap (λ (o : List ℕ). bit_of o c.args.list) w.occupied-is ∙ i.clear;
-        marked = let P : List ℕ → Type 0 = λ o. AreMarkedBut n c.args.list o c.if-deadline-tick.links
-            in subst P (sym w.occupied-is) (marked_due n c.loop-step.occupied c.args.list c.buckets_of-due.result c.loop-step.links
-            c.if-deadline-tick.links c.buckets_of-due.ensures.value (w.links-is ∙ w.move_front.ensures) i.marked);
+        marked = let P : List ℕ → Type 0 = λ o. AreMarkedBut n c.args.list o c.if-deadline-tick.links.lists
+            in subst P (sym w.occupied-is) (marked_due n c.loop-step.occupied c.args.list c.buckets_of-due.result c.loop-step.links.lists
+            c.if-deadline-tick.links.lists c.buckets_of-due.ensures.value (ap (λ (x : LinksState). x.lists) w.links-is ∙
+            w.move_front.ensures.moved) i.marked);
       }
       | else-deadline-tick w ↦ record {
-        emptying = next_left t c.args.list c.args.tick c.loop-step.step c.loop-step.moves c.in-Some.deadline c.args.links.now
-            c.loop-step.links c.if-deadline-tick.links b i.emptying f w.bucket_of-to.result c.if-deadline-tick.moves
-            w.bucket_of-to.ensures.value w.if-deadline-tick.false (w.links-is ∙ w.move_front-else-deadline-tick.ensures) w.moves-is;
-        ahead = ahead_left t c.args.list c.args.tick c.loop-step.step c.loop-step.moves c.in-Some.deadline c.args.links.now
-            c.loop-step.links c.if-deadline-tick.links b i.emptying f w.bucket_of-to.result c.next_deadline-ahead.result
-            w.bucket_of-to.ensures.value w.if-deadline-tick.false (w.links-is
-            ∙ w.move_front-else-deadline-tick.ensures) c.next_deadline-ahead.ensures;
+        room = ap (λ (x : LinksState). x.room) w.links-is ∙ (w.move_front-else-deadline-tick.ensures.room ∙ i.room);
+        emptying = next_left t c.args.list c.args.tick c.loop-step.step c.loop-step.moves c.in-Some.deadline c.args.links.now.lists
+            c.loop-step.links.lists c.if-deadline-tick.links.lists b i.emptying f w.bucket_of-to.result c.if-deadline-tick.moves
+            w.bucket_of-to.ensures.value w.if-deadline-tick.false (ap (λ (x : LinksState). x.lists) w.links-is ∙
+            w.move_front-else-deadline-tick.ensures.moved) w.moves-is;
+        ahead = ahead_left t c.args.list c.args.tick c.loop-step.step c.loop-step.moves c.in-Some.deadline c.args.links.now.lists
+            c.loop-step.links.lists c.if-deadline-tick.links.lists b i.emptying f w.bucket_of-to.result c.next_deadline-ahead.result
+            w.bucket_of-to.ensures.value w.if-deadline-tick.false (ap (λ (x : LinksState). x.lists) w.links-is ∙
+            w.move_front-else-deadline-tick.ensures.moved) c.next_deadline-ahead.ensures;
         clear =
-            let n = goes_elsewhere t c.args.list c.args.tick c.loop-step.step c.loop-step.moves c.in-Some.deadline c.args.links.now
-            c.loop-step.links c.if-deadline-tick.links b i.emptying f w.bucket_of-to.result w.bucket_of-to.ensures.value
+            let n = goes_elsewhere t c.args.list c.args.tick c.loop-step.step c.loop-step.moves c.in-Some.deadline c.args.links.now.lists
+            c.loop-step.links.lists c.if-deadline-tick.links.lists b i.emptying f w.bucket_of-to.result w.bucket_of-to.ensures.value
             w.if-deadline-tick.false in
             ap (λ (o : List ℕ). bit_of o c.args.list) w.occupied-is ∙ (w.insert.ensures.others c.args.list (λ e. n (sym e)) ∙ i.clear);
         marked =
-            let P : List ℕ → Type 0 = λ o. AreMarkedBut n c.args.list o c.if-deadline-tick.links in
+            let P : List ℕ → Type 0 = λ o. AreMarkedBut n c.args.list o c.if-deadline-tick.links.lists in
             subst P (sym w.occupied-is) (marked_left n c.loop-step.occupied w.insert.new.self c.args.list w.bucket_of-to.result f.row f.rest
-            c.loop-step.links c.if-deadline-tick.links w.bucket_of-to.ensures.in_range
-            (in_new w.bucket_of-to.result n c.loop-step.links c.args.links.now w.bucket_of-to.ensures.in_range c.requires.lists
-            i.emptying.has_lists) w.insert.ensures.here w.insert.ensures.others f.at (w.links-is
-            ∙ w.move_front-else-deadline-tick.ensures) i.marked);
+            c.loop-step.links.lists c.if-deadline-tick.links.lists w.bucket_of-to.ensures.in_range
+            (in_new w.bucket_of-to.result n c.loop-step.links.lists c.args.links.now.lists w.bucket_of-to.ensures.in_range c.requires.lists
+            i.emptying.has_lists) w.insert.ensures.here w.insert.ensures.others f.at (ap (λ (x : LinksState). x.lists) w.links-is ∙
+            w.move_front-else-deadline-tick.ensures.moved) i.marked);
       }
     ]
 
@@ -65,24 +74,28 @@ ended table list tick step moves old links i n e h = ended_count table list tick
 
 pub returns-after-loop-step-clause-migrated : goal.returns-after-loop-step-clause-migrated
 returns-after-loop-step-clause-migrated c = (ended (radices c.args.table) c.args.list c.args.tick c.loop-step.step c.loop-step.moves
-    c.args.links.now c.loop-step.links c.loop-step.invariant.emptying c.len-step-end.result c.len-step-end.ensures
+    c.args.links.now.lists c.loop-step.links.lists c.loop-step.invariant.emptying c.len-step-end.result c.len-step-end.ensures
     c.loop-step-test.false).lists_are
 
 pub returns-after-loop-step-clause-moves : goal.returns-after-loop-step-clause-moves
 returns-after-loop-step-clause-moves c = (ended (radices c.args.table) c.args.list c.args.tick c.loop-step.step c.loop-step.moves
-    c.args.links.now c.loop-step.links c.loop-step.invariant.emptying c.len-step-end.result c.len-step-end.ensures
+    c.args.links.now.lists c.loop-step.links.lists c.loop-step.invariant.emptying c.len-step-end.result c.len-step-end.ensures
     c.loop-step-test.false).moves_are
 
 pub returns-after-loop-step-clause-marked : goal.returns-after-loop-step-clause-marked
 returns-after-loop-step-clause-marked c =
     let i = c.loop-step.invariant in
-    let z = (ended (radices c.args.table) c.args.list c.args.tick c.loop-step.step c.loop-step.moves c.args.links.now c.loop-step.links
+    let z = (ended (radices c.args.table) c.args.list c.args.tick c.loop-step.step c.loop-step.moves c.args.links.now.lists
+    c.loop-step.links.lists
     i.emptying c.len-step-end.result c.len-step-end.ensures c.loop-step-test.false).emptied in
-    marked_all (slots (radices c.args.table)) c.loop-step.occupied c.args.list c.loop-step.links (i.clear ∙ sym (ap filled z)) i.marked
+    marked_all (slots (radices c.args.table)) c.loop-step.occupied c.args.list c.loop-step.links.lists (i.clear ∙ sym (ap filled z))
+    i.marked
 
 pub returns-in_default-clause-marked : goal.returns-in_default-clause-marked
 returns-in_default-clause-marked c =
     let i = c.loop-step.invariant in
-    let z = (ended_none (radices c.args.table) c.args.list c.args.tick c.loop-step.step c.loop-step.moves c.args.links.now c.loop-step.links
+    let z = (ended_none (radices c.args.table) c.args.list c.args.tick c.loop-step.step c.loop-step.moves c.args.links.now.lists
+    c.loop-step.links.lists
     i.emptying (sym c.in_default.is ∙ i.ahead)).emptied in
-    marked_all (slots (radices c.args.table)) c.loop-step.occupied c.args.list c.loop-step.links (i.clear ∙ sym (ap filled z)) i.marked
+    marked_all (slots (radices c.args.table)) c.loop-step.occupied c.args.list c.loop-step.links.lists (i.clear ∙ sym (ap filled z))
+    i.marked

@@ -9,8 +9,9 @@ use Rattle.timer_wheels.proofs.migration.migrate_one_by_one.Given as goal
 
 abbrev pub invariant-loop-step : goal.invariant-loop-step
 invariant-loop-step l = record {
-  emptying : IsEmptying (radices l.table) l.list l.tick l.step l.moves l.initial.links l.links;
-  ahead : l.ahead ≡ first_deadline (list_at l.list l.links);
+  emptying : IsEmptying (radices l.table) l.list l.tick l.step l.moves l.initial.links.lists l.links.lists;
+  room : l.links.room ≡ l.initial.links.room;
+  ahead : l.ahead ≡ first_deadline (list_at l.list l.links.lists);
   clear : bit_of l.occupied l.list ≡ 0;
-  marked : AreMarkedBut (slots (radices l.table)) l.list l.occupied l.links;
+  marked : AreMarkedBut (slots (radices l.table)) l.list l.occupied l.links.lists;
 }

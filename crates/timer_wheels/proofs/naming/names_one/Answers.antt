@@ -7,6 +7,8 @@ pub returns : goal.returns
 returns c = λ t f.
     let b = c.args.buckets.now in
     let h = c.args._handle in
-    let w = look-has b.tick b.slots h b.links b.has_lists (separated b.last_tick b.tick b.last_serial b.slots b.links b.pending b.due)
+    let w = look-has b.tick b.slots h b.links.lists b.has_lists (separated b.last_tick b.tick b.last_serial b.slots b.links.lists b.pending
+    b.due)
     c.keys_are_apart.ensures t b.distinct f in
-    sym (due-none b.tick b.slots h b.links b.has_lists (all_later b) b.due c.keys_are_apart.ensures (Some w.node) (sym w.at) (inr w.later))
+    sym (due-none b.tick b.slots h b.links.lists b.has_lists (all_later b) b.due c.keys_are_apart.ensures (Some w.node) (sym w.at) (inr
+    w.later))

@@ -19,10 +19,10 @@ use Rattle.timer_wheels.proofs.stopping.restart_timer.Goals as goal
 pub alone_in-emptied-requires : goal.alone_in-emptied-requires
 alone_in-emptied-requires c =
     let b = c.args.buckets.now in
-    let f = look-has b.tick b.slots c.args.handle b.links b.has_lists
-    (separated b.last_tick b.tick b.last_serial b.slots b.links b.pending b.due) c.keys_are_apart.ensures c.in_ok-look.field-0
+    let f = look-has b.tick b.slots c.args.handle b.links.lists b.has_lists
+    (separated b.last_tick b.tick b.last_serial b.slots b.links.lists b.pending b.due) c.keys_are_apart.ensures c.in_ok-look.field-0
     b.distinct (sym c.look.ensures ∙ c.in_ok-look.was) in
-    is_used c.args.handle.place f.node b.links f.at
+    is_used c.args.handle.place f.node b.links.lists f.at
 
 in_word : (l n : ℕ) → l < n → n ≤ 640 → l < 640
 in_word l n a b = omega arith
@@ -46,28 +46,29 @@ returns-clause-hier c =
     let key = c.args.handle.place in
     let to = c.bucket_of-list.result in
     let new = c.restart.new.self in
-    let rest : List (List (ℕ × Node)) = map (without_key key) b.links in
+    let rest : List (List (ℕ × Node)) = map (without_key key) b.links.lists in
     let row : ℕ × Node = (key, record { timer = c.args.timer; rounds = 0 }) in
     let f = c.restart.ensures.frame in
     let in_slots : to < b.slots = below to (slots t) b.slots (sym h.has_slots) c.bucket_of-list.ensures.in_range in
-    let links : new.links ≡ with_row to row rest = c.in_ok-restarted.ensures.lists in
+    let links : new.links.lists ≡ with_row to row rest = c.in_ok-restarted.ensures.lists in
     let without : AreMarked b.slots c.clear_emptied.new.occupied rest =
     marked_after c.args.table b c.args.occupied.now h c.keys_are_apart.ensures c.args.handle c.in_ok-look.field-0
     c.alone_in-emptied.result c.clear_emptied.new.occupied (sym c.look.ensures
     ∙ c.in_ok-look.was) c.alone_in-emptied.ensures c.clear_emptied.ensures in
     let marked = marked_with_row b.slots c.clear_emptied.new.occupied c.insert.new.self to row rest in_slots
-    (in_lists to b.slots (length rest) (length-map b.links (without_key key)
+    (in_lists to b.slots (length rest) (length-map b.links.lists (without_key key)
     ∙ b.has_lists) in_slots) c.insert.ensures.here c.insert.ensures.others without in
     let P : List (List (ℕ × Node)) → Type 0 = AreMarked b.slots c.insert.new.self in
-    let R : ℕ → Type 0 = λ k. AreMarked k c.insert.new.self new.links in
+    let R : ℕ → Type 0 = λ k. AreMarked k c.insert.new.self new.links.lists in
     let S : List (List (ℕ × Node)) → Type 0 = EachRow (IsPlaced t b.tick) b.slots in
-    let T : ℕ → Type 0 = λ k. EachRow (IsPlaced t b.tick) k new.links in
-    let U : ℕ → Type 0 = λ k. EachRow (IsPlaced t k) new.slots new.links in
+    let T : ℕ → Type 0 = λ k. EachRow (IsPlaced t b.tick) k new.links.lists in
+    let U : ℕ → Type 0 = λ k. EachRow (IsPlaced t k) new.slots new.links.lists in
     record {
       has_slots = f.slots ∙ h.has_slots;
       clock = f.last_tick ∙ h.clock;
       placed = subst U (sym f.tick) (subst T (sym f.slots) (subst S (sym links)
-          (each_restarted (IsPlaced t b.tick) b.slots key to row.1 b.links (in_lists to b.slots (length b.links) b.has_lists in_slots)
+          (each_restarted (IsPlaced t b.tick) b.slots key to row.1 b.links.lists (in_lists to b.slots (length b.links.lists) b.has_lists
+          in_slots)
           (sym c.bucket_of-list.ensures.value, refl) h.placed)));
       marked = subst R (sym f.slots) (subst P (sym links) marked);
     }

@@ -27,17 +27,18 @@ returns-clause-hier c =
     let row : ℕ × Node = (c.args.handle.place, record { timer = c.args.timer; rounds = 0 }) in
     let f = c.revive.ensures.frame in
     let in_slots : to < b.slots = below to (slots t) b.slots (sym h.has_slots) c.bucket_of-bucket.ensures.in_range in
-    let R : ℕ → Type 0 = λ k. AreMarked k c.insert.new.self new.links in
-    let T : ℕ → Type 0 = λ k. EachRow (IsPlaced t b.tick) k new.links in
-    let U : ℕ → Type 0 = λ k. EachRow (IsPlaced t k) new.slots new.links in
+    let R : ℕ → Type 0 = λ k. AreMarked k c.insert.new.self new.links.lists in
+    let T : ℕ → Type 0 = λ k. EachRow (IsPlaced t b.tick) k new.links.lists in
+    let U : ℕ → Type 0 = λ k. EachRow (IsPlaced t k) new.slots new.links.lists in
     record {
       has_slots = f.slots ∙ h.has_slots;
       clock = f.last_tick ∙ h.clock;
       placed = subst U (sym f.tick) (subst T (sym f.slots) (each-added
-          (IsPlaced t b.tick) b.slots to row b.links new.links c.in_ok-revived.ensures.lists (
+          (IsPlaced t b.tick) b.slots to row b.links.lists new.links.lists c.in_ok-revived.ensures.lists (
             sym c.bucket_of-bucket.ensures.value,
             refl,
           ) h.placed));
-      marked = subst R (sym f.slots) (marked_added b.slots c.args.occupied.now c.insert.new.self to row b.links new.links in_slots
+      marked = subst R (sym f.slots) (marked_added b.slots c.args.occupied.now c.insert.new.self to row b.links.lists new.links.lists
+          in_slots
           c.in_ok-revived.ensures.lists c.insert.ensures.here c.insert.ensures.others h.marked);
     }

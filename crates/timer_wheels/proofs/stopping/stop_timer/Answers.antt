@@ -19,9 +19,9 @@ returns-clause-hier c =
     let b = c.args.buckets.now in
     let h = c.requires.hier in
     let f = c.take.ensures.frame in
-    let links : c.take.new.self.links ≡ map (without_key c.args.handle.place) b.links = c.in_ok-timer.ensures.lists in
+    let links : c.take.new.self.links.lists ≡ map (without_key c.args.handle.place) b.links.lists = c.in_ok-timer.ensures.lists in
     let P : List (List (ℕ × Node)) → Type 0 = AreMarked b.slots c.clear_emptied.new.occupied in
-    let R : ℕ → Type 0 = λ k. AreMarked k c.clear_emptied.new.occupied c.take.new.self.links in
+    let R : ℕ → Type 0 = λ k. AreMarked k c.clear_emptied.new.occupied c.take.new.self.links.lists in
     record {
       has_slots = f.slots ∙ h.has_slots;
       clock = f.last_tick ∙ h.clock;

@@ -1,40 +1,54 @@
-use Rattle.std.proofs.Common.{◌≡◌, ◌≤◌, arith}
+use Rattle.std.proofs.Common.{refl, ◌∙◌, ◌≡◌, ◌≤◌, arith}
 use Rattle.timer_links.specs.Lists.{row_count}
 use Rattle.timer_wheels.specs.Sweep.{due_later}
 use Rattle.timer_wheels.proofs.SweepLemmas.{begun, next_row, in_use, in_range, standing, passed, ended_count}
 use Rattle.timer_wheels.proofs.sweep.sweep_bucket.Goals as goal
 
 pub loop-step-init : goal.loop-step-init
-loop-step-init c = begun c.args.bucket c.args.due c.args.links.now c.front-at.result c.front-at.ensures
+loop-step-init c = record {
+  rows = begun c.args.bucket c.args.due c.args.links.now.lists c.front-at.result c.front-at.ensures;
+  room = refl;
+}
 
 pub step-here-requires : goal.step-here-requires
 step-here-requires c =
     let s = c.loop-step in
-    let w = next_row c.args.bucket c.args.due s.step c.args.links.now s.links s.at c.in-Some.key s.invariant c.in-Some.is in
-    in_use c.args.bucket c.args.due s.step c.args.links.now s.links c.requires.other c.requires.bucket c.requires.due c.in-Some.key w
+    let w = next_row c.args.bucket c.args.due s.step c.args.links.now.lists s.links.lists s.at c.in-Some.key s.invariant.rows c.in-Some.is
+    in
+    in_use c.args.bucket c.args.due s.step c.args.links.now.lists s.links.lists c.requires.other c.requires.bucket c.requires.due
+    c.in-Some.key w
     c.keys_are_apart.ensures
 
 pub sweep_node-requires-clause-used : goal.sweep_node-requires-clause-used
 sweep_node-requires-clause-used c =
     let s = c.loop-step in
-    let w = next_row c.args.bucket c.args.due s.step c.args.links.now s.links s.at c.in-Some.key s.invariant c.in-Some.is in
-    in_use c.args.bucket c.args.due s.step c.args.links.now s.links c.requires.other c.requires.bucket c.requires.due c.in-Some.key w
+    let w = next_row c.args.bucket c.args.due s.step c.args.links.now.lists s.links.lists s.at c.in-Some.key s.invariant.rows c.in-Some.is
+    in
+    in_use c.args.bucket c.args.due s.step c.args.links.now.lists s.links.lists c.requires.other c.requires.bucket c.requires.due
+    c.in-Some.key w
     c.keys_are_apart.ensures
 
 pub loop-step-preserved : goal.loop-step-preserved
 loop-step-preserved c =
     let s = c.loop-step in
-    let w = next_row c.args.bucket c.args.due s.step c.args.links.now s.links s.at c.in-Some.key s.invariant c.in-Some.is in
-    passed c.args.bucket c.args.due s.step c.args.links.now s.links c.requires.other c.requires.bucket c.requires.due c.in-Some.key w
-    c.sweep_node.new.links c.step-here.result.next c.keys_are_apart.ensures c.sweep_node.ensures.due c.sweep_node.ensures.later
-    (c.step-here.ensures.next c.args.bucket (due_later w.past) w.node w.rest
-    (in_range c.args.bucket c.args.due s.step c.args.links.now s.links c.requires.other c.requires.bucket c.requires.due c.in-Some.key
-    w) (standing c.args.bucket c.args.due s.step c.args.links.now s.links c.requires.other c.requires.bucket c.requires.due
-    c.in-Some.key w))
+    let w = next_row c.args.bucket c.args.due s.step c.args.links.now.lists s.links.lists s.at c.in-Some.key s.invariant.rows c.in-Some.is
+    in
+    record {
+      room = c.sweep_node.ensures.room ∙ s.invariant.room;
+      rows = passed c.args.bucket c.args.due s.step c.args.links.now.lists s.links.lists c.requires.other c.requires.bucket c.requires.due
+          c.in-Some.key w
+          c.sweep_node.new.links.lists c.step-here.result.next c.keys_are_apart.ensures c.sweep_node.ensures.due c.sweep_node.ensures.later
+          (c.step-here.ensures.next c.args.bucket (due_later w.past) w.node w.rest
+          (in_range c.args.bucket c.args.due s.step c.args.links.now.lists s.links.lists c.requires.other c.requires.bucket c.requires.due
+          c.in-Some.key
+          w) (standing c.args.bucket c.args.due s.step c.args.links.now.lists s.links.lists c.requires.other c.requires.bucket
+          c.requires.due
+          c.in-Some.key w));
+    }
 
-pub returns-after-loop-step : goal.returns-after-loop-step
-returns-after-loop-step c =
+pub returns-after-loop-step-clause-swept : goal.returns-after-loop-step-clause-swept
+returns-after-loop-step-clause-swept c =
     let s = c.loop-step in
-    let a : c.len-step-end.result ≡ row_count c.args.links.now = c.len-step-end.ensures in
+    let a : c.len-step-end.result ≡ row_count c.args.links.now.lists = c.len-step-end.ensures in
     let b : c.len-step-end.result ≤ s.step = c.loop-step-test.false in
-    (ended_count c.args.bucket c.args.due s.step c.args.links.now s.links s.at s.invariant (omega arith)).is
+    (ended_count c.args.bucket c.args.due s.step c.args.links.now.lists s.links.lists s.at s.invariant.rows (omega arith)).is

@@ -5,7 +5,7 @@ use Rattle.timer_wheels.proofs.walks.copy_list.Goals as goal
 
 pub loop-step-preserved : goal.loop-step-preserved
 loop-step-preserved c =
-    let links = c.args.links.now in
+    let links = c.args.links.now.lists in
     copied c.args.list c.loop-step.step links c.requires c.keys_are_apart.ensures c.in-Some.key c.loop-step.at c.next-at.result
     c.in-Some-get.node c.args.timers.now.items c.loop-step.timers.items c.push.new.self.items c.loop-step.invariant c.in-Some.is
     c.in-Some-get.ensures c.in_ok-push.ensures.items
@@ -13,7 +13,7 @@ loop-step-preserved c =
 
 pub returns-after-loop-step : goal.returns-after-loop-step
 returns-after-loop-step c =
-    let links = c.args.links.now in
+    let links = c.args.links.now.lists in
     let a : c.len-step-end.result ≡ row_count links = c.len-step-end.ensures in
     let b : c.len-step-end.result ≤ c.loop-step.step = c.loop-step-test.false in
     copied-all c.args.list c.loop-step.step links c.loop-step.at c.args.timers.now.items c.loop-step.timers.items c.loop-step.invariant
@@ -21,7 +21,7 @@ returns-after-loop-step c =
 
 pub returns-in_default-get : goal.returns-in_default-get
 returns-in_default-get c =
-    let links = c.args.links.now in
+    let links = c.args.links.now.lists in
     let i = c.loop-step.invariant in
     let w = next_row c.args.list c.loop-step.step links c.loop-step.at c.in-Some.key i.past i.walk c.in-Some.is in
     absurd (node_none w.node (sym (found c.args.list c.loop-step.step links c.requires c.keys_are_apart.ensures c.in-Some.key i.past w)

@@ -2,4 +2,4 @@ use Rattle.timer_wheels.proofs.WalkLemmas.{IsCopying}
 use Rattle.timer_wheels.proofs.walks.copy_list.Given as goal
 
 abbrev pub invariant-loop-step : goal.invariant-loop-step
-invariant-loop-step l = IsCopying l.list l.step l.links l.at l.initial.timers.items l.timers.items
+invariant-loop-step l = IsCopying l.list l.step l.links.lists l.at l.initial.timers.items l.timers.items

@@ -1,5 +1,9 @@
+use Rattle.std.proofs.Common.{◌≡◌}
 use Rattle.timer_wheels.proofs.WalkLemmas.{AreEmptied}
 use Rattle.timer_wheels.proofs.walks.empty_lists.Given as goal
 
 abbrev pub invariant-loop-list : goal.invariant-loop-list
-invariant-loop-list l = AreEmptied l.list l.initial.links l.links
+invariant-loop-list l = record {
+  rows : AreEmptied l.list l.initial.links.lists l.links.lists;
+  room : l.links.room ≡ l.initial.links.room;
+}

@@ -4,19 +4,19 @@ use Rattle.timer_wheels.proofs.WalkLemmas.{counted-none, counted-one, counted-in
 use Rattle.timer_wheels.proofs.walks.list_len.Goals as goal
 
 pub loop-step-init : goal.loop-step-init
-loop-step-init c = counted-none c.args.list c.args.links.now c.front-at.result c.front-at.ensures
+loop-step-init c = counted-none c.args.list c.args.links.now.lists c.front-at.result c.front-at.ensures
 
 pub next-at-requires : goal.next-at-requires
-next-at-requires c = counted-in_use c.args.list c.loop-step.step c.args.links.now c.requires c.keys_are_apart.ensures c.in-Some.key
+next-at-requires c = counted-in_use c.args.list c.loop-step.step c.args.links.now.lists c.requires c.keys_are_apart.ensures c.in-Some.key
     c.loop-step.at c.loop-step.invariant c.in-Some.is
 
 pub loop-step-preserved : goal.loop-step-preserved
-loop-step-preserved c = counted-one c.args.list c.loop-step.step c.args.links.now c.requires c.keys_are_apart.ensures c.in-Some.key
+loop-step-preserved c = counted-one c.args.list c.loop-step.step c.args.links.now.lists c.requires c.keys_are_apart.ensures c.in-Some.key
     c.loop-step.at c.next-at.result c.loop-step.invariant c.in-Some.is c.next-at.ensures
 
 pub returns : goal.returns
 returns c =
-    let links = c.args.links.now in
+    let links = c.args.links.now.lists in
     let a : c.len-step-end.result ≡ row_count links = c.len-step-end.ensures in
     let b : c.len-step-end.result ≤ c.loop-step.step = c.loop-step-test.false in
     let d : c.loop-step.step ≤ c.len-step-end.result = c.loop-step.auto.step-end in

@@ -1,3 +1,4 @@
+use Rattle.timer_base.specs.WheelState.{with_room}
 use Rattle.std.proofs.Common.{◌≡◌, ◌<◌, sym, ◌∙◌, ap, arith}
 use Rattle.std.specs.Prelude.{find}
 use Rattle.timer_base.specs.OrderLaws.{AreRising-filter, All-filter}
@@ -18,7 +19,7 @@ returns-in_err-first-clause-rest c =
     let s = c.args.self.now in
     let seen : c.find_due.result ≡ find (is_due_at s.now) s.timers.items =
     c.find_due.ensures ∙ ap (find (is_due_at s.now)) c.as_slice.ensures.value in
-    plain_state-none_due s.now s.last_serial s.timers.items (sym seen ∙ c.in_err-first.was)
+    ap (with_room s.room) (plain_state-none_due s.now s.last_serial s.timers.items (sym seen ∙ c.in_err-first.was))
 
 pub overflow_sub-self : goal.overflow_sub-self
 overflow_sub-self c =
@@ -60,5 +61,6 @@ returns-clause-rest c =
     let s = c.args.self.now in
     let seen : c.find_due.result ≡ find (is_due_at s.now) s.timers.items =
     c.find_due.ensures ∙ ap (find (is_due_at s.now)) c.as_slice.ensures.value in
-    rw c.drop_serial.ensures.items (plain_state-after_expiry s.now s.last_serial s.timers.items c.in_ok-first.first (sym seen
-    ∙ c.in_ok-first.was) s.rising)
+    rw c.drop_serial.ensures.items (ap (with_room s.room) (plain_state-after_expiry s.now s.last_serial s.timers.items c.in_ok-first.first
+    (sym seen
+    ∙ c.in_ok-first.was) s.rising))

@@ -1,3 +1,4 @@
+use Rattle.timer_base.specs.WheelState.{with_room}
 use Rattle.std.proofs.Common.{◌+◌, ◌∙◌, ap}
 use Rattle.timer_base.specs.PlainState.{due_count}
 use Rattle.timer_base.proofs.PlainSteps.{plain_state-after_tick, kept-after_tick, none_of_them}
@@ -16,5 +17,5 @@ invariant_of-self-clause-counted c =
 pub returns : goal.returns
 returns c =
     let s = c.args.self.now in
-    plain_state-after_tick s.now s.last_serial s.timers.items s.kept s.rising
-    (none_of_them s.now s.last_serial s.timers.items c.requires.nothing_due)
+    ap (with_room s.room) (plain_state-after_tick s.now s.last_serial s.timers.items s.kept s.rising
+    (none_of_them s.now s.last_serial s.timers.items c.requires.nothing_due))

@@ -1,3 +1,4 @@
+use Rattle.timer_base.specs.WheelState.{with_room}
 use Rattle.std.proofs.Common.{◌<◌, List, length, sym, ◌∙◌, ap, subst}
 use Rattle.timer_base.specs.declared.timer.Timer.{Timer}
 use Rattle.timer_base.specs.OrderLaws.{AreRising-filter}
@@ -42,7 +43,7 @@ pub returns-clause-restarted : goal.returns-clause-restarted
 returns-clause-restarted c =
     let s = c.args.self.now in
     rw (c.push_reserved.ensures.items, c.drop_serial.ensures.items)
-    (plain_state-after_start s.now s.last_serial _ c.args.timer
+    (ap (with_room s.room) (plain_state-after_start s.now s.last_serial _ c.args.timer
     (kept-without s.now s.last_serial c.in_ok-old.old.serial s.timers.items s.kept) c.requires.fresh c.requires.later
     ∙ ap (after_start 0 c.args.timer) (plain_state-after_stop s.now s.last_serial s.timers.items c.args.handle c.in_ok-old.old s.rising
-    (sym c.look.ensures ∙ c.in_ok-old.was)))
+    (sym c.look.ensures ∙ c.in_ok-old.was))))

@@ -1,3 +1,4 @@
+use Rattle.timer_base.specs.WheelState.{with_room}
 use Rattle.std.proofs.Common.{◌<◌, List, length, sym, ◌∙◌, ap, subst}
 use Rattle.timer_base.specs.declared.timer.Timer.{Timer}
 use Rattle.timer_base.specs.OrderLaws.{AreRising-filter}
@@ -18,14 +19,14 @@ push_in_room-requires c =
 pub invariant_of-self-clause-rising : goal.invariant_of-self-clause-rising
 invariant_of-self-clause-rising c =
     let s = c.args.self.now in
-    rw (c.push_in_room.ensures, c.drop_serial.ensures.items) (rising-after_start s.now s.last_serial _ c.args.timer
+    rw (c.push_in_room.ensures.items, c.drop_serial.ensures.items) (rising-after_start s.now s.last_serial _ c.args.timer
     (kept-without s.now s.last_serial c.in_ok-old.old.serial s.timers.items s.kept)
     (AreRising-filter _ 0 s.timers.items s.rising) c.requires.fresh)
 
 pub invariant_of-self-clause-kept : goal.invariant_of-self-clause-kept
 invariant_of-self-clause-kept c =
     let s = c.args.self.now in
-    rw (c.push_in_room.ensures, c.drop_serial.ensures.items) (kept-after_start s.now s.last_serial _ c.args.timer
+    rw (c.push_in_room.ensures.items, c.drop_serial.ensures.items) (kept-after_start s.now s.last_serial _ c.args.timer
     (kept-without s.now s.last_serial c.in_ok-old.old.serial s.timers.items s.kept) c.requires.fresh c.requires.later
     c.requires.deadline)
 
@@ -37,8 +38,8 @@ invariant_of-self-clause-counted c =
 pub returns-clause-revived : goal.returns-clause-revived
 returns-clause-revived c =
     let s = c.args.self.now in
-    rw (c.push_in_room.ensures, c.drop_serial.ensures.items)
-    (plain_state-after_start s.now s.last_serial _ c.args.timer
+    rw (c.push_in_room.ensures.items, c.drop_serial.ensures.items)
+    (ap (with_room s.room) (plain_state-after_start s.now s.last_serial _ c.args.timer
     (kept-without s.now s.last_serial c.in_ok-old.old.serial s.timers.items s.kept) c.requires.fresh c.requires.later
     ∙ ap (after_start 0 c.args.timer) (plain_state-after_withdrawal s.now s.last_serial s.timers.items c.args.handle c.in_ok-old.old
-    s.rising (sym c.look_due.ensures ∙ c.in_ok-old.was)))
+    s.rising (sym c.look_due.ensures ∙ c.in_ok-old.was))))

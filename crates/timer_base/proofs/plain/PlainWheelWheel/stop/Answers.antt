@@ -1,3 +1,4 @@
+use Rattle.timer_base.specs.WheelState.{with_room}
 use Rattle.std.proofs.Common.{sym, ◌∙◌, ap}
 use Rattle.timer_base.specs.OrderLaws.{AreRising-filter, All-filter}
 use Rattle.timer_base.specs.Pending.{without_found}
@@ -8,7 +9,7 @@ use Rattle.timer_base.proofs.plain.PlainWheelWheel.stop.Goals as goal
 pub returns-in_err-stopped-clause-stopped : goal.returns-in_err-stopped-clause-stopped
 returns-in_err-stopped-clause-stopped c =
     let s = c.args.self.now in
-    let w = plain_state s.now s.last_serial s.timers.items in
+    let w = with_room s.room (plain_state s.now s.last_serial s.timers.items) in
     ap (λ o. record w { pending = without_found o w.pending }) (sym c.in_err-stopped.was ∙ c.look.ensures)
 
 pub invariant_of-self-clause-rising : goal.invariant_of-self-clause-rising
@@ -30,5 +31,6 @@ invariant_of-self-clause-counted c =
 pub returns-clause-stopped : goal.returns-clause-stopped
 returns-clause-stopped c =
     let s = c.args.self.now in
-    rw c.drop_serial.ensures.items (plain_state-after_stop s.now s.last_serial s.timers.items c.args.handle c.in_ok-stopped.stopped s.rising
-    (sym c.look.ensures ∙ c.in_ok-stopped.was))
+    rw c.drop_serial.ensures.items (ap (with_room s.room) (plain_state-after_stop s.now s.last_serial s.timers.items c.args.handle
+    c.in_ok-stopped.stopped s.rising
+    (sym c.look.ensures ∙ c.in_ok-stopped.was)))

@@ -1,3 +1,4 @@
+use Rattle.timer_base.specs.WheelState.{with_room}
 use Rattle.std.proofs.Common.{sym, ◌∙◌, ap}
 use Rattle.timer_base.specs.OrderLaws.{AreRising-filter, All-filter}
 use Rattle.timer_base.specs.Pending.{without_found}
@@ -8,7 +9,7 @@ use Rattle.timer_base.proofs.plain.PlainWheelWheel.withdraw.Goals as goal
 pub returns-in_err-withdrawn-clause-withdrawn : goal.returns-in_err-withdrawn-clause-withdrawn
 returns-in_err-withdrawn-clause-withdrawn c =
     let s = c.args.self.now in
-    let w = plain_state s.now s.last_serial s.timers.items in
+    let w = with_room s.room (plain_state s.now s.last_serial s.timers.items) in
     ap (λ o. record w { due = without_found o w.due }) (sym c.in_err-withdrawn.was ∙ c.look_due.ensures)
 
 pub invariant_of-self-clause-rising : goal.invariant_of-self-clause-rising
@@ -29,5 +30,5 @@ invariant_of-self-clause-counted c =
 pub returns-clause-withdrawn : goal.returns-clause-withdrawn
 returns-clause-withdrawn c =
     let s = c.args.self.now in
-    rw c.drop_serial.ensures.items (plain_state-after_withdrawal s.now s.last_serial s.timers.items c.args.handle
-    c.in_ok-withdrawn.withdrawn s.rising (sym c.look_due.ensures ∙ c.in_ok-withdrawn.was))
+    rw c.drop_serial.ensures.items (ap (with_room s.room) (plain_state-after_withdrawal s.now s.last_serial s.timers.items c.args.handle
+    c.in_ok-withdrawn.withdrawn s.rising (sym c.look_due.ensures ∙ c.in_ok-withdrawn.was)))

@@ -1,5 +1,5 @@
-use Rattle.std.proofs.Common.{◌∙◌, sym}
-use Rattle.timer_links.proofs.UniqueLists.{opened, closed, written, lists_are}
+use Rattle.std.proofs.Common.{◌∙◌, sym, refl}
+use Rattle.timer_links.proofs.UniqueLists.{opened, closed, written, lists_are, room_written}
 use Rattle.timer_links.proofs.LinksCalls.{read_root}
 use Rattle.timer_links.proofs.Append.{appended_linked, joins_between, joins_behind}
 use Rattle.timer_links.proofs.links.Links.append.Goals as goal
@@ -26,16 +26,19 @@ pub invariant_of-self : goal.invariant_of-self
 invariant_of-self c =
     let h = opened c.self.inside c.args.self.now c.self.view_is c.self.invariant in
     let x = read_root _ _ _ _ c.args.from _ _ h c.requires.from c.as_mut_slice-sides.ensures.value c.index.ensures in
-    let y = read_root _ _ _ _ c.args.to _ _ h c.requires.to c.as_mut_slice-sides.ensures.value c.index-2.ensures in
-    closed _ _ _ _ (written _ _ c.self.inside.sides _ _ (c.join-3.ensures.size
-    ∙ (c.join-2.ensures.size ∙ (c.join.ensures.size ∙ c.as_mut_slice-sides.ensures.len)))
-    (appended_linked _ _ _ _ _ _ _ c.args.from c.args.to c.in-Some.field-0 h c.requires.from c.requires.to c.requires.apart
-    (sym c.in-Some.ensures)
-    (joins_between _ _ _ _ _ _ _ c.as_mut_slice-sides.ensures.value x.is y.is c.join.ensures)
-    (joins_behind c.self.inside.sides.items _ _ c.args.from _ _ x.is c.join-2.ensures) c.join-3.ensures))
+    let y = read_root _ _ _ _ c.args.to _ _ h c.requires.to c.as_mut_slice-sides.ensures.value c.index-2.ensures in (
+      closed _ _ _ _ (written _ _ c.self.inside.sides _ _ (c.join-3.ensures.size
+          ∙ (c.join-2.ensures.size ∙ (c.join.ensures.size ∙ c.as_mut_slice-sides.ensures.len)))
+          (appended_linked _ _ _ _ _ _ _ c.args.from c.args.to c.in-Some.field-0 h c.requires.from c.requires.to c.requires.apart
+          (sym c.in-Some.ensures)
+          (joins_between _ _ _ _ _ _ _ c.as_mut_slice-sides.ensures.value x.is y.is c.join.ensures)
+          (joins_behind c.self.inside.sides.items _ _ c.args.from _ _ x.is c.join-2.ensures) c.join-3.ensures)),
+      room_written _ _ _ _ c.self.inside.sides _ c.self.invariant.1 refl (c.join-3.ensures.size
+          ∙ (c.join-2.ensures.size ∙ (c.join.ensures.size ∙ c.as_mut_slice-sides.ensures.len))),
+    )
 
-pub returns : goal.returns
-returns c =
+pub returns-clause-appended : goal.returns-clause-appended
+returns-clause-appended c =
     let h = opened c.self.inside c.args.self.now c.self.view_is c.self.invariant in
     let x = read_root _ _ _ _ c.args.from _ _ h c.requires.from c.as_mut_slice-sides.ensures.value c.index.ensures in
     let y = read_root _ _ _ _ c.args.to _ _ h c.requires.to c.as_mut_slice-sides.ensures.value c.index-2.ensures in

@@ -1,5 +1,5 @@
-use Rattle.std.proofs.Common.{◌∙◌}
-use Rattle.timer_links.proofs.UniqueLists.{opened, closed, written, lists_are}
+use Rattle.std.proofs.Common.{◌∙◌, refl}
+use Rattle.timer_links.proofs.UniqueLists.{opened, closed, written, lists_are, room_written}
 use Rattle.timer_links.proofs.LinksCalls.{used, held, read_node, joins_read, back_after, moved, size_last}
 use Rattle.timer_links.proofs.links.Links.move_back.Goals as goal
 
@@ -28,14 +28,17 @@ invariant_of-self c =
     let h = opened c.self.inside c.args.self.now c.self.view_is c.self.invariant in
     let i = used _ _ _ _ h c.args.key c.requires.used in
     let x = held _ i in
-    let r = read_node _ _ _ _ c.args.key _ _ h i c.as_mut_slice-sides.ensures.value c.index.ensures in
-    closed _ _ _ _ (written _ _ c.self.inside.sides _ _ (size_last _ _ _ _ c.join_last.ensures
-    ∙ (c.join.ensures.size ∙ c.as_mut_slice-sides.ensures.len))
-    (moved _ _ _ _ _ _ c.args.key c.args.list x.node h x.is c.requires.list
-    (joins_read _ _ _ _ _ c.as_mut_slice-sides.ensures.value r.is c.join.ensures) c.join_last.ensures))
+    let r = read_node _ _ _ _ c.args.key _ _ h i c.as_mut_slice-sides.ensures.value c.index.ensures in (
+      closed _ _ _ _ (written _ _ c.self.inside.sides _ _ (size_last _ _ _ _ c.join_last.ensures
+          ∙ (c.join.ensures.size ∙ c.as_mut_slice-sides.ensures.len))
+          (moved _ _ _ _ _ _ c.args.key c.args.list x.node h x.is c.requires.list
+          (joins_read _ _ _ _ _ c.as_mut_slice-sides.ensures.value r.is c.join.ensures) c.join_last.ensures)),
+      room_written _ _ _ _ c.self.inside.sides _ c.self.invariant.1 refl (size_last _ _ _ _ c.join_last.ensures
+          ∙ (c.join.ensures.size ∙ c.as_mut_slice-sides.ensures.len)),
+    )
 
-pub returns : goal.returns
-returns c node e =
+pub returns-clause-moved : goal.returns-clause-moved
+returns-clause-moved c node e =
     let h = opened c.self.inside c.args.self.now c.self.view_is c.self.invariant in
     let i = used _ _ _ _ h c.args.key c.requires.used in
     let r = read_node _ _ _ _ c.args.key _ _ h i c.as_mut_slice-sides.ensures.value c.index.ensures in

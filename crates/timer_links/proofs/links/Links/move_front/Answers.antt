@@ -1,5 +1,5 @@
-use Rattle.std.proofs.Common.{◌∙◌, sym}
-use Rattle.timer_links.proofs.UniqueLists.{opened, closed, written, lists_are}
+use Rattle.std.proofs.Common.{◌∙◌, sym, refl}
+use Rattle.timer_links.proofs.UniqueLists.{opened, closed, written, lists_are, room_written}
 use Rattle.timer_links.proofs.LinksCalls.{read_node, back_after, moved, size_last}
 use Rattle.timer_links.proofs.PopFront.{front_of, joins_front, moves_front}
 use Rattle.timer_links.proofs.links.Links.move_front.Goals as goal
@@ -23,14 +23,17 @@ pub invariant_of-self : goal.invariant_of-self
 invariant_of-self c =
     let h = opened c.self.inside c.args.self.now c.self.view_is c.self.invariant in
     let f = front_of _ _ _ _ c.args.from c.in-Some.key h c.requires.from (sym c.in-Some.ensures.key) in
-    let r = read_node _ _ _ _ c.in-Some.key _ _ h f.used c.as_mut_slice-sides.ensures.value c.index.ensures in
-    closed _ _ _ _ (written _ _ c.self.inside.sides _ _ (size_last _ _ _ _ c.join_last.ensures
-    ∙ (c.join.ensures.size ∙ c.as_mut_slice-sides.ensures.len))
-    (moved _ _ _ _ _ _ c.in-Some.key c.args.to f.node h f.held c.requires.to
-    (joins_front _ _ _ _ _ _ c.as_mut_slice-sides.ensures.value r.is f.before c.join.ensures) c.join_last.ensures))
+    let r = read_node _ _ _ _ c.in-Some.key _ _ h f.used c.as_mut_slice-sides.ensures.value c.index.ensures in (
+      closed _ _ _ _ (written _ _ c.self.inside.sides _ _ (size_last _ _ _ _ c.join_last.ensures
+          ∙ (c.join.ensures.size ∙ c.as_mut_slice-sides.ensures.len))
+          (moved _ _ _ _ _ _ c.in-Some.key c.args.to f.node h f.held c.requires.to
+          (joins_front _ _ _ _ _ _ c.as_mut_slice-sides.ensures.value r.is f.before c.join.ensures) c.join_last.ensures)),
+      room_written _ _ _ _ c.self.inside.sides _ c.self.invariant.1 refl (size_last _ _ _ _ c.join_last.ensures
+          ∙ (c.join.ensures.size ∙ c.as_mut_slice-sides.ensures.len)),
+    )
 
-pub returns : goal.returns
-returns c =
+pub returns-clause-moved : goal.returns-clause-moved
+returns-clause-moved c =
     let h = opened c.self.inside c.args.self.now c.self.view_is c.self.invariant in
     let f = front_of _ _ _ _ c.args.from c.in-Some.key h c.requires.from (sym c.in-Some.ensures.key) in
     let r = read_node _ _ _ _ c.in-Some.key _ _ h f.used c.as_mut_slice-sides.ensures.value c.index.ensures in

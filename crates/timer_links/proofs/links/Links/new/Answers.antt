@@ -1,4 +1,7 @@
-use Rattle.timer_links.proofs.UniqueLists.{closed, lists_are}
+use Rattle.std.proofs.Common.{ℕ, List, ap}
+use Rattle.timer_links.specs.declared.node.Node.{Node}
+use Rattle.timer_links.specs.Lists.{LinksState}
+use Rattle.timer_links.proofs.UniqueLists.{closed, lists_are, no_room}
 use Rattle.timer_links.proofs.NewLinks.{no_roots, one_more, empty_linked}
 use Rattle.timer_links.proofs.links.Links.new.Goals as goal
 
@@ -10,9 +13,14 @@ loop-list-preserved c = one_more c.loop-list.list c.loop-list.sides.items c.push
     c.in_ok-push.ensures.items
 
 pub invariant_of-result : goal.invariant_of-result
-invariant_of-result c = closed _ _ _ _ (empty_linked c.args.lists c.loop-list.list c.new.result c.loop-list.sides.items c.new.ensures.empty
-    c.loop-list.invariant c.loop-list.auto.list-end c.loop-list-test.false c.requires)
+invariant_of-result c = (
+  closed _ _ _ _ (empty_linked c.args.lists c.loop-list.list c.new.result c.loop-list.sides.items c.new.ensures.empty
+      c.loop-list.invariant c.loop-list.auto.list-end c.loop-list-test.false c.requires),
+  no_room _ _ _,
+)
 
 pub returns : goal.returns
-returns c = lists_are _ _ _ _ (empty_linked c.args.lists c.loop-list.list c.new.result c.loop-list.sides.items c.new.ensures.empty
-    c.loop-list.invariant c.loop-list.auto.list-end c.loop-list-test.false c.requires)
+returns c =
+    let f : List (List (ℕ × Node)) → LinksState = λ x. record { lists = x; room = 0 } in
+    ap f (lists_are _ _ _ _ (empty_linked c.args.lists c.loop-list.list c.new.result c.loop-list.sides.items c.new.ensures.empty
+    c.loop-list.invariant c.loop-list.auto.list-end c.loop-list-test.false c.requires))

@@ -1,5 +1,5 @@
 use Rattle.std.proofs.Common.{◌∙◌, sym}
-use Rattle.timer_links.proofs.UniqueLists.{opened, closed, written, lists_are}
+use Rattle.timer_links.proofs.UniqueLists.{opened, closed, written, lists_are, room_written}
 use Rattle.timer_links.proofs.LinksCalls.{read_node, unlinked}
 use Rattle.timer_links.proofs.PopFront.{front_of, joins_front, node_popped}
 use Rattle.timer_links.proofs.links.Links.pop_front.Goals as goal
@@ -14,13 +14,16 @@ pub invariant_of-self : goal.invariant_of-self
 invariant_of-self c =
     let h = opened c.self.inside c.args.self.now c.self.view_is c.self.invariant in
     let f = front_of _ _ _ _ c.args.list c.in_ok-key.key h c.requires (sym c.in_ok-key.ensures.key) in
-    let r = read_node _ _ _ _ c.in_ok-key.key _ _ h f.used c.as_mut_slice.ensures.value c.index.ensures in
-    closed _ _ _ _ (written _ _ c.self.inside.sides _ _ (c.join.ensures.size ∙ c.as_mut_slice.ensures.len)
-    (unlinked _ _ _ _ _ _ c.in_ok-key.key h f.used c.remove-node.ensures.updates c.remove-node.ensures.len
-    (joins_front _ _ _ _ _ _ c.as_mut_slice.ensures.value r.is f.before c.join.ensures)))
+    let r = read_node _ _ _ _ c.in_ok-key.key _ _ h f.used c.as_mut_slice.ensures.value c.index.ensures in (
+      closed _ _ _ _ (written _ _ c.self.inside.sides _ _ (c.join.ensures.size ∙ c.as_mut_slice.ensures.len)
+          (unlinked _ _ _ _ _ _ c.in_ok-key.key h f.used c.remove-node.ensures.updates c.remove-node.ensures.len
+          (joins_front _ _ _ _ _ _ c.as_mut_slice.ensures.value r.is f.before c.join.ensures))),
+      room_written _ _ _ _ c.self.inside.sides _ c.self.invariant.1 c.remove-node.ensures.capacity
+          (c.join.ensures.size ∙ c.as_mut_slice.ensures.len),
+    )
 
-pub returns : goal.returns
-returns c =
+pub returns-clause-popped : goal.returns-clause-popped
+returns-clause-popped c =
     let h = opened c.self.inside c.args.self.now c.self.view_is c.self.invariant in
     let f = front_of _ _ _ _ c.args.list c.in_ok-key.key h c.requires (sym c.in_ok-key.ensures.key) in
     let r = read_node _ _ _ _ c.in_ok-key.key _ _ h f.used c.as_mut_slice.ensures.value c.index.ensures in (

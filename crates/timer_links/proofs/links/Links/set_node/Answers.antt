@@ -1,4 +1,5 @@
-use Rattle.timer_links.proofs.UniqueLists.{opened, closed, lists_are}
+use Rattle.std.proofs.Common.{refl, arith}
+use Rattle.timer_links.proofs.UniqueLists.{opened, closed, lists_are, room_stays}
 use Rattle.timer_links.proofs.LinksCalls.{seat}
 use Rattle.timer_links.proofs.SetNode.{node_set}
 use Rattle.timer_links.proofs.links.Links.set_node.Goals as goal
@@ -6,10 +7,12 @@ use Rattle.timer_links.proofs.links.Links.set_node.Goals as goal
 pub invariant_of-self : goal.invariant_of-self
 invariant_of-self c =
     let h = opened c.self.inside c.args.self.now c.self.view_is c.self.invariant in
-    let f = seat _ _ _ _ h c.args.key _ c.index_mut.ensures.value in
-    closed _ _ _ _ (node_set _ _ _ _ c.args.key f.l f.front _ c.args.node f.rest h f.below f.is)
+    let f = seat _ _ _ _ h c.args.key _ c.index_mut.ensures.value in (
+      closed _ _ _ _ (node_set _ _ _ _ c.args.key f.l f.front _ c.args.node f.rest h f.below f.is),
+      room_stays _ _ _ _ _ _ c.self.invariant.1 refl (omega arith),
+    )
 
-pub returns : goal.returns
-returns c l front was rest b e =
+pub returns-clause-set : goal.returns-clause-set
+returns-clause-set c l front was rest b e =
     let h = opened c.self.inside c.args.self.now c.self.view_is c.self.invariant in
     lists_are _ _ _ _ (node_set _ _ _ _ c.args.key l front was c.args.node rest h b e)

@@ -1,7 +1,7 @@
-use Rattle.std.proofs.Common.{◌∙◌, ◌++◌, ◌∷◌, ap}
+use Rattle.std.proofs.Common.{◌∙◌, ◌++◌, ◌∷◌, ap, refl, arith}
 use Rattle.std.specs.Prelude.{slice_set}
 use Rattle.timer_links.specs.declared.node.Node.{Node}
-use Rattle.timer_links.proofs.UniqueLists.{opened, closed, lists_are}
+use Rattle.timer_links.proofs.UniqueLists.{opened, closed, lists_are, room_stays}
 use Rattle.timer_links.proofs.LinksCalls.{seat}
 use Rattle.timer_links.proofs.SetNode.{node_set, node_was}
 use Rattle.timer_links.proofs.links.Links.set_rounds.Goals as goal
@@ -9,15 +9,17 @@ use Rattle.timer_links.proofs.links.Links.set_rounds.Goals as goal
 pub invariant_of-self : goal.invariant_of-self
 invariant_of-self c =
     let h = opened c.self.inside c.args.self.now c.self.view_is c.self.invariant in
-    let f = seat _ _ _ _ h c.args.key _ c.index_mut.ensures.value in
-    closed _ _ _ _ (node_set _ _ _ _ c.args.key f.l f.front _ (record c.index_mut.result.now {
-      rounds =
-          c.args.rounds;
-    }) f.rest h f.below f.is)
+    let f = seat _ _ _ _ h c.args.key _ c.index_mut.ensures.value in (
+      closed _ _ _ _ (node_set _ _ _ _ c.args.key f.l f.front _ (record c.index_mut.result.now {
+        rounds =
+            c.args.rounds;
+      }) f.rest h f.below f.is),
+      room_stays _ _ _ _ _ _ c.self.invariant.1 refl (omega arith),
+    )
 
-pub returns : goal.returns
-returns c l front node rest b e =
+pub returns-clause-set : goal.returns-clause-set
+returns-clause-set c l front node rest b e =
     let h = opened c.self.inside c.args.self.now c.self.view_is c.self.invariant in
     lists_are _ _ _ _ (node_set _ _ _ _ c.args.key l front node (record c.index_mut.result.now { rounds = c.args.rounds }) rest h b e)
-    ∙ ap (λ (x : Node). slice_set c.args.self.now l (front ++ (c.args.key, record x { rounds = c.args.rounds }) ∷ rest))
+    ∙ ap (λ (x : Node). slice_set c.args.self.now.lists l (front ++ (c.args.key, record x { rounds = c.args.rounds }) ∷ rest))
     (node_was _ _ _ _ c.args.key l front node c.index_mut.result.now rest h b e c.index_mut.ensures.value)

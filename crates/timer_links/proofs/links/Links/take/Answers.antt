@@ -1,7 +1,7 @@
 use Rattle.std.proofs.Common.{ℕ, ◌∙◌, sym, subst}
 use Rattle.std.specs.Prelude.{Option}
 use Rattle.timer_links.specs.Lists.{IsAloneIn}
-use Rattle.timer_links.proofs.UniqueLists.{opened, closed, written, lists_are}
+use Rattle.timer_links.proofs.UniqueLists.{opened, closed, written, lists_are, room_written}
 use Rattle.timer_links.proofs.LinksCalls.{some_is, read_node, joins_read, unlinked}
 use Rattle.timer_links.proofs.AloneIn.{is_alone_in}
 use Rattle.timer_links.proofs.links.Links.take.Goals as goal
@@ -20,10 +20,13 @@ pub invariant_of-self : goal.invariant_of-self
 invariant_of-self c =
     let h = opened c.self.inside c.args.self.now c.self.view_is c.self.invariant in
     let i = some_is _ _ c.remove-node.ensures.value in
-    let r = read_node _ _ _ _ c.args.key _ _ h i c.as_mut_slice.ensures.value c.index-sides.ensures in
-    closed _ _ _ _ (written _ _ c.self.inside.sides _ _ (c.join.ensures.size ∙ c.as_mut_slice.ensures.len)
-    (unlinked _ _ _ _ _ _ c.args.key h i c.remove-node.ensures.updates c.remove-node.ensures.len
-    (joins_read _ _ _ _ _ c.as_mut_slice.ensures.value r.is c.join.ensures)))
+    let r = read_node _ _ _ _ c.args.key _ _ h i c.as_mut_slice.ensures.value c.index-sides.ensures in (
+      closed _ _ _ _ (written _ _ c.self.inside.sides _ _ (c.join.ensures.size ∙ c.as_mut_slice.ensures.len)
+          (unlinked _ _ _ _ _ _ c.args.key h i c.remove-node.ensures.updates c.remove-node.ensures.len
+          (joins_read _ _ _ _ _ c.as_mut_slice.ensures.value r.is c.join.ensures))),
+      room_written _ _ _ _ c.self.inside.sides _ c.self.invariant.1 c.remove-node.ensures.capacity
+          (c.join.ensures.size ∙ c.as_mut_slice.ensures.len),
+    )
 
 pub returns-clause-taken : goal.returns-clause-taken
 returns-clause-taken c =
@@ -39,5 +42,5 @@ returns-clause-emptied c =
     let h = opened c.self.inside c.args.self.now c.self.view_is c.self.invariant in
     let r = read_node _ _ _ _ c.args.key _ _ h (some_is _ _ c.remove-node.ensures.value) c.as_mut_slice.ensures.value c.index-sides.ensures
     in
-    let P : Option ℕ → Type 0 = IsAloneIn c.args.key c.args.self.now in
+    let P : Option ℕ → Type 0 = IsAloneIn c.args.key c.args.self.now.lists in
     subst P (sym c.only_neighbour.ensures) (is_alone_in _ _ _ _ c.args.key _ h r.is)

@@ -1,4 +1,5 @@
-use Rattle.std.proofs.Common.{◌≤◌, ℕ, List, sym, ◌∙◌, subst, arith}
+use Rattle.timer_base.specs.WheelState.{with_room}
+use Rattle.std.proofs.Common.{ap, ◌≤◌, ℕ, List, sym, ◌∙◌, subst, arith}
 use Rattle.timer_links.specs.declared.node.Node.{Node}
 use Rattle.timer_wheels.specs.BucketLists.{AreDue}
 use Rattle.timer_wheels.proofs.RowLemmas.{rows_below-none}
@@ -12,10 +13,12 @@ pub invariant_of-self-clause-has_lists : goal.invariant_of-self-clause-has_lists
 invariant_of-self-clause-has_lists c = c.empty_lists.ensures.length ∙ c.args.self.now.has_lists
 
 pub invariant_of-self-clause-pending : goal.invariant_of-self-clause-pending
-invariant_of-self-clause-pending c = rw (rows_below-none c.args.self.now.slots c.empty_lists.new.links c.empty_lists.ensures.emptied) tt
+invariant_of-self-clause-pending c = rw (rows_below-none c.args.self.now.slots c.empty_lists.new.links.lists c.empty_lists.ensures.emptied)
+    tt
 
 pub invariant_of-self-clause-distinct : goal.invariant_of-self-clause-distinct
-invariant_of-self-clause-distinct c = rw (rows_below-none c.args.self.now.slots c.empty_lists.new.links c.empty_lists.ensures.emptied) tt
+invariant_of-self-clause-distinct c = rw (rows_below-none c.args.self.now.slots c.empty_lists.new.links.lists
+    c.empty_lists.ensures.emptied) tt
 
 pub invariant_of-self-clause-due : goal.invariant_of-self-clause-due
 invariant_of-self-clause-due c =
@@ -26,11 +29,12 @@ invariant_of-self-clause-due c =
 pub invariant_of-self-clause-in_order : goal.invariant_of-self-clause-in_order
 invariant_of-self-clause-in_order c =
     let b = c.args.self.now in
-    cleared-in_order b.slots b.links c.empty_lists.new.links c.empty_lists.ensures.emptied
+    cleared-in_order b.slots b.links.lists c.empty_lists.new.links.lists c.empty_lists.ensures.emptied
     (c.empty_lists.ensures.others b.slots (not_below b.slots)) b.in_order
 
 pub returns-clause-cleared : goal.returns-clause-cleared
 returns-clause-cleared c =
     let b = c.args.self.now in
-    cleared b.slots b.last_tick b.tick b.last_serial b.links c.empty_lists.new.links c.empty_lists.ensures.emptied
-    (c.empty_lists.ensures.others b.slots (not_below b.slots))
+    rw c.empty_lists.ensures.room (ap (with_room b.links.room) (cleared b.slots b.last_tick b.tick b.last_serial b.links.lists
+    c.empty_lists.new.links.lists c.empty_lists.ensures.emptied
+    (c.empty_lists.ensures.others b.slots (not_below b.slots))))

@@ -1,3 +1,4 @@
+use Rattle.timer_base.specs.WheelState.{with_room}
 use Rattle.std.proofs.Common.{◌≡◌, ◌+◌, ℕ, List, length, sym, ◌∙◌, ap, subst, length-set}
 use Rattle.std.specs.Prelude.{Option, Some, None}
 use Rattle.timer_links.specs.declared.node.Node.{Node}
@@ -33,34 +34,38 @@ popped now n (Some row) old new h o q p = record {
 pub invariant_of-self-clause-has_lists : goal.invariant_of-self-clause-has_lists
 invariant_of-self-clause-has_lists c =
     let b = c.args.self.now in
-    (popped b.tick b.slots c.pop_front.result b.links c.pop_front.new.self b.has_lists b.in_order b.due c.pop_front.ensures).has_lists
+    (popped b.tick b.slots c.pop_front.result b.links.lists c.pop_front.new.self.lists b.has_lists b.in_order b.due
+    c.pop_front.ensures.popped).has_lists
 
 pub invariant_of-self-clause-pending : goal.invariant_of-self-clause-pending
 invariant_of-self-clause-pending c =
     let b = c.args.self.now in
     let P : List (ℕ × Node) → Type 0 = ArePending b.last_tick b.tick b.last_serial in
-    subst P (sym (popped b.tick b.slots c.pop_front.result b.links c.pop_front.new.self b.has_lists b.in_order b.due
-    c.pop_front.ensures).rows) b.pending
+    subst P (sym (popped b.tick b.slots c.pop_front.result b.links.lists c.pop_front.new.self.lists b.has_lists b.in_order b.due
+    c.pop_front.ensures.popped).rows) b.pending
 
 pub invariant_of-self-clause-distinct : goal.invariant_of-self-clause-distinct
 invariant_of-self-clause-distinct c =
     let b = c.args.self.now in
     let P : List (ℕ × Node) → Type 0 = λ rows. AreDistinct (timers_in rows) in
-    subst P (sym (popped b.tick b.slots c.pop_front.result b.links c.pop_front.new.self b.has_lists b.in_order b.due
-    c.pop_front.ensures).rows) b.distinct
+    subst P (sym (popped b.tick b.slots c.pop_front.result b.links.lists c.pop_front.new.self.lists b.has_lists b.in_order b.due
+    c.pop_front.ensures.popped).rows) b.distinct
 
 pub invariant_of-self-clause-in_order : goal.invariant_of-self-clause-in_order
 invariant_of-self-clause-in_order c =
     let b = c.args.self.now in
-    (popped b.tick b.slots c.pop_front.result b.links c.pop_front.new.self b.has_lists b.in_order b.due c.pop_front.ensures).in_order
+    (popped b.tick b.slots c.pop_front.result b.links.lists c.pop_front.new.self.lists b.has_lists b.in_order b.due
+    c.pop_front.ensures.popped).in_order
 
 pub invariant_of-self-clause-due : goal.invariant_of-self-clause-due
 invariant_of-self-clause-due c =
     let b = c.args.self.now in
-    (popped b.tick b.slots c.pop_front.result b.links c.pop_front.new.self b.has_lists b.in_order b.due c.pop_front.ensures).past
+    (popped b.tick b.slots c.pop_front.result b.links.lists c.pop_front.new.self.lists b.has_lists b.in_order b.due
+    c.pop_front.ensures.popped).past
 
 pub returns-clause-rest : goal.returns-clause-rest
 returns-clause-rest c =
     let b = c.args.self.now in
-    let p = c.in_ok-_place.ensures in
-    rw p.2 (expired b.slots (c.in_ok-_place._place, c.in_ok-_place.node) p.0 b.links b.has_lists p.1 b.last_tick b.tick b.last_serial)
+    let p = c.in_ok-_place.ensures.popped in
+    rw (p.2, c.in_ok-_place.ensures.room) (ap (with_room b.links.room) (expired b.slots (c.in_ok-_place._place, c.in_ok-_place.node) p.0
+    b.links.lists b.has_lists p.1 b.last_tick b.tick b.last_serial))

@@ -14,4 +14,4 @@ not_empty (x ∷ xs) false f = ((λ h. omega arith), (λ h. refl))
 pub returns : goal.returns
 returns c =
     let b = c.args.self.now in
-    not_empty (list_at b.slots b.links) c.is_empty.result c.is_empty.ensures
+    not_empty (list_at b.slots b.links.lists) c.is_empty.result c.is_empty.ensures

@@ -11,8 +11,8 @@ use Rattle.timer_wheels.proofs.buckets.Buckets.list.Goals as goal
 pub loop-bucket-preserved : goal.loop-bucket-preserved
 loop-bucket-preserved c =
     let b = c.args.self.now in
-    let lists : length b.links ≡ b.slots + 1 = b.has_lists in
-    timers_below-more c.loop-bucket.bucket b.links c.loop-bucket.timers.items c.copy_list.new.timers.items
+    let lists : length b.links.lists ≡ b.slots + 1 = b.has_lists in
+    timers_below-more c.loop-bucket.bucket b.links.lists c.loop-bucket.timers.items c.copy_list.new.timers.items
     (omega arith) c.loop-bucket.invariant c.in_ok-copy_list.ensures
 
 sorted_rows : (n k : ℕ) (lists : List (List (ℕ × Node))) (items new : List Timer) → n ≤ k → k ≤ n → items ≡ timers_in (rows_below k lists)
@@ -24,5 +24,6 @@ sorted_rows n k lists items new a b i s =
 pub returns : goal.returns
 returns c =
     let b = c.args.self.now in
-    sorted_rows b.slots c.loop-bucket.bucket b.links c.loop-bucket.timers.items c.sort_timers.new.timers.items c.loop-bucket-test.false
+    sorted_rows b.slots c.loop-bucket.bucket b.links.lists c.loop-bucket.timers.items c.sort_timers.new.timers.items
+    c.loop-bucket-test.false
     c.loop-bucket.auto.bucket-end c.loop-bucket.invariant c.sort_timers.ensures

@@ -1,10 +1,10 @@
 use Rattle.std.proofs.Common.{◌≡◌, ◌+◌, ◌<◌, ℕ, List, length, sym, ◌∙◌, ap, subst}
 use Rattle.timer_base.specs.Order.{AreDistinct}
 use Rattle.timer_base.specs.Pending.{without_found}
-use Rattle.timer_base.specs.WheelState.{after_withdrawal}
+use Rattle.timer_base.specs.WheelState.{with_room, after_withdrawal}
 use Rattle.timer_links.specs.declared.node.Node.{Node}
 use Rattle.timer_links.specs.Lists.{list_at}
-use Rattle.timer_wheels.specs.Buckets.{state_of}
+use Rattle.timer_wheels.specs.Buckets.{roomless_state, state_of}
 use Rattle.timer_wheels.specs.BucketLists.{timers_in, rows_below, wheel_state, ArePending, AreDue, AreInOrder}
 use Rattle.timer_wheels.proofs.WithdrawLemmas.{withdrawn_used, withdrawn_length, withdrawn_pending, withdrawn_distinct, withdrawn_past, withdrawn_in_order, withdrawn_state, withdrawn_other}
 use Rattle.timer_wheels.proofs.buckets.Buckets.withdraw.Goals as goal
@@ -57,13 +57,14 @@ pub returns-clause-withdrawn : goal.returns-clause-withdrawn
 returns-clause-withdrawn c =
     let b = c.args.self.now in
     let P : List (List (ℕ × Node)) → Type 0 = λ lists. wheel_state b.slots b.last_tick b.tick b.last_serial lists
-    ≡ after_withdrawal c.args.handle (state_of b) in
-    subst P (sym c.take.ensures.taken) (withdrawn_state b c.args.handle c.keys_are_apart.ensures c.in_ok-timer.timer (sym c.look_due.ensures
-    ∙ c.in_ok-timer.was))
+    ≡ after_withdrawal c.args.handle (roomless_state b) in
+    rw c.take.ensures.room (ap (with_room b.links.room) (subst P (sym c.take.ensures.taken) (withdrawn_state b c.args.handle
+    c.keys_are_apart.ensures c.in_ok-timer.timer (sym c.look_due.ensures
+    ∙ c.in_ok-timer.was))))
 
 pub returns-clause-lists : goal.returns-clause-lists
 returns-clause-lists c =
     let b = c.args.self.now in
-    let P : List (List (ℕ × Node)) → Type 0 = λ lists. (s : ℕ) → s < b.slots → list_at s lists ≡ list_at s b.links in
+    let P : List (List (ℕ × Node)) → Type 0 = λ lists. (s : ℕ) → s < b.slots → list_at s lists ≡ list_at s b.links.lists in
     subst P (sym c.take.ensures.taken) (withdrawn_other b c.args.handle c.keys_are_apart.ensures c.in_ok-timer.timer (sym c.look_due.ensures
     ∙ c.in_ok-timer.was))

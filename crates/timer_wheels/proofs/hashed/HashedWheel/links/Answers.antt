@@ -1,3 +1,4 @@
+use Rattle.timer_wheels.proofs.RoomLemmas.{shows-with_room}
 use Rattle.timer_wheels.specs.Hashed.{slot_of, rounds_of}
 use Rattle.timer_wheels.proofs.ShownLemmas.{shows}
 use Rattle.timer_wheels.proofs.hashed.HashedWheel.links.Goals as goal
@@ -6,4 +7,5 @@ pub returns : goal.returns
 returns c =
     let w = c.args.self.now in
     let b = w.buckets in
-    shows b.slots (slot_of b.slots) (rounds_of b.slots b.tick) b.links b.has_lists w.in_buckets b.last_tick b.tick b.last_serial b.in_order
+    shows-with_room b.links.room _ _ _ _ _ (shows b.slots (slot_of b.slots) (rounds_of b.slots b.tick) b.links.lists b.has_lists
+    w.in_buckets b.last_tick b.tick b.last_serial b.in_order)

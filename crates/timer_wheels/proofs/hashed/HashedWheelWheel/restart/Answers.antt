@@ -22,8 +22,8 @@ invariant_of-self-clause-in_buckets c =
     let b = w.buckets in
     let found = c.bucket_and_rounds-bucket in
     let in_range : found.result.0 < b.slots = found.ensures.in_range in
-    let lists : length b.links ≡ b.slots + 1 = b.has_lists in
-    same_frame b.slots b.tick c.restart.new.self.slots c.restart.new.self.tick c.restart.new.self.links c.restart.ensures.frame.slots
+    let lists : length b.links.lists ≡ b.slots + 1 = b.has_lists in
+    same_frame b.slots b.tick c.restart.new.self.slots c.restart.new.self.tick c.restart.new.self.links.lists c.restart.ensures.frame.slots
     c.restart.ensures.frame.tick
-    (in_buckets b.slots b.tick found.result.0 found.result.1 c.args.handle.place c.args.timer b.links c.restart.new.self.links
+    (in_buckets b.slots b.tick found.result.0 found.result.1 c.args.handle.place c.args.timer b.links.lists c.restart.new.self.links.lists
     c.restart.result c.restart.ensures.lists (omega arith) (sym found.ensures.bucket) found.ensures.rounds w.in_buckets)

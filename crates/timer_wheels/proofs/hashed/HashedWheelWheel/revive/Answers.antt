@@ -21,7 +21,7 @@ invariant_of-self-clause-in_buckets c =
     let w = c.args.self.now in
     let b = w.buckets in
     let found = c.bucket_and_rounds-bucket in
-    same_frame b.slots b.tick c.revive.new.self.slots c.revive.new.self.tick c.revive.new.self.links c.revive.ensures.frame.slots
+    same_frame b.slots b.tick c.revive.new.self.slots c.revive.new.self.tick c.revive.new.self.links.lists c.revive.ensures.frame.slots
     c.revive.ensures.frame.tick
-    (in_buckets b.slots b.tick found.result.0 found.result.1 c.args.handle.place c.args.timer b.links c.revive.new.self.links
+    (in_buckets b.slots b.tick found.result.0 found.result.1 c.args.handle.place c.args.timer b.links.lists c.revive.new.self.links.lists
     c.revive.result c.revive.ensures.lists (sym found.ensures.bucket) found.ensures.rounds w.in_buckets)

@@ -18,6 +18,7 @@ pub invariant_of-self-clause-in_buckets : goal.invariant_of-self-clause-in_bucke
 invariant_of-self-clause-in_buckets c =
     let w = c.args.self.now in
     let b = w.buckets in
-    same_frame b.slots b.tick c.stop.new.self.slots c.stop.new.self.tick c.stop.new.self.links c.stop.ensures.frame.slots
+    same_frame b.slots b.tick c.stop.new.self.slots c.stop.new.self.tick c.stop.new.self.links.lists c.stop.ensures.frame.slots
     c.stop.ensures.frame.tick
-    (in_buckets b.slots b.tick c.args.handle.place b.links c.stop.new.self.links c.stop.result c.stop.ensures.lists w.in_buckets)
+    (in_buckets b.slots b.tick c.args.handle.place b.links.lists c.stop.new.self.links.lists c.stop.result c.stop.ensures.lists
+    w.in_buckets)

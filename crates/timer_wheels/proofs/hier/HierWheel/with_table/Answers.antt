@@ -14,5 +14,5 @@ invariant_of-result-clause-paid c = new_paid (radices c.args.table) c.in-Ok.buck
     c.in-Ok.ensures.state
 
 pub invariant_of-result-clause-marked : goal.invariant_of-result-clause-marked
-invariant_of-result-clause-marked c = marked_none c.in-Ok.buckets.slots c.new-2.result c.in-Ok.buckets.links c.new-2.ensures
+invariant_of-result-clause-marked c = marked_none c.in-Ok.buckets.slots c.new-2.result c.in-Ok.buckets.links.lists c.new-2.ensures
     (λ s h. ap (list_at s) c.in-Ok.ensures.lists ∙ list_at-replicate (c.buckets_of.result + 1) s)

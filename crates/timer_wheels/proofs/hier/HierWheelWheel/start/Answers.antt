@@ -32,7 +32,7 @@ invariant_of-self-2-clause-marked c =
     let l = c.bucket_of-list.result in
     let h = below l (slots (radices w.table)) b.slots (sym w.has_slots) c.bucket_of-list.ensures.in_range in
     let P : List (List (ℕ × Node)) → Type 0 = AreMarked b.slots c.insert.new.self in
-    let Q : ℕ → Type 0 = λ k. AreMarked k c.insert.new.self c.start.new.self.links in
+    let Q : ℕ → Type 0 = λ k. AreMarked k c.insert.new.self c.start.new.self.links.lists in
     subst Q (sym c.start.ensures.frame.slots) (subst P (sym c.in_ok-handle.ensures.lists)
     (marked_with_row b.slots w.occupied c.insert.new.self l (
       c.in_ok-handle.handle.place,
@@ -40,8 +40,8 @@ invariant_of-self-2-clause-marked c =
         timer = c.args.timer;
         rounds = 0;
       },
-    ) b.links
-    h (in_lists l (length b.links) b.slots b.has_lists h) c.insert.ensures.here c.insert.ensures.others w.marked))
+    ) b.links.lists
+    h (in_lists l (length b.links.lists) b.slots b.has_lists h) c.insert.ensures.here c.insert.ensures.others w.marked))
 
 pub invariant_of-self-2-clause-few_starts : goal.invariant_of-self-2-clause-few_starts
 invariant_of-self-2-clause-few_starts c =

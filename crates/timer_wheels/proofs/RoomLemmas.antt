@@ -1,0 +1,52 @@
+-- Room changes nothing of what a wheel says of its timers.
+use Rattle.std.proofs.Common.{◌≡◌, ℕ, zero, suc, List, refl, sym, ◌∙◌, ap}
+use Rattle.std.specs.Prelude.{Option, Some, None}
+use Rattle.timer_base.specs.declared.timer.Timer.{Timer}
+use Rattle.timer_base.specs.WakeUps.{IsWakeUp, IsQuietUntil}
+use Rattle.timer_base.specs.WheelState.{WheelState, after_tick, after_ticks, with_room}
+use Rattle.timer_links.specs.declared.node.Node.{Node}
+use Rattle.timer_wheels.specs.Hashed.{IsNextSweep}
+use Rattle.timer_wheels.specs.Leap.{Leaps}
+use Rattle.timer_wheels.specs.Shown.{ShowsBuckets}
+
+pub wake_up-with_room : (room tick : ℕ) (w : WheelState) → IsWakeUp tick w → IsWakeUp tick (with_room room w)
+wake_up-with_room room tick w h = record {
+  some = h.some;
+  later = h.later;
+  in_time = h.in_time;
+}
+
+pub quiet-with_room : (room : ℕ) (found : Option ℕ) (w : WheelState) → IsQuietUntil found w → IsQuietUntil found (with_room room w)
+quiet-with_room room None w h = h
+quiet-with_room room (Some tick) w h = wake_up-with_room room tick w h
+
+pub next_sweep-with_room : (room n tick : ℕ) (w : WheelState) → IsNextSweep n tick w → IsNextSweep n tick (with_room room w)
+next_sweep-with_room room n tick w h = record {
+  in_turn = h.in_turn;
+  some = h.some;
+  none_before = h.none_before;
+}
+
+pub shows-with_room : (room n : ℕ) (bucket_of rounds_of : Timer → ℕ) (w : WheelState) (lists : List (List (ℕ × Node)))
+    → ShowsBuckets n bucket_of rounds_of w lists → ShowsBuckets n bucket_of rounds_of (with_room room w) lists
+shows-with_room room n bucket_of rounds_of w lists h = record {
+  count = h.count;
+  buckets = h.buckets;
+  due = h.due;
+}
+
+pub after_ticks-with_room : (n room : ℕ) (w : WheelState) → after_ticks n (with_room room w) ≡ with_room room (after_ticks n w)
+after_ticks-with_room zero room w = refl
+after_ticks-with_room (suc n) room w = ap after_tick (after_ticks-with_room n room w)
+
+pub leaps-with_room : (room : ℕ) (table : List ℕ) (moves : ℕ) (old new : WheelState) → Leaps table moves old new
+    → Leaps table moves (with_room room old) (with_room room new)
+leaps-with_room room table moves old new h = record {
+  passed = h.passed;
+  now_is = h.now_is;
+  ticked = ap (with_room room) h.ticked ∙ sym (after_ticks-with_room h.passed room old);
+  quiet = λ n l. ap (λ (w : WheelState). w.due) (after_ticks-with_room n room old) ∙ h.quiet n l;
+  kept = h.kept;
+  moves_are = h.moves_are;
+  pays = h.pays;
+}
