@@ -98,7 +98,7 @@ fn push_list(
     list: usize,
     naming: Naming,
 ) -> Result<(), OutOfMemory>
-    requires { list < length links.now }
+    requires { list < length links.now.lists }
     ensures indented { OnOk result (HasGrownByIndented text.old.items text.new.items) }
     ensures kept { HasGrown text.old.items text.new.items }
 {
