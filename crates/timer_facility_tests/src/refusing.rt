@@ -1,4 +1,6 @@
 //! A wheel for tests, whose next start runs out of memory if `refuses` says so.
+ghost use Rattle.timer_base.specs.WheelState.{with_room, with_room-well_formed};
+
 use timer_base::{Handle, OutOfMemory, Timer, Wheel};
 
 /// A wheel whose next start fails if `refuses` is set, and only that one.
@@ -9,7 +11,8 @@ pub struct Refusing<W> {
 }
 
 impl<W: Wheel> Wheel for Refusing<W> {
-    ghost state = { λ w. W.state w.wheel };
+    // With no room: a start may be refused at any time.
+    ghost state = { λ w. with_room 0 (W.state w.wheel) };
 
     fn last_tick(&self) -> u64 {
         self.wheel.last_tick()
@@ -91,5 +94,5 @@ impl<W: Wheel> Wheel for Refusing<W> {
         self.wheel.clear();
     }
 
-    ghost well_formed = { λ w. W.well_formed w.wheel };
+    ghost well_formed = { λ w. with_room-well_formed 0 (W.state w.wheel) (W.well_formed w.wheel) };
 }
