@@ -233,12 +233,13 @@ enum timers_desk_status timers_desk_settle(struct timers_desk *d, size_t client,
 enum timers_desk_status timers_desk_end(struct timers_desk *d, size_t client, struct timers_line *line, size_t *unread);
 
 /* Ends the words of every client, each as timers_desk_end does: lines[0] to lines[clients - 1] are the clients' lines, all of
- * them handed over. Those that can be ended are ended, whatever is left of the others, and the call may be repeated. Does
- * not allocate. TIMERS_DESK_OK: the words of all have ended.
+ * them handed over. Those that can be ended are ended, whatever is left of the others, and the call may be repeated. A line
+ * that was freed is passed over, since nobody reads its words. Does not allocate. TIMERS_DESK_OK: the words of all whose
+ * line was not freed have ended.
  * TIMERS_DESK_NOT_OPEN (the desk), TIMERS_DESK_OUT_OF_RANGE (`clients` is not the number of clients): nothing has changed.
  * Otherwise it writes to `*client` the first client whose words have not ended, whose line is as it was, and returns why:
- * TIMERS_DESK_NOT_OPEN (the line), TIMERS_DESK_OTHER_LINE (it is another client's), TIMERS_DESK_NOT_FINISHED,
- * TIMERS_DESK_OTHER_LINE (the desk was freed before it finished), TIMERS_DESK_LEFT. */
+ * TIMERS_DESK_OTHER_LINE (it is another client's), TIMERS_DESK_NOT_FINISHED, TIMERS_DESK_OTHER_LINE (the desk was freed
+ * before it finished), TIMERS_DESK_LEFT. */
 enum timers_desk_status timers_desk_end_all(struct timers_desk *d, struct timers_line *lines, size_t clients, size_t *client);
 
 /* The present tick. 0 if it holds no desk. */

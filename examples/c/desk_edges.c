@@ -317,9 +317,10 @@ static void ends_all(void)
 	c = 77;
 	CHECK(timers_desk_end_all(&d, l, 3, &c) == TIMERS_DESK_OK && c == 77 && !timers_line_ended(&l[1]));
 	CHECK(timers_line_receive(&l[1], &w) && timers_line_receive(&l[1], &w) && w.action == 2 && timers_line_ended(&l[1]));
-	/* a line that was freed is named, and so is none where there is no desk */
+	/* a line that was freed is passed over, and no client is named if there is no desk */
 	timers_line_free(&l[1]);
-	CHECK(timers_desk_end_all(&d, l, 3, &c) == TIMERS_DESK_NOT_OPEN && c == 1);
+	CHECK(timers_desk_end(&d, 1, &l[1], &c) == TIMERS_DESK_NOT_OPEN && c == 77);
+	CHECK(timers_desk_end_all(&d, l, 3, &c) == TIMERS_DESK_OK && c == 77);
 	timers_desk_free(&d);
 	c = 77;
 	CHECK(timers_desk_end_all(&d, l, 3, &c) == TIMERS_DESK_NOT_OPEN && c == 77);

@@ -8,7 +8,7 @@ use Rattle.timer_facility.specs.Facility.{FacilityView}
 use Rattle.timer_desk.specs.declared.report.Done.{Done}
 use Rattle.timer_desk.specs.Inlet.{LineKind}
 use Rattle.timer_desk.specs.Backlog.{BacklogState, notices_for}
-use Rattle.timer_desk.specs.Report.{Side, side_of, got_but_held, HeldIsLast, Tells, asked}
+use Rattle.timer_desk.specs.Report.{Side, side_of, got_but_held, HeldIsLast, ClientAccount, asked}
 use Rattle.timer_desk.specs.Desk.{IsDesk}
 use Rattle.timer_desk.proofs.ReportHeld.{held_last}
 
@@ -22,8 +22,8 @@ is_other : (m n : ℕ) → (m == n) ≡ false → n ≢ m
 is_other m n h = grind (arith, nat_tests)
 
 -- the side after a report ends in the held request
-pub Tells-held : (c : ℕ) (report : List Done) (a b : Side) → Tells c report a b → HeldIsLast b
-Tells-held c report a b t = held_last b (got_but_held a ++ asked c report) t.asked_are
+pub ClientAccount-held : (c : ℕ) (report : List Done) (a b : Side) → ClientAccount c report a b → HeldIsLast b
+ClientAccount-held c report a b t = held_last b (got_but_held a ++ asked c report) t.asked_are
 
 -- no notice waits, so nothing but the pending timers needs room
 none_for : (f : FacilityView) (c : ℕ) → f.waiting ≡ [] → notices_for c f.waiting ≡ 0

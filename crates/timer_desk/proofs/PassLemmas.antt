@@ -20,8 +20,8 @@ use Rattle.timer_desk.specs.Backlog.{BacklogState, with_notices, HasRoom}
 use Rattle.timer_desk.specs.Report.{Runs, events}
 use Rattle.timer_desk.specs.Right.{IsRightPass}
 use Rattle.timer_desk.specs.Desk.{IsDesk, AddsStep}
-use Rattle.timer_desk.proofs.HandingLemmas.{desk_of, of_pass, outs-notices, events-notices, steps-notices, behind-notices, Told-noted, IsDesk-noted, added_are}
-use Rattle.timer_desk.proofs.TickingLemmas.{HasRoom-ticks, clients-ticks}
+use Rattle.timer_desk.proofs.DispatchLemmas.{desk_of, of_pass, outs-notices, events-notices, steps-notices, behind-notices, ReportHolds-noted, IsDesk-noted, added_are}
+use Rattle.timer_desk.proofs.TicksLemmas.{HasRoom-ticks, clients-ticks}
 
 -- what the contract of the facility's `ticks` gives
 pub record HasTicked (limit : ℕ) (f g : FacilityView) (r : Result ℕ TickFault) : Type 0 where
@@ -109,7 +109,7 @@ module _ {I : Type 0} (kind : LineKind I) (hands : (t : FacilityState) → Hands
     added = added_are kind before after (Dones.Passed limit r) g g.waiting refl added;
     step = ap (λ xs. Steps.Ticks limit ∷ xs) (steps-notices g.waiting);
     behind = behind-notices g.waiting;
-    told = Told-noted kind (Dones.Passed limit r) g.waiting f f' inlets bs bs' (of_pass limit r) d noted room
+    told = ReportHolds-noted kind (Dones.Passed limit r) g.waiting f f' inlets bs bs' (of_pass limit r) d noted room
         (subst (Runs (Dones.Passed limit r ∷ map Dones.Noticed g.waiting) f.state) (sym (ap (λ (v : FacilityView). v.state) left))
         (Runs-passed limit f g r h d.nothing_waits)) (λ is. absurd (cc)) (right_pass limit f g r h);
   }

@@ -5,7 +5,7 @@ use Rattle.std.proofs.lemmas.Grind.{flat_map-append}
 use Rattle.std.proofs.lemmas.List.{take_more, set-get_or}
 use Rattle.timer_desk.specs.declared.progress.Progress.{Progress}
 use Rattle.timer_desk.specs.declared.report.Done.{Done}
-use Rattle.timer_desk.specs.Driving.{left_for, all_left, HasCounted}
+use Rattle.timer_desk.specs.Driver.{left_for, all_left, HasCounted}
 use Rattle.timer_desk.specs.Report.{asked, asked_in, flushed, flushed_in}
 
 all_left-set : (goal : ℕ) (ps : List Progress) (c : ℕ) (x new : Progress) → c < length ps → x ≡ get_or ps c x

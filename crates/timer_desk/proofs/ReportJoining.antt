@@ -16,11 +16,11 @@ use Rattle.timer_desk.specs.Backlog.{BacklogState}
 use Rattle.timer_facility.specs.Facility.{NeedsMemory, view_after}
 use Rattle.timer_facility.specs.Ticked.{ticks, AreTicked}
 use Rattle.timer_desk.specs.Extends.{Extends, Extends-refl, Extends-front, Extends-is, Extends-trans}
-use Rattle.timer_desk.specs.Report.{Side, got_but_held, held_list, is_held, held_after_serve, held_after, may_hold, HeldIsLast, Tells, Runs, asked, words, flushed, events, outs, asked_in, words_in, events_in, outs_in}
-use Rattle.timer_desk.specs.Right.{AtEach, IsRightServe, IsRightMember, IsNeeded, outbox_after, pending_after, IsRight, IsRightClose, IsRightPass}
-use Rattle.timer_desk.specs.Desk.{DeskState, clients_of, side_at, ToldSides, Told, AreInTime, AreOwed, AreBehind}
+use Rattle.timer_desk.specs.Report.{Side, got_but_held, held_list, is_held, held_after_serve, held_after, may_hold, HeldIsLast, ClientAccount, Runs, asked, words, flushed, events, outs, asked_in, words_in, events_in, outs_in}
+use Rattle.timer_desk.specs.Right.{AtEach, ServeRespectsRoom, MemberRespectsRoom, IsNeeded, outbox_after, pending_after, RespectsRoom, IsRightClose, IsRightPass}
+use Rattle.timer_desk.specs.Desk.{DeskState, clients_of, side_at, SidesHold, ReportHolds, AreInTime, AreOwed, AreBehind}
 use Rattle.timer_desk.proofs.ReportHeld.{got_but_held_is}
-use Rattle.timer_desk.proofs.HoldingLemmas.{Holds-joined}
+use Rattle.timer_desk.proofs.HeldLemmas.{Holds-joined}
 
 flushed-append : (c : ℕ) (r q : List Done) → flushed c (r ++ q) ≡ flushed c r + flushed c q
 flushed-append c [] q = omega arith
@@ -112,8 +112,8 @@ none_joined c r q x y z f g (inr v) h =
     g (ap (λ b. may_hold c (is_held b) q) (f v) ∙ ap (λ b. may_hold c b q) (sym v) ∙ sym (may_hold-append c (is_held x.backlog.held) r q)
     ∙ h)
 
-pub Tells-joined : (c : ℕ) (r q : List Done) (x y z : Side) → Tells c r x y → Tells c q y z → Tells c (r ++ q) x z
-Tells-joined c r q x y z f g =
+pub ClientAccount-joined : (c : ℕ) (r q : List Done) (x y z : Side) → ClientAccount c r x y → ClientAccount c q y z → ClientAccount c (r ++ q) x z
+ClientAccount-joined c r q x y z f g =
     let split : asked c (r ++ q) ≡ asked c r ++ asked c q = flat_map-append (asked_in c) r q in
     let ws : words c (r ++ q) ≡ words c r ++ words c q = flat_map-append (words_in c) r q in
     let held : List Numbered = held_list z.backlog.held in
@@ -139,16 +139,16 @@ Tells-joined c r q x y z f g =
 -- Right members.
 
 serve_moved : (room len len' left left' p p' : ℕ) (served : Served) → len ≡ len' → left' ≤ left → p ≡ p'
-    → IsRightServe room len left p served → IsRightServe room len' left' p' served
+    → ServeRespectsRoom room len left p served → ServeRespectsRoom room len' left' p' served
 serve_moved room len len' left left' p p' NoRoom a b e h = omega arith
 serve_moved room len len' left left' p p' Idle a b e h = (omega arith, omega arith)
 serve_moved room len len' left left' p p' NoMemory a b e h = omega arith
 serve_moved room len len' left left' p p' (Did numbered word) a b e h = let fits = h.0 in (omega arith, h.1)
 
 pub moved : (c room room' len len' left left' p p' : ℕ) (d : Done) → room ≡ room' → len ≡ len' → left' ≤ left → p ≡ p'
-    → IsRightMember c room len left p d → IsRightMember c room' len' left' p' d
+    → MemberRespectsRoom c room len left p d → MemberRespectsRoom c room' len' left' p' d
 moved c room room' len len' left left' p p' (Dones.Served client served) r a b e h =
-    λ is. subst (λ n. IsRightServe n len' left' p' served) r (serve_moved room len len' left left' p p' served a b e (h is))
+    λ is. subst (λ n. ServeRespectsRoom n len' left' p' served) r (serve_moved room len len' left left' p p' served a b e (h is))
 moved c room room' len len' left left' p p' (Dones.Ticked result) r a b e h = tt
 moved c room room' len len' left left' p p' (Dones.Passed limit passed) r a b e h = tt
 moved c room room' len len' left left' p p' (Dones.Closed result) r a b e h = tt
@@ -196,7 +196,7 @@ state-joined s t r past e =
     ap (λ v. (run v (events past)).state) e ∙ sym (state-append s (events r) (events past))
     ∙ ap (λ ps. (run s ps).state) (sym (flat_map-append events_in r past))
 
-module _ (refuses : Bool) (c : ℕ) (r q : List Done) (x y z : Side) (s t : FacilityState) (f : Tells c r x y) (g : Tells c q y z) (e : t
+module _ (refuses : Bool) (c : ℕ) (r q : List Done) (x y z : Side) (s t : FacilityState) (f : ClientAccount c r x y) (g : ClientAccount c q y z) (e : t
     ≡ (run s (events r)).state) where
   outbox-joined : (past : List Done) → outbox_after c y past ≡ outbox_after c x (r ++ past)
   outbox-joined past =
@@ -212,8 +212,8 @@ module _ (refuses : Bool) (c : ℕ) (r q : List Done) (x y z : Side) (s t : Faci
   pending-joined : (past : List Done) → pending_after c t past ≡ pending_after c s (r ++ past)
   pending-joined past = ap (λ v. pending_of v c) (state-joined s t r past e)
 
-  right_before : (past : List Done) (d : Done) (later : List Done) → IsRight refuses c s x y past d later
-      → IsRight refuses c s x z past d (later ++ q)
+  right_before : (past : List Done) (d : Done) (later : List Done) → RespectsRoom refuses c s x y past d later
+      → RespectsRoom refuses c s x z past d (later ++ q)
   right_before past d later h = record {
     served = h.served;
     needed = λ is. IsNeeded-longer refuses c _ _ _
@@ -225,8 +225,8 @@ module _ (refuses : Bool) (c : ℕ) (r q : List Done) (x y z : Side) (s t : Faci
     room = h.room;
   }
 
-  right_behind : (past : List Done) (d : Done) (later : List Done) → IsRight refuses c t y z past d later
-      → IsRight refuses c s x z (r ++ past) d later
+  right_behind : (past : List Done) (d : Done) (later : List Done) → RespectsRoom refuses c t y z past d later
+      → RespectsRoom refuses c s x z (r ++ past) d later
   right_behind past d later h = record {
     served =
         let le = f.fewer_left in
@@ -241,10 +241,10 @@ module _ (refuses : Bool) (c : ℕ) (r q : List Done) (x y z : Side) (s t : Faci
         omega arith;
   }
 
-  Right-joined : AtEach (IsRight refuses c s x y) [] r → AtEach (IsRight refuses c t y z) [] q
-      → AtEach (IsRight refuses c s x z) [] (r ++ q)
-  Right-joined h k = AtEach-joined (IsRight refuses c s x y) (IsRight refuses c t y z)
-      (IsRight refuses c s x z) r q right_before right_behind h k
+  Right-joined : AtEach (RespectsRoom refuses c s x y) [] r → AtEach (RespectsRoom refuses c t y z) [] q
+      → AtEach (RespectsRoom refuses c s x z) [] (r ++ q)
+  Right-joined h k = AtEach-joined (RespectsRoom refuses c s x y) (RespectsRoom refuses c t y z)
+      (RespectsRoom refuses c s x z) r q right_before right_behind h k
 
 closes-joined : (r q : List Done) (s t : FacilityState) → t ≡ (run s (events r)).state → AtEach (IsRightClose s) [] r
     → AtEach (IsRightClose t) [] q → AtEach (IsRightClose s) [] (r ++ q)
@@ -334,17 +334,17 @@ in_time-joined s t r q runs h k = in_time-append s [] r q h (subst (λ p. AreInT
 -- The desk.
 
 module _ {I : Type 0} (kind : LineKind I) where
-  pub ToldSides-joined : (r q : List Done) (x y z : DeskState I) → ToldSides kind r x y → ToldSides kind q y z → ToldSides kind (r ++ q) x z
-  ToldSides-joined r q x y z f g = record {
+  pub SidesHold-joined : (r q : List Done) (x y z : DeskState I) → SidesHold kind r x y → SidesHold kind q y z → SidesHold kind (r ++ q) x z
+  SidesHold-joined r q x y z f g = record {
     same_clients = g.same_clients ∙ f.same_clients;
     lines = λ c i low. kind.transitive (get_or x.inlets c i) (get_or y.inlets c i) (get_or z.inlets c i) (f.lines c i low) (let e =
         f.same_clients in g.lines c i (omega arith));
-    sides = λ c i b low. Tells-joined c r q _ _ _ (f.sides c i b low) (let e = f.same_clients in g.sides c i b (omega arith));
+    sides = λ c i b low. ClientAccount-joined c r q _ _ _ (f.sides c i b low) (let e = f.same_clients in g.sides c i b (omega arith));
   }
 
-  pub Told-joined : (r q : List Done) (x y z : DeskState I) → Told kind r x y → Told kind q y z → Told kind (r ++ q) x z
-  Told-joined r q x y z f g = record {
-    clients = ToldSides-joined r q x y z f.clients g.clients;
+  pub ReportHolds-joined : (r q : List Done) (x y z : DeskState I) → ReportHolds kind r x y → ReportHolds kind q y z → ReportHolds kind (r ++ q) x z
+  ReportHolds-joined r q x y z f g = record {
+    clients = SidesHold-joined r q x y z f.clients g.clients;
     facility = Runs-joined r q x.facility y.facility z.facility f.facility g.facility;
     in_time = in_time-joined x.facility y.facility r q f.facility f.in_time g.in_time;
     right = λ c i b low.
@@ -366,8 +366,8 @@ pub not_held : (held : Option Numbered) → is_held held ≡ false → held ≡ 
 not_held (Some numbered) h = absurd (cc)
 not_held None h = refl
 
-Tells-nothing : (c : ℕ) (x : Side) → HeldIsLast x → Tells c [] x x
-Tells-nothing c x last = record {
+ClientAccount-nothing : (c : ℕ) (x : Side) → HeldIsLast x → ClientAccount c [] x x
+ClientAccount-nothing c x last = record {
   held_first = Extends-refl (held_list x.backlog.held);
   none_held = not_held x.backlog.held;
   asked_are = ap (λ xs. xs ++ held_list x.backlog.held) (append-nil (got_but_held x)) ∙ last;
@@ -378,13 +378,13 @@ Tells-nothing c x last = record {
 }
 
 module _ {I : Type 0} (kind : LineKind I) where
-  pub Told-nothing : (x : DeskState I)
-      → ((c : ℕ) (i : I) (b : BacklogState) → c < clients_of x → HeldIsLast (side_at kind x c i b)) → Told kind [] x x
-  Told-nothing x last = record {
+  pub ReportHolds-nothing : (x : DeskState I)
+      → ((c : ℕ) (i : I) (b : BacklogState) → c < clients_of x → HeldIsLast (side_at kind x c i b)) → ReportHolds kind [] x x
+  ReportHolds-nothing x last = record {
     clients = record {
       same_clients = refl;
       lines = λ c i low. kind.reflexive (get_or x.inlets c i);
-      sides = λ c i b low. Tells-nothing c (side_at kind x c i b) (last c i b low);
+      sides = λ c i b low. ClientAccount-nothing c (side_at kind x c i b) (last c i b low);
     };
     facility = record { outs_are = refl; state_is = refl };
     in_time = refl;

@@ -12,15 +12,15 @@ use Rattle.timer_desk.specs.declared.report.Done.{Done}
 use Rattle.timer_desk.specs.declared.report.Done.TheVariants as Dones
 use Rattle.timer_desk.specs.Inlet.{LineKind}
 use Rattle.timer_desk.specs.Backlog.{BacklogState, notices_for}
-use Rattle.timer_desk.specs.Asking.{RanOutOfMemory}
+use Rattle.timer_desk.specs.Forward.{RanOutOfMemory}
 use Rattle.timer_desk.specs.Extends.{Extends, Extends-refl}
-use Rattle.timer_desk.specs.Report.{Side, side_of, got_but_held, held_list, is_held, HeldIsLast, left_of, Tells, Runs, asked, asked_in, request_in, words, words_in, word_in, flushed, flushed_in, held_after, held_after_serve}
-use Rattle.timer_desk.specs.Right.{IsRight, IsRightMember, IsNeeded, IsRightClose, IsRightPass, outbox_after, pending_after}
-use Rattle.timer_desk.specs.Desk.{IsDesk, Told, AreInTime}
+use Rattle.timer_desk.specs.Report.{Side, side_of, got_but_held, held_list, is_held, HeldIsLast, left_of, ClientAccount, Runs, asked, asked_in, request_in, words, words_in, word_in, flushed, flushed_in, held_after, held_after_serve}
+use Rattle.timer_desk.specs.Right.{RespectsRoom, MemberRespectsRoom, IsNeeded, IsRightClose, IsRightPass, outbox_after, pending_after}
+use Rattle.timer_desk.specs.Desk.{IsDesk, ReportHolds, AreInTime}
 use Rattle.timer_desk.proofs.ReportJoining.{not_held, moved}
-use Rattle.timer_desk.proofs.HandingLemmas.{desk_of}
-use Rattle.timer_desk.specs.Holding.{HoldsAfter, Holds}
-use Rattle.timer_desk.proofs.HoldingLemmas.{same_held, serve_holds}
+use Rattle.timer_desk.proofs.DispatchLemmas.{desk_of}
+use Rattle.timer_desk.specs.Held.{HoldsAfter, Holds}
+use Rattle.timer_desk.proofs.HeldLemmas.{same_held, serve_holds}
 
 either : (b : Bool) → (b ≡ true) ⊎ (b ≡ false)
 either b = elim b as (λ v. (v ≡ true) ⊎ (v ≡ false)) [ true ↦ inl refl | false ↦ inr refl ]
@@ -40,9 +40,9 @@ pub record IsOf (c : ℕ) (done : Done) : Type 0 where
   pub no_word : (k : ℕ) → k ≢ c → words_in k done ≡ []
   pub none_flushed : (k : ℕ) → k ≢ c → flushed_in k done ≡ 0
   pub same_held : (k : ℕ) (before : Bool) → k ≢ c → held_after k before done ≡ before
-  pub is_right : (k room len left pending : ℕ) → k ≢ c → IsRightMember k room len left pending done
+  pub is_right : (k room len left pending : ℕ) → k ≢ c → MemberRespectsRoom k room len left pending done
   pub no_serve : (k : ℕ) → k ≢ c → done ≡ Dones.Served k NoMemory → ⊥
-  pub holds_here : (may_refuse : Bool) (s : FacilityState) (a b : Side) → Tells c (done ∷ []) a b
+  pub holds_here : (may_refuse : Bool) (s : FacilityState) (a b : Side) → ClientAccount c (done ∷ []) a b
       → (done ≡ Dones.Served c NoMemory → RanOutOfMemory may_refuse c s b.backlog.held)
       → HoldsAfter may_refuse c s a.backlog.held done b.backlog.held
   pub holds_there : (may_refuse : Bool) (k : ℕ) (s : FacilityState) (held : Option Numbered) → k ≢ c
@@ -91,8 +91,8 @@ of_flush c count = record {
 }
 
 -- a member of another client says nothing of a side
-Tells-other : (c k : ℕ) (done : Done) (a : Side) → IsOf c done → k ≢ c → HeldIsLast a → Tells k (done ∷ []) a a
-Tells-other c k done a o other last =
+ClientAccount-other : (c k : ℕ) (done : Done) (a : Side) → IsOf c done → k ≢ c → HeldIsLast a → ClientAccount k (done ∷ []) a a
+ClientAccount-other c k done a o other last =
     let none : asked k (done ∷ []) ≡ [] = ap (λ xs. xs ++ []) (o.no_request k other) in
     let held : List Numbered = held_list a.backlog.held in record {
       held_first = subst (λ xs. Extends held (xs ++ held)) (sym none) (Extends-refl held);
@@ -106,7 +106,7 @@ Tells-other c k done a o other last =
     }
 
 -- the outbox after a report has the length that the report gives
-outbox-told : (c : ℕ) (report : List Done) (a b : Side) → Tells c report a b → outbox_after c a report ≡ length b.backlog.outbox
+outbox-told : (c : ℕ) (report : List Done) (a b : Side) → ClientAccount c report a b → outbox_after c a report ≡ length b.backlog.outbox
 outbox-told c report a b t =
     let w = ap (λ xs. length xs) t.words_are in
     let wa = length-append (a.given ++ a.backlog.outbox) (words c report) in
@@ -125,17 +125,17 @@ same_served c x y h = cc
 
 module _ {I : Type 0} (kind : LineKind I) where
   -- the report of a desk whose client c alone was served or had its words flushed
-  pub Told-one : (c : ℕ) (done : Done) (f f' : FacilityView) (inlets : List I) (backlogs : List BacklogState) (i i' : I)
+  pub ReportHolds-one : (c : ℕ) (done : Done) (f f' : FacilityView) (inlets : List I) (backlogs : List BacklogState) (i i' : I)
       (b b' : BacklogState)
       → IsOf c done → IsDesk kind f inlets backlogs → c < length inlets
       → i ≡ get_or inlets c i → b ≡ get_or backlogs c b
-      → kind.same i i' → Tells c (done ∷ []) (side_of kind i b) (side_of kind i' b') → Runs (done ∷ []) f.state f'.state
-      → IsRightMember c b.room (length b.outbox) (left_of (side_of kind i b)) (pending_of f.state c) done
+      → kind.same i i' → ClientAccount c (done ∷ []) (side_of kind i b) (side_of kind i' b') → Runs (done ∷ []) f.state f'.state
+      → MemberRespectsRoom c b.room (length b.outbox) (left_of (side_of kind i b)) (pending_of f.state c) done
       → (done ≡ Dones.Served c NoMemory → RanOutOfMemory kind.take_may_refuse c f.state b'.held)
       → length b'.outbox + pending_of f'.state c ≤ b'.room
       → ((k : ℕ) → pending_of f'.state k ≤ pending_of f.state k + (if c == k then 1 else 0))
-      → Told kind (done ∷ []) (desk_of f inlets backlogs) (desk_of f' (slice_set inlets c i') (slice_set backlogs c b'))
-  Told-one c done f f' inlets backlogs i i' b b' o d low is_i is_b line tells runs right wants fits adds = record {
+      → ReportHolds kind (done ∷ []) (desk_of f inlets backlogs) (desk_of f' (slice_set inlets c i') (slice_set backlogs c b'))
+  ReportHolds-one c done f f' inlets backlogs i i' b b' o d low is_i is_b line tells runs right wants fits adds = record {
     clients = record {
       same_clients = length-set inlets c i';
       lines = λ k j l. line_at k j l (either (c == k));
@@ -174,25 +174,25 @@ module _ {I : Type 0} (kind : LineKind I) where
           (kind.reflexive (get_or inlets k j))
 
       side_told : (k : ℕ) (j : I) (e : BacklogState) → k < length inlets → (c == k) ≡ true ⊎ (c == k) ≡ false
-          → Tells k (done ∷ []) (side_of kind (get_or inlets k j) (get_or backlogs k e))
+          → ClientAccount k (done ∷ []) (side_of kind (get_or inlets k j) (get_or backlogs k e))
           (side_of kind (get_or (slice_set inlets c i') k j) (get_or (slice_set backlogs c b') k e))
       side_told k j e l (inl h) =
           let is : k ≡ c = is_equal c k h in
-          subst (λ x. Tells k (done ∷ []) (side_of kind x (get_or backlogs k e))
+          subst (λ x. ClientAccount k (done ∷ []) (side_of kind x (get_or backlogs k e))
           (side_of kind (get_or (slice_set inlets c i') k j) (get_or (slice_set backlogs c b') k e))) (sym (inlet_was k j is))
-          (subst (λ y. Tells k (done ∷ []) (side_of kind i y) (side_of kind (get_or (slice_set inlets c i') k j)
+          (subst (λ y. ClientAccount k (done ∷ []) (side_of kind i y) (side_of kind (get_or (slice_set inlets c i') k j)
           (get_or (slice_set backlogs c b') k e))) (sym (backlog_was k e is))
-          (subst (λ x. Tells k (done ∷ []) (side_of kind i b) (side_of kind x (get_or (slice_set backlogs c b') k e)))
+          (subst (λ x. ClientAccount k (done ∷ []) (side_of kind i b) (side_of kind x (get_or (slice_set backlogs c b') k e)))
           (sym (inlet_here k j is))
-          (subst (λ y. Tells k (done ∷ []) (side_of kind i b) (side_of kind i' y)) (sym (backlog_here k e is))
-          (subst (λ n. Tells n (done ∷ []) (side_of kind i b) (side_of kind i' b')) (sym is) tells))))
+          (subst (λ y. ClientAccount k (done ∷ []) (side_of kind i b) (side_of kind i' y)) (sym (backlog_here k e is))
+          (subst (λ n. ClientAccount n (done ∷ []) (side_of kind i b) (side_of kind i' b')) (sym is) tells))))
       side_told k j e l (inr h) =
           let other : k ≢ c = is_other c k h in
-          subst (λ x. Tells k (done ∷ []) (side_of kind (get_or inlets k j) (get_or backlogs k e))
+          subst (λ x. ClientAccount k (done ∷ []) (side_of kind (get_or inlets k j) (get_or backlogs k e))
           (side_of kind x (get_or (slice_set backlogs c b') k e))) (sym (get_or-set_other inlets c k i' j other))
-          (subst (λ y. Tells k (done ∷ []) (side_of kind (get_or inlets k j) (get_or backlogs k e)) (side_of kind (get_or inlets k j) y))
+          (subst (λ y. ClientAccount k (done ∷ []) (side_of kind (get_or inlets k j) (get_or backlogs k e)) (side_of kind (get_or inlets k j) y))
           (sym (get_or-set_other backlogs c k b' e other))
-          (Tells-other c k done (side_of kind (get_or inlets k j) (get_or backlogs k e)) o other (d.held k j e l)))
+          (ClientAccount-other c k done (side_of kind (get_or inlets k j) (get_or backlogs k e)) o other (d.held k j e l)))
 
       holds_at : (k : ℕ) (e : BacklogState) → k < length inlets → (c == k) ≡ true ⊎ (c == k) ≡ false
           → Holds kind.take_may_refuse k f.state (get_or backlogs k e).held [] (done ∷ []) (get_or (slice_set backlogs c b') k e).held
@@ -214,22 +214,22 @@ module _ {I : Type 0} (kind : LineKind I) where
       state_after k = ap (λ v. pending_of v k) (sym runs.state_is)
 
       right_at : (k : ℕ) (j : I) (e : BacklogState) → k < length inlets → (c == k) ≡ true ⊎ (c == k) ≡ false
-          → IsRight kind.take_may_refuse k f.state (side_of kind (get_or inlets k j) (get_or backlogs k e))
+          → RespectsRoom kind.take_may_refuse k f.state (side_of kind (get_or inlets k j) (get_or backlogs k e))
           (side_of kind (get_or (slice_set inlets c i') k j) (get_or (slice_set backlogs c b') k e)) [] done []
       right_at k j e l (inl h) =
           let is : k ≡ c = is_equal c k h in
-          subst (λ x. IsRight kind.take_may_refuse k f.state (side_of kind x (get_or backlogs k e))
+          subst (λ x. RespectsRoom kind.take_may_refuse k f.state (side_of kind x (get_or backlogs k e))
           (side_of kind (get_or (slice_set inlets c i') k j) (get_or (slice_set backlogs c b') k e)) [] done [])
           (sym (inlet_was k j is))
-          (subst (λ y. IsRight kind.take_may_refuse k f.state (side_of kind i y)
+          (subst (λ y. RespectsRoom kind.take_may_refuse k f.state (side_of kind i y)
           (side_of kind (get_or (slice_set inlets c i') k j) (get_or (slice_set backlogs c b') k e)) [] done [])
           (sym (backlog_was k e is))
-          (subst (λ x. IsRight kind.take_may_refuse k f.state (side_of kind i b)
+          (subst (λ x. RespectsRoom kind.take_may_refuse k f.state (side_of kind i b)
           (side_of kind x (get_or (slice_set backlogs c b') k e)) [] done []) (sym (inlet_here k j is))
-          (subst (λ y. IsRight kind.take_may_refuse k f.state (side_of kind i b) (side_of kind i' y) [] done []) (sym (backlog_here k e is))
-          (subst (λ n. IsRight kind.take_may_refuse n f.state (side_of kind i b) (side_of kind i' b') [] done []) (sym is) right_here))))
+          (subst (λ y. RespectsRoom kind.take_may_refuse k f.state (side_of kind i b) (side_of kind i' y) [] done []) (sym (backlog_here k e is))
+          (subst (λ n. RespectsRoom kind.take_may_refuse n f.state (side_of kind i b) (side_of kind i' b') [] done []) (sym is) right_here))))
         where
-          right_here : IsRight kind.take_may_refuse c f.state (side_of kind i b) (side_of kind i' b') [] done []
+          right_here : RespectsRoom kind.take_may_refuse c f.state (side_of kind i b) (side_of kind i' b') [] done []
           right_here = record {
             served = moved c b.room b.room _ _ _ _ _ _ done refl (omega arith) (omega arith) refl right;
             needed = λ is. needed_first kind.take_may_refuse c f.state b'.held (wants is);

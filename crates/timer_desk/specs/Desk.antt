@@ -14,9 +14,9 @@ use Rattle.timer_desk.specs.declared.report.Step.{Step}
 use Rattle.timer_desk.specs.declared.report.Step.TheVariants as Steps
 use Rattle.timer_desk.specs.Inlet.{LineKind}
 use Rattle.timer_desk.specs.Backlog.{BacklogState, empty_backlog, HasRoom}
-use Rattle.timer_desk.specs.Report.{Side, side_of, HeldIsLast, Tells, Runs, events, outs}
-use Rattle.timer_desk.specs.Right.{AtEach, IsRight, IsRightClose, IsRightPass}
-use Rattle.timer_desk.specs.Holding.{Holds}
+use Rattle.timer_desk.specs.Report.{Side, side_of, HeldIsLast, ClientAccount, Runs, events, outs}
+use Rattle.timer_desk.specs.Right.{AtEach, RespectsRoom, IsRightClose, IsRightPass}
+use Rattle.timer_desk.specs.Held.{Holds}
 
 -- the facility, in which nothing waits; and for each client its line and its backlog
 pub record DeskState (I : Type 0) : Type 0 where
@@ -129,20 +129,20 @@ pub record TakesNothing {I : Type 0} (kind : LineKind I) (old new : DeskState I)
 
 module _ {I : Type 0} (kind : LineKind I) where
   -- each client before and after the report
-  pub record ToldSides (report : List Done) (old new : DeskState I) : Type 0 where
+  pub record SidesHold (report : List Done) (old new : DeskState I) : Type 0 where
     pub same_clients : clients_of new ≡ clients_of old
     pub lines : (c : ℕ) (i : I) → c < clients_of old
         → kind.same (get_or old.inlets c i) (get_or new.inlets c i)
     pub sides : (c : ℕ) (i : I) (b : BacklogState) → c < clients_of old
-        → Tells c report (side_at kind old c i b) (side_at kind new c i b)
+        → ClientAccount c report (side_at kind old c i b) (side_at kind new c i b)
 
   -- the desk before and after the report
-  pub record Told (report : List Done) (old new : DeskState I) : Type 0 where
-    pub clients : ToldSides report old new
+  pub record ReportHolds (report : List Done) (old new : DeskState I) : Type 0 where
+    pub clients : SidesHold report old new
     pub facility : Runs report old.facility new.facility
     pub in_time : AreInTime old.facility [] report
     pub right : (c : ℕ) (i : I) (b : BacklogState) → c < clients_of old
-        → AtEach (IsRight kind.take_may_refuse c old.facility (side_at kind old c i b)
+        → AtEach (RespectsRoom kind.take_may_refuse c old.facility (side_at kind old c i b)
         (side_at kind new c i b)) [] report
     pub holds : (c : ℕ) (b : BacklogState) → c < clients_of old
         → Holds kind.take_may_refuse c old.facility (get_or old.backlogs c b).held [] report
@@ -156,4 +156,4 @@ module _ {I : Type 0} (kind : LineKind I) where
     pub added : after ≡ before ++ more
     pub step : steps_of more ≡ taken ∷ []
     pub behind : AreBehind false more
-    pub told : Told more old new
+    pub told : ReportHolds more old new

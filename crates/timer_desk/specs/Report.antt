@@ -216,7 +216,7 @@ abbrev pub left_of : Side → ℕ
 left_of a = length (held_list a.backlog.held) + length a.standing
 
 -- what a report says of client c, whose side was a and is b
-pub record Tells (c : ℕ) (report : List Done) (a b : Side) : Type 0 where
+pub record ClientAccount (c : ℕ) (report : List Done) (a b : Side) : Type 0 where
   -- a request held before is the first one asked since, or is still held
   pub held_first : Extends (held_list a.backlog.held) (asked c report ++ held_list b.backlog.held)
   pub none_held : may_hold c (is_held a.backlog.held) report ≡ false → b.backlog.held ≡ None

@@ -10,7 +10,7 @@ use Rattle.timer_desk.specs.declared.report.Served.{Served}
 use Rattle.timer_desk.specs.declared.report.Served.TheVariants.{Idle, NoRoom, NoMemory, Did}
 use Rattle.timer_desk.specs.declared.report.Done.{Done}
 use Rattle.timer_desk.specs.declared.report.Done.TheVariants as Dones
-use Rattle.timer_desk.specs.Asking.{IsNoWant}
+use Rattle.timer_desk.specs.Forward.{IsNoWant}
 use Rattle.timer_desk.specs.Report.{Side, left_of, held_list, asked, words, flushed, events}
 
 -- the fact holds of each member of a report, with the members before it (`past` and on) and those after it
@@ -20,20 +20,20 @@ AtEach fact past (done ∷ later) = fact past done later × AtEach fact (past ++
 
 -- which results a serve may have (its word is never a refusal for memory), by the room, the length of the
 -- outbox, how many requests are known to be left, and how many timers are pending
-abbrev pub IsRightServe : ℕ → ℕ → ℕ → ℕ → Served → Type 0
-IsRightServe room len left pending NoRoom = room < len + pending + 2
-IsRightServe room len left pending Idle = (len + pending + 2 ≤ room) × (left ≡ 0)
-IsRightServe room len left pending NoMemory = len + pending + 2 ≤ room
-IsRightServe room len left pending (Did numbered word) = (len + pending + 2 ≤ room) × IsNoWant word
+abbrev pub ServeRespectsRoom : ℕ → ℕ → ℕ → ℕ → Served → Type 0
+ServeRespectsRoom room len left pending NoRoom = room < len + pending + 2
+ServeRespectsRoom room len left pending Idle = (len + pending + 2 ≤ room) × (left ≡ 0)
+ServeRespectsRoom room len left pending NoMemory = len + pending + 2 ≤ room
+ServeRespectsRoom room len left pending (Did numbered word) = (len + pending + 2 ≤ room) × IsNoWant word
 
-abbrev pub IsRightMember : ℕ → ℕ → ℕ → ℕ → ℕ → Done → Type 0
-IsRightMember c room len left pending (Dones.Served client served) = client ≡ c
-    → IsRightServe room len left pending served
-IsRightMember c room len left pending (Dones.Ticked result) = Unit {0}
-IsRightMember c room len left pending (Dones.Passed limit passed) = Unit {0}
-IsRightMember c room len left pending (Dones.Closed result) = Unit {0}
-IsRightMember c room len left pending (Dones.Noticed notice) = Unit {0}
-IsRightMember c room len left pending (Dones.Flushed client count) = Unit {0}
+abbrev pub MemberRespectsRoom : ℕ → ℕ → ℕ → ℕ → ℕ → Done → Type 0
+MemberRespectsRoom c room len left pending (Dones.Served client served) = client ≡ c
+    → ServeRespectsRoom room len left pending served
+MemberRespectsRoom c room len left pending (Dones.Ticked result) = Unit {0}
+MemberRespectsRoom c room len left pending (Dones.Passed limit passed) = Unit {0}
+MemberRespectsRoom c room len left pending (Dones.Closed result) = Unit {0}
+MemberRespectsRoom c room len left pending (Dones.Noticed notice) = Unit {0}
+MemberRespectsRoom c room len left pending (Dones.Flushed client count) = Unit {0}
 
 -- the line may run out of memory, or the facility allocates for the first of these requests
 abbrev pub IsNeeded : Bool → ℕ → FacilityState → List Numbered → Type 0
@@ -53,9 +53,9 @@ pending_after c s past = pending_of (run s (events past)).state c
 -- When a member is right for client c, whose side was a before the report and is b after it. A serve's result
 -- accords with the room. It runs out of memory only where the request that is then held (the next one done, or
 -- the one held at the end) allocates. After the member the outbox has room for a notice of each pending timer.
-pub record IsRight (may_refuse : Bool) (c : ℕ) (s : FacilityState) (a b : Side) (past : List Done)
+pub record RespectsRoom (may_refuse : Bool) (c : ℕ) (s : FacilityState) (a b : Side) (past : List Done)
     (done : Done) (later : List Done) : Type 0 where
-  pub served : IsRightMember c a.backlog.room (outbox_after c a past) (left_of a - length (asked c past))
+  pub served : MemberRespectsRoom c a.backlog.room (outbox_after c a past) (left_of a - length (asked c past))
       (pending_after c s past) done
   pub needed : done ≡ Dones.Served c NoMemory → IsNeeded may_refuse c (run s (events past)).state
       (asked c later ++ held_list b.backlog.held)

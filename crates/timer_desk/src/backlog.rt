@@ -1,7 +1,7 @@
 //! The backlog of one client at the desk: its outbox, and a request that ran out of memory.
 ghost use Rattle.std.specs.Prelude.{◌≡◌, ◌<◌, ◌≤◌, ◌⊎◌, ◌++◌, take, length, true};
 
-use crate::asking::ask;
+use crate::forward::ask;
 use crate::inlet::{Inlet, Taken};
 use crate::report::{Done, Served};
 use crate::word::{Numbered, Word};
@@ -32,11 +32,11 @@ impl Backlog {
     ghost use Rattle.timer_desk.specs.Backlog.{empty_backlog, with_word};
     ghost use Rattle.timer_facility.specs.State.{pending_of};
     ghost use Rattle.timer_facility.specs.HandedOver.{AddsAtMostOne};
-    ghost use Rattle.timer_desk.specs.Asking.{RanOutOfMemory};
+    ghost use Rattle.timer_desk.specs.Forward.{RanOutOfMemory};
     ghost use Rattle.timer_desk.specs.Inlet.{taken_of};
-    ghost use Rattle.timer_desk.specs.Report.{held_list, side_of, HeldIsLast, left_of, Tells, Runs};
-    ghost use Rattle.timer_desk.specs.Right.{IsRightServe};
-    ghost use Rattle.timer_desk.specs.Flushing.{IsGiven, without_words};
+    ghost use Rattle.timer_desk.specs.Report.{held_list, side_of, HeldIsLast, left_of, ClientAccount, Runs};
+    ghost use Rattle.timer_desk.specs.Right.{ServeRespectsRoom};
+    ghost use Rattle.timer_desk.specs.Flush.{IsGiven, without_words};
     ghost use Rattle.timer_desk.specs.declared.word.Numbered.{Numbered};
 
     /// An empty backlog, whose outbox has room for `room` words.
@@ -145,10 +145,10 @@ impl Backlog {
         requires room { length self.old.outbox + pending_of facility.old.state client ≤ self.old.room }
         requires held { HeldIsLast (side_of I.kind inlet.old self.old) }
         ensures line { I.kind.same inlet.old inlet.new }
-        ensures tells { Tells client (Done.Served client result ∷ [])
+        ensures tells { ClientAccount client (Done.Served client result ∷ [])
             (side_of I.kind inlet.old self.old) (side_of I.kind inlet.new self.new) }
         ensures runs { Runs (Done.Served client result ∷ []) facility.old.state facility.new.state }
-        ensures right { IsRightServe self.old.room (length self.old.outbox)
+        ensures right { ServeRespectsRoom self.old.room (length self.old.outbox)
             (left_of (side_of I.kind inlet.old self.old)) (pending_of facility.old.state client) result }
         ensures memory { result ≡ Served.NoMemory → RanOutOfMemory I.kind.take_may_refuse client
             facility.old.state self.new.held }

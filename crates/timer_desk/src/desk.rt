@@ -2,14 +2,14 @@
 ghost use Rattle.std.specs.Prelude.{◌≡◌, ◌<◌, ◌≤◌, ◌+◌, ◌⊎◌, ◌++◌, [], ◌∷◌, length, get_or, true, map, IfOk, IfErr, OnErr, replicate, vec_len, vec_capacity, ℕ};
 ghost use Rattle.timer_facility.specs.State.{FacilityState, IsSound};
 ghost use Rattle.timer_facility.specs.Facility.{with_nothing_waiting};
-ghost use Rattle.timer_desk.specs.Asking.{RanOutOfMemory};
+ghost use Rattle.timer_desk.specs.Forward.{RanOutOfMemory};
 ghost use Rattle.timer_desk.specs.Backlog.{BacklogState, empty_backlog, HasRoom};
 ghost use Rattle.timer_desk.specs.Report.{HeldIsLast};
-ghost use Rattle.timer_desk.specs.Flushing.{Flushes};
-ghost use Rattle.timer_desk.specs.Desk.{DeskState, opened_desk, clients_of, backlog_at, AllIdle, side_at, TakesNothing, Told, tick_notices, close_notices};
+ghost use Rattle.timer_desk.specs.Flush.{Flushes};
+ghost use Rattle.timer_desk.specs.Desk.{DeskState, opened_desk, clients_of, backlog_at, AllIdle, side_at, TakesNothing, ReportHolds, tick_notices, close_notices};
 
 use crate::backlog::Backlog;
-use crate::handing::hand_out;
+use crate::dispatch::hand_out;
 use crate::inlet::Inlet;
 use crate::report::{Done, Served};
 use crate::word::Numbered;
@@ -93,7 +93,7 @@ impl<W: Wheel + Drop, I: Inlet + Drop> Desk<W, I> {
     /// that it accepts.
     pub fn serve(&mut self, c: usize) -> Served
         requires { c < clients_of self.old }
-        ensures told { Told I.kind (Done.Served c result ∷ []) self.old self.new }
+        ensures told { ReportHolds I.kind (Done.Served c result ∷ []) self.old self.new }
         ensures pending { length self.new.facility.pending ≤ length self.old.facility.pending + 1 }
         ensures no_room { result ≡ Served.NoRoom → self.new ≡ self.old }
         ensures idle { result ≡ Served.Idle → TakesNothing I.kind self.old self.new }
@@ -107,7 +107,7 @@ impl<W: Wheel + Drop, I: Inlet + Drop> Desk<W, I> {
     /// and returns how many it moved. Does not allocate unless the line does.
     pub fn flush(&mut self, c: usize) -> usize
         requires { c < clients_of self.old }
-        ensures told { Told I.kind (Done.Flushed c result ∷ []) self.old self.new }
+        ensures told { ReportHolds I.kind (Done.Flushed c result ∷ []) self.old self.new }
         ensures flushes { Flushes I.kind c result self.old self.new }
         ensures facility { self.new.facility ≡ self.old.facility }
         ensures stopped { (i : I) → ((backlog_at self.new c).outbox ≡ [])
@@ -120,7 +120,7 @@ impl<W: Wheel + Drop, I: Inlet + Drop> Desk<W, I> {
     /// not allocate.
     pub fn tick(&mut self) -> Result<(), TickFault>
         ensures { let report = Done.Ticked result ∷ map Done.Noticed (tick_notices self.old.facility) in
-            Told I.kind report self.old self.new }
+            ReportHolds I.kind report self.old self.new }
     {
         what_is_handed_out_was_pending();
         let result = self.facility.tick();
@@ -135,7 +135,7 @@ impl<W: Wheel + Drop, I: Inlet + Drop> Desk<W, I> {
     pub fn close(&mut self) -> Result<u64, CloseFault>
         ensures { let report = Done.Closed result ∷ map Done.Noticed (close_notices self.old.facility result)
             in
-            Told I.kind report self.old self.new }
+            ReportHolds I.kind report self.old self.new }
     {
         what_is_handed_out_was_pending();
         let result = self.facility.close();

@@ -8,11 +8,11 @@
 //! and `locked` are the lines between threads, `memory` is a line within one thread.
 #![tactic(auto)]
 
-mod asking;
 mod backlog;
 mod desk;
-mod driving;
-mod handing;
+mod dispatch;
+mod driver;
+mod forward;
 mod inlet;
 pub mod laws;
 mod locked;
@@ -24,14 +24,14 @@ mod queues;
 mod report;
 mod ring;
 mod ring_maker;
-mod settling;
-mod ticking;
+mod settlement;
+mod shutdown;
+mod ticks;
 mod turn;
-mod winding;
 mod word;
 
 pub use desk::Desk;
-pub use driving::{DriveEnd, Driven, drive, drive_by};
+pub use driver::{DriveEnd, Driven, drive, drive_by};
 pub use inlet::{Inlet, Put, Taken};
 pub use locked::{LockedEnd, LockedInlet};
 pub use locked_maker::locked_line;
@@ -40,16 +40,5 @@ pub use opening::{LEAST_ROOM, MOST_ROOM, OpenFault};
 pub use report::{Done, Served, Step};
 pub use ring::{ClientEnd, ClientReader, RequestsEnded, RingInlet, Unsent, WordsEnded};
 pub use ring_maker::ring_line;
-pub use winding::wind_up;
+pub use shutdown::wind_up;
 pub use word::{Numbered, Word};
-
-#[cfg(test)]
-mod driving_tests;
-#[cfg(test)]
-mod locked_tests;
-#[cfg(test)]
-mod reader_tests;
-#[cfg(test)]
-mod tests;
-#[cfg(test)]
-mod ticking_tests;

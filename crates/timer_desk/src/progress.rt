@@ -1,7 +1,7 @@
 //! How far each client has come in a drive.
 ghost use Rattle.std.specs.Prelude.{◌≡◌, ◌≤◌, ◌<◌, ℕ, false, length, get_or, IsTrue, IfOk, replicate, vec_len, ◌↔◌};
 ghost use Rattle.timer_base.specs.declared.limits.TheConstants.{LAST};
-ghost use Rattle.timer_desk.specs.Driving.{IsDone, HasCounted, all_left};
+ghost use Rattle.timer_desk.specs.Driver.{IsDone, HasCounted, all_left};
 ghost use Rattle.timer_desk.specs.Report.{asked_in, flushed_in, asked, flushed};
 
 use crate::report::{Done, Served};
@@ -16,7 +16,7 @@ pub struct Progress {
 }
 
 impl Progress {
-    ghost use Rattle.timer_desk.specs.Driving.{left_for};
+    ghost use Rattle.timer_desk.specs.Driver.{left_for};
 
     /// Whether `goal` requests were served, and twice as many words flushed.
     pub fn is_done(&self, goal: u64) -> bool

@@ -252,8 +252,8 @@ impl RingInlet {
 impl ClientReader {
     ghost use Rattle.std.specs.Prelude.{◌≡◌, ◌<◌, ◌⊎◌, [], ◌∷◌, ◌++◌, true, false, length, IfSome, IsNone};
     ghost use Rattle.timer_desk.specs.Ring.{words_ring_of_reader, words_ring_of, read_by, unread_by, seen_by_reader, is_settled_reader, all_given, line_of_inlet};
-    ghost use Rattle.timer_desk.specs.Winding.{IsReadOut};
-    ghost use Rattle.timer_desk.specs.Settling.{HasLooked};
+    ghost use Rattle.timer_desk.specs.Shutdown.{IsReadOut};
+    ghost use Rattle.timer_desk.specs.Settlement.{HasLooked};
 
     /// Receives the next word.
     pub fn receive(&mut self) -> Option<Word>

@@ -6,10 +6,10 @@
 ghost use Rattle.std.specs.Prelude.{◌≡◌, [], ◌<◌, ◌≤◌, ◌+◌, length, All, IfOk, OnErr, vec_len, vec_capacity, false};
 ghost use Rattle.timer_facility.specs.Facility.{with_nothing_waiting};
 ghost use Rattle.timer_desk.specs.Backlog.{HasRoom};
-ghost use Rattle.timer_desk.specs.Desk.{clients_of, InRange, Told, AddsStep, steps_of, AreBehind, AreOwed};
+ghost use Rattle.timer_desk.specs.Desk.{clients_of, InRange, ReportHolds, AddsStep, steps_of, AreBehind, AreOwed};
 
 use crate::desk::Desk;
-use crate::handing::hand_out_into;
+use crate::dispatch::hand_out_into;
 use crate::inlet::Inlet;
 use crate::report::{Done, Step};
 use timer_base::{OutOfMemory, Wheel};
@@ -20,7 +20,7 @@ impl<W: Wheel + Drop, I: Inlet + Drop> Desk<W, I> {
     /// where that fails, nothing has changed.
     pub fn turn(&mut self, steps: &[Step]) -> Result<Vec<Done>, OutOfMemory>
         requires { All (InRange (clients_of self.old)) steps.now }
-        ensures told { IfOk result (λ report. Told I.kind report.items self.old self.new) }
+        ensures told { IfOk result (λ report. ReportHolds I.kind report.items self.old self.new) }
         ensures steps { IfOk result (λ report. steps_of report.items ≡ steps.now) }
         ensures behind { IfOk result (λ report. AreBehind false report.items) }
         ensures owed { IfOk result (λ report. AreOwed self.old.facility [] report.items) }

@@ -22,8 +22,8 @@ use Rattle.std_heap.specs.contracts.GlobalAllocator.TheImpl.{ghosts}
 use Rattle.std_heap.proofs.Global.TheLaws as heap
 use Rattle.timer_desk_c.specs.DeskSlots.{owned_at, the_desk}
 use Rattle.timer_desk_c.specs.DeskSlots.{DeskState}
-use Rattle.timer_desk_c.specs.contracts.desk_slot.DeskSlot as slot
-use Rattle.timer_desk_c.proofs.ParkedParts.{two, Parked}
+use Rattle.timer_desk_c.specs.contracts.desk_cell.DeskCell as slot
+use Rattle.timer_desk_c.proofs.RawBoxParts.{two, RawBox}
 
 abbrev pub T : RattleType
 T = the_desk
@@ -38,7 +38,7 @@ abbrev pub G : Ghosts Z.Denot
 G = ghosts
 
 abbrev pub P : RattleType
-P = Parked T Z LZ G
+P = RawBox T Z LZ G
 
 abbrev pub word : ℕ → ℕ → ℕ → Val
 word mark b o = two (vptr b o) (vint w64 mark)

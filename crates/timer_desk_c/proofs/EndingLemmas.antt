@@ -9,16 +9,16 @@ use Rattle.timer_desk.specs.declared.ring.RingInlet.{RingInlet}
 use Rattle.timer_desk.specs.Backlog.{BacklogState, empty_backlog}
 use Rattle.timer_desk.specs.Desk.{clients_of, backlog_at, IsIdle}
 use Rattle.timer_desk.specs.Ring.{line_of_inlet, got_of, given_of}
-use Rattle.timer_desk.specs.Winding.{KeepsLines, IsWaiting}
-use Rattle.timer_desk_c.specs.declared.held.HeldLine.{HeldLine}
+use Rattle.timer_desk.specs.Shutdown.{KeepsLines, IsWaiting}
+use Rattle.timer_desk_c.specs.declared.c_structs.CLine.{CLine}
 use Rattle.timer_desk_c.specs.declared.ending_all.Left.{Left}
 use Rattle.timer_desk_c.specs.declared.line.Line.{Line}
-use Rattle.timer_desk_c.specs.declared.status.TheConstants.{OK}
+use Rattle.timer_desk_c.specs.declared.status.TheConstants.{OK, LEFT}
 use Rattle.timer_desk_c.specs.DeskSlots.{DeskState}
 use Rattle.timer_desk_c.specs.Frames.{with_line}
 use Rattle.timer_desk_c.specs.Lines.{submitted_on}
 use Rattle.timer_desk_c.specs.Ending.{IsLeft, IsTied, OnlySettles, WhyNotEnded}
-use Rattle.timer_desk_c.specs.EndingAll.{IsEndedAt, IsLeftAt, IsKeptAt}
+use Rattle.timer_desk_c.specs.EndingAll.{IsEndedAt, IsOverAt, IsLeftAt, IsKeptAt}
 
 either : (b : Bool) → (b ≡ true) ⊎ (b ≡ false)
 either b = elim b as (λ v. (v ≡ true) ⊎ (v ≡ false)) [ true ↦ inl refl | false ↦ inr refl ]
@@ -84,7 +84,7 @@ tied_now c d y l was low t = (
   (λ i. t.1 i ∙ ap (λ q. Some q.1) (sym (was.same_lines c i low))),
 )
 
-ended_before : (c : ℕ) (d y : DeskState) (x v : HeldLine) → KeepsLines d y → c < clients_of d → IsEndedAt c y x v → IsEndedAt c d x v
+ended_before : (c : ℕ) (d y : DeskState) (x v : CLine) → KeepsLines d y → c < clients_of d → IsEndedAt c y x v → IsEndedAt c d x v
 ended_before c d y x v was low h = record {
   held = h.held;
   number = h.number;
@@ -104,6 +104,10 @@ ended_before c d y x v was low h = record {
   };
 }
 
+over_before : (c : ℕ) (d y : DeskState) (x v : CLine) → KeepsLines d y → c < clients_of d → IsOverAt c y x v → IsOverAt c d x v
+over_before c d y x v was low (inl none) = inl none
+over_before c d y x v was low (inr ended) = inr (ended_before c d y x v was low ended)
+
 is_left_before : (c : ℕ) (d y : DeskState) (submitted : List Numbered) → KeepsLines d y → c < clients_of d → IsLeft c y submitted
     → IsLeft c d submitted
 is_left_before c d y submitted was low (inl waits) = inl (λ i.
@@ -120,67 +124,68 @@ why_before c number status d y l was low (inr (inr (inr (inl why)))) = inr (inr 
 why_before c number status d y l was low (inr (inr (inr (inr why)))) =
     inr (inr (inr (inr (why.0, low, why.2, is_left_before c d y (submitted_on l) was low why.3))))
 
-left_before : (c status : ℕ) (d y : DeskState) (x v : HeldLine) → KeepsLines d y → c < clients_of d → IsLeftAt c status y x v
+left_before : (c status : ℕ) (d y : DeskState) (x v : CLine) → KeepsLines d y → c < clients_of d → IsLeftAt c status y x v
     → IsLeftAt c status d x v
 left_before c status d y x v was low h = record {
-  why = elim h.why [
-    | inl none ↦ inl none
-    | inr why ↦ inr (why.0, why_before c x.client status d y x.slot.state was low why.1)
-  ];
+  held = h.held;
+  why = why_before c x.client status d y x.slot.state was low h.why;
   as_before = h.as_before;
 }
 
 -- The clients that were tried.
 
 -- the first of the clients below k that was left; or the words of all of them have ended
-abbrev pub IsFirst : Option Left → ℕ → DeskState → List HeldLine → List HeldLine → Type 0
-IsFirst None k d old now = (c : ℕ) (x : HeldLine) → c < k → IsEndedAt c d (get_or old c x) (get_or now c x)
+abbrev pub IsFirst : Option Left → ℕ → DeskState → List CLine → List CLine → Type 0
+IsFirst None k d old now = (c : ℕ) (x : CLine) → c < k → IsOverAt c d (get_or old c x) (get_or now c x)
 IsFirst (Some l) k d old now =
     (l.client < k) × (0 < l.status)
-    × ((c : ℕ) (x : HeldLine) → c < l.client → IsEndedAt c d (get_or old c x) (get_or now c x))
-    × ((x : HeldLine) → IsLeftAt l.client l.status d (get_or old l.client x) (get_or now l.client x))
+    × ((c : ℕ) (x : CLine) → c < l.client → IsOverAt c d (get_or old c x) (get_or now c x))
+    × ((x : CLine) → IsLeftAt l.client l.status d (get_or old l.client x) (get_or now l.client x))
 
 -- each client below k was tried, and the others' lines are as they were
-pub record IsEnding (k : ℕ) (left : Option Left) (d y : DeskState) (old now : List HeldLine) : Type 0 where
+pub record IsEnding (k : ℕ) (left : Option Left) (d y : DeskState) (old now : List CLine) : Type 0 where
   pub keeps : KeepsLines d y
   pub as_many : length now ≡ length old
-  pub tried : (c : ℕ) (x : HeldLine) → c < k
-      → IsEndedAt c d (get_or old c x) (get_or now c x) ⊎ IsKeptAt c d (get_or old c x) (get_or now c x)
-  pub only : (c : ℕ) (x : HeldLine) → c < k → get_or now c x ≡ with_line (get_or old c x) (get_or now c x).slot.state
-  pub later : (c : ℕ) (x : HeldLine) → k ≤ c → get_or now c x ≡ get_or old c x
+  pub tried : (c : ℕ) (x : CLine) → c < k
+      → IsOverAt c d (get_or old c x) (get_or now c x) ⊎ IsKeptAt c d y (get_or old c x) (get_or now c x)
+  pub only : (c : ℕ) (x : CLine) → c < k → get_or now c x ≡ with_line (get_or old c x) (get_or now c x).slot.state
+  pub later : (c : ℕ) (x : CLine) → k ≤ c → get_or now c x ≡ get_or old c x
+  pub later_inlets : (c : ℕ) (i : RingInlet) → k ≤ c → get_or y.inlets c i ≡ get_or d.inlets c i
   pub first : IsFirst left k d old now
 
-pub ending_nothing : (d : DeskState) (lines : List HeldLine) → IsEnding 0 None d d lines lines
+pub ending_nothing : (d : DeskState) (lines : List CLine) → IsEnding 0 None d d lines lines
 ending_nothing d lines = record {
   keeps = keeps_nothing d;
   as_many = refl;
   tried = λ c x low. absurd (none_below c low);
   only = λ c x low. absurd (none_below c low);
   later = λ c x high. refl;
+  later_inlets = λ c i high. refl;
   first = λ c x low. absurd (none_below c low);
 }
 
--- client k was tried, with this status, and its line is now this one
-pub record IsTried (k status : ℕ) (d : DeskState) (old now : List HeldLine) (line : HeldLine) : Type 0 where
+-- client k was tried, with this status, its line is now this one, and the desk z
+pub record IsTried (k status : ℕ) (d z : DeskState) (old now : List CLine) (line : CLine) : Type 0 where
   pub low : k < length now
-  pub ended : status ≡ OK → (x : HeldLine) → IsEndedAt k d (get_or old k x) line
-  pub left : 0 < status → (x : HeldLine) → IsLeftAt k status d (get_or old k x) line
+  pub ended : status ≡ OK → (x : CLine) → IsOverAt k d (get_or old k x) line
+  pub left : 0 < status → (x : CLine) → IsLeftAt k status d (get_or old k x) line
+  pub same_inlet : 0 < status → status ≢ LEFT → (i : RingInlet) → get_or z.inlets k i ≡ get_or d.inlets k i
 
-at_other : (k c : ℕ) (x line : HeldLine) (now : List HeldLine) → c ≢ k → get_or (slice_set now k line) c x ≡ get_or now c x
+at_other : (k c : ℕ) (x line : CLine) (now : List CLine) → c ≢ k → get_or (slice_set now k line) c x ≡ get_or now c x
 at_other k c x line now other = get_or-set_other now k c line x other
 
 -- what holds of an earlier line still holds
-earlier : (P : HeldLine → Type 0) (k c : ℕ) (x line : HeldLine) (now : List HeldLine) → c < k → P (get_or now c x)
+earlier : (P : CLine → Type 0) (k c : ℕ) (x line : CLine) (now : List CLine) → c < k → P (get_or now c x)
     → P (get_or (slice_set now k line) c x)
 earlier P k c x line now under h = subst P (sym (at_other k c x line now (less_is_other c k under))) h
 
 -- what holds of the new line holds at its place
-here : (P : HeldLine → Type 0) (k : ℕ) (x line : HeldLine) (now : List HeldLine) → k < length now → P line
+here : (P : CLine → Type 0) (k : ℕ) (x line : CLine) (now : List CLine) → k < length now → P line
     → P (get_or (slice_set now k line) k x)
 here P k x line now low h = subst P (sym (get_or-set_same now k line x low)) h
 
 -- what holds of each line below k, and of the new one, holds of each below k + 1
-up_to : (P : ℕ → HeldLine → HeldLine → Type 0) (k c : ℕ) (x line : HeldLine) (old now : List HeldLine) → k < length now → c < k + 1
+up_to : (P : ℕ → CLine → CLine → Type 0) (k c : ℕ) (x line : CLine) (old now : List CLine) → k < length now → c < k + 1
     → (c < k → P c (get_or old c x) (get_or now c x)) → P k (get_or old k x) line
     → P c (get_or old c x) (get_or (slice_set now k line) c x)
 up_to P k c x line old now low below was new = elim (below_or_same c k below) [
@@ -189,61 +194,75 @@ up_to P k c x line old now low below was new = elim (below_or_same c k below) [
       (here (P k (get_or old k x)) k x line now low new)
 ]
 
-first_more : (k status : ℕ) (left result : Option Left) (d : DeskState) (old now : List HeldLine) (line : HeldLine)
-    → IsTried k status d old now line → IsFirst left k d old now
+first_more : (k status : ℕ) (left result : Option Left) (d z : DeskState) (old now : List CLine) (line : CLine)
+    → IsTried k status d z old now line → IsFirst left k d old now
     → (left ≢ None → result ≡ left) → (left ≡ None → status ≡ OK → result ≡ None)
     → (left ≡ None → 0 < status → result ≡ Some (record { client = k; status = status }))
     → IsFirst result (k + 1) d old (slice_set now k line)
-first_more k status None result d old now line t was before ended refused = elim (zero_or_more status) [
+first_more k status None result d z old now line t was before ended refused = elim (zero_or_more status) [
   | inl ok ↦ subst (λ r. IsFirst r (k + 1) d old (slice_set now k line)) (sym (ended refl ok))
-      (λ c x below. up_to (λ n. IsEndedAt n d) k c x line old now t.low below (was c x) (t.ended ok x))
+      (λ c x below. up_to (λ n. IsOverAt n d) k c x line old now t.low below (was c x) (t.ended ok x))
   | inr more ↦ subst (λ r. IsFirst r (k + 1) d old (slice_set now k line)) (sym (refused refl more)) (
     omega arith,
     more,
-    (λ c x under. earlier (IsEndedAt c d (get_or old c x)) k c x line now under (was c x under)),
+    (λ c x under. earlier (IsOverAt c d (get_or old c x)) k c x line now under (was c x under)),
     (λ x. here (IsLeftAt k status d (get_or old k x)) k x line now t.low (t.left more x)),
   )
 ]
-first_more k status (Some l) result d old now line t was before ended refused =
+first_more k status (Some l) result d z old now line t was before ended refused =
     let under = was.0 in
     subst (λ r. IsFirst r (k + 1) d old (slice_set now k line)) (sym (before (λ e. absurd (cc)))) (
       omega (arith, under),
       was.1,
-      (λ c x low. earlier (IsEndedAt c d (get_or old c x)) k c x line now (omega (arith, under, low)) (was.2 c x low)),
+      (λ c x low. earlier (IsOverAt c d (get_or old c x)) k c x line now (omega (arith, under, low)) (was.2 c x low)),
       (λ x. earlier (IsLeftAt l.client l.status d (get_or old l.client x)) k l.client x line now under (was.3 x)),
     )
 
-kept_at : (k status : ℕ) (d : DeskState) (old now : List HeldLine) (line x : HeldLine) → IsTried k status d old now line
-    → IsEndedAt k d (get_or old k x) line ⊎ IsKeptAt k d (get_or old k x) line
-kept_at k status d old now line x t = elim (zero_or_more status) [
+kept_at : (k status : ℕ) (d z : DeskState) (old now : List CLine) (line x : CLine) → IsTried k status d z old now line
+    → IsOverAt k d (get_or old k x) line ⊎ IsKeptAt k d z (get_or old k x) line
+kept_at k status d z old now line x t = elim (zero_or_more status) [
   | inl ok ↦ inl (t.ended ok x)
-  | inr more ↦ inr (record { status = status; refused = more; left = t.left more x })
+  | inr more ↦ inr (record { status = status; refused = more; left = t.left more x; same_inlet = t.same_inlet more })
 ]
 
-pub ending_more : (k status : ℕ) (left result : Option Left) (d y z : DeskState) (old now : List HeldLine) (line new : HeldLine)
+-- what was found of a client stays, once a later one was settled
+still_tried : (k c : ℕ) (d y z : DeskState) (u v : CLine) → c < k → OnlySettles k y z → IsOverAt c d u v ⊎ IsKeptAt c d y u v
+    → IsOverAt c d u v ⊎ IsKeptAt c d z u v
+still_tried k c d y z u v under s (inl over) = inl over
+still_tried k c d y z u v under s (inr kept) = inr (record {
+  status = kept.status;
+  refused = kept.refused;
+  left = kept.left;
+  same_inlet = λ other i. s.others c i (less_is_other c k under) ∙ kept.same_inlet other i;
+})
+
+pub ending_more : (k status : ℕ) (left result : Option Left) (d y z : DeskState) (old now : List CLine) (line new : CLine)
     → IsEnding k left d y old now → k < length now → length old ≡ clients_of d
-    → ((x : HeldLine) → line ≡ get_or now k x)
-    → (status ≡ OK → IsEndedAt k y line new) → (0 < status → IsLeftAt k status y line new)
+    → ((x : CLine) → line ≡ get_or now k x)
+    → (status ≡ OK → IsOverAt k y line new) → (0 < status → IsLeftAt k status y line new) → (0 < status → status ≢ LEFT → z ≡ y)
     → OnlySettles k y z → new ≡ with_line line new.slot.state
     → (left ≢ None → result ≡ left) → (left ≡ None → status ≡ OK → result ≡ None)
     → (left ≡ None → 0 < status → result ≡ Some (record { client = k; status = status }))
     → IsEnding (k + 1) result d z old (slice_set now k new)
-ending_more k status left result d y z old now line new was low clients is ended refused settles only before ok more =
+ending_more k status left result d y z old now line new was low clients is ended refused same_desk settles only before ok more =
     let many = was.as_many in
     let client : k < clients_of d = omega (arith, low, clients, many) in
-    let same : (x : HeldLine) → line ≡ get_or old k x = λ x. is x ∙ was.later k x (omega arith) in
-    let t : IsTried k status d old now new = record {
+    let same : (x : CLine) → line ≡ get_or old k x = λ x. is x ∙ was.later k x (omega arith) in
+    let t : IsTried k status d z old now new = record {
       low = low;
-      ended = λ e x. subst (λ v. IsEndedAt k d v new) (same x) (ended_before k d y line new was.keeps client (ended e));
+      ended = λ e x. subst (λ v. IsOverAt k d v new) (same x) (over_before k d y line new was.keeps client (ended e));
       left = λ e x. subst (λ v. IsLeftAt k status d v new) (same x) (left_before k status d y line new was.keeps client (refused e));
+      same_inlet = λ e other i. ap (λ (w : DeskState). get_or w.inlets k i) (same_desk e other) ∙ was.later_inlets k i (omega arith);
     } in record {
       keeps = keeps_more k d y z was.keeps settles;
       as_many = length-set now k new ∙ was.as_many;
       tried = λ c x below.
-          up_to (λ n u v. IsEndedAt n d u v ⊎ IsKeptAt n d u v) k c x new old now low below (was.tried c x)
-          (kept_at k status d old now new x t);
+          up_to (λ n u v. IsOverAt n d u v ⊎ IsKeptAt n d z u v) k c x new old now low below
+          (λ under. still_tried k c d y z (get_or old c x) (get_or now c x) under settles (was.tried c x under))
+          (kept_at k status d z old now new x t);
       only = λ c x below. up_to (λ n u v. v ≡ with_line u v.slot.state) k c x new old now low below (was.only c x)
           (subst (λ v. new ≡ with_line v new.slot.state) (same x) only);
       later = λ c x high. at_other k c x new now (more_is_other c k high) ∙ was.later c x (omega (arith, high));
-      first = first_more k status left result d old now new t was.first before ok more;
+      later_inlets = λ c i high. settles.others c i (more_is_other c k high) ∙ was.later_inlets c i (omega (arith, high));
+      first = first_more k status left result d z old now new t was.first before ok more;
     }

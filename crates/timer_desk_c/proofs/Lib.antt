@@ -1,4 +1,4 @@
-pub mod ParkedParts
+pub mod RawBoxParts
 pub mod DeskParts
 pub mod LineParts
 pub mod FrameSteps

@@ -1,6 +1,6 @@
 -- Ends that are put into C's lines, from the last on.
 use Rattle.std.proofs.Common.{◌≡◌, ◌<◌, ◌≤◌, ℕ, List, [], ◌∷◌, length, get_or, map, sym, ◌∙◌, arith, Box, Global}
-use Rattle.timer_desk_c.specs.declared.held.HeldLine.{HeldLine}
+use Rattle.timer_desk_c.specs.declared.c_structs.CLine.{CLine}
 use Rattle.timer_desk_c.specs.declared.line.Line.{Line}
 use Rattle.timer_desk_c.specs.Frames.{HasLine}
 use Rattle.timer_desk_c.specs.Desks.{AreHeld}
@@ -8,17 +8,17 @@ use Rattle.std.proofs.lemmas.List.{length-map, get_or_default}
 use Rattle.std.proofs.Math.ListN.{get_or-map}
 
 -- these ends are left of all of them, and the others are placed
-pub record IsPlaced (all : List (Box Line Global)) (before : List HeldLine) (left : List (Box Line Global))
-    (lines : List HeldLine) : Type 0 where
+pub record IsPlaced (all : List (Box Line Global)) (before : List CLine) (left : List (Box Line Global))
+    (lines : List CLine) : Type 0 where
   pub as_many : length lines ≡ length before
   pub long : length before ≡ length all
   pub few : length left ≤ length all
   pub same_ends : (k : ℕ) (b : Box Line Global) → k < length left → get_or left k b ≡ get_or all k b
-  pub below : (k : ℕ) (x : HeldLine) → k < length left → get_or lines k x ≡ get_or before k x
-  pub open_each : (k : ℕ) (x : HeldLine) → length left ≤ k → k < length all → HasLine (get_or lines k x)
-  pub state : (k : ℕ) (x : HeldLine) (b : Box Line Global) → length left ≤ k → k < length all
+  pub below : (k : ℕ) (x : CLine) → k < length left → get_or lines k x ≡ get_or before k x
+  pub open_each : (k : ℕ) (x : CLine) → length left ≤ k → k < length all → HasLine (get_or lines k x)
+  pub state : (k : ℕ) (x : CLine) (b : Box Line Global) → length left ≤ k → k < length all
       → (get_or lines k x).slot.state ≡ (get_or all k b).value
-  pub client : (k : ℕ) (x : HeldLine) → length left ≤ k → k < length all → (get_or lines k x).client ≡ k
+  pub client : (k : ℕ) (x : CLine) → length left ≤ k → k < length all → (get_or lines k x).client ≡ k
 
 none_below : (k : ℕ) → k < 0 → ⊥
 none_below k low = absurd (let z : k < 0 = low in grind (arith))
@@ -30,7 +30,7 @@ value_at all k l b low =
     get_or_default (map (λ (x : Box Line Global). x.value) all) k l b.value (omega (arith, long, low))
     ∙ get_or-map (λ (x : Box Line Global). x.value) all k b
 
-pub all_held : (all : List (Box Line Global)) (before : List HeldLine) (left : List (Box Line Global)) (lines : List HeldLine)
+pub all_held : (all : List (Box Line Global)) (before : List CLine) (left : List (Box Line Global)) (lines : List CLine)
     → IsPlaced all before left lines → length left ≡ 0 → AreHeld (map (λ (x : Box Line Global). x.value) all) lines
 all_held [] before left lines p e = record {
   as_many = p.as_many ∙ p.long;

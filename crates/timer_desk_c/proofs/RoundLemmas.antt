@@ -17,8 +17,8 @@ use Rattle.timer_desk.specs.Backlog.{BacklogState, empty_backlog}
 use Rattle.timer_desk.specs.Report.{HeldIsLast, asked, asked_in, flushed}
 use Rattle.timer_desk.specs.Ring.{ring_lines, free_of_inlet}
 use Rattle.timer_desk.specs.Desk.{clients_of, side_at, backlog_at}
-use Rattle.timer_desk.specs.Flushing.{IsGiven, Flushes, without_words}
-use Rattle.timer_desk.proofs.ReportJoining.{Told-joined, Told-nothing}
+use Rattle.timer_desk.specs.Flush.{IsGiven, Flushes, without_words}
+use Rattle.timer_desk.proofs.ReportJoining.{ReportHolds-joined, ReportHolds-nothing}
 use Rattle.timer_desk_c.specs.DeskSlots.{DeskState}
 use Rattle.timer_desk_c.specs.Desks.{Says}
 use Rattle.timer_desk_c.specs.Rounds.{did, starved, did_request, ran_out, served_none, flushed_one, moved_a_word, IsServe, IsFlush, IsServedOut, IsEmptied, round_status, HasServedAll, HasFlushedAll}
@@ -88,7 +88,7 @@ IsHeldRight x = (c : ℕ) (i : RingInlet) (b : BacklogState) → c < clients_of 
 pub serving_nothing : (c : ℕ) (x : DeskState) → IsHeldRight x → IsServing c 0 false x x
 serving_nothing c x last = record {
   report = [];
-  says = Told-nothing ring_lines x last;
+  says = ReportHolds-nothing ring_lines x last;
   serves = search rules;
   others = λ k h. refl;
   count = refl;
@@ -114,7 +114,7 @@ serving_more c n busy x y z s f h says =
     let one = asked_same c s h in
     let count = f.count in record {
       report = f.report ++ d;
-      says = Told-joined ring_lines f.report d x y z f.says says;
+      says = ReportHolds-joined ring_lines f.report d x y z f.says says;
       serves = All-append IsServe f.report d f.serves (search rules);
       others = λ k other. asked_nil k f.report d (f.others k other) (asked_other c k s other);
       count = omega (arith, m, one, count);
@@ -134,7 +134,7 @@ serving_ends c n most busy out x y z s f few h e says =
     let none : list_any (served_none c) d ≡ true = ap (λ b. (if b then not (did s) else false) || false) (same_is c)
     ∙ ap (λ b. not b || false) h in record {
       report = f.report ++ d;
-      says = Told-joined ring_lines f.report d x y z f.says says;
+      says = ReportHolds-joined ring_lines f.report d x y z f.says says;
       serves = All-append IsServe f.report d f.serves (search rules);
       others = λ k other. asked_nil k f.report d (f.others k other) (asked_other c k s other);
       served = record {
@@ -177,7 +177,7 @@ none_below c low = absurd (let z : c < 0 = low in grind (arith))
 pub round_nothing : (most : ℕ) (x : DeskState) → IsHeldRight x → IsRound most 0 false false x x
 round_nothing most x last = record {
   report = [];
-  says = Told-nothing ring_lines x last;
+  says = ReportHolds-nothing ring_lines x last;
   serves = search rules;
   each = λ c low. absurd (none_below c low);
   later = λ c high. refl;
@@ -226,7 +226,7 @@ round_more most k busy out b o x y z f g =
     let r = f.report in
     let q = g.report in record {
       report = r ++ q;
-      says = Told-joined ring_lines r q x y z f.says g.says;
+      says = ReportHolds-joined ring_lines r q x y z f.says g.says;
       serves = All-append IsServe r q f.serves g.serves;
       each = λ c low. elim (below_or_same c k low) [
         | inl under ↦ out_before c most r q (f.each c under) (g.others c (less_is_other c k under))
@@ -268,7 +268,7 @@ pub record IsFlushing (k : ℕ) (moved : Bool) (old now : DeskState) : Type 0 wh
 pub flushing_nothing : (x : DeskState) → IsHeldRight x → IsFlushing 0 false x x
 flushing_nothing x last = record {
   report = [];
-  says = Told-nothing ring_lines x last;
+  says = ReportHolds-nothing ring_lines x last;
   flushes = search rules;
   each = λ c low. absurd (none_below c low);
   moved_is = refl;
@@ -365,7 +365,7 @@ flushing_more k count moved b x y z f says e g low few stopped =
     let d = Dones.Flushed k count ∷ [] in
     let one : list_any (flushed_one k) d ≡ true = ap (λ v. v || false) (same_is k) in record {
       report = r ++ d;
-      says = Told-joined ring_lines r d x y z f.says says;
+      says = ReportHolds-joined ring_lines r d x y z f.says says;
       flushes = All-append IsFlush r d f.flushes (search rules);
       each = λ c low. elim (below_or_same c k low) [
         | inl under ↦ list_any-append (flushed_one c) r d ∙ ap (λ v. v || list_any (flushed_one c) d) (f.each c under)

@@ -7,8 +7,8 @@ use Rattle.timer_desk.specs.declared.report.Done.TheVariants as Dones
 use Rattle.timer_desk.specs.declared.ring.RingInlet.{RingInlet}
 use Rattle.timer_desk.specs.Ring.{free_of_inlet, ring_lines}
 use Rattle.timer_desk.specs.Desk.{backlog_at}
-use Rattle.timer_desk.specs.Flushing.{Flushes}
-use Rattle.timer_desk.specs.Ticking.{ticks_report, HasPassed}
+use Rattle.timer_desk.specs.Flush.{Flushes}
+use Rattle.timer_desk.specs.Ticks.{ticks_report, HasPassed}
 use Rattle.timer_desk_c.specs.declared.status.TheConstants.{CLOSED, CLOCK_END}
 use Rattle.timer_desk_c.specs.DeskSlots.{DeskState}
 use Rattle.timer_desk_c.specs.Desks.{Says}

@@ -17,10 +17,10 @@ use Rattle.timer_desk.specs.declared.report.Done.{Done}
 use Rattle.timer_desk.specs.declared.report.Done.TheVariants as Dones
 use Rattle.timer_desk.specs.declared.ring.RingInlet.{RingInlet}
 use Rattle.timer_desk.specs.Ring.{line_of_inlet, got_of, given_of, is_settled, free_of_inlet, ring_lines}
-use Rattle.timer_desk.specs.Settling.{HasSettled}
-use Rattle.timer_desk.specs.Desk.{opened_desk, clients_of, Told, TakesNothing, tick_notices, close_notices}
-use Rattle.timer_desk_c.specs.declared.shapes.DeskConfig.{DeskConfig}
-use Rattle.timer_desk_c.specs.declared.held.HeldLine.{HeldLine}
+use Rattle.timer_desk.specs.Settlement.{HasSettled}
+use Rattle.timer_desk.specs.Desk.{opened_desk, clients_of, ReportHolds, TakesNothing, tick_notices, close_notices}
+use Rattle.timer_desk_c.specs.declared.layout.DeskConfig.{DeskConfig}
+use Rattle.timer_desk_c.specs.declared.c_structs.CLine.{CLine}
 use Rattle.timer_desk_c.specs.declared.line.Line.{Line}
 use Rattle.timer_desk_c.specs.declared.making.TheConstants.{LEAST_LINE, MOST_LINE}
 use Rattle.timer_desk_c.specs.declared.status.TheConstants.{OK, NO_MEMORY, IDLE, NO_ROOM, OUT_OF_RANGE, CLOSED, CLOCK_END, NO_CLIENT, NOT_FINISHED, OTHER_LINE, NEVER}
@@ -72,23 +72,23 @@ pub record AreNewLines (room : ℕ) (inlets : List RingInlet) (ends : List Line)
       → IsEndOf (get_or inlets k i) (get_or ends k l)
 
 -- each of C's lines holds the end at its index
-pub record AreHeld (ends : List Line) (lines : List HeldLine) : Type 0 where
+pub record AreHeld (ends : List Line) (lines : List CLine) : Type 0 where
   pub as_many : length lines ≡ length ends
-  pub open_each : (k : ℕ) (x : HeldLine) → k < length ends → HasLine (get_or lines k x)
-  pub state : (k : ℕ) (x : HeldLine) (l : Line) → k < length ends
+  pub open_each : (k : ℕ) (x : CLine) → k < length ends → HasLine (get_or lines k x)
+  pub state : (k : ℕ) (x : CLine) (l : Line) → k < length ends
       → (get_or lines k x).slot.state ≡ get_or ends k l
   -- and has its number
-  pub client : (k : ℕ) (x : HeldLine) → k < length ends → (get_or lines k x).client ≡ k
+  pub client : (k : ℕ) (x : CLine) → k < length ends → (get_or lines k x).client ≡ k
 
 -- none of C's lines holds one
-abbrev pub AllEmpty : List HeldLine → Type 0
-AllEmpty lines = (k : ℕ) (x : HeldLine) → k < length lines → HasNoLine (get_or lines k x)
+abbrev pub AllEmpty : List CLine → Type 0
+AllEmpty lines = (k : ℕ) (x : CLine) → k < length lines → HasNoLine (get_or lines k x)
 
 -- one of C's lines holds one
-pub record IsOneHeld (lines : List HeldLine) : Type 0 where
+pub record IsOneHeld (lines : List CLine) : Type 0 where
   pub index : ℕ
   pub in_range : index < length lines
-  pub held : (x : HeldLine) → HasLine (get_or lines index x)
+  pub held : (x : CLine) → HasLine (get_or lines index x)
 
 -- a new desk of this configuration over these lines
 abbrev pub IsNewDesk : ℕ → DeskConfig → DeskState → Type 0
@@ -96,7 +96,7 @@ IsNewDesk clients c d = (d ≡ opened_desk (opened (config_of clients c) LAST) d
     × (clients_of d ≡ clients)
 
 -- a new desk, and its lines at C
-pub record IsMade (c : DeskConfig) (d : DeskState) (lines : List HeldLine) : Type 0 where
+pub record IsMade (c : DeskConfig) (d : DeskState) (lines : List CLine) : Type 0 where
   pub desk : IsNewDesk (length lines) c d
   pub ends : List Line
   pub lines_of : AreNewLines c.line d.inlets ends
@@ -108,7 +108,7 @@ WhyNotMade clients c status = ((status ≡ OUT_OF_RANGE) × (IsFit clients c →
 
 -- what this report says of the desk
 abbrev pub Says : List Done → DeskState → DeskState → Type 0
-Says report old new = Told ring_lines report old new
+Says report old new = ReportHolds ring_lines report old new
 
 abbrev pub status_of : Served → ℕ
 status_of Serveds.Idle = IDLE

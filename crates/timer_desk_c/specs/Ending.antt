@@ -5,7 +5,7 @@ use Rattle.timer_desk.specs.declared.word.Numbered.{Numbered}
 use Rattle.timer_desk.specs.declared.ring.RingInlet.{RingInlet}
 use Rattle.timer_desk.specs.Desk.{clients_of, backlog_at, IsIdle}
 use Rattle.timer_desk.specs.Ring.{line_of_inlet, got_of, given_of}
-use Rattle.timer_desk.specs.Winding.{IsWaiting}
+use Rattle.timer_desk.specs.Shutdown.{IsWaiting}
 use Rattle.timer_desk_c.specs.declared.line.Line.{Line}
 use Rattle.timer_desk_c.specs.declared.status.TheConstants.{NO_CLIENT, NOT_FINISHED, OTHER_LINE, LEFT}
 use Rattle.timer_desk_c.specs.DeskSlots.{DeskState}

@@ -7,7 +7,7 @@ use Rattle.timer_desk.specs.declared.word.Word.{Word}
 use Rattle.timer_desk.specs.Ring.{Ring, line_of_end, requests_ring_of, words_ring_of_reader, submitted, all_submitted, received_by_end, read_by, unread_by, is_settled_reader, seen_by_end, seen_by_reader, free_of, next_of, numbered}
 use Rattle.timer_desk_c.specs.declared.line.Line.{Line}
 use Rattle.timer_desk_c.specs.declared.line.Line.TheVariants.{Open, Finished, Gone}
-use Rattle.timer_desk_c.specs.declared.shapes.Message.{Message}
+use Rattle.timer_desk_c.specs.declared.layout.Message.{Message}
 use Rattle.timer_desk_c.specs.declared.status.TheConstants.{LINE_FULL, NUMBERS_SPENT, FINISHED}
 use Rattle.timer_desk_c.specs.Messages.{message_of}
 

@@ -11,8 +11,8 @@ use Rattle.timer_facility.specs.declared.request.NotTaken.TheVariants as NotTake
 use Rattle.timer_facility.specs.declared.request.Notice.TheVariants as Notices
 use Rattle.timer_desk.specs.declared.word.Word.{Word}
 use Rattle.timer_desk.specs.declared.word.Word.TheVariants as Words
-use Rattle.timer_desk_c.specs.declared.shapes.Handle.{Handle}
-use Rattle.timer_desk_c.specs.declared.shapes.Message.{Message}
+use Rattle.timer_desk_c.specs.declared.layout.Handle.{Handle}
+use Rattle.timer_desk_c.specs.declared.layout.Message.{Message}
 use Rattle.timer_desk_c.specs.declared.status.TheConstants.{NO_MEMORY, NOT_PENDING, ZERO_INTERVAL, TOO_LATE, SERIALS_SPENT, CLOSED, CAPACITY, NO_CLIENT, NUMBERS_SPENT, REPEATED, AHEAD, STARTED, RESTARTED, STOPPED, REFUSED, NOT_TAKEN, EXPIRED, RETURNED}
 
 -- all 0

@@ -10,7 +10,7 @@ use Rattle.timer_desk.specs.Backlog.{BacklogState}
 use Rattle.timer_desk.specs.Desk.{clients_of, backlog_at}
 use Rattle.timer_desk.specs.Report.{asked, flushed}
 use Rattle.timer_desk.specs.Ring.{free_of_inlet, ring_lines}
-use Rattle.timer_desk.specs.Flushing.{IsGiven, without_words}
+use Rattle.timer_desk.specs.Flush.{IsGiven, without_words}
 use Rattle.timer_desk_c.specs.declared.status.TheConstants.{OK, NO_MEMORY, IDLE}
 use Rattle.timer_desk_c.specs.DeskSlots.{DeskState}
 use Rattle.timer_desk_c.specs.Desks.{Says}

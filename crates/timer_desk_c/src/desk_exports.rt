@@ -8,7 +8,7 @@ ghost use Rattle.timer_facility.specs.State.{FacilityState};
 ghost use Rattle.timer_desk.specs.declared.ring.RingInlet.{RingInlet};
 ghost use Rattle.timer_desk.specs.Desk.{clients_of, backlog_at};
 ghost use Rattle.timer_desk.specs.Ring.{line_of_inlet};
-ghost use Rattle.timer_desk.specs.Winding.{KeepsLines};
+ghost use Rattle.timer_desk.specs.Shutdown.{KeepsLines};
 ghost use Rattle.timer_desk_c.specs.Frames.{IsOpen, IsShut, with_desk, HasLine, HasNoLine, with_line};
 ghost use Rattle.timer_desk_c.specs.Desks.{IsFit, IsMade, AllEmpty, IsOneHeld, WhyNotMade, HasServed, HasTicked, HasClosed, IsNextTick, IsSettled, IsGivenAs, IsAsBefore, WhyNotSettled};
 ghost use Rattle.timer_desk_c.specs.Rounds.{HasServedAll, HasFlushedAll};
@@ -17,14 +17,14 @@ ghost use Rattle.timer_desk_c.specs.Ending.{IsTied, OnlySettles, HasEnded, WhyNo
 ghost use Rattle.timer_desk_c.specs.EndingAll.{AreTied, OnlyStates, AllTried, AllEnded, WhyNotAllEnded};
 ghost use Rattle.timer_desk_c.specs.declared.status.TheConstants.{OK, NOT_OPEN, OPEN, NO_CLIENT, LEFT, NEVER};
 
+use crate::c_structs::{CDesk, CLine};
 use crate::ending::end;
 use crate::ending_all::end_all;
-use crate::held::{HeldDesk, HeldLine};
+use crate::layout::DeskConfig;
 use crate::making::{Made, make};
-use crate::parked::Parked;
 use crate::placing::{are_empty, place};
+use crate::raw_box::RawBox;
 use crate::settling::settle;
-use crate::shapes::DeskConfig;
 use crate::status::{NEVER, NOT_OPEN, OK, OPEN};
 use crate::{advancing, calls, rounds};
 use std::alloc::Global;
@@ -33,8 +33,8 @@ use std::alloc::Global;
 #[unsafe(no_mangle)]
 pub extern "C" fn timers_desk_new(
     alloc: Global,
-    d: &mut HeldDesk,
-    lines: &mut [HeldLine],
+    d: &mut CDesk,
+    lines: &mut [CLine],
     config: &DeskConfig,
 ) -> u32
     ensures made { result ≡ OK → IsShut d.old × AllEmpty lines.old × IsFit (length lines.old) config.now
@@ -53,7 +53,7 @@ pub extern "C" fn timers_desk_new(
     match make(alloc, lines.len(), *config) {
         Ok(made) => {
             let Made { desk, ends } = made;
-            d.slot.put(Parked::park(desk));
+            d.slot.put(RawBox::park(desk));
             place(ends, lines);
             OK
         }
@@ -64,7 +64,7 @@ pub extern "C" fn timers_desk_new(
 /// Frees the desk, if there is one: the facility, all pending timers and words, and the owner's ends of the
 /// lines.
 #[unsafe(no_mangle)]
-pub extern "C" fn timers_desk_free(alloc: Global, d: &mut HeldDesk)
+pub extern "C" fn timers_desk_free(alloc: Global, d: &mut CDesk)
     ensures shut { IsShut d.new }
     ensures kept { IsShut d.old → d.new ≡ d.old }
 {
@@ -75,7 +75,7 @@ pub extern "C" fn timers_desk_free(alloc: Global, d: &mut HeldDesk)
 
 /// Serves a client once: takes its held request, or else the next of its line, to the facility.
 #[unsafe(no_mangle)]
-pub extern "C" fn timers_desk_serve(d: &mut HeldDesk, client: usize) -> u32
+pub extern "C" fn timers_desk_serve(d: &mut CDesk, client: usize) -> u32
     ensures served { IsOpen d.old → client < clients_of d.old.slot.state
         → HasServed client result d.old.slot.state d.new.slot.state }
     ensures none { IsOpen d.old → clients_of d.old.slot.state ≤ client
@@ -92,7 +92,7 @@ pub extern "C" fn timers_desk_serve(d: &mut HeldDesk, client: usize) -> u32
 /// Serves each client in turn, each up to `most` times. Returns `NO_MEMORY` if memory ran out for a request,
 /// else `OK` if one was done, else `IDLE`.
 #[unsafe(no_mangle)]
-pub extern "C" fn timers_desk_serve_all(d: &mut HeldDesk, most: u64) -> u32
+pub extern "C" fn timers_desk_serve_all(d: &mut CDesk, most: u64) -> u32
     ensures served { IsOpen d.old → HasServedAll most result d.old.slot.state d.new.slot.state }
     ensures not_open { IsShut d.old → (result ≡ NOT_OPEN) × (d.new ≡ d.old) }
     ensures only { d.new ≡ with_desk d.old d.new.slot.state }
@@ -105,7 +105,7 @@ pub extern "C" fn timers_desk_serve_all(d: &mut HeldDesk, most: u64) -> u32
 
 /// Moves words from each client's outbox into its line, as many as it takes. Returns whether one was moved.
 #[unsafe(no_mangle)]
-pub extern "C" fn timers_desk_flush_all(d: &mut HeldDesk) -> bool
+pub extern "C" fn timers_desk_flush_all(d: &mut CDesk) -> bool
     ensures flushed { IsOpen d.old → HasFlushedAll result d.old.slot.state d.new.slot.state }
     ensures not_open { IsShut d.old → (result ≡ false) × (d.new ≡ d.old) }
     ensures only { d.new ≡ with_desk d.old d.new.slot.state }
@@ -118,7 +118,7 @@ pub extern "C" fn timers_desk_flush_all(d: &mut HeldDesk) -> bool
 
 /// Advances the clock by one tick. The notices of the timers that expire wait in the outboxes.
 #[unsafe(no_mangle)]
-pub extern "C" fn timers_desk_tick(d: &mut HeldDesk) -> u32
+pub extern "C" fn timers_desk_tick(d: &mut CDesk) -> u32
     ensures ticked { IsOpen d.old → HasTicked result d.old.slot.state d.new.slot.state }
     ensures not_open { IsShut d.old → (result ≡ NOT_OPEN) × (d.new ≡ d.old) }
     ensures only { d.new ≡ with_desk d.old d.new.slot.state }
@@ -132,7 +132,7 @@ pub extern "C" fn timers_desk_tick(d: &mut HeldDesk) -> u32
 /// Passes at most `most` ticks, up to the first at which a timer expires, and writes how many were passed: 0
 /// only if `most` is 0.
 #[unsafe(no_mangle)]
-pub extern "C" fn timers_desk_advance(d: &mut HeldDesk, most: u64, passed: &mut u64) -> u32
+pub extern "C" fn timers_desk_advance(d: &mut CDesk, most: u64, passed: &mut u64) -> u32
     ensures advanced { result ≡ OK → IsOpen d.old × HasAdvanced most passed.new d.old.slot.state
         d.new.slot.state }
     ensures refused { 0 < result → ((result ≡ NOT_OPEN) × IsShut d.old)
@@ -148,7 +148,7 @@ pub extern "C" fn timers_desk_advance(d: &mut HeldDesk, most: u64, passed: &mut 
 
 /// Moves words from a client's outbox into its line, as many as it takes, and returns how many.
 #[unsafe(no_mangle)]
-pub extern "C" fn timers_desk_flush(d: &mut HeldDesk, client: usize) -> usize
+pub extern "C" fn timers_desk_flush(d: &mut CDesk, client: usize) -> usize
     ensures flushed { IsOpen d.old → client < clients_of d.old.slot.state
         → HasFlushed client result d.old.slot.state d.new.slot.state }
     ensures none { IsOpen d.old → clients_of d.old.slot.state ≤ client → (result ≡ 0) × (d.new ≡ d.old) }
@@ -164,7 +164,7 @@ pub extern "C" fn timers_desk_flush(d: &mut HeldDesk, client: usize) -> usize
 /// Closes the facility: each pending timer is returned to its client, and no request is accepted from then
 /// on. Writes how many were returned.
 #[unsafe(no_mangle)]
-pub extern "C" fn timers_desk_close(d: &mut HeldDesk, returned: &mut u64) -> u32
+pub extern "C" fn timers_desk_close(d: &mut CDesk, returned: &mut u64) -> u32
     ensures closed { IsOpen d.old → HasClosed result returned.new d.old.slot.state d.new.slot.state }
     ensures not_open { IsShut d.old → (result ≡ NOT_OPEN) × (d.new ≡ d.old) }
     ensures kept { 0 < result → returned.new ≡ returned.old }
@@ -178,7 +178,7 @@ pub extern "C" fn timers_desk_close(d: &mut HeldDesk, returned: &mut u64) -> u32
 
 /// The present tick, or 0 if there is no desk.
 #[unsafe(no_mangle)]
-pub extern "C" fn timers_desk_now(d: &mut HeldDesk) -> u64
+pub extern "C" fn timers_desk_now(d: &mut CDesk) -> u64
     ensures now { IsOpen d.old → result ≡ d.old.slot.state.facility.now }
     ensures not_open { IsShut d.old → result ≡ 0 }
     ensures same { d.new ≡ d.old }
@@ -191,7 +191,7 @@ pub extern "C" fn timers_desk_now(d: &mut HeldDesk) -> u64
 
 /// How many timers are pending, or 0 if there is no desk.
 #[unsafe(no_mangle)]
-pub extern "C" fn timers_desk_len(d: &mut HeldDesk) -> usize
+pub extern "C" fn timers_desk_len(d: &mut CDesk) -> usize
     ensures pending { IsOpen d.old → result ≡ length d.old.slot.state.facility.pending }
     ensures not_open { IsShut d.old → result ≡ 0 }
     ensures same { d.new ≡ d.old }
@@ -205,7 +205,7 @@ pub extern "C" fn timers_desk_len(d: &mut HeldDesk) -> usize
 /// A tick after the present one and at most the first deadline, before which nothing expires; `NEVER` if
 /// nothing is pending or there is no desk.
 #[unsafe(no_mangle)]
-pub extern "C" fn timers_desk_wakeup(d: &mut HeldDesk) -> u64
+pub extern "C" fn timers_desk_wakeup(d: &mut CDesk) -> u64
     ensures tick { IsOpen d.old → IsNextTick result d.old.slot.state.facility }
     ensures not_open { IsShut d.old → result ≡ NEVER }
     ensures same { d.new ≡ d.old }
@@ -218,7 +218,7 @@ pub extern "C" fn timers_desk_wakeup(d: &mut HeldDesk) -> u64
 
 /// How many words wait in a client's outbox. 0 if there is no such client or no desk.
 #[unsafe(no_mangle)]
-pub extern "C" fn timers_desk_outbox(d: &mut HeldDesk, client: usize) -> usize
+pub extern "C" fn timers_desk_outbox(d: &mut CDesk, client: usize) -> usize
     ensures len { IsOpen d.old → client < clients_of d.old.slot.state
         → result ≡ length (backlog_at d.old.slot.state client).outbox }
     ensures none { IsOpen d.old → clients_of d.old.slot.state ≤ client → result ≡ 0 }
@@ -234,9 +234,9 @@ pub extern "C" fn timers_desk_outbox(d: &mut HeldDesk, client: usize) -> usize
 /// Settles the line of a client that has finished, and writes how many of its requests still stand in it.
 #[unsafe(no_mangle)]
 pub extern "C" fn timers_desk_settle(
-    d: &mut HeldDesk,
+    d: &mut CDesk,
     client: usize,
-    line: &mut HeldLine,
+    line: &mut CLine,
     standing: &mut usize,
 ) -> u32
     requires line { IsOpen d.old → HasLine line.old → client < clients_of d.old.slot.state
@@ -266,9 +266,9 @@ pub extern "C" fn timers_desk_settle(
 /// many stand in its line: with those that it has received they are all that it was given.
 #[unsafe(no_mangle)]
 pub extern "C" fn timers_desk_end(
-    d: &mut HeldDesk,
+    d: &mut CDesk,
     client: usize,
-    line: &mut HeldLine,
+    line: &mut CLine,
     unread: &mut usize,
 ) -> u32
     requires line { IsOpen d.old → HasLine line.old → client < clients_of d.old.slot.state
@@ -300,20 +300,17 @@ pub extern "C" fn timers_desk_end(
 /// client, at the client's number.
 ///
 /// Returns `OK` if the words of all have ended. Otherwise it returns the reason of the first client for which
-/// they have not, as `timers_desk_end` does, and writes its number. The others have ended if they could.
+/// they have not, as `timers_desk_end` does, and writes its number. The others have ended if they could. A
+/// line that was freed is passed over: nobody waits for its words.
 #[unsafe(no_mangle)]
-pub extern "C" fn timers_desk_end_all(
-    d: &mut HeldDesk,
-    lines: &mut [HeldLine],
-    client: &mut usize,
-) -> u32
+pub extern "C" fn timers_desk_end_all(d: &mut CDesk, lines: &mut [CLine], client: &mut usize) -> u32
     requires lines { IsOpen d.old → length lines.old ≡ clients_of d.old.slot.state
         → AreTied d.old.slot.state lines.old }
     ensures ended { result ≡ OK → IsOpen d.old × AllEnded d.old.slot.state lines.old lines.new }
     ensures refused { 0 < result → ((result ≡ NOT_OPEN) × IsShut d.old)
         ⊎ (IsOpen d.old × WhyNotAllEnded client.new result d.old.slot.state lines.old lines.new) }
     ensures tried { IsOpen d.old → length lines.old ≡ clients_of d.old.slot.state
-        → AllTried d.old.slot.state lines.old lines.new }
+        → AllTried d.old.slot.state d.new.slot.state lines.old lines.new }
 
     // The number is written only if a client is to blame.
     ensures client { result ≡ OK → client.new ≡ client.old }

@@ -4,7 +4,7 @@ ghost use Rattle.timer_facility.specs.State.{pending_of};
 ghost use Rattle.timer_desk.specs.declared.ring.RingInlet.{RingInlet};
 ghost use Rattle.timer_desk.specs.Desk.{clients_of, backlog_at, IsIdle};
 ghost use Rattle.timer_desk.specs.Ring.{line_of_inlet, got_of, requests_ring_of, words_ring_of_reader, all_submitted, read_by, unread_by, is_settled_reader};
-ghost use Rattle.timer_desk.specs.Winding.{IsReadOut};
+ghost use Rattle.timer_desk.specs.Shutdown.{IsReadOut};
 ghost use Rattle.timer_desk_c.specs.Desks.{IsAsBefore};
 ghost use Rattle.timer_desk_c.specs.Ending.{IsGone, IsLeft, IsTied, OnlySettles, HasEnded, WhyNotEnded};
 ghost use Rattle.timer_desk_c.specs.declared.status.TheConstants.{OK, LEFT};

@@ -1,7 +1,7 @@
 //! The desk of timer_desk over the hierarchy of wheels, and its ring lines, for C: include/timers_desk.h.
 //!
-//! C keeps a `struct timers_desk` (`HeldDesk`), which owns the facility and the owner's ends of all lines on
-//! the heap, and for each client a `struct timers_line` (`HeldLine`), which owns the client's end. Each
+//! C keeps a `struct timers_desk` (`CDesk`), which owns the facility and the owner's ends of all lines on
+//! the heap, and for each client a `struct timers_line` (`CLine`), which owns the client's end. Each
 //! struct is used by one thread at a time; they share nothing but the rings.
 //!
 //!     desk_exports   the owner's calls: each tests whether a desk is held, and passes the call on
@@ -10,32 +10,32 @@
 //!     line           a client's end, before and after it has finished
 //!     messages       words as C's struct
 //!     making, placing    a new desk, and its lines put into C's structs
-//!     held           the two structs
-//!     desk_slot, line_slot, parked    the machine words by which they own something on the heap, proved by
-//!                                     hand
-//!     shapes, status    the other structs and the numbers of the header
+//!     c_structs      the two structs
+//!     desk_cell, line_cell, raw_box    the machine words by which they own something on the heap, proved by
+//!                                      hand
+//!     layout, status    the other structs and the numbers of the header
 #![tactic(auto)]
 
 mod advancing;
+mod c_structs;
 mod calls;
+mod desk_cell;
 mod desk_exports;
-mod desk_slot;
 mod ending;
 mod ending_all;
-mod held;
+mod layout;
 mod line;
+mod line_cell;
 mod line_exports;
-mod line_slot;
 mod making;
 mod messages;
-mod parked;
 mod placing;
+mod raw_box;
 mod rounds;
 mod settling;
-mod shapes;
 mod status;
 
-pub use desk_slot::DeskSlot;
-pub use held::{HeldDesk, HeldLine};
+pub use c_structs::{CDesk, CLine};
+pub use desk_cell::DeskCell;
 pub use line::Line;
-pub use line_slot::LineSlot;
+pub use line_cell::LineCell;

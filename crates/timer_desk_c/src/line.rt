@@ -1,8 +1,8 @@
 //! The client's end of a line, before and after it has finished.
 ghost use Rattle.std.specs.Prelude.{◌≡◌};
 
+use crate::layout::Message;
 use crate::messages::message_of;
-use crate::shapes::Message;
 use crate::status::{FINISHED, LINE_FULL, NUMBERS_SPENT, OK};
 use std::mem;
 use timer_desk::{ClientEnd, ClientReader, RequestsEnded, Unsent, Word};

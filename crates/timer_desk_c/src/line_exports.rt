@@ -11,9 +11,9 @@ ghost use Rattle.timer_desk_c.specs.Lines.{HasSent, WhyNotSent, SameTraffic, Sam
 ghost use Rattle.timer_desk_c.specs.Messages.{named};
 ghost use Rattle.timer_desk_c.specs.declared.status.TheConstants.{OK, NOT_OPEN, FINISHED};
 
-use crate::held::HeldLine;
+use crate::c_structs::CLine;
+use crate::layout::{Handle, Message};
 use crate::messages::named;
-use crate::shapes::{Handle, Message};
 use crate::status::NOT_OPEN;
 use std::alloc::Global;
 use timer_facility::Request;
@@ -21,7 +21,7 @@ use timer_facility::Request;
 /// Sends the request to start a timer that expires after `interval` ticks, and writes the request's number.
 #[unsafe(no_mangle)]
 pub extern "C" fn timers_line_start(
-    line: &mut HeldLine,
+    line: &mut CLine,
     interval: u64,
     action: u64,
     number: &mut u64,
@@ -46,7 +46,7 @@ pub extern "C" fn timers_line_start(
 
 /// Sends the request to stop the timer with this handle, and writes the request's number.
 #[unsafe(no_mangle)]
-pub extern "C" fn timers_line_stop(line: &mut HeldLine, handle: Handle, number: &mut u64) -> u32
+pub extern "C" fn timers_line_stop(line: &mut CLine, handle: Handle, number: &mut u64) -> u32
     ensures sent { result ≡ OK → HasLine line.old × HasSent
         (Stop (named handle)) line.old.slot.state line.new.slot.state number.new }
     ensures refused { 0 < result → ((result ≡ NOT_OPEN) × HasNoLine line.old)
@@ -67,7 +67,7 @@ pub extern "C" fn timers_line_stop(line: &mut HeldLine, handle: Handle, number: 
 /// request's number.
 #[unsafe(no_mangle)]
 pub extern "C" fn timers_line_restart(
-    line: &mut HeldLine,
+    line: &mut CLine,
     handle: Handle,
     interval: u64,
     action: u64,
@@ -98,7 +98,7 @@ pub extern "C" fn timers_line_restart(
 
 /// Receives the next word. Returns whether there was one.
 #[unsafe(no_mangle)]
-pub extern "C" fn timers_line_receive(line: &mut HeldLine, out: &mut Message) -> bool
+pub extern "C" fn timers_line_receive(line: &mut CLine, out: &mut Message) -> bool
     ensures received { result ≡ true → HasLine line.old
         × HasReceived line.old.slot.state line.new.slot.state out.new }
     ensures none { result ≡ false → (received_on line.new.slot.state ≡ received_on line.old.slot.state)
@@ -120,7 +120,7 @@ pub extern "C" fn timers_line_receive(line: &mut HeldLine, out: &mut Message) ->
 
 /// Whether no word comes any more: the owner has ended them, and all were received.
 #[unsafe(no_mangle)]
-pub extern "C" fn timers_line_ended(line: &mut HeldLine) -> bool
+pub extern "C" fn timers_line_ended(line: &mut CLine) -> bool
     ensures yes { result ≡ true → HasLine line.old × IsReadToEnd line.old.slot.state }
     ensures no { result ≡ false → HasLine line.old → MayReceive line.old.slot.state }
     ensures same { line.new ≡ line.old }
@@ -133,7 +133,7 @@ pub extern "C" fn timers_line_ended(line: &mut HeldLine) -> bool
 
 /// Ends the requests of this line. Words are still received.
 #[unsafe(no_mangle)]
-pub extern "C" fn timers_line_finish(line: &mut HeldLine) -> u32
+pub extern "C" fn timers_line_finish(line: &mut CLine) -> u32
     ensures finished { result ≡ OK → HasLine line.old × HasFinished line.old.slot.state line.new.slot.state }
     ensures refused { 0 < result → ((result ≡ NOT_OPEN) × HasNoLine line.old)
         ⊎ (HasLine line.old × (result ≡ FINISHED) × (is_open_line line.old.slot.state ≡ false)) }
@@ -149,7 +149,7 @@ pub extern "C" fn timers_line_finish(line: &mut HeldLine) -> u32
 
 /// Frees the end of the line, if there is one.
 #[unsafe(no_mangle)]
-pub extern "C" fn timers_line_free(alloc: Global, line: &mut HeldLine)
+pub extern "C" fn timers_line_free(alloc: Global, line: &mut CLine)
     ensures shut { HasNoLine line.new }
     ensures kept { HasNoLine line.old → line.new ≡ line.old }
 {

@@ -6,8 +6,8 @@ ghost use Rattle.timer_facility.specs.Opened.{opened};
 ghost use Rattle.timer_desk.specs.Desk.{clients_of};
 ghost use Rattle.timer_desk_c.specs.Desks.{config_of, IsFit, AreNewLines, IsNewDesk, WhyNotMade};
 
+use crate::layout::DeskConfig;
 use crate::line::Line;
-use crate::shapes::DeskConfig;
 use crate::status::{NO_MEMORY, OUT_OF_RANGE};
 use std::alloc::Global;
 use timer_base::OutOfMemory;

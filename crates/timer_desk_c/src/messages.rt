@@ -2,7 +2,7 @@
 ghost use Rattle.std.specs.Prelude.{◌≡◌};
 ghost use Rattle.timer_desk_c.specs.Messages.{blank, given, named, reason_of, message_of_answer, message_of_not_taken, message_of_timer, message_of};
 
-use crate::shapes::{Handle, Message};
+use crate::layout::{Handle, Message};
 use crate::status::{
     AHEAD, CAPACITY, CLOSED, EXPIRED, NO_CLIENT, NO_MEMORY, NOT_PENDING, NOT_TAKEN, NUMBERS_SPENT,
     REFUSED, REPEATED, RESTARTED, RETURNED, SERIALS_SPENT, STARTED, STOPPED, TOO_LATE,

@@ -2,12 +2,12 @@
 ghost use Rattle.std.specs.Prelude.{◌≡◌, map, length, vec_len, true, false};
 ghost use Rattle.timer_desk_c.specs.Desks.{AllEmpty, IsOneHeld, AreHeld};
 
-use crate::held::HeldLine;
+use crate::c_structs::CLine;
 use crate::line::Line;
-use crate::parked::Parked;
+use crate::raw_box::RawBox;
 
 /// Whether none of them holds a line.
-pub(crate) fn are_empty(lines: &mut [HeldLine]) -> bool
+pub(crate) fn are_empty(lines: &mut [CLine]) -> bool
     ensures empty { result ≡ true → AllEmpty lines.old }
     ensures held { result ≡ false → IsOneHeld lines.old }
     ensures same { lines.new ≡ lines.old }
@@ -21,7 +21,7 @@ pub(crate) fn are_empty(lines: &mut [HeldLine]) -> bool
 }
 
 /// Puts each end into the line at its index.
-pub(crate) fn place(ends: Vec<Box<Line>>, lines: &mut [HeldLine])
+pub(crate) fn place(ends: Vec<Box<Line>>, lines: &mut [CLine])
     requires empty { AllEmpty lines.old }
     requires as_many { vec_len ends ≡ length lines.old }
     ensures held { AreHeld (map (λ b. b.value) ends.items) lines.new }
@@ -29,7 +29,7 @@ pub(crate) fn place(ends: Vec<Box<Line>>, lines: &mut [HeldLine])
     let mut ends = ends;
     while let Some(end) = ends.pop() {
         let k = ends.len();
-        lines[k].slot.put(Parked::park(end));
+        lines[k].slot.put(RawBox::park(end));
         lines[k].client = k as u64;
     }
 }

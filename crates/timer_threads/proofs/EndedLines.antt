@@ -7,19 +7,19 @@ use Rattle.timer_desk.specs.declared.ring.RequestsEnded.{RequestsEnded}
 use Rattle.timer_desk.specs.declared.ring.ClientReader.{ClientReader}
 use Rattle.timer_desk.specs.Ring.{line_of_inlet, got_of, given_of, all_submitted, read_by, unread_by, requests_ring_of, words_ring_of_reader}
 use Rattle.timer_desk.specs.Desk.{DeskState, AllIdle, backlog_at}
-use Rattle.timer_desk.specs.Winding.{AreEndsOf, AreReadersOf, AllGot, AllReadOut, IsWaiting, IsBlamed}
-use Rattle.timer_desk.specs.declared.driving.DriveEnd.{DriveEnd}
-use Rattle.timer_desk.specs.declared.driving.DriveEnd.TheVariants as DriveEnds
+use Rattle.timer_desk.specs.Shutdown.{AreEndsOf, AreReadersOf, AllGot, AllReadOut, IsWaiting, IsBlamed}
+use Rattle.timer_desk.specs.declared.driver.DriveEnd.{DriveEnd}
+use Rattle.timer_desk.specs.declared.driver.DriveEnd.TheVariants as DriveEnds
 use Rattle.timer_threads.specs.declared.fault.ThreadsFault.{ThreadsFault}
 use Rattle.timer_threads.specs.declared.worked.Worked.{Worked}
-use Rattle.timer_threads.specs.Parted.{has_failed, NoneFailed, AllEnded, IsFirstFailed, lower_of, AreParted}
-use Rattle.timer_threads.specs.Threads.{AreOfLines, AllRead, NoneUnread, IsServed, AllServed, IsWoundUp, IsHeldBack, IsFirstClient, IsFirstFault, fault_of}
-use Rattle.timer_threads.proofs.PartedLemmas.{parted_lengths, parted_at, ended_at, reader_at, all_ended}
+use Rattle.timer_threads.specs.Results.{has_failed, NoneFailed, AllEnded, IsFirstFailed, lower_of, AreUnzipped}
+use Rattle.timer_threads.specs.Threads.{AreOfLines, AllRead, NoneUnread, IsServed, AllServed, IsWoundUp, IsUnfinished, IsFirstClient, IsFirstFault, fault_of}
+use Rattle.timer_threads.proofs.ResultsLemmas.{unzipped_lengths, unzipped_at, ended_at, reader_at, all_ended}
 
-pub ends_of : (inlets : List RingInlet) (ws : List Worked) (es : List RequestsEnded) (rs : List ClientReader) → AreParted ws es rs
+pub ends_of : (inlets : List RingInlet) (ws : List Worked) (es : List RequestsEnded) (rs : List ClientReader) → AreUnzipped ws es rs
     → AreOfLines inlets ws → AreEndsOf inlets es
 ends_of inlets ws es rs p a =
-    let n = parted_lengths ws es rs p in
+    let n = unzipped_lengths ws es rs p in
     let m : length ws ≡ length inlets = a.as_many in record {
       as_many = n.0 ∙ m;
       of_lines = λ k i e l. by_reader rs p k i e l;
@@ -33,21 +33,21 @@ ends_of inlets ws es rs p a =
     some_worked [] j l = absurd (omega arith)
     some_worked (x ∷ xs) j l = x
 
-    by_reader : (ys : List ClientReader) → AreParted ws es ys → (k : ℕ) (i : RingInlet) (e : RequestsEnded) → k < length inlets
+    by_reader : (ys : List ClientReader) → AreUnzipped ws es ys → (k : ℕ) (i : RingInlet) (e : RequestsEnded) → k < length inlets
         → requests_ring_of (get_or es k e) ≡ (line_of_inlet (get_or inlets k i)).0
     by_reader ys q k i e l =
         let m : length ws ≡ length inlets = a.as_many in
-        let n = parted_lengths ws es ys q in
+        let n = unzipped_lengths ws es ys q in
         let w : Worked = some_worked ws k (omega arith) in
         let r : ClientReader = some_reader ys k (let z = n.1 in omega arith) in
-        let at = parted_at ws es ys q k w e r (omega arith) in
+        let at = unzipped_at ws es ys q k w e r (omega arith) in
         subst (λ (o : Option RequestsEnded). IfSome o (λ x. requests_ring_of x ≡ (line_of_inlet (get_or inlets k i)).0)) at.0
         (a.each k i w l).ended
 
-pub readers_of : (inlets : List RingInlet) (ws : List Worked) (es : List RequestsEnded) (rs : List ClientReader) → AreParted ws es rs
+pub readers_of : (inlets : List RingInlet) (ws : List Worked) (es : List RequestsEnded) (rs : List ClientReader) → AreUnzipped ws es rs
     → AreOfLines inlets ws → AreReadersOf inlets rs
 readers_of inlets ws es rs p a =
-    let n = parted_lengths ws es rs p in
+    let n = unzipped_lengths ws es rs p in
     let m : length ws ≡ length inlets = a.as_many in record {
       as_many = n.1 ∙ m;
       of_lines = λ k i r l. by_end k i r l;
@@ -65,13 +65,13 @@ readers_of inlets ws es rs p a =
         → words_ring_of_reader (get_or rs k r) ≡ (line_of_inlet (get_or inlets k i)).1
     by_end k i r l =
         let m : length ws ≡ length inlets = a.as_many in
-        let n = parted_lengths ws es rs p in
+        let n = unzipped_lengths ws es rs p in
         let w : Worked = some_worked ws k (omega arith) in
         let e : RequestsEnded = some_end es k (let z = n.0 in omega arith) in
-        let at = parted_at ws es rs p k w e r (omega arith) in
+        let at = unzipped_at ws es rs p k w e r (omega arith) in
         ap words_ring_of_reader (sym at.1) ∙ (a.each k i w l).reader
 
-pub all_served : (desk : DeskState RingInlet) (ws : List Worked) (es : List RequestsEnded) (rs : List ClientReader) → AreParted ws es rs
+pub all_served : (desk : DeskState RingInlet) (ws : List Worked) (es : List RequestsEnded) (rs : List ClientReader) → AreUnzipped ws es rs
     → AreOfLines desk.inlets ws
     → AllIdle desk → AllGot desk.inlets es → AllServed desk ws
 all_served desk ws es rs p a idle got c l =
@@ -81,7 +81,7 @@ all_served desk ws es rs p a idle got c l =
       got = λ i w e is. ap all_submitted (sym (ended_at ws es rs p c w e e l is)) ∙ got c i e low;
     }
 
-pub wound_up : (desk : DeskState RingInlet) (ws : List Worked) (es : List RequestsEnded) (rs : List ClientReader) → AreParted ws es rs
+pub wound_up : (desk : DeskState RingInlet) (ws : List Worked) (es : List RequestsEnded) (rs : List ClientReader) → AreUnzipped ws es rs
     → AreOfLines desk.inlets ws
     → AllIdle desk → AllGot desk.inlets es → AllRead desk.inlets rs → IsWoundUp desk ws
 wound_up desk ws es rs p a idle got read = record {
@@ -93,11 +93,11 @@ wound_up desk ws es rs p a idle got read = record {
     some_reader [] j l = absurd (omega arith)
     some_reader (y ∷ ys) j l = y
 
-    read_all : (c : ℕ) (i : RingInlet) (w : Worked) → c < length ws → (ys : List ClientReader) → AreParted ws es ys → AllRead desk.inlets ys
+    read_all : (c : ℕ) (i : RingInlet) (w : Worked) → c < length ws → (ys : List ClientReader) → AreUnzipped ws es ys → AllRead desk.inlets ys
         → read_by (get_or ws c w).reader ≡ given_of (get_or desk.inlets c i)
     read_all c i w l ys q h =
         let m : length ws ≡ length desk.inlets = a.as_many in
-        let n = parted_lengths ws es ys q in
+        let n = unzipped_lengths ws es ys q in
         let r : ClientReader = some_reader ys c (let z = n.1 in omega (arith, z, l)) in
         ap read_by (reader_at ws es ys q c w r l) ∙ h c i r (omega (arith, l, m))
 
@@ -130,17 +130,17 @@ some_is a b h = ap (λ o. some_or a o) h
 -- this client is held back, and each before it is served
 pub record IsFirstHeld (desk : DeskState RingInlet) (all : List Worked) (c : ℕ) : Type 0 where
   pub client : c < length all
-  pub back : IsHeldBack desk all c
+  pub back : IsUnfinished desk all c
   pub before : (k : ℕ) → k < c → IsServed desk all k
 
 -- the client that is blamed, by the ends that the clients left, is held back by what they left
-pub held_back_by : {X : Type 0} (es : X → List RequestsEnded) (rs : X
+pub unfinished_by : {X : Type 0} (es : X → List RequestsEnded) (rs : X
     → List ClientReader) (desk : DeskState RingInlet) (all : List Worked) (parts : Option X) (held : Option ℕ)
-    → AreOfLines desk.inlets all → IfSome parts (λ p. AreParted all (es p) (rs p)) → (IsNone parts → IsNone held)
+    → AreOfLines desk.inlets all → IfSome parts (λ p. AreUnzipped all (es p) (rs p)) → (IsNone parts → IsNone held)
     → IfSome held (λ c. IfSome parts (λ p. IsBlamed desk (es p) c)) → IfSome held (λ c. IsFirstHeld desk all c)
-held_back_by es rs desk all parts None lines parted missing told = tt
-held_back_by es rs desk all None (Some c) lines parted missing told = let none = missing refl in absurd (cc)
-held_back_by es rs desk all (Some p) (Some c) lines parted missing told = record {
+unfinished_by es rs desk all parts None lines unzipped missing told = tt
+unfinished_by es rs desk all None (Some c) lines unzipped missing told = let none = missing refl in absurd (cc)
+unfinished_by es rs desk all (Some p) (Some c) lines unzipped missing told = record {
   client = low;
   back = reason told.waiting;
   before = before;
@@ -151,15 +151,15 @@ held_back_by es rs desk all (Some p) (Some c) lines parted missing told = record
 
     reason : (((i : RingInlet) (e : RequestsEnded) → IsWaiting (backlog_at desk c) (got_of (get_or desk.inlets c i))
         (all_submitted (get_or (es p) c e)))
-        ⊎ (AllIdle desk × AllGot desk.inlets (es p))) → IsHeldBack desk all c
+        ⊎ (AllIdle desk × AllGot desk.inlets (es p))) → IsUnfinished desk all c
     reason (inl waits) = inl (λ i w e is. subst (λ x. IsWaiting (backlog_at desk c) (got_of (get_or desk.inlets c i)) (all_submitted x))
-        (ended_at all (es p) (rs p) parted c w e e low is) (waits i e))
-    reason (inr done) = inr (all_served desk all (es p) (rs p) parted lines done.0 done.1)
+        (ended_at all (es p) (rs p) unzipped c w e e low is) (waits i e))
+    reason (inr done) = inr (all_served desk all (es p) (rs p) unzipped lines done.0 done.1)
 
     before : (k : ℕ) → k < c → IsServed desk all k
     before k l = record {
       idle = told.idle_before k l;
-      got = λ i w e is. ap all_submitted (sym (ended_at all (es p) (rs p) parted k w e e (let z = low in omega (arith, z, l)) is))
+      got = λ i w e is. ap all_submitted (sym (ended_at all (es p) (rs p) unzipped k w e e (let z = low in omega (arith, z, l)) is))
           ∙ told.got_before k i e l;
     }
 
@@ -170,7 +170,7 @@ first_client desk all None None c is some none back wound = absurd (cc)
 first_client desk all None (Some b) c is some none back wound =
     let at : b ≡ c = some_is b c is in record {
       client = let low = back.client in omega (arith, low, at);
-      reason = inr (subst (λ k. IsHeldBack desk all k) at back.back);
+      reason = inr (subst (λ k. IsUnfinished desk all k) at back.back);
       others = λ k w l. none refl k w (let low = back.client in omega (arith, low, at, l));
       served = λ _ k l. back.before k (omega (arith, at, l));
     }
@@ -190,10 +190,10 @@ first_client desk all (Some a) (Some b) c is some none back wound =
       served = λ _ k l. back.before k (omega (arith, at, l));
     }
   where
-    why : ((b < a) ⊎ (a ≤ b)) → ((w : Worked) → has_failed (get_or all c w) ≡ true) ⊎ IsHeldBack desk all c
+    why : ((b < a) ⊎ (a ≤ b)) → ((w : Worked) → has_failed (get_or all c w) ≡ true) ⊎ IsUnfinished desk all c
     why (inr l) = let at : a ≡ c = let m = some_is (min a b) c is in omega (arith, m, l) in inl (λ w. subst (λ k. has_failed (get_or all k w) ≡ true) at (some.failed w))
     why (inl l) = let at : b ≡ c = let m = some_is (min a b) c is in omega (arith, m, l)
-        in inr (subst (λ k. IsHeldBack desk all k) at back.back)
+        in inr (subst (λ k. IsUnfinished desk all k) at back.back)
 
 abbrev fault_or : ThreadsFault → Option ThreadsFault → ThreadsFault
 fault_or fault None = fault
@@ -244,7 +244,7 @@ no_fault outcome failed held is = go outcome (lower_of failed held) refl is
 -- the desk was wound up, where the requests of each client could be ended and none is held back
 pub wound_by : {X : Type 0} (es : X → List RequestsEnded) (rs : X
     → List ClientReader) (desk : DeskState RingInlet) (all : List Worked) (parts : Option X)
-    → AreOfLines desk.inlets all → (IsNone parts → ¬ (AllEnded all)) → IfSome parts (λ p. AreParted all (es p) (rs p))
+    → AreOfLines desk.inlets all → (IsNone parts → ¬ (AllEnded all)) → IfSome parts (λ p. AreUnzipped all (es p) (rs p))
     → IfSome parts (λ p. AllIdle desk × AllGot desk.inlets (es p) × AllRead desk.inlets (rs p)) → AllEnded all → IsWoundUp desk all
-wound_by es rs desk all None lines missing parted told ended = absurd (missing refl ended)
-wound_by es rs desk all (Some p) lines missing parted told ended = wound_up desk all (es p) (rs p) parted lines told.0 told.1 told.2
+wound_by es rs desk all None lines missing unzipped told ended = absurd (missing refl ended)
+wound_by es rs desk all (Some p) lines missing unzipped told ended = wound_up desk all (es p) (rs p) unzipped lines told.0 told.1 told.2

@@ -1,5 +1,4 @@
 pub mod ClientLemmas
-pub mod PartedLemmas
+pub mod ResultsLemmas
 pub mod EndedLines
-pub mod OneLine
 pub mod ThreadLemmas

@@ -4,15 +4,15 @@ use Rattle.std.specs.Prelude.{is_none, Result, Ok, Err, IfErr}
 use Rattle.std.proofs.lemmas.List.{get_or_push, get_or_append_left, take_more, length-take-le}
 use Rattle.timer_desk.specs.declared.ring.RingInlet.{RingInlet}
 use Rattle.timer_desk.specs.Ring.{line_of_end, line_of_inlet}
-use Rattle.timer_desk.specs.declared.driving.DriveEnd.{DriveEnd}
+use Rattle.timer_desk.specs.declared.driver.DriveEnd.{DriveEnd}
 use Rattle.timer_desk.specs.Desk.{DeskState}
 use Rattle.timer_threads.specs.declared.child.Child.{Child}
 use Rattle.timer_threads.specs.declared.fault.ThreadsFault.{ThreadsFault}
 use Rattle.timer_threads.specs.declared.fault.ThreadsFault.TheVariants as Faults
 use Rattle.timer_threads.specs.declared.worked.Worked.{Worked}
 use Rattle.timer_threads.specs.Children.{promise_of, HaveLeft}
-use Rattle.timer_threads.specs.Working.{IsOfLine, IsWhole}
-use Rattle.timer_threads.specs.Parted.{NoneFailed}
+use Rattle.timer_threads.specs.Work.{IsOfLine, IsWhole}
+use Rattle.timer_threads.specs.Results.{NoneFailed}
 use Rattle.timer_threads.specs.Threads.{AreTied, AreOfLines, AllWhole, IsAmong, IsFirstFault, clients_text, client_line, whole_lines}
 
 before_or_last : (k n : ℕ) → k < n + 1 → (k < n) ⊎ (k ≡ n)

@@ -11,7 +11,7 @@ use Rattle.timer_desk.specs.declared.word.Word.TheVariants as Words
 use Rattle.timer_desk.specs.declared.ring.ClientEnd.{ClientEnd}
 use Rattle.timer_desk.specs.Ring.{line_of_end, next_of, submitted, received_by_end}
 use Rattle.timer_threads.specs.declared.client.Client.{Client}
-use Rattle.timer_threads.specs.Working.{requests_from, started_by, expired_by, follows, ArePassed, IsStopped}
+use Rattle.timer_threads.specs.Work.{requests_from, started_by, expired_by, follows, ArePassed, IsStopped}
 
 -- whether a `Started` answer with this number is the next one
 abbrev pub is_next_start : Client → ℕ → Bool

@@ -1,5 +1,5 @@
-pub mod Working
+pub mod Work
 pub mod Children
 pub mod Client
-pub mod Parted
+pub mod Results
 pub mod Threads

@@ -3,18 +3,18 @@ use Rattle.std.specs.Prelude.{◌≡◌, ◌<◌, ◌+◌, ◌++◌, ◌⊎◌, 
 use Rattle.timer_desk.specs.declared.ring.RingInlet.{RingInlet}
 use Rattle.timer_desk.specs.declared.ring.RequestsEnded.{RequestsEnded}
 use Rattle.timer_desk.specs.declared.ring.ClientReader.{ClientReader}
-use Rattle.timer_desk.specs.declared.driving.DriveEnd.{DriveEnd}
-use Rattle.timer_desk.specs.declared.driving.DriveEnd.TheVariants as DriveEnds
+use Rattle.timer_desk.specs.declared.driver.DriveEnd.{DriveEnd}
+use Rattle.timer_desk.specs.declared.driver.DriveEnd.TheVariants as DriveEnds
 use Rattle.timer_desk.specs.Desk.{DeskState, IsIdle, backlog_at}
-use Rattle.timer_desk.specs.Winding.{IsWaiting}
+use Rattle.timer_desk.specs.Shutdown.{IsWaiting}
 use Rattle.timer_desk.specs.Ring.{line_of_end, line_of_inlet, got_of, given_of, all_submitted, read_by, unread_by}
 use Rattle.timer_threads.specs.declared.child.Child.{Child}
 use Rattle.timer_threads.specs.declared.fault.ThreadsFault.{ThreadsFault}
 use Rattle.timer_threads.specs.declared.fault.ThreadsFault.TheVariants as Faults
 use Rattle.timer_threads.specs.declared.worked.Worked.{Worked}
 use Rattle.timer_threads.specs.Children.{promise_of}
-use Rattle.timer_threads.specs.Working.{IsOfLine, IsWhole}
-use Rattle.timer_threads.specs.Parted.{has_failed, NoneFailed, AllEnded}
+use Rattle.timer_threads.specs.Work.{IsOfLine, IsWhole}
+use Rattle.timer_threads.specs.Results.{has_failed, NoneFailed, AllEnded}
 
 -- the thread at each index was started with the end of the line at that index, and with this many requests to
 -- send
@@ -77,8 +77,8 @@ pub record HasEnded (desk : DeskState RingInlet) (outcome : DriveEnd) (all : Lis
   pub wound : IsWoundUp desk all
 
 -- a request or a word of this client waits; or none of any client does
-abbrev pub IsHeldBack : DeskState RingInlet → List Worked → ℕ → Type 0
-IsHeldBack desk all c =
+abbrev pub IsUnfinished : DeskState RingInlet → List Worked → ℕ → Type 0
+IsUnfinished desk all c =
     ((i : RingInlet) (w : Worked) (e : RequestsEnded) → (get_or all c w).ended ≡ Some e
     → IsWaiting (backlog_at desk c) (got_of (get_or desk.inlets c i)) (all_submitted e))
     ⊎ AllServed desk all
@@ -87,7 +87,7 @@ IsHeldBack desk all c =
 -- ended, each before it is served.
 pub record IsFirstClient (desk : DeskState RingInlet) (all : List Worked) (c : ℕ) : Type 0 where
   pub client : c < length all
-  pub reason : ((w : Worked) → has_failed (get_or all c w) ≡ true) ⊎ IsHeldBack desk all c
+  pub reason : ((w : Worked) → has_failed (get_or all c w) ≡ true) ⊎ IsUnfinished desk all c
   pub others : (k : ℕ) (w : Worked) → k < c → has_failed (get_or all k w) ≡ false
   pub served : AllEnded all → (k : ℕ) → k < c → IsServed desk all k
 

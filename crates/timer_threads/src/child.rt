@@ -7,12 +7,12 @@ ghost use Rattle.std.specs.Prelude.{◌≡◌, ◌≤◌, IfOk};
 ghost use Rattle.timer_base.specs.declared.limits.TheConstants.{LAST};
 ghost use Rattle.timer_desk.specs.Ring.{line_of_end};
 ghost use Rattle.timer_threads.specs.Children.{promise_of};
-ghost use Rattle.timer_threads.specs.Working.{IsOfLine, IsWhole};
+ghost use Rattle.timer_threads.specs.Work.{IsOfLine, IsWhole};
 
 use crate::gate::Gate;
 use crate::promise::Finishes;
 use crate::worked::Worked;
-use crate::working::client_work;
+use crate::work::client_work;
 use std::snapshot::Snapshot;
 use std::thread;
 use std::thread::{PromisedHandle, Threads};

@@ -7,7 +7,7 @@ ghost use Rattle.std.specs.List.{last_or};
 ghost use Rattle.timer_base.specs.declared.limits.TheConstants.{LAST};
 ghost use Rattle.timer_desk.specs.Ring.{line_of_end};
 ghost use Rattle.timer_desk.specs.declared.ring.ClientEnd.{ClientEnd};
-ghost use Rattle.timer_threads.specs.Working.{started_in, expired_in, follows, IsOfLine, HasWorked};
+ghost use Rattle.timer_threads.specs.Work.{started_in, expired_in, follows, IsOfLine, HasWorked};
 
 use crate::gate::Gate;
 use crate::worked::Worked;

@@ -2,12 +2,12 @@
 ghost use Rattle.std.specs.Prelude.{◌≡◌, ◌<◌, [], length, IfOk, IfErr, IfSome, IsNone, IsTrue, vec_len};
 ghost use Rattle.timer_desk.specs.Desk.{AllIdle};
 ghost use Rattle.timer_desk.specs.Ring.{unread_by};
-ghost use Rattle.timer_desk.specs.Winding.{AreEndsOf, AreReadersOf, AllGot, IsBlamed};
+ghost use Rattle.timer_desk.specs.Shutdown.{AreEndsOf, AreReadersOf, AllGot, IsBlamed};
 ghost use Rattle.timer_threads.specs.Threads.{AreOfLines, AllWhole, AllRead, NoneUnread, HasEnded, IsFirstFault, fault_of, whole_text};
-ghost use Rattle.timer_threads.specs.Parted.{lower_of};
+ghost use Rattle.timer_threads.specs.Results.{lower_of};
 
 use crate::fault::ThreadsFault;
-use crate::parting::{first_failed, lower, parted};
+use crate::results::{first_failed, lower, unzip_results};
 use crate::threads_text::threads_text;
 use crate::worked::Worked;
 use std::alloc::Global;
@@ -42,10 +42,10 @@ pub fn end_all(
     let Ok(text) = threads_text(alloc, &all) else {
         return Err(ThreadsFault::OutOfMemory);
     };
-    let Ok(parts) = parted(alloc, all) else {
+    let Ok(parts) = unzip_results(alloc, all) else {
         return Err(ThreadsFault::OutOfMemory);
     };
-    let held = held_back(desk, parts);
+    let held = first_unfinished(desk, parts);
     match first_fault(failed, held, outcome) {
         Some(fault) => Err(fault),
         None => Ok(text),
@@ -73,7 +73,7 @@ fn first_fault(
 /// Winds the desk up if all that it takes is there, and returns the client that blocked it: the first of whom
 /// something is held, waits or stands; if there is none, the first whose line could not be finished; or the
 /// first with a word left to read.
-fn held_back(
+fn first_unfinished(
     desk: Desk<HierWheel, RingInlet>,
     parts: Option<(Vec<RequestsEnded>, Vec<ClientReader>)>,
 ) -> Option<usize>

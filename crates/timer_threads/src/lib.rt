@@ -8,35 +8,19 @@
 mod child;
 mod children;
 mod client;
-#[cfg(test)]
-mod client_tests;
 mod ending;
 mod fault;
-#[cfg(test)]
-mod full_tests;
 mod gate;
-#[cfg(test)]
-mod line_tests;
-mod parting;
+mod results;
 mod promise;
-#[cfg(test)]
-mod refusing;
-#[cfg(test)]
-mod row_tests;
-#[cfg(test)]
-mod testing;
-#[cfg(test)]
-mod thread_tests;
 mod threads;
 mod threads_text;
-#[cfg(test)]
-mod wind_tests;
 mod worked;
-mod working;
+mod work;
 
 pub use ending::end_all;
 pub use fault::ThreadsFault;
 pub use gate::{Gate, InTurn, Open};
 pub use threads::threads_run;
 pub use worked::Worked;
-pub use working::client_work;
+pub use work::client_work;

@@ -14,7 +14,7 @@ pub struct Finishes {
 
 impl Promise<Worked> for Finishes {
     ghost use Rattle.timer_desk.specs.Ring.{line_of_end};
-    ghost use Rattle.timer_threads.specs.Working.{IsOfLine, IsWhole};
+    ghost use Rattle.timer_threads.specs.Work.{IsOfLine, IsWhole};
 
     ghost kept_by = { λ p w. IsOfLine (line_of_end p.end.value) w × IsWhole p.count w };
 }

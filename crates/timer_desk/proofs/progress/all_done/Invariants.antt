@@ -1,6 +1,6 @@
 use Rattle.std.proofs.Common.{ℕ, ◌<◌, get_or}
 use Rattle.timer_desk.specs.declared.progress.Progress.{Progress}
-use Rattle.timer_desk.specs.Driving.{IsDone}
+use Rattle.timer_desk.specs.Driver.{IsDone}
 use Rattle.timer_desk.proofs.progress.all_done.Given as goal
 
 abbrev pub invariant-loop-progress : goal.invariant-loop-progress

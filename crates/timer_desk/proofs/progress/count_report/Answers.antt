@@ -1,5 +1,5 @@
 use Rattle.std.proofs.Common.{ap, ◌∙◌, arith}
-use Rattle.timer_desk.specs.Driving.{all_left}
+use Rattle.timer_desk.specs.Driver.{all_left}
 use Rattle.timer_desk.proofs.ProgressLemmas.{counted_one_more, fewer_left}
 use Rattle.timer_desk.proofs.progress.count_report.Goals as goal
 use Rattle.timer_desk.proofs.progress.count_report.Goals.{then-count_member, else-count_member}

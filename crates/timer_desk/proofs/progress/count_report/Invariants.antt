@@ -1,6 +1,6 @@
 use Rattle.std.proofs.Common.{◌≡◌, ◌<◌, ℕ, true, false, length, get_or, take, vec_len}
 use Rattle.timer_desk.specs.declared.progress.Progress.{Progress}
-use Rattle.timer_desk.specs.Driving.{HasCounted, all_left}
+use Rattle.timer_desk.specs.Driver.{HasCounted, all_left}
 use Rattle.timer_desk.specs.Report.{asked, flushed}
 use Rattle.timer_desk.proofs.progress.count_report.Given as goal
 

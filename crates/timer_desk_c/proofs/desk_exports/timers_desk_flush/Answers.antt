@@ -1,7 +1,7 @@
 use Rattle.std.proofs.Common.{◌≡◌, ◌≤◌, ◌∙◌, ap, sym, subst}
 use Rattle.timer_desk.specs.Desk.{clients_of}
 use Rattle.timer_desk_c.specs.DeskSlots.{DeskState}
-use Rattle.timer_desk_c.specs.declared.desk_slot.DeskSlot.{DeskSlot}
+use Rattle.timer_desk_c.specs.declared.desk_cell.DeskCell.{DeskCell}
 use Rattle.timer_desk_c.proofs.FrameSteps.{looked, kept}
 use Rattle.timer_desk_c.proofs.desk_exports.timers_desk_flush.Goals as goal
 
@@ -10,6 +10,6 @@ returns-then-not-holds-clause-only c = looked c.args.d.now c.holds.new.self c.ho
 
 pub returns-clause-none : goal.returns-clause-none
 returns-clause-none c = λ is_open low.
-    let same : c.desk.result.now ≡ c.args.d.now.slot.state = c.desk.ensures.value ∙ ap (λ (s : DeskSlot). s.state) c.holds.ensures.same in
+    let same : c.desk.result.now ≡ c.args.d.now.slot.state = c.desk.ensures.value ∙ ap (λ (s : DeskCell). s.state) c.holds.ensures.same in
     let none = c.flush.ensures.none (subst (λ (w : DeskState). clients_of w ≤ c.args.client) (sym same) low) in
     (none.0, kept c.args.d.now c.holds.new.self c.flush.new.desk c.holds.ensures.same (none.1 ∙ c.desk.ensures.value))

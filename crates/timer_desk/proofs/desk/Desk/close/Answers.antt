@@ -1,7 +1,7 @@
 use Rattle.std.proofs.Common.{◌∷◌, map, subst}
 use Rattle.timer_desk.specs.declared.report.Done.TheVariants.{Closed, Noticed}
-use Rattle.timer_desk.specs.Desk.{DeskState, Told, close_notices}
-use Rattle.timer_desk.proofs.HandingLemmas.{desk_of, HasClosed, Told-close, IsDesk-close}
+use Rattle.timer_desk.specs.Desk.{DeskState, ReportHolds, close_notices}
+use Rattle.timer_desk.proofs.DispatchLemmas.{desk_of, HasClosed, ReportHolds-close, IsDesk-close}
 use Rattle.timer_desk.proofs.desk.Desk.close.Goals as goal
 
 pub invariant_of-self : goal.invariant_of-self
@@ -22,8 +22,8 @@ returns g c =
     let closed : HasClosed c.self.inside.facility c.close-result.new.self r =
     record { count = e.count; open_before = e.open; closed = e.closed; fault = e.fault; unchanged = e.err } in
     let new = desk_of c.hand_out.new.facility c.self.inside.inlets.items c.hand_out.new.backlogs.items in
-    subst (λ (d : DeskState g.row.I.Denot). Told g.I.Inlet.kind (Closed r ∷ map (λ n. Noticed n) (close_notices d.facility r)) d new)
+    subst (λ (d : DeskState g.row.I.Denot). ReportHolds g.I.Inlet.kind (Closed r ∷ map (λ n. Noticed n) (close_notices d.facility r)) d new)
     c.self.view_is
-    (Told-close g.I.Inlet.kind c.self.inside.facility c.close-result.new.self c.hand_out.new.facility r c.self.inside.inlets.items
+    (ReportHolds-close g.I.Inlet.kind c.self.inside.facility c.close-result.new.self c.hand_out.new.facility r c.self.inside.inlets.items
     c.self.inside.backlogs.items c.hand_out.new.backlogs.items
     c.self.invariant closed handed.facility handed.noted handed.room)

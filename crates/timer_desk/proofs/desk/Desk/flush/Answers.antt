@@ -1,9 +1,9 @@
 use Rattle.std.proofs.Common.{◌<◌, length, ap, arith, subst}
 use Rattle.std.specs.Prelude.{slice_set}
 use Rattle.timer_desk.specs.Desk.{DeskState, clients_of}
-use Rattle.timer_desk.specs.Flushing.{Flushes}
-use Rattle.timer_desk.proofs.HandingLemmas.{desk_of}
-use Rattle.timer_desk.proofs.FlushingLemmas.{Flushes-one}
+use Rattle.timer_desk.specs.Flush.{Flushes}
+use Rattle.timer_desk.proofs.DispatchLemmas.{desk_of}
+use Rattle.timer_desk.proofs.FlushLemmas.{Flushes-one}
 use Rattle.timer_desk.proofs.desk.Desk.flush.Goals as goal
 
 pub returns-clause-flushes : goal.returns-clause-flushes

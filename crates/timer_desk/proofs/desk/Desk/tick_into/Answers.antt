@@ -2,7 +2,7 @@ use Rattle.std.proofs.Common.{◌++◌, map, ◌∙◌, ap, subst}
 use Rattle.timer_desk.specs.declared.report.Done.TheVariants.{Noticed}
 use Rattle.timer_desk.specs.declared.report.Step.TheVariants as Steps
 use Rattle.timer_desk.specs.Desk.{DeskState, AddsStep}
-use Rattle.timer_desk.proofs.HandingLemmas.{AddsStep-tick, IsDesk-tick, desk_of}
+use Rattle.timer_desk.proofs.DispatchLemmas.{AddsStep-tick, IsDesk-tick, desk_of}
 use Rattle.timer_desk.proofs.desk.Desk.tick_into.Goals as goal
 
 pub invariant_of-self : goal.invariant_of-self

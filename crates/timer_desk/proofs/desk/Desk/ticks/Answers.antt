@@ -1,10 +1,10 @@
 use Rattle.std.proofs.Common.{◌≡◌, subst, arith}
 use Rattle.std.specs.Prelude.{replicate}
 use Rattle.timer_desk.specs.declared.report.Step.TheVariants as Steps
-use Rattle.timer_desk.specs.Desk.{DeskState, Told, steps_of}
-use Rattle.timer_desk.specs.Ticking.{ticks_report, HasPassed}
-use Rattle.timer_desk.proofs.HandingLemmas.{desk_of}
-use Rattle.timer_desk.proofs.TickingLemmas.{HasRoom-ticks, IsDesk-ticks, Told-ticks, HasPassed-ticked, clients-ticks, steps-ticks_report}
+use Rattle.timer_desk.specs.Desk.{DeskState, ReportHolds, steps_of}
+use Rattle.timer_desk.specs.Ticks.{ticks_report, HasPassed}
+use Rattle.timer_desk.proofs.DispatchLemmas.{desk_of}
+use Rattle.timer_desk.proofs.TicksLemmas.{HasRoom-ticks, IsDesk-ticks, ReportHolds-ticks, HasPassed-ticked, clients-ticks, steps-ticks_report}
 use Rattle.timer_desk.proofs.desk.Desk.ticks.Goals as goal
 
 pub hand_out-requires-clause-room : goal.hand_out-requires-clause-room
@@ -34,8 +34,8 @@ pub returns-in-Ok-clause-told : goal.returns-in-Ok-clause-told
 returns-in-Ok-clause-told g c =
     let handed = c.hand_out.ensures in
     let new = desk_of c.hand_out.new.facility c.self.inside.inlets.items c.hand_out.new.backlogs.items in
-    subst (λ (d : DeskState g.row.I.Denot). Told g.I.Inlet.kind (ticks_report c.in-Ok.passed d.facility) d new) c.self.view_is
-    (Told-ticks g.I.Inlet.kind
+    subst (λ (d : DeskState g.row.I.Denot). ReportHolds g.I.Inlet.kind (ticks_report c.in-Ok.passed d.facility) d new) c.self.view_is
+    (ReportHolds-ticks g.I.Inlet.kind
     c.what_is_handed_out_was_pending.ensures.tick c.self.inside.facility c.ticks.new.self c.hand_out.new.facility c.self.inside.inlets.items
     c.self.inside.backlogs.items c.hand_out.new.backlogs.items
     c.self.invariant c.args.limit c.in-Ok.passed c.in-Ok.ensures.ticked handed.facility handed.noted handed.room)

@@ -3,7 +3,7 @@ use Rattle.timer_facility.specs.Facility.{FacilityView}
 use Rattle.timer_desk.specs.declared.report.Done.TheVariants.{Noticed}
 use Rattle.timer_desk.specs.declared.report.Step.TheVariants as Steps
 use Rattle.timer_desk.specs.Desk.{DeskState, AddsStep}
-use Rattle.timer_desk.proofs.HandingLemmas.{desk_of}
+use Rattle.timer_desk.proofs.DispatchLemmas.{desk_of}
 use Rattle.timer_desk.proofs.PassLemmas.{HasTicked, HasRoom-passed, clients-passed, fewer_passed, IsDesk-passed, AddsStep-passed}
 use Rattle.timer_desk.proofs.desk.Desk.ticks_into.Goals as goal
 

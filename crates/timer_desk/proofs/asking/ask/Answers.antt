@@ -1,7 +1,0 @@
-use Rattle.timer_desk.proofs.AskingLemmas.{needs_memory}
-use Rattle.timer_desk.proofs.asking.ask.Goals as goal
-
-pub returns-in-OutOfMemory-clause-memory : goal.returns-in-OutOfMemory-clause-memory
-returns-in-OutOfMemory-clause-memory g c _ =
-    needs_memory c.args.facility.now.state c.args.client c.args.numbered.number c.args.numbered.request c.in-Err.reason c.in-OutOfMemory.is
-    c.in-Err.ensures.not_taken

@@ -1,0 +1,200 @@
+//! Drives a desk turn by turn until each client has reached a goal.
+ghost use Rattle.std.specs.Prelude.{◌≡◌, ◌≤◌, ◌<◌, ◌↔◌, ℕ, false, All, IfOk, OnErr, length, vec_len};
+ghost use Rattle.timer_base.specs.declared.limits.TheConstants.{LAST};
+ghost use Rattle.timer_desk.specs.Desk.{clients_of};
+ghost use Rattle.timer_desk.specs.Driver.{PassesTicks, IsFit, NoneRanOut, is_out_of_memory, ticks_in, TurnsOnce, Drives, IsTurned};
+
+use crate::desk::Desk;
+use crate::inlet::Inlet;
+use crate::progress::{Progress, all_done, count_report, no_progress};
+use crate::report::{Done, Served, Step};
+use std::alloc::{AllocError, Global};
+use std::thread;
+use timer_base::Wheel;
+use timer_facility::laws::notices_are_owed;
+
+/// Why a drive ended.
+#[derive(Clone, Copy, Debug, PartialEq, Eq)]
+pub enum DriveEnd {
+    /// Each client reached the goal.
+    Done,
+    /// `limit` consecutive turns made no progress.
+    Limit,
+    /// Allocation failed.
+    OutOfMemory,
+}
+
+/// A desk after a drive, and why it ended.
+#[derive(Drop)]
+pub struct Driven<W: Wheel + Drop, I: Inlet + Drop> {
+    pub desk: Desk<W, I>,
+    pub outcome: DriveEnd,
+}
+
+/// The outcome of one turn.
+#[derive(Clone, Copy)]
+enum Turned {
+    Passed,
+    Idle,
+    OutOfMemory,
+}
+
+/// Runs turns of the desk: a serve of each client that has had fewer than `goal` requests served, a flush
+/// of each client, and a tick. It ends when each client has had `goal` requests served and twice as many
+/// words flushed, when `limit` consecutive turns made no progress, or when allocation failed. A turn
+/// without progress yields the processor to another thread.
+///
+/// After `Done` each client has reached the goal. After `Limit` the last `limit` turns made no progress and,
+/// if the limit is above 0, some client has not reached the goal. A drive in which a serve ran out of memory
+/// ends as `OutOfMemory`.
+pub fn drive<W: Wheel + Drop, I: Inlet + Drop>(
+    alloc: Global,
+    desk: Desk<W, I>,
+    goal: u64,
+    limit: u64,
+) -> Driven<W, I>
+    requires goal { goal ≤ LAST }
+    requires limit { limit ≤ LAST }
+    ensures { Drives I.kind Step.Tick goal limit desk result.desk result.outcome }
+{
+    run_turns(alloc, desk, goal, limit, Step::Tick)
+}
+
+/// Runs turns of the desk as `drive` does, but each ends with up to `ticks` ticks at once, in place of one.
+///
+/// These ticks end at the first that hands out something, and the next turn flushes it. So a desk that has
+/// slept passes the ticks that it missed in a few turns.
+pub fn drive_by<W: Wheel + Drop, I: Inlet + Drop>(
+    alloc: Global,
+    desk: Desk<W, I>,
+    goal: u64,
+    limit: u64,
+    ticks: u64,
+) -> Driven<W, I>
+    requires goal { goal ≤ LAST }
+    requires limit { limit ≤ LAST }
+    requires ticks { 0 < ticks }
+    ensures { Drives I.kind (Step.Ticks ticks) goal limit desk result.desk result.outcome }
+{
+    run_turns(alloc, desk, goal, limit, Step::Ticks(ticks))
+}
+
+/// Runs turns of the desk that end in the step `last`.
+fn run_turns<W: Wheel + Drop, I: Inlet + Drop>(
+    alloc: Global,
+    desk: Desk<W, I>,
+    goal: u64,
+    limit: u64,
+    last: Step,
+) -> Driven<W, I>
+    requires goal { goal ≤ LAST }
+    requires limit { limit ≤ LAST }
+    requires last { PassesTicks last }
+    ensures { Drives I.kind last goal limit desk result.desk result.outcome }
+{
+    let mut desk = desk;
+    notices_are_owed();
+    desk.keeps();
+    let Ok(mut progress) = no_progress(alloc, desk.clients()) else {
+        return Driven {
+            desk,
+            outcome: DriveEnd::OutOfMemory,
+        };
+    };
+    let mut idle = 0u64;
+    while idle < limit {
+        if all_done(&progress, goal) {
+            return Driven {
+                desk,
+                outcome: DriveEnd::Done,
+            };
+        }
+        match one_turn(alloc, &mut desk, &mut progress, goal, last) {
+            Turned::Passed => idle = 0,
+            Turned::Idle => {
+                idle += 1;
+                thread::yield_now();
+            }
+            Turned::OutOfMemory => {
+                return Driven {
+                    desk,
+                    outcome: DriveEnd::OutOfMemory,
+                };
+            }
+        }
+    }
+    Driven {
+        desk,
+        outcome: DriveEnd::Limit,
+    }
+}
+
+/// Runs one turn that ends in the step `last`, and counts its progress.
+fn one_turn<W: Wheel + Drop, I: Inlet + Drop>(
+    alloc: Global,
+    desk: &mut Desk<W, I>,
+    progress: &mut Vec<Progress>,
+    goal: u64,
+    last: Step,
+) -> Turned
+    requires goal { goal ≤ LAST }
+    requires clients { vec_len progress.old ≡ clients_of desk.old }
+    requires last { PassesTicks last }
+    ensures turns { TurnsOnce I.kind last goal (is_out_of_memory result) desk.old desk.new
+        progress.old.items progress.new.items }
+    ensures turned { IsTurned goal progress.old.items progress.new.items result }
+    ensures clients { vec_len progress.new ≡ clients_of desk.new }
+{
+    desk.keeps();
+    let Ok(steps) = steps_of_turn(alloc, progress, goal, last) else {
+        return Turned::OutOfMemory;
+    };
+    let Ok(report) = desk.turn(&steps) else {
+        return Turned::OutOfMemory;
+    };
+    let passed = count_report(progress, &report, goal);
+    if ran_out(&report) {
+        return Turned::OutOfMemory;
+    }
+    if passed { Turned::Passed } else { Turned::Idle }
+}
+
+/// The steps of one turn, the last of which is `last`.
+fn steps_of_turn(
+    alloc: Global,
+    progress: &[Progress],
+    goal: u64,
+    last: Step,
+) -> Result<Vec<Step>, AllocError>
+    requires last { PassesTicks last }
+    ensures fit { IfOk result (λ steps. All (IsFit (length progress.now) last) steps.items) }
+    ensures once { IfOk result (λ steps. ticks_in steps.items ≡ 1) }
+{
+    let mut steps = Vec::with_capacity(alloc, 2 * progress.len() + 1)?;
+    for (client, reached) in progress.iter().enumerate() {
+        if reached.served < goal {
+            steps.push_reserved(Step::Serve(client));
+        }
+    }
+    for client in 0..progress.len() {
+        steps.push_reserved(Step::Flush(client));
+    }
+    steps.push_reserved(last);
+    Ok(steps)
+}
+
+/// Whether a serve of this report ran out of memory.
+fn ran_out(report: &[Done]) -> bool
+    ensures { result ≡ false ↔ NoneRanOut report.now }
+{
+    for member in report {
+        if let Done::Served {
+            served: Served::NoMemory,
+            ..
+        } = member
+        {
+            return true;
+        }
+    }
+    false
+}

@@ -1,0 +1,33 @@
+//! Passes a client's request to the facility.
+ghost use Rattle.std.specs.Prelude.{◌≡◌, [], None, IfSome, IsNone};
+ghost use Rattle.timer_facility.specs.Facility.{NeedsMemory};
+ghost use Rattle.timer_desk.specs.Forward.{HasAsked};
+
+use crate::word::{Numbered, Word};
+use timer_base::Wheel;
+use timer_facility::{Facility, NotTaken};
+
+/// Makes a client's request at the facility, and returns the word for its answer or its refusal.
+///
+/// None where the facility is out of memory, and then nothing changes.
+pub fn ask<W: Wheel + Drop>(
+    facility: &mut Facility<W>,
+    client: u64,
+    numbered: Numbered,
+) -> Option<Word>
+    requires { facility.old.waiting ≡ [] }
+    ensures some { IfSome result (λ word. HasAsked facility.old.state client numbered word facility.new) }
+    ensures none { IsNone result → facility.new ≡ facility.old }
+    ensures memory { IsNone result → NeedsMemory facility.old.state client numbered.number numbered.request }
+{
+    let number = numbered.number;
+    match facility.take(client, number, numbered.request) {
+        Ok(answer) => Some(Word::Answered { number, answer }),
+        Err(reason) => {
+            if let NotTaken::OutOfMemory = reason {
+                return None;
+            }
+            Some(Word::NotTaken { number, reason })
+        }
+    }
+}

@@ -1,0 +1,53 @@
+//! A desk over ring lines settles a line whose client has finished: its requests, and its words.
+ghost use Rattle.std.specs.Prelude.{◌≡◌, ◌<◌, ◌++◌, ◌≢◌, ℕ, true, length, get_or};
+ghost use Rattle.timer_desk.specs.Desk.{clients_of};
+ghost use Rattle.timer_desk.specs.Ring.{line_of_inlet, got_of, standing_of, given_of, is_settled, requests_ring_of, all_submitted, words_ring_of_reader, read_by, unread_by, is_settled_reader};
+ghost use Rattle.timer_desk.specs.Shutdown.{IsReadOut};
+
+use crate::desk::Desk;
+use crate::ring::{ClientReader, RequestsEnded, RingInlet};
+use timer_base::Wheel;
+
+impl<W: Wheel + Drop> Desk<W, RingInlet> {
+    ghost use Rattle.timer_desk.specs.Settlement.{HasSettled, HasLooked};
+
+    /// Settles the line of client c, and returns how many requests stand in it. Does not allocate.
+    pub fn settle(&mut self, c: usize, ended: &mut RequestsEnded) -> usize
+        requires client { c < clients_of self.old }
+        requires line { (i : RingInlet) → requests_ring_of ended.old
+            ≡ (line_of_inlet (get_or self.old.inlets c i)).0 }
+        ensures others { (k : ℕ) (i : RingInlet) → k ≢ c
+            → get_or self.new.inlets k i ≡ get_or self.old.inlets k i }
+        ensures clients { clients_of self.new ≡ clients_of self.old }
+        ensures facility { self.new.facility ≡ self.old.facility }
+        ensures backlogs { self.new.backlogs ≡ self.old.backlogs }
+        ensures settled { (i : RingInlet) → HasSettled (get_or self.old.inlets c i)
+            (get_or self.new.inlets c i) (all_submitted ended.old) result }
+        ensures ended { (requests_ring_of ended.new ≡ requests_ring_of ended.old)
+            × (all_submitted ended.new ≡ all_submitted ended.old) }
+    {
+        self.inlets[c].settle(ended)
+    }
+
+    /// Settles the reader of client c, and returns how many words stand in its line: with what it has
+    /// received they are all that were given. Does not allocate.
+    pub fn settle_reader(&mut self, c: usize, reader: &mut ClientReader) -> usize
+        requires client { c < clients_of self.old }
+        requires line { (i : RingInlet) → words_ring_of_reader reader.old
+            ≡ (line_of_inlet (get_or self.old.inlets c i)).1 }
+        ensures others { (k : ℕ) (i : RingInlet) → k ≢ c
+            → get_or self.new.inlets k i ≡ get_or self.old.inlets k i }
+        ensures clients { clients_of self.new ≡ clients_of self.old }
+        ensures facility { self.new.facility ≡ self.old.facility }
+        ensures backlogs { self.new.backlogs ≡ self.old.backlogs }
+        ensures looked { (i : RingInlet) → HasLooked (get_or self.old.inlets c i)
+            (get_or self.new.inlets c i) }
+        ensures read_out { (i : RingInlet) → IsReadOut (get_or self.old.inlets c i) reader.old reader.new }
+        ensures count { result ≡ length (unread_by reader.new) }
+        ensures settled { is_settled_reader reader.new ≡ true }
+        ensures reader { (words_ring_of_reader reader.new ≡ words_ring_of_reader reader.old)
+            × (read_by reader.new ≡ read_by reader.old) }
+    {
+        reader.settle_beside(&mut self.inlets[c])
+    }
+}
