@@ -119,8 +119,7 @@ fn read_fails(
 }
 
 /// What has come before the read fails: a part of a line, some lines, all of them.
-static FAILED_READS: [(usize, Row); 8] = [
-    (46, (Reading::Play, MIGRATION, 1, "", "read failed\n")),
+static FAILED_READS: [(usize, Row); 7] = [
     (3, (Reading::Serve, MIGRATION, 1, "", "read failed\n")),
     (
         16,
@@ -171,20 +170,27 @@ fn a_reader_that_fails_once_ends_the_call(rt: HostRuntime) {
     for (room, row) in FAILED_READS {
         read_fails(&rt, rt.alloc(), row, USUAL, room);
     }
+    // After the last byte of a script the reader fails in place of its end.
+    for room in 0..=MIGRATION.len() {
+        let row = (Reading::Play, MIGRATION, 1, "", "read failed\n");
+        read_fails(&rt, rt.alloc(), row, USUAL, room);
+    }
 }
 
-/// Runs a subcommand with a writer that takes this front of its text and then has this fault.
+/// Runs a subcommand with a writer that takes this front of its text, in pieces of this size, and then has a
+/// fault.
 fn write_fails(
     rt: &impl Abort,
     alloc: Global,
-    subcommand: Reading,
+    (subcommand, script, size): (Reading, &str, usize),
     options: RunOptions,
-    script: &str,
     front: &[u8],
 ) {
     let room = front.len();
     for fault in FAULTS {
-        let sink = Sink::new(alloc).with_fault_after(room, fault);
+        let sink = Sink::new(alloc)
+            .in_pieces(size)
+            .with_fault_after(room, fault);
         let source = Source::of(script.as_bytes()).in_pieces(7);
         let ended = call(alloc, subcommand, options, source, sink);
         has_left(rt, room, &ended, 1, front, b"write failed\n");
@@ -198,16 +204,29 @@ fn a_writer_that_fails_once_at_any_byte_ends_the_call(rt: HostRuntime) {
     let shown =
         "started 0 1 1 5\n  now 0\n  wheel 0 slot 5: 1\nexpired 5 0 1 0\n  now 5\nend 5 0\n";
     let checked = "line 1, column 6: count: out of range 1 to 1000000\n";
-    for (subcommand, script, text) in [
-        (Reading::Play, MIGRATION, MIGRATION_TEXT),
-        (Reading::Serve, MIGRATION, MIGRATION_TEXT),
-        (Reading::Show, "start 0 1 5 0\ntick 5\n", shown),
-        (Reading::Check, "tick 0\n", checked),
+    for (subcommand, script, size, text) in [
+        (Reading::Play, MIGRATION, 1, MIGRATION_TEXT),
+        (Reading::Play, MIGRATION, 13, MIGRATION_TEXT),
+        (Reading::Serve, MIGRATION, 5, MIGRATION_TEXT),
+        (Reading::Show, "start 0 1 5 0\ntick 5\n", 5, shown),
+        (Reading::Check, "tick 0\n", 5, checked),
     ] {
         let text = text.as_bytes();
         for room in 0..text.len() {
-            write_fails(&rt, rt.alloc(), subcommand, USUAL, script, &text[..room]);
+            let call = (subcommand, script, size);
+            write_fails(&rt, rt.alloc(), call, USUAL, &text[..room]);
         }
+    }
+}
+
+#[test]
+fn a_fault_behind_the_last_byte_is_never_met(rt: HostRuntime) {
+    let text = MIGRATION_TEXT.as_bytes();
+    for fault in FAULTS {
+        let sink = Sink::new(rt.alloc()).with_fault_after(text.len(), fault);
+        let source = Source::of(MIGRATION.as_bytes());
+        let ended = call(rt.alloc(), Reading::Play, USUAL, source, sink);
+        has_left(&rt, "the whole text", &ended, 0, text, b"");
     }
 }
 
@@ -218,14 +237,68 @@ fn io_faults_end_the_run_with_each_scheme(rt: HostRuntime) {
     for scheme in SCHEMES {
         let options = RunOptions { scheme, ..USUAL };
         read_fails(&rt, rt.alloc(), row, options, 3);
-        write_fails(
-            &rt,
+        let call = (Reading::Play, ONE_TIMER, 5);
+        write_fails(&rt, rt.alloc(), call, options, front.as_slice());
+    }
+}
+
+/// The lengths of the fronts of `MIGRATION` that end at a line, and the last line of the text of each.
+static ENDS: [(usize, &str); 5] = [
+    (0, "end 0 0\n"),
+    (16, "end 0 1\n"),
+    (25, "end 128 1\n"),
+    (39, "end 128 2\n"),
+    (46, "end 130 0\n"),
+];
+
+/// Whether the front of this length ends at a line.
+fn ends_at_a_line(len: usize) -> bool {
+    for (end, _) in ENDS {
+        if end == len {
+            return true;
+        }
+    }
+    false
+}
+
+/// Plays a front of the script that ends within a line, the one of this number.
+fn cut_line_is_bad(rt: &impl Abort, alloc: Global, front: &[u8], number: u64) {
+    let ended = call(
+        alloc,
+        Reading::Play,
+        USUAL,
+        Source::of(front),
+        Sink::new(alloc),
+    );
+    let Ok(wanted) = format!(in alloc; "bad line {number}\n") else {
+        panic!(rt; "out of memory");
+    };
+    has_left(rt, front.len(), &ended, 1, b"", wanted.as_bytes());
+}
+
+#[test]
+fn cut_scripts_end_at_a_line_or_name_the_cut_one(rt: HostRuntime) {
+    let script = MIGRATION.as_bytes();
+    same(&rt, script.len(), 46);
+    for (len, line) in ENDS {
+        let (front, _) = script.split_at(len);
+        let source = Source::of(front);
+        let ended = call(
             rt.alloc(),
             Reading::Play,
-            options,
-            ONE_TIMER,
-            front.as_slice(),
+            USUAL,
+            source,
+            Sink::new(rt.alloc()),
         );
+        let ends = (ended.status, ended.output.ends_with(line.as_bytes()));
+        same_in(&rt, len, ends, (0, true));
+    }
+    for len in 0..script.len() {
+        let front = &script[..len];
+        let lines = front.iter().filter(|b| **b == b'\n').count();
+        if !ends_at_a_line(len) {
+            cut_line_is_bad(&rt, rt.alloc(), front, lines as u64 + 1);
+        }
     }
 }
 
