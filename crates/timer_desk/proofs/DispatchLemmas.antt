@@ -228,7 +228,8 @@ ClientAccount-noted c first ns a o last =
 
 module _ {I : Type 0} (kind : LineKind I) where
   -- a tick or a close, and its notices
-  pub ReportHolds-noted : (first : Done) (ns : List Notice) (f f' : FacilityView) (inlets : List I) (bs bs' : List BacklogState) → IsOwners first
+  pub ReportHolds-noted : (first : Done) (ns : List Notice) (f f' : FacilityView) (inlets : List I) (bs bs' : List BacklogState)
+      → IsOwners first
       → IsDesk kind f inlets bs → bs' ≡ with_notices ns bs → HasRoom bs' f' → Runs (first ∷ map Dones.Noticed ns) f.state f'.state
       → IsRightClose f.state [] first [] → IsRightPass f.state [] first []
       → let old : DeskState I = record { facility = f.state; inlets = inlets; backlogs = bs } in

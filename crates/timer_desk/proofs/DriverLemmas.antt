@@ -112,7 +112,8 @@ some_left goal ps h = ⊎_elim (λ a. a) (λ a. absurd (h (nothing_left goal ps 
 
 module _ {I : Type 0} (kind : LineKind I) (last : Step) where
   pub Turns-nothing : (goal : ℕ) (out_of_memory : Bool) (x : DeskState I) (ps : List Progress)
-      → ((c : ℕ) (i : I) (b : BacklogState) → c < clients_of x → HeldIsLast (side_at kind x c i b)) → Turns kind last goal out_of_memory x x ps ps
+      → ((c : ℕ) (i : I) (b : BacklogState) → c < clients_of x → HeldIsLast (side_at kind x c i b))
+      → Turns kind last goal out_of_memory x x ps ps
   Turns-nothing goal out_of_memory x ps held = record {
     report = [];
     told = ReportHolds-nothing kind x held;
@@ -122,7 +123,8 @@ module _ {I : Type 0} (kind : LineKind I) (last : Step) where
     counted = λ c p l. record { served = omega arith; flushed = omega arith };
   }
 
-  pub Turns-one : (goal : ℕ) (out_of_memory : Bool) (x y : DeskState I) (ps qs : List Progress) (report : List Done) (steps : List Step) (n : ℕ)
+  pub Turns-one : (goal : ℕ) (out_of_memory : Bool) (x y : DeskState I) (ps qs : List Progress) (report : List Done)
+      (steps : List Step) (n : ℕ)
       → n ≡ clients_of x → ReportHolds kind report x y
       → steps_of report ≡ steps → All (IsFit n last) steps → AreBehind false report
       → (out_of_memory ≡ false → NoneRanOut report)

@@ -112,7 +112,8 @@ none_joined c r q x y z f g (inr v) h =
     g (ap (λ b. may_hold c (is_held b) q) (f v) ∙ ap (λ b. may_hold c b q) (sym v) ∙ sym (may_hold-append c (is_held x.backlog.held) r q)
     ∙ h)
 
-pub ClientAccount-joined : (c : ℕ) (r q : List Done) (x y z : Side) → ClientAccount c r x y → ClientAccount c q y z → ClientAccount c (r ++ q) x z
+pub ClientAccount-joined : (c : ℕ) (r q : List Done) (x y z : Side) → ClientAccount c r x y → ClientAccount c q y z
+    → ClientAccount c (r ++ q) x z
 ClientAccount-joined c r q x y z f g =
     let split : asked c (r ++ q) ≡ asked c r ++ asked c q = flat_map-append (asked_in c) r q in
     let ws : words c (r ++ q) ≡ words c r ++ words c q = flat_map-append (words_in c) r q in
@@ -196,7 +197,8 @@ state-joined s t r past e =
     ap (λ v. (run v (events past)).state) e ∙ sym (state-append s (events r) (events past))
     ∙ ap (λ ps. (run s ps).state) (sym (flat_map-append events_in r past))
 
-module _ (refuses : Bool) (c : ℕ) (r q : List Done) (x y z : Side) (s t : FacilityState) (f : ClientAccount c r x y) (g : ClientAccount c q y z) (e : t
+module _ (refuses : Bool) (c : ℕ) (r q : List Done) (x y z : Side) (s t : FacilityState) (f : ClientAccount c r x y)
+    (g : ClientAccount c q y z) (e : t
     ≡ (run s (events r)).state) where
   outbox-joined : (past : List Done) → outbox_after c y past ≡ outbox_after c x (r ++ past)
   outbox-joined past =
@@ -342,7 +344,8 @@ module _ {I : Type 0} (kind : LineKind I) where
     sides = λ c i b low. ClientAccount-joined c r q _ _ _ (f.sides c i b low) (let e = f.same_clients in g.sides c i b (omega arith));
   }
 
-  pub ReportHolds-joined : (r q : List Done) (x y z : DeskState I) → ReportHolds kind r x y → ReportHolds kind q y z → ReportHolds kind (r ++ q) x z
+  pub ReportHolds-joined : (r q : List Done) (x y z : DeskState I) → ReportHolds kind r x y → ReportHolds kind q y z
+      → ReportHolds kind (r ++ q) x z
   ReportHolds-joined r q x y z f g = record {
     clients = SidesHold-joined r q x y z f.clients g.clients;
     facility = Runs-joined r q x.facility y.facility z.facility f.facility g.facility;

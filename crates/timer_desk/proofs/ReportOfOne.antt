@@ -190,7 +190,8 @@ module _ {I : Type 0} (kind : LineKind I) where
           let other : k ≢ c = is_other c k h in
           subst (λ x. ClientAccount k (done ∷ []) (side_of kind (get_or inlets k j) (get_or backlogs k e))
           (side_of kind x (get_or (slice_set backlogs c b') k e))) (sym (get_or-set_other inlets c k i' j other))
-          (subst (λ y. ClientAccount k (done ∷ []) (side_of kind (get_or inlets k j) (get_or backlogs k e)) (side_of kind (get_or inlets k j) y))
+          (subst (λ y. ClientAccount k (done ∷ []) (side_of kind (get_or inlets k j) (get_or backlogs k e))
+          (side_of kind (get_or inlets k j) y))
           (sym (get_or-set_other backlogs c k b' e other))
           (ClientAccount-other c k done (side_of kind (get_or inlets k j) (get_or backlogs k e)) o other (d.held k j e l)))
 
@@ -226,8 +227,10 @@ module _ {I : Type 0} (kind : LineKind I) where
           (sym (backlog_was k e is))
           (subst (λ x. RespectsRoom kind.take_may_refuse k f.state (side_of kind i b)
           (side_of kind x (get_or (slice_set backlogs c b') k e)) [] done []) (sym (inlet_here k j is))
-          (subst (λ y. RespectsRoom kind.take_may_refuse k f.state (side_of kind i b) (side_of kind i' y) [] done []) (sym (backlog_here k e is))
-          (subst (λ n. RespectsRoom kind.take_may_refuse n f.state (side_of kind i b) (side_of kind i' b') [] done []) (sym is) right_here))))
+          (subst (λ y. RespectsRoom kind.take_may_refuse k f.state (side_of kind i b) (side_of kind i' y) [] done [])
+          (sym (backlog_here k e is))
+          (subst (λ n. RespectsRoom kind.take_may_refuse n f.state (side_of kind i b) (side_of kind i' b') [] done []) (sym is)
+          right_here))))
         where
           right_here : RespectsRoom kind.take_may_refuse c f.state (side_of kind i b) (side_of kind i' b') [] done []
           right_here = record {

@@ -129,10 +129,10 @@ module _ {I : Type 0} (kind : LineKind I) (last : Step) where
     pub turns : Turns goal out_of_memory old new before after
     pub once : out_of_memory ≡ false → turns_in turns.report ≡ 1
 
-  -- There is a report without a close that leads from the one desk to the other, of turns that end in the step
-  -- `last`. Where the drive is done, each client had `goal` requests served and twice as many words flushed;
-  -- where a limit above 0 ended it, some client had not, and the last `limit` turns passed nothing on. Only a
-  -- drive that ended out of memory has a serve that ran out of memory.
+  -- There is a report without a close that leads from the one desk to the other, of turns that end in the
+  -- step `last`. Where the drive is done, each client had `goal` requests served and twice as many words
+  -- flushed; where a limit above 0 ended it, some client had not, and the last `limit` turns passed nothing
+  -- on. Only a drive that ended out of memory has a serve that ran out of memory.
   pub record Drives (goal limit : ℕ) (old new : DeskState I) (outcome : DriveEnd) : Type 0 where
     pub report : List Done
     pub told : ReportHolds kind report old new

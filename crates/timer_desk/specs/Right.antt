@@ -41,8 +41,8 @@ IsNeeded may_refuse c s [] = may_refuse ≡ true
 IsNeeded may_refuse c s (numbered ∷ later) = (may_refuse ≡ true)
     ⊎ NeedsMemory s c numbered.number numbered.request
 
--- the length of a client's outbox after a report, where its side was a: the words before and those since, less
--- those flushed
+-- the length of a client's outbox after a report, where its side was a: the words before and those since,
+-- less those flushed
 abbrev pub outbox_after : ℕ → Side → List Done → ℕ
 outbox_after c a past = length a.backlog.outbox + length (words c past) - flushed c past
 
@@ -51,8 +51,9 @@ abbrev pub pending_after : ℕ → FacilityState → List Done → ℕ
 pending_after c s past = pending_of (run s (events past)).state c
 
 -- When a member is right for client c, whose side was a before the report and is b after it. A serve's result
--- accords with the room. It runs out of memory only where the request that is then held (the next one done, or
--- the one held at the end) allocates. After the member the outbox has room for a notice of each pending timer.
+-- accords with the room. It runs out of memory only where the request that is then held (the next one done,
+-- or the one held at the end) allocates. After the member the outbox has room for a notice of each pending
+-- timer.
 pub record RespectsRoom (may_refuse : Bool) (c : ℕ) (s : FacilityState) (a b : Side) (past : List Done)
     (done : Done) (later : List Done) : Type 0 where
   pub served : MemberRespectsRoom c a.backlog.room (outbox_after c a past) (left_of a - length (asked c past))

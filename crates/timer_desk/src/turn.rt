@@ -85,7 +85,8 @@ impl<W: Wheel + Drop, I: Inlet + Drop> Desk<W, I> {
     fn ticks_into(&mut self, limit: u64, report: &mut Vec<Done>)
         requires some { 0 < limit }
         requires room { vec_len report.old + 1 + length self.old.facility.pending ≤ vec_capacity report.old }
-        ensures adds { AddsStep I.kind (Step.Ticks limit) report.old.items report.new.items self.old self.new }
+        ensures adds { AddsStep I.kind (Step.Ticks limit)
+            report.old.items report.new.items self.old self.new }
         ensures capacity { vec_capacity report.new ≡ vec_capacity report.old }
         ensures room { vec_len report.new + length self.new.facility.pending
             ≤ vec_len report.old + length self.old.facility.pending + 1 }

@@ -37,8 +37,8 @@ pub record IsLeftAt (c status : ℕ) (d : DeskState) (old new : CLine) : Type 0 
   pub why : WhyNotEnded c old.client d old.slot.state status
   pub as_before : IsAsBefore old.slot.state new.slot.state
 
--- for some reason its words were not ended, and the line is as it was; so is the owner's end of it in the desk
--- d', unless something of the client is left
+-- for some reason its words were not ended, and the line is as it was; so is the owner's end of it in the
+-- desk d', unless something of the client is left
 pub record IsKeptAt (c : ℕ) (d d' : DeskState) (old new : CLine) : Type 0 where
   pub status : ℕ
   pub refused : 0 < status

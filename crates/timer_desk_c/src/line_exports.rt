@@ -74,7 +74,8 @@ pub extern "C" fn timers_line_restart(
     number: &mut u64,
 ) -> u32
     ensures sent { result ≡ OK → HasLine line.old
-        × HasSent (Restart (named handle) interval action) line.old.slot.state line.new.slot.state number.new }
+        × HasSent (Restart (named handle) interval action)
+        line.old.slot.state line.new.slot.state number.new }
     ensures refused { 0 < result → ((result ≡ NOT_OPEN) × HasNoLine line.old)
         ⊎ (HasLine line.old × WhyNotSent line.old.slot.state line.new.slot.state result) }
     ensures kept { 0 < result → SameTraffic line.old.slot.state line.new.slot.state

@@ -65,7 +65,8 @@ pub last_or-append : (o : Option Timer) (ts us : List Timer) → last_or o (ts +
 last_or-append o [] us = refl
 last_or-append o (t ∷ ts) us = last_or-append (Some t) ts us
 
-AreAscending-more : (o : Option Timer) (ts : List Timer) (t : Timer) → AreAscending o ts → follows (last_or o ts) t ≡ true → AreAscending o (ts ++ t ∷ [])
+AreAscending-more : (o : Option Timer) (ts : List Timer) (t : Timer) → AreAscending o ts
+    → follows (last_or o ts) t ≡ true → AreAscending o (ts ++ t ∷ [])
 AreAscending-more o [] t a f = (f, tt)
 AreAscending-more o (x ∷ ts) t a f = (a.0, AreAscending-more (Some x) ts t a.1 f)
 
@@ -317,7 +318,8 @@ HasWorked-finished start c w sound h ended reader sent started expired failed =
           subst (λ n. (n < c.count) ⊎ ((w.started < c.count) ⊎ (w.expired < c.count))) (sym sent)
               (subst (λ n. (c.sent < c.count) ⊎ ((n < c.count) ⊎ (w.expired < c.count))) (sym started)
               (subst (λ n. (c.sent < c.count) ⊎ ((c.started < c.count) ⊎ (n < c.count))) (sym expired)
-              (short_means c.sent c.started c.expired c.count sound.sent (sound.started k) (sound.expired k) (not_true (is_complete c) (or_else c.failed (not (is_complete c)) k (sym failed ∙ bad)))))),
+              (short_means c.sent c.started c.expired c.count sound.sent (sound.started k) (sound.expired k)
+              (not_true (is_complete c) (or_else c.failed (not (is_complete c)) k (sym failed ∙ bad)))))),
         )
       ];
     }

@@ -93,7 +93,8 @@ wound_up desk ws es rs p a idle got read = record {
     some_reader [] j l = absurd (omega arith)
     some_reader (y ∷ ys) j l = y
 
-    read_all : (c : ℕ) (i : RingInlet) (w : Worked) → c < length ws → (ys : List ClientReader) → AreUnzipped ws es ys → AllRead desk.inlets ys
+    read_all : (c : ℕ) (i : RingInlet) (w : Worked) → c < length ws → (ys : List ClientReader) → AreUnzipped ws es ys
+        → AllRead desk.inlets ys
         → read_by (get_or ws c w).reader ≡ given_of (get_or desk.inlets c i)
     read_all c i w l ys q h =
         let m : length ws ≡ length desk.inlets = a.as_many in
@@ -191,7 +192,8 @@ first_client desk all (Some a) (Some b) c is some none back wound =
     }
   where
     why : ((b < a) ⊎ (a ≤ b)) → ((w : Worked) → has_failed (get_or all c w) ≡ true) ⊎ IsUnfinished desk all c
-    why (inr l) = let at : a ≡ c = let m = some_is (min a b) c is in omega (arith, m, l) in inl (λ w. subst (λ k. has_failed (get_or all k w) ≡ true) at (some.failed w))
+    why (inr l) = let at : a ≡ c = let m = some_is (min a b) c is in omega (arith, m, l) in
+        inl (λ w. subst (λ k. has_failed (get_or all k w) ≡ true) at (some.failed w))
     why (inl l) = let at : b ≡ c = let m = some_is (min a b) c is in omega (arith, m, l)
         in inr (subst (λ k. IsUnfinished desk all k) at back.back)
 

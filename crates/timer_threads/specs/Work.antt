@@ -109,7 +109,8 @@ pub record HasWorked (count : ℕ) (start : ClientEnd) (w : Worked) : Type 0 whe
   pub expired : length (expired_by words) ≡ w.expired
   pub passed : w.failed ≡ false → ArePassed (next_of start) count words
   pub complete : w.failed ≡ false → (w.sent ≡ count) × (w.started ≡ count) × (w.expired ≡ count)
-  pub failed : w.failed ≡ true → IsStopped (next_of start) count words ⊎ (ArePassed (next_of start) count words × IsShort count w)
+  pub failed : w.failed ≡ true → IsStopped (next_of start) count words
+      ⊎ (ArePassed (next_of start) count words × IsShort count w)
 
 -- where nothing failed, all requests were sent, and as many timers started and expired
 pub record IsWhole (count : ℕ) (w : Worked) : Type 0 where

@@ -11,8 +11,8 @@ ghost use Rattle.timer_threads.specs.Work.{IsOfLine, IsWhole};
 
 use crate::gate::Gate;
 use crate::promise::Finishes;
-use crate::worked::Worked;
 use crate::work::client_work;
+use crate::worked::Worked;
 use std::snapshot::Snapshot;
 use std::thread;
 use std::thread::{PromisedHandle, Threads};

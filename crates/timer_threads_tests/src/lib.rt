@@ -1,4 +1,5 @@
-//! Tests of `timer_threads` over its public calls: the work of one client, and clients in threads beside a desk.
+//! Tests of `timer_threads` over its public calls: the work of one client, and clients in threads beside a
+//! desk.
 //!
 //! `testing` has the desks, lines and words that they share.
 #![tactic(auto)]

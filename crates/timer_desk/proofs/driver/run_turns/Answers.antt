@@ -12,10 +12,12 @@ use Rattle.timer_desk.proofs.driver.run_turns.Goals as goal
 pub returns-in_default : goal.returns-in_default
 returns-in_default g c =
     let none : List Progress = replicate c.clients.result (record { served = 0; flushed = 0 }) in
-    Drives-turns g.I.Inlet.kind c.args.last c.args.goal c.args.limit false c.args.desk c.args.desk none DriveEnds.OutOfMemory c.clients.result
+    Drives-turns g.I.Inlet.kind c.args.last c.args.goal c.args.limit false c.args.desk c.args.desk none DriveEnds.OutOfMemory
+    c.clients.result
     (λ placed k. c.notices_are_owed.ensures c.args.desk.facility placed k c.keeps.ensures.sound) c.clients.ensures
     (length-replicate c.clients.result (record { served = 0; flushed = 0 }))
-    (Turns-nothing g.I.Inlet.kind c.args.last c.args.goal false c.args.desk none c.keeps.ensures.held) (λ is. absurd (cc)) (λ is. absurd (cc))
+    (Turns-nothing g.I.Inlet.kind c.args.last c.args.goal false c.args.desk none c.keeps.ensures.held)
+    (λ is. absurd (cc)) (λ is. absurd (cc))
     (λ _. refl) (λ is. absurd (cc))
 
 pub loop-idle-init : goal.loop-idle-init
@@ -35,7 +37,8 @@ returns-then-all_done g c =
     c.in-Ok.ensures was.turns in
     let len : length c.loop-idle.progress.items ≡ c.clients.result =
     omega (arith, was.clients, was.turns.told.clients.same_clients, c.clients.ensures, c.loop-idle.progress.ok) in
-    Drives-turns g.I.Inlet.kind c.args.last c.args.goal c.args.limit false c.args.desk c.loop-idle.desk c.loop-idle.progress.items DriveEnds.Done
+    Drives-turns g.I.Inlet.kind c.args.last c.args.goal c.args.limit false c.args.desk c.loop-idle.desk c.loop-idle.progress.items
+    DriveEnds.Done
     c.clients.result (λ placed k. c.notices_are_owed.ensures c.args.desk.facility placed k c.keeps.ensures.sound) c.clients.ensures len
     turns
     (λ is k p l.
@@ -49,7 +52,8 @@ returns g c =
     let was = c.loop-idle.invariant in
     let none : List Progress = replicate c.clients.result (record { served = 0; flushed = 0 }) in
     let qs : List Progress = c.loop-idle.progress.items in
-    let turns = subst (λ ps. Turns g.I.Inlet.kind c.args.last c.args.goal false c.args.desk c.loop-idle.desk ps qs) c.in-Ok.ensures was.turns in
+    let turns = subst (λ ps. Turns g.I.Inlet.kind c.args.last c.args.goal false c.args.desk c.loop-idle.desk ps qs)
+    c.in-Ok.ensures was.turns in
     let len : length qs ≡ c.clients.result = omega (
       arith,
       was.clients,
@@ -68,7 +72,8 @@ returns g c =
     (λ placed k. c.notices_are_owed.ensures c.args.desk.facility placed k c.keeps.ensures.sound) c.clients.ensures len
     (idle_whole g.I.Inlet.kind c.args.last c.args.goal c.args.limit c.args.desk c.loop-idle.desk none qs long since)
     (λ is. absurd (cc)) (λ is some. was.left (omega (arith, some, at_limit))) (λ _. refl)
-    (λ _. ends_idle g.I.Inlet.kind c.args.last c.args.goal c.args.limit c.args.desk c.loop-idle.desk qs c.clients.result c.clients.ensures long since))
+    (λ _. ends_idle g.I.Inlet.kind c.args.last c.args.goal c.args.limit c.args.desk c.loop-idle.desk qs c.clients.result
+    c.clients.ensures long since))
     (λ (a : c.args.limit ≤ 0).
     let zero : 0 ≡ c.args.limit = omega (arith, a) in
     Drives-turns g.I.Inlet.kind c.args.last c.args.goal c.args.limit false c.args.desk c.loop-idle.desk qs DriveEnds.Limit c.clients.result
@@ -84,8 +89,8 @@ loop-idle-preserved-in-Passed g c =
     let was = c.loop-idle.invariant in
     let len : length c.loop-idle.progress.items ≡ length c.in-Ok.progress.items =
     omega (arith, start, c.clients.ensures, was.clients, was.turns.told.clients.same_clients, c.loop-idle.progress.ok) in record {
-      turns = Turns-joined g.I.Inlet.kind c.args.last c.args.goal false c.args.desk c.loop-idle.desk c.one_turn.new.desk c.in-Ok.progress.items
-          c.loop-idle.progress.items c.one_turn.new.progress.items len was.turns c.in-Passed.ensures.turns.turns;
+      turns = Turns-joined g.I.Inlet.kind c.args.last c.args.goal false c.args.desk c.loop-idle.desk c.one_turn.new.desk
+          c.in-Ok.progress.items c.loop-idle.progress.items c.one_turn.new.progress.items len was.turns c.in-Passed.ensures.turns.turns;
       clients = c.in-Passed.ensures.clients;
       within = omega arith;
       since = λ l. absurd (omega arith);
@@ -107,8 +112,8 @@ loop-idle-preserved g c =
     let was = c.loop-idle.invariant in
     let len : length c.loop-idle.progress.items ≡ length c.in-Ok.progress.items =
     omega (arith, start, c.clients.ensures, was.clients, was.turns.told.clients.same_clients, c.loop-idle.progress.ok) in record {
-      turns = Turns-joined g.I.Inlet.kind c.args.last c.args.goal false c.args.desk c.loop-idle.desk c.one_turn.new.desk c.in-Ok.progress.items
-          c.loop-idle.progress.items c.one_turn.new.progress.items len was.turns c.in-Idle.ensures.turns.turns;
+      turns = Turns-joined g.I.Inlet.kind c.args.last c.args.goal false c.args.desk c.loop-idle.desk c.one_turn.new.desk
+          c.in-Ok.progress.items c.loop-idle.progress.items c.one_turn.new.progress.items len was.turns c.in-Idle.ensures.turns.turns;
       clients = c.in-Idle.ensures.clients;
       within = omega (arith, c.loop-idle-test.true);
       since = λ _. subst (λ qs. IdleSince g.I.Inlet.kind c.args.last c.args.goal
@@ -118,7 +123,8 @@ loop-idle-preserved g c =
           c.one_turn.new.desk c.in-Ok.progress.items before (was.since a) same.turns (same.once refl))
           (λ (a : c.loop-idle.idle ≤ 0). subst (λ n. IdleSince g.I.Inlet.kind c.args.last c.args.goal n c.args.desk c.one_turn.new.desk
           c.in-Ok.progress.items before) (first a)
-          (idle_first g.I.Inlet.kind c.args.last c.args.goal c.args.desk c.loop-idle.desk c.one_turn.new.desk c.in-Ok.progress.items before was.turns
+          (idle_first g.I.Inlet.kind c.args.last c.args.goal c.args.desk c.loop-idle.desk c.one_turn.new.desk c.in-Ok.progress.items before
+          was.turns
           same.turns (same.once refl)))
           (cases_lt 0 c.loop-idle.idle));
       left = λ l. subst (λ ps. 0 < all_left c.args.goal ps) (sym c.in-Idle.ensures.turned)
@@ -131,7 +137,8 @@ returns-in-OutOfMemory g c =
     let was = c.loop-idle.invariant in
     let len : length c.loop-idle.progress.items ≡ length c.in-Ok.progress.items =
     omega (arith, start, c.clients.ensures, was.clients, was.turns.told.clients.same_clients, c.loop-idle.progress.ok) in
-    let turns = Turns-joined g.I.Inlet.kind c.args.last c.args.goal true c.args.desk c.loop-idle.desk c.one_turn.new.desk c.in-Ok.progress.items
+    let turns = Turns-joined g.I.Inlet.kind c.args.last c.args.goal true c.args.desk c.loop-idle.desk c.one_turn.new.desk
+    c.in-Ok.progress.items
     c.loop-idle.progress.items c.one_turn.new.progress.items len was.turns c.in-OutOfMemory.ensures.turns.turns in
     Drives-turns g.I.Inlet.kind c.args.last c.args.goal c.args.limit true c.args.desk c.one_turn.new.desk c.one_turn.new.progress.items
     DriveEnds.OutOfMemory c.clients.result (λ placed k. c.notices_are_owed.ensures c.args.desk.facility placed k c.keeps.ensures.sound)
@@ -143,5 +150,6 @@ returns-in-OutOfMemory g c =
       c.clients.ensures,
       c.one_turn.new.progress.ok,
     ))
-    (subst (λ ps. Turns g.I.Inlet.kind c.args.last c.args.goal true c.args.desk c.one_turn.new.desk ps c.one_turn.new.progress.items) c.in-Ok.ensures
+    (subst (λ ps. Turns g.I.Inlet.kind c.args.last c.args.goal true c.args.desk c.one_turn.new.desk ps c.one_turn.new.progress.items)
+    c.in-Ok.ensures
     turns) (λ is. absurd (cc)) (λ is. absurd (cc)) (λ is. absurd (is refl)) (λ is. absurd (cc))

@@ -32,10 +32,11 @@ returns-in-Some c =
           c.in_default.not-OutOfMemory
           (subst (λ ws. IfSome c.first_failed-failed.result (λ k. IsFirstFailed ws k)) at c.first_failed-failed.ensures.some)
           none
-          (unfinished_by (λ p. p.0.items) (λ p. p.1.items) c.args.desk all c.in-Ok-unzip_results.parts c.first_unfinished-held.result c.requires.lines
+          (unfinished_by (λ p. p.0.items) (λ p. p.1.items) c.args.desk all c.in-Ok-unzip_results.parts
+          c.first_unfinished-held.result c.requires.lines
           c.in-Ok-unzip_results.ensures.some held.no_parts held.some)
-          (λ h. wound_by (λ p. p.0.items) (λ p. p.1.items) c.args.desk all c.in-Ok-unzip_results.parts c.requires.lines c.in-Ok-unzip_results.ensures.none
-          c.in-Ok-unzip_results.ensures.some
+          (λ h. wound_by (λ p. p.0.items) (λ p. p.1.items) c.args.desk all c.in-Ok-unzip_results.parts c.requires.lines
+          c.in-Ok-unzip_results.ensures.none c.in-Ok-unzip_results.ensures.some
           (held.none h));
     }
 
@@ -54,8 +55,8 @@ returns-in-None c =
       ended = record {
         done = no.2;
         good = good;
-        wound = wound_by (λ p. p.0.items) (λ p. p.1.items) c.args.desk all c.in-Ok-unzip_results.parts c.requires.lines c.in-Ok-unzip_results.ensures.none
-            c.in-Ok-unzip_results.ensures.some
+        wound = wound_by (λ p. p.0.items) (λ p. p.1.items) c.args.desk all c.in-Ok-unzip_results.parts c.requires.lines
+            c.in-Ok-unzip_results.ensures.none c.in-Ok-unzip_results.ensures.some
             (c.first_unfinished-held.ensures.none (subst (λ o. IsNone o) (sym no.1) refl)) (all_ended all good);
       };
       fault = tt;

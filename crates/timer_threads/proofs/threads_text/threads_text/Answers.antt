@@ -9,7 +9,8 @@ loop-client-preserved c =
     let w = c.index-all-client.result in
     c.in_ok-push_client.ensures
     ∙ ap (λ t. t ++ client_line c.loop-client.client w.sent w.started w.expired) c.loop-client.invariant
-    ∙ sym (clients_text-next c.args.all.now c.loop-client.client w (omega (arith, c.loop-client-test.true, c.loop-client.auto.client-end)) c.index-all-client.is)
+    ∙ sym (clients_text-next c.args.all.now c.loop-client.client w (omega (arith, c.loop-client-test.true, c.loop-client.auto.client-end))
+    c.index-all-client.is)
 
 pub returns : goal.returns
 returns c =

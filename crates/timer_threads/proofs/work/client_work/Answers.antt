@@ -17,7 +17,8 @@ loop-idle-preserved-then-work_once g c = record {
 
 pub loop-idle-smaller : goal.loop-idle-smaller
 loop-idle-smaller g c =
-    nearer_the_limit (left_of c.loop-idle.client) (left_of c.work_once.new.self) c.args.limit c.loop-idle.idle c.loop-idle-test.true c.if-work_once.ensures.left
+    nearer_the_limit (left_of c.loop-idle.client) (left_of c.work_once.new.self) c.args.limit c.loop-idle.idle
+    c.loop-idle-test.true c.if-work_once.ensures.left
 
 pub loop-idle-preserved : goal.loop-idle-preserved
 loop-idle-preserved g c = record {
