@@ -12,7 +12,7 @@
 
 #define CHECK(fact) do { if (!(fact)) { fprintf(stderr, "line %d: %s\n", __LINE__, #fact); exit(1); } } while (0)
 
-enum { MOST_CLIENTS = 64, AT_MOST = 960, IDLE_PASSES = 64 };
+enum { MAX_CLIENTS = 64, AT_MOST = 960, IDLE_PASSES = 64 };
 
 /* The times of a client, so that no two threads write to one place. */
 struct times {
@@ -131,7 +131,7 @@ static struct client *new_clients(const char *count, const char *timers)
 {
 	clients = strtoul(count, NULL, 10);
 	uint64_t each = strtoull(timers, NULL, 10);
-	CHECK(clients >= 1 && clients <= MOST_CLIENTS && each >= 1);
+	CHECK(clients >= 1 && clients <= MAX_CLIENTS && each >= 1);
 	struct client *all = (struct client *)calloc(clients, sizeof *all);
 	CHECK(all);
 	for (size_t c = 0; c < clients; c++) {

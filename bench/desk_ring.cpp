@@ -158,7 +158,7 @@ int main(int argc, char **argv) {
   client *all = new_clients(argv[1], argv[2]);
   size_t line = strtoul(argv[3], nullptr, 10), room = strtoul(argv[4], nullptr, 10);
   CHECK(line >= 1 && room >= 2);
-  pthread_t threads[MOST_CLIENTS];
+  pthread_t threads[MAX_CLIENTS];
   uint64_t began = nanoseconds();
   own_rings(all, threads, line, room);
   print_run(all, nanoseconds() - began, true);

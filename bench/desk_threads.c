@@ -63,7 +63,7 @@ static void *work_at_desk(void *at)
 static void own_desk(struct client *all, pthread_t *threads, size_t line, size_t room)
 {
 	struct timers_desk d = TIMERS_DESK_INIT;
-	struct timers_line lines[MOST_CLIENTS] = { TIMERS_LINE_INIT };
+	struct timers_line lines[MAX_CLIENTS] = { TIMERS_LINE_INIT };
 	struct timers_desk_config config = { .first_tick = 0, .capacity = 1 << 20, .room = room, .line = line };
 	CHECK(timers_desk_new(&d, lines, clients, &config) == TIMERS_DESK_OK);
 	for (size_t c = 0; c < clients; c++)
@@ -85,7 +85,7 @@ static void own_desk(struct client *all, pthread_t *threads, size_t line, size_t
 
 /* The mutex. */
 
-static struct { pthread_mutex_t lock; size_t head, tail; struct timer_expired at[QUEUE]; char apart[64]; } queues[MOST_CLIENTS];
+static struct { pthread_mutex_t lock; size_t head, tail; struct timer_expired at[QUEUE]; char apart[64]; } queues[MAX_CLIENTS];
 static pthread_mutex_t lock = PTHREAD_MUTEX_INITIALIZER;
 static struct timers wheel = TIMERS_INIT;
 
@@ -165,7 +165,7 @@ int main(int argc, char **argv)
 	if (!desk && !(argc == 4 && strcmp(argv[1], "mutex") == 0))
 		return 2;
 	struct client *all = new_clients(argv[2], argv[3]);
-	pthread_t threads[MOST_CLIENTS];
+	pthread_t threads[MAX_CLIENTS];
 	uint64_t began = nanoseconds();
 	if (desk)
 		own_desk(all, threads, strtoul(argv[4], NULL, 10), strtoul(argv[5], NULL, 10));

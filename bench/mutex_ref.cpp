@@ -13,7 +13,7 @@
 #include <string>
 #include <thread>
 
-static const uint64_t MOST_PENDING = 1022, LIMIT = 10000000;
+static const uint64_t MAX_PENDING = 1022, LIMIT = 10000000;
 
 struct Shared {
   std::mutex mutex;
@@ -34,7 +34,7 @@ struct Shared {
   bool pass(size_t client, uint64_t number, bool has_more, std::vector<Timer> &taken) {
     std::lock_guard<std::mutex> guard(mutex);
     taken.swap(expired[client]);
-    if (!has_more || pending[client] == MOST_PENDING) return false;
+    if (!has_more || pending[client] == MAX_PENDING) return false;
     ++pending[client];
     wheel.start(Timer{++serial, client, number, wheel.now() + 1 + number % 97, number});
     return true;

@@ -8,7 +8,7 @@ HIER, HASHED = "timers-hier", "timers-hash-64k"
 BUSY_HIER = "timers-hier, busy machine"
 RIVALS = ["ref-hier", "ref-apart", "tokio-wheel"]  # of the hierarchy
 SUPERSEDED = ""  # older rows go once new ones stand
-MOST_OTHERS = 0.5  # cores that other processes take: above that the machine counts as busy
+MAX_OTHERS = 0.5  # cores that other processes take: above that the machine counts as busy
 BUSY_MARK = "\\*"
 COLUMNS = [
     HIER,
@@ -343,7 +343,7 @@ def is_busy(folder, part):
     if not os.path.exists(path):
         return False
     with open(path, encoding="utf-8") as file:
-        return json.load(file)["others"] > MOST_OTHERS
+        return json.load(file)["others"] > MAX_OTHERS
 
 
 def aim(folder, figures_of_aim):
@@ -447,7 +447,7 @@ def settings(folder):
 def machine_note(folder):
     """One line for a plot."""
     found = settings(folder)
-    busy = "; other work ran beside it" if found and max(one["others"] for one in found) > MOST_OTHERS else ""
+    busy = "; other work ran beside it" if found and max(one["others"] for one in found) > MAX_OTHERS else ""
     return f"{found[0]['machine']}, {found[0]['date']}{busy}" if found else ""
 
 
@@ -457,7 +457,7 @@ def setting(folder):
     if not found:
         return None
     others, steal = (max(one[key] for one in found) for key in ("others", "steal"))
-    busy = " **Other work ran beside it: read the ratios with their spreads.**" if others > MOST_OTHERS else ""
+    busy = " **Other work ran beside it: read the ratios with their spreads.**" if others > MAX_OTHERS else ""
     return (
         f"{found[0]['date']}, on the code of this page's commit; {found[0]['machine']}. During no part did other "
         f"processes take more than {others:.1f} of the cores, nor the host's neighbours more than {steal:.1f}.{busy}"

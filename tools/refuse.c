@@ -29,8 +29,8 @@ static struct refusal allocations;
 static struct refusal threads;
 
 /* The sizes of the first allocations, in their order. */
-enum { MOST_SIZES = 1 << 16 };
-static size_t sizes[MOST_SIZES];
+enum { MAX_SIZES = 1 << 16 };
+static size_t sizes[MAX_SIZES];
 
 static _Atomic _Bool counts;
 
@@ -78,7 +78,7 @@ static void report_sizes(void)
 	int fd = opened("SIZES");
 	if (fd < 0)
 		return;
-	for (unsigned long i = 0; i < allocations.count && i < MOST_SIZES; i++)
+	for (unsigned long i = 0; i < allocations.count && i < MAX_SIZES; i++)
 		dprintf(fd, "%zu\n", sizes[i]);
 	close(fd);
 }
@@ -108,7 +108,7 @@ static _Bool refuses(struct refusal *calls, unsigned long number) { return numbe
 static _Bool refuses_size(size_t size)
 {
 	unsigned long number = counted(&allocations);
-	if (number && number <= MOST_SIZES)
+	if (number && number <= MAX_SIZES)
 		sizes[number - 1] = size;
 	return refuses(&allocations, number);
 }

@@ -18,7 +18,7 @@
 #include <timers.h>
 
 static const char text[] = "Timers start, stop and expire in constant time.";
-enum { PACKETS = sizeof text - 1, WINDOW = 8, FIRST_WAIT = 4, LONGEST_WAIT = 32, MOST_ATTEMPTS = 40 };
+enum { PACKETS = sizeof text - 1, WINDOW = 8, FIRST_WAIT = 4, LONGEST_WAIT = 32, MAX_ATTEMPTS = 40 };
 
 struct packet {
 	unsigned number, attempt, character;         /* an acknowledgement repeats all three */
@@ -86,7 +86,7 @@ static bool receive(int at, struct packet *packet)
 static void attempt(unsigned number)
 {
 	struct sent *s = &sent[number];
-	if (s->attempts == MOST_ATTEMPTS)
+	if (s->attempts == MAX_ATTEMPTS)
 		die("send", "the receiver does not answer");
 	struct packet packet = { number, ++s->attempts, (unsigned char)text[number] };
 	transmit(sender, &packet, false);

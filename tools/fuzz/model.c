@@ -21,7 +21,7 @@ struct timer {
 
 struct facility {
 	struct options is;
-	uint64_t now, next_serial, numbers[MOST_CLIENTS];
+	uint64_t now, next_serial, numbers[MAX_CLIENTS];
 	bool closed;
 	struct timer *pending; /* by deadline, then serial */
 	size_t len;
@@ -239,7 +239,7 @@ struct answer play(const char *script, size_t len, struct options options)
 {
 	struct answer answer = {0};
 	struct facility f = {.is = options, .now = options.first_tick, .next_serial = 1};
-	for (int i = 0; i < MOST_CLIENTS; i++)
+	for (int i = 0; i < MAX_CLIENTS; i++)
 		f.numbers[i] = 1;
 	f.pending = malloc((options.capacity + 1) * sizeof *f.pending);
 	if (!f.pending)

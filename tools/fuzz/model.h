@@ -6,7 +6,7 @@
 
 #define LAST UINT64_C(1152921504606846975)
 #define LAST_OF_CLOCK UINT64_C(8639999)
-#define MOST_CLIENTS 64
+#define MAX_CLIENTS 64
 
 struct options {
 	uint64_t clients, capacity, first_tick, last_tick;

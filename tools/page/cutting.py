@@ -4,8 +4,8 @@ The cuts follow from the deadlines alone. They decide at which ticks the program
 stand, and nothing of what it answers."""
 from dataclasses import dataclass
 
-MOST_PIECES = 32  # of one line; a line with more is one step
-MOST_STEPS = 5_000
+MAX_PIECES = 32  # of one line; a line with more is one step
+MAX_STEPS = 5_000
 
 
 @dataclass
@@ -46,7 +46,7 @@ def stops(scheme, now, then, deadlines):
             if tick >= then:
                 break
             found.add(tick)
-            if len(found) >= MOST_PIECES:
+            if len(found) >= MAX_PIECES:
                 return None
     return sorted(found)
 
@@ -79,7 +79,7 @@ def pieces(scheme, first_tick, lines, steps):
         text = lines[step.line]
         is_tick = text.startswith("tick ") and not any(a.startswith("tick refused") for a in step.answers)
         ticks = stops(scheme, now, step.now, deadlines.values()) if is_tick else []
-        if ticks is None or len(made) > MOST_STEPS:
+        if ticks is None or len(made) > MAX_STEPS:
             uncut.append(step.line)
             ticks = []
         if is_tick:

@@ -3,9 +3,9 @@
 const SVG = "http://www.w3.org/2000/svg";
 const INNER = 78;
 const OUTER = 98;
-const MOST_BUCKETS = 32; // shown of one wheel before the rest is folded
-const MOST_CHIPS = 24;   // shown of one bucket before the rest is folded
-const MOST_NUMBERS = 8;  // slots of one wheel that have their number on the ring
+const MAX_BUCKETS = 32; // shown of one wheel before the rest is folded
+const MAX_CHIPS = 24;   // shown of one bucket before the rest is folded
+const MAX_NUMBERS = 8;  // slots of one wheel that have their number on the ring
 const NEAR = 0.045;      // of a turn: two numbers on the ring don't touch
 const BESIDE = 0.14;     // of a turn: a number doesn't touch the words at a slot
 
@@ -116,7 +116,7 @@ class WheelCard {
     const {slots} = this.play.wheels[this.wheel];
     const quarters = slots < 8 ? [...Array(slots).keys()] :
                                  [0, 1, 2, 3].map((k) => Math.floor((k * slots) / 4));
-    const occupied = held.length <= MOST_NUMBERS ? held.map(([slot]) => slot) : [];
+    const occupied = held.length <= MAX_NUMBERS ? held.map(([slot]) => slot) : [];
     if (chosen !== null) occupied.unshift(chosen);
     const kind = (moved) => `moved-label ${colour(moved, followed)}`;
     const wanted = [
@@ -180,10 +180,10 @@ class WheelCard {
   }
 
   renderBuckets(held, chosen, left, came, followed) {
-    const shown = this.isOpen ? held : held.filter(([slot], at) => at < MOST_BUCKETS || slot === chosen);
+    const shown = this.isOpen ? held : held.filter(([slot], at) => at < MAX_BUCKETS || slot === chosen);
     const rows = shown.map(([slot, list]) => this.row(slot, list, slot === chosen ? followed : null,
         came.get(slot), followed));
-    for (const [slot, moved] of [...left].slice(0, MOST_NUMBERS))
+    for (const [slot, moved] of [...left].slice(0, MAX_NUMBERS))
       rows.push(make("li", {class: "gone"}, make("span", {class: "name"}, this.slotName(slot)),
           this.went(this.words.gone(moved), moved, followed)));
     if (!held.length && !left.size) rows.push(make("li", {}, make("span", {class: "none"}, "empty")));
@@ -224,7 +224,7 @@ class WheelCard {
     const isOpen = this.openBuckets.has(slot);
     const isSame = old && old.list === list && old.has === has && old.isOpen === isOpen;
     if (isSame && !came && !old.came) return old.element;
-    const most = isOpen ? list.length : MOST_CHIPS;
+    const most = isOpen ? list.length : MAX_CHIPS;
     const shown = list.slice(0, most);
     if (has && !shown.some((written) => serialOf(written) === has))
       shown[most - 1] = list.find((written) => serialOf(written) === has);

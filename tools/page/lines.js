@@ -1,7 +1,7 @@
 // The script's lines with their answers. Only the lines around the present one are in the page, so that a
 // long script costs no more than a short one.
 
-const MOST_ANSWERS = 8; // of one line
+const MAX_ANSWERS = 8; // of one line
 const AROUND = 120;     // lines before and after the present one
 
 class LineList {
@@ -64,9 +64,9 @@ class LineList {
     row.count = done.length;
     row.element.classList.toggle("is-played", done.length > 0);
     const answers = done.flatMap((at) => this.play.steps[at - 1].answers);
-    const made = answers.slice(0, MOST_ANSWERS).map((answer) => this.answer(answer));
-    if (answers.length > MOST_ANSWERS)
-      made.push(make("div", {class: "answer"}, `… and ${answers.length - MOST_ANSWERS} more`));
+    const made = answers.slice(0, MAX_ANSWERS).map((answer) => this.answer(answer));
+    if (answers.length > MAX_ANSWERS)
+      made.push(make("div", {class: "answer"}, `… and ${answers.length - MAX_ANSWERS} more`));
     const isBad = line === this.play.bad && done.length > 0;
     if (isBad) made.push(this.refused(`bad line ${line + 1}`, this.play.reason));
     row.element.classList.toggle("is-bad", isBad);

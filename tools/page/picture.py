@@ -3,7 +3,7 @@ import math
 
 INNER, OUTER = 74, 94
 ROOM = 290  # the width of a wheel
-MOST_SERIALS = 6  # written at one slot
+MAX_SERIALS = 6  # written at one slot
 
 STYLE = """
 text { font: 13px system-ui, -apple-system, "Segoe UI", Roboto, "DejaVu Sans", sans-serif; fill: #1a222d; }
@@ -44,7 +44,7 @@ def label(slot, slots, timers):
     turn = (slot + 0.5) / slots
     x, y = point(turn, OUTER + 9)
     anchor = "middle" if abs(x) < 20 else "start" if x > 0 else "end"
-    words = ", ".join(timers[:MOST_SERIALS]) + (" .." if len(timers) > MOST_SERIALS else "")
+    words = ", ".join(timers[:MAX_SERIALS]) + (" .." if len(timers) > MAX_SERIALS else "")
     return text(x, y + 4.5, words, "serial", anchor)
 
 

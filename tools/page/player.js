@@ -1,7 +1,7 @@
 // The page: steps, the script's lines, the followed timer, and the controls.
 
-const MOST_EVENTS = 20;   // of one timer's history
-const MOST_ARROWS = 12;   // of one step
+const MAX_EVENTS = 20;   // of one timer's history
+const MAX_ARROWS = 12;   // of one step
 const READ_FIRST = 2000;  // milliseconds that Play rests at least where a timer moves or comes out
 const READ_LETTER = 20;   // and for each letter that is said there
 const LONGEST_STEPS = 4;  // whose height is measured
@@ -114,8 +114,8 @@ function historyRow(event, step) {
 function history(timer, step) {
   const events = timer.events.filter((event) => event.kind !== "round" || event.step === step);
   const past = events.filter((event) => event.step <= step).length;
-  const first = Math.max(0, Math.min(past - MOST_EVENTS / 2, events.length - MOST_EVENTS));
-  const rows = events.slice(first, first + MOST_EVENTS).map((event) => historyRow(event, step));
+  const first = Math.max(0, Math.min(past - MAX_EVENTS / 2, events.length - MAX_EVENTS));
+  const rows = events.slice(first, first + MAX_EVENTS).map((event) => historyRow(event, step));
   const rest = events.length - first - rows.length;
   if (first) rows.unshift(make("li", {class: "cut"}, `${first} earlier`));
   if (rest) rows.push(make("li", {class: "cut"}, `${rest} later`));
@@ -194,7 +194,7 @@ function renderWheels(step) {
 // Where the timers that move at this step stand now, on the screen.
 function flights(step) {
   if (calm.matches || !step) return [];
-  return movesOf(step).slice(0, MOST_ARROWS).map(spots);
+  return movesOf(step).slice(0, MAX_ARROWS).map(spots);
 }
 
 function spots(event) {
@@ -229,7 +229,7 @@ function renderArrows() {
     const pair = `${event.from} ${event.to}`;
     if (!seen.has(pair) || event.serial === shown.followed) seen.set(pair, event);
   }
-  for (const event of [...seen.values()].slice(0, MOST_ARROWS)) {
+  for (const event of [...seen.values()].slice(0, MAX_ARROWS)) {
     const [from, to] = spots(event).map(([x, y]) => [x - left, y - top]);
     shown.arrows.append(...arrow(from, to, event.serial === shown.followed ? "is-followed" : ""));
   }

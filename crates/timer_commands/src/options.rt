@@ -5,7 +5,7 @@ ghost use Rattle.timer_commands.specs.Options.{scheme_last, config_of, IsPlayabl
 use thiserror::Error;
 use timer_base::LAST;
 use timer_facility::{Checked, Config, ConfigFault};
-use timer_wheels::{LAST_OF_CLOCK, MOST_SLOTS};
+use timer_wheels::{LAST_OF_CLOCK, MAX_SLOTS};
 
 /// How timers are kept. Each scheme gives the same text up to the last tick of its clock.
 #[derive(Clone, Copy, Debug, PartialEq, Eq)]
@@ -80,7 +80,7 @@ impl RunOptions {
             Ok(checked) => checked,
             Err(fault) => return Err(OptionsFault::Config(fault)),
         };
-        if self.slots == 0 || self.slots > MOST_SLOTS as u64 {
+        if self.slots == 0 || self.slots > MAX_SLOTS as u64 {
             return Err(OptionsFault::Slots);
         }
         let last = self.scheme.last_tick();

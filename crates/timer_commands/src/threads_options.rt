@@ -2,9 +2,9 @@
 ghost use Rattle.std.specs.Prelude.{IsTrue, ◌↔◌};
 
 /// The most clients, and the most timers of each.
-const MOST_CLIENTS: u64 = 64;
+const MAX_CLIENTS: u64 = 64;
 
-const MOST_TIMERS: u64 = 10_000;
+const MAX_TIMERS: u64 = 10_000;
 
 /// The options of `threads`.
 #[derive(Clone, Copy, Debug, PartialEq, Eq)]
@@ -22,8 +22,8 @@ impl ThreadsOptions {
         ensures { (IsTrue result) ↔ AreFew self.now }
     {
         self.clients >= 1
-            && self.clients <= MOST_CLIENTS
+            && self.clients <= MAX_CLIENTS
             && self.timers >= 1
-            && self.timers <= MOST_TIMERS
+            && self.timers <= MAX_TIMERS
     }
 }

@@ -3,11 +3,11 @@ use Rattle.std.specs.Prelude.{◌≡◌, ◌<◌, ◌≤◌, ◌⊎◌, ℕ, Lis
 use Rattle.timer_facility.specs.Facility.{FacilityView}
 use Rattle.timer_desk.specs.declared.opening.OpenFault.{OpenFault}
 use Rattle.timer_desk.specs.declared.opening.OpenFault.TheVariants.{Room, OutOfMemory}
-use Rattle.timer_desk.specs.declared.opening.TheConstants.{LEAST_ROOM, MOST_ROOM}
+use Rattle.timer_desk.specs.declared.opening.TheConstants.{MIN_ROOM, MAX_ROOM}
 
 -- the facility and the lines are handed back unchanged; `Room` exactly where the room is out of range
 abbrev pub HandsBackBoth : {W I : Type 0} → ℕ → FacilityView → List I → OpenFault W I → Type 0
 HandsBackBoth room facility inlets (Room f is) = (f ≡ facility) × (is.items ≡ inlets)
-    × ((room < LEAST_ROOM) ⊎ (MOST_ROOM < room))
+    × ((room < MIN_ROOM) ⊎ (MAX_ROOM < room))
 HandsBackBoth room facility inlets (OutOfMemory f is) = (f ≡ facility) × (is.items ≡ inlets)
-    × ((LEAST_ROOM ≤ room) × (room ≤ MOST_ROOM))
+    × ((MIN_ROOM ≤ room) × (room ≤ MAX_ROOM))

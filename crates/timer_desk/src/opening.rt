@@ -13,15 +13,15 @@ use timer_base::Wheel;
 use timer_facility::Facility;
 
 /// The least room of an outbox, in words: an answer, and a notice of the timer that it started.
-pub const LEAST_ROOM: usize = 2;
+pub const MIN_ROOM: usize = 2;
 
 /// The greatest room of an outbox, in words.
-pub const MOST_ROOM: usize = 65536;
+pub const MAX_ROOM: usize = 65536;
 
 /// Why a desk was not opened, in the order of the tests. It hands back the facility and the lines.
 #[derive(Drop)]
 pub enum OpenFault<W: Wheel + Drop, I: Drop> {
-    /// The room is not from `LEAST_ROOM` to `MOST_ROOM`.
+    /// The room is not from `MIN_ROOM` to `MAX_ROOM`.
     Room(Facility<W>, Vec<I>),
     /// Allocation failed.
     OutOfMemory(Facility<W>, Vec<I>),
@@ -40,10 +40,10 @@ impl<W: Wheel + Drop, I: Inlet + Drop> Desk<W, I> {
         requires waiting { facility.waiting ≡ [] }
         requires clients { vec_len inlets ≡ length facility.state.numbers }
         ensures ok { IfOk result (λ desk. desk ≡ opened_desk facility.state inlets.items room) }
-        ensures room { IfOk result (λ _. (LEAST_ROOM ≤ room) × (room ≤ MOST_ROOM)) }
+        ensures room { IfOk result (λ _. (MIN_ROOM ≤ room) × (room ≤ MAX_ROOM)) }
         ensures err { IfErr result (HandsBackBoth room facility inlets.items) }
     {
-        if room < LEAST_ROOM || room > MOST_ROOM {
+        if room < MIN_ROOM || room > MAX_ROOM {
             return Err(OpenFault::Room(facility, inlets));
         }
         match empty_backlogs(alloc, inlets.len(), room) {

@@ -10,7 +10,7 @@ use Rattle.timer_facility.specs.Config.{config_fault}
 use Rattle.timer_facility.specs.Opened.{opened}
 use Rattle.timer_facility.specs.State.{FacilityState}
 use Rattle.timer_facility.specs.WakeUps.{IsWakeUp}
-use Rattle.timer_desk.specs.declared.opening.TheConstants.{LEAST_ROOM, MOST_ROOM}
+use Rattle.timer_desk.specs.declared.opening.TheConstants.{MIN_ROOM, MAX_ROOM}
 use Rattle.timer_desk.specs.declared.report.Served.{Served}
 use Rattle.timer_desk.specs.declared.report.Served.TheVariants as Serveds
 use Rattle.timer_desk.specs.declared.report.Done.{Done}
@@ -22,7 +22,7 @@ use Rattle.timer_desk.specs.Desk.{opened_desk, clients_of, ReportHolds, TakesNot
 use Rattle.timer_desk_c.specs.declared.layout.DeskConfig.{DeskConfig}
 use Rattle.timer_desk_c.specs.declared.c_structs.CLine.{CLine}
 use Rattle.timer_desk_c.specs.declared.line.Line.{Line}
-use Rattle.timer_desk_c.specs.declared.making.TheConstants.{LEAST_LINE, MOST_LINE}
+use Rattle.timer_desk_c.specs.declared.making.TheConstants.{MIN_LINE, MAX_LINE}
 use Rattle.timer_desk_c.specs.declared.status.TheConstants.{OK, NO_MEMORY, IDLE, NO_ROOM, OUT_OF_RANGE, CLOSED, CLOCK_END, NO_CLIENT, NOT_FINISHED, OTHER_LINE, NEVER}
 use Rattle.timer_desk_c.specs.DeskSlots.{DeskState}
 use Rattle.timer_desk_c.specs.Frames.{HasLine, HasNoLine}
@@ -41,8 +41,8 @@ config_of clients c = record {
 -- each number is in its range
 abbrev pub IsFit : ℕ → DeskConfig → Type 0
 IsFit clients c =
-    (config_fault (config_of clients c) ≡ None) × (LEAST_ROOM ≤ c.room) × (c.room ≤ MOST_ROOM)
-    × (LEAST_LINE ≤ c.line) × (c.line ≤ MOST_LINE)
+    (config_fault (config_of clients c) ≡ None) × (MIN_ROOM ≤ c.room) × (c.room ≤ MAX_ROOM)
+    × (MIN_LINE ≤ c.line) × (c.line ≤ MAX_LINE)
 
 -- the client's end is of this inlet's line
 abbrev pub IsEndOf : RingInlet → Line → Type 0

@@ -11,15 +11,15 @@ use crate::line::Line;
 use crate::status::{NO_MEMORY, OUT_OF_RANGE};
 use std::alloc::Global;
 use timer_base::OutOfMemory;
-use timer_desk::{Desk, LEAST_ROOM, MOST_ROOM, RingInlet, ring_line};
+use timer_desk::{Desk, MIN_ROOM, MAX_ROOM, RingInlet, ring_line};
 use timer_facility::{Checked, Config, Facility};
 use timer_wheels::HierWheel;
 
 /// The least room of a line, each way.
-pub const LEAST_LINE: usize = 1;
+pub const MIN_LINE: usize = 1;
 
 /// The greatest room of a line, each way.
-pub const MOST_LINE: usize = 65536;
+pub const MAX_LINE: usize = 65536;
 
 /// The ends of new lines: the owner's, and at the same index the client's.
 struct NewLines {
@@ -67,10 +67,10 @@ fn checked(clients: usize, config: DeskConfig) -> Option<Checked>
     ensures some { (c : _) → result ≡ Some c → (c ≡ config_of clients config) × IsFit clients config }
     ensures none { result ≡ None → IsFit clients config → ⊥ }
 {
-    if config.room < LEAST_ROOM || config.room > MOST_ROOM {
+    if config.room < MIN_ROOM || config.room > MAX_ROOM {
         return None;
     }
-    if config.line < LEAST_LINE || config.line > MOST_LINE {
+    if config.line < MIN_LINE || config.line > MAX_LINE {
         return None;
     }
     let numbers = Config {
@@ -100,7 +100,7 @@ fn new_facility(alloc: Global, checked: Checked) -> Result<Facility<HierWheel>, 
 
 /// Makes so many lines, each with this room each way.
 fn new_lines(alloc: Global, clients: usize, room: usize) -> Result<NewLines, OutOfMemory>
-    requires room { (LEAST_LINE ≤ room) × (room ≤ MOST_LINE) }
+    requires room { (MIN_LINE ≤ room) × (room ≤ MAX_LINE) }
     ensures lines { IfOk result (λ l. AreNewLines room l.inlets.items (map (λ b. b.value) l.ends.items)) }
     ensures as_many { IfOk result (λ l. (vec_len l.inlets ≡ clients) × (vec_len l.ends ≡ clients)) }
 {

@@ -13,7 +13,7 @@ use Rattle.timer_base.specs.declared.timer.Handle.{Handle}
 use Rattle.timer_base.specs.Order.{AreBelow, AreDistinct}
 use Rattle.timer_base.specs.Pending.{Entry, timers_of, put, is_due_at, has_handle, first_timer, without_found, has_serial}
 use Rattle.timer_base.specs.WheelState as Wheels
-use Rattle.timer_facility.specs.declared.limits.TheConstants.{MOST_PENDING}
+use Rattle.timer_facility.specs.declared.limits.TheConstants.{MAX_PENDING}
 use Rattle.timer_facility.specs.declared.config.Config.{Config}
 use Rattle.timer_facility.specs.declared.request.Answer.TheVariants.{Started, Restarted}
 use Rattle.timer_facility.specs.declared.request.Reason.{Reason}
@@ -741,7 +741,7 @@ parts-stopped {p} {v} a e i client handle t h w' s =
 
 -- how many a client has when nothing waits, at most as many as are pending
 pub few_counted : {p : Parts} {v : FacilityView} → AreParts p → view_of p ≡ v → v.waiting ≡ [] → (client : ℕ)
-    → slice_index p.counts client ≤ MOST_PENDING
+    → slice_index p.counts client ≤ MAX_PENDING
 few_counted {p} {v} a e h client =
     let n = pending_is a e h client in
     let k = count_in_range client (timers_of v.state.pending) in

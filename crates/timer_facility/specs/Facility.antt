@@ -6,7 +6,7 @@ use Rattle.timer_base.specs.declared.limits.TheConstants.{LAST}
 use Rattle.timer_base.specs.declared.timer.Timer.{Timer}
 use Rattle.timer_base.specs.Pending.{timers_of}
 use Rattle.timer_base.specs.WheelState.{WheelState}
-use Rattle.timer_facility.specs.declared.limits.TheConstants.{MOST_CLIENTS, MOST_PENDING}
+use Rattle.timer_facility.specs.declared.limits.TheConstants.{MAX_CLIENTS, MAX_PENDING}
 use Rattle.timer_facility.specs.declared.request.Request.{Request}
 use Rattle.timer_facility.specs.declared.request.Request.TheVariants as Requests
 use Rattle.timer_facility.specs.declared.request.Answer.{Answer}
@@ -107,15 +107,15 @@ kept p = timers_of p.wheel.pending ++ (timers_of p.wheel.due ++ drop p.handed p.
 
 -- the counts are those of these timers, all of clients below `clients`
 pub record AreCounted (clients : ℕ) (counts : List ℕ) (ts : List Timer) : Type 0 where
-  pub all_counts : length counts ≡ MOST_CLIENTS
+  pub all_counts : length counts ≡ MAX_CLIENTS
   pub each : (client : ℕ) → slice_index counts client ≡ count_of client ts
   pub no_others : (client : ℕ) → clients ≤ client → slice_index counts client ≡ 0
 
 -- the invariant of the parts
 pub record AreParts (p : Parts) : Type 0 where
-  pub all_numbers : length p.numbers ≡ MOST_CLIENTS
-  pub few_clients : p.clients ≤ MOST_CLIENTS
-  pub capacity_in_range : p.capacity ≤ MOST_PENDING
+  pub all_numbers : length p.numbers ≡ MAX_CLIENTS
+  pub few_clients : p.clients ≤ MAX_CLIENTS
+  pub capacity_in_range : p.capacity ≤ MAX_PENDING
   pub few_pending : length p.wheel.pending ≤ p.capacity
   pub serial_unused : p.wheel.last_serial < p.next_serial
   pub serial_in_range : p.next_serial ≤ LAST + 1

@@ -6,7 +6,7 @@ use Rattle.timer_base.specs.declared.timer.Timer.{Timer}
 use Rattle.timer_base.specs.declared.timer.Handle.{Handle}
 use Rattle.timer_base.specs.Order.{IsOrdered, AreDistinct, AreBelow}
 use Rattle.timer_base.specs.Pending.{Entry, timers_of}
-use Rattle.timer_facility.specs.declared.limits.TheConstants.{MOST_CLIENTS, MOST_PENDING}
+use Rattle.timer_facility.specs.declared.limits.TheConstants.{MAX_CLIENTS, MAX_PENDING}
 
 pub record FacilityState : Type 0 where
   -- the most timers that may be pending; constant
@@ -57,8 +57,8 @@ pub data SingleEvent : Type 0 where
 
 -- the invariant of a state
 pub record IsSound (s : FacilityState) : Type 0 where
-  pub few_clients : length s.numbers ≤ MOST_CLIENTS
-  pub capacity_in_range : s.capacity ≤ MOST_PENDING
+  pub few_clients : length s.numbers ≤ MAX_CLIENTS
+  pub capacity_in_range : s.capacity ≤ MAX_PENDING
   pub last_in_range : s.last ≤ LAST
   pub now_in_range : s.now ≤ s.last
   pub serial_in_range : s.next_serial ≤ LAST + 1

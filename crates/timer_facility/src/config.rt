@@ -2,7 +2,7 @@
 ghost use Rattle.std.specs.Prelude.{◌≡◌, None, Some, MatchResult};
 ghost use Rattle.timer_facility.specs.Config.{is_outside, config_fault, IsInRange};
 
-use crate::limits::{MOST_CLIENTS, MOST_PENDING};
+use crate::limits::{MAX_CLIENTS, MAX_PENDING};
 use std::marker::Model;
 use thiserror::Error;
 use timer_base::LAST;
@@ -62,10 +62,10 @@ impl Config {
         ensures { MatchResult result (λ checked. (checked ≡ self)
             × (config_fault self ≡ None)) (λ fault. config_fault self ≡ Some fault) }
     {
-        if is_outside(1, MOST_CLIENTS, self.clients) {
+        if is_outside(1, MAX_CLIENTS, self.clients) {
             return Err(ConfigFault::Clients);
         }
-        if is_outside(1, MOST_PENDING, self.capacity) {
+        if is_outside(1, MAX_PENDING, self.capacity) {
             return Err(ConfigFault::Capacity);
         }
         if is_outside(0, LAST, self.first_tick) {

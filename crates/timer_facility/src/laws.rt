@@ -2,7 +2,7 @@
 //! Each of these functions does nothing: its contract is the lemma.
 ghost use Rattle.std.specs.Prelude.{◌≡◌, ◌≤◌, List, [], ℕ, ◌+◌, length, take, map, true, Some};
 ghost use Rattle.std.specs.List.{AllByRecursion};
-ghost use Rattle.timer_facility.specs.declared.limits.TheConstants.{MOST_CLIENTS, MOST_PENDING};
+ghost use Rattle.timer_facility.specs.declared.limits.TheConstants.{MAX_CLIENTS, MAX_PENDING};
 ghost use Rattle.timer_facility.specs.declared.handles.TheConstants.{SPARE};
 ghost use Rattle.timer_facility.specs.State.{FacilityState, IsSound, SingleEvent, Asked, Tick, Close, Wanted, pending_of};
 ghost use Rattle.timer_facility.specs.Verdict.{Refusal, verdict, closed_refusal};
@@ -110,7 +110,7 @@ pub fn no_timer_is_of_no_client()
 /// The limits in numbers: at most 64 clients, at most 1,048,576 timers pending, and 64 handles more than two
 /// for each of them.
 pub fn the_limits_of_a_facility()
-    ensures clients { MOST_CLIENTS ≡ 64 }
-    ensures pending { MOST_PENDING ≡ 1048576 }
+    ensures clients { MAX_CLIENTS ≡ 64 }
+    ensures pending { MAX_PENDING ≡ 1048576 }
     ensures spare { SPARE ≡ 64 }
 {}

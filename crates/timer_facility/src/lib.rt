@@ -20,6 +20,6 @@ mod request;
 pub use config::{Checked, Config, ConfigFault};
 pub use event::{Event, Out};
 pub use facility::Facility;
-pub use limits::{MOST_CLIENTS, MOST_PENDING};
+pub use limits::{MAX_CLIENTS, MAX_PENDING};
 pub use player::{PlayStop, Player};
 pub use request::{Answer, CloseFault, NotTaken, Notice, Reason, Request, TickFault};

@@ -3,8 +3,8 @@ use Rattle.std.proofs.Common.{◌≡◌, ℕ, ◌+◌, ◌-◌, ◌^◌, ◌%◌
 use Rattle.std.proofs.lemmas.Fmt.{length-decimal-le, decimal_by_steps}
 use Rattle.std.proofs.lemmas.List.{take_more}
 use Rattle.timer_base.specs.declared.limits.TheConstants.{LAST}
-use Rattle.timer_script.specs.declared.cutting.TheConstants.{MOST_LINE}
-use Rattle.timer_script.specs.declared.lines.TheConstants.{MOST_TICKS}
+use Rattle.timer_script.specs.declared.cutting.TheConstants.{MAX_LINE}
+use Rattle.timer_script.specs.declared.lines.TheConstants.{MAX_TICKS}
 use Rattle.timer_facility.specs.declared.event.Event.{Event}
 use Rattle.timer_facility.specs.declared.event.Event.TheVariants.{Start, Stop, Restart, Ticks, Close}
 use Rattle.timer_script.specs.Script.{IsInRange, line, BeginsNoLine}
@@ -35,7 +35,7 @@ pub record IsFed (bytes : List ℕ) : Type 0 where
   pub front : List ℕ
   pub is : bytes ≡ front ++ 10 ∷ []
   pub no_feed : HasNoFeed front
-  pub short : length front < MOST_LINE
+  pub short : length front < MAX_LINE
 
 -- a word or a number, as the beginning of a line
 record IsBare (most : ℕ) (bytes : List ℕ) : Type 0 where
@@ -106,10 +106,10 @@ word_close = record {
 spaced : (n : ℕ) → n ≤ LAST → IsBare 20 (decimal n ++ codes " ")
 spaced n fits = join 19 1 (decimal n) (codes " ") (number n fits) blank
 
-few_ticks : (k : ℕ) → k ≤ MOST_TICKS → k ≤ LAST
+few_ticks : (k : ℕ) → k ≤ MAX_TICKS → k ≤ LAST
 few_ticks k few = omega arith
 
-fed : (most : ℕ) (bytes front : List ℕ) → most < MOST_LINE → IsBare most front → bytes ≡ front ++ 10 ∷ [] → IsFed bytes
+fed : (most : ℕ) (bytes front : List ℕ) → most < MAX_LINE → IsBare most front → bytes ≡ front ++ 10 ∷ [] → IsFed bytes
 fed most bytes front small h is = record { front = front; is = is; no_feed = h.no_feed; short = (let k = h.short in omega arith) }
 
 pub line_fed : (event : Event) → IsInRange event → IsFed (line event)
@@ -154,7 +154,7 @@ at_feed : (xs more : List ℕ) → (xs ++ 10 ∷ []) ++ more ≡ xs ++ 10 ∷ mo
 at_feed xs more = append_assoc xs (10 ∷ []) more
 
 -- bytes with no line feed that are too many for a line begin no line
-pub too_long : (xs : List ℕ) → HasNoFeed xs → length xs ≡ MOST_LINE → IsBadFront xs
+pub too_long : (xs : List ℕ) → HasNoFeed xs → length xs ≡ MAX_LINE → IsBadFront xs
 too_long xs none long = record {
   some = omega arith;
   short = omega arith;
@@ -179,7 +179,7 @@ no_feed_no_line xs none event rest fits e =
     no_feed_none (x ∷ xs) (y ∷ ys) rest a e = no_feed_none xs ys rest a.1 cc
 
 -- a complete line that can't be read begins no line, whatever follows
-pub unread : (held front : List ℕ) → HasNoFeed front → held ≡ front ++ 10 ∷ [] → length held ≤ MOST_LINE → line_at held ≡ None
+pub unread : (held front : List ℕ) → HasNoFeed front → held ≡ front ++ 10 ∷ [] → length held ≤ MAX_LINE → line_at held ≡ None
     → IsBadFront held
 unread held front free is short unread_none = record {
   some = (let h = ap length is in let l = length-append front (10 ∷ []) in omega arith);
@@ -225,7 +225,7 @@ feed-take old bytes n some within is =
 -- the bytes up to a line feed
 pub held_line : (old bytes new : List ℕ) (n : ℕ) (ending : Ending) → IsPartial old → 0 < n → n ≤ length bytes
     → HasNoFeed (take (n - 1) bytes) → get_or bytes (n - 1) 0 ≡ 10
-    → new ≡ old ++ take n bytes → length new ≤ MOST_LINE → EndsAsLine ending new → HasHeld old bytes n ending new
+    → new ≡ old ++ take n bytes → length new ≤ MAX_LINE → EndsAsLine ending new → HasHeld old bytes n ending new
 held_line old bytes new n ending a some within b is joined short ends = record {
   some = some;
   within = within;
@@ -237,7 +237,7 @@ held_line old bytes new n ending a some within b is joined short ends = record {
 -- bytes with no line feed, too many for a line
 pub held_long : (old bytes new : List ℕ) (n : ℕ) → IsPartial old → 0 < n → n ≤ length bytes → HasNoFeed (take (n - 1) bytes)
     → (get_or bytes (n - 1) 0 ≡ 10 → ⊥)
-    → new ≡ old ++ take n bytes → length new ≡ MOST_LINE → HasHeld old bytes n Bad new
+    → new ≡ old ++ take n bytes → length new ≡ MAX_LINE → HasHeld old bytes n Bad new
 held_long old bytes new n a some within b not joined long = record {
   some = some;
   within = within;
@@ -248,7 +248,7 @@ held_long old bytes new n a some within b not joined long = record {
 -- bytes with no line feed
 pub held_open : (old bytes new : List ℕ) (n : ℕ) → IsPartial old → 0 < n → n ≤ length bytes → HasNoFeed (take (n - 1) bytes)
     → (get_or bytes (n - 1) 0 ≡ 10 → ⊥)
-    → new ≡ old ++ take n bytes → length new < MOST_LINE → HasHeld old bytes n Open new
+    → new ≡ old ++ take n bytes → length new < MAX_LINE → HasHeld old bytes n Open new
 held_open old bytes new n a some within b not joined short = record {
   some = some;
   within = within;

@@ -4,7 +4,7 @@ use Rattle.std.proofs.lemmas.List.{take_rest, length-append}
 use Rattle.std.specs.Io.KnownBytes.{Consumes, Appends}
 use Rattle.std.proofs.KnownBytes.{Consumes-nil, Consumes-kept, Consumes-trans, Appends-trans}
 use Rattle.std.proofs.Math.Seq.{take-add}
-use Rattle.timer_script.specs.declared.input.TheConstants.{MOST_BYTES}
+use Rattle.timer_script.specs.declared.input.TheConstants.{MAX_BYTES}
 use Rattle.timer_script.specs.declared.fault.RunFault.{RunFault}
 use Rattle.timer_script.specs.declared.fault.RunFault.TheVariants as faults
 use Rattle.timer_script.specs.Input.{HasRead, FailsToRead, StopsReading}
@@ -21,7 +21,7 @@ sends_more a b c text i n before h =
 
 -- a read that failed after these bytes stops the reading
 pub stops_reading : (fault : RunFault) (a b c : Option (List ℕ)) (failed : Bool) (old : List ℕ) (room : ℕ) → Consumes a b old
-    → length old ≤ MOST_BYTES → length old + room ≤ MOST_BYTES + 1
+    → length old ≤ MAX_BYTES → length old + room ≤ MAX_BYTES + 1
     → FailsToRead fault room b c failed → StopsReading fault a c failed
 stops_reading faults.Read a b c failed old room got short fits h = ((old, Consumes-kept a b c old got h.0, short), h.1)
 stops_reading faults.TooLong a b c failed old room got short fits h = absurd h

@@ -10,7 +10,7 @@ use Rattle.std.specs.Str.Parse.{digits_value}
 use Rattle.std.proofs.NetLemmas.Numbers.{NoDigit}
 use Rattle.std.proofs.NetLemmas.Options.{cond_some, cond_none, and_then_some, same_parts}
 use Rattle.timer_base.specs.declared.limits.TheConstants.{LAST}
-use Rattle.timer_script.specs.declared.lines.TheConstants.{MOST_TICKS}
+use Rattle.timer_script.specs.declared.lines.TheConstants.{MAX_TICKS}
 use Rattle.timer_facility.specs.declared.event.Event.{Event}
 use Rattle.timer_facility.specs.declared.event.Event.TheVariants.{Start, Stop, Restart, Ticks, Close}
 use Rattle.timer_script.specs.Script.{IsInRange, line}
@@ -138,7 +138,7 @@ restart_again c n s i a rest fits = rw (
 
 tick_again : (k : ℕ) (rest : List ℕ) → IsInRange (Ticks k) → tick_at (decimal k ++ (10 ∷ rest)) ≡ Some (Ticks k, rest)
 unfolding tick_at
-tick_again k rest fits = rw (ended k _ (omega arith), and_from _ _ (le-leb 1 k fits.0) (le-leb k MOST_TICKS fits.1), feed rest) refl
+tick_again k rest fits = rw (ended k _ (omega arith), and_from _ _ (le-leb 1 k fits.0) (le-leb k MAX_TICKS fits.1), feed rest) refl
 
 pub line_again : (event : Event) (rest : List ℕ) → IsInRange event → line_at (line event ++ rest) ≡ Some (event, rest)
 unfolding line_at line strip
@@ -255,7 +255,7 @@ tick_sound bytes rest event e =
     let split : codes "tick " ++ bytes ≡ line (Ticks k.0) ++ k' = rw (is_k.1, strip_sound _ k.1 k' feed_k) (simp append_assoc) in
     subst (λ (x : Event). IsInRange x × (codes "tick " ++ bytes ≡ line x ++ rest)) event_is
     (subst (λ (r : List ℕ). IsInRange (Ticks k.0) × (codes "tick " ++ bytes ≡ line (Ticks k.0) ++ r)) rest_is
-    ((leb-true 1 k.0 low, leb-true k.0 MOST_TICKS high), split))
+    ((leb-true 1 k.0 low, leb-true k.0 MAX_TICKS high), split))
 
 -- a word is at the front, or not
 by_word : {A P : Type 0} (o : Option (List ℕ)) (f : List ℕ → Option A) (other : Option A) (y : A) → or_try o f other ≡ Some y

@@ -7,7 +7,7 @@ use Rattle.std.proofs.lemmas.Option.{none-some}
 use Rattle.std.proofs.lemmas.List.{take_rest}
 use Rattle.std.proofs.Math.Seq.{take-add}
 use Rattle.timer_facility.specs.declared.event.Event.{Event}
-use Rattle.timer_script.specs.declared.cutting.TheConstants.{MOST_LINE}
+use Rattle.timer_script.specs.declared.cutting.TheConstants.{MAX_LINE}
 use Rattle.timer_script.specs.Cutting.{HasNoFeed}
 use Rattle.timer_script.specs.Script.{IsInRange, IsScript, line, spelling, BeginsNoLine}
 use Rattle.timer_script.specs.Lines.{line_at}
@@ -58,14 +58,14 @@ nothing_left [] ys e = refl
 nothing_left (x ∷ xs) ys e = absurd cc
 
 -- what can be read of the front of a line is all of it
-read_all : (front held after : List ℕ) (event : Event) → HasNoFeed front → held ≡ take MOST_LINE (front ++ 10 ∷ [])
+read_all : (front held after : List ℕ) (event : Event) → HasNoFeed front → held ≡ take MAX_LINE (front ++ 10 ∷ [])
     → line_at held ≡ Some (event, after) → IsInRange event × (line event ≡ front ++ 10 ∷ []) × (held ≡ line event)
 read_all front held after event none is some =
     let (fits, parts) = line_sound held after event some in
     let f : IsFed (line event) = line_fed event fits in
-    let rest : List ℕ = drop MOST_LINE (front ++ 10 ∷ []) in
+    let rest : List ℕ = drop MAX_LINE (front ++ 10 ∷ []) in
     let whole : front ++ 10 ∷ [] ≡ f.front ++ 10 ∷ (after ++ rest) =
-    sym (take-append-drop MOST_LINE (front ++ 10 ∷ [])) ∙ ap (λ t. t ++ rest) (sym is ∙ parts) ∙ append_assoc (line event) after rest
+    sym (take-append-drop MAX_LINE (front ++ 10 ∷ [])) ∙ ap (λ t. t ++ rest) (sym is ∙ parts) ∙ append_assoc (line event) after rest
     ∙ ap (λ t. t ++ (after ++ rest)) f.is ∙ at_feed f.front (after ++ rest) in
     let same = first_feed front f.front [] (after ++ rest) none f.no_feed whole in
     let gone : after ≡ [] = nothing_left after rest same.1 in
@@ -78,19 +78,19 @@ take_short (suc m) [] l = refl
 take_short (suc m) (x ∷ xs) l = ap (λ t. x ∷ t) (take_short m xs (omega arith))
 
 -- if nothing can be read of the front of a line, it is that of no event
-read_none : (front held : List ℕ) → HasNoFeed front → held ≡ take MOST_LINE (front ++ 10 ∷ []) → line_at held ≡ None
+read_none : (front held : List ℕ) → HasNoFeed front → held ≡ take MAX_LINE (front ++ 10 ∷ []) → line_at held ≡ None
     → BeginsNoLine (front ++ 10 ∷ [])
 read_none front held none is unread event rest fits e =
     let f : IsFed (line event) = line_fed event fits in
     let same = first_feed front f.front [] rest none f.no_feed (e ∙ ap (λ t. t ++ rest) f.is ∙ at_feed f.front rest) in
     let whole : front ++ 10 ∷ [] ≡ line event = ap (λ t. t ++ 10 ∷ []) same.0 ∙ sym f.is in
-    let short : length (front ++ 10 ∷ []) ≤ MOST_LINE = (let s = f.short in let l = length-append f.front (10 ∷ [])
+    let short : length (front ++ 10 ∷ []) ≤ MAX_LINE = (let s = f.short in let l = length-append f.front (10 ∷ [])
     in let w = ap length (whole ∙ f.is) in omega arith) in
-    let read : held ≡ line event ++ [] = is ∙ take_short MOST_LINE (front ++ 10 ∷ []) short ∙ whole ∙ sym (append-nil (line event)) in
+    let read : held ≡ line event ++ [] = is ∙ take_short MAX_LINE (front ++ 10 ∷ []) short ∙ whole ∙ sym (append-nil (line event)) in
     none-some _ (sym unread ∙ ap line_at read ∙ line_again event [] fits)
 
 pub ended_good : (front held after : List ℕ) (event : Event) (n : ℕ) (good good' said : List ℕ) → HasNoFeed front
-    → held ≡ take MOST_LINE (front ++ 10 ∷ []) → line_at held ≡ Some (event, after) → good' ≡ good ++ held
+    → held ≡ take MAX_LINE (front ++ 10 ∷ []) → line_at held ≡ Some (event, after) → good' ≡ good ++ held
     → HasEndedLine (front ++ 10 ∷ []) n good good' said said
 ended_good front held after event n good good' said none is some grows =
     let (fits, whole, same) = read_all front held after event none is some in
@@ -102,7 +102,7 @@ ended_good front held after event n good good' said none is some grows =
       said_is = sym (append-nil said);
     }
 
-pub ended_bad : (front held : List ℕ) (n : ℕ) (good said said' : List ℕ) → HasNoFeed front → held ≡ take MOST_LINE (front ++ 10 ∷ [])
+pub ended_bad : (front held : List ℕ) (n : ℕ) (good said said' : List ℕ) → HasNoFeed front → held ≡ take MAX_LINE (front ++ 10 ∷ [])
     → line_at held ≡ None → said' ≡ said ++ complaint n
     → HasEndedLine (front ++ 10 ∷ []) n good good said said'
 ended_bad front held n good said said' none is unread grows = record {
@@ -147,9 +147,9 @@ held_more (suc m) n (x ∷ xs) bytes =
 -- bytes that end no line
 pub sifted_held : (front held bytes held' : List ℕ) (n number : ℕ) (good said : List ℕ) → IsHeld held front → 0 < n → n ≤ length bytes
     → HasNoFeed (take (n - 1) bytes) → (get_or bytes (n - 1) 0 ≡ 10 → ⊥)
-    → held' ≡ held ++ take (min n (MOST_LINE - length held)) bytes → HasSifted front number (take n bytes) good good said said held' number
+    → held' ≡ held ++ take (min n (MAX_LINE - length held)) bytes → HasSifted front number (take n bytes) good good said said held' number
 sifted_held front held bytes held' n number good said h some within b not joined =
-    let old : held ≡ take MOST_LINE front = h.kept in
+    let old : held ≡ take MAX_LINE front = h.kept in
     record {
       lines = [];
       left = front ++ take n bytes;
@@ -157,7 +157,7 @@ sifted_held front held bytes held' n number good said h some within b not joined
       each = tt;
       held = record {
         no_feed = no_feed-take front bytes n some within h.no_feed b not;
-        kept = joined ∙ ap (λ t. t ++ take (min n (MOST_LINE - length t)) bytes) old ∙ held_more MOST_LINE n front bytes;
+        kept = joined ∙ ap (λ t. t ++ take (min n (MAX_LINE - length t)) bytes) old ∙ held_more MAX_LINE n front bytes;
       };
       good_is = sym (append-nil good);
       said_is = sym (append-nil said);
@@ -166,11 +166,11 @@ sifted_held front held bytes held' n number good said h some within b not joined
 
 -- bytes up to the end of a line, as it is held
 pub line_front : (front held bytes held' : List ℕ) (n : ℕ) → IsHeld held front → 0 < n → n ≤ length bytes → get_or bytes (n - 1) 0 ≡ 10
-    → held' ≡ held ++ take (min n (MOST_LINE - length held)) bytes → held' ≡ take MOST_LINE ((front ++ take (n - 1) bytes) ++ 10 ∷ [])
+    → held' ≡ held ++ take (min n (MAX_LINE - length held)) bytes → held' ≡ take MAX_LINE ((front ++ take (n - 1) bytes) ++ 10 ∷ [])
 line_front front held bytes held' n h some within is joined =
-    let old : held ≡ take MOST_LINE front = h.kept in
-    joined ∙ ap (λ t. t ++ take (min n (MOST_LINE - length t)) bytes) old ∙ held_more MOST_LINE n front bytes
-    ∙ ap (λ t. take MOST_LINE t) (feed-take front bytes n some within is)
+    let old : held ≡ take MAX_LINE front = h.kept in
+    joined ∙ ap (λ t. t ++ take (min n (MAX_LINE - length t)) bytes) old ∙ held_more MAX_LINE n front bytes
+    ∙ ap (λ t. take MAX_LINE t) (feed-take front bytes n some within is)
 
 pub front_no_feed : (front held bytes : List ℕ) (n : ℕ) → IsHeld held front → HasNoFeed (take (n - 1) bytes)
     → HasNoFeed (front ++ take (n - 1) bytes)
@@ -187,7 +187,7 @@ sifted_line front bytes n number good good' said said' held' number' some within
   parts = feed-take front bytes n some within is ∙ sym e.bytes_is ∙ sym (append-nil (bytes_of e.line))
       ∙ sym (append-nil (bytes_of e.line ++ []));
   each = (e.is_line, tt);
-  held = record { no_feed = tt; kept = none ∙ sym (take_nil MOST_LINE) };
+  held = record { no_feed = tt; kept = none ∙ sym (take_nil MAX_LINE) };
   good_is = e.good_is;
   said_is = e.said_is;
   counted = counted;

@@ -3,7 +3,7 @@ use Rattle.std.specs.Prelude.{◌≡◌, ◌==◌, ℕ, ◌+◌, ◌<◌, ◌≤
 use Rattle.std.specs.Io.KnownBytes.{Appends}
 use Rattle.timer_script.specs.declared.line_fault.Field.{Field}
 use Rattle.timer_script.specs.declared.line_fault.LineFault.{LineFault}
-use Rattle.timer_script.specs.declared.input.TheConstants.{MOST_BYTES}
+use Rattle.timer_script.specs.declared.input.TheConstants.{MAX_BYTES}
 use Rattle.timer_script.specs.declared.fault.RunFault.{RunFault}
 use Rattle.timer_script.specs.declared.fault.RunFault.TheVariants as faults
 use Rattle.timer_script.specs.declared.watched.Watched.{Watched}
@@ -64,7 +64,7 @@ pub record IsReport (bytes text : List ℕ) (bad : ℕ) : Type 0 where
 pub record IsReported (old new : Option (List ℕ)) (text : List ℕ) (bad : ℕ) : Type 0 where
   pub bytes : List ℕ
   pub whole : ReadsWhole old new bytes
-  pub short : length bytes ≤ MOST_BYTES
+  pub short : length bytes ≤ MAX_BYTES
   pub report : IsReport bytes text bad
 
 -- what a check did to its reader and its writer, by how it ended
@@ -75,18 +75,18 @@ HasChecked remaining contents reader reader' writer writer' (Ok bad) =
     (text : List ℕ) × IsReported (remaining (inner_of reader)) (remaining (inner_of reader')) text bad
     × (has_failed reader' ≡ false)
     × Appends (contents (inner_of writer)) (contents (inner_of writer')) text × (has_failed writer' ≡ false)
--- the reader failed in this call, after at most `MOST_BYTES` bytes, and nothing was written
+-- the reader failed in this call, after at most `MAX_BYTES` bytes, and nothing was written
 HasChecked remaining contents reader reader' writer writer' (Err faults.Read) =
-    ReadsUpTo MOST_BYTES (remaining (inner_of reader)) (remaining (inner_of reader'))
+    ReadsUpTo MAX_BYTES (remaining (inner_of reader)) (remaining (inner_of reader'))
     × (has_failed reader' ≡ true) × (writer' ≡ writer)
--- one byte more than `MOST_BYTES` was read, and nothing was written
+-- one byte more than `MAX_BYTES` was read, and nothing was written
 HasChecked remaining contents reader reader' writer writer' (Err faults.TooLong) =
     ReadsTooMany (remaining (inner_of reader)) (remaining (inner_of reader')) × (has_failed reader' ≡ false)
     × (writer' ≡ writer)
 HasChecked remaining contents reader reader' writer writer' (Err (faults.Bad line)) = ⊥
--- nothing was written, and at most one byte more than `MOST_BYTES` was read
+-- nothing was written, and at most one byte more than `MAX_BYTES` was read
 HasChecked remaining contents reader reader' writer writer' (Err faults.OutOfMemory) =
-    ReadsUpTo (MOST_BYTES + 1) (remaining (inner_of reader)) (remaining (inner_of reader'))
+    ReadsUpTo (MAX_BYTES + 1) (remaining (inner_of reader)) (remaining (inner_of reader'))
     × (has_failed reader' ≡ false) × (writer' ≡ writer)
 -- the writer failed in this call, and a prefix of the report was written, of this length, and nothing else
 HasChecked remaining contents reader reader' writer writer' (Err (faults.Write written)) =

@@ -1,7 +1,7 @@
 -- What reading a script to its end does to the reader, whose remaining bytes may be known.
 use Rattle.std.specs.Prelude.{◌≡◌, ℕ, ◌+◌, ◌≤◌, Bool, true, false, List, length, ◌++◌, Option}
 use Rattle.std.specs.Io.KnownBytes.{Keeps, Consumes, IsAtEnd}
-use Rattle.timer_script.specs.declared.input.TheConstants.{MOST_BYTES}
+use Rattle.timer_script.specs.declared.input.TheConstants.{MAX_BYTES}
 use Rattle.timer_script.specs.declared.fault.RunFault.{RunFault}
 use Rattle.timer_script.specs.declared.fault.RunFault.TheVariants as faults
 
@@ -13,16 +13,16 @@ ReadsWhole old new bytes = Consumes old new bytes × IsAtEnd new
 abbrev pub ReadsUpTo : ℕ → Option (List ℕ) → Option (List ℕ) → Type 0
 ReadsUpTo most old new = (bytes : List ℕ) × Consumes old new bytes × (length bytes ≤ most)
 
--- one byte more than `MOST_BYTES` was read
+-- one byte more than `MAX_BYTES` was read
 abbrev pub ReadsTooMany : Option (List ℕ) → Option (List ℕ) → Type 0
-ReadsTooMany old new = (bytes : List ℕ) × Consumes old new bytes × (length bytes ≡ MOST_BYTES + 1)
+ReadsTooMany old new = (bytes : List ℕ) × Consumes old new bytes × (length bytes ≡ MAX_BYTES + 1)
 
 -- why reading stopped before the end, and how far it went
 abbrev pub StopsReading : RunFault → Option (List ℕ) → Option (List ℕ) → Bool → Type 0
-StopsReading faults.Read old new failed = ReadsUpTo MOST_BYTES old new × (failed ≡ true)
+StopsReading faults.Read old new failed = ReadsUpTo MAX_BYTES old new × (failed ≡ true)
 StopsReading faults.TooLong old new failed = ReadsTooMany old new × (failed ≡ false)
 StopsReading (faults.Bad line) old new failed = ⊥
-StopsReading faults.OutOfMemory old new failed = ReadsUpTo (MOST_BYTES + 1) old new × (failed ≡ false)
+StopsReading faults.OutOfMemory old new failed = ReadsUpTo (MAX_BYTES + 1) old new × (failed ≡ false)
 StopsReading (faults.Write written) old new failed = ⊥
 
 -- one read appended n bytes to the old ones; none came only at the end

@@ -5,7 +5,7 @@ use Rattle.std.specs.Cmp.Lexicographic.{pointwise}
 use Rattle.std.specs.Net.Reader.{read_number}
 use Rattle.std.specs.Borrow.{Bor}
 use Rattle.timer_base.specs.declared.limits.TheConstants.{LAST}
-use Rattle.timer_script.specs.declared.lines.TheConstants.{MOST_TICKS}
+use Rattle.timer_script.specs.declared.lines.TheConstants.{MAX_TICKS}
 use Rattle.timer_facility.specs.declared.event.Event.{Event}
 use Rattle.timer_facility.specs.declared.event.Event.TheVariants.{Start, Stop, Restart, Ticks, Close}
 
@@ -84,7 +84,7 @@ restart_at bytes =
 unfoldable pub tick_at : List ℕ → Read Event
 tick_at bytes =
     number_at bytes >>= λ count.
-    if (nat_le 1 count.0 && nat_le count.0 MOST_TICKS) then
+    if (nat_le 1 count.0 && nat_le count.0 MAX_TICKS) then
     (strip (codes "\n") count.1 >>= λ rest. Some (Ticks count.0, rest)) else None
 
 -- the event whose line is at the front

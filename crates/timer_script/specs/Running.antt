@@ -6,7 +6,7 @@ use Rattle.timer_facility.specs.declared.event.Event.{Event}
 use Rattle.timer_facility.specs.declared.event.Out.{Out}
 use Rattle.timer_facility.specs.State.{FacilityState}
 use Rattle.timer_facility.specs.Played.{IsRun, IsPlayed}
-use Rattle.timer_script.specs.declared.input.TheConstants.{MOST_BYTES}
+use Rattle.timer_script.specs.declared.input.TheConstants.{MAX_BYTES}
 use Rattle.timer_script.specs.declared.fault.RunFault.{RunFault}
 use Rattle.timer_script.specs.declared.fault.RunFault.TheVariants as faults
 use Rattle.timer_script.specs.declared.watched.Watched.{Watched}
@@ -42,7 +42,7 @@ pub record IsAnswered (before : FacilityState) (old new : Option (List ℕ)) (an
   pub bytes : List ℕ
   pub events : List Event
   pub whole : ReadsWhole old new bytes
-  pub short : length bytes ≤ MOST_BYTES
+  pub short : length bytes ≤ MAX_BYTES
   pub script : IsScript events bytes
   pub answered : IsAnswer before events answer
 
@@ -50,7 +50,7 @@ pub record IsAnswered (before : FacilityState) (old new : Option (List ℕ)) (an
 pub record IsBad (old new : Option (List ℕ)) (line : ℕ) : Type 0 where
   pub bytes : List ℕ
   pub whole : ReadsWhole old new bytes
-  pub short : length bytes ≤ MOST_BYTES
+  pub short : length bytes ≤ MAX_BYTES
   pub bad : IsBadLine bytes line
 
 -- why bytes within the limit have no answer
@@ -64,9 +64,9 @@ GivesNoAnswer (faults.Write written) bytes = ⊥
 -- why bytes in memory have no answer
 abbrev pub HasNoAnswer : RunFault → List ℕ → Type 0
 HasNoAnswer faults.Read bytes = ⊥
-HasNoAnswer faults.TooLong bytes = MOST_BYTES < length bytes
-HasNoAnswer (faults.Bad line) bytes = IsBadLine bytes line × (length bytes ≤ MOST_BYTES)
-HasNoAnswer faults.OutOfMemory bytes = length bytes ≤ MOST_BYTES
+HasNoAnswer faults.TooLong bytes = MAX_BYTES < length bytes
+HasNoAnswer (faults.Bad line) bytes = IsBadLine bytes line × (length bytes ≤ MAX_BYTES)
+HasNoAnswer faults.OutOfMemory bytes = length bytes ≤ MAX_BYTES
 HasNoAnswer (faults.Write written) bytes = ⊥
 
 -- what a run did to its reader and its writer, by how it ended
@@ -78,11 +78,11 @@ HasRun before remaining contents reader reader' writer writer' (Ok u) =
     (answer : List ℕ) × IsAnswered before (remaining (inner_of reader)) (remaining (inner_of reader')) answer
     × (has_failed reader' ≡ false)
     × Appends (contents (inner_of writer)) (contents (inner_of writer')) answer × (has_failed writer' ≡ false)
--- the reader failed in this call, after at most `MOST_BYTES` bytes, and nothing was written
+-- the reader failed in this call, after at most `MAX_BYTES` bytes, and nothing was written
 HasRun before remaining contents reader reader' writer writer' (Err faults.Read) =
-    ReadsUpTo MOST_BYTES (remaining (inner_of reader)) (remaining (inner_of reader'))
+    ReadsUpTo MAX_BYTES (remaining (inner_of reader)) (remaining (inner_of reader'))
     × (has_failed reader' ≡ true) × (writer' ≡ writer)
--- one byte more than `MOST_BYTES` was read, and nothing was written
+-- one byte more than `MAX_BYTES` was read, and nothing was written
 HasRun before remaining contents reader reader' writer writer' (Err faults.TooLong) =
     ReadsTooMany (remaining (inner_of reader)) (remaining (inner_of reader')) × (has_failed reader' ≡ false)
     × (writer' ≡ writer)
@@ -90,9 +90,9 @@ HasRun before remaining contents reader reader' writer writer' (Err faults.TooLo
 HasRun before remaining contents reader reader' writer writer' (Err (faults.Bad line)) =
     IsBad (remaining (inner_of reader)) (remaining (inner_of reader')) line × (has_failed reader' ≡ false)
     × (writer' ≡ writer)
--- nothing was written, and at most one byte more than `MOST_BYTES` was read
+-- nothing was written, and at most one byte more than `MAX_BYTES` was read
 HasRun before remaining contents reader reader' writer writer' (Err faults.OutOfMemory) =
-    ReadsUpTo (MOST_BYTES + 1) (remaining (inner_of reader)) (remaining (inner_of reader'))
+    ReadsUpTo (MAX_BYTES + 1) (remaining (inner_of reader)) (remaining (inner_of reader'))
     × (has_failed reader' ≡ false) × (writer' ≡ writer)
 -- the writer failed in this call, and a prefix of the answer was written, of this length, and nothing else
 HasRun before remaining contents reader reader' writer writer' (Err (faults.Write written)) =

@@ -2,20 +2,20 @@
 use Rattle.std.specs.Prelude.{◌≡◌, ℕ, ◌+◌, ◌≤◌, List, ◌++◌, length, codes, decimal}
 use Rattle.std.specs.List.{flat_map, AllByRecursion}
 use Rattle.timer_base.specs.declared.limits.TheConstants.{LAST}
-use Rattle.timer_script.specs.declared.lines.TheConstants.{MOST_TICKS}
+use Rattle.timer_script.specs.declared.lines.TheConstants.{MAX_TICKS}
 use Rattle.timer_facility.specs.declared.event.Event.{Event}
 use Rattle.timer_facility.specs.declared.event.Event.TheVariants.{Start, Stop, Restart, Ticks, Close}
 use Rattle.timer_script.specs.declared.fault.ScriptFault.{ScriptFault}
 use Rattle.timer_script.specs.declared.fault.ScriptFault.TheVariants.{Bad, OutOfMemory}
 
--- the numbers of a line are at most LAST, and its ticks are 1 to MOST_TICKS
+-- the numbers of a line are at most LAST, and its ticks are 1 to MAX_TICKS
 abbrev pub IsInRange : Event → Type 0
 IsInRange (Start client number interval action) = (client ≤ LAST) × (number ≤ LAST) × (interval ≤ LAST)
     × (action ≤ LAST)
 IsInRange (Stop client number serial) = (client ≤ LAST) × (number ≤ LAST) × (serial ≤ LAST)
 IsInRange (Restart client number serial interval action) = (client ≤ LAST) × (number ≤ LAST) × (serial ≤ LAST)
     × (interval ≤ LAST) × (action ≤ LAST)
-IsInRange (Ticks count) = (1 ≤ count) × (count ≤ MOST_TICKS)
+IsInRange (Ticks count) = (1 ≤ count) × (count ≤ MAX_TICKS)
 IsInRange Close = Unit {0}
 
 -- a line: words and numbers with one space between them, and a line feed

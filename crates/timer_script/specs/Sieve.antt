@@ -2,7 +2,7 @@
 use Rattle.std.specs.Prelude.{◌≡◌, ℕ, ◌+◌, ◌-◌, ◌^◌, List, [], ◌∷◌, ◌++◌, take, min, codes, decimal}
 use Rattle.std.specs.List.{flat_map, AllByRecursion}
 use Rattle.timer_facility.specs.declared.event.Event.{Event}
-use Rattle.timer_script.specs.declared.cutting.TheConstants.{MOST_LINE}
+use Rattle.timer_script.specs.declared.cutting.TheConstants.{MAX_LINE}
 use Rattle.timer_script.specs.Cutting.{HasNoFeed}
 use Rattle.timer_script.specs.Script.{IsInRange, line, spelling, BeginsNoLine}
 
@@ -68,7 +68,7 @@ complaints numbers = flat_map complaint numbers
 -- of the front of a line as much is held as a line may have
 pub record IsHeld (held front : List ℕ) : Type 0 where
   pub no_feed : HasNoFeed front
-  pub kept : held ≡ take MOST_LINE front
+  pub kept : held ≡ take MAX_LINE front
 
 -- a line of these bytes, the n-th, was ended: it is kept if it is good, and else reported
 pub record HasEndedLine (bytes : List ℕ) (n : ℕ) (good good' said said' : List ℕ) : Type 0 where

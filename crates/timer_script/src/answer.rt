@@ -1,12 +1,12 @@
 //! A run over memory.
 ghost use Rattle.std.specs.Prelude.{◌≡◌, ◌≤◌, List, [], length, IfOk, IfErr, OnOk};
 ghost use Rattle.timer_facility.specs.declared.event.Event.{Event};
-ghost use Rattle.timer_script.specs.declared.input.TheConstants.{MOST_BYTES};
+ghost use Rattle.timer_script.specs.declared.input.TheConstants.{MAX_BYTES};
 ghost use Rattle.timer_script.specs.Script.{IsScript};
 ghost use Rattle.timer_script.specs.Running.{IsAnswer, HasNoAnswer};
 
 use crate::fault::RunFault;
-use crate::input::MOST_BYTES;
+use crate::input::MAX_BYTES;
 use crate::running::answer_to;
 use std::alloc::Global;
 use timer_base::Wheel;
@@ -14,7 +14,7 @@ use timer_facility::Facility;
 
 /// The text that answers a script.
 ///
-/// Fails, in this order, with `TooLong` if the script has more than `MOST_BYTES` bytes, and with
+/// Fails, in this order, with `TooLong` if the script has more than `MAX_BYTES` bytes, and with
 /// `Bad`, which names the first bad line. Never fails with `Read` or `Write`. Nothing may be pending
 /// in the facility or wait in it.
 pub fn answer_of<W: Wheel + Drop>(
@@ -26,10 +26,10 @@ pub fn answer_of<W: Wheel + Drop>(
     requires waiting { facility.waiting ≡ [] }
     ensures ok { IfOk result (λ answer. (events : List Event) × IsScript events script.now
         × IsAnswer facility.state events answer.items) }
-    ensures short { OnOk result (length script.now ≤ MOST_BYTES) }
+    ensures short { OnOk result (length script.now ≤ MAX_BYTES) }
     ensures fault { IfErr result (λ fault. HasNoAnswer fault script.now) }
 {
-    if script.len() > MOST_BYTES {
+    if script.len() > MAX_BYTES {
         return Err(RunFault::TooLong);
     }
     answer_to(alloc, script, facility)

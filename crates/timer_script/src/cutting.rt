@@ -1,6 +1,6 @@
 //! Cuts a stream of bytes, which arrives in pieces of any size, into lines.
 //!
-//! The bytes of a line whose line feed has not come yet are held. No line has more than `MOST_LINE`
+//! The bytes of a line whose line feed has not come yet are held. No line has more than `MAX_LINE`
 //! bytes, so what is held is bounded: that many bytes without a line feed are a bad line at once.
 ghost use Rattle.std.specs.Prelude.{◌≡◌, ◌<◌, ◌≤◌, ◌-◌, ℕ, length, take, slice_index, IfOk, OnErr};
 ghost use Rattle.timer_script.specs.Cutting.{HasNoFeed, IsPartial, EndsAsLine, HasHeld};
@@ -11,7 +11,7 @@ use timer_facility::Event;
 
 /// The most bytes of one line, with its line feed: `restart`, five numbers of 19 digits, and a space
 /// before each.
-pub const MOST_LINE: usize = 108;
+pub const MAX_LINE: usize = 108;
 
 /// What the held bytes are.
 #[derive(Clone, Copy, Debug, PartialEq, Eq)]
@@ -54,11 +54,11 @@ pub fn hold(held: &mut Vec<u8>, bytes: &[u8]) -> Result<(usize, Ending), OutOfMe
     ensures ok { IfOk result (λ r. HasHeld held.old.items bytes.now r.0 r.1 held.new.items) }
     ensures err { OnErr result (held.new.items ≡ held.old.items) }
 {
-    let len = line_len(bytes, MOST_LINE - held.len());
+    let len = line_len(bytes, MAX_LINE - held.len());
     held.extend_from_slice(&bytes[..len])?;
     let ending = if bytes[len - 1] == b'\n' {
         ending_of_line(held)
-    } else if held.len() == MOST_LINE {
+    } else if held.len() == MAX_LINE {
         Ending::Bad
     } else {
         Ending::Open

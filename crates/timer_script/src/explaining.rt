@@ -14,7 +14,7 @@ ghost use Rattle.timer_base.specs.declared.limits.TheConstants.{LAST};
 ghost use Rattle.timer_script.specs.Explaining.{IsLine, IsReasonAt, IsFaultOf, IsVerdict, IsDigit};
 
 use crate::line_fault::{Field, LineFault, LineReason};
-use crate::lines::{MOST_TICKS, read_line};
+use crate::lines::{MAX_TICKS, read_line};
 use timer_base::LAST;
 
 /// The fields of a start.
@@ -196,7 +196,7 @@ fn range_of(field: Field) -> (u64, u64)
     ensures { result.1 ≤ LAST }
 {
     match field {
-        Field::Count => (1, MOST_TICKS),
+        Field::Count => (1, MAX_TICKS),
         _ => (0, LAST),
     }
 }

@@ -1,6 +1,6 @@
 //! Reads a script to its end, in few large reads. No error is retried.
 ghost use Rattle.std.specs.Prelude.{◌+◌, OnErr, IsErrOf, vec_len, ◌≡◌, ◌≤◌, ◌<◌, length, IfOk, IfErr, true, false};
-ghost use Rattle.timer_script.specs.declared.input.TheConstants.{MOST_BYTES};
+ghost use Rattle.timer_script.specs.declared.input.TheConstants.{MAX_BYTES};
 ghost use Rattle.timer_script.specs.Input.{ReadsWhole, StopsReading, HasRead, FailsToRead};
 
 use crate::fault::RunFault;
@@ -9,10 +9,10 @@ use std::alloc::Global;
 use std::io::Read;
 
 /// The most bytes that a script may have: 1 MiB.
-pub const MOST_BYTES: usize = 1048576;
+pub const MAX_BYTES: usize = 1048576;
 
 /// The most bytes that are read: one more than a script may have shows that an input is too long.
-const READ_LIMIT: usize = MOST_BYTES + 1;
+const READ_LIMIT: usize = MAX_BYTES + 1;
 
 /// The most bytes of one read.
 const PIECE: usize = 65536;
@@ -52,13 +52,13 @@ fn read_once<R: Read>(
 
 /// The bytes up to the reader's end.
 ///
-/// Fails with `Read` if the reader failed, and with `TooLong` once it gave more than `MOST_BYTES`
+/// Fails with `Read` if the reader failed, and with `TooLong` once it gave more than `MAX_BYTES`
 /// bytes, of which one is read.
 pub fn read_script<R: Read>(alloc: Global, reader: &mut Watched<R>) -> Result<Vec<u8>, RunFault>
     requires { reader.old.failed ≡ false }
     ensures whole { IfOk result (λ bytes. ReadsWhole (R.remaining reader.old.inner)
         (R.remaining reader.new.inner) bytes.items) }
-    ensures short { IfOk result (λ bytes. length bytes.items ≤ MOST_BYTES) }
+    ensures short { IfOk result (λ bytes. length bytes.items ≤ MAX_BYTES) }
     ensures good { IfOk result (λ _. reader.new.failed ≡ false) }
     ensures fault { IfErr result (λ fault. StopsReading fault (R.remaining reader.old.inner)
         (R.remaining reader.new.inner) reader.new.failed) }

@@ -4,8 +4,8 @@ ghost use Rattle.timer_base.specs.declared.limits.TheConstants.{LAST};
 ghost use Rattle.timer_facility.specs.declared.event.Event.{Event};
 ghost use Rattle.timer_facility.specs.State.{FacilityState, IsSound};
 ghost use Rattle.timer_facility.specs.Run.{bare_state};
-ghost use Rattle.timer_script.specs.declared.input.TheConstants.{MOST_BYTES};
-ghost use Rattle.timer_script.specs.declared.lines.TheConstants.{MOST_TICKS};
+ghost use Rattle.timer_script.specs.declared.input.TheConstants.{MAX_BYTES};
+ghost use Rattle.timer_script.specs.declared.lines.TheConstants.{MAX_TICKS};
 ghost use Rattle.timer_script.specs.Script.{IsScript, IsBadLine};
 ghost use Rattle.timer_script.specs.Running.{IsAnswer};
 ghost use Rattle.timer_script.specs.declared.fault.SessionFault.TheVariants.{Bad};
@@ -20,8 +20,8 @@ use timer_facility::laws::players_give_the_same;
 /// The limits that the definitions name, as numbers.
 pub fn limits()
     ensures greatest_number { LAST ≡ 1152921504606846975 }
-    ensures ticks_of_a_line { MOST_TICKS ≡ 1000000 }
-    ensures bytes_of_a_script { MOST_BYTES ≡ 1048576 }
+    ensures ticks_of_a_line { MAX_TICKS ≡ 1000000 }
+    ensures bytes_of_a_script { MAX_BYTES ≡ 1048576 }
 {}
 
 /// Bytes spell one list of events at most.

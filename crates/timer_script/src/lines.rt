@@ -18,7 +18,7 @@ use timer_base::LAST;
 use timer_facility::Event;
 
 /// The most ticks of one line.
-pub const MOST_TICKS: u64 = 1000000;
+pub const MAX_TICKS: u64 = 1000000;
 
 /// The value of the digits at the front and their number, if there is one and the value is at most LAST.
 /// A call would pass these through memory, here and in `read_number`.
@@ -133,7 +133,7 @@ fn read_tick(bytes: &[u8]) -> Option<(Event, &[u8])>
     ensures { read_view (λ e. e) result ≡ tick_at bytes.now }
 {
     let (count, rest) = read_number(bytes)?;
-    if count == 0 || count > MOST_TICKS {
+    if count == 0 || count > MAX_TICKS {
         return None;
     }
     let rest = after_word(rest, b"\n")?;

@@ -1,6 +1,6 @@
 //! Cuts a stream of bytes, which arrives in pieces of any size, into lines, and keeps the good ones.
 //!
-//! A bad line is reported by its number, and its bytes are dropped. At most `MOST_LINE` bytes of a line that
+//! A bad line is reported by its number, and its bytes are dropped. At most `MAX_LINE` bytes of a line that
 //! has not ended are held: of a longer one, which is bad, the others are skipped up to its line feed.
 //!
 //!     piece                 good             complaints       held
@@ -8,11 +8,11 @@
 //!     " 3 7\ntikc 3\ntick"  "start 0 1 3 7\n" "bad line 2\n"  "tick"
 //!     " 3\n"                "tick 3\n"
 ghost use Rattle.std.specs.Prelude.{◌≡◌, ◌<◌, ◌≤◌, ◌++◌, ◌∷◌, [], ℕ, List, length, take, IfOk, OnOk};
-ghost use Rattle.timer_script.specs.declared.cutting.TheConstants.{MOST_LINE};
+ghost use Rattle.timer_script.specs.declared.cutting.TheConstants.{MAX_LINE};
 ghost use Rattle.timer_script.specs.Cutting.{HasNoFeed};
 ghost use Rattle.timer_script.specs.Sieve.{number_after_line, complaint, complaints, last_bad, IsHeld, HasEndedLine, HasSifted};
 
-use crate::cutting::{MOST_LINE, line_len};
+use crate::cutting::{MAX_LINE, line_len};
 use crate::lines::read_line;
 use itoa::Buffer;
 use std::alloc::Global;
@@ -49,7 +49,7 @@ fn sort_line(
     good: &mut Vec<u8>,
     complaints: &mut Vec<u8>,
 ) -> Result<(), OutOfMemory>
-    ensures { OnOk result ((front : List ℕ) → HasNoFeed front → held.now ≡ take MOST_LINE (front ++ 10 ∷ [])
+    ensures { OnOk result ((front : List ℕ) → HasNoFeed front → held.now ≡ take MAX_LINE (front ++ 10 ∷ [])
         → HasEndedLine (front ++ 10 ∷ []) number good.old.items good.new.items
         complaints.old.items complaints.new.items) }
 {
@@ -120,7 +120,7 @@ impl Sieve {
             self.old.complaints.items self.new.complaints.items self.new.held.items self.new.number) }
     {
         let len = line_len(bytes, bytes.len());
-        let room = MOST_LINE.saturating_sub(self.held.len());
+        let room = MAX_LINE.saturating_sub(self.held.len());
         self.held.extend_from_slice(&bytes[..len.min(room)])?;
         if bytes[len - 1] == b'\n' {
             self.end_line()?;
@@ -131,7 +131,7 @@ impl Sieve {
     /// Ends the line whose bytes are held: keeps it if it is good, and else reports it.
     fn end_line(&mut self) -> Result<(), OutOfMemory>
         ensures ended { OnOk result ((front : List ℕ) → HasNoFeed front
-            → self.old.held.items ≡ take MOST_LINE (front ++ 10 ∷ [])
+            → self.old.held.items ≡ take MAX_LINE (front ++ 10 ∷ [])
             → HasEndedLine (front ++ 10 ∷ []) self.old.number self.old.good.items self.new.good.items
             self.old.complaints.items self.new.complaints.items) }
         ensures held { OnOk result (self.new.held.items ≡ []) }

@@ -14,7 +14,7 @@
 //!
 //! The text is built in one `Vec`, with no formatting machinery for each line.
 ghost use Rattle.std.specs.Prelude.{◌≡◌, ◌≤◌, ◌+◌, ◌∷◌, ◌++◌, length, drop, IfOk, OnOk, codes, decimal};
-ghost use Rattle.timer_script.specs.declared.text.TheConstants.{MOST_NUMBERS, MOST_DIGITS};
+ghost use Rattle.timer_script.specs.declared.text.TheConstants.{MAX_NUMBERS, MAX_DIGITS};
 ghost use Rattle.std.specs.List.{flat_map};
 ghost use Rattle.timer_script.specs.Text.{numbers, reason_word, refusal_word, fault_word, out_line, end_line, text};
 
@@ -61,10 +61,10 @@ fn fault_of(fault: TickFault) -> &'static [u8]
 }
 
 /// The most numbers of a line.
-const MOST_NUMBERS: usize = 5;
+const MAX_NUMBERS: usize = 5;
 
 /// The most bytes of a number and the space before it.
-const MOST_DIGITS: usize = 21;
+const MAX_DIGITS: usize = 21;
 
 /// The most bytes of the numbers of a line.
 const ROOM: usize = 105;
@@ -72,9 +72,9 @@ const ROOM: usize = 105;
 /// Writes a space and a number so that they end at `end`, and returns where they start.
 #[inline(always)]
 fn put_number(n: u64, buffer: &mut [u8], end: usize) -> usize
-    requires { (MOST_DIGITS ≤ end) × (end ≤ length buffer.old) }
+    requires { (MAX_DIGITS ≤ end) × (end ≤ length buffer.old) }
     ensures written { drop result buffer.new ≡ 32 ∷ decimal n ++ drop end buffer.old }
-    ensures room { end ≤ result + MOST_DIGITS }
+    ensures room { end ≤ result + MAX_DIGITS }
     ensures within { result ≤ end }
     ensures same { length buffer.new ≡ length buffer.old }
 {
@@ -86,7 +86,7 @@ fn put_number(n: u64, buffer: &mut [u8], end: usize) -> usize
 /// Writes numbers, each after a space: from the last to the first into a piece of memory, which is then
 /// copied at once.
 fn push_numbers(out: &mut Vec<u8>, all: &[u64]) -> Result<(), OutOfMemory>
-    requires { length all.now ≤ MOST_NUMBERS }
+    requires { length all.now ≤ MAX_NUMBERS }
     ensures { OnOk result (out.new.items ≡ out.old.items ++ numbers all.now) }
 {
     let mut buffer = [0u8; ROOM];
@@ -102,7 +102,7 @@ fn push_numbers(out: &mut Vec<u8>, all: &[u64]) -> Result<(), OutOfMemory>
 
 /// Writes a word and numbers as a line.
 fn push_line(out: &mut Vec<u8>, word: &[u8], all: &[u64]) -> Result<(), OutOfMemory>
-    requires { length all.now ≤ MOST_NUMBERS }
+    requires { length all.now ≤ MAX_NUMBERS }
     ensures { OnOk result (out.new.items ≡ out.old.items ++ word.now ++ numbers all.now ++ codes "\n") }
 {
     out.extend_from_slice(word)?;
@@ -118,7 +118,7 @@ fn push_refused(
     all: &[u64],
     reason: &[u8],
 ) -> Result<(), OutOfMemory>
-    requires { length all.now ≤ MOST_NUMBERS }
+    requires { length all.now ≤ MAX_NUMBERS }
     ensures { OnOk result (out.new.items ≡ out.old.items ++ word.now ++ numbers all.now ++ codes " "
         ++ reason.now ++ codes "\n") }
 {

@@ -34,7 +34,7 @@ use timer_base::{Handle, LAST, MakeFault, OutOfMemory, Timer, Wheel};
 use timer_links::Links;
 
 /// The greatest number of slots of a hashed wheel.
-pub const MOST_SLOTS: usize = 65536;
+pub const MAX_SLOTS: usize = 65536;
 
 /// A table of buckets with a count of rounds (Scheme 6): a clock of 2^60 ticks.
 ///
@@ -57,7 +57,7 @@ impl HashedWheel {
 
     /// A wheel with no timer, of 1 to 65,536 slots, at a first tick of at most `LAST`.
     ///
-    /// Errors, in this order: `Slots` where there are none or more than `MOST_SLOTS`; `FirstTick` above
+    /// Errors, in this order: `Slots` where there are none or more than `MAX_SLOTS`; `FirstTick` above
     /// `LAST`; `OutOfMemory`.
     pub fn new(alloc: Global, slots: usize, first_tick: u64) -> Result<HashedWheel, MakeFault>
         ensures ok { IfOk result (λ wheel. hashed_state wheel ≡ empty_wheel LAST first_tick) }
@@ -65,7 +65,7 @@ impl HashedWheel {
         ensures no_fault { IfOk result (λ wheel. fault_of slots first_tick ≡ None) }
         ensures err { IfErr result (λ fault. IsHashedFault slots first_tick fault) }
     {
-        if slots == 0 || slots > MOST_SLOTS {
+        if slots == 0 || slots > MAX_SLOTS {
             return Err(MakeFault::Slots);
         }
         if first_tick > LAST {

@@ -10,8 +10,8 @@ returns-then-bytes-len-eq10-clause-ok c =
     c.requires.partial h.some h.within h.no_feed (search rules) (search rules) (search rules)
     (subst (EndsAsLine c.ending_of_line-ending.result) c.deref.ensures.value c.ending_of_line-ending.ensures)
 
-pub returns-then-len-eq-MOST_LINE-clause-ok : goal.returns-then-len-eq-MOST_LINE-clause-ok
-returns-then-len-eq-MOST_LINE-clause-ok c =
+pub returns-then-len-eq-MAX_LINE-clause-ok : goal.returns-then-len-eq-MAX_LINE-clause-ok
+returns-then-len-eq-MAX_LINE-clause-ok c =
     let h = c.line_len-len.ensures in
     held_long c.args.held.now.items c.args.bytes.now c.extend_from_slice.new.self.items c.line_len-len.result
     c.requires.partial h.some h.within h.no_feed (search rules) (search rules) (search rules)

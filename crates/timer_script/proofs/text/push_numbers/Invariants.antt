@@ -1,13 +1,13 @@
 use Rattle.std.proofs.Common.{◌≡◌, ◌+◌, ◌*◌, ◌≤◌, length, drop}
 use Rattle.timer_script.specs.Text.{numbers}
-use Rattle.timer_script.specs.declared.text.TheConstants.{ROOM, MOST_DIGITS}
+use Rattle.timer_script.specs.declared.text.TheConstants.{ROOM, MAX_DIGITS}
 use Rattle.timer_script.proofs.text.push_numbers.Given as goal
 
 -- the numbers from i on stand at the end of the buffer, and there is room for those before
 abbrev pub invariant-loop-i : goal.invariant-loop-i
 invariant-loop-i l = record {
   written : drop l.at l.buffer ≡ numbers (drop l.i l.all);
-  room : MOST_DIGITS * l.i ≤ l.at;
+  room : MAX_DIGITS * l.i ≤ l.at;
   within : l.at ≤ ROOM;
   size : length l.buffer ≡ ROOM;
   left : l.i ≤ length l.all;
