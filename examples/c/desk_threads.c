@@ -5,7 +5,8 @@
  * With `mixed` every eighth timer is stopped and every eighth restarted. With `deaf` client 0 sends as much as it can but
  * reads nothing until all others are done: it stops no other, and gets all its words then. Prints how many words the
  * clients received, how many of each kind, and how long it took. At the end each client's words are ended, and it has read
- * them all. bench/desk_threads.c times such threads. */
+ * them all. bench/desk_threads.c times such threads. With -DREFUSE five of six allocations of the owner are refused while
+ * the threads work, and no call of a client allocates. */
 #include <inttypes.h>
 #include <pthread.h>
 #include <sched.h>
@@ -17,6 +18,28 @@
 #include "timers_desk.h"
 
 #define CHECK(fact) do { if (!(fact)) { fprintf(stderr, "line %d: %s\n", __LINE__, #fact); abort(); } } while (0)
+
+#ifdef REFUSE
+static atomic_bool refusing;
+static atomic_long asked;
+static _Thread_local bool in_client;
+static bool refused(void)
+{
+	CHECK(!in_client);
+	return atomic_load(&refusing) && atomic_fetch_add(&asked, 1) % 6 != 5;
+}
+void *__real_malloc(size_t size);
+void *__real_realloc(void *at, size_t size);
+void *__wrap_malloc(size_t size) { return refused() ? NULL : __real_malloc(size); }
+void *__wrap_realloc(void *at, size_t size) { return refused() ? NULL : __real_realloc(at, size); }
+static void refuse(bool some) { atomic_store(&refusing, some); }
+static void begin_client(void) { in_client = true; }
+static void end_refusals(void) { refuse(false); CHECK(atomic_load(&asked) > 6); }
+#else
+static void refuse(bool some) { (void)some; }
+static void begin_client(void) { }
+static void end_refusals(void) { }
+#endif
 
 static size_t clients;
 static uint64_t timers;
@@ -46,6 +69,7 @@ static void *work(void *at)
 	struct timers_word w;
 	struct timer_handle again = { 0, 0 };
 	int ask = 0;                            /* 1 stop `again`, 2 restart it */
+	begin_client();
 	while (wanted < timers || ask || answered < sent || me->expired + me->stopped + me->refused < me->started) {
 		bool did = false;
 		uint64_t number;
@@ -136,6 +160,7 @@ static void own(struct client *all, pthread_t *threads)
 		all[c].line = &lines[c];
 		CHECK(pthread_create(&threads[c], NULL, work, &all[c]) == 0);
 	}
+	refuse(true);
 	while (atomic_load(&at_work) > 0) {
 		bool busy = timers_desk_serve_all(&d, 64) == TIMERS_DESK_OK;
 		busy |= timers_desk_flush_all(&d);
@@ -144,6 +169,7 @@ static void own(struct client *all, pthread_t *threads)
 		if (!busy)
 			sched_yield();
 	}
+	end_refusals();
 	for (size_t c = 0; c < clients; c++) {
 		size_t standing = 99;
 		CHECK(pthread_join(threads[c], NULL) == 0);
