@@ -48,12 +48,15 @@
  *
  *         for (;;) {
  *             clear the signal by which clients wake the owner
- *             enum timers_desk_status s = timers_desk_serve_all(&desk, 64);
  *             pass the ticks up to the real time, by timers_desk_advance
+ *             enum timers_desk_status s = timers_desk_serve_all(&desk, 64);
  *             flush each client, and wake those that got words
  *             if (s != TIMERS_DESK_OK and no word was moved)
  *                 sleep until the signal or tick timers_desk_wakeup(&desk); after TIMERS_DESK_NO_MEMORY only briefly
  *         }
+ *
+ *     Ticks come first: an interval counts from the tick at which its request is taken, so a request that is taken
+ *     before the clock has caught up expires too early, by the time that the owner slept.
  *
  *     How threads wake each other is left to the program: an eventfd, a pipe, a condition variable with a flag. The
  *     order matters. The owner clears the signal before it looks at the lines, never between looking and sleeping. A

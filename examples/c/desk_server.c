@@ -176,17 +176,16 @@ static bool flush_and_wake(void)
 	return moved;
 }
 
-/* How long the owner may sleep. After a want of memory nobody rings, so it looks again soon. */
+/* How long the owner may sleep. When it ran out of memory nobody rings, so it looks again soon. */
 static int rest(enum timers_desk_status served, uint64_t now)
 {
 	uint64_t wakeup = timers_desk_wakeup(&desk);
-	if (served == TIMERS_DESK_NO_MEMORY)
-		return 10;
-	if (wakeup == TIMERS_NEVER)
+	uint64_t longest = served == TIMERS_DESK_NO_MEMORY ? 10 : INT_MAX;
+	if (wakeup == TIMERS_NEVER && served != TIMERS_DESK_NO_MEMORY)
 		return -1;
 	if (wakeup <= now)
 		return 0;
-	return wakeup - now > INT_MAX ? INT_MAX : (int)(wakeup - now);
+	return (int)(wakeup - now < longest ? wakeup - now : longest);
 }
 
 static void own(uint64_t began)
@@ -194,9 +193,9 @@ static void own(uint64_t began)
 	for (;;) {
 		hush(owners_bell);
 		bool last = atomic_load(&at_work) == 0;
-		enum timers_desk_status served = timers_desk_serve_all(&desk, 64);
 		uint64_t now = milliseconds() - began;
-		pass_ticks(now);
+		pass_ticks(now);                        /* first: an interval counts from the tick at which its request is taken */
+		enum timers_desk_status served = timers_desk_serve_all(&desk, 64);
 		bool moved = flush_and_wake();
 		if (served == TIMERS_DESK_OK || moved)
 			continue;
