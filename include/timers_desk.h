@@ -55,8 +55,8 @@
  *                 sleep until the signal or tick timers_desk_wakeup(&desk); after TIMERS_DESK_NO_MEMORY only briefly
  *         }
  *
- *     Ticks come first: an interval counts from the tick at which its request is taken, so a request that is taken
- *     before the clock has caught up expires too early, by the time that the owner slept.
+ *     Ticks come first, since an interval counts from the tick at which its request is taken. If requests were taken
+ *     before the clock has caught up, their timers would expire too early, by the time that the owner slept.
  *
  *     How threads wake each other is left to the program: an eventfd, a pipe, a condition variable with a flag. The
  *     order matters. The owner clears the signal before it looks at the lines, never between looking and sleeping. A
