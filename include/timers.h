@@ -36,8 +36,8 @@
  *     So advance the clock first, or give timers_start_at the tick that is meant. A caller that rounds the
  *     real time down to a tick starts a timer somewhere within that tick. So an interval of n ticks lasts
  *     more than n - 1 and at most n: add 1 if it must last no less than n. An interval of 0 is refused,
- *     since its timer would belong to a tick that has already begun. With such timers, whoever takes what
- *     expires until nothing is left might never finish. For work that is due at once, call it, or start a
+ *     since its timer would belong to a tick that has already begun. With such timers, a caller that takes
+ *     what expires until nothing is left might never finish. For work that is due at once, call it, or start a
  *     timer of 1 tick.
  *
  *     Restart, stop, look and expire take constant time. So does a start, amortised: the timers are in
@@ -85,8 +85,8 @@
  *
  * ACTIONS
  *     An action is any 64 bits. For a pointer give (uint64_t)(uintptr_t)p, and read it as
- *     (void *)(uintptr_t)action. The timers never follow it: whoever frees what it points to stops the
- *     timer first. timers_free drops the timers and says nothing of their actions. To release these first:
+ *     (void *)(uintptr_t)action. The timers never follow it: before you free what it points to, stop the
+ *     timer. timers_free drops the timers and says nothing of their actions. To release these first:
  *
  *         size_t cursor = 0;
  *         struct timer_handle handle;
