@@ -7,7 +7,8 @@
 The programs are build/desk_threads and build/desk_ring: bench/desk_threads.c says what a client does and what is timed, and
 bench/desk_ring.cpp what the owner of the rings does. Each row is one number of clients and of cores: a desk with lines of 64
 (and room for 1,024 words), one with lines of 1,024 (room 4,096), C++ rings of both sizes, and the mutex. The five take
-turns. Rates are medians of the repeats, and so are percentiles; `most` is the most of all repeats.
+turns. Rates are medians of the repeats, with the least and the greatest in parentheses. Percentiles are medians too, and
+`most` is the most of all repeats.
 
 --limit is for all runs together, 170 seconds by default. Rows that are not reached by then are left out, and a line says how
 many; a run that is not done after 30 seconds ends the measurement. Status 1: a run failed; 2: wrong arguments.
@@ -21,7 +22,9 @@ SIZES = {"line 64": ["64", "1024"], "line 1,024": ["1024", "4096"]}
 WAYS = {f"desk, {name}": ("program", ["desk"], sizes) for name, sizes in SIZES.items()}
 WAYS |= {f"C++ ring, {name}": ("ring", [], sizes) for name, sizes in SIZES.items()}
 WAYS["mutex"] = ("program", ["mutex"], [])
-FIELDS = ["words", "seconds", "start_p50", "start_p999", "start_most", "answer_p50", "answer_p999", "answer_most"]
+TIMES = ["p50", "p999", "p9999", "most"]
+FIELDS = ["words", "seconds", *(f"{what}_{time}" for what in ("start", "answer") for time in TIMES)]
+SHOWN = ["start_p50", "start_p999", "start_p9999", "start_most", "answer_p50", "answer_p999"]
 
 
 def fail(text, status=1):
@@ -47,7 +50,8 @@ def row_of(results):
     """One row of all its repeats."""
     row = {name: statistics.median(result[name] for result in results) for name in FIELDS if not name.endswith("most")}
     row |= {name: max(result[name] for result in results) for name in FIELDS if name.endswith("most")}
-    return row | {"rate": statistics.median(result["words"] / result["seconds"] for result in results), "repeats": len(results)}
+    rates = [result["words"] / result["seconds"] for result in results]
+    return row | {"rate": statistics.median(rates), "low": min(rates), "high": max(rates), "repeats": len(results)}
 
 
 def short(ns):
@@ -59,12 +63,12 @@ def short(ns):
 
 
 def line_of(clients, cores, way, row, mutex):
-    rate = f"{row['rate'] / 1e6:.2f}"
+    rate = f"{row['rate'] / 1e6:.2f} ({row['low'] / 1e6:.2f}-{row['high'] / 1e6:.2f})"
     if way != "mutex" and mutex:
         rate += f", {row['rate'] / mutex['rate']:.2f}x"
         if row["rate"] < mutex["rate"]:
             rate += " (slower)"
-    times = [short(row[name]) for name in FIELDS[2:7]]
+    times = [short(row[name]) for name in SHOWN]
     return f"| {clients} | {cores} | {way} | {rate} | {' | '.join(times)} |"
 
 
@@ -98,8 +102,8 @@ def main():
                 result = run(programs, way, clients, max(1, options.timers // clients), cores)
                 rows.setdefault((clients, cores, way), []).append(result)
     rows = {key: row_of(results) for key, results in rows.items()}
-    print("| clients | cores | way | million words a second | start: median | 99.9 % | most | request to answer: median | 99.9 % |")
-    print("|---|---|---|---|---|---|---|---|---|")
+    print("| clients | cores | way | million words a second | start: median | 99.9 % | 99.99 % | most | request to answer: median | 99.9 % |")
+    print("|---|---|---|---|---|---|---|---|---|---|")
     for (clients, cores, way), row in rows.items():
         print(line_of(clients, cores, way, row, rows.get((clients, cores, "mutex"))))
     if left_out:
@@ -107,9 +111,9 @@ def main():
     if options.csv:
         with open(options.csv, "w", newline="") as file:
             writer = csv.writer(file)
-            writer.writerow(["clients", "cores", "way", "repeats", "words_per_second", *FIELDS])
+            writer.writerow(["clients", "cores", "way", "repeats", "words_per_second", "least", "greatest", *FIELDS])
             for (clients, cores, way), row in rows.items():
-                writer.writerow([clients, cores, way, row["repeats"], f"{row['rate']:.0f}", *(f"{row[name]:.{6 if name == 'seconds' else 0}f}" for name in FIELDS)])
+                writer.writerow([clients, cores, way, row["repeats"], *(f"{row[name]:.0f}" for name in ("rate", "low", "high")), *(f"{row[name]:.{6 if name == 'seconds' else 0}f}" for name in FIELDS)])
 
 
 if __name__ == "__main__":

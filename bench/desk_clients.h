@@ -90,7 +90,7 @@ static int by_size(const void *a, const void *b)
 	return (x > y) - (x < y);
 }
 
-/* The median, the 99.9th percentile and the most of all clients' times. */
+/* The median, the 99.9th and 99.99th percentiles and the most of all clients' times. */
 static void print_times(const struct client *all, size_t offset)
 {
 	size_t many = 0, at = 0;
@@ -104,7 +104,7 @@ static void print_times(const struct client *all, size_t offset)
 		at += times->kept;
 	}
 	qsort(ns, many, sizeof *ns, by_size);
-	printf(" %" PRIu32 " %" PRIu32 " %" PRIu32, ns[many / 2], ns[many * 999 / 1000], ns[many - 1]);
+	printf(" %" PRIu32 " %" PRIu32 " %" PRIu32 " %" PRIu32, ns[many / 2], ns[many * 999 / 1000], ns[many * 9999 / 10000], ns[many - 1]);
 	free(ns);
 }
 

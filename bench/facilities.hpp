@@ -1,7 +1,9 @@
 // The facilities that scale.cpp and tail.cpp measure, each behind the same calls. Owner i has one timer at
 // most.
 //   start(i, interval); stop(i); restart(i, interval); tick(); drain(): how many have expired; pass(k): k
-//   ticks, with all that expires
+//   ticks, with all that expires, and how many these are
+// Those with HAS_NEXT also have look(i): when it expires, and next(): the next deadline. Those with HAS_ALL also have
+// start_at(i, interval), by the tick of its deadline; wakeup(): a tick to sleep until; each(): the sum of all deadlines.
 #pragma once
 #include "wheels_apart.hpp"
 #include "wheels_ref.hpp"
@@ -24,6 +26,7 @@ namespace {
 #ifdef WITH_TIMERS_C
 // The product, through its library for C.
 struct LibTimers {
+  static constexpr bool HAS_NEXT = true, HAS_ALL = true;
   struct timers held = TIMERS_INIT;
   std::vector<timer_handle> handles;
   explicit LibTimers(size_t owners) : handles(owners) {
@@ -50,17 +53,38 @@ struct LibTimers {
     while (timers_expire(&held, &one)) ++count;
     return count;
   }
-  void pass(uint64_t k) {
+  size_t pass(uint64_t k) {
+    size_t count = 0;
     for (uint64_t passed = 0; k; k -= passed) {
       if (timers_advance(&held, k, &passed)) give_up("timers_advance");
-      drain();
+      count += drain();
     }
+    return count;
+  }
+  void start_at(size_t i, uint64_t interval) {
+    if (timers_start_at(&held, timers_now(&held) + interval, i, &handles[i])) give_up("timers_start_at");
+  }
+  uint64_t look(size_t i) {
+    timer_expired one;
+    if (timers_look(&held, handles[i], &one)) give_up("timers_look");
+    return one.deadline;
+  }
+  uint64_t next() { return timers_next(&held); }
+  uint64_t wakeup() { return timers_wakeup(&held); }
+  uint64_t each() {
+    uint64_t sum = 0;
+    size_t cursor = 0;
+    timer_handle handle;
+    timer_expired one;
+    while (timers_each(&held, &cursor, &handle, &one)) sum += one.deadline;
+    return sum;
   }
 };
 #endif
 
 // A wheel of this folder.
 template <class W> struct Reference {
+  static constexpr bool HAS_NEXT = false, HAS_ALL = false;
   W wheel;
   uint64_t serial = 0;
   std::vector<Handle> handles;
@@ -90,19 +114,23 @@ template <class W> struct Reference {
     while (wheel.expire(out)) ++count;
     return count;
   }
-  void pass(uint64_t k) {
+  size_t pass(uint64_t k) {
+    size_t count = 0;
     while (k) {
       k -= wheel.advance(k);
-      drain();
+      count += drain();
     }
+    return count;
   }
 };
 
 #ifdef WITH_LIBUV
 extern "C" void uv__run_timers(uv_loop_t *loop);
+extern "C" int uv__next_timeout(const uv_loop_t *loop);
 
 // libuv's timers, with its loop's clock set by hand.
 struct Libuv {
+  static constexpr bool HAS_NEXT = true, HAS_ALL = false;
   uv_loop_t loop;
   std::vector<uv_timer_t> timers;
   static inline size_t fired = 0;
@@ -124,11 +152,13 @@ struct Libuv {
     fired = 0;
     return count;
   }
-  void pass(uint64_t k) {
+  size_t pass(uint64_t k) {
     loop.time += k;
     uv__run_timers(&loop);
-    drain();
+    return drain();
   }
+  uint64_t look(size_t i) { return uv_timer_get_due_in(&timers[i]); }
+  uint64_t next() { return (uint64_t)uv__next_timeout(&loop); }
 };
 #endif
 

@@ -240,6 +240,10 @@ def line_tables(folder):
     return desk, markdown(["Row", "The row's own", "Peer", "Ratio"], made)
 
 
+# In this order in the table. `each` and `expiry` are of one timer.
+SCALE = ("stop", "start", "restart", "tick", "expiry", "start_at", "look", "next", "wakeup", "each")
+
+
 def scale(folder):
     """Nanoseconds of an operation by the number of pending timers."""
     rows = rows_of(folder, "scale")
@@ -247,9 +251,11 @@ def scale(folder):
     sizes = list(dict.fromkeys(row["pending"] for row in rows))
     names = [name for name in FACILITIES if any(row["facility"] == name for row in rows)]
     made = []
-    for measure in ("stop", "start", "restart", "tick"):
+    for measure in SCALE:
         for name in names:
             cells = [at.get((name, size, measure)) for size in sizes]
+            if not any(cells):
+                continue
             made.append(
                 [
                     measure,

@@ -128,10 +128,13 @@ def panel(at, title, across, names, rows, key, whole):
     return made.parts
 
 
+PLOTTED = ("stop", "start", "restart", "tick")
+
+
 def scale_panels(rows):
     across = sorted({int(row["pending"]) for row in rows})
     names = [of_count(value) for value in across]
-    operations = list(dict.fromkeys(row["measure"] for row in rows))
+    operations = [name for name in PLOTTED if any(row["measure"] == name for row in rows)]
     panels = [
         panel(
             at,

@@ -2,8 +2,9 @@
 //   scale FACILITY PENDING OPERATIONS
 // It starts PENDING timers that are 2^24 to 2^25 ticks away. Then owners in random order stop and start
 // theirs, in blocks of up to 256 owners, so that stops and starts are timed apart; then as many are
-// restarted; then come 50,000 single ticks, at which nothing is due. One line for each: the name and the
-// nanoseconds of one operation.
+// restarted; then come 50,000 single ticks, at which nothing is due, and the calls that only some facilities have.
+// Last, time passes until some OPERATIONS timers have expired, or all. One line for each: the name and the
+// nanoseconds of one operation; of `each` and `expiry`, those of one timer.
 #include "facilities.hpp"
 #include <time.h>
 
@@ -18,6 +19,7 @@ static double now_ns() {
 struct Scale {
   size_t pending, operations;
   Random random{3};
+  uint64_t sum = 0;
   uint64_t interval() { return FAR + random.below(FAR); }
   static void row(const char *name, double ns, size_t count) {
     printf("%s %.3f\n", name, ns / (double)count);
@@ -29,6 +31,56 @@ struct Scale {
     std::vector<std::pair<uint32_t, uint64_t>> made(operations);
     for (auto &touch : made) touch = {(uint32_t)random.below(pending), interval()};
     return made;
+  }
+
+  // Times calls that change nothing. Their results are added up, so that none is left out.
+  template <class Call> void reads(const char *name, size_t count, size_t units, Call call) {
+    double first = now_ns();
+    for (size_t i = 0; i < count; ++i) sum += call(i);
+    row(name, now_ns() - first, units);
+  }
+
+  template <class F> void looks(F &facility, const std::vector<std::pair<uint32_t, uint64_t>> &touches) {
+    if constexpr (F::HAS_NEXT) {
+      reads("look", touches.size(), touches.size(), [&](size_t i) { return facility.look(touches[i].first); });
+      // The library may walk one bucket, here one with as many as half of all timers.
+      const size_t calls = pending < 100000 ? 1000 : 20;
+      reads("next", calls, calls, [&](size_t) { return facility.next(); });
+    }
+    if constexpr (F::HAS_ALL) {
+      reads("wakeup", operations, operations, [&](size_t) { return facility.wakeup(); });
+      reads("each", 1, pending, [&](size_t) { return facility.each(); });
+    }
+  }
+
+  template <class F> void starts_by_tick(F &facility, const std::vector<std::pair<uint32_t, uint64_t>> &touches) {
+    if constexpr (F::HAS_ALL) {
+      const size_t count = pending < 512 ? (pending + 1) / 2 : 256;
+      double starting = 0;
+      size_t done = 0;
+      for (size_t at = 0; at + count <= touches.size(); at += count) {
+        for (size_t i = 0; i < count; ++i) facility.stop(i);
+        double first = now_ns();
+        for (size_t i = 0; i < count; ++i) facility.start_at(i, touches[at + i].second);
+        starting += now_ns() - first;
+        done += count;
+      }
+      if (done) row("start_at", starting, done);
+    }
+  }
+
+  template <class F> void expiries(F &facility) {
+    const uint64_t step = FAR / pending * operations / 16 + 1;
+    size_t expired = 0;
+    double passing = 0;
+    for (uint64_t passed = 0; passed < 2 * FAR + 1 && expired < operations; passed += step) {
+      double first = now_ns();
+      size_t count = facility.pass(step);
+      if (count) passing += now_ns() - first;
+      expired += count;
+    }
+    if (!expired) give_up("no timer has expired: scale");
+    row("expiry", passing, expired);
   }
 
   template <class F>
@@ -69,6 +121,10 @@ struct Scale {
     for (uint64_t i = 0; i < TICKS; ++i) facility.tick();
     row("tick", now_ns() - first, TICKS);
     if (facility.drain()) give_up("a timer came out too early: scale");
+    looks(facility, all);
+    starts_by_tick(facility, all);
+    expiries(facility);
+    if (sum == 1) give_up("the sum: scale");
   }
 };
 
