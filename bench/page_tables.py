@@ -387,7 +387,7 @@ def missing(folder):
         lacks.append("the desk and ring lines")
     if not lacks:
         return ""
-    return f"Not in these runs: {', '.join(lacks)}. Older rows of them are marked with the day and the code that they are of."
+    return f"Not in these runs: {', '.join(lacks)}. Older rows of them are marked with their day and their code."
 
 
 def wrappers(folder):
@@ -465,8 +465,8 @@ def setting(folder):
     others, steal = (max(one[key] for one in found) for key in ("others", "steal"))
     busy = " **Other work ran beside it: read the ratios with their spreads.**" if others > MAX_OTHERS else ""
     return (
-        f"{found[0]['date']}, on the code of this page's commit; {found[0]['machine']}. During no part did other "
-        f"processes take more than {others:.1f} of the cores, nor the host's neighbours more than {steal:.1f}.{busy}"
+        f"{found[0]['date']}, on the code of this page's commit; {found[0]['machine']}. In each part other "
+        f"processes took at most {others:.1f} of the cores, and the host's neighbours at most {steal:.1f}.{busy}"
     )
 
 
@@ -482,13 +482,13 @@ def instructions(folder):
 
 # What stands before each table of a busy machine. A page without such a measurement has only the markers.
 BUSY_TITLES = {
-    "wheels": "### On a busy machine\n\nThe same rows, while as many processes as there are cores did nothing but "
-    "count. Waiting is not in processor time,\nbut caches and the two threads of a core are shared with the neighbours.",
+    "wheels": "### On a busy machine\n\nThe same rows, beside processes that count, one for each core. Waiting is not in processor "
+    "time, but caches and\nthe two threads of a core are shared with the neighbours.",
     "play": "The same beside processes that count, one for each core:",
-    "desk": "The same beside processes that count, one for each core. Threads that spin then wait for the system to run "
-    "the other one:",
+    "desk": "The same beside processes that count, one for each core. Threads that spin then wait until the other one "
+    "gets a core:",
     "threads": "",
-    "units": "The same while as many processes as there are cores did nothing but count:",
+    "units": "The same beside processes that count, one for each core:",
 }
 
 

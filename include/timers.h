@@ -7,9 +7,9 @@
  *     timers_start_at, timers_restart_at - the same, for a tick in place of an interval
  *     timers_tick, timers_advance - pass ticks
  *     timers_expire, timers_expire_batch - take expired timers
- *     timers_look, timers_each - read one timer, visit all of them
+ *     timers_look, timers_each - read one timer, iterate over all of them
  *     timers_now, timers_len, timers_has_due, timers_wakeup, timers_next - read the state
- *     timers_counts - read what the wheels did so far
+ *     timers_counts - read what the wheels have done so far
  *
  * SYNOPSIS
  *     #include <timers.h>
@@ -36,36 +36,37 @@
  *     So advance the clock first, or give timers_start_at the tick that is meant. A caller that rounds the
  *     real time down to a tick starts a timer somewhere within that tick. So an interval of n ticks lasts
  *     more than n - 1 and at most n: add 1 if it must last no less than n. An interval of 0 is refused,
- *     since its timer would belong to a tick that has already begun. With such timers, whoever takes what
- *     expires until nothing is left might never finish. For work that is due at once, call it, or start a
+ *     since its timer would belong to a tick that has already begun. With such timers, a caller that takes
+ *     what expires until nothing is left might never finish. For work that is due at once, call it, or start a
  *     timer of 1 tick.
  *
  *     Restart, stop, look and expire take constant time. So does a start, amortised: the timers are in
- *     tables that grow, and a start that finds them full moves all timers to larger ones. A tick takes time
+ *     arrays that grow, and a start that finds them full moves all timers to larger ones. A tick takes time
  *     for the timers that expire at it and those that move to a lower wheel. timers_advance skips stretches
- *     in which nothing happens. timers_next may walk one bucket. Only timers_new, timers_reserve,
- *     timers_start and timers_start_at allocate. A restart never does, so a timer that the work of another
- *     re-arms by timers_restart needs no memory. Memory is kept for later starts until timers_free. So a
- *     start allocates only if more timers are held than ever before, and than timers_reserve made room for:
- *     one that re-arms a timer that was just taken allocates nothing, either.
+ *     in which nothing happens. timers_next may walk one bucket.
+ *
+ *     Only timers_new, timers_reserve, timers_start and timers_start_at allocate. A restart never does.
+ *     Memory is kept for later starts until timers_free. So a start allocates only if more timers are held
+ *     than ever before, and more than timers_reserve made room for. A start that re-arms a timer which was
+ *     just taken does not allocate either.
  *
  *     The library is proved: each function meets the contract stated in crates/timer_c/src/exports.rt, for
- *     every call that keeps the rules below. Nothing checks that a caller keeps them. So it is proved that no
- *     start returns TIMERS_NO_MEMORY while fewer timers are held than timers_reserve made room for. What
- *     allocates and how long a call takes is in no contract: it follows from the code, and tests look for
+ *     every call that keeps the rules below. Nothing checks that a caller keeps them. Proved, too, is that no
+ *     start returns TIMERS_NO_MEMORY while fewer timers are held than timers_reserve made room for. Which
+ *     calls allocate, and how long a call takes, is in no contract: it follows from the code. Tests look for
  *     allocations.
  *
  * RULES
  *     1. A `struct timers` begins as TIMERS_INIT, or with all its bytes 0: static storage, calloc and
  *        memset will do. Only these functions write it. It must not be copied, since it owns memory; it may
  *        be moved by a memcpy after which the old one is not used. No function, timers_new included, may be
- *        given uninitialised memory: it could not be known whether that owns timers.
+ *        given uninitialised memory: it could not tell whether that owns timers.
  *     2. A pointer argument is not NULL and points to an object of its type that this call alone uses. No
  *        two arguments of one call overlap.
  *     3. If an argument is only written (handle, restarted, action, passed, out, counts), the object may be
  *        uninitialised. It has only integers, so any bits are a value, and no function reads it. It is
  *        written exactly if the function's comment says so, and otherwise unchanged.
- *     4. Calls on one `struct timers` come one at a time, also those that take a const one. It may be
+ *     4. Calls on one `struct timers` come one at a time, also those that take a const pointer. It may be
  *        handed from thread to thread, by a lock or by a thread's start or join. Calls on two of them are
  *        independent.
  *     5. malloc, realloc and free are one allocator, and align as C requires. The timers are freed in a
@@ -84,8 +85,8 @@
  *
  * ACTIONS
  *     An action is any 64 bits. For a pointer give (uint64_t)(uintptr_t)p, and read it as
- *     (void *)(uintptr_t)action. The timers never follow it: whoever frees what it points to stops the
- *     timer first. timers_free drops the timers and says nothing of their actions. To release these first:
+ *     (void *)(uintptr_t)action. The timers never follow it: before you free what it points to, stop the
+ *     timer. timers_free drops the timers and says nothing of their actions. To release these first:
  *
  *         size_t cursor = 0;
  *         struct timer_handle handle;
@@ -96,7 +97,7 @@
  *
  * ERRORS
  *     Each call that can fail returns a status: the first that applies, in the order of the function's
- *     comment. At any but TIMERS_OK nothing has changed, in the timers or in what the arguments point to.
+ *     comment. Unless it is TIMERS_OK, neither the timers nor what the arguments point to has changed.
  */
 /* SPDX-License-Identifier: MIT OR Apache-2.0 */
 #ifndef TIMERS_H
@@ -125,7 +126,7 @@ enum timers_status {
 	TIMERS_NOT_OPEN = 1,       /* not open: timers_new was not called, or timers_free was since */
 	TIMERS_OPEN = 2,           /* already open */
 	TIMERS_NO_TABLE = 3,       /* the table is none of enum timers_table */
-	TIMERS_NO_MEMORY = 4,      /* malloc or realloc returned NULL, or it has about 4.29 billion timers */
+	TIMERS_NO_MEMORY = 4,      /* malloc or realloc returned NULL, or about 4.29 billion timers are held */
 	TIMERS_DUE = 5,            /* an expired timer was not yet taken: call timers_expire */
 	TIMERS_NOT_PENDING = 6,    /* no timer has this handle: it was stopped, restarted or taken */
 	TIMERS_ZERO_INTERVAL = 7,  /* the interval is 0, or the tick is not after the present one */
@@ -164,7 +165,7 @@ struct timer_expired {
 	uint64_t action;     /* the action that its start or restart was given */
 };
 
-/* What the wheels did since timers_new. */
+/* What the wheels have done since timers_new. */
 struct timer_counts {
 	uint64_t starts;     /* timers that were started or restarted */
 	uint64_t moves;      /* how often a timer moved to a lower wheel */
@@ -185,8 +186,8 @@ void timers_free(struct timers *t);
  * already among them. While fewer are held, a start then allocates nothing and does not return
  * TIMERS_NO_MEMORY, whatever was started, stopped and taken before. The timers and the clock don't change.
  * Takes about 64 bytes for each timer, and time for each: it may move those that are held. The memory is
- * kept until timers_free, what was allocated before a failure too; room that is there already costs nothing.
- * TIMERS_NO_MEMORY is returned for more than about 4.29 billion timers, too.
+ * kept until timers_free, also what was allocated before a failure. Room that is there already costs nothing.
+ * TIMERS_NO_MEMORY is also returned for more than about 4.29 billion timers.
  * TIMERS_NOT_OPEN, TIMERS_NO_MEMORY. */
 TIMERS_CHECKED
 enum timers_status timers_reserve(struct timers *t, size_t most);
@@ -228,11 +229,11 @@ enum timers_status timers_stop(struct timers *t, struct timer_handle handle, uin
 TIMERS_CHECKED
 enum timers_status timers_look(const struct timers *t, struct timer_handle handle, struct timer_expired *out);
 
-/* Visits every timer, pending or expired and not yet taken, in no particular order. `*cursor` is 0 at the
- * first call. Each call that finds a timer writes it to `*out` and its handle to `*handle`, moves `*cursor`
- * on and returns true. At the end, or if `t` is not open, it returns false and writes nothing. Between two
- * calls timers may be started, stopped, restarted and taken: one that is there all the time is visited
- * exactly once. A whole visit takes time for the most timers that were ever there at once. */
+/* Iterates over every timer, pending or expired and not yet taken, in no particular order. `*cursor` is 0 at
+ * the first call. Each call that finds a timer writes it to `*out` and its handle to `*handle`, moves
+ * `*cursor` past it and returns true. At the end, or if `t` is not open, it returns false and writes nothing.
+ * Between two calls timers may be started, stopped, restarted and taken: one that is held all the time is
+ * found exactly once. A whole iteration takes time for the most timers that were ever held at once. */
 bool timers_each(const struct timers *t, size_t *cursor, struct timer_handle *handle,
                  struct timer_expired *out);
 
@@ -262,7 +263,7 @@ bool timers_has_due(const struct timers *t);
 uint64_t timers_now(const struct timers *t);
 
 /* How many timers are pending. Expired timers are not counted. Returns 0 if not open. While expired timers
- * wait, it takes time for each of them: timers_has_due says in constant time whether any wait. */
+ * wait, it takes time for each of them: timers_has_due returns in constant time whether any wait. */
 size_t timers_len(const struct timers *t);
 
 /* The tick until which the caller may sleep. It is the present one if an expired timer waits to be taken,
@@ -277,7 +278,7 @@ uint64_t timers_wakeup(const struct timers *t);
  * otherwise walks the timers of one bucket. A loop that only sleeps can use timers_wakeup. */
 uint64_t timers_next(const struct timers *t);
 
-/* Writes `*counts`, what the wheels did since timers_new, at TIMERS_OK. `starts` counts each start and restart
+/* Writes `*counts`, what the wheels have done since timers_new, at TIMERS_OK. `starts` counts each start and restart
  * that returned TIMERS_OK. `moves` is at most 9 times `starts` (of TIMERS_CLOCK, 3 times). `visits` counts one
  * for each tick of timers_tick. Of timers_advance it counts one for each multiple of 64 ticks that is passed (of
  * TIMERS_CLOCK, 60). It also counts its last tick if that is no such multiple and a timer expires there. A stop

@@ -9,14 +9,14 @@
  *
  * TICKS. `Tick` is the length of a tick, a std::chrono::duration. The clock and deadlines are `ticks`,
  * counted from tick 0. An interval is any duration of whole numbers, and is rounded up to ticks. An
- * interval of n ticks lasts more than n - 1 and at most n, since the present tick has begun: `at_least`
+ * interval of n ticks lasts more than n - 1 and at most n, since the present tick has begun. `at_least`
  * adds the tick that a time-out needs if it must not come early.
  *
- * ACTIONS. An `Action` is trivially copyable and has at most 8 bytes: a pointer, an index, an enum, a
- * function pointer, or a lambda that captures one pointer. Its bytes are the action of C, so that it costs
+ * ACTIONS. An `Action` is trivially copyable and has at most 8 bytes: a pointer to an object or a function,
+ * an index, an enum, or a lambda that captures one pointer. Its bytes are the action of C, so that it costs
  * nothing. A std::function does not fit: keep it in an object of yours, and give the pointer to that.
  *
- * ERRORS. As in the containers of the standard library, an exception is what a caller can't expect:
+ * ERRORS. As in the standard library's containers, what a caller can't expect is an exception. It is
  * std::bad_alloc if memory is out, and otherwise `timing::error` with the status of C. What may well
  * happen is a result: no timer has the handle (it was stopped, restarted or taken), or nothing has
  * expired. After an exception nothing has changed. */
@@ -90,8 +90,8 @@ public:
 	timers(const timers &) = delete;
 	timers &operator=(const timers &) = delete;
 
-	/* The other one is left without timers: it may be destroyed and assigned to, its readers say that
-	 * nothing is held, and every other call throws TIMERS_NOT_OPEN. */
+	/* The other one is left without timers. It may be destroyed and assigned to, and its readers return
+	 * that nothing is held. Every other call throws TIMERS_NOT_OPEN. */
 	timers(timers &&other) noexcept : raw_(std::exchange(other.raw_, none())) {}
 	timers &operator=(timers &&other) noexcept
 	{
@@ -103,8 +103,7 @@ public:
 	}
 
 	/* The ticks of an interval, rounded up. One that 64 bits can't hold becomes their greatest number,
-	 * which is after every last tick; one of 0 or less becomes 0: both are refused by the calls that
-	 * follow. */
+	 * which is after every last tick. One of 0 or less becomes 0. The calls that take it refuse both. */
 	template <class Rep, class Period>
 	static constexpr ticks in_ticks(std::chrono::duration<Rep, Period> interval) noexcept
 	{
@@ -132,7 +131,7 @@ public:
 		return whole == ticks::max() ? whole : whole + ticks(1);
 	}
 
-	/* timers_reserve: room for so many timers at once. Throws error: TIMERS_NOT_OPEN; std::bad_alloc. */
+	/* timers_reserve: room for `most` timers at once. Throws error: TIMERS_NOT_OPEN; std::bad_alloc. */
 	void reserve(std::size_t most) { check(timers_reserve(&raw_, most)); }
 
 	/* timers_start. Throws error: TIMERS_NOT_OPEN, TIMERS_ZERO_INTERVAL (of 0 or less), TIMERS_TOO_LATE,
@@ -153,7 +152,7 @@ public:
 		return handle(started);
 	}
 
-	/* timers_restart. If a timer has the handle, replaces that by the new one and returns true. Otherwise
+	/* timers_restart. If a timer has the handle, writes the new handle to `of` and returns true. Otherwise
 	 * returns false. Throws error: TIMERS_NOT_OPEN, TIMERS_ZERO_INTERVAL, TIMERS_TOO_LATE,
 	 * TIMERS_SERIALS_SPENT. */
 	template <class Rep, class Period>
@@ -223,10 +222,10 @@ public:
 		return cooked(timer);
 	}
 
-	/* Passes the ticks up to `real_time`, and calls run(expired) for each timer that expires on the way,
-	 * one at a time, so that it may start, stop and restart any. Throws as tick (TIMERS_CLOCK_END once the
-	 * last tick is before `real_time`), and what `run` throws: that timer is taken, and a further call
-	 * continues. */
+	/* Passes the ticks up to `real_time`, and calls run(expired) for each timer that expires on the way. It
+	 * takes them one at a time, so `run` may start, stop and restart any. Throws as tick (TIMERS_CLOCK_END
+	 * once the last tick is before `real_time`), and what `run` throws: that timer is taken, and a further
+	 * call continues. */
 	template <class Run>
 	void catch_up(ticks real_time, Run &&run)
 	{

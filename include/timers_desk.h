@@ -1,4 +1,4 @@
-/* timers_desk.h - timers for a server with threads: one owner, and up to 64 clients in threads of their own
+/* timers_desk.h - timers for a server with threads: one owner, and up to 64 clients, each in its own thread
  *
  * NAME
  *     timers_desk_new, timers_desk_free - make and free a desk with its clients' lines
@@ -33,15 +33,16 @@
  *     deadline or at the close. So a client knows by counting that it has all its words: one for each request, and one
  *     for each such timer.
  *
- *     A client that does not count can be told. It finishes, and hands its line to the owner, who calls timers_desk_end
- *     and hands it back. The call is refused while something of the client is left at the desk. Once it is done, what
- *     stands in the line is all that is still to be received: timers_line_receive returns false only if there is
- *     nothing more, and timers_line_ended returns true. timers_desk_end_all does the same for all clients at once.
+ *     A client that does not count learns it from the owner. The client finishes and hands its line over; the owner
+ *     calls timers_desk_end and hands the line back. The call is refused while something of the client is left at the
+ *     desk. After it, what stands in the line is all that is still to be received. timers_line_receive then returns false
+ *     only if there is nothing more, and timers_line_ended returns true. timers_desk_end_all does the same for all
+ *     clients at once.
  *
  *     Words wait in the client's outbox at the owner until a flush moves them into the line. A request is taken only if
- *     the outbox has room for its answer and for a word of each of the client's pending timers, so no word is ever
- *     lost. A client that does not read stops only its own requests. If memory runs out for a request, it is held,
- *     and tried again first when its client is served the next time.
+ *     the outbox has room for its answer, a word of each pending timer of the client, and one word more. So no word is
+ *     ever lost. A client that does not read stops only its own requests. If memory runs out for a request, it is held,
+ *     and retried first when its client is served the next time.
  *
  *     The owner's loop:
  *
@@ -54,19 +55,19 @@
  *                 sleep until the signal or tick timers_desk_wakeup(&desk); after TIMERS_DESK_NO_MEMORY only briefly
  *         }
  *
- *     Ticks come first: an interval counts from the tick at which its request is taken, so a request that is taken
- *     before the clock has caught up expires too early, by the time that the owner slept.
+ *     Ticks come first, since an interval counts from the tick at which its request is taken. If requests were taken
+ *     before the clock has caught up, their timers would expire too early, by the time that the owner slept.
  *
  *     How threads wake each other is left to the program: an eventfd, a pipe, a condition variable with a flag. The
  *     order matters. The owner clears the signal before it looks at the lines, never between looking and sleeping. A
  *     client first sends its requests and then signals. So a request that the owner did not see is followed by a signal
- *     that ends its sleep, and no request waits for ever. A client also signals after it has received words, since its
+ *     that ends its sleep, and no request waits forever. A client also signals after it has received words, since its
  *     line has room again. In the other direction the same holds: the client clears its signal, receives until there is
  *     no word, and then sleeps. examples/c/desk_server.c does this with eventfds.
  *
  *     The library is proved: each function meets the contract stated in crates/timer_desk_c/src/desk_exports.rt or
- *     line_exports.rt, for every call that keeps the rules below. Nothing checks that a caller keeps them. Not proved
- *     is anything about time: when a thread runs, and when a word arrives.
+ *     line_exports.rt, for every call that keeps the rules below. Nothing checks that a caller keeps them. Nothing is
+ *     proved about time: when a thread runs, and when a word arrives.
  *
  * RULES
  *     1. A `struct timers_desk` begins as TIMERS_DESK_INIT and a `struct timers_line` as TIMERS_LINE_INIT, or with all
@@ -80,8 +81,8 @@
  *        thread's start or join, or by a sequentially consistent atomic. Calls on two structs are independent:
  *        those of the owner and of its clients may overlap in every way.
  *     5. timers_desk_settle, timers_desk_end and timers_desk_end_all are given lines of the same desk. A line of another
- *        client is refused, and so is one of another desk whose client has another number; one of another desk with
- *        the same number is not noticed.
+ *        client is refused, and so is one of another desk whose client has another number. A line of another desk
+ *        whose client has the same number is not detected.
  *     6. malloc, realloc and free are one allocator that threads may share, and align as C requires.
  *     7. No call comes from a signal handler, or from the forked child of a process with threads.
  *
@@ -121,7 +122,7 @@ enum timers_desk_status {
 	TIMERS_DESK_LINE_FULL = 17,      /* the line has no room for another request now */
 	TIMERS_DESK_FINISHED = 18,       /* the line has finished */
 	TIMERS_DESK_OUT_OF_RANGE = 19,   /* a number of the configuration is out of its range, or the number of lines is wrong */
-	TIMERS_DESK_IDLE = 20,           /* no request was known to stand in the line */
+	TIMERS_DESK_IDLE = 20,           /* no request was known to be in the line */
 	TIMERS_DESK_NO_ROOM = 21,        /* the client's outbox has no room for one more answer and one more notice */
 	TIMERS_DESK_OTHER_LINE = 22,     /* the line is another client's, or its desk was freed before it finished */
 	TIMERS_DESK_NOT_FINISHED = 23,   /* the line has not finished */
@@ -180,13 +181,13 @@ enum timers_desk_status timers_desk_new(struct timers_desk *d, struct timers_lin
                                         const struct timers_desk_config *config);
 
 /* Frees the desk, if it holds one: pending timers, and words that no client's line has yet, are dropped. Clients
- * may go on calling: their requests are never taken, and what stands in the line is still received. */
+ * may continue to call: their requests are never taken, and what stands in the line is still received. */
 void timers_desk_free(struct timers_desk *d);
 
 /* Serves a client once: takes its held request, or else the next one of its line. At TIMERS_DESK_OK the answer is in
  * the outbox. Allocates only for a start.
  * TIMERS_DESK_NOT_OPEN, TIMERS_DESK_NO_CLIENT, TIMERS_DESK_NO_ROOM, TIMERS_DESK_IDLE: nothing was taken.
- * TIMERS_DESK_NO_MEMORY: the request is held, and is tried again first. */
+ * TIMERS_DESK_NO_MEMORY: the request is held, and is retried first. */
 enum timers_desk_status timers_desk_serve(struct timers_desk *d, size_t client);
 
 /* Serves each client in turn, until `most` of its requests were done or a serve did none.
@@ -220,9 +221,8 @@ enum timers_desk_status timers_desk_advance(struct timers_desk *d, uint64_t most
 enum timers_desk_status timers_desk_close(struct timers_desk *d, uint64_t *returned);
 
 /* Settles the line of a client that has finished, once its thread has handed the line over (rule 4). At TIMERS_DESK_OK it
- * writes to `*standing` how many of the client's requests still stand in the line. Only pending timers of this client are
- * left at the desk if three things hold. It is 0, the last serve did not return TIMERS_DESK_NO_MEMORY, and the outbox is
- * empty.
+ * writes to `*standing` how many of the client's requests still stand in the line. Suppose it is 0, the last serve did not
+ * return TIMERS_DESK_NO_MEMORY, and the outbox is empty. Then only pending timers of this client are left at the desk.
  * TIMERS_DESK_NOT_OPEN (either struct), TIMERS_DESK_NO_CLIENT, TIMERS_DESK_OTHER_LINE (it is another client's),
  * TIMERS_DESK_NOT_FINISHED, TIMERS_DESK_OTHER_LINE (the desk was freed before it finished). */
 enum timers_desk_status timers_desk_settle(struct timers_desk *d, size_t client, struct timers_line *line, size_t *standing);
@@ -237,12 +237,12 @@ enum timers_desk_status timers_desk_end(struct timers_desk *d, size_t client, st
 
 /* Ends the words of every client, each as timers_desk_end does: lines[0] to lines[clients - 1] are the clients' lines, all of
  * them handed over. Those that can be ended are ended, whatever is left of the others, and the call may be repeated. A line
- * that was freed is passed over, since nobody reads its words. Does not allocate. TIMERS_DESK_OK: the words of all whose
- * line was not freed have ended.
+ * that was freed is skipped, since no one reads its words. Does not allocate. TIMERS_DESK_OK: the words of all whose line
+ * was not freed have ended.
  * TIMERS_DESK_NOT_OPEN (the desk), TIMERS_DESK_OUT_OF_RANGE (`clients` is not the number of clients): nothing has changed.
- * Otherwise it writes to `*client` the first client whose words have not ended, whose line is as it was, and returns why:
- * TIMERS_DESK_OTHER_LINE (it is another client's), TIMERS_DESK_NOT_FINISHED, TIMERS_DESK_OTHER_LINE (the desk was freed
- * before it finished), TIMERS_DESK_LEFT. */
+ * Otherwise it writes to `*client` the first client whose words have not ended, and returns why. That client's line is as
+ * it was. TIMERS_DESK_OTHER_LINE (it is another client's), TIMERS_DESK_NOT_FINISHED, TIMERS_DESK_OTHER_LINE (the desk was
+ * freed before it finished), TIMERS_DESK_LEFT. */
 enum timers_desk_status timers_desk_end_all(struct timers_desk *d, struct timers_line *lines, size_t clients, size_t *client);
 
 /* The present tick. 0 if it holds no desk. */

@@ -26,7 +26,7 @@ MESSAGES = [
 
 
 class TimersError(Exception):
-    """A call that was refused; `status` says why, and nothing has changed."""
+    """A call that was refused. `status` says why, and nothing has changed."""
 
     def __init__(self, status):
         super().__init__(MESSAGES[status])
@@ -34,7 +34,7 @@ class TimersError(Exception):
 
 
 def word(value, bits=64):
-    """An argument of so many bits: ctypes would cut off the rest."""
+    """The argument, if it has at most this many bits: ctypes would cut off the rest."""
     value = operator.index(value)
     if not 0 <= value < 2**bits:
         raise OverflowError(f"{value} is not from 0 to 2^{bits} - 1")
@@ -124,7 +124,7 @@ class Timers:
         self.close()
 
     def reserve(self, most):
-        """Makes room for so many timers at once: starts then need no memory while fewer are held."""
+        """Makes room for this many timers at once: starts then need no memory while fewer are held."""
         self._do("reserve", word(most))
 
     def start(self, interval, action):
@@ -191,7 +191,7 @@ class Timers:
         return taken
 
     def advance(self, most):
-        """Passes so many ticks, and returns what expired on the way as a list of (deadline, serial, action).
+        """Passes this many ticks, and returns what expired on the way as a list of (deadline, serial, action).
 
         These are taken, and can't be stopped any more. It passes fewer ticks if the clock comes to its last
         one. There it is refused (CLOCK_END) if nothing was left to take.
@@ -228,7 +228,7 @@ class Timers:
         return counts.starts, counts.moves, counts.visits
 
     def __iter__(self):
-        """Visits all timers, pending and expired, in no particular order: pairs of a handle and what `look` says.
+        """Iterates over all timers, pending and expired, in no order: pairs of a handle and what `look` returns.
 
         Meanwhile timers may be started, stopped and taken.
         """

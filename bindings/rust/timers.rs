@@ -117,7 +117,7 @@ pub struct Timer {
     pub action: u64,
 }
 
-/// What the wheels did since they were made.
+/// What the wheels have done since they were made.
 #[repr(C)]
 #[derive(Clone, Copy, Debug, Default, Eq, PartialEq)]
 pub struct Counts {
@@ -175,9 +175,9 @@ unsafe extern "C" {
 
 /// Timers and their clock.
 ///
-/// What keeps the rules of the header, for each `unsafe` below: `held` begins as zeros and is private, so
-/// that only the library writes it, and what it owns has one owner. Each pointer is to an object of this
-/// call alone. `&mut` and the missing `Sync` make calls come one at a time.
+/// This keeps the rules of the header, for each `unsafe` below. `held` begins as zeros and is private, so only
+/// the library writes it, and what it owns has one owner. Each pointer is to an object of this call alone.
+/// `&mut` and the missing `Sync` make calls come one at a time.
 pub struct Timers {
     held: Held,
 }
@@ -199,8 +199,8 @@ fn written<T>(call: impl FnOnce(*mut T) -> c_uint) -> Result<T, Error> {
     Ok(unsafe { out.assume_init() })
 }
 
-/// The interval, in ticks of this length, of a time-out that must last no less than `time`: rounded up, and
-/// one tick more, since the present tick has begun. `u64::MAX`, which is refused, if it is above that.
+/// The interval, in ticks of this length, of a time-out that must last no less than `time`. It is rounded up,
+/// and has one tick more, since the present tick has begun. `u64::MAX`, which is refused, if it is above that.
 ///
 /// # Panics
 /// If a tick has no length.
@@ -294,8 +294,8 @@ impl Timers {
         &out[..count]
     }
 
-    /// Passes the ticks up to `now`, and calls `run` for each timer that expires on the way, one at a time:
-    /// what `run` stops does not come out. `ClockEnd` once the last tick is before `now`.
+    /// Passes the ticks up to `now`, and calls `run` for each timer that expires on the way. It takes them one at
+    /// a time: what `run` stops does not come out. `ClockEnd` once the last tick is before `now`.
     pub fn catch_up(&mut self, now: u64, mut run: impl FnMut(&mut Timers, Timer)) -> Result<(), Error> {
         loop {
             while let Some(timer) = self.expire() {
@@ -333,7 +333,8 @@ impl Timers {
         Some(unsafe { timers_next(&self.held) }).filter(|&tick| tick != NEVER)
     }
 
-    /// How often timers were started, moved to a lower wheel, and looked for, since the timers were made.
+    /// How often timers were started and moved to a lower wheel, and how many buckets were visited, since the
+    /// timers were made.
     pub fn counts(&self) -> Counts {
         let mut counts = Counts::default();
         // They are written, since the timers are open.

@@ -126,7 +126,7 @@ fn meet_the_edges() {
     println!("the edges are as its pages say");
 }
 
-/// At tick 0 a timer for tick 65 stands in wheel 1. It moves to wheel 0 at tick 64, and expires at 65. One for
+/// At tick 0 a timer for tick 65 is in wheel 1. It moves to wheel 0 at tick 64, and expires at 65. One for
 /// tick 64 expires as its bucket of wheel 1 is visited.
 fn count_the_moves() {
     let mut timers = Timers::new(Table::Wide, 0).unwrap();

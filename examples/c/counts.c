@@ -1,6 +1,7 @@
-/* How often timers were started, moved to a lower wheel, and looked for. The numbers in counts.stdout were worked out by
- * hand from the rule of the wheels: a timer stands in the wheel of the highest digit in which its deadline differs from
- * now. When the lower digits of now become 0, its bucket is emptied: it expires then, or moves to a lower wheel.
+/* How often timers were started and moved to a lower wheel, and how many buckets were visited. The numbers in
+ * counts.stdout were worked out by hand from the rule of the wheels. A timer is in the wheel of the highest digit in which
+ * its deadline differs from now. When the lower digits of now become 0, its bucket is emptied: it expires then, or moves
+ * to a lower wheel.
  *
  *     deadline, from tick 0               moves
  *       64 = 1 * 64 + 0                   none: it expires when the bucket in wheel 1 is emptied, at tick 64

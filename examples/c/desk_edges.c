@@ -1,5 +1,5 @@
-/* The edges of timers_desk.h, in one thread: calls on empty structs, refusals, a full line, a client
- * that doesn't read, the close, settling, frees in every order, want of memory. */
+/* The edge cases of timers_desk.h, in one thread: calls on empty structs, refusals, a full line, a client
+ * that doesn't read. Then the close, settling, frees in every order, and out of memory. */
 #include <stdio.h>
 #include <stdlib.h>
 #include <string.h>
@@ -91,7 +91,7 @@ static bool story(void)
 		CHECK(timers_line_start(&l[0], 100 * i, i, &n) == TIMERS_DESK_OK && n == i);
 	n = 99;
 	CHECK(timers_line_start(&l[0], 5, 5, &n) == TIMERS_DESK_LINE_FULL && n == 99);
-	/* want of memory holds a request; it is tried again, and none is lost or taken twice */
+	/* a request that runs out of memory is held and retried; none is lost or taken twice */
 	bool ran_out = false;
 	for (int done = 0; done < 4;) {
 		s = timers_desk_serve(&d, 0);
@@ -177,7 +177,7 @@ static bool story(void)
 	CHECK(timers_desk_end(&d, 1, &l[1], &standing) == TIMERS_DESK_OK && standing == 0 && timers_line_ended(&l[1]));
 	CHECK(!timers_line_receive(&l[1], &w) && timers_desk_end(&d, 1, &l[1], &standing) == TIMERS_DESK_OK && standing == 0);
 	timers_desk_free(&d);
-	CHECK(timers_line_start(&l[0], 9, 9, &n) == TIMERS_DESK_OK);        /* nobody will take it */
+	CHECK(timers_line_start(&l[0], 9, 9, &n) == TIMERS_DESK_OK);        /* it is never taken */
 	s = timers_line_finish(&l[0]);
 	CHECK(s == TIMERS_DESK_OK);
 	timers_line_free(&l[0]);
@@ -185,7 +185,7 @@ static bool story(void)
 	return ran_out;
 }
 
-/* client 0 sends as much as it can and doesn't read; client 1 goes on as ever, and at the end no word of client 0 is lost */
+/* client 0 sends as much as it can and doesn't read; client 1 is not affected; at the end no word of client 0 is lost */
 static void slow_client(void)
 {
 	struct timers_desk d = TIMERS_DESK_INIT;
@@ -245,7 +245,7 @@ static bool ends(void)
 	CHECK(timers_line_start(&l[0], 5, 1, &n) == TIMERS_DESK_OK && timers_line_start(&l[0], 9, 2, &n) == TIMERS_DESK_OK);
 	CHECK(timers_line_start(&l[1], 7, 3, &n) == TIMERS_DESK_OK && timers_line_finish(&l[1]) == TIMERS_DESK_OK);
 	CHECK(timers_line_finish(&l[0]) == TIMERS_DESK_OK && !timers_line_ended(&l[0]));
-	/* requests stand, or one is held; then words wait; then timers are pending */
+	/* requests are standing, or one is held; then words wait; then timers are pending */
 	CHECK(timers_desk_end(&d, 0, &l[0], &unread) == TIMERS_DESK_LEFT && unread == 55);
 	for (int done = 0; done < 2;) {
 		s = timers_desk_serve(&d, 0);
@@ -294,7 +294,7 @@ static void ends_all(void)
 	CHECK(timers_desk_new(&d, l, 3, &config) == TIMERS_DESK_OK);
 	CHECK(timers_desk_end_all(&d, l, 2, &c) == TIMERS_DESK_OUT_OF_RANGE && timers_desk_end_all(&d, l, 0, &c) == TIMERS_DESK_OUT_OF_RANGE);
 	CHECK(c == 77 && timers_desk_end_all(&d, l, 3, &c) == TIMERS_DESK_NOT_FINISHED && c == 0);
-	/* a request of client 0 stands, client 1 has not finished, and the words of client 2 end all the same */
+	/* a request of client 0 is standing, client 1 has not finished, and still the words of client 2 end */
 	CHECK(timers_line_start(&l[0], 5, 1, &n) == TIMERS_DESK_OK && timers_line_start(&l[1], 9, 2, &n) == TIMERS_DESK_OK);
 	CHECK(timers_line_finish(&l[0]) == TIMERS_DESK_OK && timers_line_finish(&l[2]) == TIMERS_DESK_OK);
 	CHECK(timers_desk_end_all(&d, l, 3, &c) == TIMERS_DESK_LEFT && c == 0);
@@ -317,7 +317,7 @@ static void ends_all(void)
 	c = 77;
 	CHECK(timers_desk_end_all(&d, l, 3, &c) == TIMERS_DESK_OK && c == 77 && !timers_line_ended(&l[1]));
 	CHECK(timers_line_receive(&l[1], &w) && timers_line_receive(&l[1], &w) && w.action == 2 && timers_line_ended(&l[1]));
-	/* a line that was freed is passed over, and no client is named if there is no desk */
+	/* a line that was freed is skipped, and no client is named if there is no desk */
 	timers_line_free(&l[1]);
 	CHECK(timers_desk_end(&d, 1, &l[1], &c) == TIMERS_DESK_NOT_OPEN && c == 77);
 	CHECK(timers_desk_end_all(&d, l, 3, &c) == TIMERS_DESK_OK && c == 77);

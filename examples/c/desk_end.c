@@ -1,10 +1,10 @@
 /* Clients that do not count their words. Each finishes and hands its line to the owner, who tries to end its words and hands
- * it back. While something of the client is left at the desk it reads on and tries again. Once the words have ended, it reads
- * what stands in its line, and then knows that it has all.
+ * it back. While something of the client is left at the desk, it reads more and tries again. Once the words have ended, it
+ * reads what is standing in its line, and then knows that it has all.
  *
  *     desk_end CLIENTS TIMERS
  *
- * Client 0 frees its line in the middle, which holds up nobody. */
+ * Client 0 frees its line in the middle, which stops no other client. */
 #include <pthread.h>
 #include <sched.h>
 #include <stdatomic.h>

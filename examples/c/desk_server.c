@@ -1,13 +1,13 @@
-/* A server with eight threads whose time-outs are kept by one owner: who wakes whom, and in which order.
+/* A server with eight threads, and one owner that keeps their time-outs: who wakes whom, and in which order.
  *
  *     cc -pthread desk_server.c $(pkg-config --cflags --libs timers)
  *
- * A tick is a millisecond. Each worker keeps three time-outs, as it would for three connections: one is left to expire,
- * one is stopped since its reply came, and one is restarted since its peer was heard of. Workers and owner sleep while
- * there is nothing to do, each on an eventfd of its own, its bell:
+ * A tick is a millisecond. Each worker keeps three time-outs, as it would for three connections. One is left to expire.
+ * One is stopped, since its reply came. One is restarted, since its peer was heard from. Workers and owner sleep while
+ * there is nothing to do, each on its own eventfd, its bell:
  *
  *     worker: send requests, then ring the owner's bell
- *     owner:  hush its bell, serve, pass ticks, flush and ring the worker's bell; sleep only if all that did nothing
+ *     owner:  hush its bell, pass ticks, serve, flush and ring the worker's bell; sleep only if no request or word moved
  *     worker: hush its bell, receive until there is no word; sleep only then
  *
  * The order is what counts. The owner hushes its bell before it looks, and a worker rings after it has sent. So if
@@ -68,7 +68,7 @@ static void hush(int bell)
 	(void)n;
 }
 
-/* Sleeps until the bell rings, at most so many milliseconds; -1 is for ever. */
+/* Sleeps until the bell rings, at most that many milliseconds; -1 is without end. */
 static void sleep_on(int bell, int milliseconds)
 {
 	struct pollfd p = { bell, POLLIN, 0 };
@@ -100,7 +100,7 @@ static void take(struct worker *me, const struct timers_word *word)
 		me->started++;
 		if (word->number == 2)                  /* the reply came: no time-out */
 			send(me, timers_line_stop(&me->line, word->handle, &number));
-		if (word->number == 3)                  /* the peer was heard of: its time-out begins again */
+		if (word->number == 3)                  /* the peer was heard from: its time-out begins again */
 			send(me, timers_line_restart(&me->line, word->handle, 50, 3, &number));
 		break;
 	case TIMERS_WORD_STOPPED:
@@ -176,7 +176,7 @@ static bool flush_and_wake(void)
 	return moved;
 }
 
-/* How long the owner may sleep. When it ran out of memory nobody rings, so it looks again soon. */
+/* How long the owner may sleep. If it ran out of memory, no bell rings for that, so it looks again soon. */
 static int rest(enum timers_desk_status served, uint64_t now)
 {
 	uint64_t wakeup = timers_desk_wakeup(&desk);

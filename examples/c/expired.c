@@ -1,6 +1,6 @@
-/* Two timers are due at one tick, and the work of the first closes the connection of the second: its timer is stopped
- * though it has expired, so that it does not come out with a pointer to freed memory. Then the rest is taken out in the
- * order of the deadlines, so that each connection is freed, before timers_free. */
+/* Two timers are due at one tick, and the work of the first closes the connection of the second. That one's timer is
+ * stopped though it has expired, so that it does not come out with a pointer to freed memory. Then the rest is taken
+ * out in the order of the deadlines, so that each connection is freed, before timers_free. */
 #include <inttypes.h>
 #include <stdio.h>
 #include <stdlib.h>

@@ -19,7 +19,7 @@
 
 enum { CONNECTIONS = 1000, IDLE = 200, FIRST = 30, PERIOD = 100 };
 
-/* What a client does, once each PERIOD: it writes so many times, and then says no more, or closes. */
+/* What a client does, once each PERIOD: it writes a number of times, and then is silent, or closes. */
 static struct kind {
 	const char *name;
 	unsigned clients, writes;

@@ -3,7 +3,7 @@
  *     cc job_scheduler.c $(pkg-config --cflags --libs timers) && ./a.out
  *
  * A tick is a second. The clock here is a number that jumps from one job to the next, so that eight days
- * pass at once: a daemon would sleep until then. TIMERS_CLOCK has 100 days. When the last of them begins, the
+ * pass at once. A daemon would sleep until then. TIMERS_CLOCK has 100 days. When the last of them begins, the
  * timers are freed and made again at tick 0, and the jobs that are left are started anew. */
 #include <inttypes.h>
 #include <stdio.h>

@@ -1,6 +1,8 @@
 /* Random calls against a sorted list. The first difference ends it with status 1, and so does a status that should
  * have occurred and never did.
+ *
  *     stress [CALLS] [SEED]
+ *
  * With -DREFUSE -Wl,--wrap=malloc,--wrap=realloc every third allocation of the library is refused. */
 #include <inttypes.h>
 #include <stdio.h>
@@ -60,7 +62,7 @@ static void set_units(bool wide)
 }
 
 /* How often a timer has moved by now. Its bucket in a wheel is emptied at its deadline, rounded down to the unit of that
- * wheel, and it stands in the highest wheel at which that is not the present slot. */
+ * wheel. It is in the highest wheel in which that is not the present slot. */
 static uint64_t moves_of(const struct entry *e)
 {
 	uint64_t at = e->from, moves = 0;
@@ -355,7 +357,7 @@ static void look_at_counts(struct timers *t)
 	most_moves = counts.moves > most_moves ? counts.moves : most_moves;
 }
 
-/* Visits all timers, and stops one in eight as it comes to them: each is visited once, with its deadline and action. */
+/* Iterates over all timers, and stops one in eight when it finds it: each is found once, with its deadline and action. */
 static void do_visit(struct timers *t)
 {
 	size_t cursor = 0, visited = 0, wanted = count;
@@ -489,7 +491,7 @@ int main(int argc, char **argv)
 		}
 		if (calls_done % 20000 == 0)
 			spread = UINT64_C(1) << (3 + below(14));
-		/* Now and then begin anew, with timers pending and due. Serials go on. */
+		/* Now and then begin anew, with timers pending and due. Serials continue. */
 		if (below(20000) == 0) {
 			timers_free(&t);
 			open_anew(&t);
