@@ -187,7 +187,7 @@ void timers_free(struct timers *t);
  * TIMERS_NO_MEMORY, whatever was started, stopped and taken before. The timers and the clock don't change.
  * Takes about 64 bytes for each timer, and time for each: it may move those that are held. The memory is
  * kept until timers_free, also what was allocated before a failure. Room that is there already costs nothing.
- * TIMERS_NO_MEMORY is also returned for more than about 4.29 billion timers.
+ * TIMERS_NO_MEMORY is also returned if `most` is above some 4.29 billion.
  * TIMERS_NOT_OPEN, TIMERS_NO_MEMORY. */
 TIMERS_CHECKED
 enum timers_status timers_reserve(struct timers *t, size_t most);
@@ -232,8 +232,9 @@ enum timers_status timers_look(const struct timers *t, struct timer_handle handl
 /* Iterates over every timer, pending or expired and not yet taken, in no particular order. `*cursor` is 0 at
  * the first call. Each call that finds a timer writes it to `*out` and its handle to `*handle`, moves
  * `*cursor` past it and returns true. At the end, or if `t` is not open, it returns false and writes nothing.
- * Between two calls timers may be started, stopped, restarted and taken: one that is held all the time is
- * found exactly once. A whole iteration takes time for the most timers that were ever held at once. */
+ * Between two calls timers may be started, stopped, restarted and taken, and ticks may pass: one that is
+ * held all the time, under one handle, is found exactly once. A whole iteration takes time for the most
+ * timers that were ever held at once. */
 bool timers_each(const struct timers *t, size_t *cursor, struct timer_handle *handle,
                  struct timer_expired *out);
 
@@ -243,7 +244,7 @@ enum timers_status timers_tick(struct timers *t);
 
 /* Passes at most `most` ticks, and stops at the first at which a timer expires. Writes `*passed`, how many
  * were passed, at TIMERS_OK. It is 0 only if `most` is 0. It is less than `most` only if a timer has expired
- * or the clock is at its last tick.
+ * or the clock has come to its last tick.
  * TIMERS_NOT_OPEN, TIMERS_DUE, TIMERS_CLOCK_END. */
 enum timers_status timers_advance(struct timers *t, uint64_t most, uint64_t *passed);
 

@@ -68,7 +68,7 @@ int main(void)
 	check(timers_advance(&timers, 50, &passed), "advance");
 	check(timers_look(&timers, second->idle, &e), "look");
 	printf("tick %" PRIu64 ": connection 2 has %" PRIu64 " ticks left\n", timers_now(&timers), e.deadline - timers_now(&timers));
-	check(timers_restart_at(&timers, third->idle, 120, e.action, &third->idle), "restart_at");
+	check(timers_restart_at(&timers, third->idle, 120, (uint64_t)(uintptr_t)third, &third->idle), "restart_at");
 	check(timers_restart(&timers, third->idle, 30, (uint64_t)(uintptr_t)third, &third->idle), "restart");
 	while (timers_expire(&timers, &e))
 		time_out(&e);
