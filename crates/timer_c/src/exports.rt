@@ -15,9 +15,9 @@ use crate::c_timers::CTimers;
 use crate::calls;
 use crate::layout::{Counts, Expired, Handle};
 use crate::opening::wheel_of;
-use crate::raw_box::RawBox;
 use crate::status::{NEVER, NO_MEMORY, NOT_OPEN, OK, OPEN};
 use std::alloc::Global;
+use timer_ffi_base::RawBox;
 use timer_total::Timers;
 
 /// Makes timers with this table, none of them pending, at the first tick. `t` holds them until

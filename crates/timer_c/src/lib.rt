@@ -9,7 +9,6 @@
 //!     c_timers   `struct timers`: the slot, and the last serial while the slot is empty
 //!     owned_cell the slot: the two machine words by which it owns the timers on the heap; its four methods are
 //!                proved by hand
-//!     raw_box    a box as its address, on its way into the slot and out of it; its two methods are too
 //!     layout     the structs of the header
 //!     status     the statuses of the header
 #![tactic(auto)]
@@ -20,7 +19,6 @@ mod exports;
 mod layout;
 mod opening;
 mod owned_cell;
-mod raw_box;
 mod status;
 
 pub use c_timers::CTimers;

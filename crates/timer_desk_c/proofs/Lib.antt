@@ -1,4 +1,3 @@
-pub mod RawBoxParts
 pub mod DeskParts
 pub mod LineParts
 pub mod FrameSteps

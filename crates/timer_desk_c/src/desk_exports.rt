@@ -23,11 +23,11 @@ use crate::ending_all::end_all;
 use crate::layout::DeskConfig;
 use crate::making::{Made, make};
 use crate::placing::{are_empty, place};
-use crate::raw_box::RawBox;
 use crate::settling::settle;
 use crate::status::{NEVER, NOT_OPEN, OK, OPEN};
 use crate::{advancing, calls, rounds};
 use std::alloc::Global;
+use timer_ffi_base::RawBox;
 
 /// Makes a desk with a client for each of `lines`, which hold the clients' ends from then on.
 #[unsafe(no_mangle)]

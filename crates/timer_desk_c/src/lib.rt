@@ -11,8 +11,7 @@
 //!     messages       words as C's struct
 //!     making, placing    a new desk, and its lines put into C's structs
 //!     c_structs      the two structs
-//!     desk_cell, line_cell, raw_box    the machine words by which they own something on the heap, proved by
-//!                                      hand
+//!     desk_cell, line_cell    the machine words by which they own something on the heap, proved by hand
 //!     layout, status    the other structs and the numbers of the header
 #![tactic(auto)]
 
@@ -30,7 +29,6 @@ mod line_exports;
 mod making;
 mod messages;
 mod placing;
-mod raw_box;
 mod rounds;
 mod settling;
 mod status;

@@ -4,7 +4,7 @@ ghost use Rattle.timer_desk_c.specs.Desks.{AllEmpty, IsOneHeld, AreHeld};
 
 use crate::c_structs::CLine;
 use crate::line::Line;
-use crate::raw_box::RawBox;
+use timer_ffi_base::RawBox;
 
 /// Whether none of them holds a line.
 pub(crate) fn are_empty(lines: &mut [CLine]) -> bool

@@ -27,7 +27,7 @@ use Rattle.core.specs.declared.alloc.Allocator.{Ghosts}
 use Rattle.core.proofs.alloc.Calls.{Al, handle_tells}
 use Rattle.core.proofs.cell.Inside.{Good}
 use Rattle.std.specs.Box.Ownership.{box_owns}
-use Rattle.timer_desk_c.specs.contracts.raw_box.RawBox as parked
+use Rattle.timer_ffi_base.specs.contracts.raw_box.RawBox as parked
 
 abbrev pub two : Val → Val → Val
 two v w = vstruct (vcons v (vcons w vnil))

@@ -31,12 +31,12 @@ use Rattle.core.proofs.cell.Inside.{Good}
 use Rattle.std_alloc.proofs.BoxSteps.Form as box
 use Rattle.std_alloc.proofs.BoxSteps.Steps.{box_out, box_in}
 use Rattle.std.proofs.raw_atomic.Walks.{proved_at, leaves}
-use Rattle.timer_desk_c.proofs.RawBoxParts.{two, RawBox, fits_first, fits_last, unpack}
+use Rattle.timer_ffi_base.proofs.RawBoxParts.{two, RawBox, fits_first, fits_last, unpack}
 use Rattle.std_alloc.specs.contracts.boxed.Box.from_raw as callee
 use Rattle.std_alloc.proofs.boxed.Box.from_raw.Met.{met}
-use Rattle.timer_desk_c.specs.contracts.raw_box.RawBox.unpark as f
-use Rattle.timer_desk_c.proofs.raw_box.RawBox.unpark.Statement.{statement}
-use Rattle.timer_desk_c.proofs.raw_box.RawBox.unpark.Code as code
+use Rattle.timer_ffi_base.specs.contracts.raw_box.RawBox.unpark as f
+use Rattle.timer_ffi_base.proofs.raw_box.RawBox.unpark.Statement.{statement}
+use Rattle.timer_ffi_base.proofs.raw_box.RawBox.unpark.Code as code
 
 pub unpark_spec : {M : Type 1} → statement M
 unpark_spec 𝓤 𝓛 𝓜 𝓡 wired T A L LA g d dx dd allocator glue glued =

@@ -32,12 +32,12 @@ use Rattle.std.specs.Box.Ownership.{box_owns}
 use Rattle.std_alloc.proofs.BoxSteps.Form as box
 use Rattle.std_alloc.proofs.BoxSteps.Steps.{box_out, box_in}
 use Rattle.std.proofs.raw_atomic.Walks.{proved_at, leaves}
-use Rattle.timer_desk_c.proofs.RawBoxParts.{two, fits_first, fits_last, pack}
+use Rattle.timer_ffi_base.proofs.RawBoxParts.{two, fits_first, fits_last, pack}
 use Rattle.std_alloc.specs.contracts.boxed.Box.into_raw_with_allocator as callee
 use Rattle.std_alloc.proofs.boxed.Box.into_raw_with_allocator.Met.{met}
-use Rattle.timer_desk_c.specs.contracts.raw_box.RawBox.park as f
-use Rattle.timer_desk_c.proofs.raw_box.RawBox.park.Statement.{statement}
-use Rattle.timer_desk_c.proofs.raw_box.RawBox.park.Code as code
+use Rattle.timer_ffi_base.specs.contracts.raw_box.RawBox.park as f
+use Rattle.timer_ffi_base.proofs.raw_box.RawBox.park.Statement.{statement}
+use Rattle.timer_ffi_base.proofs.raw_box.RawBox.park.Code as code
 
 pub park_spec : {M : Type 1} → statement M
 park_spec 𝓤 𝓛 𝓜 𝓡 wired T A L LA g d dx dd allocator glue glued =

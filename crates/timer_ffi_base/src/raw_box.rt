@@ -8,10 +8,10 @@ use std::alloc::Allocator;
 use std::marker::Model;
 
 /// Owns a value on the heap, and the right to free its block.
-pub(crate) struct RawBox<T, A: Allocator> {
-    pub(crate) alloc: A,
-    pub(crate) at: *mut T,
-    pub(crate) ghost value: { T },
+pub struct RawBox<T, A: Allocator> {
+    pub alloc: A,
+    pub at: *mut T,
+    pub ghost value: { T },
 }
 
 impl<T, A: Allocator> Model for RawBox<T, A> {
@@ -22,7 +22,7 @@ impl<T, A: Allocator> Model for RawBox<T, A> {
 
 impl<T: Drop, A: Allocator> RawBox<T, A> {
     /// The box, parked. Nothing is freed or allocated.
-    pub(crate) fn park(whole: Box<T, A>) -> RawBox<T, A>
+    pub fn park(whole: Box<T, A>) -> RawBox<T, A>
         ensures { result.value ≡ whole.value }
     {
         // The address and the allocator. The value is at that address, and nothing owns it until `RawBox`
@@ -35,10 +35,10 @@ impl<T: Drop, A: Allocator> RawBox<T, A> {
     }
 
     /// The box again.
-    pub(crate) fn unpark(self) -> Box<T, A>
+    pub fn unpark(self) -> Box<T, A>
         ensures { result.value ≡ self.value }
     {
-        // The allocator and the address, as `park` stored them or `OwnedCell::take` put them together again.
+        // The allocator and the address, as `park` stored them or a cell's `take` put them together again.
         let RawBox { alloc, at } = self;
         // The value and the right to free its block are at that address, and go into the box.
         unsafe { Box::from_raw(alloc, at) }
