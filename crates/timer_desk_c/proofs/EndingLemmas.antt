@@ -74,16 +74,6 @@ keeps_more k d y z was s = record {
   same_given = λ c i low. same_at given_of k c i y z s (s.same_given i) ∙ was.same_given c i low;
 }
 
--- a line that was of the client is so still
-pub tied_now : (c : ℕ) (d y : DeskState) (l : Line) → KeepsLines d y → c < clients_of d → IsTied c d l → IsTied c y l
-tied_now c d y l was low t = (
-  (λ i. elim (t.0 i) [
-    | inl none ↦ inl none
-    | inr e ↦ inr (e ∙ ap (λ q. Some q.0) (sym (was.same_lines c i low)))
-  ]),
-  (λ i. t.1 i ∙ ap (λ q. Some q.1) (sym (was.same_lines c i low))),
-)
-
 ended_before : (c : ℕ) (d y : DeskState) (x v : CLine) → KeepsLines d y → c < clients_of d → IsEndedAt c y x v → IsEndedAt c d x v
 ended_before c d y x v was low h = record {
   held = h.held;

@@ -88,13 +88,6 @@ left_as_many (c ∷ cs) (v ∷ vs) h = ap suc (left_as_many cs vs h.2)
 abbrev pub LeadsTo : List Child → List Child → List Worked → Type 0
 LeadsTo children rest so_far = (more : List Worked) → HaveLeft rest more → HaveLeft children (so_far ++ more)
 
-pub leads_on : (children rest rest' : List Child) (so_far : List Worked) (c : Child) (w : Worked) → LeadsTo children rest so_far
-    → rest ≡ c ∷ rest'
-    → IsOfLine (line_of_end (promise_of c).end.value) w → IsWhole (promise_of c).count w → LeadsTo children rest' (so_far ++ w ∷ [])
-leads_on children rest rest' so_far c w leads is line whole more h =
-    subst (λ xs. HaveLeft children xs) (sym (append_assoc so_far (w ∷ []) more))
-    (leads (w ∷ more) (subst (λ cs. HaveLeft cs (w ∷ more)) (sym is) (line, whole, h)))
-
 pub leads_end : (children rest : List Child) (all : List Worked) → LeadsTo children rest all → rest ≡ [] → HaveLeft children all
 leads_end children rest all leads none =
     subst (λ xs. HaveLeft children xs) (append-nil all) (leads [] (subst (λ cs. HaveLeft cs []) (sym none) tt))
