@@ -1,7 +1,7 @@
 pub mod DeskParts
 pub mod LineParts
 pub mod FrameSteps
-pub mod MakingLemmas
+pub mod DeskMakerLemmas
 pub mod RoundLemmas
-pub mod PlacingLemmas
-pub mod EndingLemmas
+pub mod PlacementLemmas
+pub mod ShutdownLemmas

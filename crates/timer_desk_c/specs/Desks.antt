@@ -22,7 +22,7 @@ use Rattle.timer_desk.specs.Desk.{opened_desk, clients_of, ReportHolds, TakesNot
 use Rattle.timer_desk_c.specs.declared.layout.DeskConfig.{DeskConfig}
 use Rattle.timer_desk_c.specs.declared.c_structs.CLine.{CLine}
 use Rattle.timer_desk_c.specs.declared.line.Line.{Line}
-use Rattle.timer_desk_c.specs.declared.making.TheConstants.{MIN_LINE, MAX_LINE}
+use Rattle.timer_desk_c.specs.declared.desk_maker.TheConstants.{MIN_LINE, MAX_LINE}
 use Rattle.timer_desk_c.specs.declared.status.TheConstants.{OK, NO_MEMORY, IDLE, NO_ROOM, OUT_OF_RANGE, CLOSED, CLOCK_END, NO_CLIENT, NOT_FINISHED, OTHER_LINE, NEVER}
 use Rattle.timer_desk_c.specs.DeskSlots.{DeskState}
 use Rattle.timer_desk_c.specs.Frames.{HasLine, HasNoLine}

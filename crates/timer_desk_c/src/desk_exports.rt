@@ -12,20 +12,20 @@ ghost use Rattle.timer_desk.specs.Shutdown.{KeepsLines};
 ghost use Rattle.timer_desk_c.specs.Frames.{IsOpen, IsShut, with_desk, HasLine, HasNoLine, with_line};
 ghost use Rattle.timer_desk_c.specs.Desks.{IsFit, IsMade, AllEmpty, IsOneHeld, WhyNotMade, HasServed, HasTicked, HasClosed, IsNextTick, IsSettled, IsGivenAs, IsAsBefore, WhyNotSettled};
 ghost use Rattle.timer_desk_c.specs.Rounds.{HasServedAll, HasFlushedAll};
-ghost use Rattle.timer_desk_c.specs.Advancing.{HasAdvanced, WhyNotAdvanced, HasFlushed};
-ghost use Rattle.timer_desk_c.specs.Ending.{IsTied, OnlySettles, HasEnded, WhyNotEnded};
-ghost use Rattle.timer_desk_c.specs.EndingAll.{AreTied, OnlyStates, AllTried, AllEnded, WhyNotAllEnded};
+ghost use Rattle.timer_desk_c.specs.Ticks.{HasAdvanced, WhyNotAdvanced, HasFlushed};
+ghost use Rattle.timer_desk_c.specs.Shutdown.{IsTied, OnlySettles, HasEnded, WhyNotEnded};
+ghost use Rattle.timer_desk_c.specs.ShutdownAll.{AreTied, OnlyStates, AllTried, AllEnded, WhyNotAllEnded};
 ghost use Rattle.timer_desk_c.specs.declared.status.TheConstants.{OK, NOT_OPEN, OPEN, NO_CLIENT, LEFT, NEVER};
 
 use crate::c_structs::{CDesk, CLine};
-use crate::ending::end;
-use crate::ending_all::end_all;
+use crate::desk_maker::{Made, make};
 use crate::layout::DeskConfig;
-use crate::making::{Made, make};
-use crate::placing::{are_empty, place};
-use crate::settling::settle;
+use crate::placement::{are_empty, place};
+use crate::settlement::settle;
+use crate::shutdown::end;
+use crate::shutdown_all::end_all;
 use crate::status::{NEVER, NOT_OPEN, OK, OPEN};
-use crate::{advancing, calls, rounds};
+use crate::{calls, rounds, ticks};
 use std::alloc::Global;
 use timer_ffi_base::RawBox;
 
@@ -143,7 +143,7 @@ pub extern "C" fn timers_desk_advance(d: &mut CDesk, most: u64, passed: &mut u64
     if !d.slot.holds() {
         return NOT_OPEN;
     }
-    advancing::advance(d.slot.desk(), most, passed)
+    ticks::advance(d.slot.desk(), most, passed)
 }
 
 /// Moves words from a client's outbox into its line, as many as it takes, and returns how many.
@@ -158,7 +158,7 @@ pub extern "C" fn timers_desk_flush(d: &mut CDesk, client: usize) -> usize
     if !d.slot.holds() {
         return 0;
     }
-    advancing::flush(d.slot.desk(), client)
+    ticks::flush(d.slot.desk(), client)
 }
 
 /// Closes the facility: each pending timer is returned to its client, and no request is accepted from then

@@ -11,13 +11,13 @@
 #![tactic(auto)]
 
 mod desks;
-mod driven;
+mod drives;
 mod facilities;
 mod fault;
 mod handles;
 mod lines;
-mod linked;
-mod played;
+mod links;
+mod plays;
 mod scenario;
 mod texts;
 mod wheels;

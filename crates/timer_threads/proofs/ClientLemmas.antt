@@ -17,7 +17,7 @@ use Rattle.timer_desk.specs.declared.ring.RequestsEnded.{RequestsEnded}
 use Rattle.timer_desk.specs.Ring.{line_of_end, next_of, submitted, received_by_end, numbered, all_submitted, read_by}
 use Rattle.timer_facility.specs.declared.request.Request.TheVariants.{Start}
 use Rattle.timer_threads.specs.declared.client.Client.{Client}
-use Rattle.timer_threads.specs.declared.worked.Worked.{Worked}
+use Rattle.timer_threads.specs.declared.outcome.Worked.{Worked}
 use Rattle.timer_threads.specs.Work.{HasWorked, request_of, requests_from, started_in, expired_in, started_by, expired_by, follows, AreAscending, ArePassed, IsStopped}
 use Rattle.timer_threads.specs.Client.{is_next_start, passes, AreChecked, IsAtWork, IsSound, is_complete}
 

@@ -11,7 +11,7 @@ use Rattle.timer_desk.specs.Ring.{line_of_end, line_of_inlet, got_of, given_of, 
 use Rattle.timer_threads.specs.declared.child.Child.{Child}
 use Rattle.timer_threads.specs.declared.fault.ThreadsFault.{ThreadsFault}
 use Rattle.timer_threads.specs.declared.fault.ThreadsFault.TheVariants as Faults
-use Rattle.timer_threads.specs.declared.worked.Worked.{Worked}
+use Rattle.timer_threads.specs.declared.outcome.Worked.{Worked}
 use Rattle.timer_threads.specs.Children.{promise_of}
 use Rattle.timer_threads.specs.Work.{IsOfLine, IsWhole}
 use Rattle.timer_threads.specs.Results.{has_failed, NoneFailed, AllEnded}

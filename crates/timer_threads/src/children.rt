@@ -5,7 +5,7 @@
 ghost use Rattle.std.specs.Prelude.{◌≡◌, ◌<◌, ◌≤◌, [], ◌∷◌, ◌++◌, length, vec_len, vec_capacity, IfOk};
 
 use crate::child::Child;
-use crate::worked::Worked;
+use crate::outcome::Worked;
 use std::alloc::{AllocError, Global};
 use std::thread::Threads;
 

@@ -1,5 +1,5 @@
 //! The postcondition of a client's thread.
-use crate::worked::Worked;
+use crate::outcome::Worked;
 use std::snapshot::Snapshot;
 use std::thread::Promise;
 use timer_desk::ClientEnd;

@@ -12,9 +12,9 @@ ghost use Rattle.timer_threads.specs.Threads.{AreTied, IsAmong, whole_text};
 
 use crate::child::Child;
 use crate::children::Children;
-use crate::ending::end_all;
 use crate::fault::ThreadsFault;
 use crate::gate::Gate;
+use crate::shutdown::end_all;
 use std::alloc::Global;
 use std::thread::Threads;
 use timer_base::OutOfMemory;
