@@ -76,7 +76,8 @@ impl OwnedCell {
     /// Lends the timers. Their state at the end of the loan is the slot's state.
     pub(crate) fn timers(&mut self) -> &mut Timers<HierWheel>
         requires { is_open self.old.mark ≡ true }
-        ensures* writes_back { sem 𝓛 (Lends the_slot the_timers self.entry result (with_state self.entry.now)) }
+        ensures* writes_back { sem 𝓛 (Lends the_slot the_timers self.entry result
+            (with_state self.entry.now)) }
         ensures value { result.now ≡ self.old.state }
     {
         // The slot owns timers at this address, since its mark says so. They are lent no longer than the slot
@@ -85,5 +86,6 @@ impl OwnedCell {
     }
 }
 
-// The timers may go to another thread, and their block may be freed there (proofs/owned_cell/OwnedCell/TheSendSync).
+// The timers may go to another thread, and their block may be freed there
+// (proofs/owned_cell/OwnedCell/TheSendSync).
 unsafe impl Send for OwnedCell {}

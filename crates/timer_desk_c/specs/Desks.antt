@@ -172,7 +172,7 @@ IsGivenAs client d l = (i : RingInlet) → (requests_ring_on l ≡ None)
 abbrev pub IsAsBefore : Line → Line → Type 0
 IsAsBefore old new = IsSameLine old new × SameTraffic old new
 
--- why no line was settled: the first that holds, where the line has this number
+-- why no line was settled: the first that holds, if the line has this number
 abbrev pub WhyNotSettled : ℕ → ℕ → DeskState → Line → ℕ → Type 0
 WhyNotSettled client number d l status =
     ((status ≡ NO_CLIENT) × (clients_of d ≤ client))

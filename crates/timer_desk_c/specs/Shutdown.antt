@@ -53,7 +53,7 @@ pub record HasEnded (client unread : ℕ) (d : DeskState) (old new : Line) : Typ
   pub same_submitted : submitted_on new ≡ submitted_on old
   pub same_rings : (requests_ring_on new ≡ requests_ring_on old) × (words_ring_on new ≡ words_ring_on old)
 
--- why no words were ended: the first that holds, where the line has this number
+-- why no words were ended: the first that holds, if the line has this number
 abbrev pub WhyNotEnded : ℕ → ℕ → DeskState → Line → ℕ → Type 0
 WhyNotEnded client number d l status =
     ((status ≡ NO_CLIENT) × (clients_of d ≤ client))

@@ -13,7 +13,7 @@ use Rattle.timer_desk_c.specs.declared.status.TheConstants.{CLOSED, CLOCK_END}
 use Rattle.timer_desk_c.specs.DeskSlots.{DeskState}
 use Rattle.timer_desk_c.specs.Desks.{Says}
 
--- this many ticks were passed: none where none was asked for
+-- this many ticks were passed: none if none was asked for
 abbrev pub HasAdvanced : ℕ → ℕ → DeskState → DeskState → Type 0
 HasAdvanced most passed old new =
     ((most ≡ 0) × (passed ≡ 0) × (new ≡ old)) ⊎ (HasPassed most passed old.facility

@@ -301,7 +301,7 @@ pub extern "C" fn timers_desk_end(
 ///
 /// Returns `OK` if the words of all have ended. Otherwise it returns the reason of the first client for which
 /// they have not, as `timers_desk_end` does, and writes its number. The others have ended if they could. A
-/// line that was freed is passed over: nobody waits for its words.
+/// line that was freed is skipped: no client waits for its words.
 #[unsafe(no_mangle)]
 pub extern "C" fn timers_desk_end_all(d: &mut CDesk, lines: &mut [CLine], client: &mut usize) -> u32
     requires lines { IsOpen d.old → length lines.old ≡ clients_of d.old.slot.state

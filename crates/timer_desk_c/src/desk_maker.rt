@@ -33,7 +33,7 @@ pub(crate) struct Made {
     pub(crate) ends: Vec<Box<Line>>,
 }
 
-/// Makes a desk of so many clients.
+/// Makes a desk of `clients` clients.
 pub(crate) fn make(alloc: Global, clients: usize, config: DeskConfig) -> Result<Made, u32>
     ensures fit { IfOk result (λ _. IsFit clients config) }
     ensures desk { IfOk result (λ m. IsNewDesk clients config m.desk.value) }
@@ -98,7 +98,7 @@ fn new_facility(alloc: Global, checked: Checked) -> Result<Facility<HierWheel>, 
     Ok(Facility::open(alloc, checked, wheel))
 }
 
-/// Makes so many lines, each with this room each way.
+/// Makes a line for each of `clients` clients, each with this room each way.
 fn new_lines(alloc: Global, clients: usize, room: usize) -> Result<NewLines, OutOfMemory>
     requires room { (MIN_LINE ≤ room) × (room ≤ MAX_LINE) }
     ensures lines { IfOk result (λ l. AreNewLines room l.inlets.items (map (λ b. b.value) l.ends.items)) }

@@ -1,6 +1,6 @@
 -- A parked box by value. Assumes `Logic`.
 --     two            two words side by side, as a struct of two fields is stored
---     fits_first, fits_last     they fit where the allocator's word does and the other is an address
+--     fits_first, fits_last     they fit if the allocator's word does and the other is an address
 --     unpack         what a parked box owns, taken apart: [the allocator; the value with the right to free its block].
 --                    The address is in a block, and the machine value is the allocator's word and that address
 --     pack           the other way

@@ -1,5 +1,5 @@
--- What a cell owns, two words of a struct that C holds: if its mark says so, the value at its address and the right
--- to free the block.
+-- What a cell owns, two words of a struct that C holds: if its mark says so, the value at its address and the
+-- right to free the block.
 use Rattle.std.specs.Prelude.{ℕ, Bool, true, false, nat_eq}
 use mir.Syntax.{Ty}
 use base.Fml.{Fml, ftrue}

@@ -19,7 +19,7 @@ use timer_wheels::HierWheel;
 /// How many requests of each client are served.
 const GOAL: u64 = 2;
 
-/// After so many turns in a row without progress a drive ends.
+/// The turns in a row without progress after which a drive ends.
 const LIMIT: u64 = 10;
 
 /// The tick at which the last word is in its line.

@@ -76,7 +76,7 @@ fn push(links: &mut Links, serial: u64) -> Result<(), Fault> {
     Err(Fault::RefusedTwice)
 }
 
-/// Makes so many lists, and pushes a hundred nodes.
+/// Makes `lists` lists, and pushes a hundred nodes.
 pub fn push_a_hundred(alloc: Global, lists: usize) -> Result<(), Fault> {
     let mut links = make(alloc, lists)?;
     fill(&mut links)

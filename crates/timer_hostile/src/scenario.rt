@@ -24,7 +24,7 @@ pub enum Kind {
 /// What is played.
 #[derive(Clone, Copy)]
 pub enum Scenario {
-    /// A hundred pushes to so many lists.
+    /// A hundred pushes to this number of lists.
     Pushes(usize),
     Starts(Kind),
     Lists(Kind),

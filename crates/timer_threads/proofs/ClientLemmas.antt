@@ -139,7 +139,7 @@ other_fails first count ws w more was now =
     let a = more.long in let b = more.starts in let c = more.expiries in let d = was.each in let e = now.each
     in absurd (omega (arith, a, b, c, d, e))
 
--- where a word is tested, it and those before it are checked
+-- if a word is tested, it and those before it are checked
 checked_by : (passed : Bool) (first count : ℕ) (ws : List Word) (w : Word) → ArePassed first count ws
     → (passed ≡ true → ArePassed first count (ws ++ w ∷ [])) → (passed ≡ false → ¬ (ArePassed first count (ws ++ w ∷ [])))
     → AreChecked (not passed) first count (ws ++ w ∷ [])

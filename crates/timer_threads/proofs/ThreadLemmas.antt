@@ -132,7 +132,7 @@ not_failed : (a b : Bool) → a || b ≡ false → a ≡ false
 not_failed true b h = h
 not_failed false b h = refl
 
--- where none failed, the text is that of whole clients
+-- if none failed, the text is that of whole clients
 pub clients_text-whole : (n timers : ℕ) (ws : List Worked) → AllWhole timers ws → NoneFailed ws
     → clients_text n ws ≡ whole_lines n (length ws) timers
 clients_text-whole n timers [] a f = refl

@@ -22,7 +22,7 @@ pub record IsFirstFailed (all : List Worked) (c : ℕ) : Type 0 where
   pub failed : (w : Worked) → has_failed (get_or all c w) ≡ true
   pub others : (k : ℕ) (w : Worked) → k < c → has_failed (get_or all k w) ≡ false
 
--- the lower of two numbers, where there are any
+-- the lower of two numbers, if there are any
 abbrev pub lower_of : Option ℕ → Option ℕ → Option ℕ
 lower_of None other = other
 lower_of (Some a) None = Some a

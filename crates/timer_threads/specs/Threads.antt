@@ -83,7 +83,7 @@ IsUnfinished desk all c =
     → IsWaiting (backlog_at desk c) (got_of (get_or desk.inlets c i)) (all_submitted e))
     ⊎ AllServed desk all
 
--- this client failed or is held back. None before it failed; and where the requests of each client could be
+-- this client failed or is held back. None before it failed; and if the requests of each client could be
 -- ended, each before it is served.
 pub record IsFirstClient (desk : DeskState RingInlet) (all : List Worked) (c : ℕ) : Type 0 where
   pub client : c < length all
