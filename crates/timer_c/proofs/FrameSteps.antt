@@ -12,12 +12,13 @@ use Rattle.timer_c.specs.Frames.{with_timers}
 abbrev pub holding : CTimers → OwnedCell → CTimers
 holding t slot = record t { slot = slot }
 
--- where the slot was only read
+-- if the slot was only read
 pub looked : (t : CTimers) (slot : OwnedCell) → slot ≡ t.slot → holding t slot ≡ with_timers t slot.state
 looked t slot e = ap (λ (s : OwnedCell). holding t (with_state s slot.state)) e
 
--- where the timers are what they were
-pub kept : (t : CTimers) (slot : OwnedCell) (state : WheelState) → slot ≡ t.slot → state ≡ slot.state → holding t (with_state slot state) ≡ t
+-- if the timers are what they were
+pub kept : (t : CTimers) (slot : OwnedCell) (state : WheelState) → slot ≡ t.slot → state ≡ slot.state
+    → holding t (with_state slot state) ≡ t
 kept t slot state e f = ap (λ (w : WheelState). holding t (with_state slot w)) f ∙ ap (holding t) e
 
 none_of : (t : Timer) → (Some t ≡ None) → ⊥
@@ -28,6 +29,6 @@ nothing_left : (w : WheelState) (due : List Entry) → first_due (record w { due
 nothing_left w [] e = refl
 nothing_left w (t ∷ due) e = absurd (none_of t.timer e)
 
--- where no timer is due, nothing changes
+-- if no timer is due, nothing changes
 pub none_taken : (w : WheelState) → first_due w ≡ None → after_expiry w ≡ w
 none_taken w e = nothing_left w w.due e

@@ -1,4 +1,3 @@
-pub mod RawBoxParts
 pub mod OwnedCellParts
 pub mod Batches
 pub mod FrameSteps

@@ -1,7 +1,6 @@
 -- A slot at its machine value. Assumes `Logic`.
---     T, Z, LZ, G      the timers' row; the row of the heap's handle, with its laws and its ghost members
+--     T                the row of what it holds
 --     P                a parked box of timers
---     word             a slot as it is stored: the address and the mark
 --     shut             a slot by value, made of what it owns at its mark
 use Rattle.std.proofs.Common.{ℕ, ◌<◌, ◌^◌, List, [], ◌∷◌, refl, w64}
 use seplogic.Ra.Ura.{Ura}
@@ -13,40 +12,25 @@ use denote.Builtin.{RawPtr, u64}
 use denote.Plain.{uint_Makes}
 use denote.RawPtr.{block_ptr}
 use denote.Steps.{nothing, owned}
-use denote.Param.Laws.{Laws}
 use denote.Struct.Struct.{within}
 use denote.Struct.Owning.{shape}
-use Rattle.core.specs.declared.alloc.Allocator.{Ghosts}
-use Rattle.std_heap.specs.contracts.Global as Heap
-use Rattle.std_heap.specs.contracts.GlobalAllocator.TheImpl.{ghosts}
-use Rattle.std_heap.proofs.Global.TheLaws as heap
-use Rattle.timer_c.specs.Slots.{owned_at, the_timers}
+use Rattle.timer_c.specs.Slots.{the_timers}
 use Rattle.timer_base.specs.WheelState.{WheelState}
 use Rattle.timer_c.specs.contracts.owned_cell.OwnedCell as slot
-use Rattle.timer_c.proofs.RawBoxParts.{two, RawBox}
+use Rattle.timer_ffi_base.specs.Cells.{owned_at}
+use Rattle.timer_ffi_base.proofs.RawBoxParts.{RawBox}
+use Rattle.timer_ffi_base.proofs.CellParts.{Z, LZ, G, word}
 
 abbrev pub T : RattleType
 T = the_timers
 
-abbrev pub Z : RattleType
-Z = Heap.the_row
-
-abbrev pub LZ : Laws Z
-LZ = heap.the_row_laws
-
-abbrev pub G : Ghosts Z.Denot
-G = ghosts
-
 abbrev pub P : RattleType
 P = RawBox T Z LZ G
-
-abbrev pub word : ℕ → ℕ → ℕ → Val
-word mark b o = two (vptr b o) (vint w64 mark)
 
 module _ {M : Type 1} {𝓤 : Ura M} {𝓛 : Logic 𝓤} {K : Type 0} {Γ : List (Item 𝓤)} {Goal' : Goal 𝓤 𝓛.H} where
   pub shut : K → (mark b o : ℕ) (s : WheelState) → mark < 2 ^ 64
       → Step K 𝓛 (‵ (slot.the_row.own_val (record { at = block_ptr b o; mark = mark; state = s }) (word mark b o ∷ [])) ∷ Γ) Goal'
-      (‵ (owned_at mark (block_ptr b o) s) ∷ Γ) Goal'
+      (‵ (owned_at T mark (block_ptr b o) s) ∷ Γ) Goal'
   shut t mark b o s small = step (λ rest.
       nothing t $ owned t u64 _ (uint_Makes 𝓛 w64) mark _ (refl, small) $ fjoin t $
       feq_i t (List Val) (vptr b o ∷ []) (vptr b o ∷ []) refl $ fjoin t $

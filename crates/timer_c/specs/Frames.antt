@@ -2,7 +2,7 @@
 use Rattle.std.specs.Prelude.{◌≡◌, true, false}
 use Rattle.timer_base.specs.WheelState.{WheelState}
 use Rattle.timer_c.specs.declared.c_timers.CTimers.{CTimers}
-use Rattle.timer_c.specs.Slots.{is_open}
+use Rattle.timer_ffi_base.specs.Cells.{is_open}
 
 -- it holds timers
 abbrev pub IsOpen : CTimers → Type 0

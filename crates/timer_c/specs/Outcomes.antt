@@ -127,7 +127,7 @@ IsSeen handle w out = told (held_at (named handle) w) ≡ Some out
 abbrev pub after_expiries : ℕ → WheelState → WheelState
 after_expiries count w = record w { due = drop count w.due }
 
--- the tick until which the caller may sleep: now where an expired timer waits, else one before which nothing
+-- the tick until which the caller may sleep: now if an expired timer waits, else one before which nothing
 -- expires
 abbrev pub IsNextCall : ℕ → WheelState → Type 0
 IsNextCall tick w =
@@ -135,7 +135,7 @@ IsNextCall tick w =
     ⊎ ((tick ≡ NEVER) × (w.due ≡ []) × (w.pending ≡ []))
     ⊎ ((w.due ≡ []) × IsWakeUp tick w)
 
--- the deadline of the timer that is taken next: now where an expired one waits, else the first pending one
+-- the deadline of the timer that is taken next: now if an expired one waits, else the first pending one
 abbrev pub IsNextDeadline : ℕ → WheelState → Type 0
 IsNextDeadline tick w =
     ((tick ≡ w.now) × (0 < length w.due))

@@ -7,7 +7,7 @@ use crate::owned_cell::OwnedCell;
 #[repr(C)]
 pub struct CTimers {
     pub slot: OwnedCell,
-    /// Where the slot is empty, the last serial of the timers that it held before, or 0 where there were
+    /// If the slot is empty, the last serial of the timers that it held before, or 0 if there were
     /// none: serials continue, so that no handle ever names a timer of a later `timers_new`.
     pub last_serial: u64,
 }

@@ -93,7 +93,8 @@ pub(crate) fn restart_at<W: Wheel + Drop>(
     action: u64,
     restarted: &mut Handle,
 ) -> u32
-    ensures restarted { result ≡ OK → IsRestartedAt handle deadline action timers.old timers.new restarted.new }
+    ensures restarted { result ≡ OK
+        → IsRestartedAt handle deadline action timers.old timers.new restarted.new }
     ensures refused { 0 < result → WhyNotRestarted handle (left_until deadline timers.old) timers.old result }
     ensures kept { 0 < result → (timers.new ≡ timers.old) × (restarted.new ≡ restarted.old) }
 {

@@ -1,7 +1,7 @@
-//! The functions that C calls. Each tests whether timers are held, and passes the call on.
+//! The functions that C calls. Each checks that `t` is open, then forwards the call.
 //!
-//! The contracts have the same parts: what the call did where it returns `OK`; the first reason that holds
-//! where it returns another status; that nothing changed then; and that nothing but the state of the timers
+//! The contracts have the same parts: what the call did if it returns `OK`; the first reason that holds
+//! if it returns another status; that nothing changed then; and that nothing but the state of the timers
 //! ever changes in what C holds.
 ghost use Rattle.std.specs.Prelude.{◌≡◌, ◌*◌, ◌<◌, ◌≤◌, ◌⊎◌, ◌↔◌, ◌++◌, true, false, Some, None, [], map, take, drop, length, min, IsTrue};
 ghost use Rattle.timer_base.specs.Pending.{timers_of};
@@ -15,9 +15,9 @@ use crate::c_timers::CTimers;
 use crate::calls;
 use crate::layout::{Counts, Expired, Handle};
 use crate::opening::wheel_of;
-use crate::raw_box::RawBox;
 use crate::status::{NEVER, NO_MEMORY, NOT_OPEN, OK, OPEN};
 use std::alloc::Global;
+use timer_ffi_base::RawBox;
 use timer_total::Timers;
 
 /// Makes timers with this table, none of them pending, at the first tick. `t` holds them until
@@ -47,7 +47,7 @@ pub extern "C" fn timers_new(alloc: Global, t: &mut CTimers, table: u32, first_t
     }
 }
 
-/// Frees the timers, where there are any, and keeps their last serial.
+/// Frees the timers, if there are any, and keeps their last serial.
 #[unsafe(no_mangle)]
 pub extern "C" fn timers_free(alloc: Global, t: &mut CTimers)
     ensures shut { IsShut t.new }
@@ -212,7 +212,7 @@ pub extern "C" fn timers_tick(t: &mut CTimers) -> u32
 }
 
 /// Passes at most `most` ticks, stops at the first at which a timer expires, and writes how many were
-/// passed: 0 only where `most` is 0.
+/// passed: 0 only if `most` is 0.
 #[unsafe(no_mangle)]
 pub extern "C" fn timers_advance(t: &mut CTimers, most: u64, passed: &mut u64) -> u32
     ensures advanced { result ≡ OK → IsOpen t.old × IsAdvanced most passed.new t.old.slot.state
@@ -272,7 +272,7 @@ pub extern "C" fn timers_has_due(t: &mut CTimers) -> bool
     t.slot.timers().has_due()
 }
 
-/// The present tick, or 0 where no timers are held.
+/// The present tick, or 0 if `t` is not open.
 #[unsafe(no_mangle)]
 pub extern "C" fn timers_now(t: &mut CTimers) -> u64
     ensures now { IsOpen t.old → result ≡ t.old.slot.state.now }
@@ -285,7 +285,7 @@ pub extern "C" fn timers_now(t: &mut CTimers) -> u64
     t.slot.timers().now()
 }
 
-/// How many timers are pending, or 0 where no timers are held. Expired timers that were not yet taken are
+/// How many timers are pending, or 0 if `t` is not open. Expired timers that were not yet taken are
 /// not counted.
 #[unsafe(no_mangle)]
 pub extern "C" fn timers_len(t: &mut CTimers) -> usize
@@ -299,8 +299,8 @@ pub extern "C" fn timers_len(t: &mut CTimers) -> usize
     t.slot.timers().len()
 }
 
-/// The tick until which C may sleep: the present one where an expired timer waits, `NEVER` where
-/// nothing is pending or no timers are held, and otherwise one before which nothing expires.
+/// The tick until which C may sleep: the present one if an expired timer waits, `NEVER` if
+/// nothing is pending or `t` is not open, and otherwise one before which nothing expires.
 #[unsafe(no_mangle)]
 pub extern "C" fn timers_wakeup(t: &mut CTimers) -> u64
     ensures tick { IsOpen t.old → IsNextCall result t.old.slot.state }

@@ -1,15 +1,14 @@
 //! The timers of timer_total over the hierarchy of wheels, for C: `include/timers.h` declares them.
 //!
 //! C keeps a `struct timers` (`CTimers`), which owns the timers on the heap. A call requires nothing of C but
-//! the rules of that header; where it can't be done it returns a status that says why, and nothing changes.
+//! the rules of that header; if it can't be done it returns a status that says why, and nothing changes.
 //!
-//!     exports    the functions that C calls: each tests whether timers are held, and passes the call on
+//!     exports    the functions that C calls: each checks that the struct is open, then forwards the call
 //!     calls      the calls over any wheel, with C's statuses and structs
 //!     opening    a wheel by C's number for its table
 //!     c_timers   `struct timers`: the slot, and the last serial while the slot is empty
-//!     owned_cell the slot: the two machine words by which it owns the timers on the heap; its four methods are
-//!                proved by hand
-//!     raw_box    a box as its address, on its way into the slot and out of it; its two methods are too
+//!     owned_cell the slot: the two machine words by which it owns the timers on the heap; its four methods
+//!                are proved by hand
 //!     layout     the structs of the header
 //!     status     the statuses of the header
 #![tactic(auto)]
@@ -20,7 +19,6 @@ mod exports;
 mod layout;
 mod opening;
 mod owned_cell;
-mod raw_box;
 mod status;
 
 pub use c_timers::CTimers;

@@ -1,16 +1,16 @@
 //! The two machine words by which C's struct owns the timers on the heap.
 //!
-//! All code that touches a raw pointer is here and in `raw_box`. A slot whose mark is `HELD` owns the
+//! All code that touches a raw pointer is here and in `RawBox`. A slot whose mark is `HELD` owns the
 //! timers at its address and the right to free their block; a slot with any other mark owns nothing,
 //! so that a struct whose bytes are all 0 is an empty slot. Its ghost field is the state of the timers.
 ghost use Rattle.std.specs.Prelude.{◌≡◌, true, false};
 ghost use Rattle.std.specs.Borrow.{Lends, sem};
 ghost use Rattle.timer_base.specs.WheelState.{WheelState};
-ghost use Rattle.timer_c.specs.Slots.{is_open};
+ghost use Rattle.timer_ffi_base.specs.Cells.{is_open};
 
-use crate::raw_box::RawBox;
 use std::alloc::Global;
 use std::marker::Model;
+use timer_ffi_base::RawBox;
 use timer_total::Timers;
 use timer_wheels::HierWheel;
 
@@ -26,9 +26,10 @@ pub struct OwnedCell {
 }
 
 impl Model for OwnedCell {
-    ghost use Rattle.timer_c.specs.Slots.{owned_at};
+    ghost use Rattle.timer_ffi_base.specs.Cells.{owned_at};
+    ghost use Rattle.timer_c.specs.Slots.{the_timers};
 
-    ghost also_owns = { λ s. owned_at s.mark s.at s.state };
+    ghost also_owns = { λ s. owned_at the_timers s.mark s.at s.state };
 }
 
 impl OwnedCell {
@@ -75,7 +76,8 @@ impl OwnedCell {
     /// Lends the timers. Their state at the end of the loan is the slot's state.
     pub(crate) fn timers(&mut self) -> &mut Timers<HierWheel>
         requires { is_open self.old.mark ≡ true }
-        ensures* writes_back { sem 𝓛 (Lends the_slot the_timers self.entry result (with_state self.entry.now)) }
+        ensures* writes_back { sem 𝓛 (Lends the_slot the_timers self.entry result
+            (with_state self.entry.now)) }
         ensures value { result.now ≡ self.old.state }
     {
         // The slot owns timers at this address, since its mark says so. They are lent no longer than the slot
@@ -84,5 +86,6 @@ impl OwnedCell {
     }
 }
 
-// The timers may go to another thread, and their block may be freed there (proofs/owned_cell/OwnedCell/TheSendSync).
+// The timers may go to another thread, and their block may be freed there
+// (proofs/owned_cell/OwnedCell/TheSendSync).
 unsafe impl Send for OwnedCell {}

@@ -422,46 +422,7 @@ pub HasRoom-ticked : (bs : List BacklogState) (f f' : FacilityView) → HasRoom 
     → HandsOver f.state (step f.state Tick 0) → f' ≡ view_after (step f.state Tick 0) → HasRoom bs f'
 HasRoom-ticked bs f f' room quiet hands e = HasRoom-handed bs f f' (step f.state Tick 0) room quiet hands e
 
-pub HasRoom-closed : (bs : List BacklogState) (f f' : FacilityView) (r : Result ℕ CloseFault) → HasRoom bs f → f.waiting ≡ []
-    → HandsOver f.state (step f.state Close 0) → HasClosed f f' r → HasRoom bs f'
-HasRoom-closed bs f f' (Ok count) room quiet hands h = HasRoom-handed bs f f' (step f.state Close 0) room quiet hands h.closed
-HasRoom-closed bs f f' (Err fault) room quiet hands h = subst (HasRoom bs) (sym h.unchanged) room
-
 -- How many notices there are.
-
-pub fewer_closed : (f f' : FacilityView) (r : Result ℕ CloseFault) → HandsOver f.state (step f.state Close 0) → HasClosed f f' r
-    → f.waiting ≡ []
-    → length f'.waiting + length f'.state.pending ≤ length f.state.pending
-fewer_closed f f' (Ok count) hands h quiet =
-    let all = hands.all in
-    let n : length (timers_handed (step f.state Close 0)) ≡ length (notices_in (step f.state Close 0).outs) =
-    length-timers (notices_in (step f.state Close 0).outs) in
-    let w : length f'.waiting ≡ length (notices_in (step f.state Close 0).outs) = ap (λ (v : FacilityView). length v.waiting) h.closed in
-    let p : length f'.state.pending ≡ length (step f.state Close 0).state.pending =
-    ap (λ (v : FacilityView). length v.state.pending) h.closed in
-    omega arith
-  where
-    length-timers : (ns : List Notice) → length (map timer_handed ns) ≡ length ns
-    length-timers [] = refl
-    length-timers (n ∷ ns) = ap suc (length-timers ns)
-fewer_closed f f' (Err fault) hands h quiet =
-    let w : length f'.waiting ≡ 0 = ap (λ (v : FacilityView). length v.waiting) h.unchanged ∙ ap (λ ns. length ns) quiet in
-    let p : length f'.state.pending ≡ length f.state.pending = ap (λ (v : FacilityView). length v.state.pending) h.unchanged in
-    omega arith
-
-pub fewer_ticked : (f f' : FacilityView) → HandsOver f.state (step f.state Tick 0) → f' ≡ view_after (step f.state Tick 0)
-    → length f'.waiting + length f'.state.pending ≡ length f.state.pending
-fewer_ticked f f' hands e =
-    let all = hands.all in
-    let n : length (timers_handed (step f.state Tick 0)) ≡ length (notices_in (step f.state Tick 0).outs) =
-    length-timers (notices_in (step f.state Tick 0).outs) in
-    let w : length f'.waiting ≡ length (notices_in (step f.state Tick 0).outs) = ap (λ (v : FacilityView). length v.waiting) e in
-    let p : length f'.state.pending ≡ length (step f.state Tick 0).state.pending = ap (λ (v : FacilityView). length v.state.pending) e in
-    omega arith
-  where
-    length-timers : (ns : List Notice) → length (map timer_handed ns) ≡ length ns
-    length-timers [] = refl
-    length-timers (n ∷ ns) = ap suc (length-timers ns)
 
 -- Whole calls.
 

@@ -24,13 +24,6 @@ flushed_joined : (c : ℕ) (r q : List Done) → flushed c (r ++ q) ≡ flushed 
 flushed_joined c [] q = omega arith
 flushed_joined c (d ∷ r) q = let n = flushed_joined c r q in omega arith
 
-fit_in_range : (n : ℕ) (last step : Step) → PassesTicks last → IsFit n last step → InRange n step
-fit_in_range n last (Steps.Serve c) p h = h
-fit_in_range n last Steps.Tick p h = tt
-fit_in_range n last (Steps.Ticks limit) p h = subst PassesTicks h p
-fit_in_range n last Steps.Close p h = tt
-fit_in_range n last (Steps.Flush c) p h = h
-
 fit_of_client : (n : ℕ) (last step : Step) → IsOfClient n step → IsFit n last step
 fit_of_client n last (Steps.Serve c) h = h
 fit_of_client n last Steps.Tick h = absurd h
@@ -83,9 +76,6 @@ ticks_in-append (x ∷ xs) ys = let n = ticks_in-append xs ys in omega arith
 
 turns_in-append : (r q : List Done) → turns_in (r ++ q) ≡ turns_in r + turns_in q
 turns_in-append r q = ap ticks_in (flat_map-append step_in r q) ∙ ticks_in-append (steps_of r) (steps_of q)
-
-pub All-in_range : (n : ℕ) (last : Step) (steps : List Step) → PassesTicks last → All (IsFit n last) steps → All (InRange n) steps
-All-in_range n last steps p h = λ k d l. fit_in_range n last (get_or steps k d) p (h k d l)
 
 -- a client for which something is left to do
 record OneLeft (goal : ℕ) (ps : List Progress) (p : Progress) : Type 0 where

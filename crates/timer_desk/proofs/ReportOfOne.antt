@@ -75,21 +75,6 @@ of_serve c served = record {
     same_client : (k : ℕ) (served : Served) → Dones.Served c served ≡ Dones.Served k NoMemory → c ≡ k
     same_client k served is = cc
 
-pub of_flush : (c count : ℕ) → IsOf c (Dones.Flushed c count)
-of_flush c count = record {
-  no_request = λ k h. refl;
-  no_word = λ k h. refl;
-  none_flushed = λ k h. ap (λ b. if b then count else 0) (not_same c k h);
-  same_held = λ k before h. refl;
-  is_right = λ k room len left pending h. tt;
-  no_serve = λ k h is. absurd (cc);
-  holds_here = λ m s a b t wants. same_held a.backlog.held b.backlog.held t.held_first t.none_held;
-  holds_there = λ m k s held h. refl;
-  no_close = λ s is. absurd (cc);
-  no_pass = λ s limit passed is. absurd (cc);
-  in_time = λ s t runs. (refl, runs.outs_are);
-}
-
 -- a member of another client says nothing of a side
 ClientAccount-other : (c k : ℕ) (done : Done) (a : Side) → IsOf c done → k ≢ c → HeldIsLast a → ClientAccount k (done ∷ []) a a
 ClientAccount-other c k done a o other last =
@@ -255,22 +240,3 @@ module _ {I : Type 0} (kind : LineKind I) where
           let no_words : length (words k (done ∷ [])) ≡ 0 = ap (λ xs. length (xs ++ [])) (o.no_word k other) in
           let none_went : flushed k (done ∷ []) ≡ 0 = let f0 = o.none_flushed k other in omega arith in
           record { served = o.is_right k _ _ _ _ other; needed = λ is. absurd (o.no_serve k other is); room = omega arith }
-
-  abbrev got_by : I → List Numbered
-  got_by i = (kind.state i).got
-
-  -- where the line of client c has got nothing more, no line has
-  pub got-one : (c : ℕ) (inlets : List I) (i i' : I) → c < length inlets → i ≡ get_or inlets c i → got_by i' ≡ got_by i → (k : ℕ) (j : I)
-      → got_by (get_or (slice_set inlets c i') k j) ≡ got_by (get_or inlets k j)
-  got-one c inlets i i' low is_i e k j = at (either (c == k))
-    where
-      at : (c == k) ≡ true ⊎ (c == k) ≡ false → got_by (get_or (slice_set inlets c i') k j) ≡ got_by (get_or inlets k j)
-      at (inl h) =
-          let is : k ≡ c = is_equal c k h in
-          ap (λ n. got_by (get_or (slice_set inlets c i') n j)) is ∙ ap got_by (get_or-set_same inlets c i' j low) ∙ e
-          ∙ ap got_by (is_i ∙ get_or_default inlets c i j low) ∙ ap (λ n. got_by (get_or inlets n j)) (sym is)
-      at (inr h) = ap got_by (get_or-set_other inlets c k i' j (is_other c k h))
-
-  -- writing an element back changes nothing
-  pub set-back : {X : Type 0} (xs : List X) (c : ℕ) (x x' : X) → x ≡ get_or xs c x → x' ≡ x → slice_set xs c x' ≡ xs
-  set-back xs c x x' is e = ap (λ y. slice_set xs c y) (e ∙ is) ∙ set-get_or xs c x

@@ -14,7 +14,7 @@ impl Counts {
         self.served = self.served.wrapping_add(1);
     }
 
-    /// Counts so many words more.
+    /// Counts `count` more words.
     pub fn add_words(&mut self, count: u64) {
         self.words = self.words.wrapping_add(count);
     }

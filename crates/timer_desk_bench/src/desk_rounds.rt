@@ -14,7 +14,7 @@ use timer_wheels::HierWheel;
 /// How many words an outbox has room for: as in a run of clients in threads.
 const ROOM: usize = 1024;
 
-/// A desk of so many clients, with so many requests in each of their lines.
+/// A desk of `clients` clients, with `each` requests in each of their lines.
 fn new_desk(alloc: Global, clients: u64, each: u64) -> Option<Desk<HierWheel, MemoryInlet>> {
     let facility = new_facility(alloc, clients).ok()?;
     let mut inlets = Vec::new(alloc);

@@ -13,7 +13,7 @@ use timer_facility::NotTaken;
 /// How many items a line has room for, each way: as in a run of clients in threads.
 const CAPACITY: usize = 64;
 
-/// After so many idle turns in all a side gives up.
+/// The idle turns, in all, after which a side gives up.
 const LIMIT: u64 = 1_000_000_000_000;
 
 /// So many requests, each answered before the next is sent.

@@ -24,7 +24,7 @@ pub fn request(j: u64) -> Numbered {
     }
 }
 
-/// The first so many requests of a client.
+/// The first `count` requests of a client.
 pub fn requests(alloc: Global, count: u64) -> Result<Vec<Numbered>, AllocError> {
     let mut all = Vec::new(alloc);
     for j in 1..=count {
@@ -33,7 +33,7 @@ pub fn requests(alloc: Global, count: u64) -> Result<Vec<Numbered>, AllocError> 
     Ok(all)
 }
 
-/// A facility of so many clients over a hierarchy of wheels, in which no timer is pending.
+/// A facility of `clients` clients over a hierarchy of wheels, in which no timer is pending.
 pub fn new_facility(alloc: Global, clients: u64) -> Result<Facility<HierWheel>, OutOfMemory>
     ensures clients { IfOk result (λ facility. length facility.state.numbers ≡ clients) }
     ensures pending { IfOk result (λ facility. facility.state.pending ≡ []) }

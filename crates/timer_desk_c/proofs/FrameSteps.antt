@@ -13,11 +13,11 @@ use Rattle.timer_desk_c.specs.Frames.{with_desk, with_line}
 abbrev pub holding : CDesk → DeskCell → CDesk
 holding d slot = record d { slot = slot }
 
--- where the slot was only read
+-- if the slot was only read
 pub looked : (d : CDesk) (slot : DeskCell) → slot ≡ d.slot → holding d slot ≡ with_desk d slot.state
 looked d slot e = ap (λ (s : DeskCell). holding d (desk.with_state s slot.state)) e
 
--- where the desk is what it was
+-- if the desk is what it was
 pub kept : (d : CDesk) (slot : DeskCell) (state : DeskState) → slot ≡ d.slot → state ≡ slot.state
     → holding d (desk.with_state slot state) ≡ d
 kept d slot state e f = ap (λ (w : DeskState). holding d (desk.with_state slot w)) f ∙ ap (holding d) e
@@ -25,11 +25,11 @@ kept d slot state e f = ap (λ (w : DeskState). holding d (desk.with_state slot 
 abbrev pub holding_line : CLine → LineCell → CLine
 holding_line l slot = record l { slot = slot }
 
--- where the slot was only read
+-- if the slot was only read
 pub looked_line : (l : CLine) (slot : LineCell) → slot ≡ l.slot → holding_line l slot ≡ with_line l slot.state
 looked_line l slot e = ap (λ (s : LineCell). holding_line l (line.with_state s slot.state)) e
 
--- where the line is what it was
+-- if the line is what it was
 pub kept_line : (l : CLine) (slot : LineCell) (state : LineState) → slot ≡ l.slot → state ≡ slot.state
     → holding_line l (line.with_state slot state) ≡ l
 kept_line l slot state e f = ap (λ (w : LineState). holding_line l (line.with_state slot w)) f ∙ ap (holding_line l) e

@@ -1,8 +1,7 @@
-pub mod RawBoxParts
 pub mod DeskParts
 pub mod LineParts
 pub mod FrameSteps
-pub mod MakingLemmas
+pub mod DeskMakerLemmas
 pub mod RoundLemmas
-pub mod PlacingLemmas
-pub mod EndingLemmas
+pub mod PlacementLemmas
+pub mod ShutdownLemmas

@@ -22,7 +22,7 @@ use Rattle.timer_desk.specs.Desk.{opened_desk, clients_of, ReportHolds, TakesNot
 use Rattle.timer_desk_c.specs.declared.layout.DeskConfig.{DeskConfig}
 use Rattle.timer_desk_c.specs.declared.c_structs.CLine.{CLine}
 use Rattle.timer_desk_c.specs.declared.line.Line.{Line}
-use Rattle.timer_desk_c.specs.declared.making.TheConstants.{MIN_LINE, MAX_LINE}
+use Rattle.timer_desk_c.specs.declared.desk_maker.TheConstants.{MIN_LINE, MAX_LINE}
 use Rattle.timer_desk_c.specs.declared.status.TheConstants.{OK, NO_MEMORY, IDLE, NO_ROOM, OUT_OF_RANGE, CLOSED, CLOCK_END, NO_CLIENT, NOT_FINISHED, OTHER_LINE, NEVER}
 use Rattle.timer_desk_c.specs.DeskSlots.{DeskState}
 use Rattle.timer_desk_c.specs.Frames.{HasLine, HasNoLine}
@@ -172,7 +172,7 @@ IsGivenAs client d l = (i : RingInlet) → (requests_ring_on l ≡ None)
 abbrev pub IsAsBefore : Line → Line → Type 0
 IsAsBefore old new = IsSameLine old new × SameTraffic old new
 
--- why no line was settled: the first that holds, where the line has this number
+-- why no line was settled: the first that holds, if the line has this number
 abbrev pub WhyNotSettled : ℕ → ℕ → DeskState → Line → ℕ → Type 0
 WhyNotSettled client number d l status =
     ((status ≡ NO_CLIENT) × (clients_of d ≤ client))

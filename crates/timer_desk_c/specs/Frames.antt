@@ -2,8 +2,9 @@
 use Rattle.std.specs.Prelude.{◌≡◌, true, false}
 use Rattle.timer_desk_c.specs.declared.c_structs.CDesk.{CDesk}
 use Rattle.timer_desk_c.specs.declared.c_structs.CLine.{CLine}
-use Rattle.timer_desk_c.specs.DeskSlots.{DeskState, is_open}
-use Rattle.timer_desk_c.specs.LineSlots.{LineState, is_open as is_open_slot}
+use Rattle.timer_desk_c.specs.DeskSlots.{DeskState}
+use Rattle.timer_desk_c.specs.LineSlots.{LineState}
+use Rattle.timer_ffi_base.specs.Cells.{is_open}
 
 -- it holds a desk
 abbrev pub IsOpen : CDesk → Type 0
@@ -19,11 +20,11 @@ with_desk d state = record d { slot = record d.slot { state = state } }
 
 -- it holds a line
 abbrev pub HasLine : CLine → Type 0
-HasLine l = is_open_slot l.slot.mark ≡ true
+HasLine l = is_open l.slot.mark ≡ true
 
 -- it holds none
 abbrev pub HasNoLine : CLine → Type 0
-HasNoLine l = is_open_slot l.slot.mark ≡ false
+HasNoLine l = is_open l.slot.mark ≡ false
 
 -- the same, with a line of this state
 abbrev pub with_line : CLine → LineState → CLine

@@ -6,8 +6,8 @@ pub mod LineSlots
 pub mod LineLent
 pub mod Frames
 pub mod Desks
-pub mod Advancing
+pub mod Ticks
 pub mod Rounds
 pub mod Serving
-pub mod Ending
-pub mod EndingAll
+pub mod Shutdown
+pub mod ShutdownAll

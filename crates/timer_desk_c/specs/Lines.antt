@@ -17,7 +17,7 @@ is_open_line (Open e) = true
 is_open_line (Finished ended r) = false
 is_open_line Gone = false
 
--- its ring of requests; none where it finished after the owner's end was dropped
+-- its ring of requests; none if it finished after the owner's end was dropped
 abbrev pub requests_ring_on : Line → Option Ring
 requests_ring_on (Open e) = Some (line_of_end e).0
 requests_ring_on (Finished (Some e) r) = Some (requests_ring_of e)
@@ -96,7 +96,7 @@ HasSent request old new number =
     (is_open_line old ≡ true) × (number ≡ next_on old) × (number ≤ LAST) × (next_on new ≡ number + 1)
     × (submitted_on new ≡ submitted_on old ++ numbered number request ∷ [])
 
--- why no request was sent: `LINE_FULL` only where no slot is known to be free
+-- why no request was sent: `LINE_FULL` only if no slot is known to be free
 abbrev pub WhyNotSent : Line → Line → ℕ → Type 0
 WhyNotSent old new status =
     ((status ≡ FINISHED) × (is_open_line old ≡ false))
@@ -117,7 +117,7 @@ IsReadToEnd l = (is_ended_line l ≡ true) × (unread_on l ≡ [])
 abbrev pub MayReceive : Line → Type 0
 MayReceive l = (is_ended_line l ≡ false) ⊎ (0 < length (unread_on l))
 
--- The requests have ended. The line has no ring of requests afterwards only where the owner's end was
+-- The requests have ended. The line has no ring of requests afterwards only if the owner's end was
 -- dropped, and else all that was submitted is known.
 abbrev pub HasFinished : Line → Line → Type 0
 HasFinished old new =

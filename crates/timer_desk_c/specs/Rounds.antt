@@ -92,7 +92,7 @@ IsFlush (Dones.Closed result) = ⊥
 IsFlush (Dones.Noticed notice) = ⊥
 IsFlush (Dones.Flushed client count) = Unit {0}
 
--- at most so many requests of client c were done, and fewer only where a serve of it did none
+-- at most so many requests of client c were done, and fewer only if a serve of it did none
 pub record IsServedOut (c most : ℕ) (report : List Done) : Type 0 where
   pub at_most : length (asked c report) ≤ most
   pub through : (length (asked c report) ≡ most) ⊎ (list_any (served_none c) report ≡ true)

@@ -12,22 +12,22 @@ ghost use Rattle.timer_desk.specs.Shutdown.{KeepsLines};
 ghost use Rattle.timer_desk_c.specs.Frames.{IsOpen, IsShut, with_desk, HasLine, HasNoLine, with_line};
 ghost use Rattle.timer_desk_c.specs.Desks.{IsFit, IsMade, AllEmpty, IsOneHeld, WhyNotMade, HasServed, HasTicked, HasClosed, IsNextTick, IsSettled, IsGivenAs, IsAsBefore, WhyNotSettled};
 ghost use Rattle.timer_desk_c.specs.Rounds.{HasServedAll, HasFlushedAll};
-ghost use Rattle.timer_desk_c.specs.Advancing.{HasAdvanced, WhyNotAdvanced, HasFlushed};
-ghost use Rattle.timer_desk_c.specs.Ending.{IsTied, OnlySettles, HasEnded, WhyNotEnded};
-ghost use Rattle.timer_desk_c.specs.EndingAll.{AreTied, OnlyStates, AllTried, AllEnded, WhyNotAllEnded};
+ghost use Rattle.timer_desk_c.specs.Ticks.{HasAdvanced, WhyNotAdvanced, HasFlushed};
+ghost use Rattle.timer_desk_c.specs.Shutdown.{IsTied, OnlySettles, HasEnded, WhyNotEnded};
+ghost use Rattle.timer_desk_c.specs.ShutdownAll.{AreTied, OnlyStates, AllTried, AllEnded, WhyNotAllEnded};
 ghost use Rattle.timer_desk_c.specs.declared.status.TheConstants.{OK, NOT_OPEN, OPEN, NO_CLIENT, LEFT, NEVER};
 
 use crate::c_structs::{CDesk, CLine};
-use crate::ending::end;
-use crate::ending_all::end_all;
+use crate::desk_maker::{Made, make};
 use crate::layout::DeskConfig;
-use crate::making::{Made, make};
-use crate::placing::{are_empty, place};
-use crate::raw_box::RawBox;
-use crate::settling::settle;
+use crate::placement::{are_empty, place};
+use crate::settlement::settle;
+use crate::shutdown::end;
+use crate::shutdown_all::end_all;
 use crate::status::{NEVER, NOT_OPEN, OK, OPEN};
-use crate::{advancing, calls, rounds};
+use crate::{calls, rounds, ticks};
 use std::alloc::Global;
+use timer_ffi_base::RawBox;
 
 /// Makes a desk with a client for each of `lines`, which hold the clients' ends from then on.
 #[unsafe(no_mangle)]
@@ -143,7 +143,7 @@ pub extern "C" fn timers_desk_advance(d: &mut CDesk, most: u64, passed: &mut u64
     if !d.slot.holds() {
         return NOT_OPEN;
     }
-    advancing::advance(d.slot.desk(), most, passed)
+    ticks::advance(d.slot.desk(), most, passed)
 }
 
 /// Moves words from a client's outbox into its line, as many as it takes, and returns how many.
@@ -158,7 +158,7 @@ pub extern "C" fn timers_desk_flush(d: &mut CDesk, client: usize) -> usize
     if !d.slot.holds() {
         return 0;
     }
-    advancing::flush(d.slot.desk(), client)
+    ticks::flush(d.slot.desk(), client)
 }
 
 /// Closes the facility: each pending timer is returned to its client, and no request is accepted from then
@@ -301,7 +301,7 @@ pub extern "C" fn timers_desk_end(
 ///
 /// Returns `OK` if the words of all have ended. Otherwise it returns the reason of the first client for which
 /// they have not, as `timers_desk_end` does, and writes its number. The others have ended if they could. A
-/// line that was freed is passed over: nobody waits for its words.
+/// line that was freed is skipped: no client waits for its words.
 #[unsafe(no_mangle)]
 pub extern "C" fn timers_desk_end_all(d: &mut CDesk, lines: &mut [CLine], client: &mut usize) -> u32
     requires lines { IsOpen d.old → length lines.old ≡ clients_of d.old.slot.state

@@ -6,34 +6,32 @@
 //!
 //!     desk_exports   the owner's calls: each tests whether a desk is held, and passes the call on
 //!     line_exports   a client's calls, the same for its line
-//!     calls, rounds, advancing, settling, ending, ending_all    what they do to a desk, with C's statuses
+//!     calls, rounds, ticks, settlement, shutdown, shutdown_all    what they do to a desk, with C's statuses
 //!     line           a client's end, before and after it has finished
 //!     messages       words as C's struct
-//!     making, placing    a new desk, and its lines put into C's structs
+//!     desk_maker, placement    a new desk, and its lines put into C's structs
 //!     c_structs      the two structs
-//!     desk_cell, line_cell, raw_box    the machine words by which they own something on the heap, proved by
-//!                                      hand
+//!     desk_cell, line_cell    the machine words by which they own something on the heap, proved by hand
 //!     layout, status    the other structs and the numbers of the header
 #![tactic(auto)]
 
-mod advancing;
 mod c_structs;
 mod calls;
 mod desk_cell;
 mod desk_exports;
-mod ending;
-mod ending_all;
+mod desk_maker;
 mod layout;
 mod line;
 mod line_cell;
 mod line_exports;
-mod making;
 mod messages;
-mod placing;
-mod raw_box;
+mod placement;
 mod rounds;
-mod settling;
+mod settlement;
+mod shutdown;
+mod shutdown_all;
 mod status;
+mod ticks;
 
 pub use c_structs::{CDesk, CLine};
 pub use desk_cell::DeskCell;

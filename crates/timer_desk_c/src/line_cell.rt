@@ -1,16 +1,17 @@
 //! The two machine words by which C's struct owns a line on the heap.
 //!
-//! All code that touches a raw pointer is in the two cells and in `raw_box`. A slot whose mark is `HELD` owns
+//! All code that touches a raw pointer is in the two cells and in `RawBox`. A slot whose mark is `HELD` owns
 //! what is at its address and the right to free its block; a slot with any other mark owns nothing, so that a
 //! struct whose bytes are all 0 is an empty slot. Its ghost field is the state of a line.
 ghost use Rattle.std.specs.Prelude.{◌≡◌, true, false};
 ghost use Rattle.std.specs.Borrow.{Lends, sem};
-ghost use Rattle.timer_desk_c.specs.LineSlots.{LineState, is_open};
+ghost use Rattle.timer_desk_c.specs.LineSlots.{LineState};
+ghost use Rattle.timer_ffi_base.specs.Cells.{is_open};
 
 use crate::line::Line;
-use crate::raw_box::RawBox;
 use std::alloc::Global;
 use std::marker::Model;
+use timer_ffi_base::RawBox;
 
 /// The mark of a slot that holds a line.
 pub const HELD: u64 = 1;
@@ -24,9 +25,10 @@ pub struct LineCell {
 }
 
 impl Model for LineCell {
-    ghost use Rattle.timer_desk_c.specs.LineSlots.{owned_at};
+    ghost use Rattle.timer_ffi_base.specs.Cells.{owned_at};
+    ghost use Rattle.timer_desk_c.specs.LineSlots.{the_line};
 
-    ghost also_owns = { λ s. owned_at s.mark s.at s.state };
+    ghost also_owns = { λ s. owned_at the_line s.mark s.at s.state };
 }
 
 impl LineCell {

@@ -28,7 +28,7 @@ pub enum By {
 /// How many words an outbox has room for.
 const ROOM: usize = 4;
 
-/// A desk of so many clients over these lines, at the second try if the first is refused.
+/// A desk with a client for each of these lines, at the second try if the first is refused.
 pub fn open<I: Inlet + Drop>(alloc: Global, inlets: Vec<I>) -> Result<Desk<HierWheel, I>, Fault> {
     let wheel = hier(alloc, Table::Wide)?;
     let clients = inlets.len();
@@ -167,7 +167,7 @@ fn close<I: Inlet + Drop>(desk: &mut Desk<HierWheel, I>, by: By) -> Result<u64, 
     Err(Fault::RefusedTwice)
 }
 
-/// Puts so many words of the client into its line, all that its outbox has: at the second try if a put is
+/// Puts `wanted` words of the client into its line, all that its outbox has: at the second try if a put is
 /// refused for memory.
 fn flush<I: Inlet + Drop>(
     desk: &mut Desk<HierWheel, I>,

@@ -144,7 +144,7 @@ fn see_handed<W: Wheel + Drop>(
 /// How many timers a facility with room may hold.
 const ROOM: u64 = 1000;
 
-/// Makes room for all timers, at the second try if the first is refused, and starts so many of them.
+/// Makes room for all timers, at the second try if the first is refused, and starts `starts` of them.
 pub fn start_with_room<W: Wheel + Drop>(alloc: Global, wheel: W, starts: u64) -> Result<(), Fault>
     requires pending { (W.state wheel).pending ≡ [] }
     requires due { (W.state wheel).due ≡ [] }

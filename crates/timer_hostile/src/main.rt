@@ -1,23 +1,23 @@
-//! Fault-injection scenarios: each goes on after a refused allocation. And handles that name nothing.
+//! Fault-injection scenarios: each survives a refused allocation. And handles that name no timer.
 //!
 //!     timer_hostile           plays each scenario, and prints its name
 //!     timer_hostile NAME      plays the one with this name
 //!
 //! A scenario makes a call that may run out of memory a second time if the first was refused, sees that
-//! the refusal changed nothing (a drive: no more than it may), and goes on. So it ends in the same way
+//! the refusal changed nothing (a drive: no more than it may), and carries on. So it ends in the same way
 //! whichever allocation is refused: tools/refused_growths plays it with the first one refused, then with the
 //! second, and so on to the last. The exit status is 1 if an allocation of the scenario's own was refused,
 //! and 2 if a call did something else.
 #![tactic(auto)]
 
 mod desks;
-mod driven;
+mod drives;
 mod facilities;
 mod fault;
 mod handles;
 mod lines;
-mod linked;
-mod played;
+mod links;
+mod plays;
 mod scenario;
 mod texts;
 mod wheels;

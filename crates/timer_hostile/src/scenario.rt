@@ -1,12 +1,12 @@
 //! The scenarios under their names.
 use crate::desks::{By, close_in_memory, close_over_locks, close_over_rings, hold_over_tick};
-use crate::driven::drive_two;
+use crate::drives::drive_two;
 use crate::facilities::{start_and_close, start_with_room};
 use crate::fault::Fault;
 use crate::handles::use_strange_handles;
 use crate::lines::{use_locked_line, use_memory_line, use_ring_line};
-use crate::linked::push_a_hundred;
-use crate::played::{CLOSE, MIGRATION, Row, STOP_MIDDLE, play_row};
+use crate::links::push_a_hundred;
+use crate::plays::{CLOSE, MIGRATION, Row, STOP_MIDDLE, play_row};
 use crate::texts::write_text_of_outs;
 use crate::wheels::{hashed, hier, list_a_few, plain, start_a_hundred};
 use std::alloc::Global;
@@ -24,7 +24,7 @@ pub enum Kind {
 /// What is played.
 #[derive(Clone, Copy)]
 pub enum Scenario {
-    /// A hundred pushes to so many lists.
+    /// A hundred pushes to this number of lists.
     Pushes(usize),
     Starts(Kind),
     Lists(Kind),

@@ -47,7 +47,7 @@ fn gates(alloc: Global, clients: usize, run: u64) -> Result<Vec<Chance>, AllocEr
     Ok(gates)
 }
 
-/// Makes so many runs, and returns whether each came to its end.
+/// Makes `runs` runs, and returns whether each was completed.
 fn soak(
     rt: &(impl AllocGlobal + Threads + Print + Eprint),
     clients: usize,

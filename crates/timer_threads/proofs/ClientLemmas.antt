@@ -17,7 +17,7 @@ use Rattle.timer_desk.specs.declared.ring.RequestsEnded.{RequestsEnded}
 use Rattle.timer_desk.specs.Ring.{line_of_end, next_of, submitted, received_by_end, numbered, all_submitted, read_by}
 use Rattle.timer_facility.specs.declared.request.Request.TheVariants.{Start}
 use Rattle.timer_threads.specs.declared.client.Client.{Client}
-use Rattle.timer_threads.specs.declared.worked.Worked.{Worked}
+use Rattle.timer_threads.specs.declared.outcome.Worked.{Worked}
 use Rattle.timer_threads.specs.Work.{HasWorked, request_of, requests_from, started_in, expired_in, started_by, expired_by, follows, AreAscending, ArePassed, IsStopped}
 use Rattle.timer_threads.specs.Client.{is_next_start, passes, AreChecked, IsAtWork, IsSound, is_complete}
 
@@ -139,7 +139,7 @@ other_fails first count ws w more was now =
     let a = more.long in let b = more.starts in let c = more.expiries in let d = was.each in let e = now.each
     in absurd (omega (arith, a, b, c, d, e))
 
--- where a word is tested, it and those before it are checked
+-- if a word is tested, it and those before it are checked
 checked_by : (passed : Bool) (first count : ℕ) (ws : List Word) (w : Word) → ArePassed first count ws
     → (passed ≡ true → ArePassed first count (ws ++ w ∷ [])) → (passed ≡ false → ¬ (ArePassed first count (ws ++ w ∷ [])))
     → AreChecked (not passed) first count (ws ++ w ∷ [])

@@ -11,7 +11,7 @@ use Rattle.timer_desk.specs.Shutdown.{AreEndsOf, AreReadersOf, AllGot, AllReadOu
 use Rattle.timer_desk.specs.declared.driver.DriveEnd.{DriveEnd}
 use Rattle.timer_desk.specs.declared.driver.DriveEnd.TheVariants as DriveEnds
 use Rattle.timer_threads.specs.declared.fault.ThreadsFault.{ThreadsFault}
-use Rattle.timer_threads.specs.declared.worked.Worked.{Worked}
+use Rattle.timer_threads.specs.declared.outcome.Worked.{Worked}
 use Rattle.timer_threads.specs.Results.{has_failed, NoneFailed, AllEnded, IsFirstFailed, lower_of, AreUnzipped}
 use Rattle.timer_threads.specs.Threads.{AreOfLines, AllRead, NoneUnread, IsServed, AllServed, IsWoundUp, IsUnfinished, IsFirstClient, IsFirstFault, fault_of}
 use Rattle.timer_threads.proofs.ResultsLemmas.{unzipped_lengths, unzipped_at, ended_at, reader_at, all_ended}
@@ -229,7 +229,7 @@ first_fault_is desk outcome all failed held fault is memory some none low wound 
         )
     go DriveEnds.OutOfMemory None e h m = absurd (m refl)
 
--- where there is no fault, no client failed or is held back, and the drive is done
+-- if there is no fault, no client failed or is held back, and the drive is done
 pub no_fault : (outcome : DriveEnd) (failed held : Option ℕ) → None ≡ fault_of outcome (lower_of failed held)
     → (failed ≡ None) × (held ≡ None) × (outcome ≡ DriveEnds.Done)
 no_fault outcome failed held is = go outcome (lower_of failed held) refl is
@@ -243,7 +243,7 @@ no_fault outcome failed held is = go outcome (lower_of failed held) refl is
     go DriveEnds.Limit None e h = absurd (cc)
     go DriveEnds.OutOfMemory None e h = absurd (cc)
 
--- the desk was wound up, where the requests of each client could be ended and none is held back
+-- the desk was wound up, if the requests of each client could be ended and none is held back
 pub wound_by : {X : Type 0} (es : X → List RequestsEnded) (rs : X
     → List ClientReader) (desk : DeskState RingInlet) (all : List Worked) (parts : Option X)
     → AreOfLines desk.inlets all → (IsNone parts → ¬ (AllEnded all)) → IfSome parts (λ p. AreUnzipped all (es p) (rs p))

@@ -3,7 +3,7 @@ use Rattle.std.proofs.Common.{◌≡◌, ◌<◌, ◌++◌, ◌||◌, ℕ, zero,
 use Rattle.std.specs.Prelude.{Option, Some, None, is_none}
 use Rattle.timer_desk.specs.declared.ring.RequestsEnded.{RequestsEnded}
 use Rattle.timer_desk.specs.declared.ring.ClientReader.{ClientReader}
-use Rattle.timer_threads.specs.declared.worked.Worked.{Worked}
+use Rattle.timer_threads.specs.declared.outcome.Worked.{Worked}
 use Rattle.timer_threads.specs.Results.{NoneFailed, AllEnded, AreUnzipped}
 
 pub AreUnzipped-more : (ws : List Worked) (es : List RequestsEnded) (rs : List ClientReader) (w : Worked) (e : RequestsEnded)
@@ -76,19 +76,3 @@ or_false true b h = absurd (cc)
 
 pub all_ended : (all : List Worked) → NoneFailed all → AllEnded all
 all_ended all good k w l = or_false (get_or all k w).failed (is_none (get_or all k w).ended) (good k w l)
-
-pub missing_is_not_ended : (ws more all : List Worked) (w : Worked) → ws ++ w ∷ more ≡ all → w.ended ≡ None → ¬ (AllEnded all)
-missing_is_not_ended ws more all w is none ended =
-    let at : get_or all (length ws) w ≡ w = ap (λ xs. get_or xs (length ws) w) (sym is) ∙ at_end ws in
-    let missing : is_none w.ended ≡ true = ap is_none none in
-    let low : length ws < length all = subst (λ xs. length ws < length xs) is (shorter ws) in
-    let was : is_none w.ended ≡ false = ap (λ v. is_none v.ended) (sym at) ∙ ended (length ws) w low in
-    absurd (let clash : true ≡ false = sym missing ∙ was in cc)
-  where
-    at_end : (xs : List Worked) → get_or (xs ++ w ∷ more) (length xs) w ≡ w
-    at_end [] = refl
-    at_end (x ∷ xs) = at_end xs
-
-    shorter : (xs : List Worked) → length xs < length (xs ++ w ∷ more)
-    shorter [] = omega arith
-    shorter (x ∷ xs) = let h = shorter xs in omega (arith, h)

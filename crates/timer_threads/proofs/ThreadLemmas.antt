@@ -9,7 +9,7 @@ use Rattle.timer_desk.specs.Desk.{DeskState}
 use Rattle.timer_threads.specs.declared.child.Child.{Child}
 use Rattle.timer_threads.specs.declared.fault.ThreadsFault.{ThreadsFault}
 use Rattle.timer_threads.specs.declared.fault.ThreadsFault.TheVariants as Faults
-use Rattle.timer_threads.specs.declared.worked.Worked.{Worked}
+use Rattle.timer_threads.specs.declared.outcome.Worked.{Worked}
 use Rattle.timer_threads.specs.Children.{promise_of, HaveLeft}
 use Rattle.timer_threads.specs.Work.{IsOfLine, IsWhole}
 use Rattle.timer_threads.specs.Results.{NoneFailed}
@@ -88,13 +88,6 @@ left_as_many (c ∷ cs) (v ∷ vs) h = ap suc (left_as_many cs vs h.2)
 abbrev pub LeadsTo : List Child → List Child → List Worked → Type 0
 LeadsTo children rest so_far = (more : List Worked) → HaveLeft rest more → HaveLeft children (so_far ++ more)
 
-pub leads_on : (children rest rest' : List Child) (so_far : List Worked) (c : Child) (w : Worked) → LeadsTo children rest so_far
-    → rest ≡ c ∷ rest'
-    → IsOfLine (line_of_end (promise_of c).end.value) w → IsWhole (promise_of c).count w → LeadsTo children rest' (so_far ++ w ∷ [])
-leads_on children rest rest' so_far c w leads is line whole more h =
-    subst (λ xs. HaveLeft children xs) (sym (append_assoc so_far (w ∷ []) more))
-    (leads (w ∷ more) (subst (λ cs. HaveLeft cs (w ∷ more)) (sym is) (line, whole, h)))
-
 pub leads_end : (children rest : List Child) (all : List Worked) → LeadsTo children rest all → rest ≡ [] → HaveLeft children all
 leads_end children rest all leads none =
     subst (λ xs. HaveLeft children xs) (append-nil all) (leads [] (subst (λ cs. HaveLeft cs []) (sym none) tt))
@@ -139,7 +132,7 @@ not_failed : (a b : Bool) → a || b ≡ false → a ≡ false
 not_failed true b h = h
 not_failed false b h = refl
 
--- where none failed, the text is that of whole clients
+-- if none failed, the text is that of whole clients
 pub clients_text-whole : (n timers : ℕ) (ws : List Worked) → AllWhole timers ws → NoneFailed ws
     → clients_text n ws ≡ whole_lines n (length ws) timers
 clients_text-whole n timers [] a f = refl

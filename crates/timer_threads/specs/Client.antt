@@ -61,7 +61,7 @@ abbrev pub left_of : Client → ℕ
 left_of c = (c.count - c.sent) + (if c.failed then 0 else
     (1 + ((c.count - c.started) + (c.count - c.expired))))
 
--- less is left where something was done, and never more
+-- less is left if something was done, and never more
 abbrev pub IsLess : Bool → ℕ → ℕ → Type 0
 IsLess true before after = after < before
 IsLess false before after = after ≤ before

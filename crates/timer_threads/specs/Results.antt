@@ -2,7 +2,7 @@
 use Rattle.std.specs.Prelude.{◌≡◌, ◌<◌, ◌||◌, ℕ, Bool, true, false, List, [], ◌∷◌, length, get_or, min, Option, Some, None, is_none}
 use Rattle.timer_desk.specs.declared.ring.RequestsEnded.{RequestsEnded}
 use Rattle.timer_desk.specs.declared.ring.ClientReader.{ClientReader}
-use Rattle.timer_threads.specs.declared.worked.Worked.{Worked}
+use Rattle.timer_threads.specs.declared.outcome.Worked.{Worked}
 
 -- a check failed, the client reached its limit, or its requests could not be ended
 abbrev pub has_failed : Worked → Bool
@@ -22,7 +22,7 @@ pub record IsFirstFailed (all : List Worked) (c : ℕ) : Type 0 where
   pub failed : (w : Worked) → has_failed (get_or all c w) ≡ true
   pub others : (k : ℕ) (w : Worked) → k < c → has_failed (get_or all k w) ≡ false
 
--- the lower of two numbers, where there are any
+-- the lower of two numbers, if there are any
 abbrev pub lower_of : Option ℕ → Option ℕ → Option ℕ
 lower_of None other = other
 lower_of (Some a) None = Some a

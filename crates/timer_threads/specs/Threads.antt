@@ -11,7 +11,7 @@ use Rattle.timer_desk.specs.Ring.{line_of_end, line_of_inlet, got_of, given_of, 
 use Rattle.timer_threads.specs.declared.child.Child.{Child}
 use Rattle.timer_threads.specs.declared.fault.ThreadsFault.{ThreadsFault}
 use Rattle.timer_threads.specs.declared.fault.ThreadsFault.TheVariants as Faults
-use Rattle.timer_threads.specs.declared.worked.Worked.{Worked}
+use Rattle.timer_threads.specs.declared.outcome.Worked.{Worked}
 use Rattle.timer_threads.specs.Children.{promise_of}
 use Rattle.timer_threads.specs.Work.{IsOfLine, IsWhole}
 use Rattle.timer_threads.specs.Results.{has_failed, NoneFailed, AllEnded}
@@ -83,7 +83,7 @@ IsUnfinished desk all c =
     → IsWaiting (backlog_at desk c) (got_of (get_or desk.inlets c i)) (all_submitted e))
     ⊎ AllServed desk all
 
--- this client failed or is held back. None before it failed; and where the requests of each client could be
+-- this client failed or is held back. None before it failed; and if the requests of each client could be
 -- ended, each before it is served.
 pub record IsFirstClient (desk : DeskState RingInlet) (all : List Worked) (c : ℕ) : Type 0 where
   pub client : c < length all

@@ -13,7 +13,7 @@ use Rattle.timer_desk.specs.declared.word.Word.{Word}
 use Rattle.timer_desk.specs.declared.word.Word.TheVariants as Words
 use Rattle.timer_desk.specs.declared.ring.ClientEnd.{ClientEnd}
 use Rattle.timer_desk.specs.Ring.{Line, line_of_end, next_of, numbered, submitted, received_by_end, all_submitted, requests_ring_of, words_ring_of_reader, read_by}
-use Rattle.timer_threads.specs.declared.worked.Worked.{Worked}
+use Rattle.timer_threads.specs.declared.outcome.Worked.{Worked}
 
 -- What is sent.
 
@@ -55,12 +55,12 @@ started_by words = flat_map started_in words
 abbrev pub expired_by : List Word → List Timer
 expired_by words = flat_map expired_in words
 
--- the timer is handed out after this one, where there is one
+-- the timer is handed out after this one, if there is one
 abbrev pub follows : Option Timer → Timer → Bool
 follows None t = true
 follows (Some earlier) t = is_before earlier t
 
--- each timer is handed out after the one before it, and the first after this one, where there is one
+-- each timer is handed out after the one before it, and the first after this one, if there is one
 abbrev pub AreAscending : Option Timer → List Timer → Type 0
 AreAscending earlier [] = Unit {0}
 AreAscending earlier (t ∷ ts) = (follows earlier t ≡ true) × AreAscending (Some t) ts
@@ -98,7 +98,7 @@ IsShort count w = (w.sent < count) ⊎ ((w.started < count) ⊎ (w.expired < cou
 pub record HasWorked (count : ℕ) (start : ClientEnd) (w : Worked) : Type 0 where
   pub sent : IfSome w.ended (λ e. all_submitted e ≡ submitted start ++ requests_from (next_of start) w.sent)
   pub most : w.sent ≤ count
-  -- the end when the work ended, also where nothing is left of it since the owner's end was dropped
+  -- the end when the work ended, also when nothing is left of it since the owner's end was dropped
   pub last : ClientEnd
   pub same_line : line_of_end last ≡ line_of_end start
   pub next : next_of last ≡ next_of start + w.sent
@@ -112,7 +112,7 @@ pub record HasWorked (count : ℕ) (start : ClientEnd) (w : Worked) : Type 0 whe
   pub failed : w.failed ≡ true → IsStopped (next_of start) count words
       ⊎ (ArePassed (next_of start) count words × IsShort count w)
 
--- where nothing failed, all requests were sent, and as many timers started and expired
+-- if nothing failed, all requests were sent, and as many timers started and expired
 pub record IsWhole (count : ℕ) (w : Worked) : Type 0 where
   pub sent : w.failed ≡ false → w.sent ≡ count
   pub started : w.failed ≡ false → w.started ≡ count

@@ -10,9 +10,9 @@ ghost use Rattle.timer_threads.specs.Children.{promise_of};
 ghost use Rattle.timer_threads.specs.Work.{IsOfLine, IsWhole};
 
 use crate::gate::Gate;
+use crate::outcome::Worked;
 use crate::promise::Finishes;
 use crate::work::client_work;
-use crate::worked::Worked;
 use std::snapshot::Snapshot;
 use std::thread;
 use std::thread::{PromisedHandle, Threads};

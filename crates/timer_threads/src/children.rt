@@ -5,7 +5,7 @@
 ghost use Rattle.std.specs.Prelude.{◌≡◌, ◌<◌, ◌≤◌, [], ◌∷◌, ◌++◌, length, vec_len, vec_capacity, IfOk};
 
 use crate::child::Child;
-use crate::worked::Worked;
+use crate::outcome::Worked;
 use std::alloc::{AllocError, Global};
 use std::thread::Threads;
 
@@ -21,7 +21,7 @@ pub struct Children {
 impl Children {
     ghost use Rattle.timer_threads.specs.Children.{threads_of, room_of, HaveLeft};
 
-    /// No threads, and room for so many.
+    /// No threads, and room for `capacity` of them.
     pub fn with_capacity(alloc: Global, capacity: usize) -> Result<Children, AllocError>
         ensures none { IfOk result (λ children. threads_of children ≡ []) }
         ensures room { IfOk result (λ children. capacity ≤ room_of children) }

@@ -10,7 +10,7 @@ ghost use Rattle.timer_desk.specs.declared.ring.ClientEnd.{ClientEnd};
 ghost use Rattle.timer_threads.specs.Work.{started_in, expired_in, follows, IsOfLine, HasWorked};
 
 use crate::gate::Gate;
-use crate::worked::Worked;
+use crate::outcome::Worked;
 use timer_base::Timer;
 use timer_desk::{ClientEnd, Word};
 use timer_facility::{Answer, Notice, Request};

@@ -3,7 +3,7 @@ ghost use Rattle.std.specs.Prelude.{◌≡◌, ◌+◌, ◌≤◌, ◌↔◌, tr
 
 /// Asked before each submit.
 pub trait Gate {
-    /// Whether the request with this number may go, if so many timers have expired.
+    /// Whether the request with this number may go, once `expired` timers have expired.
     fn may_send(&mut self, number: u64, expired: u64) -> bool;
 }
 

@@ -1,11 +1,11 @@
 //! The postcondition of a client's thread.
-use crate::worked::Worked;
+use crate::outcome::Worked;
 use std::snapshot::Snapshot;
 use std::thread::Promise;
 use timer_desk::ClientEnd;
 
-/// What is given back is of the line of this end; and if nothing failed, so many requests were
-/// sent, and as many timers started and expired.
+/// Postcondition of a client's thread: its result is of the line of this end; and if nothing failed, `count`
+/// requests were sent, and as many timers started and expired.
 #[derive(Drop)]
 pub struct Finishes {
     pub end: Snapshot<ClientEnd>,

@@ -2,7 +2,7 @@
 ghost use Rattle.std.specs.Prelude.{◌≡◌, IfOk, IfSome, IsNone};
 ghost use Rattle.timer_threads.specs.Results.{NoneFailed, AllEnded, IsFirstFailed, lower_of, AreUnzipped};
 
-use crate::worked::Worked;
+use crate::outcome::Worked;
 use std::alloc::Global;
 use timer_base::OutOfMemory;
 use timer_desk::{ClientReader, RequestsEnded};

@@ -3,8 +3,8 @@
 //!     a thread for each client     its end of a ring line     client_work
 //!     the caller's thread          the desk                   drive
 //!
-//! Once all threads are joined, each line is settled and the desk ends. What a thread gives back is
-//! of its own line: that is the promise that it is started with, and the condition of settling.
+//! Once all threads are joined, each line is settled and the desk ends. A thread's result is of its own line:
+//! each thread is started with that promise, and a line can't be settled without it.
 ghost use Rattle.std.specs.Prelude.{◌≡◌, ◌<◌, ◌≤◌, [], length, true, IfOk, IfErr, vec_len};
 ghost use Rattle.timer_base.specs.declared.limits.TheConstants.{LAST};
 ghost use Rattle.timer_threads.specs.Children.{threads_of};
@@ -12,9 +12,9 @@ ghost use Rattle.timer_threads.specs.Threads.{AreTied, IsAmong, whole_text};
 
 use crate::child::Child;
 use crate::children::Children;
-use crate::ending::end_all;
 use crate::fault::ThreadsFault;
 use crate::gate::Gate;
+use crate::shutdown::end_all;
 use std::alloc::Global;
 use std::thread::Threads;
 use timer_base::OutOfMemory;
@@ -39,7 +39,7 @@ struct Clients {
     all: bool,
 }
 
-/// A facility of so many clients, in which no timer is pending.
+/// A facility of `clients` clients, in which no timer is pending.
 fn new_facility(alloc: Global, clients: u64) -> Result<Facility<HierWheel>, OutOfMemory>
     ensures clients { IfOk result (λ facility. length facility.state.numbers ≡ clients) }
     ensures pending { IfOk result (λ facility. facility.state.pending ≡ []) }
@@ -105,7 +105,7 @@ fn start_all<G: Gate + Drop + Send + 'static>(
     })
 }
 
-/// Runs a client for each gate in a thread of its own, with so many timers, beside a desk that is
+/// Runs a client for each gate in a thread of its own, with `timers` timers, beside a desk that is
 /// driven here, and returns the text of the clients' counts. Each side gives up after `limit` turns in
 /// a row in which it passed nothing on.
 ///

@@ -5,7 +5,7 @@
 ghost use Rattle.std.specs.Prelude.{◌≡◌, ◌++◌, ℕ, length, codes, decimal, IfOk, OnOk};
 ghost use Rattle.timer_threads.specs.Threads.{client_line, clients_text};
 
-use crate::worked::Worked;
+use crate::outcome::Worked;
 use itoa::Buffer;
 use std::alloc::Global;
 use timer_base::OutOfMemory;

@@ -6,7 +6,7 @@ ghost use Rattle.timer_threads.specs.Work.{IsOfLine, HasWorked};
 
 use crate::client::Client;
 use crate::gate::Gate;
-use crate::worked::Worked;
+use crate::outcome::Worked;
 use std::thread;
 use timer_desk::ClientEnd;
 

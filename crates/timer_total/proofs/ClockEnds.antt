@@ -1,4 +1,4 @@
--- Why the clock does not advance, where it is at its end.
+-- Why the clock does not advance, if it is at its end.
 use Rattle.std.proofs.Common.{ℕ, ◌≡◌, [], refl, sym, ◌∙◌, ap, inr}
 use Rattle.timer_base.specs.WheelState.{WheelState, IsWellFormed}
 use Rattle.timer_total.specs.declared.fault.TickFault.TheVariants as tick

@@ -1,4 +1,4 @@
--- Why a call is refused, and the timer that a start adds where it is not.
+-- Why a call is refused, and the timer that an accepted start adds.
 use Rattle.std.specs.Prelude.{ℕ, ◌≡◌, ◌+◌, ◌-◌, ◌<◌, ◌≤◌, ◌⊎◌, [], length, Option, Some, None, IsSome}
 use Rattle.timer_base.specs.declared.limits.TheConstants.{LAST}
 use Rattle.timer_base.specs.declared.timer.Timer.{Timer}
@@ -21,7 +21,7 @@ next_timer interval action w = record {
   action = action;
 }
 
--- how many ticks are left until this one, 0 where it is not after now
+-- how many ticks are left until this one, 0 if it is not after now
 abbrev pub left_until : ℕ → WheelState → ℕ
 left_until deadline w = deadline - w.now
 
@@ -35,7 +35,7 @@ timer_due deadline action w = record {
   action = action;
 }
 
--- a timer with this interval may be started where memory is available
+-- a timer with this interval may be started if memory is available
 abbrev pub IsStartable : ℕ → WheelState → Type 0
 IsStartable interval w = (0 < interval) × (w.now + interval ≤ w.last_tick) × (w.last_serial < LAST)
 
@@ -51,7 +51,7 @@ WhyNotStarted interval w fault =
     ⊎ ((fault ≡ start.SerialsSpent) × (0 < interval) × (w.now + interval ≤ w.last_tick)
     × (LAST ≤ w.last_serial))
 
--- a pending timer, or where there is none a due one
+-- a pending timer, or if there is none a due one
 abbrev pub first_found : Option Timer → Option Timer → Option Timer
 first_found None due = due
 first_found (Some t) due = Some t

@@ -1,4 +1,4 @@
--- Several ticks at once, where the last serial is counted beside the wheel.
+-- Several ticks at once. The last serial is counted beside the wheel.
 use Rattle.std.proofs.Common.{ℕ, zero, suc, ◌≡◌, ◌+◌, ◌-◌, ◌<◌, ◌≤◌, ◌⊎◌, inl, inr, List, [], ◌∷◌, length, refl, ap, ◌∙◌, sym, subst, arith}
 use Rattle.std.specs.Prelude.{min}
 use Rattle.std.specs.List.{AllByRecursion}
@@ -17,7 +17,7 @@ pub record Passes (most passed : ℕ) (old new : WheelState) : Type 0 where
   pub some : 0 < most → 0 < passed
   pub ticked : new ≡ after_ticks passed old
   pub quiet : (n : ℕ) → n < passed → (after_ticks n old).due ≡ []
-  -- it stops early only where something is due, or the clock is at its end
+  -- it stops early only if something is due, or the clock is at its end
   pub early : passed < most → (0 < length new.due) ⊎ (new.now ≡ new.last_tick)
 
 -- ticks use no serial
@@ -26,7 +26,7 @@ pub after_ticks-numbered : (n serial : ℕ) (w : WheelState)
 after_ticks-numbered zero serial w = refl
 after_ticks-numbered (suc n) serial w = ap after_tick (after_ticks-numbered n serial w)
 
--- no tick is passed where none is asked for
+-- no tick is passed if none is asked for
 pub passes_none : (most : ℕ) (w : WheelState) → most ≡ 0 → Passes most 0 w w
 passes_none most w e = record {
   at_most = omega arith;
@@ -36,7 +36,7 @@ passes_none most w e = record {
   early = λ h. absurd (omega arith);
 }
 
--- the clock is at its end where all that was left of it was passed
+-- the clock is at its end if all that was left of it was passed
 at_the_end : (passed : ℕ) (old new : WheelState) → new ≡ after_ticks passed old
     → passed ≡ old.last_tick - old.now
     → old.now ≤ old.last_tick → new.now ≡ new.last_tick

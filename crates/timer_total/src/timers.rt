@@ -74,7 +74,7 @@ impl<W: Wheel + Drop> Timers<W> {
         self.last_serial
     }
 
-    /// A tick until which nothing expires, or None exactly where nothing is pending. It is after the
+    /// A tick until which nothing expires, or None exactly if nothing is pending. It is after the
     /// present tick and at most the first pending deadline.
     pub fn quiet_until(&self) -> Option<u64>
         ensures { IsQuietUntil result self.now }
@@ -122,7 +122,7 @@ impl<W: Wheel + Drop> Timers<W> {
         }
     }
 
-    /// Whether a start with this interval is accepted where memory is available.
+    /// Whether a start with this interval is accepted if memory is available.
     fn admit(&self, interval: u64) -> Result<(), StartFault>
         ensures in_order { IfOk result (λ _. IsStartable interval self.now) }
         ensures fault { IfErr result (WhyNotStarted interval self.now) }
@@ -290,7 +290,7 @@ impl<W: Wheel + Drop> Timers<W> {
     }
 
     /// Passes at most `most` ticks, stops at the first at which a timer expires, and returns how many
-    /// were passed: 0 only where `most` is 0.
+    /// were passed: 0 only if `most` is 0.
     ///
     /// Stretches in which nothing expires are skipped, as far as the wheel can skip them.
     pub fn advance(&mut self, most: u64) -> Result<u64, TickFault>

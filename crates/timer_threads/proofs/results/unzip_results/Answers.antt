@@ -1,6 +1,6 @@
 use Rattle.std.proofs.Common.{◌≡◌, List, length, subst, refl, arith}
 use Rattle.std.proofs.lemmas.Grind.{common_steps}
-use Rattle.timer_threads.specs.declared.worked.Worked.{Worked}
+use Rattle.timer_threads.specs.declared.outcome.Worked.{Worked}
 use Rattle.timer_threads.specs.Results.{AreUnzipped}
 use Rattle.timer_threads.proofs.ResultsLemmas.{AreUnzipped-more, unzipped_none, nothing_left, one_less}
 use Rattle.timer_threads.proofs.results.unzip_results.Goals as goal

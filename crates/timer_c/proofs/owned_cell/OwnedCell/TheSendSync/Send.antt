@@ -14,13 +14,14 @@ use Rattle.timer_wheels.specs.contracts.hier.HierWheel as hier
 use Rattle.timer_wheels.specs.contracts.hier.HierWheelWheel.TheImpl as wheel
 use Rattle.timer_wheels.proofs.hier.HierWheel.TheSendSync as hier'
 use Rattle.timer_total.proofs.timers.Timers.TheSendSync as timers'
-use Rattle.timer_c.specs.Slots.{is_open, owned_if, heap, the_timers}
+use Rattle.timer_ffi_base.specs.Cells.{is_open, owned_if, heap}
+use Rattle.timer_c.specs.Slots.{the_timers}
 use Rattle.timer_c.specs.contracts.owned_cell.OwnedCell.{the_row, the_type}
 
 timers_send : IsSend the_timers
 timers_send = timers'.the_send hier.the_row wheel.ghosts hier'.the_send
 
-keyless : (held : Bool) (at : Ptr) (state : WheelState) → Keyless (owned_if held at state)
+keyless : (held : Bool) (at : Ptr) (state : WheelState) → Keyless (owned_if the_timers held at state)
 keyless true at state = (lies the_timers timers_send at state, free.frees.frees heap (raw (lone the_timers.mir)) at)
 keyless false at state = tt
 

@@ -23,11 +23,12 @@ use denote.Steps.{nothing, opens, closes, peeks}
 use denote.Triple.Walked.{Stays, walk_of, stay_dropped, Goes-dropped, stay_ref, Goes-ref, ends_at}
 use Rattle.core.proofs.mem.Facts.{says_two}
 use Rattle.std.proofs.raw_atomic.Walks.{proved_at}
-use Rattle.timer_c.specs.Slots.{is_open}
+use Rattle.timer_ffi_base.specs.Cells.{is_open}
 use Rattle.timer_c.specs.contracts.owned_cell.OwnedCell.{the_row as S}
 use Rattle.timer_c.proofs.owned_cell.OwnedCell.TheLaws.{lowers}
-use Rattle.timer_c.proofs.RawBoxParts.{two, fits_first, unpack}
-use Rattle.timer_c.proofs.OwnedCellParts.{T, Z, LZ, G, P, word, shut}
+use Rattle.timer_ffi_base.proofs.RawBoxParts.{two, fits_first, unpack}
+use Rattle.timer_ffi_base.proofs.CellParts.{Z, LZ, G, word}
+use Rattle.timer_c.proofs.OwnedCellParts.{T, P, shut}
 use Rattle.timer_c.specs.contracts.owned_cell.OwnedCell.put as f
 use Rattle.timer_c.proofs.owned_cell.OwnedCell.put.Statement.{statement}
 use Rattle.timer_c.proofs.owned_cell.OwnedCell.put.Code as code

@@ -25,11 +25,12 @@ use Rattle.core.proofs.mem.Facts.{says_two}
 use Rattle.std.proofs.raw_atomic.Walks.{proved}
 use Rattle.std.specs.Box.Ownership.{box_owns}
 use Rattle.std_heap.proofs.Handle.{heap_val, heap_Tells}
-use Rattle.timer_c.specs.Slots.{is_open, owned_if, token}
+use Rattle.timer_ffi_base.specs.Cells.{is_open, owned_if, token}
 use Rattle.timer_c.specs.contracts.owned_cell.OwnedCell.{the_row as S}
 use Rattle.timer_c.proofs.owned_cell.OwnedCell.TheLaws.{lowers}
-use Rattle.timer_c.proofs.RawBoxParts.{two, fits_first, pack}
-use Rattle.timer_c.proofs.OwnedCellParts.{T, Z, LZ, G, word, shut}
+use Rattle.timer_ffi_base.proofs.RawBoxParts.{two, fits_first, pack}
+use Rattle.timer_ffi_base.proofs.CellParts.{Z, LZ, G, word}
+use Rattle.timer_c.proofs.OwnedCellParts.{T, shut}
 use Rattle.timer_c.specs.contracts.owned_cell.OwnedCell.take as f
 use Rattle.timer_c.proofs.owned_cell.OwnedCell.take.Statement.{statement}
 use Rattle.timer_c.proofs.owned_cell.OwnedCell.take.Code as code
@@ -54,7 +55,7 @@ take_spec 𝓤 𝓛 𝓜 𝓡 wired =
     -- [self; the token; the allocator]: open self, which owns timers since its mark says so
     enter ! _ _ _ _ _ $ alloc_all ! (λ l. pass_all ! refl ((tt, tt), (fits, tt)) $
     fsplit3 ! $ move ! (1 ∷ 2 ∷ 3 ∷ []) $ opens ! tt S b o (λ us. move ! (1 ∷ []) $ peeks ! S _ (shows 𝓛 S) s us (λ is. fsplit ! $ drop ! $
-    rewrite ! 0 (λ (x : Bool). ‵ (owned_if x s.at s.state)) opened refl $
+    rewrite ! 0 (λ (x : Bool). ‵ (owned_if T x s.at s.state)) opened refl $
     in_a_block ! s.at (λ p. box_owns token T p s.state) (fst∗ 𝓤 (never 𝓤) (sem 𝓛 (token (bare (lone T.mir)) null_ptr))) (λ b' o' at_b.
     -- [the timers with their block; the slot's cell; the open borrow, in three entries; self's first part; the allocator]
     let stored = lowers.val_is s us is ∙ ap (λ (p : Ptr). lowers.lowered (record s { at = p }) ∷ []) at_b in

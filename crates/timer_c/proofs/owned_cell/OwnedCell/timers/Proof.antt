@@ -29,7 +29,8 @@ use denote.Triple.Walked.{says, Stays, stay_dropped, walk_of, ends_at, Goes-spen
 use Rattle.std.proofs.raw_atomic.Walks.{proved}
 use Rattle.std.proofs.VecSteps.Shapes.{after}
 use Rattle.std.specs.Box.Ownership.{box_owns}
-use Rattle.timer_c.specs.Slots.{is_open, owned_if, the_timers, token}
+use Rattle.timer_ffi_base.specs.Cells.{is_open, owned_if, token}
+use Rattle.timer_c.specs.Slots.{the_timers}
 use Rattle.timer_base.specs.WheelState.{WheelState}
 use Rattle.timer_c.specs.Lent.{with_state}
 use Rattle.timer_c.specs.contracts.owned_cell.OwnedCell as slot
@@ -60,7 +61,7 @@ module _ {M : Type 1} {𝓤 : Ura M} (𝓛 : Logic 𝓤) (s : S.Denot) (b o b' o
       -- [the timers; the right to free; the words; the cell]
       move ! (1 ∷ []) $ fsplit ! $ fsplit ! $ move ! (3 ∷ 0 ∷ []) $ fjoin ! $
       rewrite ! 0 (λ (p : Ptr). ‵ (box_owns token the_timers p w)) (sym at_b) refl $
-      rewrite ! 0 (λ (x : Bool). ‵ (owned_if x s.at w)) (sym opened) refl $
+      rewrite ! 0 (λ (x : Bool). ‵ (owned_if the_timers x s.at w)) (sym opened) refl $
       move ! (1 ∷ 0 ∷ []) $ fjoin ! $ move ! (1 ∷ 0 ∷ []) $ fjoin ! $
       fpack ! (List Val) (λ vs. fsep (cell_at full_share S.mir vs b o) (S.own_val (with_state s w) vs)) us $ done !
 
@@ -79,7 +80,7 @@ timers_spec 𝓤 𝓛 𝓜 𝓡 wired =
     -- [self; the token]: open self, which owns timers since its mark says so
     fsplit3 ! $ move ! (1 ∷ 2 ∷ 3 ∷ []) $ opens ! tt S b o (λ us.
     move ! (1 ∷ []) $ peeks ! S _ (shows 𝓛 S) s us (λ is. fsplit ! $ move ! (1 ∷ []) $
-    rewrite ! 0 (λ (x : Bool). ‵ (owned_if x s.at s.state)) opened refl $
+    rewrite ! 0 (λ (x : Bool). ‵ (owned_if the_timers x s.at s.state)) opened refl $
     in_a_block ! s.at (λ p. box_owns token the_timers p s.state) (fst∗ 𝓤 (never 𝓤) (sem 𝓛 (token (bare (lone the_timers.mir)) null_ptr)))
     (λ b' o' at_b. fsplit ! $
     -- [the timers; the right to free; the words; the cell; the open borrow, in three entries]

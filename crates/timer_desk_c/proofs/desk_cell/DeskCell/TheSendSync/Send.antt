@@ -16,13 +16,14 @@ use Rattle.timer_desk.specs.contracts.ring.RingInlet as ring
 use Rattle.timer_desk.specs.contracts.ring.RingInletInlet.TheImpl as inlet
 use Rattle.timer_desk.proofs.ring.RingInlet.TheSendSync as ring'
 use Rattle.timer_desk.proofs.desk.Desk.TheSendSync as desk'
-use Rattle.timer_desk_c.specs.DeskSlots.{is_open, owned_if, heap, the_desk, DeskState}
+use Rattle.timer_ffi_base.specs.Cells.{is_open, owned_if, heap}
+use Rattle.timer_desk_c.specs.DeskSlots.{the_desk, DeskState}
 use Rattle.timer_desk_c.specs.contracts.desk_cell.DeskCell.{the_row, the_type}
 
 desk_send : IsSend the_desk
 desk_send = desk'.the_send hier.the_row ring.the_row wheel.ghosts inlet.ghosts hier'.the_send ring'.the_send
 
-keyless : (held : Bool) (at : Ptr) (state : DeskState) → Keyless (owned_if held at state)
+keyless : (held : Bool) (at : Ptr) (state : DeskState) → Keyless (owned_if the_desk held at state)
 keyless true at state = (lies the_desk desk_send at state, free.frees.frees heap (raw (lone the_desk.mir)) at)
 keyless false at state = tt
 

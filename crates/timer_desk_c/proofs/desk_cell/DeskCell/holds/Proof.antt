@@ -16,7 +16,7 @@ use denote.Steps.{nothing, opens, closes, peeks}
 use denote.Triple.Walked.{Stays, walk_of, stay_ref, Goes-ref, ends_at}
 use Rattle.core.proofs.mem.Facts.{says_two}
 use Rattle.std.proofs.raw_atomic.Walks.{proved}
-use Rattle.timer_desk_c.specs.DeskSlots.{is_open}
+use Rattle.timer_ffi_base.specs.Cells.{is_open}
 use Rattle.timer_desk_c.specs.contracts.desk_cell.DeskCell.{the_row as S}
 use Rattle.timer_desk_c.proofs.desk_cell.DeskCell.TheLaws.{lowers, the_row_laws}
 use Rattle.timer_desk_c.specs.contracts.desk_cell.DeskCell.holds as f

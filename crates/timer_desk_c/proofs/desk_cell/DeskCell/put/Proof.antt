@@ -23,11 +23,12 @@ use denote.Steps.{nothing, opens, closes, peeks}
 use denote.Triple.Walked.{Stays, walk_of, stay_dropped, Goes-dropped, stay_ref, Goes-ref, ends_at}
 use Rattle.core.proofs.mem.Facts.{says_two}
 use Rattle.std.proofs.raw_atomic.Walks.{proved_at}
-use Rattle.timer_desk_c.specs.DeskSlots.{is_open}
+use Rattle.timer_ffi_base.specs.Cells.{is_open}
 use Rattle.timer_desk_c.specs.contracts.desk_cell.DeskCell.{the_row as S}
 use Rattle.timer_desk_c.proofs.desk_cell.DeskCell.TheLaws.{lowers}
-use Rattle.timer_desk_c.proofs.RawBoxParts.{two, fits_first, unpack}
-use Rattle.timer_desk_c.proofs.DeskParts.{T, Z, LZ, G, P, word, shut}
+use Rattle.timer_ffi_base.proofs.RawBoxParts.{two, fits_first, unpack}
+use Rattle.timer_ffi_base.proofs.CellParts.{Z, LZ, G, word}
+use Rattle.timer_desk_c.proofs.DeskParts.{T, P, shut}
 use Rattle.timer_desk_c.specs.contracts.desk_cell.DeskCell.put as f
 use Rattle.timer_desk_c.proofs.desk_cell.DeskCell.put.Statement.{statement}
 use Rattle.timer_desk_c.proofs.desk_cell.DeskCell.put.Code as code

@@ -10,13 +10,14 @@ use denote.Param.Send.{IsSend, AllSend, owning_send, struct_send, sendable}
 use Rattle.std.proofs.Crossing as free
 use Rattle.std_alloc.proofs.SendSync.{quiet, lies}
 use Rattle.timer_desk_c.proofs.line.Line.TheSendSync as line'
-use Rattle.timer_desk_c.specs.LineSlots.{is_open, owned_if, heap, the_line, LineState}
+use Rattle.timer_ffi_base.specs.Cells.{is_open, owned_if, heap}
+use Rattle.timer_desk_c.specs.LineSlots.{the_line, LineState}
 use Rattle.timer_desk_c.specs.contracts.line_cell.LineCell.{the_row, the_type}
 
 line_send : IsSend the_line
 line_send = line'.the_send
 
-keyless : (held : Bool) (at : Ptr) (state : LineState) → Keyless (owned_if held at state)
+keyless : (held : Bool) (at : Ptr) (state : LineState) → Keyless (owned_if the_line held at state)
 keyless true at state = (lies the_line line_send at state, free.frees.frees heap (raw (lone the_line.mir)) at)
 keyless false at state = tt
 

@@ -23,11 +23,12 @@ use denote.Steps.{nothing, opens, closes, peeks}
 use denote.Triple.Walked.{Stays, walk_of, stay_dropped, Goes-dropped, stay_ref, Goes-ref, ends_at}
 use Rattle.core.proofs.mem.Facts.{says_two}
 use Rattle.std.proofs.raw_atomic.Walks.{proved_at}
-use Rattle.timer_desk_c.specs.LineSlots.{is_open}
+use Rattle.timer_ffi_base.specs.Cells.{is_open}
 use Rattle.timer_desk_c.specs.contracts.line_cell.LineCell.{the_row as S}
 use Rattle.timer_desk_c.proofs.line_cell.LineCell.TheLaws.{lowers}
-use Rattle.timer_desk_c.proofs.RawBoxParts.{two, fits_first, unpack}
-use Rattle.timer_desk_c.proofs.LineParts.{T, Z, LZ, G, P, word, shut}
+use Rattle.timer_ffi_base.proofs.RawBoxParts.{two, fits_first, unpack}
+use Rattle.timer_ffi_base.proofs.CellParts.{Z, LZ, G, word}
+use Rattle.timer_desk_c.proofs.LineParts.{T, P, shut}
 use Rattle.timer_desk_c.specs.contracts.line_cell.LineCell.put as f
 use Rattle.timer_desk_c.proofs.line_cell.LineCell.put.Statement.{statement}
 use Rattle.timer_desk_c.proofs.line_cell.LineCell.put.Code as code

@@ -1,0 +1,19 @@
+use Rattle.std.proofs.Common.{◌≡◌, ◌∙◌, ap, sym, subst}
+use Rattle.timer_desk_c.specs.declared.line.Line.{Line}
+use Rattle.timer_desk_c.specs.declared.line_cell.LineCell.{LineCell}
+use Rattle.timer_desk_c.specs.Desks.{IsAsBefore}
+use Rattle.timer_desk_c.specs.Shutdown.{WhyNotEnded}
+use Rattle.timer_desk_c.proofs.FrameSteps.{looked_line}
+use Rattle.timer_desk_c.proofs.shutdown_all.end_held.Goals as goal
+
+pub returns-then-not-holds-clause-only : goal.returns-then-not-holds-clause-only
+returns-then-not-holds-clause-only g c = looked_line c.args.line.now c.holds.new.self c.holds.ensures.same
+
+pub returns-clause-left : goal.returns-clause-left
+returns-clause-left g c = λ refused.
+    let old = c.args.line.now in
+    let same : c.line.result.now ≡ old.slot.state = c.line.ensures.value ∙ ap (λ (s : LineCell). s.state) c.holds.ensures.same in record {
+      held = sym c.holds.ensures.value ∙ c.if-not-holds.false;
+      why = subst (λ (l : Line). WhyNotEnded c.args.client old.client c.args.desk.now l c.end.result) same (c.end.ensures.refused refused);
+      as_before = subst (λ (l : Line). IsAsBefore l c.end.new.line) same (c.end.ensures.kept refused).1;
+    }

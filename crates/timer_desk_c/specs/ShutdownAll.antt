@@ -1,0 +1,69 @@
+-- The end of every client's words at the owner's desk.
+use Rattle.std.specs.Prelude.{ℕ, ◌≡◌, ◌≢◌, ◌<◌, ◌⊎◌, List, length, get_or}
+use Rattle.timer_desk.specs.declared.ring.RingInlet.{RingInlet}
+use Rattle.timer_desk.specs.Desk.{clients_of}
+use Rattle.timer_desk_c.specs.declared.c_structs.CLine.{CLine}
+use Rattle.timer_desk_c.specs.declared.status.TheConstants.{LEFT, OUT_OF_RANGE}
+use Rattle.timer_desk_c.specs.DeskSlots.{DeskState}
+use Rattle.timer_desk_c.specs.Frames.{HasLine, HasNoLine, with_line}
+use Rattle.timer_desk_c.specs.Lines.{unread_on}
+use Rattle.timer_desk_c.specs.Desks.{IsAsBefore}
+use Rattle.timer_desk_c.specs.Shutdown.{IsTied, HasEnded, WhyNotEnded}
+
+-- each of C's lines that is held, and has the number of its index, is of that client of the desk
+abbrev pub AreTied : DeskState → List CLine → Type 0
+AreTied d lines = (c : ℕ) (x : CLine) → c < clients_of d → HasLine (get_or lines c x)
+    → (get_or lines c x).client ≡ c → IsTied c d (get_or lines c x).slot.state
+
+-- nothing of C's lines but their states has changed
+pub record OnlyStates (old new : List CLine) : Type 0 where
+  pub as_many : length new ≡ length old
+  pub only : (c : ℕ) (x : CLine) → c < length old
+      → get_or new c x ≡ with_line (get_or old c x) (get_or new c x).slot.state
+
+-- C's line is held and the client's, and its words have ended
+pub record IsEndedAt (c : ℕ) (d : DeskState) (old new : CLine) : Type 0 where
+  pub held : HasLine old
+  pub number : old.client ≡ c
+  pub ended : HasEnded c (length (unread_on new.slot.state)) d old.slot.state new.slot.state
+
+-- C's line holds none, as one that was freed, so that nobody reads the client's words; or these have ended
+abbrev pub IsOverAt : ℕ → DeskState → CLine → CLine → Type 0
+IsOverAt c d old new = HasNoLine old ⊎ IsEndedAt c d old new
+
+-- this is why the words of C's line were not ended, and the line is as it was
+pub record IsLeftAt (c status : ℕ) (d : DeskState) (old new : CLine) : Type 0 where
+  pub held : HasLine old
+  pub why : WhyNotEnded c old.client d old.slot.state status
+  pub as_before : IsAsBefore old.slot.state new.slot.state
+
+-- for some reason its words were not ended, and the line is as it was; so is the owner's end of it in the
+-- desk d', unless something of the client is left
+pub record IsKeptAt (c : ℕ) (d d' : DeskState) (old new : CLine) : Type 0 where
+  pub status : ℕ
+  pub refused : 0 < status
+  pub left : IsLeftAt c status d old new
+  pub same_inlet : status ≢ LEFT → (i : RingInlet) → get_or d'.inlets c i ≡ get_or d.inlets c i
+
+-- each client has no line, or its words have ended, or else there is a reason and its line is as it was; the
+-- desk is d before and d' after
+abbrev pub AllTried : DeskState → DeskState → List CLine → List CLine → Type 0
+AllTried d d' old new = (c : ℕ) (x : CLine) → c < clients_of d
+    → IsOverAt c d (get_or old c x) (get_or new c x) ⊎ IsKeptAt c d d' (get_or old c x) (get_or new c x)
+
+-- there is one of C's lines for each client, and the words of all that hold a line have ended
+pub record AllEnded (d : DeskState) (old new : List CLine) : Type 0 where
+  pub as_many : length old ≡ clients_of d
+  pub each : (c : ℕ) (x : CLine) → c < clients_of d → IsOverAt c d (get_or old c x) (get_or new c x)
+
+-- each client before this one has no line, or its words have ended; and this is why its own have not
+pub record IsFirstLeft (client status : ℕ) (d : DeskState) (old new : List CLine) : Type 0 where
+  pub as_many : length old ≡ clients_of d
+  pub client_in_range : client < clients_of d
+  pub before : (c : ℕ) (x : CLine) → c < client → IsOverAt c d (get_or old c x) (get_or new c x)
+  pub left : (x : CLine) → IsLeftAt client status d (get_or old client x) (get_or new client x)
+
+-- why the words of not all clients have ended: the first that holds
+abbrev pub WhyNotAllEnded : ℕ → ℕ → DeskState → List CLine → List CLine → Type 0
+WhyNotAllEnded client status d old new =
+    ((status ≡ OUT_OF_RANGE) × (length old ≢ clients_of d)) ⊎ IsFirstLeft client status d old new

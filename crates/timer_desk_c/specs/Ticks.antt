@@ -1,0 +1,34 @@
+-- Many ticks of the owner's desk, and the flush of one client.
+use Rattle.std.specs.Prelude.{ℕ, ◌≡◌, ◌⊎◌, [], ◌∷◌, Some, get_or}
+use Rattle.timer_facility.specs.declared.request.TickFault.TheVariants as TickFaults
+use Rattle.timer_facility.specs.State.{FacilityState}
+use Rattle.timer_facility.specs.Verdict.{tick_refusal}
+use Rattle.timer_desk.specs.declared.report.Done.TheVariants as Dones
+use Rattle.timer_desk.specs.declared.ring.RingInlet.{RingInlet}
+use Rattle.timer_desk.specs.Ring.{free_of_inlet, ring_lines}
+use Rattle.timer_desk.specs.Desk.{backlog_at}
+use Rattle.timer_desk.specs.Flush.{Flushes}
+use Rattle.timer_desk.specs.Ticks.{ticks_report, HasPassed}
+use Rattle.timer_desk_c.specs.declared.status.TheConstants.{CLOSED, CLOCK_END}
+use Rattle.timer_desk_c.specs.DeskSlots.{DeskState}
+use Rattle.timer_desk_c.specs.Desks.{Says}
+
+-- this many ticks were passed: none if none was asked for
+abbrev pub HasAdvanced : ℕ → ℕ → DeskState → DeskState → Type 0
+HasAdvanced most passed old new =
+    ((most ≡ 0) × (passed ≡ 0) × (new ≡ old)) ⊎ (HasPassed most passed old.facility
+    × Says (ticks_report passed old.facility) old new)
+
+-- why the clock does not advance
+abbrev pub WhyNotAdvanced : FacilityState → ℕ → Type 0
+WhyNotAdvanced s status =
+    ((status ≡ CLOSED) × (tick_refusal s ≡ Some TickFaults.Closed))
+    ⊎ ((status ≡ CLOCK_END) × (tick_refusal s ≡ Some TickFaults.ClockEnd))
+
+-- the first `count` words of a client's outbox were put into its line, and nothing else has changed: all of
+-- its outbox, or no slot of the line is known to be free
+pub record HasFlushed (client count : ℕ) (old new : DeskState) : Type 0 where
+  pub says : Says (Dones.Flushed client count ∷ []) old new
+  pub flushes : Flushes ring_lines client count old new
+  pub stopped : (i : RingInlet) → ((backlog_at new client).outbox ≡ [])
+      ⊎ (free_of_inlet (get_or new.inlets client i) ≡ 0)

@@ -1,0 +1,124 @@
+//! A desk and the lines of its clients.
+ghost use Rattle.std.specs.Prelude.{◌≡◌, ◌<◌, ◌≤◌, ◌⊎◌, [], map, length, vec_len, IfOk, IfErr};
+ghost use Rattle.timer_base.specs.declared.limits.TheConstants.{LAST};
+ghost use Rattle.timer_facility.specs.Facility.{with_nothing_waiting};
+ghost use Rattle.timer_facility.specs.Opened.{opened};
+ghost use Rattle.timer_desk.specs.Desk.{clients_of};
+ghost use Rattle.timer_desk_c.specs.Desks.{config_of, IsFit, AreNewLines, IsNewDesk, WhyNotMade};
+
+use crate::layout::DeskConfig;
+use crate::line::Line;
+use crate::status::{NO_MEMORY, OUT_OF_RANGE};
+use std::alloc::Global;
+use timer_base::OutOfMemory;
+use timer_desk::{Desk, MAX_ROOM, MIN_ROOM, RingInlet, ring_line};
+use timer_facility::{Checked, Config, Facility};
+use timer_wheels::HierWheel;
+
+/// The least room of a line, each way.
+pub const MIN_LINE: usize = 1;
+
+/// The greatest room of a line, each way.
+pub const MAX_LINE: usize = 65536;
+
+/// The ends of new lines: the owner's, and at the same index the client's.
+struct NewLines {
+    inlets: Vec<RingInlet>,
+    ends: Vec<Box<Line>>,
+}
+
+/// A desk, and the clients' ends of its lines.
+pub(crate) struct Made {
+    pub(crate) desk: Box<Desk<HierWheel, RingInlet>>,
+    pub(crate) ends: Vec<Box<Line>>,
+}
+
+/// Makes a desk of `clients` clients.
+pub(crate) fn make(alloc: Global, clients: usize, config: DeskConfig) -> Result<Made, u32>
+    ensures fit { IfOk result (λ _. IsFit clients config) }
+    ensures desk { IfOk result (λ m. IsNewDesk clients config m.desk.value) }
+    ensures lines { IfOk result (λ m. AreNewLines config.line m.desk.value.inlets
+        (map (λ b. b.value) m.ends.items)) }
+    ensures as_many { IfOk result (λ m. vec_len m.ends ≡ clients) }
+    ensures err { IfErr result (WhyNotMade clients config) }
+{
+    let checked = match checked(clients, config) {
+        Some(checked) => checked,
+        None => return Err(OUT_OF_RANGE),
+    };
+    let Ok(facility) = new_facility(alloc, checked) else {
+        return Err(NO_MEMORY);
+    };
+    let Ok(lines) = new_lines(alloc, clients, config.line) else {
+        return Err(NO_MEMORY);
+    };
+    let NewLines { inlets, ends } = lines;
+    let Ok(desk) = Desk::open(alloc, facility, inlets, config.room) else {
+        return Err(NO_MEMORY);
+    };
+    match Box::new(alloc, desk) {
+        Ok(desk) => Ok(Made { desk, ends }),
+        Err(_) => Err(NO_MEMORY),
+    }
+}
+
+/// The configuration of the facility, if each number is in its range.
+fn checked(clients: usize, config: DeskConfig) -> Option<Checked>
+    ensures some { (c : _) → result ≡ Some c → (c ≡ config_of clients config) × IsFit clients config }
+    ensures none { result ≡ None → IsFit clients config → ⊥ }
+{
+    if config.room < MIN_ROOM || config.room > MAX_ROOM {
+        return None;
+    }
+    if config.line < MIN_LINE || config.line > MAX_LINE {
+        return None;
+    }
+    let numbers = Config {
+        clients: clients as u64,
+        capacity: config.capacity,
+        first_tick: config.first_tick,
+        first_serial: 1,
+        first_number: 1,
+    };
+    match numbers.check() {
+        Ok(checked) => Some(checked),
+        Err(_) => None,
+    }
+}
+
+/// A facility with this configuration, over the widest clock.
+fn new_facility(alloc: Global, checked: Checked) -> Result<Facility<HierWheel>, OutOfMemory>
+    requires { checked.first_serial ≡ 1 }
+    ensures { IfOk result (λ f. f ≡ with_nothing_waiting (opened checked LAST)) }
+{
+    let config = checked.config();
+    let Ok(wheel) = HierWheel::new(alloc, config.first_tick) else {
+        return Err(OutOfMemory);
+    };
+    Ok(Facility::open(alloc, checked, wheel))
+}
+
+/// Makes a line for each of `clients` clients, each with this room each way.
+fn new_lines(alloc: Global, clients: usize, room: usize) -> Result<NewLines, OutOfMemory>
+    requires room { (MIN_LINE ≤ room) × (room ≤ MAX_LINE) }
+    ensures lines { IfOk result (λ l. AreNewLines room l.inlets.items (map (λ b. b.value) l.ends.items)) }
+    ensures as_many { IfOk result (λ l. (vec_len l.inlets ≡ clients) × (vec_len l.ends ≡ clients)) }
+{
+    let Ok(mut inlets) = Vec::with_capacity(alloc, clients) else {
+        return Err(OutOfMemory);
+    };
+    let Ok(mut ends) = Vec::with_capacity(alloc, clients) else {
+        return Err(OutOfMemory);
+    };
+    for _ in 0..clients {
+        let Ok((end, inlet)) = ring_line(alloc, room, 1) else {
+            return Err(OutOfMemory);
+        };
+        let Ok(end) = Box::new(alloc, Line::Open(end)) else {
+            return Err(OutOfMemory);
+        };
+        inlets.push_reserved(inlet);
+        ends.push_reserved(end);
+    }
+    Ok(NewLines { inlets, ends })
+}

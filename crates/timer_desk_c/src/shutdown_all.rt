@@ -1,0 +1,100 @@
+//! Ends the words of every client: each is tried in turn, and the first that is left is reported.
+ghost use Rattle.std.specs.Prelude.{◌≡◌, ◌≢◌, ◌<◌, length, Some, None, IsNone, IfSome};
+ghost use Rattle.timer_desk.specs.Desk.{clients_of};
+ghost use Rattle.timer_desk.specs.Shutdown.{KeepsLines};
+ghost use Rattle.timer_desk_c.specs.Frames.{HasLine, with_line};
+ghost use Rattle.timer_desk_c.specs.Shutdown.{IsTied, OnlySettles};
+ghost use Rattle.timer_desk_c.specs.ShutdownAll.{AreTied, OnlyStates, IsOverAt, IsLeftAt, AllTried, AllEnded, IsFirstLeft, WhyNotAllEnded};
+ghost use Rattle.timer_desk_c.specs.declared.status.TheConstants.{OK, LEFT};
+
+use crate::c_structs::CLine;
+use crate::shutdown::end;
+use crate::status::{OK, OUT_OF_RANGE};
+use timer_base::Wheel;
+use timer_desk::{Desk, RingInlet};
+
+/// A client whose words were not ended.
+#[derive(Clone, Copy)]
+pub struct Left {
+    pub client: usize,
+    /// Why not.
+    pub status: u32,
+}
+
+/// Ends the words of each client whose words can be ended, and passes over those whose line was freed. Fails
+/// with the status of the first client for which they can't, and writes its number.
+pub(crate) fn end_all<W: Wheel + Drop>(
+    desk: &mut Desk<W, RingInlet>,
+    lines: &mut [CLine],
+    client: &mut usize,
+) -> u32
+    requires lines { length lines.old ≡ clients_of desk.old → AreTied desk.old lines.old }
+    ensures ended { result ≡ OK → AllEnded desk.old lines.old lines.new }
+    ensures refused { 0 < result → WhyNotAllEnded client.new result desk.old lines.old lines.new }
+    ensures tried { length lines.old ≡ clients_of desk.old → AllTried desk.old desk.new lines.old lines.new }
+    ensures client { result ≡ OK → client.new ≡ client.old }
+    ensures kept { length lines.old ≢ clients_of desk.old → (desk.new ≡ desk.old) × (lines.new ≡ lines.old)
+        × (client.new ≡ client.old) }
+    ensures desk { KeepsLines desk.old desk.new }
+    ensures only { OnlyStates lines.old lines.new }
+{
+    if lines.len() != desk.clients() {
+        return OUT_OF_RANGE;
+    }
+    match end_each(desk, lines) {
+        None => OK,
+        Some(left) => {
+            *client = left.client;
+            left.status
+        }
+    }
+}
+
+/// Tries each client in turn, and returns the first whose words were not ended.
+fn end_each<W: Wheel + Drop>(desk: &mut Desk<W, RingInlet>, lines: &mut [CLine]) -> Option<Left>
+    requires as_many { length lines.old ≡ clients_of desk.old }
+    requires lines { AreTied desk.old lines.old }
+    ensures none { IsNone result → AllEnded desk.old lines.old lines.new }
+    ensures some { IfSome result (λ left. (0 < left.status)
+        × IsFirstLeft left.client left.status desk.old lines.old lines.new) }
+    ensures tried { AllTried desk.old desk.new lines.old lines.new }
+    ensures desk { KeepsLines desk.old desk.new }
+    ensures only { OnlyStates lines.old lines.new }
+{
+    let mut left = None;
+    for client in 0..lines.len() {
+        let status = end_held(desk, client, &mut lines[client]);
+        left = first_left(left, client, status);
+    }
+    left
+}
+
+/// Ends the words of a client, if they can be ended. Nobody reads the words of a client whose line was freed.
+fn end_held<W: Wheel + Drop>(desk: &mut Desk<W, RingInlet>, client: usize, line: &mut CLine) -> u32
+    requires line { HasLine line.old → client < clients_of desk.old → line.old.client ≡ client
+        → IsTied client desk.old line.old.slot.state }
+    ensures ended { result ≡ OK → IsOverAt client desk.old line.old line.new }
+    ensures left { 0 < result → IsLeftAt client result desk.old line.old line.new }
+    ensures same { 0 < result → result ≢ LEFT → desk.new ≡ desk.old }
+    ensures desk { OnlySettles client desk.old desk.new }
+    ensures only { line.new ≡ with_line line.old line.new.slot.state }
+{
+    if !line.slot.holds() {
+        return OK;
+    }
+    let number = line.client;
+    let mut unread = 0;
+    end(desk, client, number, line.slot.line(), &mut unread)
+}
+
+/// The first client that was left, after this one.
+fn first_left(left: Option<Left>, client: usize, status: u32) -> Option<Left>
+    ensures before { left ≢ None → result ≡ left }
+    ensures ended { left ≡ None → status ≡ OK → result ≡ None }
+    ensures refused { left ≡ None → 0 < status → result ≡ Some (record { client = client; status = status }) }
+{
+    if left.is_some() || status == OK {
+        return left;
+    }
+    Some(Left { client, status })
+}

@@ -1,0 +1,118 @@
+//! The end of a run of clients in threads, once each of them has finished.
+ghost use Rattle.std.specs.Prelude.{◌≡◌, ◌<◌, [], length, IfOk, IfErr, IfSome, IsNone, IsTrue, vec_len};
+ghost use Rattle.timer_desk.specs.Desk.{AllIdle};
+ghost use Rattle.timer_desk.specs.Ring.{unread_by};
+ghost use Rattle.timer_desk.specs.Shutdown.{AreEndsOf, AreReadersOf, AllGot, IsBlamed};
+ghost use Rattle.timer_threads.specs.Threads.{AreOfLines, AllWhole, AllRead, NoneUnread, HasEnded, IsFirstFault, fault_of, whole_text};
+ghost use Rattle.timer_threads.specs.Results.{lower_of};
+
+use crate::fault::ThreadsFault;
+use crate::outcome::Worked;
+use crate::results::{first_failed, lower, unzip_results};
+use crate::threads_text::threads_text;
+use std::alloc::Global;
+use timer_desk::{ClientReader, Desk, DriveEnd, RequestsEnded, RingInlet, wind_up};
+use timer_wheels::HierWheel;
+
+/// Winds the desk up once its clients have finished, and returns the text or the first fault: the end of
+/// `threads_run`.
+///
+/// Out of memory comes before a client, and the desk's limit last. The client failed, or something of it is
+/// left: a held request, a request in its line or a word in its outbox; or, if nothing is left of any
+/// client, its line could not be finished or its words were not all read. No client before it failed, and
+/// nothing of one before it is left. If the requests of a client could not be ended, the desk is not
+/// wound up, and it is the first client that failed.
+pub fn end_all(
+    alloc: Global,
+    desk: Desk<HierWheel, RingInlet>,
+    outcome: DriveEnd,
+    all: Vec<Worked>,
+    timers: u64,
+) -> Result<Vec<u8>, ThreadsFault>
+    requires lines { AreOfLines desk.inlets all.items }
+    requires counts { AllWhole timers all.items }
+    ensures text { IfOk result (λ text. text.items ≡ whole_text (vec_len all) timers) }
+    ensures ended { IfOk result (λ _. HasEnded desk outcome all.items) }
+    ensures fault { IfErr result (λ fault. IsFirstFault desk outcome all.items fault) }
+{
+    if let DriveEnd::OutOfMemory = outcome {
+        return Err(ThreadsFault::OutOfMemory);
+    }
+    let failed = first_failed(&all);
+    let Ok(text) = threads_text(alloc, &all) else {
+        return Err(ThreadsFault::OutOfMemory);
+    };
+    let Ok(parts) = unzip_results(alloc, all) else {
+        return Err(ThreadsFault::OutOfMemory);
+    };
+    let held = first_unfinished(desk, parts);
+    match first_fault(failed, held, outcome) {
+        Some(fault) => Err(fault),
+        None => Ok(text),
+    }
+}
+
+/// The first fault of a client that failed, one that is held back, and the outcome of the drive.
+fn first_fault(
+    failed: Option<usize>,
+    held: Option<usize>,
+    outcome: DriveEnd,
+) -> Option<ThreadsFault>
+    ensures { result ≡ fault_of outcome (lower_of failed held) }
+{
+    match lower(failed, held) {
+        Some(c) => Some(ThreadsFault::Client(c)),
+        None => match outcome {
+            DriveEnd::Done => None,
+            DriveEnd::Limit => Some(ThreadsFault::Desk),
+            DriveEnd::OutOfMemory => Some(ThreadsFault::OutOfMemory),
+        },
+    }
+}
+
+/// Winds the desk up if all that it takes is there, and returns the client that blocked it: the first of whom
+/// something is held, waits or stands; if there is none, the first whose line could not be finished; or the
+/// first with a word left to read.
+fn first_unfinished(
+    desk: Desk<HierWheel, RingInlet>,
+    parts: Option<(Vec<RequestsEnded>, Vec<ClientReader>)>,
+) -> Option<usize>
+    requires ends { IfSome parts (λ p. AreEndsOf desk.inlets p.0.items) }
+    requires readers { IfSome parts (λ p. AreReadersOf desk.inlets p.1.items) }
+    ensures some { IfSome result (λ c. IfSome parts (λ p. IsBlamed desk p.0.items c)) }
+    ensures no_parts { IsNone parts → IsNone result }
+    ensures none { IsNone result → IfSome parts (λ p. AllIdle desk × AllGot desk.inlets p.0.items
+        × AllRead desk.inlets p.1.items) }
+{
+    match parts {
+        Some((ends, readers)) => match wind_up(desk, ends, readers) {
+            Ok((_, readers)) => first_unread(readers),
+            Err(c) => Some(c),
+        },
+        None => None,
+    }
+}
+
+/// The first of settled readers for which a word is left.
+fn first_unread(readers: Vec<ClientReader>) -> Option<usize>
+    ensures some { IfSome result (λ c. c < vec_len readers) }
+    ensures none { IsNone result → NoneUnread readers.items }
+{
+    let mut readers = readers;
+    for c in 0..readers.len() {
+        if !is_read_out(&mut readers[c]) {
+            return Some(c);
+        }
+    }
+    None
+}
+
+/// Whether no word is left for a settled reader.
+fn is_read_out(reader: &mut ClientReader) -> bool
+    ensures { IsTrue result → unread_by reader.old ≡ [] }
+{
+    match reader.receive() {
+        Some(_) => false,
+        None => true,
+    }
+}
