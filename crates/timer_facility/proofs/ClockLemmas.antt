@@ -1,5 +1,5 @@
 -- The clock after events, and the clients that there are not.
-use Rattle.std.proofs.Common.{◌≡◌, ◌≤◌, ◌+◌, ℕ, zero, Bool, true, false, ◌==◌, List, [], ◌∷◌, length, refl, sym, ◌∙◌, ap, subst, arith, inl, inr}
+use Rattle.std.proofs.Common.{◌≡◌, ◌≤◌, ◌+◌, ℕ, Bool, true, false, ◌==◌, List, [], ◌∷◌, length, refl, sym, ◌∙◌, ap, subst, arith}
 use Rattle.std.specs.Prelude.{if◌then◌else◌, Option, Some, None}
 use Rattle.std.proofs.lemmas.Bool.Decides.{nat_tests}
 use Rattle.std.proofs.lemmas.List.{length-set}
@@ -9,13 +9,11 @@ use Rattle.timer_facility.specs.declared.request.NotTaken.TheVariants as NotTake
 use Rattle.timer_facility.specs.declared.request.Reason.{Reason}
 use Rattle.timer_facility.specs.declared.request.TickFault.{TickFault}
 use Rattle.timer_facility.specs.declared.request.Notice.TheVariants.{Expired}
-use Rattle.timer_facility.specs.State.{FacilityState, pending_of, count_of, SingleEvent, Asked, Tick, Close, Wanted, Start, Stop, StopSerial, Restart, RestartSerial}
+use Rattle.timer_facility.specs.State.{FacilityState, pending_of, SingleEvent, Asked, Tick, Close, Wanted, Start, Stop, StopSerial, Restart, RestartSerial}
 use Rattle.timer_facility.specs.Verdict.{not_taken, start_refusal, interval_refusal, tick_refusal, named}
 use Rattle.timer_facility.specs.Step.{step, step_of_request, step_of_tick, step_of_close, new_timer, with_number, after_start, after_stop, after_restart, after_taken, expired_next}
 use Rattle.timer_facility.specs.Run.{Placed, history, state_after}
-use Rattle.timer_facility.specs.HandedOver.{timers_handed, AddsAtMostOne, HandsOver}
-use Rattle.timer_facility.specs.Owed.{accepted_ticks, ticks_by, any_out, is_tick_refusal}
-use Rattle.timer_facility.proofs.TimerLists.{either}
+use Rattle.timer_facility.specs.Owed.{accepted_ticks, ticks_by}
 use Rattle.timer_facility.proofs.VerdictLemmas.{not_taken-closed, not_taken-no_client}
 use Rattle.timer_facility.proofs.HandedOverLemmas.{adds_at_most_one, hands_over_tick, hands_over_close}
 use Rattle.timer_facility.proofs.OwedLemmas.{refusal-map}

@@ -247,6 +247,7 @@ opened_is : (capacity last next : ℕ) (now now' : ℕ) (pending pending' : List
       pending = pending;
       numbers = numbers;
       is_closed = false;
+      has_room = false;
     } in
     let s' : FacilityState = record {
       capacity = capacity;
@@ -256,6 +257,7 @@ opened_is : (capacity last next : ℕ) (now now' : ℕ) (pending pending' : List
       pending = pending';
       numbers = numbers';
       is_closed = false;
+      has_room = false;
     } in
     let a : FacilityView = record { state = s; waiting = xs } in
     let b : FacilityView = record { state = s'; waiting = ys } in a ≡ b
@@ -271,6 +273,7 @@ first_parts w c returned = record {
   numbers = replicate 64 c.first_number;
   counts = replicate 64 0;
   is_closed = false;
+  has_room = false;
   returned = returned;
   handed = 0;
 }
@@ -335,6 +338,7 @@ parts-tick {p} a h w' t =
       serial_in_range = a.serial_in_range;
       numbers_in_range = a.numbers_in_range;
       handed_in_range = a.handed_in_range;
+      roomy = a.roomy;
       counted = counted-as a.counted (kept (record p { wheel = Wheels.after_tick p.wheel })) (kept_after_tick p h);
     } in
     subst (λ (u : Wheels.WheelState). AreParts (record p { wheel = u })) (sym t) here
@@ -458,6 +462,7 @@ parts-used {p} a client number in_range = record {
   serial_in_range = a.serial_in_range;
   numbers_in_range = numbers-used p.numbers client number in_range a.numbers_in_range;
   handed_in_range = a.handed_in_range;
+  roomy = a.roomy;
   counted = a.counted;
 }
 
@@ -495,6 +500,7 @@ parts-start {p} a unspent room place t fresh known w' e =
       serial_in_range = omega arith;
       numbers_in_range = a.numbers_in_range;
       handed_in_range = a.handed_in_range;
+      roomy = a.roomy;
       counted = counted-more a.counted t (kept (record p { wheel = Wheels.after_start place t p.wheel })) known a.few_clients
           (kept_after_start p place t);
     } in
@@ -547,6 +553,7 @@ parts-stop {p} a t d m w' e =
       serial_in_range = a.serial_in_range;
       numbers_in_range = a.numbers_in_range;
       handed_in_range = a.handed_in_range;
+      roomy = a.roomy;
       counted = counted-less a.counted t (kept (record p { wheel = record p.wheel { pending = without_found (Some t) p.wheel.pending } }))
           (kept_after_stop p t d m);
     } in
@@ -644,6 +651,7 @@ parts-expiry {p} a t h w' e =
       serial_in_range = a.serial_in_range;
       numbers_in_range = a.numbers_in_range;
       handed_in_range = a.handed_in_range;
+      roomy = a.roomy;
       counted = counted-less a.counted t (kept (record p { wheel = Wheels.after_expiry p.wheel })) (kept_after_expiry p t h);
     } in
     subst (λ (u : Wheels.WheelState). AreParts (with_one_less t.client (record p { wheel = u }))) (sym e) here
@@ -664,6 +672,7 @@ parts-returned {p} a t h = record {
   serial_in_range = a.serial_in_range;
   numbers_in_range = a.numbers_in_range;
   handed_in_range = let l = slice_get_within p.returned p.handed t h in omega arith;
+  roomy = a.roomy;
   counted = counted-less a.counted t (kept (record p { handed = p.handed + 1 })) (kept_after_return p t h);
 }
 
@@ -700,6 +709,7 @@ parts-close {p} {v} a e h list l w' t =
       serial_in_range = a.serial_in_range;
       numbers_in_range = a.numbers_in_range;
       handed_in_range = omega arith;
+      roomy = a.roomy;
       counted = counted-as a.counted (kept (record p { wheel = Wheels.after_clear p.wheel; is_closed = true; returned = list; handed = 0 }))
           (kept_after_close p list (nothing_due a e h) (unmapped (drop p.handed p.returned) (nothing_returned a e h)) l);
     } in
@@ -723,6 +733,7 @@ parts-open w c returned i p d l r =
       serial_in_range = omega arith;
       numbers_in_range = numbers-first c.first_number i.number_in_range;
       handed_in_range = omega arith;
+      roomy = λ (e : false ≡ true). absurd (cc);
       counted = subst (λ ts. AreCounted c.clients (replicate 64 0) ts) (sym none) (counted-none c.clients);
     }
 
@@ -921,6 +932,7 @@ parts-restart {p} {v} a e i client number handle interval action now old place w
       serial_in_range = omega arith;
       numbers_in_range = a.numbers_in_range;
       handed_in_range = a.handed_in_range;
+      roomy = a.roomy;
       counted = counted-as a.counted (kept (record p { wheel = Wheels.after_start place t w }))
           (kept_after_restart p old place t i.distinct among owner);
     } in
@@ -930,3 +942,18 @@ parts-restart {p} {v} a e i client number handle interval action now old place w
 pub answer_restarted : (h : Handle) (serial deadline told old : ℕ) → h.serial ≡ serial → told ≡ deadline
     → Restarted h told old ≡ Restarted (record { place = h.place; serial = serial }) deadline old
 answer_restarted h serial deadline told old e f = rw (← e, f) refl
+
+-- a wheel that runs out of memory before the facility is full has no room that was made
+pub no_room : {p : Parts} {v : FacilityView} → AreParts p → view_of p ≡ v → v.waiting ≡ [] → length v.state.pending ≢ v.state.capacity
+    → p.wheel.room ≤ Wheels.held_count p.wheel → v.state.has_room ≡ false
+no_room {p} {v} a e h other full =
+    let t = tells a e in
+    let length_is = t.length_is in
+    let capacity_is = t.capacity_is in
+    let few = a.few_pending in
+    let due : length p.wheel.due ≡ 0 = ap (λ es. length es) (nothing_due a e h) in
+    let same : v.state.has_room ≡ p.has_room = sym (ap (λ (u : FacilityView). u.state.has_room) e) in
+    elim (either p.has_room) [
+      | inl roomy ↦ let enough : p.capacity ≤ p.wheel.room = a.roomy roomy in absurd (other (omega arith))
+      | inr not_roomy ↦ same ∙ not_roomy
+    ]

@@ -15,6 +15,7 @@ use Rattle.timer_facility.specs.State.{FacilityState, number_of, Wanted, Start, 
 use Rattle.timer_facility.specs.Verdict.{not_taken, named, start_refusal, interval_refusal, stop_refusal, restart_refusal, refusal, tick_refusal, CloseRefused, verdict_on_request, verdict_on_tick, verdict, closed_refusal}
 use Rattle.timer_facility.specs.Step.{step, step_of_request, step_of_tick, step_of_close, new_timer, expired_next, answer_to_start, answer_to_stop, answer_to_restart}
 use Rattle.timer_facility.specs.Refused.{refusals_in, refusals_of, verdict_on_not_taken}
+use Rattle.timer_facility.specs.Facility.{IsShort}
 use Rattle.timer_facility.proofs.VerdictLemmas.{not_taken-closed, tick_refusal-closed}
 
 -- a closed facility refuses each event as such
@@ -94,6 +95,15 @@ unfolding not_taken
 not_for_memory s client number h =
     no_memory s.is_closed (not (nat_lt client (length s.numbers))) (nat_lt number (number_of s client)) (nat_lt LAST (number_of s client))
     (nat_lt (number_of s client) number) (number_of s client) h
+
+-- no rule of the verdict is about memory
+pub not_short : (s : FacilityState) (client number : ℕ) (reason : NotTaken) → not_taken s client number ≡ Some reason → IsShort s reason
+not_short s client number NotTakens.OutOfMemory h = absurd (not_for_memory s client number h)
+not_short s client number NotTakens.Closed h = tt
+not_short s client number NotTakens.NoClient h = tt
+not_short s client number (NotTakens.Repeated next) h = tt
+not_short s client number NotTakens.NumbersSpent h = tt
+not_short s client number (NotTakens.Ahead next) h = tt
 
 -- of a request that is not taken
 pub verdict-not_taken : (s : FacilityState) (client number : ℕ) (v : Option Reason) (reason : NotTaken)

@@ -1,7 +1,6 @@
 -- Many ticks that a wheel passes at once are that many single ticks.
 use Rattle.std.proofs.Common.{◌≡◌, ◌≢◌, ◌<◌, ◌≤◌, ◌+◌, ◌-◌, ℕ, zero, suc, false, List, [], ◌∷◌, ◌++◌, length, refl, sym, ◌∙◌, ap, subst, arith}
 use Rattle.std.specs.Prelude.{map, drop, min, None}
-use Rattle.timer_base.specs.declared.timer.Timer.{Timer}
 use Rattle.timer_base.specs.Pending.{Entry, timers_of}
 use Rattle.timer_base.specs.TickLaws.{after_ticks-now, after_ticks-last}
 use Rattle.timer_base.specs.WheelState as Wheels

@@ -1,6 +1,6 @@
 -- What a caller sees of a facility: its state, and the notices that wait to be handed out. And its fields,
 -- the parts.
-use Rattle.std.specs.Prelude.{◌≡◌, ◌<◌, ◌≤◌, ◌⊎◌, ℕ, ◌+◌, Bool, List, [], ◌∷◌, ◌++◌, map, take, drop, length, slice_index, Some, None}
+use Rattle.std.specs.Prelude.{◌≡◌, ◌<◌, ◌≤◌, ◌⊎◌, ℕ, ◌+◌, Bool, true, false, List, [], ◌∷◌, ◌++◌, map, take, drop, length, slice_index, Some, None}
 use Rattle.std.specs.List.{AllByRecursion}
 use Rattle.timer_base.specs.declared.limits.TheConstants.{LAST}
 use Rattle.timer_base.specs.declared.timer.Timer.{Timer}
@@ -16,7 +16,7 @@ use Rattle.timer_facility.specs.declared.request.NotTaken.TheVariants as NotTake
 use Rattle.timer_facility.specs.declared.request.Notice.{Notice}
 use Rattle.timer_facility.specs.declared.request.Notice.TheVariants.{Expired, Returned}
 use Rattle.timer_facility.specs.declared.event.Out.TheVariants as Outs
-use Rattle.timer_facility.specs.State.{FacilityState, count_of, Wanted, Start, Stop, Restart, SingleEvent, Asked}
+use Rattle.timer_facility.specs.State.{FacilityState, with_room, count_of, Wanted, Start, Stop, Restart, SingleEvent, Asked}
 use Rattle.timer_facility.specs.Verdict.{not_taken, refusal}
 use Rattle.timer_facility.specs.Step.{Step, step}
 use Rattle.timer_facility.specs.Run.{notices_in}
@@ -33,6 +33,10 @@ view_after st = record { state = st.state; waiting = notices_in st.outs }
 -- a state in which no notice waits
 abbrev pub with_nothing_waiting : FacilityState → FacilityView
 with_nothing_waiting s = record { state = s; waiting = [] }
+
+-- the same view, and room was made
+abbrev pub view_with_room : FacilityView → FacilityView
+view_with_room v = record v { state = with_room v.state }
 
 -- a request as the model has it
 abbrev pub wanted_of : Request → Wanted
@@ -71,6 +75,11 @@ IsNotTaken s client number request reason =
     (not_taken s client number ≡ Some reason) ⊎ ((reason ≡ NotTakens.OutOfMemory)
     × NeedsMemory s client number request)
 
+-- a request for which memory ran out was made of a facility without room
+abbrev pub IsShort : FacilityState → NotTaken → Type 0
+IsShort s NotTakens.OutOfMemory = s.has_room ≡ false
+IsShort s _ = Unit {0}
+
 -- the fields of a facility, as their values
 pub record Parts : Type 0 where
   pub wheel : WheelState
@@ -82,6 +91,7 @@ pub record Parts : Type 0 where
   -- how many timers each client has
   pub counts : List ℕ
   pub is_closed : Bool
+  pub has_room : Bool
   -- the timers that a close returns, and how many of them were handed out
   pub returned : List Timer
   pub handed : ℕ
@@ -97,6 +107,7 @@ view_of p = record {
     pending = p.wheel.pending;
     numbers = take p.clients p.numbers;
     is_closed = p.is_closed;
+    has_room = p.has_room;
   };
   waiting = map (λ t. Expired t) (timers_of p.wheel.due) ++ map (λ t. Returned t) (drop p.handed p.returned);
 }
@@ -121,4 +132,5 @@ pub record AreParts (p : Parts) : Type 0 where
   pub serial_in_range : p.next_serial ≤ LAST + 1
   pub numbers_in_range : AllByRecursion (λ n. n ≤ LAST + 1) p.numbers
   pub handed_in_range : p.handed ≤ length p.returned
+  pub roomy : p.has_room ≡ true → p.capacity ≤ p.wheel.room
   pub counted : AreCounted p.clients p.counts (kept p)

@@ -13,4 +13,5 @@ opened config last = record {
   pending = [];
   numbers = replicate config.clients config.first_number;
   is_closed = false;
+  has_room = false;
 }

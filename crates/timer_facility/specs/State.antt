@@ -1,5 +1,5 @@
 -- The abstract state of a facility, and single events.
-use Rattle.std.specs.Prelude.{◌<◌, ◌≤◌, ◌==◌, ℕ, ◌+◌, Bool, if◌then◌else◌, List, [], ◌∷◌, length, slice_index}
+use Rattle.std.specs.Prelude.{◌<◌, ◌≤◌, ◌==◌, ℕ, ◌+◌, Bool, true, if◌then◌else◌, List, [], ◌∷◌, length, slice_index}
 use Rattle.std.specs.List.{AllByRecursion}
 use Rattle.timer_base.specs.declared.limits.TheConstants.{LAST}
 use Rattle.timer_base.specs.declared.timer.Timer.{Timer}
@@ -22,6 +22,12 @@ pub record FacilityState : Type 0 where
   -- the next request number of each client; the number of clients is constant
   pub numbers : List ℕ
   pub is_closed : Bool
+  -- room was made for as many timers as the capacity; no event changes it
+  pub has_room : Bool
+
+-- the same state, and room was made
+abbrev pub with_room : FacilityState → FacilityState
+with_room s = record s { has_room = true }
 
 -- the next request number of a client
 abbrev pub number_of : FacilityState → ℕ → ℕ

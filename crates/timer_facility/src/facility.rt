@@ -15,7 +15,7 @@ ghost use Rattle.timer_facility.specs.Opened.{opened};
 ghost use Rattle.timer_facility.specs.Handles.{is_pending};
 ghost use Rattle.timer_facility.specs.Ticked.{AreTicked};
 ghost use Rattle.timer_facility.specs.WakeUps.{IsQuietUntil};
-ghost use Rattle.timer_facility.specs.Facility.{FacilityView, Parts, view_of, AreParts, view_after, with_nothing_waiting, asked, place_in, IsTaken, IsNotTaken};
+ghost use Rattle.timer_facility.specs.Facility.{FacilityView, Parts, view_of, AreParts, view_after, view_with_room, with_nothing_waiting, IsShort, asked, place_in, IsTaken, IsNotTaken};
 
 use crate::config::Checked;
 use crate::limits::CLIENTS;
@@ -36,6 +36,8 @@ pub struct Facility<W: Wheel + Drop> {
     // How many timers of each client are pending or wait to be handed out.
     counts: [usize; CLIENTS],
     is_closed: bool,
+    // Whether `reserve` made room in the wheel for as many timers as the capacity.
+    has_room: bool,
     // The timers that the close returns, in their order.
     returned: Vec<Timer>,
     // How many of `returned` were handed out.
@@ -53,6 +55,7 @@ impl<W: Wheel + Drop> Model for Facility<W> {
       numbers = f.numbers;
       counts = f.counts;
       is_closed = f.is_closed;
+      has_room = f.has_room;
       returned = f.returned.items;
       handed = f.handed;
     }) };
@@ -65,6 +68,7 @@ impl<W: Wheel + Drop> Model for Facility<W> {
       numbers = f.numbers;
       counts = f.counts;
       is_closed = f.is_closed;
+      has_room = f.has_room;
       returned = f.returned.items;
       handed = f.handed;
     }) };
@@ -90,19 +94,25 @@ impl<W: Wheel + Drop> Facility<W> {
             numbers: [config.first_number; CLIENTS],
             counts: [0; CLIENTS],
             is_closed: false,
+            has_room: false,
             returned: Vec::new(alloc),
             handed: 0,
         }
     }
 
-    /// Makes room in the wheel for as many timers as the facility may hold.
+    /// Makes room for as many timers as the facility may hold.
     ///
-    /// The only error is out of memory. Nothing else changes, either way. An owner who calls this right after
-    /// `open` pays for memory there: over a wheel of this project no start allocates or copies a table later.
+    /// The only error is out of memory, and then nothing changes. After it returned Ok, no `take` returns
+    /// `OutOfMemory`: only an accepted start allocates, in the wheel alone, and one beyond the capacity is
+    /// refused. `close` still allocates the list that it returns. Over a wheel of this project no start
+    /// allocates or copies a table later, so an owner who calls this right after `open` pays for memory there.
     pub fn reserve(&mut self) -> Result<(), OutOfMemory>
-        ensures { self.new ≡ self.old }
+        ensures ok { OnOk result (self.new ≡ view_with_room self.old) }
+        ensures err { OnErr result (self.new ≡ self.old) }
     {
-        self.wheel.reserve(self.capacity as usize)
+        self.wheel.reserve(self.capacity as usize)?;
+        self.has_room = true;
+        Ok(())
     }
 
     /// The present tick. Does not allocate.
@@ -193,8 +203,9 @@ impl<W: Wheel + Drop> Facility<W> {
     /// `Reason`.
     ///
     /// A request that is not taken changes nothing. One that is refused with a `Reason` uses up its
-    /// number and nothing else. Only an accepted start allocates. The place in a `Started`
-    /// or `Restarted` is a free choice of the wheel. No timer may wait to be handed out.
+    /// number and nothing else. Only an accepted start allocates, and after a `reserve` that returned Ok none
+    /// is out of memory. The place in a `Started` or `Restarted` is a free choice of the wheel. No timer may
+    /// wait to be handed out.
     pub fn take(&mut self, client: u64, number: u64, request: Request) -> Result<Answer, NotTaken>
         requires { self.old.waiting ≡ [] }
         ensures taken { IfOk result (λ answer. IsTaken self.old.state client number request answer self.new) }
@@ -202,6 +213,7 @@ impl<W: Wheel + Drop> Facility<W> {
         ensures verdict { MatchResult result
             (λ answer. verdict self.old.state (asked client number request) ≡ verdict_in answer)
             (λ reason. verdict self.old.state (asked client number request) ≡ verdict_on_not_taken reason) }
+        ensures room { IfErr result (IsShort self.old.state) }
         ensures err { OnErr result (self.new ≡ self.old) }
     {
         if let Err(reason) = self.admit(client, number) {
@@ -368,6 +380,7 @@ impl<W: Wheel + Drop> Facility<W> {
             (after_taken self.old.state client number (Start interval action) (place_in answer))) }
         ensures memory { IfErr result (λ reason. (reason ≡ NotTaken.OutOfMemory)
             × (start_refusal self.old.state interval ≡ None)) }
+        ensures room { OnErr result (self.old.state.has_room ≡ false) }
         ensures err { OnErr result (self.new ≡ self.old) }
     {
         if let Some(reason) = self.start_refusal(interval) {

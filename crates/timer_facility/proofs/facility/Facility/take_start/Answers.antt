@@ -1,6 +1,6 @@
 use Rattle.std.proofs.Common.{sym, ◌+◌, ◌∙◌, ap, refl, arith}
 use Rattle.timer_facility.specs.Step.{answer_to_start, new_timer}
-use Rattle.timer_facility.proofs.FacilityParts.{next_when, in_arrays, in_time, tells, view-refused, view-start, parts-used, parts-start, answer_started, few_counted}
+use Rattle.timer_facility.proofs.FacilityParts.{next_when, in_arrays, in_time, tells, view-refused, view-start, parts-used, parts-start, answer_started, few_counted, no_room}
 use Rattle.timer_facility.proofs.VerdictLemmas.{startable}
 use Rattle.timer_facility.proofs.facility.Facility.take_start.Goals as goal
 
@@ -99,3 +99,8 @@ bounds-self-inside-client-in-Ok-3 g c = in_arrays c.self.invariant c.self.view_i
 
 pub overflow_add-self-in-Ok-3 : goal.overflow_add-self-in-Ok-3
 overflow_add-self-in-Ok-3 g c = let few = few_counted c.self.invariant c.self.view_is c.requires.waiting c.args.client in omega arith
+
+pub returns-in-Err-clause-room : goal.returns-in-Err-clause-room
+returns-in-Err-clause-room g c =
+    no_room c.self.invariant c.self.view_is c.requires.waiting
+    (startable c.args.self.now.state c.args.interval (sym c.in_default.ensures)).room c.in-Err.ensures.full
