@@ -11,3 +11,4 @@ pub mod Rounds
 pub mod Serving
 pub mod Ending
 pub mod EndingAll
+pub mod Freed
