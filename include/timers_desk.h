@@ -7,10 +7,12 @@
  *     timers_desk_tick, timers_desk_advance - pass ticks
  *     timers_desk_close, timers_desk_settle - close, settle a finished line
  *     timers_desk_end, timers_desk_end_all - end the words of finished lines
- *     timers_desk_now, timers_desk_len, timers_desk_wakeup, timers_desk_outbox - read the state
+ *     timers_desk_now, timers_desk_len, timers_desk_wakeup, timers_desk_next, timers_desk_outbox - read the state
+ *     timers_desk_line_freed - learn that a client's line was freed
  *     timers_line_start, timers_line_stop, timers_line_restart - send a request
  *     timers_line_receive - receive a word
  *     timers_line_finish, timers_line_ended - end the requests, learn that no word comes any more
+ *     timers_line_abandoned - learn that the desk was freed
  *     timers_line_free - free a client's end
  *
  * SYNOPSIS
@@ -38,6 +40,10 @@
  *     desk. After it, what stands in the line is all that is still to be received. timers_line_receive then returns false
  *     only if there is nothing more, and timers_line_ended returns true. timers_desk_end_all does the same for all
  *     clients at once.
+ *
+ *     Either end may be freed while the other goes on. The owner learns by timers_desk_line_freed that a client's line
+ *     was freed. A client learns by timers_line_abandoned that the desk was freed, once it has received all words that
+ *     came before. So a client's loop ends if timers_line_ended or timers_line_abandoned returns true.
  *
  *     Words wait in the client's outbox at the owner until a flush moves them into the line. A request is taken only if
  *     the outbox has room for its answer, a word of each pending timer of the client, and one word more. So no word is
@@ -67,7 +73,9 @@
  *
  *     The library is proved: each function meets the contract stated in crates/timer_desk_c/src/desk_exports.rt or
  *     line_exports.rt, for every call that keeps the rules below. Nothing checks that a caller keeps them. Nothing is
- *     proved about time: when a thread runs, and when a word arrives.
+ *     proved about time: when a thread runs, and when a word arrives. Nor is what timers_desk_line_freed and
+ *     timers_line_abandoned say of the other end. It is proved that they change nothing, and that no word stands in a
+ *     line that is abandoned.
  *
  * RULES
  *     1. A `struct timers_desk` begins as TIMERS_DESK_INIT and a `struct timers_line` as TIMERS_LINE_INIT, or with all
@@ -145,10 +153,11 @@ struct timers_line {
 #define TIMERS_DESK_CLIENTS 64   /* the most clients */
 
 struct timers_desk_config {
-	uint64_t first_tick;   /* the tick at which the clock begins: 0 to TIMERS_LAST */
+	uint64_t first_tick;   /* the tick at which the clock begins: 0 to TIMERS_LAST, of TIMERS_CLOCK to TIMERS_CLOCK_LAST */
 	uint64_t capacity;     /* the most timers that may be pending at a time: 1 to 1,048,576 */
 	size_t room;           /* how many words each client's outbox has room for: 2 to 65,536 */
 	size_t line;           /* how many requests, and how many words, each line has room for: 1 to 65,536 */
+	uint32_t table;        /* the slots of the wheels, enum timers_table: TIMERS_WIDE, which is 0, or TIMERS_CLOCK */
 };
 
 enum timers_word_kind {
@@ -174,14 +183,16 @@ struct timers_word {
 
 /* The owner's calls. */
 
-/* Makes a desk with `clients` clients, 1 to 64, over the clock of TIMERS_WIDE. From then on lines[0] to
+/* Makes a desk with `clients` clients, 1 to 64, over wheels with the slots of a table. From then on lines[0] to
  * lines[clients - 1] hold the clients' ends. `lines` must not be NULL, even if `clients` is 0.
- * TIMERS_DESK_OPEN, TIMERS_DESK_OUT_OF_RANGE, TIMERS_DESK_NO_MEMORY: nothing has changed then. */
+ * TIMERS_DESK_OPEN, TIMERS_DESK_OUT_OF_RANGE (also: no such table, or the first tick is after the table's last tick),
+ * TIMERS_DESK_NO_MEMORY: nothing has changed then. */
 enum timers_desk_status timers_desk_new(struct timers_desk *d, struct timers_line *lines, size_t clients,
                                         const struct timers_desk_config *config);
 
 /* Frees the desk, if it holds one: pending timers, and words that no client's line has yet, are dropped. Clients
- * may continue to call: their requests are never taken, and what stands in the line is still received. */
+ * may continue to call: their requests are never taken, and what stands in the line is still received. After that
+ * timers_line_abandoned returns true. */
 void timers_desk_free(struct timers_desk *d);
 
 /* Serves a client once: takes its held request, or else the next one of its line. At TIMERS_DESK_OK the answer is in
@@ -255,6 +266,16 @@ size_t timers_desk_len(const struct timers_desk *d);
  * nothing is pending, or it holds no desk. */
 uint64_t timers_desk_wakeup(const struct timers_desk *d);
 
+/* The first deadline of all pending timers, exactly. TIMERS_NEVER if nothing is pending, or it holds no desk. Takes
+ * constant time if that deadline comes before the next multiple of 64 ticks (of TIMERS_CLOCK, 60), and otherwise walks
+ * the timers of one bucket. A loop that only sleeps can use timers_desk_wakeup. Does not allocate. */
+uint64_t timers_desk_next(const struct timers_desk *d);
+
+/* Whether a client's line was freed. False if there is no such client, or it holds no desk. Once true it stays true.
+ * Nothing changes: what the client sent before is still taken, its timers stay pending, and words to it are lost once
+ * they are in the line. Constant time. Does not allocate. */
+bool timers_desk_line_freed(struct timers_desk *d, size_t client);
+
 /* How many words wait in a client's outbox. 0 if there is no such client, or it holds no desk. */
 size_t timers_desk_outbox(const struct timers_desk *d, size_t client);
 
@@ -283,6 +304,11 @@ enum timers_desk_status timers_line_finish(struct timers_line *line);
 /* Whether no word comes any more: the owner has ended them by timers_desk_end, and all were received. */
 bool timers_line_ended(const struct timers_line *line);
 
+/* Whether no word comes any more, since the desk was freed, and all that it had put into the line were received. Words that
+ * waited at the desk were dropped with it. Once true it stays true. False if it holds no line, or if its words were ended
+ * by timers_desk_end: then timers_line_ended says that no word comes. Nothing changes. Constant time. */
+bool timers_line_abandoned(struct timers_line *line);
+
 /* Frees the client's end, if it holds one. What it sent is still taken, and words to it are lost. */
 void timers_line_free(struct timers_line *line);
 
@@ -298,9 +324,9 @@ TIMERS_DESK_ASSERT(sizeof(struct timers_line) == 24 && offsetof(struct timers_li
 TIMERS_DESK_ASSERT(sizeof(struct timers_word) == 56 && offsetof(struct timers_word, number) == 8
                    && offsetof(struct timers_word, handle) == 16 && offsetof(struct timers_word, deadline) == 32
                    && offsetof(struct timers_word, action) == 40 && offsetof(struct timers_word, other) == 48, "struct timers_word");
-TIMERS_DESK_ASSERT(sizeof(struct timers_desk_config) == 32 && offsetof(struct timers_desk_config, capacity) == 8
-                   && offsetof(struct timers_desk_config, room) == 16 && offsetof(struct timers_desk_config, line) == 24,
-                   "struct timers_desk_config");
+TIMERS_DESK_ASSERT(sizeof(struct timers_desk_config) == 40 && offsetof(struct timers_desk_config, capacity) == 8
+                   && offsetof(struct timers_desk_config, room) == 16 && offsetof(struct timers_desk_config, line) == 24
+                   && offsetof(struct timers_desk_config, table) == 32, "struct timers_desk_config");
 #undef TIMERS_DESK_ASSERT
 
 #ifdef __cplusplus

@@ -39,6 +39,7 @@ static void empty_structs(void)
 	CHECK(timers_desk_advance(&d, 5, &n) == TIMERS_DESK_NOT_OPEN && n == 77);
 	CHECK(timers_desk_close(&d, &n) == TIMERS_DESK_NOT_OPEN && n == 77 && timers_desk_settle(&d, 0, &l, &s) == TIMERS_DESK_NOT_OPEN && s == 78);
 	CHECK(timers_desk_now(&d) == 0 && timers_desk_len(&d) == 0 && timers_desk_outbox(&d, 0) == 0 && timers_desk_wakeup(&d) == TIMERS_NEVER);
+	CHECK(timers_desk_next(&d) == TIMERS_NEVER && !timers_desk_line_freed(&d, 0) && !timers_line_abandoned(&l));
 	CHECK(timers_line_start(&l, 1, 2, &n) == TIMERS_DESK_NOT_OPEN && n == 77);
 	CHECK(timers_line_stop(&l, h, &n) == TIMERS_DESK_NOT_OPEN && timers_line_restart(&l, h, 1, 2, &n) == TIMERS_DESK_NOT_OPEN && n == 77);
 	CHECK(!timers_line_receive(&l, &w) && timers_line_finish(&l) == TIMERS_DESK_NOT_OPEN);
@@ -52,7 +53,7 @@ static void configurations(void)
 {
 	struct timers_desk d = TIMERS_DESK_INIT;
 	struct timers_line l[65] = { TIMERS_LINE_INIT };
-	struct timers_desk_config good = { 5, 100, 8, 4 }, c;
+	struct timers_desk_config good = { 5, 100, 8, 4, TIMERS_WIDE }, c;
 	CHECK(timers_desk_new(&d, l, 0, &good) == TIMERS_DESK_OUT_OF_RANGE && timers_desk_new(&d, l, 65, &good) == TIMERS_DESK_OUT_OF_RANGE);
 	c = good, c.capacity = 0; CHECK(timers_desk_new(&d, l, 1, &c) == TIMERS_DESK_OUT_OF_RANGE);
 	c = good, c.capacity = 1048577; CHECK(timers_desk_new(&d, l, 1, &c) == TIMERS_DESK_OUT_OF_RANGE);
@@ -72,12 +73,139 @@ static void configurations(void)
 	timers_line_free(&l[0]);
 }
 
+/* The table of the configuration: its range, its last tick, and that a program that names none has TIMERS_WIDE. */
+static void tables(void)
+{
+	struct timers_desk d = TIMERS_DESK_INIT;
+	struct timers_line l = TIMERS_LINE_INIT;
+	struct timers_desk_config c = { .first_tick = TIMERS_CLOCK_LAST + 1, .capacity = 100, .room = 8, .line = 4 };
+	struct timers_word w;
+	uint64_t n;
+	CHECK(c.table == TIMERS_WIDE && timers_desk_new(&d, &l, 1, &c) == TIMERS_DESK_OK && timers_desk_now(&d) == TIMERS_CLOCK_LAST + 1);
+	timers_desk_free(&d), timers_line_free(&l);
+	c.table = TIMERS_CLOCK;
+	CHECK(timers_desk_new(&d, &l, 1, &c) == TIMERS_DESK_OUT_OF_RANGE && d.mark == 0 && l.mark == 0);
+	c.first_tick = TIMERS_CLOCK_LAST - 5, c.table = 2;
+	CHECK(timers_desk_new(&d, &l, 1, &c) == TIMERS_DESK_OUT_OF_RANGE);
+	c.table = UINT32_MAX;
+	CHECK(timers_desk_new(&d, &l, 1, &c) == TIMERS_DESK_OUT_OF_RANGE && d.mark == 0 && l.mark == 0);
+	/* the clock's last tick */
+	c.table = TIMERS_CLOCK;
+	CHECK(timers_desk_new(&d, &l, 1, &c) == TIMERS_DESK_OK && timers_desk_now(&d) == TIMERS_CLOCK_LAST - 5);
+	CHECK(timers_line_start(&l, 6, 1, &n) == TIMERS_DESK_OK && timers_line_start(&l, 5, 2, &n) == TIMERS_DESK_OK);
+	owner_turn(&d);
+	CHECK(timers_line_receive(&l, &w) && w.kind == TIMERS_WORD_REFUSED && w.reason == TIMERS_DESK_TOO_LATE);
+	CHECK(timers_line_receive(&l, &w) && w.kind == TIMERS_WORD_STARTED && w.deadline == TIMERS_CLOCK_LAST);
+	CHECK(timers_desk_next(&d) == TIMERS_CLOCK_LAST);
+	CHECK(timers_desk_advance(&d, 100, &n) == TIMERS_DESK_OK && n == 5 && timers_desk_now(&d) == TIMERS_CLOCK_LAST);
+	CHECK(timers_desk_next(&d) == TIMERS_NEVER && timers_desk_tick(&d) == TIMERS_DESK_CLOCK_END);
+	timers_desk_flush_all(&d);
+	CHECK(timers_line_receive(&l, &w) && w.kind == TIMERS_WORD_EXPIRED && w.action == 2);
+	timers_desk_free(&d), timers_line_free(&l);
+	/* a wake-up may come before the first deadline, at which the timer moves to a lower wheel */
+	c.first_tick = 0, c.table = TIMERS_WIDE;
+	CHECK(timers_desk_new(&d, &l, 1, &c) == TIMERS_DESK_OK && timers_desk_next(&d) == TIMERS_NEVER);
+	CHECK(timers_line_start(&l, 4161, 1, &n) == TIMERS_DESK_OK && timers_line_start(&l, 9000, 2, &n) == TIMERS_DESK_OK);
+	owner_turn(&d);
+	CHECK(timers_desk_wakeup(&d) == 4096 && timers_desk_next(&d) == 4161);
+	timers_desk_free(&d), timers_line_free(&l);
+}
+
+/* A freed end is seen by the other: a freed line by the owner at once, a freed desk by a client once it has received all that
+ * was put into its line before. */
+static void frees(void)
+{
+	struct timers_desk d = TIMERS_DESK_INIT;
+	struct timers_line l[4] = { TIMERS_LINE_INIT, TIMERS_LINE_INIT, TIMERS_LINE_INIT, TIMERS_LINE_INIT };
+	struct timers_desk_config config = { 0, 100, 8, 4, TIMERS_WIDE };
+	struct timers_word w;
+	uint64_t n;
+	size_t unread;
+	CHECK(timers_desk_new(&d, l, 4, &config) == TIMERS_DESK_OK);
+	for (size_t c = 0; c < 4; c++)
+		CHECK(!timers_desk_line_freed(&d, c) && !timers_line_abandoned(&l[c]));
+	CHECK(!timers_desk_line_freed(&d, 4) && !timers_desk_line_freed(&d, SIZE_MAX));
+	for (int c = 0; c < 3; c++)
+		CHECK(timers_line_start(&l[c], 5, 1, &n) == TIMERS_DESK_OK);
+	owner_turn(&d);
+	/* a finish is no free, and a line whose words have ended is not abandoned */
+	CHECK(timers_line_finish(&l[1]) == TIMERS_DESK_OK && timers_line_finish(&l[3]) == TIMERS_DESK_OK);
+	CHECK(timers_desk_end(&d, 3, &l[3], &unread) == TIMERS_DESK_OK && unread == 0);
+	for (size_t c = 0; c < 4; c++)
+		CHECK(!timers_desk_line_freed(&d, c) && !timers_line_abandoned(&l[c]));
+	/* client 2 frees its line: its timer stays, and no other client has */
+	timers_line_free(&l[2]);
+	CHECK(timers_desk_line_freed(&d, 2) && timers_desk_line_freed(&d, 2) && timers_desk_len(&d) == 3);
+	CHECK(!timers_desk_line_freed(&d, 0) && !timers_desk_line_freed(&d, 1) && !timers_desk_line_freed(&d, 3));
+	CHECK(!timers_line_abandoned(&l[2]));
+	/* a request that was seen, and words in the line and at the desk */
+	CHECK(timers_line_start(&l[0], 7, 2, &n) == TIMERS_DESK_OK);
+	timers_desk_serve_all(&d, 9);
+	timers_desk_free(&d);
+	CHECK(!timers_desk_line_freed(&d, 2));
+	for (int c = 0; c < 2; c++) {
+		CHECK(!timers_line_abandoned(&l[c]) && timers_line_receive(&l[c], &w) && w.kind == TIMERS_WORD_STARTED && w.number == 1);
+		CHECK(timers_line_abandoned(&l[c]) && timers_line_abandoned(&l[c]) && !timers_line_ended(&l[c]));
+		CHECK(!timers_line_receive(&l[c], &w));
+	}
+	/* a line that is abandoned still takes requests, and finishes */
+	CHECK(timers_line_start(&l[0], 7, 2, &n) == TIMERS_DESK_OK && timers_line_finish(&l[0]) == TIMERS_DESK_OK && timers_line_abandoned(&l[0]));
+	CHECK(timers_line_ended(&l[3]) && !timers_line_abandoned(&l[3]));
+	for (int c = 0; c < 4; c++) {
+		timers_line_free(&l[c]);
+		CHECK(!timers_line_abandoned(&l[c]));
+	}
+}
+
+#ifdef REFUSE
+/* A client's calls ask for no memory, and the owner's asks and looks don't either. */
+static void clients_ask_for_nothing(void)
+{
+	struct timers_desk d = TIMERS_DESK_INIT;
+	struct timers_line l = TIMERS_LINE_INIT;
+	struct timers_desk_config config = { 0, 100, 16, 4, TIMERS_WIDE };
+	struct timers_word w = { 0, 0, 0, { 0, 0 }, 0, 0, 0 };
+	uint64_t n;
+	size_t unread;
+	CHECK(timers_desk_new(&d, &l, 1, &config) == TIMERS_DESK_OK);
+	for (int round = 0; round < 100; round++) {
+		long before = asked, held = blocks;
+		for (int i = 0; i < 6; i++)         /* more than the line takes */
+			if (i % 3 == 0)
+				timers_line_start(&l, 3, 1, &n);
+			else if (i % 3 == 1)
+				timers_line_restart(&l, w.handle, 5, 2, &n);
+			else
+				timers_line_stop(&l, w.handle, &n);
+		CHECK(!timers_line_ended(&l) && !timers_line_abandoned(&l) && !timers_desk_line_freed(&d, 0));
+		CHECK(asked == before && blocks == held);
+		owner_turn(&d);
+		before = asked, held = blocks;
+		CHECK(timers_desk_next(&d) >= timers_desk_wakeup(&d) && timers_desk_tick(&d) == TIMERS_DESK_OK);
+		timers_desk_flush_all(&d);
+		while (timers_line_receive(&l, &w))
+			;
+		CHECK(asked == before && blocks == held);
+	}
+	CHECK(timers_desk_close(&d, &n) == TIMERS_DESK_OK);
+	long before = asked, held = blocks;
+	CHECK(timers_line_finish(&l) == TIMERS_DESK_OK);
+	while (timers_line_receive(&l, &w) || timers_desk_end(&d, 0, &l, &unread) != TIMERS_DESK_OK)
+		CHECK(!timers_line_ended(&l) && (timers_desk_serve_all(&d, 9), timers_desk_flush_all(&d), true));
+	while (timers_line_receive(&l, &w))
+		;
+	CHECK(timers_line_ended(&l) && asked == before && blocks == held);
+	timers_desk_free(&d), timers_line_free(&l);
+	CHECK(blocks == 0);
+}
+#endif
+
 /* returns whether memory ran out */
 static bool story(void)
 {
 	struct timers_desk d = TIMERS_DESK_INIT;
 	struct timers_line l[2] = { TIMERS_LINE_INIT, TIMERS_LINE_INIT };
-	struct timers_desk_config config = { 0, 100, 8, 4 };
+	struct timers_desk_config config = { 0, 100, 8, 4, TIMERS_WIDE };
 	struct timers_word w, first;
 	uint64_t n;
 	size_t standing;
@@ -111,13 +239,13 @@ static bool story(void)
 	}
 	memset(&w, 7, sizeof w);
 	CHECK(!timers_line_receive(&l[0], &w) && w.action == 0x0707070707070707);
-	CHECK(timers_desk_len(&d) == 4 && timers_desk_wakeup(&d) <= 100 && timers_desk_wakeup(&d) > 0);
+	CHECK(timers_desk_len(&d) == 4 && timers_desk_wakeup(&d) <= 100 && timers_desk_wakeup(&d) > 0 && timers_desk_next(&d) == 100);
 	/* an expiry, by jumps; another client cannot stop it */
 	CHECK(timers_line_stop(&l[1], first.handle, &n) == TIMERS_DESK_OK && n == 1);
 	owner_turn(&d);
 	CHECK(timers_line_receive(&l[1], &w) && w.kind == TIMERS_WORD_REFUSED && w.reason == TIMERS_DESK_NOT_PENDING);
 	CHECK(timers_desk_advance(&d, 0, &n) == TIMERS_DESK_OK && n == 0);
-	CHECK(timers_desk_advance(&d, 1000, &n) == TIMERS_DESK_OK && n == 100 && timers_desk_now(&d) == 100);
+	CHECK(timers_desk_advance(&d, 1000, &n) == TIMERS_DESK_OK && n == 100 && timers_desk_now(&d) == 100 && timers_desk_next(&d) == 200);
 	timers_desk_flush_all(&d);
 	CHECK(timers_line_receive(&l[0], &w) && w.kind == TIMERS_WORD_EXPIRED && w.number == 1 && w.action == 1 && w.deadline == 100);
 	/* refusals are words */
@@ -157,6 +285,7 @@ static bool story(void)
 	}
 	CHECK(n == 5);
 	CHECK(timers_desk_close(&d, &n) == TIMERS_DESK_CLOSED && n == 5 && timers_desk_tick(&d) == TIMERS_DESK_CLOSED && timers_desk_len(&d) == 0);
+	CHECK(timers_desk_next(&d) == TIMERS_NEVER && timers_desk_wakeup(&d) == TIMERS_NEVER);
 	CHECK(timers_desk_advance(&d, 3, &n) == TIMERS_DESK_CLOSED);
 	CHECK(timers_line_start(&l[0], 9, 9, &n) == TIMERS_DESK_OK);
 	owner_turn(&d);
@@ -190,7 +319,7 @@ static void slow_client(void)
 {
 	struct timers_desk d = TIMERS_DESK_INIT;
 	struct timers_line l[2] = { TIMERS_LINE_INIT, TIMERS_LINE_INIT };
-	struct timers_desk_config config = { 0, 1000, 16, 4 };
+	struct timers_desk_config config = { 0, 1000, 16, 4, TIMERS_WIDE };
 	struct timers_word w;
 	uint64_t n, sent = 0, started = 0, expired = 0, full = 0, held_up = 0;
 	CHECK(timers_desk_new(&d, l, 2, &config) == TIMERS_DESK_OK);
@@ -232,7 +361,7 @@ static bool ends(void)
 {
 	struct timers_desk d = TIMERS_DESK_INIT;
 	struct timers_line l[2] = { TIMERS_LINE_INIT, TIMERS_LINE_INIT };
-	struct timers_desk_config config = { 0, 100, 8, 4 };
+	struct timers_desk_config config = { 0, 100, 8, 4, TIMERS_WIDE };
 	struct timers_word w;
 	uint64_t n;
 	size_t unread = 55;
@@ -287,7 +416,7 @@ static void ends_all(void)
 {
 	struct timers_desk d = TIMERS_DESK_INIT;
 	struct timers_line l[3] = { TIMERS_LINE_INIT, TIMERS_LINE_INIT, TIMERS_LINE_INIT };
-	struct timers_desk_config config = { 0, 100, 8, 4 };
+	struct timers_desk_config config = { 0, 100, 8, 4, TIMERS_WIDE };
 	struct timers_word w;
 	uint64_t n;
 	size_t c = 77;
@@ -335,8 +464,14 @@ int main(void)
 	ends_all();
 	slow_client();
 	configurations();
+	tables();
+	frees();
 	CHECK(!story());
 #ifdef REFUSE
+	CHECK(blocks == 0);
+	clients_ask_for_nothing();
+	asked = 0;
+	CHECK(!story());
 	long all = asked, runs = 0;
 	for (long i = 0; i < all; i++) {
 		left = i;

@@ -1,4 +1,5 @@
-/* Desks and lines that are freed while the other side is still at work: ROUNDS desks, each with CLIENTS threads.
+/* Desks and lines that are freed while the other side is still at work: ROUNDS desks, each with CLIENTS threads. Each side
+ * sees that the other was freed, and not before; a client receives first what was put into its line.
  *
  *     desk_frees ROUNDS CLIENTS [SEED] */
 #include <pthread.h>
@@ -9,7 +10,7 @@
 
 #define CHECK(fact) do { if (!(fact)) { fprintf(stderr, "line %d: %s\n", __LINE__, #fact); abort(); } } while (0)
 
-struct client { struct timers_line *line; unsigned long seed; unsigned long words; };
+struct client { struct timers_line *line; unsigned long seed; unsigned long words; bool abandoned; };
 
 static unsigned long draw(unsigned long *seed)
 {
@@ -39,6 +40,11 @@ static void *work(void *at)
 		for (unsigned long n = draw(&me->seed) % 4; n-- && timers_line_receive(me->line, &w); me->words++)
 			if (w.kind <= TIMERS_WORD_NOT_TAKEN)
 				CHECK(w.number == ++answered);
+		if (draw(&me->seed) % 4 == 0 && timers_line_abandoned(me->line)) {
+			me->abandoned = true;
+			CHECK(!timers_line_receive(me->line, &w));
+		}
+		CHECK(!me->abandoned || timers_line_abandoned(me->line));
 		if (draw(&me->seed) % 16 == 0)
 			sched_yield();
 	}
@@ -57,10 +63,13 @@ int main(int argc, char **argv)
 	for (unsigned long r = 0; r < rounds; r++) {
 		struct timers_desk d = TIMERS_DESK_INIT;
 		struct timers_line lines[64] = { TIMERS_LINE_INIT };
-		struct timers_desk_config config = { draw(&seed) % 3, 1 + draw(&seed) % 200, 2 + draw(&seed) % 40, 1 + draw(&seed) % 16 };
-		struct client all[64] = { { NULL, 0, 0 } };
+		struct timers_desk_config config = { draw(&seed) % 3, 1 + draw(&seed) % 200, 2 + draw(&seed) % 40, 1 + draw(&seed) % 16,
+			draw(&seed) % 2 };
+		struct client all[64] = { { NULL, 0, 0, false } };
 		pthread_t threads[64];
+		struct timers_word w;
 		uint64_t passed, returned;
+		bool freed[64] = { false };
 		CHECK(timers_desk_new(&d, lines, clients, &config) == TIMERS_DESK_OK);
 		for (unsigned long c = 0; c < clients; c++) {
 			all[c].line = &lines[c];
@@ -78,11 +87,28 @@ int main(int argc, char **argv)
 				timers_desk_close(&d, &returned);
 			if (draw(&seed) % 16 == 0)
 				sched_yield();
+			unsigned long c = draw(&seed) % clients;
+			bool now = timers_desk_line_freed(&d, c);
+			CHECK(now || !freed[c]);
+			freed[c] = now;
 		}
-		timers_desk_free(&d);
+		/* the desk is freed beside the threads, or after them */
+		bool beside = draw(&seed) % 2;
+		if (beside)
+			timers_desk_free(&d);
 		for (unsigned long c = 0; c < clients; c++)
 			CHECK(pthread_join(threads[c], NULL) == 0);
+		for (unsigned long c = 0; !beside && c < clients; c++) {
+			CHECK(timers_desk_line_freed(&d, c) == (lines[c].mark == 0));
+			CHECK(!all[c].abandoned && !timers_line_abandoned(&lines[c]));
+		}
+		if (!beside)
+			timers_desk_free(&d);
 		for (unsigned long c = 0; c < clients; c++) {
+			bool held = lines[c].mark != 0;
+			for (; timers_line_receive(&lines[c], &w); all[c].words++)
+				CHECK(!all[c].abandoned);
+			CHECK(timers_line_abandoned(&lines[c]) == held);
 			words += all[c].words;
 			timers_line_free(&lines[c]);
 		}

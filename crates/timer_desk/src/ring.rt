@@ -58,7 +58,7 @@ pub struct ClientReader {
 }
 
 impl ClientEnd {
-    ghost use Rattle.std.specs.Prelude.{◌≡◌, ◌+◌, ◌<◌, ◌≤◌, [], ◌∷◌, ◌++◌, false, Err, IsOk, OnOk, IfOk, OnErr, IfErr, IfSome, IsNone};
+    ghost use Rattle.std.specs.Prelude.{◌≡◌, ◌+◌, ◌<◌, ◌≤◌, [], ◌∷◌, ◌++◌, true, false, Err, IsOk, OnOk, IfOk, OnErr, IfErr, IfSome, IsNone};
     ghost use Rattle.timer_desk.specs.Ring.{line_of_end, submitted, received_by_end, free_of, seen_by_end, next_of, numbered, IsUnsent, requests_ring_of, words_ring_of_reader, all_submitted, read_by, is_settled_reader};
 
     /// The next request's number.
@@ -112,6 +112,20 @@ impl ClientEnd {
             Ok(word) => Some(word),
             Err(_) => None,
         }
+    }
+
+    /// Whether the owner's end was dropped, and no word stands in the line.
+    ///
+    /// Whether it was dropped is the ring's answer, of which no contract speaks. The ring is asked before the
+    /// words are looked for, so that each word that was put before the drop is received first.
+    pub fn is_abandoned(&mut self) -> bool
+        ensures line { line_of_end self.new ≡ line_of_end self.old }
+        ensures yes { result ≡ true → (seen_by_end self.old ≡ []) × (seen_by_end self.new ≡ []) }
+        ensures received { received_by_end self.new ≡ received_by_end self.old }
+        ensures sent { (submitted self.new ≡ submitted self.old)
+            × (next_of self.new ≡ next_of self.old) × (free_of self.new ≡ free_of self.old) }
+    {
+        self.words.is_abandoned() && self.words.slots() == 0
     }
 
     /// Ends the client's requests. The first result is None only where the owner's end was dropped.
@@ -214,6 +228,7 @@ impl Inlet for RingInlet {
 impl RingInlet {
     ghost use Rattle.std.specs.Prelude.{◌≡◌, ◌++◌, true, length, IfSome};
     ghost use Rattle.timer_desk.specs.Ring.{line_of_inlet, got_of, standing_of, given_of, is_settled, free_of_inlet, requests_ring_of, words_ring_of, all_submitted, all_given};
+    ghost use Rattle.timer_desk.specs.Settlement.{HasLooked};
 
     /// Settles the line once its client has finished, and returns how many requests stand in it.
     pub fn settle(&mut self, ended: &mut RequestsEnded) -> usize
@@ -230,6 +245,13 @@ impl RingInlet {
     {
         self.settled = true;
         self.requests.slots_after(&mut ended.finished)
+    }
+
+    /// Whether the client's end was dropped. That is the ring's answer, of which no contract speaks.
+    pub fn is_abandoned(&mut self) -> bool
+        ensures { HasLooked self.old self.new }
+    {
+        self.words.is_abandoned()
     }
 
     /// Ends the owner's words. None only where the client's end was dropped.
@@ -290,6 +312,23 @@ impl ClientReader {
     {
         self.settled = true;
         self.words.slots_after(&mut ended.finished)
+    }
+
+    /// Whether the owner's end was dropped before the line was settled, and no word stands in the line.
+    ///
+    /// As of `ClientEnd::is_abandoned`, no contract speaks of the ring's answer. Of a settled line the ring is
+    /// not asked.
+    pub fn is_abandoned(&mut self) -> bool
+        ensures line { words_ring_of_reader self.new ≡ words_ring_of_reader self.old }
+        ensures yes { result ≡ true → (is_settled_reader self.old ≡ false)
+            × (seen_by_reader self.old ≡ []) × (seen_by_reader self.new ≡ []) }
+        ensures read { (read_by self.new ≡ read_by self.old) × (unread_by self.new ≡ unread_by self.old) }
+        ensures settled { is_settled_reader self.new ≡ is_settled_reader self.old }
+    {
+        if self.settled {
+            return false;
+        }
+        self.words.is_abandoned() && self.words.is_empty()
     }
 
     /// Whether the line is settled and all words that stood in it were received.

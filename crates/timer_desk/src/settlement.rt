@@ -29,6 +29,22 @@ impl<W: Wheel + Drop> Desk<W, RingInlet> {
         self.inlets[c].settle(ended)
     }
 
+    /// Whether client c has dropped its end of its line. Does not allocate.
+    ///
+    /// That is the ring's answer, of which no contract speaks; and nothing changes.
+    pub fn is_abandoned(&mut self, c: usize) -> bool
+        requires { c < clients_of self.old }
+        ensures others { (k : ℕ) (i : RingInlet) → k ≢ c
+            → get_or self.new.inlets k i ≡ get_or self.old.inlets k i }
+        ensures clients { clients_of self.new ≡ clients_of self.old }
+        ensures facility { self.new.facility ≡ self.old.facility }
+        ensures backlogs { self.new.backlogs ≡ self.old.backlogs }
+        ensures looked { (i : RingInlet) → HasLooked (get_or self.old.inlets c i)
+            (get_or self.new.inlets c i) }
+    {
+        self.inlets[c].is_abandoned()
+    }
+
     /// Settles the reader of client c, and returns how many words stand in its line: with what it has
     /// received they are all that were given. Does not allocate.
     pub fn settle_reader(&mut self, c: usize, reader: &mut ClientReader) -> usize

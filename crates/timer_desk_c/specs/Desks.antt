@@ -1,6 +1,8 @@
 -- The owner's desk, before and after a call.
-use Rattle.std.specs.Prelude.{ℕ, ◌≡◌, ◌≢◌, ◌<◌, ◌≤◌, ◌⊎◌, true, false, List, [], ◌∷◌, length, get_or, map, Ok, Err, Some, None, Result, IfOk}
+use Rattle.std.specs.Prelude.{ℕ, ◌≡◌, ◌≢◌, ◌<◌, ◌≤◌, ◌⊎◌, ◌==◌, true, false, List, [], ◌∷◌, length, get_or, map, Ok, Err, Some, None, Result, IfOk, if◌then◌else◌}
 use Rattle.timer_base.specs.declared.limits.TheConstants.{LAST}
+use Rattle.timer_base.specs.WakeUps.{next_deadline}
+use Rattle.timer_wheels.specs.declared.table.TheConstants.{LAST_OF_CLOCK}
 use Rattle.timer_facility.specs.declared.config.Config as facility
 use Rattle.timer_facility.specs.declared.request.TickFault.{TickFault}
 use Rattle.timer_facility.specs.declared.request.CloseFault.{CloseFault}
@@ -23,7 +25,7 @@ use Rattle.timer_desk_c.specs.declared.layout.DeskConfig.{DeskConfig}
 use Rattle.timer_desk_c.specs.declared.c_structs.CLine.{CLine}
 use Rattle.timer_desk_c.specs.declared.line.Line.{Line}
 use Rattle.timer_desk_c.specs.declared.desk_maker.TheConstants.{MIN_LINE, MAX_LINE}
-use Rattle.timer_desk_c.specs.declared.status.TheConstants.{OK, NO_MEMORY, IDLE, NO_ROOM, OUT_OF_RANGE, CLOSED, CLOCK_END, NO_CLIENT, NOT_FINISHED, OTHER_LINE, NEVER}
+use Rattle.timer_desk_c.specs.declared.status.TheConstants.{OK, NO_MEMORY, IDLE, NO_ROOM, OUT_OF_RANGE, CLOSED, CLOCK_END, NO_CLIENT, NOT_FINISHED, OTHER_LINE, WIDE, CLOCK, NEVER}
 use Rattle.timer_desk_c.specs.DeskSlots.{DeskState}
 use Rattle.timer_desk_c.specs.Frames.{HasLine, HasNoLine}
 use Rattle.timer_desk_c.specs.Lines.{requests_ring_on, words_ring_on, submitted_on, received_on, next_on, free_on, is_open_line, IsSameLine, SameTraffic}
@@ -38,10 +40,18 @@ config_of clients c = record {
   first_number = 1;
 }
 
+-- the last tick of the clock with this table
+abbrev pub last_of : ℕ → ℕ
+last_of table = if table == WIDE then LAST else LAST_OF_CLOCK
+
+-- there is such a table, and it has the first tick
+abbrev pub HasTable : DeskConfig → Type 0
+HasTable c = (c.table ≤ CLOCK) × (c.first_tick ≤ last_of c.table)
+
 -- each number is in its range
 abbrev pub IsFit : ℕ → DeskConfig → Type 0
 IsFit clients c =
-    (config_fault (config_of clients c) ≡ None) × (MIN_ROOM ≤ c.room) × (c.room ≤ MAX_ROOM)
+    (config_fault (config_of clients c) ≡ None) × HasTable c × (MIN_ROOM ≤ c.room) × (c.room ≤ MAX_ROOM)
     × (MIN_LINE ≤ c.line) × (c.line ≤ MAX_LINE)
 
 -- the client's end is of this inlet's line
@@ -92,7 +102,7 @@ pub record IsOneHeld (lines : List CLine) : Type 0 where
 
 -- a new desk of this configuration over these lines
 abbrev pub IsNewDesk : ℕ → DeskConfig → DeskState → Type 0
-IsNewDesk clients c d = (d ≡ opened_desk (opened (config_of clients c) LAST) d.inlets c.room)
+IsNewDesk clients c d = (d ≡ opened_desk (opened (config_of clients c) (last_of c.table)) d.inlets c.room)
     × (clients_of d ≡ clients)
 
 -- a new desk, and its lines at C
@@ -151,6 +161,10 @@ pub record HasClosed (status returned : ℕ) (old new : DeskState) : Type 0 wher
 -- the tick until which nothing expires
 abbrev pub IsNextTick : ℕ → FacilityState → Type 0
 IsNextTick tick s = ((tick ≡ NEVER) × (s.pending ≡ [])) ⊎ IsWakeUp tick s
+
+-- the first pending deadline
+abbrev pub IsFirstDeadline : ℕ → FacilityState → Type 0
+IsFirstDeadline tick s = ((tick ≡ NEVER) × (s.pending ≡ [])) ⊎ (next_deadline s.pending ≡ Some tick)
 
 -- the line of this client, which has finished, is settled: what was got of it followed by what stands is all
 -- that was ever submitted on it

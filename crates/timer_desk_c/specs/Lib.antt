@@ -11,3 +11,4 @@ pub mod Rounds
 pub mod Serving
 pub mod Shutdown
 pub mod ShutdownAll
+pub mod Freed

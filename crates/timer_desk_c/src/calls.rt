@@ -1,7 +1,8 @@
 //! The owner's calls on a desk, over any wheel, with C's statuses.
-ghost use Rattle.std.specs.Prelude.{◌≡◌, ◌<◌, ◌≤◌, length};
+ghost use Rattle.std.specs.Prelude.{◌≡◌, ◌<◌, ◌≤◌, length, false};
 ghost use Rattle.timer_desk.specs.Desk.{clients_of, backlog_at};
-ghost use Rattle.timer_desk_c.specs.Desks.{status_of, HasServed, HasTicked, HasClosed, IsNextTick};
+ghost use Rattle.timer_desk_c.specs.Desks.{status_of, HasServed, HasTicked, HasClosed, IsNextTick, IsFirstDeadline};
+ghost use Rattle.timer_desk_c.specs.Freed.{OnlyLooks};
 ghost use Rattle.timer_desk_c.specs.declared.status.TheConstants.{NO_CLIENT};
 
 use crate::status::{CLOCK_END, CLOSED, IDLE, NEVER, NO_CLIENT, NO_MEMORY, NO_ROOM, OK};
@@ -65,6 +66,27 @@ pub(crate) fn wakeup<W: Wheel + Drop>(desk: &Desk<W, RingInlet>) -> u64
         Some(tick) => tick,
         None => NEVER,
     }
+}
+
+/// The first pending deadline.
+pub(crate) fn next<W: Wheel + Drop>(desk: &Desk<W, RingInlet>) -> u64
+    ensures { IsFirstDeadline result desk.now.facility }
+{
+    match desk.facility().next_deadline() {
+        Some(deadline) => deadline,
+        None => NEVER,
+    }
+}
+
+/// Whether a client's line was freed. Nothing changes.
+pub(crate) fn line_freed<W: Wheel + Drop>(desk: &mut Desk<W, RingInlet>, client: usize) -> bool
+    ensures looked { client < clients_of desk.old → OnlyLooks client desk.old desk.new }
+    ensures none { clients_of desk.old ≤ client → (result ≡ false) × (desk.new ≡ desk.old) }
+{
+    if client >= desk.clients() {
+        return false;
+    }
+    desk.is_abandoned(client)
 }
 
 /// How many words wait in a client's outbox. 0 if there is no such client.

@@ -10,11 +10,12 @@ ghost use Rattle.timer_desk.specs.Desk.{clients_of, backlog_at};
 ghost use Rattle.timer_desk.specs.Ring.{line_of_inlet};
 ghost use Rattle.timer_desk.specs.Shutdown.{KeepsLines};
 ghost use Rattle.timer_desk_c.specs.Frames.{IsOpen, IsShut, with_desk, HasLine, HasNoLine, with_line};
-ghost use Rattle.timer_desk_c.specs.Desks.{IsFit, IsMade, AllEmpty, IsOneHeld, WhyNotMade, HasServed, HasTicked, HasClosed, IsNextTick, IsSettled, IsGivenAs, IsAsBefore, WhyNotSettled};
+ghost use Rattle.timer_desk_c.specs.Desks.{IsFit, IsMade, AllEmpty, IsOneHeld, WhyNotMade, HasServed, HasTicked, HasClosed, IsNextTick, IsFirstDeadline, IsSettled, IsGivenAs, IsAsBefore, WhyNotSettled};
 ghost use Rattle.timer_desk_c.specs.Rounds.{HasServedAll, HasFlushedAll};
 ghost use Rattle.timer_desk_c.specs.Ticks.{HasAdvanced, WhyNotAdvanced, HasFlushed};
 ghost use Rattle.timer_desk_c.specs.Shutdown.{IsTied, OnlySettles, HasEnded, WhyNotEnded};
 ghost use Rattle.timer_desk_c.specs.ShutdownAll.{AreTied, OnlyStates, AllTried, AllEnded, WhyNotAllEnded};
+ghost use Rattle.timer_desk_c.specs.Freed.{OnlyLooks};
 ghost use Rattle.timer_desk_c.specs.declared.status.TheConstants.{OK, NOT_OPEN, OPEN, NO_CLIENT, LEFT, NEVER};
 
 use crate::c_structs::{CDesk, CLine};
@@ -214,6 +215,38 @@ pub extern "C" fn timers_desk_wakeup(d: &mut CDesk) -> u64
         return NEVER;
     }
     calls::wakeup(d.slot.desk())
+}
+
+/// The first pending deadline; `NEVER` if nothing is pending or there is no desk.
+#[unsafe(no_mangle)]
+pub extern "C" fn timers_desk_next(d: &mut CDesk) -> u64
+    ensures deadline { IsOpen d.old → IsFirstDeadline result d.old.slot.state.facility }
+    ensures not_open { IsShut d.old → result ≡ NEVER }
+    ensures same { d.new ≡ d.old }
+{
+    if !d.slot.holds() {
+        return NEVER;
+    }
+    calls::next(d.slot.desk())
+}
+
+/// Whether a client's line was freed. False if there is no such client or no desk.
+///
+/// That is what the ring of its words says of its other end, and no clause speaks of it. Whatever it says,
+/// nothing changes.
+#[unsafe(no_mangle)]
+pub extern "C" fn timers_desk_line_freed(d: &mut CDesk, client: usize) -> bool
+    ensures looked { IsOpen d.old → client < clients_of d.old.slot.state
+        → OnlyLooks client d.old.slot.state d.new.slot.state }
+    ensures none { IsOpen d.old → clients_of d.old.slot.state ≤ client
+        → (result ≡ false) × (d.new ≡ d.old) }
+    ensures not_open { IsShut d.old → (result ≡ false) × (d.new ≡ d.old) }
+    ensures only { d.new ≡ with_desk d.old d.new.slot.state }
+{
+    if !d.slot.holds() {
+        return false;
+    }
+    calls::line_freed(d.slot.desk(), client)
 }
 
 /// How many words wait in a client's outbox. 0 if there is no such client or no desk.

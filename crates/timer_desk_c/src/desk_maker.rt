@@ -1,19 +1,20 @@
 //! A desk and the lines of its clients.
-ghost use Rattle.std.specs.Prelude.{◌≡◌, ◌<◌, ◌≤◌, ◌⊎◌, [], map, length, vec_len, IfOk, IfErr};
-ghost use Rattle.timer_base.specs.declared.limits.TheConstants.{LAST};
+ghost use Rattle.std.specs.Prelude.{◌≡◌, ◌<◌, ◌≤◌, ◌⊎◌, [], map, length, vec_len, IfOk, IfErr, IfSome, IsNone};
 ghost use Rattle.timer_facility.specs.Facility.{with_nothing_waiting};
 ghost use Rattle.timer_facility.specs.Opened.{opened};
 ghost use Rattle.timer_desk.specs.Desk.{clients_of};
-ghost use Rattle.timer_desk_c.specs.Desks.{config_of, IsFit, AreNewLines, IsNewDesk, WhyNotMade};
+ghost use Rattle.timer_wheels.specs.Tables.{last_of_table};
+ghost use Rattle.timer_desk_c.specs.Desks.{config_of, last_of, IsFit, AreNewLines, IsNewDesk, WhyNotMade};
+ghost use Rattle.timer_desk_c.specs.declared.status.TheConstants.{CLOCK};
 
 use crate::layout::DeskConfig;
 use crate::line::Line;
-use crate::status::{NO_MEMORY, OUT_OF_RANGE};
+use crate::status::{CLOCK, NO_MEMORY, OUT_OF_RANGE, WIDE};
 use std::alloc::Global;
-use timer_base::OutOfMemory;
+use timer_base::{LAST, OutOfMemory};
 use timer_desk::{Desk, MAX_ROOM, MIN_ROOM, RingInlet, ring_line};
 use timer_facility::{Checked, Config, Facility};
-use timer_wheels::HierWheel;
+use timer_wheels::{HierWheel, LAST_OF_CLOCK, Table};
 
 /// The least room of a line, each way.
 pub const MIN_LINE: usize = 1;
@@ -46,7 +47,7 @@ pub(crate) fn make(alloc: Global, clients: usize, config: DeskConfig) -> Result<
         Some(checked) => checked,
         None => return Err(OUT_OF_RANGE),
     };
-    let Ok(facility) = new_facility(alloc, checked) else {
+    let Ok(facility) = new_facility(alloc, checked, config.table) else {
         return Err(NO_MEMORY);
     };
     let Ok(lines) = new_lines(alloc, clients, config.line) else {
@@ -73,6 +74,9 @@ fn checked(clients: usize, config: DeskConfig) -> Option<Checked>
     if config.line < MIN_LINE || config.line > MAX_LINE {
         return None;
     }
+    if config.table > CLOCK || config.first_tick > last_of(config.table) {
+        return None;
+    }
     let numbers = Config {
         clients: clients as u64,
         capacity: config.capacity,
@@ -86,13 +90,35 @@ fn checked(clients: usize, config: DeskConfig) -> Option<Checked>
     }
 }
 
-/// A facility with this configuration, over the widest clock.
-fn new_facility(alloc: Global, checked: Checked) -> Result<Facility<HierWheel>, OutOfMemory>
+/// The last tick of the clock with this table.
+fn last_of(table: u32) -> u64
+    ensures { result ≡ last_of table }
+{
+    if table == WIDE { LAST } else { LAST_OF_CLOCK }
+}
+
+/// The table with this number.
+fn table_of(number: u32) -> Table
+    ensures { last_of_table result ≡ last_of number }
+{
+    if number == WIDE {
+        Table::Wide
+    } else {
+        Table::Clock
+    }
+}
+
+/// A facility with this configuration, over the clock with this table.
+fn new_facility(
+    alloc: Global,
+    checked: Checked,
+    table: u32,
+) -> Result<Facility<HierWheel>, OutOfMemory>
     requires { checked.first_serial ≡ 1 }
-    ensures { IfOk result (λ f. f ≡ with_nothing_waiting (opened checked LAST)) }
+    ensures { IfOk result (λ f. f ≡ with_nothing_waiting (opened checked (last_of table))) }
 {
     let config = checked.config();
-    let Ok(wheel) = HierWheel::new(alloc, config.first_tick) else {
+    let Ok(wheel) = HierWheel::with_table(alloc, table_of(table), config.first_tick) else {
         return Err(OutOfMemory);
     };
     Ok(Facility::open(alloc, checked, wheel))

@@ -43,4 +43,6 @@ pub struct DeskConfig {
     pub room: usize,
     /// How many requests, and how many words, each line has room for.
     pub line: usize,
+    /// The number of the wheels' table.
+    pub table: u32,
 }

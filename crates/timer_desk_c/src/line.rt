@@ -22,6 +22,7 @@ pub enum Line {
 impl Line {
     ghost use Rattle.std.specs.Prelude.{◌≡◌, ◌<◌, ◌++◌, [], ◌∷◌, true, false, IfSome, IsNone};
     ghost use Rattle.timer_desk_c.specs.Lines.{HasSent, WhyNotSent, HasReceived, IsSameLine, SameTraffic, HasFinished, IsReadToEnd, MayReceive, is_open_line, is_ended_line, seen_on, unread_on, received_on, submitted_on, next_on};
+    ghost use Rattle.timer_desk_c.specs.Freed.{HasNoWord};
     ghost use Rattle.timer_desk_c.specs.declared.status.TheConstants.{OK, FINISHED};
 
     /// Sends a request, and writes its number, one above that of the last.
@@ -93,6 +94,19 @@ impl Line {
         match self {
             Line::Finished(_, reader) => reader.is_read_out(),
             Line::Open(_) => false,
+            Line::Gone => false,
+        }
+    }
+
+    /// Whether the desk was freed before it had ended the words, and all words in the line were received.
+    pub(crate) fn is_abandoned(&mut self) -> bool
+        ensures yes { result ≡ true → HasNoWord self.old self.new }
+        ensures kept { SameTraffic self.old self.new }
+        ensures line { IsSameLine self.old self.new }
+    {
+        match self {
+            Line::Open(end) => end.is_abandoned(),
+            Line::Finished(_, reader) => reader.is_abandoned(),
             Line::Gone => false,
         }
     }

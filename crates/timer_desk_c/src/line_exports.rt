@@ -8,6 +8,7 @@ ghost use Rattle.std.specs.Prelude.{◌≡◌, ◌<◌, ◌⊎◌, ◌++◌, [],
 ghost use Rattle.timer_facility.specs.declared.request.Request.TheVariants.{Start, Stop, Restart};
 ghost use Rattle.timer_desk_c.specs.Frames.{HasLine, HasNoLine, with_line};
 ghost use Rattle.timer_desk_c.specs.Lines.{HasSent, WhyNotSent, SameTraffic, SameSent, HasReceived, HasFinished, IsReadToEnd, MayReceive, IsSameLine, is_open_line, is_ended_line, seen_on, unread_on, received_on};
+ghost use Rattle.timer_desk_c.specs.Freed.{HasNoWord};
 ghost use Rattle.timer_desk_c.specs.Messages.{named};
 ghost use Rattle.timer_desk_c.specs.declared.status.TheConstants.{OK, NOT_OPEN, FINISHED};
 
@@ -130,6 +131,25 @@ pub extern "C" fn timers_line_ended(line: &mut CLine) -> bool
         return false;
     }
     line.slot.line().is_read_to_end()
+}
+
+/// Whether the desk was freed before it had ended the words, and all words that it put were received.
+///
+/// Whether it was freed is what the ring of words says of its other end, and no clause speaks of it. True is
+/// returned only if no word is left in the line.
+#[unsafe(no_mangle)]
+pub extern "C" fn timers_line_abandoned(line: &mut CLine) -> bool
+    ensures yes { result ≡ true → HasLine line.old
+        × HasNoWord line.old.slot.state line.new.slot.state }
+    ensures not_open { HasNoLine line.old → (result ≡ false) × (line.new ≡ line.old) }
+    ensures kept { SameTraffic line.old.slot.state line.new.slot.state }
+    ensures line { IsSameLine line.old.slot.state line.new.slot.state }
+    ensures only { line.new ≡ with_line line.old line.new.slot.state }
+{
+    if !line.slot.holds() {
+        return false;
+    }
+    line.slot.line().is_abandoned()
 }
 
 /// Ends the requests of this line. Words are still received.

@@ -6,6 +6,8 @@
 #[cfg(test)]
 mod drive_tests;
 #[cfg(test)]
+mod freed_tests;
+#[cfg(test)]
 mod full_tests;
 #[cfg(test)]
 mod line_tests;

@@ -6,6 +6,7 @@
 ghost use Rattle.std.specs.Prelude.{◌≡◌, false, ℕ, ◌+◌, ◌<◌, ◌≤◌, ◌↔◌, [], length, drop, slice_get, slice_index, IsTrue, IfSome, IfOk, IfErr, OnErr, OnOk, MatchResult, if◌then◌else◌, nat_lt};
 ghost use Rattle.timer_base.specs.Pending.{timers_of};
 ghost use Rattle.timer_base.specs.WheelState.{after_clear};
+ghost use Rattle.timer_base.specs.WakeUps.{next_deadline};
 ghost use Rattle.timer_facility.specs.State.{FacilityState, IsSound, Tick, Close, Start, Stop, Restart, number_of, pending_of};
 ghost use Rattle.timer_facility.specs.Verdict.{not_taken, named, start_refusal, interval_refusal, tick_refusal, TickRefused, verdict};
 ghost use Rattle.timer_facility.specs.Refused.{verdict_in, verdict_on_not_taken, verdict_on_close};
@@ -288,6 +289,16 @@ impl<W: Wheel + Drop> Facility<W> {
         ensures { IsQuietUntil result self.now.state }
     {
         self.wheel.quiet_until()
+    }
+
+    /// The first pending deadline, or None exactly if nothing is pending.
+    ///
+    /// It is exact, while `quiet_until` may be early, and the wheel may walk timers to find it. Timers that
+    /// wait to be handed out do not count. Does not allocate.
+    pub fn next_deadline(&self) -> Option<u64>
+        ensures { result ≡ next_deadline self.now.state.pending }
+    {
+        self.wheel.next_deadline()
     }
 
     /// Closes the facility, and returns how many timers were pending. They wait to be handed out.

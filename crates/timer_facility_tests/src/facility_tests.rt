@@ -85,6 +85,8 @@ struct Shown {
 /// What the readers return if nothing waits to be handed out.
 fn show(rt: &impl Abort, facility: &Facility<PlainWheel>) -> Shown {
     assert!(rt; !facility.has_out());
+    // The plain wheel finds the first deadline for both.
+    assert_eq!(rt; facility.next_deadline(), facility.quiet_until());
     Shown {
         now: facility.now(),
         is_closed: facility.is_closed(),

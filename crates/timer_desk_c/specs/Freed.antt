@@ -1,0 +1,21 @@
+-- What a look for a freed line or desk leaves as it was. Whether the other end was freed is the ring's answer, of
+-- which no clause speaks.
+use Rattle.std.specs.Prelude.{ℕ, ◌≡◌, ◌≢◌, false, [], get_or}
+use Rattle.timer_desk.specs.declared.ring.RingInlet.{RingInlet}
+use Rattle.timer_desk.specs.Desk.{clients_of}
+use Rattle.timer_desk.specs.Settlement.{HasLooked}
+use Rattle.timer_desk_c.specs.declared.line.Line.{Line}
+use Rattle.timer_desk_c.specs.DeskSlots.{DeskState}
+use Rattle.timer_desk_c.specs.Lines.{is_ended_line, seen_on}
+
+-- only more slots of this client's line may be known to be free
+pub record OnlyLooks (client : ℕ) (old new : DeskState) : Type 0 where
+  pub same_clients : clients_of new ≡ clients_of old
+  pub same_facility : new.facility ≡ old.facility
+  pub same_backlogs : new.backlogs ≡ old.backlogs
+  pub others : (k : ℕ) (i : RingInlet) → k ≢ client → get_or new.inlets k i ≡ get_or old.inlets k i
+  pub looked : (i : RingInlet) → HasLooked (get_or old.inlets client i) (get_or new.inlets client i)
+
+-- the words have not ended, and none was seen in the line, neither before nor now
+abbrev pub HasNoWord : Line → Line → Type 0
+HasNoWord old new = (is_ended_line old ≡ false) × (seen_on old ≡ []) × (seen_on new ≡ [])
