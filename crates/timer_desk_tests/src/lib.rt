@@ -16,8 +16,6 @@ mod locked_tests;
 #[cfg(test)]
 mod reader_tests;
 #[cfg(test)]
-mod refusing;
-#[cfg(test)]
 mod ring_tests;
 #[cfg(test)]
 mod row_tests;

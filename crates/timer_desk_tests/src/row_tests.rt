@@ -5,7 +5,6 @@ ghost use Rattle.timer_base.specs.declared.limits.TheConstants.{LAST};
 ghost use Rattle.timer_base.specs.WheelState.{empty_wheel};
 ghost use Rattle.timer_desk.specs.Desk.{clients_of, InRange};
 
-use crate::refusing::Refusing;
 use crate::testing::*;
 use std::alloc::Global;
 use std::process::Abort;
@@ -14,6 +13,7 @@ use timer_desk::{
     ClientEnd, Desk, Done, Inlet, MemoryInlet, Numbered, RingInlet, Served, Step, Word,
 };
 use timer_facility::{Answer, NotTaken, Notice, Request};
+use timer_refusing::Refusing;
 use timer_wheels::{HashedWheel, HierWheel, Table};
 
 /// How the steps of a row are taken.

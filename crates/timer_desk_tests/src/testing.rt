@@ -6,13 +6,13 @@ ghost use Rattle.timer_wheels.specs.HierWheel.{hier_state};
 ghost use Rattle.timer_desk.specs.Ring.{line_of_end, line_of_inlet};
 ghost use Rattle.timer_desk.specs.Desk.{AllIdle, clients_of};
 
-use crate::refusing::Refusing;
 use std::alloc::Global;
 use std::fmt::Debug;
 use std::process::Abort;
 use timer_base::{Handle, PlainWheel, Timer, Wheel};
 use timer_desk::{ClientEnd, Desk, Done, Inlet, Numbered, RingInlet, Served, Word, ring_line};
 use timer_facility::{Answer, Config, Facility, Notice, Request};
+use timer_refusing::Refusing;
 use timer_wheels::{HierWheel, Table};
 
 /// Compares in a function of its own, so that a test is a list of calls without branches.

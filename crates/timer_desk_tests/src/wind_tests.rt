@@ -5,11 +5,11 @@ ghost use Rattle.timer_desk.specs.Ring.{line_of_end, line_of_inlet};
 ghost use Rattle.timer_desk.specs.declared.ring.RingInlet.{RingInlet};
 ghost use Rattle.timer_desk.specs.Desk.{clients_of};
 
-use crate::refusing::Refusing;
 use crate::testing::*;
 use std::alloc::Global;
 use std::process::Abort;
 use timer_desk::{ClientEnd, ClientReader, Desk, DriveEnd, RingInlet, drive, wind_up};
+use timer_refusing::Refusing;
 use timer_wheels::{HierWheel, Table};
 
 #[test]

@@ -5,5 +5,3 @@
 mod facility_tests;
 #[cfg(test)]
 mod player_tests;
-#[cfg(test)]
-mod refusing;

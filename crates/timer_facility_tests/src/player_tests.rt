@@ -1,6 +1,5 @@
 //! Lists of events over the plain wheel. More of them are played as scripts, by the crates above.
 use crate::facility_tests::facility;
-use crate::refusing::Refusing;
 use std::alloc::Global;
 use std::process::Abort;
 use std::test::Fail;
@@ -8,6 +7,7 @@ use timer_base::{Handle, PlainWheel, Timer, Wheel};
 use timer_facility::{
     Answer, Config, Event, Facility, NotTaken, Notice, Out, Player, Reason, TickFault,
 };
+use timer_refusing::Refusing;
 
 const CONFIG: Config = Config {
     clients: 64,
