@@ -8,7 +8,8 @@
 //! Each line begins with two spaces. A bucket without a timer has none. What is due is not shown: between
 //! two lines of a script nothing is.
 ghost use Rattle.std.specs.Prelude.{◌≡◌, ◌<◌, ◌++◌, length, decimal, OnOk};
-ghost use Rattle.timer_commands.specs.Indented.{HasGrown, HasGrownByIndented, HasGrownByFront};
+ghost use Rattle.timer_script.specs.Decorator.{HasGrown};
+ghost use Rattle.timer_commands.specs.Indented.{HasGrownByIndented, HasGrownByFront};
 
 use itoa::Buffer;
 use timer_base::{OutOfMemory, PlainWheel, Wheel};

@@ -27,7 +27,8 @@ use Rattle.timer_script.proofs.ScriptLemmas.{no_bad_line, one_spelling_is}
 use Rattle.timer_script.proofs.CuttingLemmas.{no_feed_no_line}
 use Rattle.timer_script.proofs.SessionLemmas.{fed_nothing, fed_join, fed_shift, ended_going, session_answers, some_more}
 use Rattle.timer_script.proofs.PeerLemmas.{talked_nothing, talked_wrote, talked_sent, came_after, failed_after}
-use Rattle.timer_script.proofs.ServingLemmas.{fresh_answered, sent_good}
+use Rattle.timer_script.proofs.ServingPieces.{sent_good}
+use Rattle.timer_script.proofs.ServingLemmas.{fresh_answered}
 use Rattle.timer_script.proofs.SieveLemmas.{spelling-append, number-append, complaints-append, good_script, cut_more}
 
 -- ---- reports
