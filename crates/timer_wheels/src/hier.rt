@@ -193,6 +193,13 @@ impl HierWheel {
         &self.buckets.links
     }
 
+    /// The table whose slots the wheels have, which stays as it was chosen. Does not allocate.
+    pub fn table(&self) -> Table
+        ensures { result ≡ table_of self.now }
+    {
+        self.table
+    }
+
     /// How many timers were started or restarted since the wheel was made. Does not allocate.
     pub fn starts(&self) -> u64
         ensures { result ≡ (counts_of self.now).starts }
