@@ -52,7 +52,8 @@ onto_bare (suc k) n acc h =
     let more : HasNoFeed front = (digit_bare (n % 10), h) in
     elim (either (n / 10 == 0)) [
       | inl z ↦ subst (λ t. HasNoFeed (cond t front (digits_onto k 10 false (n / 10) front))) (sym z) more
-      | inr z ↦ subst (λ t. HasNoFeed (cond t front (digits_onto k 10 false (n / 10) front))) (sym z) (onto_bare k (n / 10) front more)
+      | inr z ↦ subst (λ t. HasNoFeed (cond t front (digits_onto k 10 false (n / 10) front))) (sym z)
+          (onto_bare k (n / 10) front more)
     ]
 
 pub decimal_bare : (n : ℕ) → HasNoFeed (decimal n)
@@ -64,7 +65,8 @@ decimal_bare n = onto_bare 64 n [] tt
 pub adds_nothing : AddsIndented [] []
 adds_nothing = record { lines = []; each = tt; text_is = refl; answer_is = refl }
 
-lines_join : (xs ys : List (List ℕ)) → AllByRecursion IsLine xs → AllByRecursion IsLine ys → AllByRecursion IsLine (xs ++ ys)
+lines_join : (xs ys : List (List ℕ)) → AllByRecursion IsLine xs → AllByRecursion IsLine ys
+    → AllByRecursion IsLine (xs ++ ys)
 lines_join [] ys a b = b
 lines_join (x ∷ xs) ys a b = (a.0, lines_join xs ys a.1 b)
 
@@ -72,7 +74,8 @@ pub adds_join : (a b x y : List ℕ) → AddsIndented a x → AddsIndented b y �
 adds_join a b x y f g = record {
   lines = f.lines ++ g.lines;
   each = lines_join f.lines g.lines f.each g.each;
-  text_is = ap (λ t. t ++ y) f.text_is ∙ ap (λ t. concat f.lines ++ t) g.text_is ∙ sym (concat-append f.lines g.lines);
+  text_is = ap (λ t. t ++ y) f.text_is ∙ ap (λ t. concat f.lines ++ t) g.text_is
+      ∙ sym (concat-append f.lines g.lines);
   answer_is = ap (λ t. t ++ b) f.answer_is ∙ ap (λ t. concat (filter is_unindented f.lines) ++ t) g.answer_is
       ∙ sym (concat-append (filter is_unindented f.lines) (filter is_unindented g.lines))
       ∙ ap concat (sym (filter-append is_unindented f.lines g.lines));
@@ -82,10 +85,12 @@ adds_join a b x y f g = record {
 
 numbers_bare : (all : List ℕ) → HasNoFeed (numbers all)
 numbers_bare [] = tt
-numbers_bare (n ∷ all) = no_feed-append (32 ∷ decimal n) (numbers all) (λ e. absurd cc, decimal_bare n) (numbers_bare all)
+numbers_bare (n ∷ all) =
+    no_feed-append (32 ∷ decimal n) (numbers all) (λ e. absurd cc, decimal_bare n) (numbers_bare all)
 
 -- a line that does not begin with a space stays
-adds_one : (front : List ℕ) → HasNoFeed front → is_unindented (front ++ 10 ∷ []) ≡ true → AddsIndented (front ++ 10 ∷ []) (front ++ 10 ∷ [])
+adds_one : (front : List ℕ) → HasNoFeed front → is_unindented (front ++ 10 ∷ []) ≡ true
+    → AddsIndented (front ++ 10 ∷ []) (front ++ 10 ∷ [])
 adds_one front free unindented =
     let line : List ℕ = front ++ 10 ∷ [] in
     record {
@@ -99,18 +104,21 @@ adds_one front free unindented =
 numbered : (first : ℕ) (word all : List ℕ) → is_bare (first ∷ word) ≡ true → is_unindented (first ∷ []) ≡ true
     → AddsIndented ((first ∷ word) ++ numbers all ++ codes "\n") ((first ∷ word) ++ numbers all ++ codes "\n")
 numbered first word all free unindented =
-    adds_one ((first ∷ word) ++ numbers all) (no_feed-append (first ∷ word) (numbers all) (bare (first ∷ word) free) (numbers_bare all))
+    adds_one ((first ∷ word) ++ numbers all)
+    (no_feed-append (first ∷ word) (numbers all) (bare (first ∷ word) free) (numbers_bare all))
     unindented
 
 -- a word, numbers, and a reason
 refused : (all why : List ℕ) → is_bare why ≡ true
-    → AddsIndented (codes "refused" ++ numbers all ++ codes " " ++ why ++ codes "\n") (codes "refused" ++ numbers all ++ codes " " ++ why
+    → AddsIndented (codes "refused" ++ numbers all ++ codes " " ++ why ++ codes "\n")
+    (codes "refused" ++ numbers all ++ codes " " ++ why
     ++ codes "\n")
 refused all why free =
     adds_one (codes "refused" ++ numbers all ++ codes " " ++ why)
     (no_feed-append (codes "refused" ++ numbers all ++ codes " ") why
     (no_feed-append (codes "refused" ++ numbers all) (codes " ")
-    (no_feed-append (codes "refused") (numbers all) (bare (codes "refused") refl) (numbers_bare all)) (bare (codes " ") refl))
+    (no_feed-append (codes "refused") (numbers all) (bare (codes "refused") refl) (numbers_bare all))
+    (bare (codes " ") refl))
     (bare why free)) refl
 
 reason_bare : (why : Reason) → is_bare (reason_word why) ≡ true
@@ -134,21 +142,30 @@ adds_end now pending = numbered 101 (codes "nd") (now ∷ pending ∷ []) refl r
 adds_out : (o : Out) → AddsIndented (out_line o) (out_line o)
 adds_out (out.Answered client number (Started handle deadline)) =
     numbered 115 (codes "tarted") (client ∷ number ∷ handle.serial ∷ deadline ∷ []) refl refl
-adds_out (out.Answered client number (Stopped serial)) = numbered 115 (codes "topped") (client ∷ number ∷ serial ∷ []) refl refl
+adds_out (out.Answered client number (Stopped serial)) =
+    numbered 115 (codes "topped") (client ∷ number ∷ serial ∷ []) refl refl
 adds_out (out.Answered client number (Restarted handle deadline old)) =
     numbered 114 (codes "estarted") (client ∷ number ∷ old ∷ handle.serial ∷ deadline ∷ []) refl refl
-adds_out (out.Answered client number (Refused why)) = refused (client ∷ number ∷ []) (reason_word why) (reason_bare why)
-adds_out (out.NotTaken client number why) = refused (client ∷ number ∷ []) (refusal_word why) (refusal_bare why)
-adds_out (out.Notice (Expired t)) = numbered 101 (codes "xpired") (t.deadline ∷ t.client ∷ t.serial ∷ t.action ∷ []) refl refl
-adds_out (out.Notice (Returned t)) = numbered 114 (codes "eturned") (t.client ∷ t.serial ∷ t.deadline ∷ t.action ∷ []) refl refl
-adds_out (out.TickRefused fault.Closed) = adds_one (codes "tick refused closed") (bare (codes "tick refused closed") refl) refl
-adds_out (out.TickRefused fault.ClockEnd) = adds_one (codes "tick refused clock-end") (bare (codes "tick refused clock-end") refl) refl
+adds_out (out.Answered client number (Refused why)) =
+    refused (client ∷ number ∷ []) (reason_word why) (reason_bare why)
+adds_out (out.NotTaken client number why) =
+    refused (client ∷ number ∷ []) (refusal_word why) (refusal_bare why)
+adds_out (out.Notice (Expired t)) =
+    numbered 101 (codes "xpired") (t.deadline ∷ t.client ∷ t.serial ∷ t.action ∷ []) refl refl
+adds_out (out.Notice (Returned t)) =
+    numbered 114 (codes "eturned") (t.client ∷ t.serial ∷ t.deadline ∷ t.action ∷ []) refl refl
+adds_out (out.TickRefused fault.Closed) =
+    adds_one (codes "tick refused closed") (bare (codes "tick refused closed") refl) refl
+adds_out (out.TickRefused fault.ClockEnd) =
+    adds_one (codes "tick refused clock-end") (bare (codes "tick refused clock-end") refl) refl
 adds_out (out.Closed count) = numbered 99 (codes "losed") (count ∷ []) refl refl
-adds_out out.CloseRefused = adds_one (codes "close refused closed") (bare (codes "close refused closed") refl) refl
+adds_out out.CloseRefused =
+    adds_one (codes "close refused closed") (bare (codes "close refused closed") refl) refl
 
 pub adds_outs : (outs : List Out) → AddsIndented (lines_of outs) (lines_of outs)
 adds_outs [] = adds_nothing
-adds_outs (o ∷ outs) = adds_join (out_line o) (lines_of outs) (out_line o) (lines_of outs) (adds_out o) (adds_outs outs)
+adds_outs (o ∷ outs) =
+    adds_join (out_line o) (lines_of outs) (out_line o) (lines_of outs) (adds_out o) (adds_outs outs)
 
 pub indented_is_lawful : IsLawful AddsIndented
 indented_is_lawful = record { joins = adds_join; lines = adds_outs; end = adds_end }

@@ -14,7 +14,7 @@ ghost use Rattle.timer_commands.specs.Indented.{HasGrownByIndented, HasGrownByFr
 use itoa::Buffer;
 use timer_base::{OutOfMemory, PlainWheel, Wheel};
 use timer_links::Links;
-use timer_wheels::{HashedWheel, HierWheel, LAST_OF_CLOCK};
+use timer_wheels::{HashedWheel, HierWheel, Table};
 
 /// The slots of each wheel of the hierarchy.
 const WHEEL_SLOTS: u64 = 64;
@@ -59,10 +59,9 @@ impl Placement for HashedWheel {
 
 impl Placement for HierWheel {
     fn push_placement(&self, text: &mut Vec<u8>) -> Result<(), OutOfMemory> {
-        let naming = if self.last_tick() == LAST_OF_CLOCK {
-            Naming::Clock
-        } else {
-            Naming::Wheels
+        let naming = match self.table() {
+            Table::Wide => Naming::Wheels,
+            Table::Clock => Naming::Clock,
         };
         push_lists(text, self.links(), naming)
     }

@@ -104,10 +104,28 @@ fn over_scheme<V: Verb>(
 {
     let first_tick = options.first_tick;
     match options.scheme {
-        Scheme::Plain => over_wheel(alloc, options, checked, Ok(plain_wheel(alloc, first_tick)), verb),
+        Scheme::Plain => over_wheel(
+            alloc,
+            options,
+            checked,
+            Ok(plain_wheel(alloc, first_tick)),
+            verb,
+        ),
         Scheme::Hashed => over_wheel(alloc, options, checked, hashed_wheel(alloc, options), verb),
-        Scheme::Hier => over_wheel(alloc, options, checked, hier_wheel(alloc, Table::Wide, first_tick), verb),
-        Scheme::Clock => over_wheel(alloc, options, checked, hier_wheel(alloc, Table::Clock, first_tick), verb),
+        Scheme::Hier => over_wheel(
+            alloc,
+            options,
+            checked,
+            hier_wheel(alloc, Table::Wide, first_tick),
+            verb,
+        ),
+        Scheme::Clock => over_wheel(
+            alloc,
+            options,
+            checked,
+            hier_wheel(alloc, Table::Clock, first_tick),
+            verb,
+        ),
     }
 }
 
@@ -124,7 +142,8 @@ fn over_wheel<V: Verb, W: Wheel + Placement + OfScheme + Drop>(
         ≡ empty_wheel (scheme_last _options.scheme) _options.first_tick) }
     requires config { checked ≡ config_of _options }
     requires ready { V.is_ready verb.old }
-    ensures { V.has_done (opened (config_of _options) (scheme_last _options.scheme)) verb.old verb.new result }
+    ensures { V.has_done (opened (config_of _options) (scheme_last _options.scheme))
+        verb.old verb.new result }
 {
     match made {
         Ok(wheel) => verb.run_over(alloc, Facility::open(alloc, checked, wheel)),

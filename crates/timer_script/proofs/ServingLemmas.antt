@@ -1,7 +1,6 @@
 -- What serving did, turn after turn, and how it ends.
-use Rattle.std.proofs.Common.{◌≡◌, zero, suc, ℕ, ◌+◌, ◌≤◌, Bool, true, false, List, [], ◌∷◌, ◌++◌, length, take, drop, inl, inr, refl, sym, ap, subst, ◌∙◌, arith, append_assoc, append-nil, length-append, take-append-drop}
+use Rattle.std.proofs.Common.{◌≡◌, zero, suc, ℕ, ◌+◌, ◌≤◌, Bool, true, false, List, [], ◌∷◌, ◌++◌, length, take, drop, inl, inr, refl, sym, ap, subst, ◌∙◌, arith, lit≤, append_assoc, append-nil, length-append, take-append-drop}
 use Rattle.std.specs.Prelude.{Result, Ok, Err, OnOk, IfErr, Some}
-use Rattle.std.specs.Result.{IsErrAnd}
 use Rattle.std.specs.Io.KnownBytes.{IsAtEnd}
 use Rattle.std.proofs.lemmas.List.{length-take-le, take-append-le}
 use Rattle.timer_facility.specs.State.{FacilityState, IsSound}
@@ -248,11 +247,6 @@ often_more {E} A d before p q r t s new turns n piece within short often going g
 -- a new session has answered everything
 pub fresh_answered : (s : FacilityState) → IsAnsweredSoFar (fresh s)
 fresh_answered s = record { going = refl; written = refl; partial = record { no_feed = tt; short = lit≤ tt } }
-
--- an error that is passed on
-pub passed_on : {A E : Type 0} (result : Result A E) (fault : E) → IsErrAnd result (λ e. e ≡ fault) → result ≡ Err fault
-passed_on (Ok x) fault h = absurd h
-passed_on (Err e) fault h = ap Err h
 
 -- the first bytes of a buffer, of which a slice was written
 take_within : (n m : ℕ) (xs : List ℕ) → n ≤ m → take n (take m xs) ≡ take n xs

@@ -1,6 +1,7 @@
 -- The answers to some bytes, and what is added to them: played and written.
 use Rattle.std.proofs.Common.{◌≡◌, ℕ, ◌+◌, Bool, true, false, List, [], ◌++◌, length, take, drop, refl, sym, ap, subst, ◌∙◌, append_assoc, append-nil, take-append-drop}
 use Rattle.std.specs.Prelude.{Result, Ok, Err, OnOk, IfErr}
+use Rattle.std.specs.Result.{IsErrAnd}
 use Rattle.std.proofs.Math.Seq.{take-append_seam}
 use Rattle.timer_facility.specs.declared.event.Out.{Out}
 use Rattle.timer_script.specs.declared.fault.ServeFault.{ServeFault}
@@ -267,3 +268,7 @@ up_to_all A a b p q bytes rest f none = subst (λ z. HasServedPiece A a z p q b 
 pub cut_back : (text grown cut : List ℕ) → HasGrown text grown → cut ≡ take (length text) grown → cut ≡ text
 cut_back text grown cut h e = e ∙ ap (take (length text)) h.1 ∙ take-append_seam text h.0
 
+-- an error that is passed on
+pub passed_on : {A E : Type 0} (result : Result A E) (fault : E) → IsErrAnd result (λ e. e ≡ fault) → result ≡ Err fault
+passed_on (Ok x) fault h = absurd h
+passed_on (Err e) fault h = ap Err h

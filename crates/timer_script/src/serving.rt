@@ -9,7 +9,7 @@ ghost use Rattle.timer_script.specs.Serving.{AreGood, HasSent, HasSentPart, HasA
 use crate::cutting::line_len;
 use crate::decorator::{Decorator, Undecorated};
 use crate::fault::{ServeFault, SessionFault};
-use crate::input::blank;
+use crate::input::zeroed_buffer;
 use crate::peer::Peer;
 use crate::session::Session;
 use std::alloc::Global;
@@ -192,7 +192,7 @@ pub fn serve_decorated<P: Peer, W: Wheel + Drop, D: Decorator<W>>(
 {
     // Brings what `owed` rests on into scope for the prover.
     let _now = facility.now();
-    let Ok(mut piece) = blank(alloc, PIECE) else {
+    let Ok(mut piece) = zeroed_buffer(alloc, PIECE) else {
         return Err(ServeFault::OutOfMemory);
     };
     let mut text = Vec::new(alloc);

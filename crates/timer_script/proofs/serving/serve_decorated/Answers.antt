@@ -5,7 +5,8 @@ use Rattle.timer_script.specs.Session.{fresh, IsAnsweredSoFar}
 use Rattle.timer_script.specs.Serving.{AreGood}
 use Rattle.timer_script.proofs.ServingLemmas.{fresh_answered}
 use Rattle.timer_script.specs.Serving.{HasServedPiece, StopsPiece, HasServedBy}
-use Rattle.timer_script.proofs.ServingLemmas.{so_far_none, so_far_more, so_far_failed, often_none, often_more, served_stopped, served_finish, passed_on, front_of}
+use Rattle.timer_script.proofs.ServingLemmas.{so_far_none, so_far_more, so_far_failed, often_none, often_more, served_stopped, served_finish, front_of}
+use Rattle.timer_script.proofs.ServingPieces.{passed_on}
 use Rattle.timer_script.proofs.serving.serve_decorated.Goals as goal
 
 -- nothing was read or written
@@ -13,21 +14,21 @@ pub returns-in_default : goal.returns-in_default
 returns-in_default g c =
     let A = g.D.Decorator.adds in
     let d = g.met.D.Decorator.is_lawful in (
-  fresh c.args.facility.state,
-  [],
-  so_far_none A d c.args.facility.state (g.P.Peer.state c.args.peer.now),
-  c.requires.good,
-)
+      fresh c.args.facility.state,
+      [],
+      so_far_none A d c.args.facility.state (g.P.Peer.state c.args.peer.now),
+      c.requires.good,
+    )
 
 pub loop-turned-init : goal.loop-turned-init
 loop-turned-init g c =
     let A = g.D.Decorator.adds in
     let d = g.met.D.Decorator.is_lawful in record {
-  often = often_none A d c.args.facility.state (g.P.Peer.state c.args.peer.now) c.open-session.result c.open-session.ensures;
-  good = c.requires.good;
-  answered = subst IsAnsweredSoFar (sym c.open-session.ensures) (fresh_answered c.args.facility.state);
-  room = c.in-Ok.ensures.len;
-}
+      often = often_none A d c.args.facility.state (g.P.Peer.state c.args.peer.now) c.open-session.result c.open-session.ensures;
+      good = c.requires.good;
+      answered = subst IsAnsweredSoFar (sym c.open-session.ensures) (fresh_answered c.args.facility.state);
+      room = c.in-Ok.ensures.len;
+    }
 
 pub returns-in_default-read : goal.returns-in_default-read
 returns-in_default-read g c =

@@ -10,23 +10,23 @@ loop-rest-init g c =
     let A = g.D.Decorator.adds in
     let d = g.met.D.Decorator.is_lawful in
     record {
-  served = up_to_none A d c.args.session.now (g.P.Peer.state c.args.peer.now) c.args.piece.now;
-  good = c.requires.good;
-  answered = c.requires.answered;
-}
+      served = up_to_none A d c.args.session.now (g.P.Peer.state c.args.peer.now) c.args.piece.now;
+      good = c.requires.good;
+      answered = c.requires.answered;
+    }
 
 pub returns-in_err-serve_bytes-clause-fault : goal.returns-in_err-serve_bytes-clause-fault
 returns-in_err-serve_bytes-clause-fault g c =
     let A = g.D.Decorator.adds in
     let d = g.met.D.Decorator.is_lawful in
-        let i = c.loop-rest.invariant in
+    let i = c.loop-rest.invariant in
     let p = g.P.Peer.state c.args.peer.now in
-    let r = g.P.Peer.state c.serve_bytes.new.peer in
+    let r = g.P.Peer.state c.serve_bytes-in-loop-rest.new.peer in
     let parts : c.loop-rest.rest.now ≡ c.split_at.result.0.now ++ c.split_at.result.1.now = search rules in
     let fault = c.in_err-serve_bytes.field-0.0 in
-    subst (λ e. IfErr e (λ f. StopsPiece A f c.args.session.now c.args.piece.now p r c.serve_bytes.new.session))
+    subst (λ e. IfErr e (λ f. StopsPiece A f c.args.session.now c.args.piece.now p r c.serve_bytes-in-loop-rest.new.session))
     (sym (passed_on c.from_residual.result fault c.from_residual.ensures.1))
-    (up_to_stops A d fault c.args.session.now c.loop-rest.session c.serve_bytes.new.session p (g.P.Peer.state c.loop-rest.peer) r
+    (up_to_stops A d fault c.args.session.now c.loop-rest.session c.serve_bytes-in-loop-rest.new.session p (g.P.Peer.state c.loop-rest.peer) r
     c.args.piece.now c.loop-rest.rest.now c.split_at.result.0.now c.split_at.result.1.now i.served i.answered.written parts
     c.in_err-serve_bytes.ensures.fault)
 
@@ -34,11 +34,11 @@ pub loop-rest-preserved : goal.loop-rest-preserved
 loop-rest-preserved g c =
     let A = g.D.Decorator.adds in
     let d = g.met.D.Decorator.is_lawful in
-        let i = c.loop-rest.invariant in
+    let i = c.loop-rest.invariant in
     let parts : c.loop-rest.rest.now ≡ c.split_at.result.0.now ++ c.split_at.result.1.now = search rules in
     record {
-      served = up_to_more A d c.args.session.now c.loop-rest.session c.serve_bytes.new.session (g.P.Peer.state c.args.peer.now)
-          (g.P.Peer.state c.loop-rest.peer) (g.P.Peer.state c.serve_bytes.new.peer)
+      served = up_to_more A d c.args.session.now c.loop-rest.session c.serve_bytes-in-loop-rest.new.session (g.P.Peer.state c.args.peer.now)
+          (g.P.Peer.state c.loop-rest.peer) (g.P.Peer.state c.serve_bytes-in-loop-rest.new.peer)
           c.args.piece.now c.loop-rest.rest.now c.split_at.result.0.now c.split_at.result.1.now i.served i.answered.written parts
           c.in_ok-serve_bytes.ensures.served;
       good = c.in_ok-serve_bytes.ensures.good;
