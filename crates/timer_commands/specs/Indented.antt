@@ -2,7 +2,7 @@
 use Rattle.std.specs.Prelude.{◌≡◌, ℕ, ◌==◌, Bool, true, not, List, [], ◌∷◌, ◌++◌}
 use Rattle.std.specs.List.{filter, concat, AllByRecursion}
 use Rattle.timer_script.specs.Cutting.{HasNoFeed}
-use Rattle.timer_script.specs.Decorator.{Decoration, HasGrownBy}
+use Rattle.timer_script.specs.Decorator.{HasGrownBy}
 
 -- some bytes without a line feed, and then one
 pub record IsLine (bytes : List ℕ) : Type 0 where

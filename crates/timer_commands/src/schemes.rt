@@ -1,5 +1,5 @@
-//! Plays a script, answers lines as they come, or shows where their timers stand, over the wheel of a scheme.
-ghost use Rattle.std.specs.Prelude.{◌≡◌, ◌<◌, ◌≤◌, [], false, IfOk};
+//! Makes the wheel of a scheme, and plays a script, answers lines, or shows where their timers stand over it.
+ghost use Rattle.std.specs.Prelude.{◌≡◌, ◌≤◌, false, IfOk};
 ghost use Rattle.timer_base.specs.declared.limits.TheConstants.{LAST};
 ghost use Rattle.timer_base.specs.WheelState.{empty_wheel};
 ghost use Rattle.timer_wheels.specs.HashedWheel.{slots_of};

@@ -6,13 +6,11 @@ use Rattle.std.proofs.lemmas.List.{length-take-le, take-append-le}
 use Rattle.timer_facility.specs.State.{FacilityState, IsSound}
 use Rattle.timer_script.specs.declared.fault.ServeFault.{ServeFault}
 use Rattle.timer_script.specs.declared.fault.ServeFault.TheVariants as faults
-use Rattle.timer_script.specs.declared.fault.SessionFault.{SessionFault}
-use Rattle.timer_script.specs.declared.fault.SessionFault.TheVariants as sessions
 use Rattle.timer_script.specs.declared.serving.TheConstants.{PIECE}
 use Rattle.timer_script.specs.Session.{SessionState, fresh, lines_of, next_line, HasFed, IsAnsweredSoFar, HasFailed, IsStoppedAt}
 use Rattle.timer_script.specs.Decorator.{Decoration, IsLawful, AddsNothing}
 use Rattle.timer_script.specs.Peer.{PeerState, Moment, Came, Went, Flush, Gives}
-use Rattle.timer_script.specs.Serving.{AreGood, HasAnsweredAll, HasSent, HasSentPart, HasTalkedBy, is_flushed, serve_fault, StopsEnd, last_line, HasAnswered, HasServedPiece, StopsPiece, IsAnsweredBy, IsAnsweredWith, IsPromptBy, IsPrompt, HasTalked, HasServedSoFar, HasServedBy, HasServed}
+use Rattle.timer_script.specs.Serving.{AreGood, HasAnsweredAll, HasSent, HasSentPart, HasTalkedBy, is_flushed, StopsEnd, last_line, HasAnswered, HasServedPiece, StopsPiece, IsAnsweredBy, IsAnsweredWith, IsPromptBy, IsPrompt, HasTalked, HasServedSoFar, HasServedBy, HasServed}
 use Rattle.timer_script.proofs.SessionLemmas.{fed_nothing, stopped_at, some_more}
 use Rattle.timer_script.proofs.PeerLemmas.{known_prompt, talked_nothing, talked_wrote, talked_sent, came_after, failed_after}
 use Rattle.timer_facility.proofs.PlayedLemmas.{IsPlayed-run}
@@ -21,7 +19,8 @@ use Rattle.timer_script.proofs.ServingPieces.{plain, answered_join, sent_good, a
 
 -- ---- a session and its peer
 
-pub so_far_none : (A : Decoration) (d : IsLawful A) (before : FacilityState) (p : PeerState) → HasServedSoFar A before p p (fresh before) [] [] true
+pub so_far_none : (A : Decoration) (d : IsLawful A) (before : FacilityState) (p : PeerState)
+    → HasServedSoFar A before p p (fresh before) [] [] true
 so_far_none A d before p = record {
   came = [];
   sent = [];
@@ -29,12 +28,14 @@ so_far_none A d before p = record {
   answered = record { bytes = []; parts = refl; answer = []; fed = fed_nothing (fresh before) []; added = d.lines [] };
 }
 
-all_answered : (A : Decoration) (before : FacilityState) (p q : PeerState) (s : SessionState) → (h : HasServedSoFar A before p q s [] [] true) → IsAnsweredSoFar s
+all_answered : (A : Decoration) (before : FacilityState) (p q : PeerState) (s : SessionState)
+    → (h : HasServedSoFar A before p q s [] [] true) → IsAnsweredSoFar s
     → IsAnsweredWith A (fresh before) h.came h.sent
 all_answered A before p q s h going = record { session = s; answered = all_sent A (fresh before) s h.came h.sent h.answered; going = going }
 
 -- a read, and what was written for it
-pub so_far_more : {E : Type 0} (A : Decoration) (d : IsLawful A) (before : FacilityState) (p q r t : PeerState) (s new : SessionState) (n : ℕ) (piece unfed unsent : List ℕ)
+pub so_far_more : {E : Type 0} (A : Decoration) (d : IsLawful A) (before : FacilityState) (p q r t : PeerState) (s new : SessionState)
+    (n : ℕ) (piece unfed unsent : List ℕ)
     (flushed : Bool) → n ≤ length piece → length piece ≤ PIECE
     → HasServedSoFar A before p q s [] [] true → IsAnsweredSoFar s → Gives {E = E} q (Ok n) piece r
     → HasServedPiece A s (take n piece) r t new unfed unsent flushed
@@ -64,11 +65,13 @@ so_far_failed {E} A before p q r s e piece h going gives = record {
 }
 
 -- turns that each brought some bytes
-pub record HasServedOften (A : Decoration) (before : FacilityState) (peer peer' : PeerState) (session : SessionState) (turns : ℕ) : Type 0 where
+pub record HasServedOften (A : Decoration) (before : FacilityState) (peer peer' : PeerState) (session : SessionState)
+    (turns : ℕ) : Type 0 where
   pub so_far : HasServedSoFar A before peer peer' session [] [] true
   pub many : turns ≤ length so_far.came
 
-pub often_none : (A : Decoration) (d : IsLawful A) (before : FacilityState) (p : PeerState) (s : SessionState) → s ≡ fresh before → HasServedOften A before p p s 0
+pub often_none : (A : Decoration) (d : IsLawful A) (before : FacilityState) (p : PeerState) (s : SessionState) → s ≡ fresh before
+    → HasServedOften A before p p s 0
 unfolding so_far_none
 often_none A d before p s is = subst (λ (x : SessionState). HasServedOften A before p p x 0) (sym is) (record {
   so_far = so_far_none A d before p;
@@ -126,19 +129,23 @@ bad_at A before p q s unfed n h written some bad counted =
     (stopped_at before s h.answered.bytes unfed h.answered.answer n h.answered.fed written some bad counted)
 
 -- not all of the bytes that came were served
-pub served_stopped : {E : Type 0} (A : Decoration) (d : IsLawful A) (fault : ServeFault) (before : FacilityState) (p q r t : PeerState) (s new : SessionState) (n : ℕ)
+pub served_stopped : {E : Type 0} (A : Decoration) (d : IsLawful A) (fault : ServeFault) (before : FacilityState) (p q r t : PeerState)
+    (s new : SessionState) (n : ℕ)
     (piece : List ℕ) → n ≤ length piece → length piece ≤ PIECE
-    → HasServedSoFar A before p q s [] [] true → IsAnsweredSoFar s → Gives {E = E} q (Ok n) piece r → StopsPiece A fault s (take n piece) r t new
+    → HasServedSoFar A before p q s [] [] true → IsAnsweredSoFar s → Gives {E = E} q (Ok n) piece r
+    → StopsPiece A fault s (take n piece) r t new
     → HasServedBy A before p t (Err fault)
 served_stopped {E} A d faults.Read before p q r t s new n piece within short h going gives stops = absurd stops
 served_stopped {E} A d (faults.Bad m) before p q r t s new n piece within short h going gives stops =
     let failed : HasFailed m new = stops.2 in
-    let g : HasServedSoFar A before p t new stops.0 [] true = so_far_more A d before p q r t s new n piece stops.0 [] true within short h going
+    let g : HasServedSoFar A before p t new stops.0 [] true = so_far_more A d before p q r t s new n piece stops.0 [] true within short
+    h going
     gives stops.1 in (
       g.came,
       g.answered.answer,
       g.sent,
-      bad_at A before p t new stops.0 m g failed.written (some_more new.held stops.0 failed.bad.some) (failed.bad.bad stops.0) failed.counted,
+      bad_at A before p t new stops.0 m g failed.written (some_more new.held stops.0 failed.bad.some) (failed.bad.bad stops.0)
+          failed.counted,
       answer_written A before p t new stops.0 g failed.written,
       g.talked,
       stops.3,
@@ -166,7 +173,8 @@ fed_whole A before p q s h = subst (λ x. HasFed (fresh before) x [] h.answered.
     (sym (h.answered.parts ∙ append-nil h.answered.bytes)) h.answered.fed
 
 -- the end line was not written, or not completely
-served_end : (A : Decoration) (d : IsLawful A) (fault : ServeFault) (before : FacilityState) (s : SessionState) (p q r : PeerState) → IsSound before → IsAtEnd q.remaining
+served_end : (A : Decoration) (d : IsLawful A) (fault : ServeFault) (before : FacilityState) (s : SessionState) (p q r : PeerState)
+    → IsSound before → IsAtEnd q.remaining
     → IsAnsweredSoFar s → AreGood q → HasServedSoFar A before p q s [] [] true
     → StopsEnd fault s q r → HasServedBy A before p r (Err fault)
 served_end A d faults.Read before s p q r sound at_end going good f stops = absurd stops
@@ -209,7 +217,8 @@ served_end A d faults.Write before s p q r sound at_end going good f stops =
 served_end A d faults.TooLong before s p q r sound at_end going good f stops = absurd stops
 
 -- however it ended
-pub served_finish : (A : Decoration) (d : IsLawful A) (result : Result Unit ServeFault) (before : FacilityState) (s : SessionState) (p q r : PeerState) → IsSound before
+pub served_finish : (A : Decoration) (d : IsLawful A) (result : Result Unit ServeFault) (before : FacilityState) (s : SessionState)
+    (p q r : PeerState) → IsSound before
     → IsAtEnd q.remaining → IsAnsweredSoFar s → AreGood q
     → HasServedSoFar A before p q s [] [] true → OnOk result (s.held ≡ []) → OnOk result (HasSent q (last_line s) r)
     → IfErr result (λ fault. StopsEnd fault s q r) → HasServedBy A before p r result
@@ -231,7 +240,8 @@ served_finish A d (Err fault) before s p q r sound at_end going good f whole sen
     served_end A d fault before s p q r sound at_end going good f stops
 
 -- one more turn
-pub often_more : {E : Type 0} (A : Decoration) (d : IsLawful A) (before : FacilityState) (p q r t : PeerState) (s new : SessionState) (turns n : ℕ) (piece : List ℕ)
+pub often_more : {E : Type 0} (A : Decoration) (d : IsLawful A) (before : FacilityState) (p q r t : PeerState) (s new : SessionState)
+    (turns n : ℕ) (piece : List ℕ)
     → n ≤ length piece → length piece ≤ PIECE
     → HasServedOften A before p q s turns → IsAnsweredSoFar s → Gives {E = E} q (Ok n) piece r
     → HasServedPiece A s (take n piece) r t new [] [] true → (n ≡ 0 → ⊥)

@@ -1,5 +1,5 @@
 -- The answers to some bytes, and what is added to them: played and written.
-use Rattle.std.proofs.Common.{◌≡◌, ℕ, ◌+◌, Bool, true, false, List, [], ◌++◌, length, take, drop, refl, sym, ap, subst, ◌∙◌, append_assoc, append-nil, take-append-drop}
+use Rattle.std.proofs.Common.{◌≡◌, ℕ, Bool, true, false, List, [], ◌++◌, length, take, drop, refl, sym, ap, subst, ◌∙◌, append_assoc, append-nil, take-append-drop}
 use Rattle.std.specs.Prelude.{Result, Ok, Err, OnOk, IfErr}
 use Rattle.std.specs.Result.{IsErrAnd}
 use Rattle.std.proofs.Math.Seq.{take-append_seam}
@@ -35,7 +35,8 @@ unplain A u x y none h =
     (subst (λ t. A (x ++ []) t) (sym (append-nil y)) (subst (λ t. A t y) (sym (append-nil x)) h))
 
 -- what a session writes for some bytes is the answer to them, with nothing added
-pub fed_answered : (A : Decoration) (d : IsLawful A) (a b : SessionState) (piece bytes unfed before text : List ℕ) → before ≡ [] → a.unwritten ≡ [] → piece ≡ bytes ++ unfed
+pub fed_answered : (A : Decoration) (d : IsLawful A) (a b : SessionState) (piece bytes unfed before text : List ℕ) → before ≡ []
+    → a.unwritten ≡ [] → piece ≡ bytes ++ unfed
     → HasFed a bytes before text b
     → HasAnswered A a piece text b unfed
 fed_answered A d a b piece bytes unfed before text none written parts fed =
@@ -51,7 +52,8 @@ fed_answered A d a b piece bytes unfed before text none written parts fed =
     }
 
 -- feeding stopped
-pub feed_stopped : (A : Decoration) (d : IsLawful A) (fault : SessionFault) (a b : SessionState) (line before text : List ℕ) (taken : ℕ) → before ≡ [] → IsAnsweredSoFar a
+pub feed_stopped : (A : Decoration) (d : IsLawful A) (fault : SessionFault) (a b : SessionState) (line before text : List ℕ) (taken : ℕ)
+    → before ≡ [] → IsAnsweredSoFar a
     → HasFed a (take taken line) before text b → WhyStopped fault a b
     → StopsAnswer A (serve_fault fault) a line text b
 feed_stopped A d fault a b line before text taken none going fed why =
@@ -65,7 +67,8 @@ feed_stopped A d fault a b line before text taken none going fed why =
     by_fault sessions.Ended why h = absurd (ended_going a.stage why.0 going.going)
 
 -- what is added after it
-pub line_decorated : (A : Decoration) (d : IsLawful A) (a b : SessionState) (piece text text' : List ℕ) → HasAnswered A a piece text b [] → b.unwritten ≡ []
+pub line_decorated : (A : Decoration) (d : IsLawful A) (a b : SessionState) (piece text text' : List ℕ) → HasAnswered A a piece text b []
+    → b.unwritten ≡ []
     → HasGrownBy A text text' → HasAnswered A a piece text' b []
 line_decorated A d a b piece text text' h written grown =
     let both : A (h.answer ++ []) (text ++ grown.0) =
@@ -75,7 +78,8 @@ line_decorated A d a b piece text text' h written grown =
     record { bytes = h.bytes; parts = h.parts; answer = h.answer; fed = h.fed; added = unplain A b.unwritten h.answer text' written added }
 
 -- one text after another
-pub answered_join : (A : Decoration) (d : IsLawful A) (a b c : SessionState) (x y t u unfed : List ℕ) → HasAnswered A a x t b [] → b.unwritten ≡ [] → HasAnswered A b y u c unfed
+pub answered_join : (A : Decoration) (d : IsLawful A) (a b c : SessionState) (x y t u unfed : List ℕ) → HasAnswered A a x t b []
+    → b.unwritten ≡ [] → HasAnswered A b y u c unfed
     → HasAnswered A a (x ++ y) (t ++ u) c unfed
 answered_join A d a b c x y t u unfed f written g =
     let left : List ℕ = lines_of c.unwritten in
@@ -109,7 +113,8 @@ answered_rest A a b piece text unfed rest h =
 pub sent_good : (q r : PeerState) (txt : List ℕ) → q.read_failed ≡ false → HasSent q txt r → AreGood r
 sent_good q r txt good h = record { reading = h.written.reading ∙ good; writing = h.good }
 
-pub piece_sent : (A : Decoration) (a b : SessionState) (q r : PeerState) (piece text unfed : List ℕ) → HasAnswered A a piece text b unfed → HasSent q text r
+pub piece_sent : (A : Decoration) (a b : SessionState) (q r : PeerState) (piece text unfed : List ℕ) → HasAnswered A a piece text b unfed
+    → HasSent q text r
     → HasServedPiece A a piece q r b unfed [] true
 piece_sent A a b q r piece text unfed h s = record {
   sent = text;
@@ -129,7 +134,8 @@ piece_part A a b q r piece text unfed h s = record {
 }
 
 -- bytes were not answered, and the text so far was sent
-pub line_stopped : (A : Decoration) (fault : ServeFault) (a b : SessionState) (q r : PeerState) (piece text : List ℕ) → StopsAnswer A fault a piece text b
+pub line_stopped : (A : Decoration) (fault : ServeFault) (a b : SessionState) (q r : PeerState) (piece text : List ℕ)
+    → StopsAnswer A fault a piece text b
     → q.read_failed ≡ false → HasSent q text r → StopsPiece A fault a piece q r b
 line_stopped A faults.Read a b q r piece text h good s = absurd h
 line_stopped A (faults.Bad n) a b q r piece text h good s = (h.0, piece_sent A a b q r piece text h.0 h.1 s, h.2, sent_good q r text good s)
@@ -138,7 +144,8 @@ line_stopped A faults.Write a b q r piece text h good s = absurd h
 line_stopped A faults.TooLong a b q r piece text h good s = absurd h
 
 -- however a line was answered, the text is some answer
-some_answered : (A : Decoration) (result : Result Unit ServeFault) (a b : SessionState) (piece text : List ℕ) → OnOk result (HasAnswered A a piece text b [])
+some_answered : (A : Decoration) (result : Result Unit ServeFault) (a b : SessionState) (piece text : List ℕ)
+    → OnOk result (HasAnswered A a piece text b [])
     → IfErr result (λ fault. StopsAnswer A fault a piece text b)
     → (unfed : List ℕ) × HasAnswered A a piece text b unfed
 some_answered A (Ok u) a b piece text h k = ([], h)
@@ -149,7 +156,8 @@ some_answered A (Err faults.Write) a b piece text h k = absurd k
 some_answered A (Err faults.TooLong) a b piece text h k = absurd k
 
 -- the peer failed while the text was sent
-pub line_unsent : (A : Decoration) (fault : ServeFault) (result : Result Unit ServeFault) (a b : SessionState) (q r : PeerState) (piece text : List ℕ)
+pub line_unsent : (A : Decoration) (fault : ServeFault) (result : Result Unit ServeFault) (a b : SessionState) (q r : PeerState)
+    (piece text : List ℕ)
     → fault ≡ faults.Write
     → OnOk result (HasAnswered A a piece text b []) → IfErr result (λ fault. StopsAnswer A fault a piece text b) → q.read_failed ≡ false
     → HasSentPart q text r → StopsPiece A fault a piece q r b
@@ -211,7 +219,8 @@ piece_rest A a b p q x unfed unsent rest flushed f = record {
 }
 
 -- lines were served, and the next one was not
-pub stops_after : (A : Decoration) (d : IsLawful A) (fault : ServeFault) (a b c : SessionState) (p q r : PeerState) (x y rest : List ℕ) → HasServedPiece A a x p q b [] [] true
+pub stops_after : (A : Decoration) (d : IsLawful A) (fault : ServeFault) (a b c : SessionState) (p q r : PeerState) (x y rest : List ℕ)
+    → HasServedPiece A a x p q b [] [] true
     → b.unwritten ≡ [] → StopsPiece A fault b y q r c
     → StopsPiece A fault a (x ++ (y ++ rest)) p r c
 stops_after A d faults.Read a b c p q r x y rest f written h = absurd h
@@ -221,8 +230,12 @@ stops_after A d (faults.Bad n) a b c p q r x y rest f written h = (
   h.2,
   h.3,
 )
-stops_after A d faults.OutOfMemory a b c p q r x y rest f written h =
-    (h.0 ++ rest, piece_join A d a b c p q r x (y ++ rest) (h.0 ++ rest) [] true f written (piece_rest A b c q r y h.0 [] rest true h.1), h.2)
+stops_after A d faults.OutOfMemory a b c p q r x y rest f written h = (
+  h.0 ++ rest,
+  piece_join A d a b c p q r x (y ++ rest) (h.0 ++ rest) [] true f written
+      (piece_rest A b c q r y h.0 [] rest true h.1),
+  h.2,
+)
 stops_after A d faults.Write a b c p q r x y rest f written h = (
   h.0 ++ rest,
   h.1,
@@ -235,7 +248,8 @@ stops_after A d faults.Write a b c p q r x y rest f written h = (
 stops_after A d faults.TooLong a b c p q r x y rest f written h = absurd h
 
 -- the first lines of some bytes were served
-pub record HasServedUpTo (A : Decoration) (old : SessionState) (bytes : List ℕ) (peer peer' : PeerState) (new : SessionState) (rest : List ℕ) : Type 0 where
+pub record HasServedUpTo (A : Decoration) (old : SessionState) (bytes : List ℕ) (peer peer' : PeerState) (new : SessionState)
+    (rest : List ℕ) : Type 0 where
   pub front : List ℕ
   pub parts : bytes ≡ front ++ rest
   pub served : HasServedPiece A old front peer peer' new [] [] true
@@ -243,7 +257,8 @@ pub record HasServedUpTo (A : Decoration) (old : SessionState) (bytes : List ℕ
 pub up_to_none : (A : Decoration) (d : IsLawful A) (s : SessionState) (p : PeerState) (bytes : List ℕ) → HasServedUpTo A s bytes p p s bytes
 up_to_none A d s p bytes = record { front = []; parts = refl; served = piece_none A d s p }
 
-pub up_to_more : (A : Decoration) (d : IsLawful A) (a b c : SessionState) (p q r : PeerState) (bytes rest line after : List ℕ) → HasServedUpTo A a bytes p q b rest
+pub up_to_more : (A : Decoration) (d : IsLawful A) (a b c : SessionState) (p q r : PeerState) (bytes rest line after : List ℕ)
+    → HasServedUpTo A a bytes p q b rest
     → b.unwritten ≡ [] → rest ≡ line ++ after
     → HasServedPiece A b line q r c [] [] true → HasServedUpTo A a bytes p r c after
 up_to_more A d a b c p q r bytes rest line after f written parts g = record {
@@ -252,14 +267,16 @@ up_to_more A d a b c p q r bytes rest line after f written parts g = record {
   served = piece_join A d a b c p q r f.front line [] [] true f.served written g;
 }
 
-pub up_to_stops : (A : Decoration) (d : IsLawful A) (fault : ServeFault) (a b c : SessionState) (p q r : PeerState) (bytes rest line after : List ℕ)
+pub up_to_stops : (A : Decoration) (d : IsLawful A) (fault : ServeFault) (a b c : SessionState) (p q r : PeerState)
+    (bytes rest line after : List ℕ)
     → HasServedUpTo A a bytes p q b rest → b.unwritten ≡ [] → rest ≡ line ++ after
     → StopsPiece A fault b line q r c → StopsPiece A fault a bytes p r c
 up_to_stops A d fault a b c p q r bytes rest line after f written parts h =
     subst (λ z. StopsPiece A fault a z p r c) (sym (f.parts ∙ ap (λ z. f.front ++ z) parts))
     (stops_after A d fault a b c p q r f.front line after f.served written h)
 
-pub up_to_all : (A : Decoration) (a b : SessionState) (p q : PeerState) (bytes rest : List ℕ) → HasServedUpTo A a bytes p q b rest → rest ≡ []
+pub up_to_all : (A : Decoration) (a b : SessionState) (p q : PeerState) (bytes rest : List ℕ) → HasServedUpTo A a bytes p q b rest
+    → rest ≡ []
     → HasServedPiece A a bytes p q b [] [] true
 up_to_all A a b p q bytes rest f none = subst (λ z. HasServedPiece A a z p q b [] [] true)
     (sym (f.parts ∙ ap (λ z. f.front ++ z) none ∙ append-nil f.front)) f.served

@@ -1,5 +1,5 @@
 -- The text that is written for an answer: the answer, and what a decorator adds after its lines.
-use Rattle.std.specs.Prelude.{◌≡◌, ℕ, List, [], ◌∷◌, ◌++◌, refl}
+use Rattle.std.specs.Prelude.{◌≡◌, ℕ, List, [], ◌++◌, refl}
 use Rattle.std.proofs.Common.{ap, ◌∙◌}
 use Rattle.timer_facility.specs.declared.event.Out.{Out}
 use Rattle.timer_script.specs.Session.{lines_of}
@@ -9,7 +9,8 @@ use Rattle.timer_script.specs.Text.{end_line}
 abbrev pub Decoration : Type 1
 Decoration = List ℕ → List ℕ → Type 0
 
--- the text for two answers, one after the other, is that for each; the lines of a session may stay as they are
+-- the text for two answers, one after the other, is that for each; the lines of a session may stay as they
+-- are
 pub record IsLawful (Adds : Decoration) : Type 0 where
   pub joins : (a b x y : List ℕ) → Adds a x → Adds b y → Adds (a ++ b) (x ++ y)
   pub lines : (outs : List Out) → Adds (lines_of outs) (lines_of outs)

@@ -111,8 +111,8 @@ serve_fault (sessions.Bad n) = faults.Bad n
 serve_fault sessions.OutOfMemory = faults.OutOfMemory
 serve_fault sessions.Ended = faults.OutOfMemory
 
--- A session was fed these bytes except for the last ones, and the text is the answer to them with what is added;
--- so it is too with the lines after both that the session has still to write.
+-- A session was fed these bytes except for the last ones, and the text is the answer to them with what is
+-- added; so it is too with the lines after both that the session has still to write.
 pub record HasAnswered (Adds : Decoration) (old : SessionState) (piece text : List ℕ)
     (new : SessionState) (unfed : List ℕ) : Type 0 where
   pub bytes : List ℕ
@@ -199,8 +199,8 @@ pub record HasServedSoFar (Adds : Decoration) (before : FacilityState) (peer pee
   pub talked : HasTalked Adds before peer peer' came sent flushed
   pub answered : HasAnswered Adds (fresh before) came (sent ++ unsent) new unfed
 
--- what serving did, by how it ended, if this is what is added to the answers; in each case every complete line
--- was answered, and its answer flushed, before more was read
+-- what serving did, by how it ended, if this is what is added to the answers; in each case every complete
+-- line was answered, and its answer flushed, before more was read
 abbrev pub HasServedBy : Decoration → FacilityState → PeerState → PeerState
     → Result Unit ServeFault → Type 0
 -- the whole answer, with what is added, was written and flushed, and nothing else

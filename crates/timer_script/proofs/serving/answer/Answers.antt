@@ -25,7 +25,8 @@ returns-in-Ok-clause-text g c =
     let A = g.D.Decorator.adds in
     let d = g.met.D.Decorator.is_lawful in
     let going : IsAnsweredSoFar c.feed.new.self = search rules in
-    let fed = fed_answered A d c.args.session.now c.feed.new.self c.args.bytes.now c.args.bytes.now [] c.args.text.now.items c.feed.new.text.items
+    let fed = fed_answered A d c.args.session.now c.feed.new.self c.args.bytes.now c.args.bytes.now [] c.args.text.now.items
+    c.feed.new.text.items
     c.requires.empty c.requires.answered.written (sym (append-nil c.args.bytes.now)) (search rules) in
     line_decorated A d c.args.session.now c.feed.new.self c.args.bytes.now c.feed.new.text.items c.decorate.new.text.items fed going.written
     c.in-Ok.ensures.added
@@ -34,7 +35,8 @@ pub returns-in-Err-decorate-clause-fault : goal.returns-in-Err-decorate-clause-f
 returns-in-Err-decorate-clause-fault g c =
     let A = g.D.Decorator.adds in
     let d = g.met.D.Decorator.is_lawful in
-    let fed = fed_answered A d c.args.session.now c.feed.new.self c.args.bytes.now c.args.bytes.now [] c.args.text.now.items c.feed.new.text.items
+    let fed = fed_answered A d c.args.session.now c.feed.new.self c.args.bytes.now c.args.bytes.now [] c.args.text.now.items
+    c.feed.new.text.items
     c.requires.empty c.requires.answered.written (sym (append-nil c.args.bytes.now)) (search rules) in (
       [],
       subst (λ t. HasAnswered A c.args.session.now c.args.bytes.now t c.feed.new.self [])

@@ -1,8 +1,7 @@
-use Rattle.std.proofs.Common.{◌≡◌, ◌≤◌, ◌∙◌, ◌||◌, [], true, false, length, vec_len, take, drop, ap, sym, subst, arith, rules}
+use Rattle.std.proofs.Common.{◌≡◌, ◌≤◌, ◌∙◌, ◌||◌, [], true, length, vec_len, take, drop, ap, sym, subst, arith, rules}
 use Rattle.std.specs.Io.KnownBytes.{IsAtEnd}
 use Rattle.timer_script.specs.declared.serving.TheConstants.{PIECE}
 use Rattle.timer_script.specs.Session.{fresh, IsAnsweredSoFar}
-use Rattle.timer_script.specs.Serving.{AreGood}
 use Rattle.timer_script.proofs.ServingLemmas.{fresh_answered}
 use Rattle.timer_script.specs.Serving.{HasServedPiece, StopsPiece, HasServedBy}
 use Rattle.timer_script.proofs.ServingLemmas.{so_far_none, so_far_more, so_far_failed, often_none, often_more, served_stopped, served_finish, front_of}

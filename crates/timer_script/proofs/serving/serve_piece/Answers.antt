@@ -26,7 +26,8 @@ returns-in_err-serve_bytes-clause-fault g c =
     let fault = c.in_err-serve_bytes.field-0.0 in
     subst (λ e. IfErr e (λ f. StopsPiece A f c.args.session.now c.args.piece.now p r c.serve_bytes-in-loop-rest.new.session))
     (sym (passed_on c.from_residual.result fault c.from_residual.ensures.1))
-    (up_to_stops A d fault c.args.session.now c.loop-rest.session c.serve_bytes-in-loop-rest.new.session p (g.P.Peer.state c.loop-rest.peer) r
+    (up_to_stops A d fault c.args.session.now c.loop-rest.session c.serve_bytes-in-loop-rest.new.session p
+    (g.P.Peer.state c.loop-rest.peer) r
     c.args.piece.now c.loop-rest.rest.now c.split_at.result.0.now c.split_at.result.1.now i.served i.answered.written parts
     c.in_err-serve_bytes.ensures.fault)
 
