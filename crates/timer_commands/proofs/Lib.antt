@@ -1,3 +1,1 @@
 pub mod IndentedLemmas
-pub mod AnswerLines
-pub mod ShowStreamLemmas

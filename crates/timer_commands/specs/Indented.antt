@@ -2,6 +2,7 @@
 use Rattle.std.specs.Prelude.{◌≡◌, ℕ, ◌==◌, Bool, true, not, List, [], ◌∷◌, ◌++◌}
 use Rattle.std.specs.List.{filter, concat, AllByRecursion}
 use Rattle.timer_script.specs.Cutting.{HasNoFeed}
+use Rattle.timer_script.specs.Decorator.{HasGrownBy}
 
 -- some bytes without a line feed, and then one
 pub record IsLine (bytes : List ℕ) : Type 0 where
@@ -21,14 +22,10 @@ pub record AddsIndented (answer text : List ℕ) : Type 0 where
   pub text_is : text ≡ concat lines
   pub answer_is : answer ≡ concat (filter is_unindented lines)
 
--- the text grew
-abbrev pub HasGrown : List ℕ → List ℕ → Type 0
-HasGrown old new = (added : List ℕ) × (new ≡ old ++ added)
-
--- by indented lines
+-- the text grew by indented lines
 abbrev pub HasGrownByIndented : List ℕ → List ℕ → Type 0
-HasGrownByIndented old new = (added : List ℕ) × (new ≡ old ++ added) × AddsIndented [] added
+HasGrownByIndented = HasGrownBy AddsIndented
 
--- by the front of an indented line
+-- it grew by the front of an indented line
 abbrev pub HasGrownByFront : List ℕ → List ℕ → Type 0
 HasGrownByFront old new = (front : List ℕ) × (new ≡ old ++ 32 ∷ front) × HasNoFeed front

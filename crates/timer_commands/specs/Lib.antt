@@ -2,5 +2,6 @@ pub mod Options
 pub mod Schemes
 pub mod Clients
 pub mod Indented
+pub mod IndentedLaws
 pub mod ShowStream
 pub mod Subcommands

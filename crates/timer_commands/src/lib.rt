@@ -1,9 +1,10 @@
 //! The subcommands of the program, each over its options, its input and its outputs, up to the exit status.
 //! No command line: what the user types is read in timer_program.
 //!
-//! `options` and `threads_options` have the options and their ranges, and `schemes` the wheel that they name.
-//! Each subcommand is in a file of its own, `cmd_play` to `cmd_check`; `reporting` reports an error. `show`
-//! draws where the timers stand: `render` draws a wheel, `show_stream` when it is drawn.
+//! `options` and `threads_options` have the options and their ranges. `schemes` makes the wheel that they
+//! name, and `verbs` has what is done over it. Each subcommand is in a file of its own, `cmd_play` to
+//! `cmd_check`; `reporting` reports an error. `show` draws where the timers stand: `render` draws a wheel,
+//! and `show_stream` adds the drawings to the answers.
 //!
 //! A module's definitions are in the file of its name in `specs/`; those of the subcommands are in
 //! `specs/Subcommands.antt`, and of clients in threads in `specs/Clients.antt`.
@@ -21,6 +22,7 @@ mod reporting;
 mod schemes;
 mod show_stream;
 mod threads_options;
+mod verbs;
 
 pub use cmd_check::check_script;
 pub use cmd_play::play_script;

@@ -8,12 +8,13 @@
 //! Each line begins with two spaces. A bucket without a timer has none. What is due is not shown: between
 //! two lines of a script nothing is.
 ghost use Rattle.std.specs.Prelude.{◌≡◌, ◌<◌, ◌++◌, length, decimal, OnOk};
-ghost use Rattle.timer_commands.specs.Indented.{HasGrown, HasGrownByIndented, HasGrownByFront};
+ghost use Rattle.timer_script.specs.Decorator.{HasGrown};
+ghost use Rattle.timer_commands.specs.Indented.{HasGrownByIndented, HasGrownByFront};
 
 use itoa::Buffer;
 use timer_base::{OutOfMemory, PlainWheel, Wheel};
 use timer_links::Links;
-use timer_wheels::{HashedWheel, HierWheel, LAST_OF_CLOCK};
+use timer_wheels::{HashedWheel, HierWheel, Table};
 
 /// The slots of each wheel of the hierarchy.
 const WHEEL_SLOTS: u64 = 64;
@@ -58,10 +59,9 @@ impl Placement for HashedWheel {
 
 impl Placement for HierWheel {
     fn push_placement(&self, text: &mut Vec<u8>) -> Result<(), OutOfMemory> {
-        let naming = if self.last_tick() == LAST_OF_CLOCK {
-            Naming::Clock
-        } else {
-            Naming::Wheels
+        let naming = match self.table() {
+            Table::Wide => Naming::Wheels,
+            Table::Clock => Naming::Clock,
         };
         push_lists(text, self.links(), naming)
     }

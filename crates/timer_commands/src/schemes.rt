@@ -1,16 +1,12 @@
-//! Plays a script, answers lines as they come, or shows where their timers stand, over the wheel of a scheme.
-ghost use Rattle.std.specs.Prelude.{◌≡◌, ◌<◌, ◌≤◌, [], false, IfOk};
+//! Makes the wheel of a scheme, and plays a script, answers lines, or shows where their timers stand over it.
+ghost use Rattle.std.specs.Prelude.{◌≡◌, ◌≤◌, false, IfOk};
 ghost use Rattle.timer_base.specs.declared.limits.TheConstants.{LAST};
 ghost use Rattle.timer_base.specs.WheelState.{empty_wheel};
-ghost use Rattle.timer_base.specs.declared.plain.PlainWheel.{PlainWheel};
-ghost use Rattle.timer_wheels.specs.declared.hashed.HashedWheel.{HashedWheel};
-ghost use Rattle.timer_wheels.specs.declared.hier.HierWheel.{HierWheel};
 ghost use Rattle.timer_wheels.specs.HashedWheel.{slots_of};
 ghost use Rattle.timer_wheels.specs.HierWheel.{table_of};
 ghost use Rattle.timer_wheels.specs.Tables.{last_of_table};
 ghost use Rattle.timer_facility.specs.Opened.{opened};
 ghost use Rattle.timer_commands.specs.Options.{scheme_last, config_of, IsPlayable};
-ghost use Rattle.timer_commands.specs.Schemes.{IsWheelOf};
 ghost use Rattle.timer_commands.specs.ShowStream.{HasShown};
 ghost use Rattle.timer_script.specs.Running.{HasRun};
 ghost use Rattle.timer_script.specs.Serving.{AreGood, HasServed};
@@ -19,20 +15,13 @@ ghost use Rattle.timer_script.specs.Watched.{has_failed};
 
 use crate::options::{RunOptions, Scheme};
 use crate::render::Placement;
-use crate::show_stream::show;
+use crate::verbs::{Play, Serve, ServeGood, Show, Verb};
 use std::alloc::Global;
 use std::io::{Read, Write};
 use timer_base::{MakeFault, OutOfMemory, PlainWheel, Wheel};
 use timer_facility::{Checked, Facility};
-use timer_script::{Peer, RunFault, ServeFault, Watched, run, serve, serve_good};
+use timer_script::{Peer, RunFault, ServeFault, Watched};
 use timer_wheels::{HashedWheel, HierWheel, Table};
-
-/// An empty wheel of one of the schemes.
-enum SchemeWheel {
-    Plain(PlainWheel),
-    Hashed(HashedWheel),
-    Hier(HierWheel),
-}
 
 /// A wheel that the options can name.
 trait OfScheme {
@@ -43,24 +32,21 @@ trait OfScheme {
 }
 
 impl OfScheme for PlainWheel {
-    ghost use Rattle.timer_commands.specs.declared.schemes.SchemeWheel.TheVariants as wheels;
-    ghost use Rattle.timer_commands.specs.Schemes.{IsWheelOf};
+    ghost use Rattle.timer_commands.specs.Schemes.{IsPlainOf};
 
-    ghost is_wheel_of = { λ options wheel. IsWheelOf options (wheels.Plain wheel) };
+    ghost is_wheel_of = { IsPlainOf };
 }
 
 impl OfScheme for HashedWheel {
-    ghost use Rattle.timer_commands.specs.declared.schemes.SchemeWheel.TheVariants as wheels;
-    ghost use Rattle.timer_commands.specs.Schemes.{IsWheelOf};
+    ghost use Rattle.timer_commands.specs.Schemes.{IsHashedOf};
 
-    ghost is_wheel_of = { λ options wheel. IsWheelOf options (wheels.Hashed wheel) };
+    ghost is_wheel_of = { IsHashedOf };
 }
 
 impl OfScheme for HierWheel {
-    ghost use Rattle.timer_commands.specs.declared.schemes.SchemeWheel.TheVariants as wheels;
-    ghost use Rattle.timer_commands.specs.Schemes.{IsWheelOf};
+    ghost use Rattle.timer_commands.specs.Schemes.{IsHierOf};
 
-    ghost is_wheel_of = { λ options wheel. IsWheelOf options (wheels.Hier wheel) };
+    ghost is_wheel_of = { IsHierOf };
 }
 
 /// The hashed wheel with the slots of the options. Fails only by memory, since they are in their ranges.
@@ -102,25 +88,67 @@ fn plain_wheel(alloc: Global, first_tick: u64) -> PlainWheel
     }
 }
 
-/// The wheel of the scheme that the options name, at the first tick. Fails only by memory.
-fn wheel_of(alloc: Global, options: RunOptions) -> Result<SchemeWheel, OutOfMemory>
-    requires { IsPlayable options }
-    ensures scheme { IfOk result (λ wheel. IsWheelOf options wheel) }
-    ensures plain { (wheel : PlainWheel) → result ≡ Ok (SchemeWheel.Plain wheel)
-        → ⟦<PlainWheel as Wheel>⟧.state wheel ≡ empty_wheel (scheme_last options.scheme) options.first_tick }
-    ensures hashed { (wheel : HashedWheel) → result ≡ Ok (SchemeWheel.Hashed wheel)
-        → ⟦<HashedWheel as Wheel>⟧.state wheel ≡ empty_wheel (scheme_last options.scheme) options.first_tick }
-    ensures hier { (wheel : HierWheel) → result ≡ Ok (SchemeWheel.Hier wheel)
-        → ⟦<HierWheel as Wheel>⟧.state wheel ≡ empty_wheel (scheme_last options.scheme) options.first_tick }
+/// Runs a verb over a facility with a new wheel of the scheme that the options name, at the first tick.
+///
+/// Nothing is read before the wheel is made.
+fn over_scheme<V: Verb>(
+    alloc: Global,
+    options: RunOptions,
+    checked: Checked,
+    verb: &mut V,
+) -> V::Outcome
+    requires playable { IsPlayable options }
+    requires config { checked ≡ config_of options }
+    requires ready { V.is_ready verb.old }
+    ensures { V.has_done (opened (config_of options) (scheme_last options.scheme)) verb.old verb.new result }
 {
     let first_tick = options.first_tick;
-    let wheel = match options.scheme {
-        Scheme::Plain => SchemeWheel::Plain(plain_wheel(alloc, first_tick)),
-        Scheme::Hashed => SchemeWheel::Hashed(hashed_wheel(alloc, options)?),
-        Scheme::Hier => SchemeWheel::Hier(hier_wheel(alloc, Table::Wide, first_tick)?),
-        Scheme::Clock => SchemeWheel::Hier(hier_wheel(alloc, Table::Clock, first_tick)?),
-    };
-    Ok(wheel)
+    match options.scheme {
+        Scheme::Plain => over_wheel(
+            alloc,
+            options,
+            checked,
+            Ok(plain_wheel(alloc, first_tick)),
+            verb,
+        ),
+        Scheme::Hashed => over_wheel(alloc, options, checked, hashed_wheel(alloc, options), verb),
+        Scheme::Hier => over_wheel(
+            alloc,
+            options,
+            checked,
+            hier_wheel(alloc, Table::Wide, first_tick),
+            verb,
+        ),
+        Scheme::Clock => over_wheel(
+            alloc,
+            options,
+            checked,
+            hier_wheel(alloc, Table::Clock, first_tick),
+            verb,
+        ),
+    }
+}
+
+/// Runs a verb over a facility with this wheel, the one that the options name, if there was memory for it.
+fn over_wheel<V: Verb, W: Wheel + Placement + OfScheme + Drop>(
+    alloc: Global,
+    _options: RunOptions,
+    checked: Checked,
+    made: Result<W, OutOfMemory>,
+    verb: &mut V,
+) -> V::Outcome
+    requires wheel { IfOk made (λ wheel. W.is_wheel_of _options wheel) }
+    requires state { IfOk made (λ wheel. W.state wheel
+        ≡ empty_wheel (scheme_last _options.scheme) _options.first_tick) }
+    requires config { checked ≡ config_of _options }
+    requires ready { V.is_ready verb.old }
+    ensures { V.has_done (opened (config_of _options) (scheme_last _options.scheme))
+        verb.old verb.new result }
+{
+    match made {
+        Ok(wheel) => verb.run_over(alloc, Facility::open(alloc, checked, wheel)),
+        Err(OutOfMemory) => verb.out_of_memory(),
+    }
 }
 
 /// Plays the script of the reader over a new wheel of the scheme that the options name, as `run` does.
@@ -140,34 +168,7 @@ pub fn play_by_scheme<R: Read, S: Write>(
     ensures { HasRun (opened (config_of options) (scheme_last options.scheme)) R.remaining S.contents
         reader.old reader.new writer.old writer.new result }
 {
-    match wheel_of(alloc, options)? {
-        SchemeWheel::Plain(wheel) => play_on(alloc, options, wheel, checked, reader, writer),
-        SchemeWheel::Hashed(wheel) => play_on(alloc, options, wheel, checked, reader, writer),
-        SchemeWheel::Hier(wheel) => play_on(alloc, options, wheel, checked, reader, writer),
-    }
-}
-
-/// Plays the script of the reader over a new wheel, the one that the options name, at the first tick.
-fn play_on<R: Read, S: Write, W: Wheel + OfScheme + Drop>(
-    alloc: Global,
-    _options: RunOptions,
-    wheel: W,
-    checked: Checked,
-    reader: &mut Watched<R>,
-    writer: &mut Watched<S>,
-) -> Result<(), RunFault>
-    requires reader_good { has_failed reader.old ≡ false }
-    requires writer_good { has_failed writer.old ≡ false }
-    requires options { W.is_wheel_of _options wheel }
-    requires pending { (W.state wheel).pending ≡ [] }
-    requires due { (W.state wheel).due ≡ [] }
-    requires now { (W.state wheel).now ≡ checked.first_tick }
-    requires serial { (W.state wheel).last_serial < checked.first_serial }
-    ensures { HasRun (opened checked (W.state wheel).last_tick) R.remaining S.contents reader.old reader.new
-        writer.old writer.new result }
-{
-    let facility = Facility::open(alloc, checked, wheel);
-    run(alloc, reader, writer, facility)
+    over_scheme(alloc, options, checked, &mut Play { reader, writer })
 }
 
 /// Answers the peer's lines as they come, over a new wheel of the scheme that the options name, as `serve`
@@ -186,33 +187,7 @@ pub fn serve_by_scheme<P: Peer>(
     ensures { HasServed (opened (config_of options) (scheme_last options.scheme)) (P.state peer.old)
         (P.state peer.new) result }
 {
-    match wheel_of(alloc, options) {
-        Ok(SchemeWheel::Plain(wheel)) => serve_on(alloc, options, wheel, checked, peer),
-        Ok(SchemeWheel::Hashed(wheel)) => serve_on(alloc, options, wheel, checked, peer),
-        Ok(SchemeWheel::Hier(wheel)) => serve_on(alloc, options, wheel, checked, peer),
-        Err(OutOfMemory) => Err(ServeFault::OutOfMemory),
-    }
-}
-
-/// Answers the peer's lines as they come, over a new wheel, the one that the options name, at the first tick.
-fn serve_on<P: Peer, W: Wheel + OfScheme + Drop>(
-    alloc: Global,
-    _options: RunOptions,
-    wheel: W,
-    checked: Checked,
-    peer: &mut P,
-) -> Result<(), ServeFault>
-    requires good { AreGood (P.state peer.old) }
-    requires options { W.is_wheel_of _options wheel }
-    requires pending { (W.state wheel).pending ≡ [] }
-    requires due { (W.state wheel).due ≡ [] }
-    requires now { (W.state wheel).now ≡ checked.first_tick }
-    requires serial { (W.state wheel).last_serial < checked.first_serial }
-    ensures { HasServed (opened checked (W.state wheel).last_tick) (P.state peer.old)
-        (P.state peer.new) result }
-{
-    let facility = Facility::open(alloc, checked, wheel);
-    serve(alloc, peer, facility)
+    over_scheme(alloc, options, checked, &mut Serve { peer })
 }
 
 /// Answers the peer's good lines as they come and reports the bad ones, over a new wheel of the scheme that
@@ -232,39 +207,7 @@ pub fn serve_good_by_scheme<P: Peer, F: Write>(
     ensures { HasServedGood (opened (config_of options) (scheme_last options.scheme))
         (P.state peer.old) (P.state peer.new) F.contents faults.old faults.new result }
 {
-    match wheel_of(alloc, options) {
-        Ok(SchemeWheel::Plain(wheel)) => serve_good_on(
-            alloc, options, wheel, checked, peer, faults,
-        ),
-        Ok(SchemeWheel::Hashed(wheel)) => serve_good_on(
-            alloc, options, wheel, checked, peer, faults,
-        ),
-        Ok(SchemeWheel::Hier(wheel)) => serve_good_on(alloc, options, wheel, checked, peer, faults),
-        Err(OutOfMemory) => Err(ServeFault::OutOfMemory),
-    }
-}
-
-/// Answers the peer's good lines as they come and reports the bad ones, over a new wheel, the one that the
-/// options name, at the first tick.
-fn serve_good_on<P: Peer, W: Wheel + OfScheme + Drop, F: Write>(
-    alloc: Global,
-    _options: RunOptions,
-    wheel: W,
-    checked: Checked,
-    peer: &mut P,
-    faults: &mut Watched<F>,
-) -> Result<bool, ServeFault>
-    requires good { AreGood (P.state peer.old) }
-    requires options { W.is_wheel_of _options wheel }
-    requires pending { (W.state wheel).pending ≡ [] }
-    requires due { (W.state wheel).due ≡ [] }
-    requires now { (W.state wheel).now ≡ checked.first_tick }
-    requires serial { (W.state wheel).last_serial < checked.first_serial }
-    ensures { HasServedGood (opened checked (W.state wheel).last_tick) (P.state peer.old) (P.state peer.new)
-        F.contents faults.old faults.new result }
-{
-    let facility = Facility::open(alloc, checked, wheel);
-    serve_good(alloc, peer, facility, faults)
+    over_scheme(alloc, options, checked, &mut ServeGood { peer, faults })
 }
 
 /// Answers the peer's lines as they come and shows where the timers stand, over a new wheel of the scheme
@@ -283,32 +226,5 @@ pub fn show_by_scheme<P: Peer>(
     ensures { HasShown (opened (config_of options) (scheme_last options.scheme)) (P.state peer.old)
         (P.state peer.new) result }
 {
-    match wheel_of(alloc, options) {
-        Ok(SchemeWheel::Plain(wheel)) => show_on(alloc, options, wheel, checked, peer),
-        Ok(SchemeWheel::Hashed(wheel)) => show_on(alloc, options, wheel, checked, peer),
-        Ok(SchemeWheel::Hier(wheel)) => show_on(alloc, options, wheel, checked, peer),
-        Err(OutOfMemory) => Err(ServeFault::OutOfMemory),
-    }
-}
-
-/// Answers the peer's lines as they come and shows where the timers stand, over a new wheel, the one that
-/// the options name, at the first tick.
-fn show_on<P: Peer, W: Wheel + Placement + OfScheme + Drop>(
-    alloc: Global,
-    _options: RunOptions,
-    wheel: W,
-    checked: Checked,
-    peer: &mut P,
-) -> Result<(), ServeFault>
-    requires good { AreGood (P.state peer.old) }
-    requires options { W.is_wheel_of _options wheel }
-    requires pending { (W.state wheel).pending ≡ [] }
-    requires due { (W.state wheel).due ≡ [] }
-    requires now { (W.state wheel).now ≡ checked.first_tick }
-    requires serial { (W.state wheel).last_serial < checked.first_serial }
-    ensures { HasShown (opened checked (W.state wheel).last_tick) (P.state peer.old)
-        (P.state peer.new) result }
-{
-    let facility = Facility::open(alloc, checked, wheel);
-    show(alloc, peer, facility)
+    over_scheme(alloc, options, checked, &mut Show { peer })
 }

@@ -1,5 +1,5 @@
 -- Bytes are the line of an event exactly if the reader reads all of them.
-use Rattle.std.proofs.Common.{◌≡◌, ◌==◌, false, ℕ, List, [], ◌++◌, length, Option, Some, None, sym, ap, ◌∙◌, append-nil, eq-eqb}
+use Rattle.std.proofs.Common.{◌≡◌, ◌==◌, false, ℕ, List, [], ◌++◌, length, Some, None, sym, ap, ◌∙◌, append-nil, eq-eqb}
 use Rattle.std.proofs.lemmas.Bool.{both_ways}
 use Rattle.std.proofs.lemmas.Option.{none-some}
 use Rattle.std.proofs.NetLemmas.Options.{same_parts}

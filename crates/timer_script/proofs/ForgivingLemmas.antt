@@ -1,6 +1,6 @@
 -- What a session that goes on after bad lines did, turn by turn.
-use Rattle.std.proofs.Common.{◌≡◌, zero, suc, ℕ, ◌+◌, ◌-◌, ◌^◌, ◌≤◌, ◌||◌, ◌&&◌, Bool, true, false, List, [], ◌∷◌, ◌++◌, length, take, drop, inl, inr, refl, sym, ap, subst, ◌∙◌, arith, append_assoc, append-nil, length-append, take-append-drop}
-use Rattle.std.specs.Prelude.{◌↔◌, ◌⊎◌, min, Option, Result, Ok, Err, OnOk, IfErr}
+use Rattle.std.proofs.Common.{◌≡◌, zero, suc, ℕ, ◌+◌, ◌-◌, ◌^◌, ◌≤◌, ◌||◌, Bool, true, false, List, [], ◌∷◌, ◌++◌, length, take, drop, inl, inr, refl, sym, ap, subst, ◌∙◌, arith, append_assoc, append-nil, length-append, take-append-drop}
+use Rattle.std.specs.Prelude.{◌↔◌, Option, Result, Ok, Err, OnOk, IfErr}
 use Rattle.std.proofs.Math.Seq.{take-append_seam, take-append-add}
 use Rattle.std.proofs.lemmas.List.{length-take-le}
 use Rattle.std.proofs.lemmas.Grind.{flat_map-append}
@@ -21,13 +21,14 @@ use Rattle.timer_script.specs.Running.{IsAnswer}
 use Rattle.timer_script.specs.Session.{SessionState, fresh, HasFed, IsAnsweredSoFar, WhyStopped}
 use Rattle.timer_script.specs.Peer.{PeerState, Gives}
 use Rattle.timer_script.specs.Serving.{HasTalkedBy, AreGood, HasSent, HasSentPart, serve_fault, last_line, StopsEnd, is_flushed}
-use Rattle.timer_script.specs.Sieve.{Line, IsLine, IsCut, events_of, number_after, bad_of, last_bad, all_bad, complaint, complaints, IsHeld, HasSifted}
-use Rattle.timer_script.specs.Forgiving.{IsAnsweredBut, HasReported, HasAnswered, StopsAnswer, HasHeard, HasServedGood}
+use Rattle.timer_script.specs.Sieve.{Line, IsCut, events_of, number_after, bad_of, last_bad, all_bad, complaint, complaints, IsHeld, HasSifted}
+use Rattle.timer_script.specs.Forgiving.{IsAnsweredBut, HasReported, HasAnswered, StopsAnswer, HasServedGood}
 use Rattle.timer_script.proofs.ScriptLemmas.{no_bad_line, one_spelling_is}
 use Rattle.timer_script.proofs.CuttingLemmas.{no_feed_no_line}
 use Rattle.timer_script.proofs.SessionLemmas.{fed_nothing, fed_join, fed_shift, ended_going, session_answers, some_more}
 use Rattle.timer_script.proofs.PeerLemmas.{talked_nothing, talked_wrote, talked_sent, came_after, failed_after}
-use Rattle.timer_script.proofs.ServingLemmas.{fresh_answered, sent_good}
+use Rattle.timer_script.proofs.ServingPieces.{sent_good}
+use Rattle.timer_script.proofs.ServingLemmas.{fresh_answered}
 use Rattle.timer_script.proofs.SieveLemmas.{spelling-append, number-append, complaints-append, good_script, cut_more}
 
 -- ---- reports

@@ -11,5 +11,6 @@ pub mod CuttingLemmas
 pub mod SieveLemmas
 pub mod SessionLemmas
 pub mod PeerLemmas
+pub mod ServingPieces
 pub mod ServingLemmas
 pub mod ForgivingLemmas

@@ -8,10 +8,8 @@ use Rattle.std.proofs.Math.Seq.{take-add}
 use Rattle.std.proofs.lemmas.Bool.Decides.{nat_tests}
 use Rattle.timer_base.specs.OrderLaws.{either}
 use Rattle.timer_script.specs.declared.serving.TheConstants.{PIECE}
-use Rattle.timer_script.specs.Session.{SessionState, HasFed, IsAnsweredSoFar}
 use Rattle.timer_script.specs.Peer.{PeerState, Moment, Came, Went, Flush, Grows, Gives, Takes, Flushes}
-use Rattle.timer_script.specs.Serving.{came_of, gone_of, is_flushed, IsAnsweredBy, IsPromptBy, IsPrompt, HasTalkedBy, HasTalked, AreWrites, HasWritten, HasSent}
-use Rattle.timer_script.proofs.SessionLemmas.{fed_nothing, fed_join, fed_shift}
+use Rattle.timer_script.specs.Serving.{came_of, gone_of, is_flushed, IsPromptBy, HasTalkedBy, AreWrites, HasWritten, HasSent}
 
 -- ---- lists of calls
 
@@ -86,31 +84,6 @@ prompt_join Answers came gone flushed (Went bytes ∷ xs) ys a b =
     prompt_join Answers came (gone ++ bytes) false xs ys a (subst (λ y. IsPromptBy Answers (came ++ came_of xs) y (is_flushed false xs) ys)
     (sym (append_assoc gone bytes (gone_of xs))) b)
 prompt_join Answers came gone flushed (Flush ∷ xs) ys a b = prompt_join Answers came gone true xs ys a b
-
--- what is prompt from a later state of a session is so from an earlier one
-prompt_earlier : (a b : SessionState) (bytes text came gone : List ℕ) (flushed : Bool) (xs : List Moment) → HasFed a bytes [] text b
-    → IsPrompt b came gone flushed xs
-    → IsPrompt a (bytes ++ came) (text ++ gone) flushed xs
-prompt_earlier a b bytes text came gone flushed [] f p = tt
-prompt_earlier a b bytes text came gone flushed (Came more ∷ xs) f p =
-    let here : IsAnsweredBy b came gone = p.1 in
-    let later : HasFed b came (text ++ []) (text ++ gone) here.session = fed_shift b here.session came text [] gone here.fed in
-    let later' : HasFed b came text (text ++ gone) here.session =
-    subst (λ t. HasFed b came t (text ++ gone) here.session) (append-nil text) later in (
-      p.0,
-      record {
-        session = here.session;
-        fed = fed_join a b here.session bytes came [] text (text ++ gone) f later';
-        answered = here.answered;
-      },
-      p.2,
-      subst (λ x. IsPrompt a x (text ++ gone) flushed xs) (sym (append_assoc bytes came more))
-          (prompt_earlier a b bytes text (came ++ more) gone flushed xs f p.3),
-    )
-prompt_earlier a b bytes text came gone flushed (Went more ∷ xs) f p =
-    subst (λ y. IsPrompt a (bytes ++ came) y false xs) (sym (append_assoc text gone more))
-    (prompt_earlier a b bytes text came (gone ++ more) false xs f p)
-prompt_earlier a b bytes text came gone flushed (Flush ∷ xs) f p = prompt_earlier a b bytes text came gone true xs f p
 
 -- ---- single calls
 
@@ -289,21 +262,6 @@ failed_after {E} Answers p q r came gone e piece t answered g =
     (talked_read Answers p q r came gone [] t answered (omega arith) g.moment
     (Consumes-kept q.remaining q.remaining r.remaining [] (Consumes-nil q.remaining) g.bytes) g.contents)
 
--- a session that has answered all is at the start of a conversation
-starts_answered : (s : SessionState) → IsAnsweredSoFar s → IsAnsweredBy s [] []
-starts_answered s answered = record { session = s; fed = fed_nothing s []; answered = answered }
-
-pub talked_came : {E : Type 0} (s : SessionState) (p q : PeerState) (n : ℕ) (piece : List ℕ) → n ≤ length piece → length piece ≤ PIECE
-    → IsAnsweredSoFar s → Gives {E = E} p (Ok n) piece q
-    → HasTalked s p q (take n piece) [] true
-talked_came {E} s p q n piece within short answered g =
-    came_after (IsAnsweredBy s) p p q [] [] n piece within short (talked_nothing (IsAnsweredBy s) p) (starts_answered s answered) g
-
-pub talked_failed : {E : Type 0} (s : SessionState) (p q : PeerState) (e : E) (piece : List ℕ) → IsAnsweredSoFar s
-    → Gives {E = E} p (Err e) piece q → HasTalked s p q [] [] true
-talked_failed {E} s p q e piece answered g =
-    failed_after (IsAnsweredBy s) p p q [] [] e piece (talked_nothing (IsAnsweredBy s) p) (starts_answered s answered) g
-
 -- text was written after it
 pub talked_wrote : (Answers : List ℕ → List ℕ → Type 0) (p q r : PeerState) (came gone text : List ℕ) (flushed : Bool)
     → HasTalkedBy Answers p q came gone flushed → (w : HasWritten q text r)
@@ -327,27 +285,6 @@ pub talked_sent : (Answers : List ℕ → List ℕ → Type 0) (p q r : PeerStat
 talked_sent Answers p q r came gone text flushed t h =
     subst (HasTalkedBy Answers p r came (gone ++ text)) (flushed_anyway flushed h.written.moments h.flushed)
     (talked_wrote Answers p q r came gone text flushed t h.written)
-
--- one conversation after another
-pub talked_join : (a b : SessionState) (p q r : PeerState) (x y x' y' : List ℕ) (flushed : Bool) → HasTalked a p q x y true
-    → HasFed a x [] y b → HasTalked b q r x' y' flushed
-    → HasTalked a p r (x ++ x') (y ++ y') flushed
-talked_join a b p q r x y x' y' flushed t f u =
-    let later : IsPrompt a (x ++ []) (y ++ []) true u.moments = prompt_earlier a b x y [] [] true u.moments f u.prompt in
-    let later' : IsPrompt a (came_of t.moments) (gone_of t.moments) (is_flushed true t.moments) u.moments =
-    subst (λ c. IsPrompt a c (gone_of t.moments) (is_flushed true t.moments) u.moments) (append-nil x ∙ sym t.came_is)
-    (subst (λ g. IsPrompt a (x ++ []) g (is_flushed true t.moments) u.moments) (append-nil y ∙ sym t.gone_is)
-    (subst (λ z. IsPrompt a (x ++ []) (y ++ []) z u.moments) (sym t.flush) later)) in
-    record {
-      moments = t.moments ++ u.moments;
-      grows = grows_join p.moments q.moments r.moments t.moments u.moments t.grows u.grows;
-      came_is = came_join t.moments u.moments ∙ ap (λ z. z ++ came_of u.moments) t.came_is ∙ ap (λ z. x ++ z) u.came_is;
-      gone_is = gone_join t.moments u.moments ∙ ap (λ z. z ++ gone_of u.moments) t.gone_is ∙ ap (λ z. y ++ z) u.gone_is;
-      prompt = prompt_join (IsAnsweredBy a) [] [] true t.moments u.moments t.prompt later';
-      flush = flushed_join true t.moments u.moments ∙ ap (λ z. is_flushed z u.moments) t.flush ∙ u.flush;
-      read = Consumes-trans p.remaining q.remaining r.remaining x x' t.read u.read;
-      written = Appends-trans p.contents q.contents r.contents y y' t.written u.written;
-    }
 
 -- ---- calls that are known
 

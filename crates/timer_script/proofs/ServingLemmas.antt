@@ -1,169 +1,80 @@
--- The result of the turns of a session with a peer.
-use Rattle.std.proofs.Common.{◌≡◌, false, zero, suc, ℕ, ◌+◌, ◌≤◌, Bool, true, false, List, [], ◌++◌, length, take, drop, inl, inr, refl, sym, ap, subst, ◌∙◌, arith, lit≤, append_assoc, append-nil, length-append, take-append-drop}
+-- What serving did, turn after turn, and how it ends.
+use Rattle.std.proofs.Common.{◌≡◌, zero, suc, ℕ, ◌+◌, ◌≤◌, Bool, true, false, List, [], ◌∷◌, ◌++◌, length, take, drop, inl, inr, refl, sym, ap, subst, ◌∙◌, arith, lit≤, append_assoc, append-nil, length-append, take-append-drop}
 use Rattle.std.specs.Prelude.{Result, Ok, Err, OnOk, IfErr, Some}
-use Rattle.std.proofs.Math.Seq.{take-append-add}
-use Rattle.std.proofs.lemmas.List.{length-take-le}
 use Rattle.std.specs.Io.KnownBytes.{IsAtEnd}
+use Rattle.std.proofs.lemmas.List.{length-take-le, take-append-le}
 use Rattle.timer_facility.specs.State.{FacilityState, IsSound}
-use Rattle.timer_facility.proofs.PlayedLemmas.{IsPlayed-run}
 use Rattle.timer_script.specs.declared.fault.ServeFault.{ServeFault}
 use Rattle.timer_script.specs.declared.fault.ServeFault.TheVariants as faults
-use Rattle.timer_script.specs.declared.fault.SessionFault.{SessionFault}
-use Rattle.timer_script.specs.declared.fault.SessionFault.TheVariants as sessions
-use Rattle.timer_script.specs.declared.stage.Stage.TheVariants.{Going}
+use Rattle.timer_script.specs.declared.serving.TheConstants.{PIECE}
+use Rattle.timer_script.specs.Session.{SessionState, fresh, lines_of, next_line, HasFed, IsAnsweredSoFar, HasFailed, IsStoppedAt}
+use Rattle.timer_script.specs.Decorator.{Decoration, IsLawful, AddsNothing}
+use Rattle.timer_script.specs.Peer.{PeerState, Moment, Came, Went, Flush, Gives}
+use Rattle.timer_script.specs.Serving.{AreGood, HasAnsweredAll, HasSent, HasSentPart, HasTalkedBy, is_flushed, StopsEnd, last_line, HasAnswered, HasServedPiece, StopsPiece, IsAnsweredBy, IsAnsweredWith, IsPromptBy, IsPrompt, HasTalked, HasServedSoFar, HasServedBy, HasServed}
+use Rattle.timer_script.proofs.SessionLemmas.{fed_nothing, stopped_at, some_more}
+use Rattle.timer_script.proofs.PeerLemmas.{known_prompt, talked_nothing, talked_wrote, talked_sent, came_after, failed_after}
+use Rattle.timer_facility.proofs.PlayedLemmas.{IsPlayed-run}
 use Rattle.timer_script.specs.Script.{spelling, BeginsNoLine}
-use Rattle.timer_script.specs.Session.{SessionState, fresh, lines_of, next_line, HasFed, IsAnsweredSoFar, HasFailed, WhyStopped, WhyNotEnded}
-use Rattle.timer_script.specs.Peer.{PeerState, Moment}
-use Rattle.timer_script.specs.Serving.{IsAnsweredBy, IsPrompt, HasTalked, HasPassed, AreGood, HasSent, HasSentPart, is_flushed, HasTurned, serve_fault, StopsTurn, last_line, StopsEnd, HasAnsweredAll, HasServed}
-use Rattle.timer_script.proofs.SessionLemmas.{fed_nothing, fed_join, fed_shift, ended_going, stopped_at, some_more}
-use Rattle.timer_script.proofs.PeerLemmas.{talked_nothing, talked_wrote, talked_sent, talked_join, known_prompt}
+use Rattle.timer_script.proofs.ServingPieces.{plain, answered_join, sent_good, all_sent}
 
--- ---- one turn
+-- ---- a session and its peer
 
--- what was read was fed except for its last bytes, and the text was sent
-passed_sent : (a b : SessionState) (p q r : PeerState) (bytes unfed before txt : List ℕ) → before ≡ []
-    → HasTalked a p q (bytes ++ unfed) [] true → HasFed a bytes before txt b → HasSent q txt r
-    → HasPassed a p r b unfed [] true
-passed_sent a b p q r bytes unfed before txt none talked fed sent = record {
-  bytes = bytes;
-  sent = txt;
-  talked = talked_sent (IsAnsweredBy a) p q r (bytes ++ unfed) [] txt true talked sent;
-  fed = subst (λ t. HasFed a bytes t (txt ++ []) b) none (subst (λ t. HasFed a bytes before t b) (sym (append-nil txt)) fed);
+pub so_far_none : (A : Decoration) (d : IsLawful A) (before : FacilityState) (p : PeerState)
+    → HasServedSoFar A before p p (fresh before) [] [] true
+so_far_none A d before p = record {
+  came = [];
+  sent = [];
+  talked = talked_nothing (IsAnsweredWith A (fresh before)) p;
+  answered = record { bytes = []; parts = refl; answer = []; fed = fed_nothing (fresh before) []; added = d.lines [] };
 }
 
--- or a part of it
-passed_part : (a b : SessionState) (p q r : PeerState) (bytes unfed before txt : List ℕ) → before ≡ []
-    → HasTalked a p q (bytes ++ unfed) [] true → HasFed a bytes before txt b → (h : HasSentPart q txt r)
-    → HasPassed a p r b unfed (drop h.count txt) (is_flushed true h.written.moments)
-passed_part a b p q r bytes unfed before txt none talked fed h = record {
-  bytes = bytes;
-  sent = take h.count txt;
-  talked = talked_wrote (IsAnsweredBy a) p q r (bytes ++ unfed) [] (take h.count txt) true talked h.written;
-  fed = subst (λ t. HasFed a bytes t (take h.count txt ++ drop h.count txt) b) none
-      (subst (λ t. HasFed a bytes before t b) (sym (take-append-drop h.count txt)) fed);
+all_answered : (A : Decoration) (before : FacilityState) (p q : PeerState) (s : SessionState)
+    → (h : HasServedSoFar A before p q s [] [] true) → IsAnsweredSoFar s
+    → IsAnsweredWith A (fresh before) h.came h.sent
+all_answered A before p q s h going = record { session = s; answered = all_sent A (fresh before) s h.came h.sent h.answered; going = going }
+
+-- a read, and what was written for it
+pub so_far_more : {E : Type 0} (A : Decoration) (d : IsLawful A) (before : FacilityState) (p q r t : PeerState) (s new : SessionState)
+    (n : ℕ) (piece unfed unsent : List ℕ)
+    (flushed : Bool) → n ≤ length piece → length piece ≤ PIECE
+    → HasServedSoFar A before p q s [] [] true → IsAnsweredSoFar s → Gives {E = E} q (Ok n) piece r
+    → HasServedPiece A s (take n piece) r t new unfed unsent flushed
+    → HasServedSoFar A before p t new unfed unsent flushed
+so_far_more {E} A d before p q r t s new n piece unfed unsent flushed within short h going gives g =
+    let Q : List ℕ → List ℕ → Type 0 = IsAnsweredWith A (fresh before) in
+    let came : HasTalkedBy Q p r (h.came ++ take n piece) h.sent true =
+    came_after Q p q r h.came h.sent n piece within short h.talked (all_answered A before p q s h going) gives in
+    record {
+      came = h.came ++ take n piece;
+      sent = h.sent ++ g.sent;
+      talked = subst (HasTalkedBy Q p t (h.came ++ take n piece) (h.sent ++ g.sent)) g.flush
+          (talked_wrote Q p r t (h.came ++ take n piece) h.sent g.sent true came g.written);
+      answered = subst (λ x. HasAnswered A (fresh before) (h.came ++ take n piece) x new unfed) (sym (append_assoc h.sent g.sent unsent))
+          (answered_join A d (fresh before) s new h.came (take n piece) h.sent (g.sent ++ unsent) unfed
+          (all_sent A (fresh before) s h.came h.sent h.answered) going.written g.answered);
+    }
+
+pub so_far_failed : {E : Type 0} (A : Decoration) (before : FacilityState) (p q r : PeerState) (s : SessionState) (e : E) (piece : List ℕ)
+    → HasServedSoFar A before p q s [] [] true → IsAnsweredSoFar s
+    → Gives {E = E} q (Err e) piece r → HasServedSoFar A before p r s [] [] true
+so_far_failed {E} A before p q r s e piece h going gives = record {
+  came = h.came;
+  sent = h.sent;
+  talked = failed_after (IsAnsweredWith A (fresh before)) p q r h.came h.sent e piece h.talked (all_answered A before p q s h going) gives;
+  answered = h.answered;
 }
-
-pub sent_good : (q r : PeerState) (txt : List ℕ) → q.read_failed ≡ false → HasSent q txt r → AreGood r
-sent_good q r txt good h = record { reading = h.written.reading ∙ good; writing = h.good }
-
--- all that came was fed and answered
-pub turned : (a b : SessionState) (p q r : PeerState) (piece before txt : List ℕ) (n : ℕ) → before ≡ [] → n ≤ length piece
-    → (n ≡ 0 → IsAtEnd q.remaining) → q.read_failed ≡ false
-    → HasTalked a p q (take n piece) [] true → HasFed a (take n piece) before txt b → IsAnsweredSoFar b → HasSent q txt r
-    → HasTurned a p r b n
-unfolding passed_sent
-turned a b p q r piece before txt n none within at_end good talked fed answered sent =
-    let came : HasTalked a p q (take n piece ++ []) [] true = subst (λ x. HasTalked a p q x [] true)
-    (sym (append-nil (take n piece))) talked in
-    record {
-      passed = passed_sent a b p q r (take n piece) [] before txt none came fed sent;
-      counted = length-take-le n piece within;
-      answered = answered;
-      at_end = λ zero. subst IsAtEnd (sym sent.written.remaining) (at_end zero);
-      good = sent_good q r txt good sent;
-    }
-
--- feeding stopped, and the text so far was sent
-pub stops_feeding : (fault : SessionFault) (a b : SessionState) (p q r : PeerState) (piece before txt : List ℕ) (taken : ℕ) → before ≡ []
-    → q.read_failed ≡ false
-    → HasTalked a p q piece [] true → HasFed a (take taken piece) before txt b → WhyStopped fault a b → a.stage ≡ Going → HasSent q txt r
-    → StopsTurn (serve_fault fault) a p r b
-stops_feeding fault a b p q r piece before txt taken none good talked fed why going sent =
-    let came : HasTalked a p q (take taken piece ++ drop taken piece) [] true =
-    subst (λ x. HasTalked a p q x [] true) (sym (take-append-drop taken piece)) talked in
-    let passed : HasPassed a p r b (drop taken piece) [] true =
-    passed_sent a b p q r (take taken piece) (drop taken piece) before txt none came fed sent in
-    by_fault fault why passed (sent_good q r txt good sent)
-  where
-    by_fault : (fault : SessionFault) → WhyStopped fault a b → HasPassed a p r b (drop taken piece) [] true → AreGood r
-        → StopsTurn (serve_fault fault) a p r b
-    by_fault (sessions.Bad n) why passed fine = (drop taken piece, passed, why, fine)
-    by_fault sessions.OutOfMemory why passed fine = (drop taken piece, passed, fine)
-    by_fault sessions.Ended why passed fine = absurd (ended_going a.stage why.0 going)
-
--- a session that is running has not ended
-pub not_ended_before : (fault : SessionFault) (a b : SessionState) → WhyStopped fault a b → a.stage ≡ Going → fault ≡ sessions.Ended → ⊥
-not_ended_before fault a b why going is = let ended = subst (λ f. WhyStopped f a b) is why in ended_going a.stage ended.0 going
-
-pub not_ended_twice : (fault : SessionFault) (a b : SessionState) → WhyNotEnded fault a b → a.stage ≡ Going → fault ≡ sessions.Ended → ⊥
-not_ended_twice fault a b why going is = let ended = subst (λ f. WhyNotEnded f a b) is why in ended_going a.stage ended.0 going
-
--- the peer failed while the text was sent
-pub stops_sending : (fault : ServeFault) (a b : SessionState) (p q r : PeerState) (piece bytes unfed before txt : List ℕ)
-    → fault ≡ faults.Write → before ≡ [] → q.read_failed ≡ false → piece ≡ bytes ++ unfed
-    → HasTalked a p q piece [] true → HasFed a bytes before txt b → HasSentPart q txt r → StopsTurn fault a p r b
-stops_sending fault a b p q r piece bytes unfed before txt is none good parts talked fed h =
-    subst (λ f. StopsTurn f a p r b) (sym is) (
-      unfed,
-      drop h.count txt,
-      is_flushed true h.written.moments,
-      passed_part a b p q r bytes unfed before txt none (subst (λ x. HasTalked a p q x [] true) parts talked) fed h,
-      h.written.reading ∙ good,
-      h.failed,
-    )
-
--- a read failed
-pub stops_reading : (a : SessionState) (p q : PeerState) → HasTalked a p q [] [] true → IsAnsweredSoFar a → q.read_failed ≡ true
-    → q.write_failed ≡ false → StopsTurn faults.Read a p q a
-stops_reading a p q talked answered failed good = (
-  record {
-    bytes = [];
-    sent = [];
-    talked = talked;
-    fed = fed_nothing a [];
-  },
-  answered,
-  failed,
-  good,
-)
-
--- ---- the end
-
--- the script was not ended
-pub stops_ending : (fault : SessionFault) (s new : SessionState) (p : PeerState) → WhyNotEnded fault s new → s.stage ≡ Going
-    → StopsEnd (serve_fault fault) s p p
-stops_ending (sessions.Bad n) s new p why going =
-    let is : new ≡ record s { unwritten = [] } = why.3 in (
-      subst (λ (x : SessionState). 1 ≤ length x.held) is why.0,
-      subst (λ (x : SessionState). BeginsNoLine x.held) is why.1,
-      why.2
-          ∙ ap (λ (x : SessionState). next_line x) is,
-      refl,
-    )
-stops_ending sessions.OutOfMemory s new p why going = refl
-stops_ending sessions.Ended s new p why going = refl
-
--- ---- turns one after another
-
-pub passed_none : (s : SessionState) (p : PeerState) → HasPassed s p p s [] [] true
-passed_none s p = record { bytes = []; sent = []; talked = talked_nothing (IsAnsweredBy s) p; fed = fed_nothing s [] }
-
-pub passed_join : (a b c : SessionState) (p q r : PeerState) (unfed unsent : List ℕ) (flushed : Bool) → HasPassed a p q b [] [] true
-    → HasPassed b q r c unfed unsent flushed → HasPassed a p r c unfed unsent flushed
-passed_join a b c p q r unfed unsent flushed f g =
-    let here : HasTalked a p q f.bytes f.sent true = subst (λ x. HasTalked a p q x f.sent true) (append-nil f.bytes) f.talked in
-    let fed : HasFed a f.bytes [] f.sent b = subst (λ t. HasFed a f.bytes [] t b) (append-nil f.sent) f.fed in
-    let later : HasFed b g.bytes f.sent (f.sent ++ (g.sent ++ unsent)) c =
-    subst (λ t. HasFed b g.bytes t (f.sent ++ (g.sent ++ unsent)) c) (append-nil f.sent)
-    (fed_shift b c g.bytes f.sent [] (g.sent ++ unsent) g.fed) in
-    record {
-      bytes = f.bytes ++ g.bytes;
-      sent = f.sent ++ g.sent;
-      talked = subst (λ x. HasTalked a p r x (f.sent ++ g.sent) flushed) (sym (append_assoc f.bytes g.bytes unfed))
-          (talked_join a b p q r f.bytes f.sent (g.bytes ++ unfed) g.sent flushed here fed g.talked);
-      fed = subst (λ t. HasFed a (f.bytes ++ g.bytes) [] t c) (sym (append_assoc f.sent g.sent unsent))
-          (fed_join a b c f.bytes g.bytes [] f.sent (f.sent ++ (g.sent ++ unsent)) fed later);
-    }
 
 -- turns that each brought some bytes
-pub record HasTurnedOften (start : SessionState) (peer peer' : PeerState) (session : SessionState) (turns : ℕ) : Type 0 where
-  pub passed : HasPassed start peer peer' session [] [] true
-  pub many : turns ≤ length passed.bytes
+pub record HasServedOften (A : Decoration) (before : FacilityState) (peer peer' : PeerState) (session : SessionState)
+    (turns : ℕ) : Type 0 where
+  pub so_far : HasServedSoFar A before peer peer' session [] [] true
+  pub many : turns ≤ length so_far.came
 
-pub turned_none : (s t : SessionState) (p : PeerState) → t ≡ s → HasTurnedOften s p p t 0
-unfolding passed_none
-turned_none s t p is = subst (λ (x : SessionState). HasTurnedOften s p p x 0) (sym is) (record {
-  passed = passed_none s p;
+pub often_none : (A : Decoration) (d : IsLawful A) (before : FacilityState) (p : PeerState) (s : SessionState) → s ≡ fresh before
+    → HasServedOften A before p p s 0
+unfolding so_far_none
+often_none A d before p s is = subst (λ (x : SessionState). HasServedOften A before p p x 0) (sym is) (record {
+  so_far = so_far_none A d before p;
   many = omega arith;
 })
 
@@ -171,47 +82,7 @@ some_count : (n : ℕ) → (n ≡ 0 → ⊥) → 1 ≤ n
 some_count zero e = absurd (e refl)
 some_count (suc n) e = omega arith
 
-pub turned_more : (a b c : SessionState) (p q r : PeerState) (turns n : ℕ) → HasTurnedOften a p q b turns → HasTurned b q r c n
-    → (n ≡ 0 → ⊥) → HasTurnedOften a p r c (turns + 1)
-unfolding passed_join
-turned_more a b c p q r turns n often one some = record {
-  passed = passed_join a b c p q r [] [] true often.passed one.passed;
-  many = (let l = length-append often.passed.bytes one.passed.bytes in let m = often.many in let k = one.counted
-      in let j = some_count n some in omega arith);
-}
-
 -- ---- how serving ends
-
--- a turn failed
-pub served_turn : (fault : ServeFault) (before : FacilityState) (s new : SessionState) (p q r : PeerState)
-    → HasPassed (fresh before) p q s [] [] true → StopsTurn fault s q r new → HasServed before p r (Err fault)
-served_turn faults.Read before s new p q r f stops = (
-  new,
-  passed_join (fresh before) s new p q r [] [] true f stops.0,
-  stops.1,
-  stops.2,
-  stops.3,
-)
-served_turn (faults.Bad n) before s new p q r f stops =
-    let g : HasPassed (fresh before) p r new stops.0 [] true = passed_join (fresh before) s new p q r stops.0 [] true f stops.1 in
-    let h : HasFailed n new = stops.2 in
-    let fed : HasFed (fresh before) g.bytes [] g.sent new = subst (λ t. HasFed (fresh before) g.bytes [] t new) (append-nil g.sent) g.fed
-    in (
-      g.bytes ++ stops.0,
-      g.sent,
-      stopped_at before new g.bytes stops.0 g.sent n fed h.written (some_more new.held stops.0 h.bad.some) (h.bad.bad stops.0) h.counted,
-      g.talked,
-      stops.3,
-    )
-served_turn faults.OutOfMemory before s new p q r f stops = (
-  new,
-  stops.0,
-  passed_join (fresh before) s new p q r stops.0 [] true f stops.1,
-  stops.2,
-)
-served_turn faults.Write before s new p q r f stops =
-    (inl (new, stops.0, stops.1, stops.2, passed_join (fresh before) s new p q r stops.0 stops.1 stops.2 f stops.3), stops.4, stops.5)
-served_turn faults.TooLong before s new p q r f stops = absurd stops
 
 -- what was sent, if no line is held at the end, and the end line, are the answer
 pub answered_all : (before : FacilityState) (s : SessionState) (p q : PeerState) (bytes sent : List ℕ) → IsSound before
@@ -235,14 +106,6 @@ answered_all before s p q bytes sent sound at_end answered whole fed =
       };
     }
 
-plain : (before : FacilityState) (s : SessionState) (p q : PeerState) → (f : HasPassed (fresh before) p q s [] [] true)
-    → HasTalked (fresh before) p q f.bytes f.sent true
-plain before s p q f = subst (λ x. HasTalked (fresh before) p q x f.sent true) (append-nil f.bytes) f.talked
-
-plain_fed : (before : FacilityState) (s : SessionState) (p q : PeerState) → (f : HasPassed (fresh before) p q s [] [] true)
-    → HasFed (fresh before) f.bytes [] f.sent s
-plain_fed before s p q f = subst (λ t. HasFed (fresh before) f.bytes [] t s) (append-nil f.sent) f.fed
-
 pub at_end_still : (before : FacilityState) (p q r : PeerState) (bytes answer : List ℕ) → r.remaining ≡ q.remaining
     → HasAnsweredAll before p q bytes answer → HasAnsweredAll before p r bytes answer
 at_end_still before p q r bytes answer same h = record {
@@ -252,82 +115,200 @@ at_end_still before p q r bytes answer same h = record {
   answered = h.answered;
 }
 
-served_end : (fault : ServeFault) (before : FacilityState) (s : SessionState) (p q r : PeerState) → IsSound before → IsAtEnd q.remaining
-    → IsAnsweredSoFar s → AreGood q → HasPassed (fresh before) p q s [] [] true
-    → StopsEnd fault s q r → HasServed before p r (Err fault)
-served_end faults.Read before s p q r sound at_end answered good f stops = absurd stops
-served_end (faults.Bad n) before s p q r sound at_end answered good f stops =
+answer_written : (A : Decoration) (before : FacilityState) (p q : PeerState) (s : SessionState) (unfed : List ℕ)
+    → (h : HasServedSoFar A before p q s unfed [] true) → s.unwritten ≡ [] → A h.answered.answer h.sent
+answer_written A before p q s unfed h written = subst (λ t. A h.answered.answer t) (append-nil h.sent)
+    (plain A s.unwritten h.answered.answer (h.sent ++ []) written h.answered.added)
+
+-- the bytes after those that were fed begin no line
+bad_at : (A : Decoration) (before : FacilityState) (p q : PeerState) (s : SessionState) (unfed : List ℕ) (n : ℕ)
+    → (h : HasServedSoFar A before p q s unfed [] true) → s.unwritten ≡ [] → 1 ≤ length (s.held ++ unfed)
+    → BeginsNoLine (s.held ++ unfed) → n ≡ next_line s → IsStoppedAt before h.came h.answered.answer n
+bad_at A before p q s unfed n h written some bad counted =
+    subst (λ z. IsStoppedAt before z h.answered.answer n) (sym h.answered.parts)
+    (stopped_at before s h.answered.bytes unfed h.answered.answer n h.answered.fed written some bad counted)
+
+-- not all of the bytes that came were served
+pub served_stopped : {E : Type 0} (A : Decoration) (d : IsLawful A) (fault : ServeFault) (before : FacilityState) (p q r t : PeerState)
+    (s new : SessionState) (n : ℕ)
+    (piece : List ℕ) → n ≤ length piece → length piece ≤ PIECE
+    → HasServedSoFar A before p q s [] [] true → IsAnsweredSoFar s → Gives {E = E} q (Ok n) piece r
+    → StopsPiece A fault s (take n piece) r t new
+    → HasServedBy A before p t (Err fault)
+served_stopped {E} A d faults.Read before p q r t s new n piece within short h going gives stops = absurd stops
+served_stopped {E} A d (faults.Bad m) before p q r t s new n piece within short h going gives stops =
+    let failed : HasFailed m new = stops.2 in
+    let g : HasServedSoFar A before p t new stops.0 [] true = so_far_more A d before p q r t s new n piece stops.0 [] true within short
+    h going
+    gives stops.1 in (
+      g.came,
+      g.answered.answer,
+      g.sent,
+      bad_at A before p t new stops.0 m g failed.written (some_more new.held stops.0 failed.bad.some) (failed.bad.bad stops.0)
+          failed.counted,
+      answer_written A before p t new stops.0 g failed.written,
+      g.talked,
+      stops.3,
+    )
+served_stopped {E} A d faults.OutOfMemory before p q r t s new n piece within short h going gives stops =
+    (new, stops.0, so_far_more A d before p q r t s new n piece stops.0 [] true within short h going gives stops.1, stops.2)
+served_stopped {E} A d faults.Write before p q r t s new n piece within short h going gives stops = (
+  inl (
+    new,
+    stops.0,
+    stops.1,
+    stops.2,
+    so_far_more A d before p q r t s new n piece stops.0 stops.1 stops.2 within short h going gives
+        stops.3,
+  ),
+  stops.4,
+  stops.5,
+)
+served_stopped {E} A d faults.TooLong before p q r t s new n piece within short h going gives stops = absurd stops
+
+-- all that came was fed
+fed_whole : (A : Decoration) (before : FacilityState) (p q : PeerState) (s : SessionState) → (h : HasServedSoFar A before p q s [] [] true)
+    → HasFed (fresh before) h.came [] h.answered.answer s
+fed_whole A before p q s h = subst (λ x. HasFed (fresh before) x [] h.answered.answer s)
+    (sym (h.answered.parts ∙ append-nil h.answered.bytes)) h.answered.fed
+
+-- the end line was not written, or not completely
+served_end : (A : Decoration) (d : IsLawful A) (fault : ServeFault) (before : FacilityState) (s : SessionState) (p q r : PeerState)
+    → IsSound before → IsAtEnd q.remaining
+    → IsAnsweredSoFar s → AreGood q → HasServedSoFar A before p q s [] [] true
+    → StopsEnd fault s q r → HasServedBy A before p r (Err fault)
+served_end A d faults.Read before s p q r sound at_end going good f stops = absurd stops
+served_end A d (faults.Bad n) before s p q r sound at_end going good f stops =
     let some : 1 ≤ length (s.held ++ []) = some_more s.held [] stops.0 in
     let bad : BeginsNoLine (s.held ++ []) = subst BeginsNoLine (sym (append-nil s.held)) stops.1 in (
-      f.bytes ++ [],
+      f.came,
+      f.answered.answer,
       f.sent,
-      stopped_at before s f.bytes [] f.sent n (plain_fed before s p q f) answered.written some bad stops.2,
-      subst (λ x. HasTalked (fresh before) p x (f.bytes ++ []) f.sent true) (sym stops.3) f.talked,
+      bad_at A before p q s [] n f going.written some bad stops.2,
+      answer_written A before p q s [] f going.written,
+      subst (λ x. HasTalked A before p x f.came f.sent true) (sym stops.3) f.talked,
       subst AreGood (sym stops.3) good,
     )
-served_end faults.OutOfMemory before s p q r sound at_end answered good f same =
-    (s, [], subst (λ x. HasPassed (fresh before) p x s [] [] true) (sym same) f, subst AreGood (sym same) good)
-served_end faults.Write before s p q r sound at_end answered good f stops =
+served_end A d faults.OutOfMemory before s p q r sound at_end going good f same =
+    (s, [], subst (λ x. HasServedSoFar A before p x s [] [] true) (sym same) f, subst AreGood (sym same) good)
+served_end A d faults.Write before s p q r sound at_end going good f stops =
     let h : HasSentPart q (last_line s) r = stops.1 in
-    let answer : List ℕ = f.sent ++ last_line s in
-    let all : HasAnsweredAll before p q f.bytes answer = answered_all before s p q f.bytes f.sent sound at_end answered stops.0
-    (plain_fed before s p q f) in
-    let talked : HasTalked (fresh before) p r f.bytes (f.sent ++ take h.count (last_line s)) (is_flushed true h.written.moments) =
-    talked_wrote (IsAnsweredBy (fresh before)) p q r f.bytes f.sent (take h.count (last_line s)) true (plain before s p q f) h.written
-    in
-    let cut : f.sent ++ take h.count (last_line s) ≡ take (length f.sent + h.count) answer =
-    sym (take-append-add f.sent (last_line s) h.count) in
-    let long : length answer ≡ length f.sent + length (last_line s) = length-append f.sent (last_line s) in
-    let few : h.count ≤ length (last_line s) = h.within in (
+    let end : List ℕ = last_line s in
+    let answer : List ℕ = f.answered.answer ++ end in
+    let all : HasAnsweredAll before p q f.came answer = answered_all before s p q f.came f.answered.answer sound at_end going stops.0
+    (fed_whole A before p q s f) in
+    let text : A answer (f.sent ++ end) = d.joins f.answered.answer end f.sent end
+    (answer_written A before p q s [] f going.written) (d.end s.state.now (length s.state.pending)) in
+    let cut : f.sent ++ end ≡ (f.sent ++ take h.count end) ++ drop h.count end =
+    ap (λ x. f.sent ++ x) (sym (take-append-drop h.count end)) ∙ sym (append_assoc f.sent (take h.count end) (drop h.count end)) in (
       inr (
-        f.bytes,
+        f.came,
         answer,
-        length f.sent + h.count,
+        f.sent ++ take h.count end,
+        drop h.count end,
         is_flushed true h.written.moments,
-        at_end_still before p q r f.bytes answer h.written.remaining all,
-        omega arith,
-        subst (λ t. HasTalked (fresh before) p r f.bytes t (is_flushed true h.written.moments)) cut talked,
+        at_end_still before p q r f.came answer h.written.remaining all,
+        subst (A answer) cut text,
+        talked_wrote (IsAnsweredWith A (fresh before)) p q r f.came f.sent (take h.count end) true f.talked h.written,
       ),
       h.written.reading ∙ good.reading,
       h.failed,
     )
-served_end faults.TooLong before s p q r sound at_end answered good f stops = absurd stops
+served_end A d faults.TooLong before s p q r sound at_end going good f stops = absurd stops
 
 -- however it ended
-pub served_finish : (result : Result Unit ServeFault) (before : FacilityState) (s : SessionState) (p q r : PeerState) → IsSound before
+pub served_finish : (A : Decoration) (d : IsLawful A) (result : Result Unit ServeFault) (before : FacilityState) (s : SessionState)
+    (p q r : PeerState) → IsSound before
     → IsAtEnd q.remaining → IsAnsweredSoFar s → AreGood q
-    → HasPassed (fresh before) p q s [] [] true → OnOk result (s.held ≡ []) → OnOk result (HasSent q (last_line s) r)
-    → IfErr result (λ fault. StopsEnd fault s q r) → HasServed before p r result
-served_finish (Ok u) before s p q r sound at_end answered good f whole sent stops =
-    let h : HasSent q (last_line s) r = sent in (
-      f.bytes,
-      f.sent ++ last_line s,
-      at_end_still before p q r f.bytes (f.sent ++ last_line s) h.written.remaining
-          (answered_all before s p q f.bytes f.sent sound at_end answered whole (plain_fed before s p q f)),
-      talked_sent (IsAnsweredBy (fresh before)) p q r f.bytes f.sent (last_line s) true (plain before s p q f) h,
-      sent_good q r (last_line s) good.reading h,
+    → HasServedSoFar A before p q s [] [] true → OnOk result (s.held ≡ []) → OnOk result (HasSent q (last_line s) r)
+    → IfErr result (λ fault. StopsEnd fault s q r) → HasServedBy A before p r result
+served_finish A d (Ok u) before s p q r sound at_end going good f whole sent stops =
+    let h : HasSent q (last_line s) r = sent in
+    let end : List ℕ = last_line s in
+    let answer : List ℕ = f.answered.answer ++ end in (
+      f.came,
+      answer,
+      f.sent ++ end,
+      at_end_still before p q r f.came answer h.written.remaining
+          (answered_all before s p q f.came f.answered.answer sound at_end going whole (fed_whole A before p q s f)),
+      d.joins f.answered.answer end f.sent end (answer_written A before p q s [] f going.written)
+          (d.end s.state.now (length s.state.pending)),
+      talked_sent (IsAnsweredWith A (fresh before)) p q r f.came f.sent end true f.talked h,
+      sent_good q r end good.reading h,
     )
-served_finish (Err fault) before s p q r sound at_end answered good f whole sent stops =
-    served_end fault before s p q r sound at_end answered good f stops
+served_finish A d (Err fault) before s p q r sound at_end going good f whole sent stops =
+    served_end A d fault before s p q r sound at_end going good f stops
+
+-- one more turn
+pub often_more : {E : Type 0} (A : Decoration) (d : IsLawful A) (before : FacilityState) (p q r t : PeerState) (s new : SessionState)
+    (turns n : ℕ) (piece : List ℕ)
+    → n ≤ length piece → length piece ≤ PIECE
+    → HasServedOften A before p q s turns → IsAnsweredSoFar s → Gives {E = E} q (Ok n) piece r
+    → HasServedPiece A s (take n piece) r t new [] [] true → (n ≡ 0 → ⊥)
+    → HasServedOften A before p t new (turns + 1)
+unfolding so_far_more
+often_more {E} A d before p q r t s new turns n piece within short often going gives g some =
+    let l = length-append often.so_far.came (take n piece) in
+    let m = often.many in
+    let k = length-take-le n piece within in
+    let j = some_count n some in
+    record { so_far = so_far_more A d before p q r t s new n piece [] [] true within short often.so_far going gives g; many = omega arith }
 
 -- a new session has answered everything
 pub fresh_answered : (s : FacilityState) → IsAnsweredSoFar (fresh s)
 fresh_answered s = record { going = refl; written = refl; partial = record { no_feed = tt; short = lit≤ tt } }
 
+-- the first bytes of a buffer, of which a slice was written
+take_within : (n m : ℕ) (xs : List ℕ) → n ≤ m → take n (take m xs) ≡ take n xs
+take_within zero m xs le = refl
+take_within (suc n) zero xs le = absurd (omega arith)
+take_within (suc n) (suc m) [] le = refl
+take_within (suc n) (suc m) (x ∷ xs) le = ap (λ t. x ∷ t) (take_within n m xs (omega arith))
+
+pub front_of : (n len : ℕ) (new rest now : List ℕ) → n ≤ len → n ≤ length new → now ≡ take len (new ++ rest) → take n now ≡ take n new
+front_of n len new rest now a b e = ap (take n) e ∙ take_within n len (new ++ rest) a ∙ take-append-le n new rest b
+
+-- ---- calls that are known
+
+prompt_as : (P Q : List ℕ → List ℕ → Type 0) → ((came gone : List ℕ) → P came gone → Q came gone) → (came gone : List ℕ) (flushed : Bool)
+    (calls : List Moment) → IsPromptBy P came gone flushed calls → IsPromptBy Q came gone flushed calls
+prompt_as P Q f came gone flushed [] h = tt
+prompt_as P Q f came gone flushed (Came bytes ∷ calls) h =
+    (h.0, f came gone h.1, h.2, prompt_as P Q f (came ++ bytes) gone flushed calls h.3)
+prompt_as P Q f came gone flushed (Went bytes ∷ calls) h = prompt_as P Q f came (gone ++ bytes) false calls h
+prompt_as P Q f came gone flushed (Flush ∷ calls) h = prompt_as P Q f came gone true calls h
+
+-- an answer to which nothing is added
+nothing_added : (start : SessionState) (came gone : List ℕ) → IsAnsweredWith AddsNothing start came gone → IsAnsweredBy start came gone
+nothing_added start came gone h =
+    let f = h.answered in
+    let same : gone ≡ f.answer = plain AddsNothing h.session.unwritten f.answer gone h.going.written f.added in
+    let whole : f.bytes ≡ came = sym (f.parts ∙ append-nil f.bytes) in
+    record {
+      session = h.session;
+      fed = subst (λ x. HasFed start x [] gone h.session) whole (subst (λ t. HasFed start f.bytes [] t h.session) (sym same) f.fed);
+      answered = h.going;
+    }
+
+known : (before : FacilityState) (p q : PeerState) (came gone : List ℕ) (flushed : Bool) (calls : List Moment) → p.moments ≡ Some []
+    → q.moments ≡ Some calls → HasTalked AddsNothing before p q came gone flushed → IsPrompt (fresh before) [] [] true calls
+known before p q came gone flushed calls none is talked =
+    prompt_as (IsAnsweredWith AddsNothing (fresh before)) (IsAnsweredBy (fresh before)) (nothing_added (fresh before)) [] [] true calls
+    (known_prompt (IsAnsweredWith AddsNothing (fresh before)) p q came gone flushed calls none is talked)
+
 -- calls that are known are prompt, however serving ended
 pub served_prompt : (before : FacilityState) (p q : PeerState) (result : Result Unit ServeFault) (calls : List Moment) → p.moments ≡ Some []
     → q.moments ≡ Some calls → HasServed before p q result
     → IsPrompt (fresh before) [] [] true calls
-served_prompt before p q (Ok u) calls none known h = known_prompt (IsAnsweredBy (fresh before)) p q h.0 h.1 true calls none known h.3
-served_prompt before p q (Err faults.Read) calls none known h = let f = h.1
-    in known_prompt (IsAnsweredBy (fresh before)) p q (f.bytes ++ []) f.sent true calls none known f.talked
-served_prompt before p q (Err (faults.Bad n)) calls none known h =
-    known_prompt (IsAnsweredBy (fresh before)) p q h.0 h.1 true calls none known h.3
-served_prompt before p q (Err faults.OutOfMemory) calls none known h =
-    let f = h.2 in known_prompt (IsAnsweredBy (fresh before)) p q (f.bytes ++ h.1) f.sent true calls none known f.talked
-served_prompt before p q (Err faults.Write) calls none known h = elim h.0 [
-  | inl x ↦ let f = x.4 in known_prompt (IsAnsweredBy (fresh before)) p q (f.bytes ++ x.1) f.sent x.3 calls none known f.talked
-  | inr x ↦ known_prompt (IsAnsweredBy (fresh before)) p q x.0 (take x.2 x.1) x.3 calls none known x.6
+served_prompt before p q (Ok u) calls none is h = known before p q h.0 h.2 true calls none is h.5
+served_prompt before p q (Err faults.Read) calls none is h =
+    let f = h.1 in known before p q f.came f.sent true calls none is f.talked
+served_prompt before p q (Err (faults.Bad n)) calls none is h = known before p q h.0 h.2 true calls none is h.5
+served_prompt before p q (Err faults.OutOfMemory) calls none is h =
+    let f = h.2 in known before p q f.came f.sent true calls none is f.talked
+served_prompt before p q (Err faults.Write) calls none is h = elim h.0 [
+  | inl x ↦ let f = x.4 in known before p q f.came f.sent x.3 calls none is f.talked
+  | inr x ↦ known before p q x.0 x.2 x.4 calls none is x.7
 ]
-served_prompt before p q (Err faults.TooLong) calls none known h = let f = h.1
-    in known_prompt (IsAnsweredBy (fresh before)) p q (f.bytes ++ []) f.sent true calls none known f.talked
+served_prompt before p q (Err faults.TooLong) calls none is h =
+    let f = h.1 in known before p q f.came f.sent true calls none is f.talked

@@ -9,9 +9,9 @@ use Rattle.std.proofs.Math.Seq.{take-add}
 use Rattle.timer_facility.specs.declared.event.Event.{Event}
 use Rattle.timer_script.specs.declared.cutting.TheConstants.{MAX_LINE}
 use Rattle.timer_script.specs.Cutting.{HasNoFeed}
-use Rattle.timer_script.specs.Script.{IsInRange, IsScript, line, spelling, BeginsNoLine}
+use Rattle.timer_script.specs.Script.{IsInRange, line, spelling, BeginsNoLine}
 use Rattle.timer_script.specs.Lines.{line_at}
-use Rattle.timer_script.specs.Sieve.{Line, Good, Bad, bytes_of, IsLine, events_of, number_after_line, number_after, bad_of, last_bad, IsCut, complaint, complaints, IsHeld, HasEndedLine, HasSifted}
+use Rattle.timer_script.specs.Sieve.{Line, Good, Bad, bytes_of, IsLine, events_of, number_after_line, number_after, bad_of, IsCut, complaint, complaints, IsHeld, HasEndedLine, HasSifted}
 use Rattle.timer_script.proofs.LineLemmas.{line_again, line_sound}
 use Rattle.timer_script.proofs.CuttingLemmas.{IsFed, line_fed, first_feed, no_feed-append, no_feed-take, feed-take}
 

@@ -1,5 +1,5 @@
 -- Why bytes are not the line of an event, and from which column on.
-use Rattle.std.specs.Prelude.{◌≡◌, ◌≢◌, ℕ, ◌+◌, ◌-◌, ◌<◌, ◌≤◌, List, [], ◌∷◌, length, take, slice_index, Option, Some, None, codes}
+use Rattle.std.specs.Prelude.{◌≡◌, ℕ, ◌+◌, ◌-◌, ◌<◌, ◌≤◌, List, [], ◌∷◌, length, take, slice_index, Option, Some, None, codes}
 use Rattle.timer_facility.specs.declared.event.Event.{Event}
 use Rattle.timer_script.specs.Script.{IsInRange, line}
 use Rattle.timer_script.specs.declared.line_fault.Field.{Field}

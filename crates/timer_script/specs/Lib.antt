@@ -12,6 +12,7 @@ pub mod Running
 pub mod Checking
 pub mod Peer
 pub mod Streams
+pub mod Decorator
 pub mod Serving
 pub mod Sieve
 pub mod Forgiving

@@ -11,7 +11,8 @@ use Rattle.timer_script.specs.declared.fault.SessionFault.TheVariants as session
 use Rattle.timer_script.specs.declared.serving.TheConstants.{PIECE}
 use Rattle.timer_script.specs.Text.{end_line}
 use Rattle.timer_script.specs.Running.{IsAnswer}
-use Rattle.timer_script.specs.Session.{SessionState, fresh, next_line, HasFed, IsAnsweredSoFar, HasFailed, IsStoppedAt}
+use Rattle.timer_script.specs.Session.{SessionState, fresh, lines_of, next_line, HasFed, IsAnsweredSoFar, HasFailed, IsStoppedAt}
+use Rattle.timer_script.specs.Decorator.{Decoration, AddsNothing}
 use Rattle.timer_script.specs.Peer.{PeerState, Moment, Came, Went, Flush, Grows}
 
 -- the bytes that came from a peer
@@ -69,19 +70,6 @@ pub record HasTalkedBy (Answers : List ℕ → List ℕ → Type 0) (old new : P
   pub read : Consumes old.remaining new.remaining came
   pub written : Appends old.contents new.contents gone
 
--- each complete line was answered, as the session does, before more was read
-abbrev pub HasTalked : SessionState → (old new : PeerState) → (came gone : List ℕ) → Bool → Type 0
-HasTalked start = HasTalkedBy (IsAnsweredBy start)
-
--- what went from the peer through the session and back: the last of the bytes that came were not fed, and the
--- last of the text of those that were fed has not been sent
-pub record HasPassed (old : SessionState) (peer peer' : PeerState) (new : SessionState)
-    (unfed unsent : List ℕ) (flushed : Bool) : Type 0 where
-  pub bytes : List ℕ
-  pub sent : List ℕ
-  pub talked : HasTalked old peer peer' (bytes ++ unfed) sent flushed
-  pub fed : HasFed old bytes [] (sent ++ unsent) new
-
 -- neither a read nor a write failed
 pub record AreGood (peer : PeerState) : Type 0 where
   pub reading : peer.read_failed ≡ false
@@ -117,38 +105,56 @@ pub record HasSentPart (old : PeerState) (text : List ℕ) (new : PeerState) : T
   pub written : HasWritten old (take count text) new
   pub failed : new.write_failed ≡ true
 
--- one turn: bytes came, all complete lines are answered, and the answers flushed
-pub record HasTurned (old : SessionState) (peer peer' : PeerState) (new : SessionState) (n : ℕ) : Type 0 where
-  pub passed : HasPassed old peer peer' new [] [] true
-  pub counted : length passed.bytes ≡ n
-  pub answered : IsAnsweredSoFar new
-  pub at_end : n ≡ 0 → IsAtEnd peer'.remaining
-  pub good : AreGood peer'
-
 -- an error of a session as one of serving
 abbrev pub serve_fault : SessionFault → ServeFault
 serve_fault (sessions.Bad n) = faults.Bad n
 serve_fault sessions.OutOfMemory = faults.OutOfMemory
 serve_fault sessions.Ended = faults.OutOfMemory
 
--- why a turn failed
-abbrev pub StopsTurn : ServeFault → SessionState → PeerState → PeerState → SessionState → Type 0
--- a read failed, and all that came before it is answered
-StopsTurn faults.Read old peer peer' new =
-    HasPassed old peer peer' new [] [] true × IsAnsweredSoFar new × (peer'.read_failed ≡ true)
-    × (peer'.write_failed ≡ false)
+-- A session was fed these bytes except for the last ones, and the text is the answer to them with what is
+-- added; so it is too with the lines after both that the session has still to write.
+pub record HasAnswered (Adds : Decoration) (old : SessionState) (piece text : List ℕ)
+    (new : SessionState) (unfed : List ℕ) : Type 0 where
+  pub bytes : List ℕ
+  pub parts : piece ≡ bytes ++ unfed
+  pub answer : List ℕ
+  pub fed : HasFed old bytes [] answer new
+  pub added : Adds (answer ++ lines_of new.unwritten) (text ++ lines_of new.unwritten)
+
+-- why bytes were not answered, or nothing could be added: a line is bad, or out of memory
+abbrev pub StopsAnswer : Decoration → ServeFault → SessionState → (piece text : List ℕ)
+    → SessionState → Type 0
+StopsAnswer Adds faults.Read old piece text new = ⊥
+StopsAnswer Adds (faults.Bad n) old piece text new =
+    (unfed : List ℕ) × HasAnswered Adds old piece text new unfed × HasFailed n new
+StopsAnswer Adds faults.OutOfMemory old piece text new =
+    (unfed : List ℕ) × HasAnswered Adds old piece text new unfed
+StopsAnswer Adds faults.Write old piece text new = ⊥
+StopsAnswer Adds faults.TooLong old piece text new = ⊥
+
+-- the text for these bytes was written except for its last part, and nothing was read
+pub record HasServedPiece (Adds : Decoration) (old : SessionState) (piece : List ℕ)
+    (peer peer' : PeerState) (new : SessionState) (unfed unsent : List ℕ) (flushed : Bool) : Type 0 where
+  pub sent : List ℕ
+  pub answered : HasAnswered Adds old piece (sent ++ unsent) new unfed
+  pub written : HasWritten peer sent peer'
+  pub flush : is_flushed true written.moments ≡ flushed
+
+-- why not all of these bytes were served
+abbrev pub StopsPiece : Decoration → ServeFault → SessionState → List ℕ → PeerState
+    → PeerState → SessionState → Type 0
+StopsPiece Adds faults.Read old piece peer peer' new = ⊥
 -- a line is bad whatever follows, and all lines before it are answered
-StopsTurn (faults.Bad n) old peer peer' new = (unfed : List ℕ) × HasPassed old peer peer' new unfed [] true
-    × HasFailed n new × AreGood peer'
+StopsPiece Adds (faults.Bad n) old piece peer peer' new = (unfed : List ℕ)
+    × HasServedPiece Adds old piece peer peer' new unfed [] true × HasFailed n new × AreGood peer'
 -- out of memory: all the text so far was written
-StopsTurn faults.OutOfMemory old peer peer' new = (unfed : List ℕ)
-    × HasPassed old peer peer' new unfed [] true × AreGood peer'
+StopsPiece Adds faults.OutOfMemory old piece peer peer' new = (unfed : List ℕ)
+    × HasServedPiece Adds old piece peer peer' new unfed [] true × AreGood peer'
 -- a write failed
-StopsTurn faults.Write old peer peer' new =
-    (unfed unsent : List ℕ) × (flushed : Bool) × HasPassed old peer peer' new unfed unsent flushed
-    × (peer'.read_failed ≡ false)
-    × (peer'.write_failed ≡ true)
-StopsTurn faults.TooLong old peer peer' new = ⊥
+StopsPiece Adds faults.Write old piece peer peer' new = (unfed unsent : List ℕ) × (flushed : Bool)
+    × HasServedPiece Adds old piece peer peer' new unfed unsent flushed
+    × (peer'.read_failed ≡ false) × (peer'.write_failed ≡ true)
+StopsPiece Adds faults.TooLong old piece peer peer' new = ⊥
 
 -- the end line of a session
 abbrev pub last_line : SessionState → List ℕ
@@ -171,35 +177,62 @@ pub record HasAnsweredAll (before : FacilityState) (peer peer' : PeerState)
   pub script : IsScript events bytes
   pub answered : IsAnswer before events answer
 
--- what serving did, by how it ended; in each case every complete line was answered, and its answer flushed,
--- before more was read
-abbrev pub HasServed : FacilityState → PeerState → PeerState → Result Unit ServeFault → Type 0
--- the whole answer was written and flushed, and nothing else
-HasServed before peer peer' (Ok u) =
-    (bytes answer : List ℕ) × HasAnsweredAll before peer peer' bytes answer
-    × HasTalked (fresh before) peer peer' bytes answer true × AreGood peer'
+-- a session that was fed these bytes has answered each complete line of them, and this text is the answer
+-- with what is added
+pub record IsAnsweredWith (Adds : Decoration) (start : SessionState)
+    (came gone : List ℕ) : Type 0 where
+  pub session : SessionState
+  pub answered : HasAnswered Adds start came gone session []
+  pub going : IsAnsweredSoFar session
+
+-- these bytes came from the peer and this text went to it, each complete line answered before more was read
+abbrev pub HasTalked : Decoration → FacilityState → (old new : PeerState)
+    → (came gone : List ℕ) → Bool → Type 0
+HasTalked Adds before = HasTalkedBy (IsAnsweredWith Adds (fresh before))
+
+-- what went from the peer through the session and back: the last of the bytes that came were not fed, and the
+-- last of the text for those that were fed has not been sent
+pub record HasServedSoFar (Adds : Decoration) (before : FacilityState) (peer peer' : PeerState)
+    (new : SessionState) (unfed unsent : List ℕ) (flushed : Bool) : Type 0 where
+  pub came : List ℕ
+  pub sent : List ℕ
+  pub talked : HasTalked Adds before peer peer' came sent flushed
+  pub answered : HasAnswered Adds (fresh before) came (sent ++ unsent) new unfed
+
+-- what serving did, by how it ended, if this is what is added to the answers; in each case every complete
+-- line was answered, and its answer flushed, before more was read
+abbrev pub HasServedBy : Decoration → FacilityState → PeerState → PeerState
+    → Result Unit ServeFault → Type 0
+-- the whole answer, with what is added, was written and flushed, and nothing else
+HasServedBy Adds before peer peer' (Ok u) =
+    (bytes answer text : List ℕ) × HasAnsweredAll before peer peer' bytes answer × Adds answer text
+    × HasTalked Adds before peer peer' bytes text true × AreGood peer'
 -- a read failed, and each complete line that came is answered
-HasServed before peer peer' (Err faults.Read) =
-    (s : SessionState) × HasPassed (fresh before) peer peer' s [] [] true × IsAnsweredSoFar s
-    × (peer'.read_failed ≡ true)
-    × (peer'.write_failed ≡ false)
--- the n-th line is the first bad one, each line before it is answered, and nothing else was written
-HasServed before peer peer' (Err (faults.Bad n)) =
-    (bytes text : List ℕ) × IsStoppedAt before bytes text n
-    × HasTalked (fresh before) peer peer' bytes text true × AreGood peer'
+HasServedBy Adds before peer peer' (Err faults.Read) =
+    (s : SessionState) × HasServedSoFar Adds before peer peer' s [] [] true × IsAnsweredSoFar s
+    × (peer'.read_failed ≡ true) × (peer'.write_failed ≡ false)
+-- the n-th line is the first bad one, each line before it is answered, and nothing else was written but what
+-- is added
+HasServedBy Adds before peer peer' (Err (faults.Bad n)) =
+    (bytes answer text : List ℕ) × IsStoppedAt before bytes answer n × Adds answer text
+    × HasTalked Adds before peer peer' bytes text true × AreGood peer'
 -- out of memory: all the text so far was written
-HasServed before peer peer' (Err faults.OutOfMemory) =
-    (s : SessionState) × (unfed : List ℕ) × HasPassed (fresh before) peer peer' s unfed [] true
+HasServedBy Adds before peer peer' (Err faults.OutOfMemory) =
+    (s : SessionState) × (unfed : List ℕ) × HasServedSoFar Adds before peer peer' s unfed [] true
     × AreGood peer'
--- a write failed: a prefix of the answers was written, or of the whole answer
-HasServed before peer peer' (Err faults.Write) =
+-- a write failed: a prefix was written of the answers with what is added, or of the whole answer with that
+HasServedBy Adds before peer peer' (Err faults.Write) =
     (((s : SessionState) × (unfed unsent : List ℕ) × (flushed : Bool)
-    × HasPassed (fresh before) peer peer' s unfed unsent flushed)
-    ⊎ ((bytes answer : List ℕ) × (k : ℕ) × (flushed : Bool) × HasAnsweredAll before peer peer' bytes answer
-    × (k ≤ length answer) × HasTalked (fresh before) peer peer' bytes (take k answer) flushed))
+    × HasServedSoFar Adds before peer peer' s unfed unsent flushed)
+    ⊎ ((bytes answer sent unsent : List ℕ) × (flushed : Bool) × HasAnsweredAll before peer peer' bytes answer
+    × Adds answer (sent ++ unsent) × HasTalked Adds before peer peer' bytes sent flushed))
     × (peer'.read_failed ≡ false) × (peer'.write_failed ≡ true)
 -- more bytes came than a u64 counts, and each complete line of them is answered
-HasServed before peer peer' (Err faults.TooLong) =
-    (s : SessionState) × (passed : HasPassed (fresh before) peer peer' s [] [] true)
-    × (2 ^ 64 - 1 ≤ length passed.bytes)
+HasServedBy Adds before peer peer' (Err faults.TooLong) =
+    (s : SessionState) × (served : HasServedSoFar Adds before peer peer' s [] [] true)
+    × (2 ^ 64 - 1 ≤ length served.came)
     × IsAnsweredSoFar s × AreGood peer'
+
+-- what serving did, if nothing is added: what was written is the answer
+abbrev pub HasServed : FacilityState → PeerState → PeerState → Result Unit ServeFault → Type 0
+HasServed = HasServedBy AddsNothing

@@ -11,7 +11,7 @@ ghost use Rattle.timer_script.specs.Serving.{AreGood};
 ghost use Rattle.timer_script.specs.Forgiving.{HasReported, HasAnswered, StopsAnswer, HasServedGood};
 
 use crate::fault::ServeFault;
-use crate::input::blank;
+use crate::input::zeroed_buffer;
 use crate::output::write_text;
 use crate::peer::Peer;
 use crate::serving::{PIECE, fault_of, finish, send};
@@ -89,7 +89,7 @@ pub fn serve_good<P: Peer, W: Wheel + Drop, F: Write>(
 {
     // Brings what `owed` rests on into scope for the prover.
     let _now = facility.now();
-    let Ok(mut piece) = blank(alloc, PIECE) else {
+    let Ok(mut piece) = zeroed_buffer(alloc, PIECE) else {
         return Err(ServeFault::OutOfMemory);
     };
     let mut text = Vec::new(alloc);

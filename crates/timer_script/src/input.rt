@@ -17,8 +17,8 @@ const READ_LIMIT: usize = MAX_BYTES + 1;
 /// The most bytes of one read.
 const PIECE: usize = 65536;
 
-/// A piece of zeros.
-pub fn blank(alloc: Global, len: usize) -> Result<Vec<u8>, RunFault>
+/// A buffer of this many zeros.
+pub fn zeroed_buffer(alloc: Global, len: usize) -> Result<Vec<u8>, RunFault>
     ensures len { IfOk result (λ piece. vec_len piece ≡ len) }
     ensures memory { OnErr result (IsErrOf result RunFault.OutOfMemory) }
 {
@@ -63,7 +63,7 @@ pub fn read_script<R: Read>(alloc: Global, reader: &mut Watched<R>) -> Result<Ve
     ensures fault { IfErr result (λ fault. StopsReading fault (R.remaining reader.old.inner)
         (R.remaining reader.new.inner) reader.new.failed) }
 {
-    let mut piece = blank(alloc, PIECE)?;
+    let mut piece = zeroed_buffer(alloc, PIECE)?;
     let mut bytes = Vec::new(alloc);
     while bytes.len() < READ_LIMIT {
         let room = PIECE.min(READ_LIMIT - bytes.len());

@@ -1,14 +1,15 @@
 //! A session with a peer: each line is answered as soon as it is whole.
 //!
 //! A turn reads once, plays the lines that came, and writes and flushes their answers. So whenever more
-//! is read, each whole line that came has been answered.
-ghost use Rattle.std.specs.Prelude.{◌≡◌, ◌≢◌, ◌<◌, ◌≤◌, [], length, false, IfOk, IfErr, OnErr, OnOk};
-ghost use Rattle.timer_script.specs.declared.serving.TheConstants.{PIECE};
+//! is read, each whole line that came has been answered. A decorator may add text after an answer.
+ghost use Rattle.std.specs.Prelude.{◌≡◌, ◌≢◌, [], false, true, IfErr, OnErr, OnOk};
 ghost use Rattle.timer_script.specs.Session.{IsAnsweredSoFar};
-ghost use Rattle.timer_script.specs.Serving.{AreGood, HasSent, HasSentPart, HasTurned, StopsTurn, StopsEnd, HasServed, serve_fault, last_line};
+ghost use Rattle.timer_script.specs.Serving.{AreGood, HasSent, HasSentPart, HasAnswered, StopsAnswer, HasServedPiece, StopsPiece, StopsEnd, HasServedBy, HasServed, serve_fault, last_line};
 
+use crate::cutting::line_len;
+use crate::decorator::{Decorator, Undecorated};
 use crate::fault::{ServeFault, SessionFault};
-use crate::input::blank;
+use crate::input::zeroed_buffer;
 use crate::peer::Peer;
 use crate::session::Session;
 use std::alloc::Global;
@@ -54,37 +55,90 @@ pub fn fault_of(fault: SessionFault) -> ServeFault
     }
 }
 
-/// Reads once, plays the lines that came, and writes and flushes their answers. Returns how many bytes
-/// came: none only at the end.
-fn turn<P: Peer, W: Wheel + Drop>(
+/// Plays these bytes, and appends the answers and what is added after them. After a line whose line feed has
+/// not come nothing is added.
+fn answer<W: Wheel + Drop, D: Decorator<W>>(
+    session: &mut Session<W>,
+    decorator: &D,
+    bytes: &[u8],
+    text: &mut Vec<u8>,
+) -> Result<(), ServeFault>
+    requires answered { IsAnsweredSoFar session.old }
+    requires empty { text.old.items ≡ [] }
+    ensures text { OnOk result (HasAnswered D.adds session.old bytes.now text.new.items session.new []) }
+    ensures answered { OnOk result (IsAnsweredSoFar session.new) }
+    ensures fault { IfErr result (λ fault. StopsAnswer D.adds fault session.old bytes.now
+        text.new.items session.new) }
+{
+    if let Err(stop) = session.feed(bytes, text) {
+        return Err(fault_of(stop.fault));
+    }
+    if !bytes.ends_with(b"\n") {
+        return Ok(());
+    }
+    let answered = text.len();
+    match decorator.decorate(text, session.facility()) {
+        Ok(()) => Ok(()),
+        Err(_) => {
+            // Out of memory: the answer is written all the same.
+            text.truncate(answered);
+            Err(ServeFault::OutOfMemory)
+        }
+    }
+}
+
+/// Plays these bytes, and writes and flushes the answers and what is added after them.
+fn serve_bytes<P: Peer, W: Wheel + Drop, D: Decorator<W>>(
     session: &mut Session<W>,
     peer: &mut P,
-    piece: &mut [u8],
+    decorator: &D,
+    bytes: &[u8],
     text: &mut Vec<u8>,
-) -> Result<usize, ServeFault>
-    requires room { 0 < length piece.old }
-    requires short { length piece.old ≤ PIECE }
+) -> Result<(), ServeFault>
     requires good { AreGood (P.state peer.old) }
     requires answered { IsAnsweredSoFar session.old }
-    ensures ok { IfOk result (λ n. HasTurned session.old (P.state peer.old)
-        (P.state peer.new) session.new n) }
-    ensures fault { IfErr result (λ fault. StopsTurn fault session.old (P.state peer.old)
+    ensures served { OnOk result (HasServedPiece D.adds session.old bytes.now (P.state peer.old)
+        (P.state peer.new) session.new [] [] true) }
+    ensures good { OnOk result (AreGood (P.state peer.new)) }
+    ensures answered { OnOk result (IsAnsweredSoFar session.new) }
+    ensures fault { IfErr result (λ fault. StopsPiece D.adds fault session.old bytes.now (P.state peer.old)
         (P.state peer.new) session.new) }
 {
-    let Ok(n) = peer.read(piece) else {
-        return Err(ServeFault::Read);
-    };
     text.clear();
-    match session.feed(&piece[..n], text) {
-        Ok(()) => match send(peer, text) {
-            Ok(()) => Ok(n),
-            Err(fault) => Err(fault),
-        },
-        Err(stop) => match send(peer, text) {
-            Ok(()) => Err(fault_of(stop.fault)),
-            Err(fault) => Err(fault),
-        },
+    let played = answer(session, decorator, bytes, text);
+    match send(peer, text) {
+        Ok(()) => played,
+        Err(fault) => Err(fault),
     }
+}
+
+/// Serves the bytes of one read: at once, or line by line if the decorator asks for that.
+fn serve_piece<P: Peer, W: Wheel + Drop, D: Decorator<W>>(
+    session: &mut Session<W>,
+    peer: &mut P,
+    decorator: &D,
+    piece: &[u8],
+    text: &mut Vec<u8>,
+) -> Result<(), ServeFault>
+    requires good { AreGood (P.state peer.old) }
+    requires answered { IsAnsweredSoFar session.old }
+    ensures served { OnOk result (HasServedPiece D.adds session.old piece.now (P.state peer.old)
+        (P.state peer.new) session.new [] [] true) }
+    ensures good { OnOk result (AreGood (P.state peer.new)) }
+    ensures answered { OnOk result (IsAnsweredSoFar session.new) }
+    ensures fault { IfErr result (λ fault. StopsPiece D.adds fault session.old piece.now (P.state peer.old)
+        (P.state peer.new) session.new) }
+{
+    if !decorator.sends_each_line() {
+        return serve_bytes(session, peer, decorator, piece, text);
+    }
+    let mut rest = piece;
+    while !rest.is_empty() {
+        let (line, after) = rest.split_at(line_len(rest, rest.len()));
+        serve_bytes(session, peer, decorator, line, text)?;
+        rest = after;
+    }
+    Ok(())
 }
 
 /// Writes and flushes the end line, if no line is held in part.
@@ -121,21 +175,35 @@ pub fn serve<P: Peer, W: Wheel + Drop>(
     requires waiting { facility.waiting ≡ [] }
     ensures { HasServed facility.state (P.state peer.old) (P.state peer.new) result }
 {
+    serve_decorated(alloc, peer, facility, &Undecorated)
+}
+
+/// Serves as `serve` does, and adds what the decorator adds after the answers.
+pub fn serve_decorated<P: Peer, W: Wheel + Drop, D: Decorator<W>>(
+    alloc: Global,
+    peer: &mut P,
+    facility: Facility<W>,
+    decorator: &D,
+) -> Result<(), ServeFault>
+    requires good { AreGood (P.state peer.old) }
+    requires pending { facility.state.pending ≡ [] }
+    requires waiting { facility.waiting ≡ [] }
+    ensures { HasServedBy D.adds facility.state (P.state peer.old) (P.state peer.new) result }
+{
     // Brings what `owed` rests on into scope for the prover.
     let _now = facility.now();
-    let Ok(mut piece) = blank(alloc, PIECE) else {
+    let Ok(mut piece) = zeroed_buffer(alloc, PIECE) else {
         return Err(ServeFault::OutOfMemory);
     };
     let mut text = Vec::new(alloc);
     let mut session = Session::open(alloc, facility);
     for turned in 0..u64::MAX {
-        match turn(&mut session, peer, &mut piece, &mut text) {
-            Ok(n) => {
-                if n == 0 {
-                    return finish(&mut session, peer, &mut text);
-                }
-            }
-            Err(fault) => return Err(fault),
+        let Ok(n) = peer.read(&mut piece) else {
+            return Err(ServeFault::Read);
+        };
+        serve_piece(&mut session, peer, decorator, &piece[..n], &mut text)?;
+        if n == 0 {
+            return finish(&mut session, peer, &mut text);
         }
     }
     Err(ServeFault::TooLong)

@@ -1,4 +1,4 @@
-use Rattle.std.proofs.Common.{rules, ◌≡◌, [], length, sym, ◌∙◌, arith, eqb-true}
+use Rattle.std.proofs.Common.{rules, ◌≡◌, [], length, sym, ◌∙◌, eqb-true}
 use Rattle.std.proofs.lemmas.List.{nil_from_length}
 use Rattle.timer_script.proofs.CheckingLemmas.{line_good, line_bad, reported_all}
 use Rattle.timer_script.proofs.checking.report_of.Goals.{in-Some+in_ok-push_fault, in_default}

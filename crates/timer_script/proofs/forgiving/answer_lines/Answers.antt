@@ -1,7 +1,7 @@
 use Rattle.std.proofs.Common.{sym, subst}
 use Rattle.timer_script.specs.Serving.{HasSent, HasSentPart}
 use Rattle.timer_script.specs.Forgiving.{StopsAnswer}
-use Rattle.timer_script.proofs.ServingLemmas.{not_ended_before}
+use Rattle.timer_script.proofs.ServingPieces.{not_ended_before}
 use Rattle.timer_script.proofs.ForgivingLemmas.{answered_lines, stops_lines, stops_text, stops_all_text}
 use Rattle.timer_script.proofs.forgiving.answer_lines.Goals as goal
 

@@ -1,4 +1,4 @@
-use Rattle.std.proofs.Common.{◌≡◌, ◌+◌, ◌*◌, ◌≤◌, length, drop}
+use Rattle.std.proofs.Common.{◌≡◌, ◌*◌, ◌≤◌, length, drop}
 use Rattle.timer_script.specs.Text.{numbers}
 use Rattle.timer_script.specs.declared.text.TheConstants.{ROOM, MAX_DIGITS}
 use Rattle.timer_script.proofs.text.push_numbers.Given as goal

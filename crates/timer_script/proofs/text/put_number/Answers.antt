@@ -1,5 +1,5 @@
-use Rattle.std.proofs.Common.{◌≡◌, ◌≤◌, ◌<◌, ◌+◌, ◌-◌, ◌^◌, ◌∷◌, ◌++◌, ℕ, List, length, drop, decimal, set, refl, sym, ap, ◌∙◌, subst, arith, lit≤}
-use Rattle.std.proofs.lemmas.List.{drop-set, length-drop}
+use Rattle.std.proofs.Common.{◌≡◌, ◌≤◌, ◌<◌, ◌-◌, ◌^◌, ◌∷◌, ℕ, List, length, drop, decimal, set, ap, ◌∙◌, arith, lit≤}
+use Rattle.std.proofs.lemmas.List.{drop-set}
 use Rattle.std.proofs.lemmas.Fmt.{length-decimal-le}
 use Rattle.timer_script.proofs.text.put_number.Goals as goal
 

@@ -1,4 +1,4 @@
-use Rattle.std.proofs.Common.{rules, arith, refl, subst, [], take}
+use Rattle.std.proofs.Common.{rules, arith, refl, subst, []}
 use Rattle.std.proofs.lemmas.List.{take_all}
 use Rattle.timer_script.specs.Sieve.{HasSifted}
 use Rattle.timer_script.proofs.SieveLemmas.{sifted_none, sifted_more}

@@ -2,13 +2,13 @@ use Rattle.std.proofs.Common.{◌≡◌, vec_len}
 use Rattle.timer_script.specs.declared.serving.TheConstants.{PIECE}
 use Rattle.timer_script.specs.Session.{IsAnsweredSoFar}
 use Rattle.timer_script.specs.Serving.{AreGood}
-use Rattle.timer_commands.proofs.ShowStreamLemmas.{HasShownOften}
-use Rattle.timer_commands.proofs.show_stream.show.Given as goal
+use Rattle.timer_script.proofs.ServingLemmas.{HasServedOften}
+use Rattle.timer_script.proofs.serving.serve_decorated.Given as goal
 
--- each complete line that came is answered and shown
+-- each complete line that came is answered
 abbrev pub invariant-loop-turned : goal.invariant-loop-turned
 invariant-loop-turned g l = record {
-  often : HasShownOften l.fn.facility.state (g.P.Peer.state l.fn.peer) (g.P.Peer.state l.peer) l.session l.turned;
+  often : HasServedOften g.D.Decorator.adds l.fn.facility.state (g.P.Peer.state l.fn.peer) (g.P.Peer.state l.peer) l.session l.turned;
   good : AreGood (g.P.Peer.state l.peer);
   answered : IsAnsweredSoFar l.session;
   room : vec_len l.piece ≡ PIECE;

@@ -1,0 +1,50 @@
+//! What a server writes beside the answers: text after the answer to a line.
+//!
+//!     Undecorated    started 0 1 1 4
+//!
+//!     one that       started 0 1 1 4
+//!     shows the        now 0
+//!     timers           pending: 1:4
+ghost use Rattle.std.specs.Prelude.{OnOk};
+ghost use Rattle.timer_script.specs.Decorator.{Decoration, IsLawful, HasGrown, HasGrownBy};
+
+use timer_base::{OutOfMemory, Wheel};
+use timer_facility::Facility;
+
+/// Adds text to the answers of a session.
+pub trait Decorator<W: Wheel + Drop> {
+    /// The text is the answer, with what may be added.
+    ghost adds: { Decoration };
+
+    /// Whether the text for each line is written before the next line is played. If not, that for all lines
+    /// of one read is written at once, and only the last of them is decorated.
+    fn sends_each_line(&self) -> bool;
+
+    /// Appends what comes after the answer to a line. The only error is out of memory.
+    fn decorate(&self, text: &mut Vec<u8>, facility: &Facility<W>) -> Result<(), OutOfMemory>
+        ensures added { OnOk result (HasGrownBy adds text.old.items text.new.items) }
+        ensures kept { HasGrown text.old.items text.new.items };
+
+    /// Texts may be joined, and an answer may be left as it is.
+    ghost is_lawful: { IsLawful adds };
+}
+
+/// Adds nothing.
+#[derive(Clone, Copy, Debug, PartialEq, Eq)]
+pub struct Undecorated;
+
+impl<W: Wheel + Drop> Decorator<W> for Undecorated {
+    ghost use Rattle.timer_script.specs.Decorator.{AddsNothing, nothing_is_lawful};
+
+    ghost adds = { AddsNothing };
+
+    fn sends_each_line(&self) -> bool {
+        false
+    }
+
+    fn decorate(&self, _text: &mut Vec<u8>, _facility: &Facility<W>) -> Result<(), OutOfMemory> {
+        Ok(())
+    }
+
+    ghost is_lawful = { nothing_is_lawful };
+}
