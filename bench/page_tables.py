@@ -387,7 +387,7 @@ def missing(folder):
         lacks.append("the desk and ring lines")
     if not lacks:
         return ""
-    return f"Not in these runs: {', '.join(lacks)}. Older rows of them are marked with their day and their code."
+    return f"Not in these runs: {', '.join(lacks)}. Their tables are older ones."
 
 
 def wrappers(folder):
@@ -444,7 +444,8 @@ def settings(folder):
     """What each part left about the machine."""
     found = []
     for name in sorted(os.listdir(folder)):
-        if name.endswith(".json"):
+        # Counts of instructions don't depend on other work.
+        if name.endswith(".json") and name != "instructions.json":
             with open(os.path.join(folder, name), encoding="utf-8") as file:
                 found.append(json.load(file))
     return found
