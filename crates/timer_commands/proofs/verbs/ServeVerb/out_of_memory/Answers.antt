@@ -8,8 +8,5 @@ use Rattle.timer_commands.proofs.verbs.ServeVerb.out_of_memory.Goals as goal
 pub returns : goal.returns
 returns g c = λ before. (
   refl,
-  fresh before,
-  [],
-  so_far_none AddsNothing nothing_is_lawful before (g.P.Peer.state c.args.self.now.peer.now),
-  c.requires,
+  (fresh before, [], so_far_none AddsNothing nothing_is_lawful before (g.P.Peer.state c.args.self.now.peer.now), c.requires),
 )
