@@ -36,7 +36,7 @@ pub use inlet::{Inlet, Put, Taken};
 pub use locked::{LockedEnd, LockedInlet};
 pub use locked_maker::locked_line;
 pub use memory::MemoryInlet;
-pub use opening::{MIN_ROOM, MAX_ROOM, OpenFault};
+pub use opening::{MAX_ROOM, MIN_ROOM, OpenFault};
 pub use report::{Done, Served, Step};
 pub use ring::{ClientEnd, ClientReader, RequestsEnded, RingInlet, Unsent, WordsEnded};
 pub use ring_maker::ring_line;
