@@ -938,11 +938,6 @@ parts-restart {p} {v} a e i client number handle interval action now old place w
     } in
     subst (λ (u : Wheels.WheelState). AreParts (record p { wheel = u; next_serial = p.next_serial + 1 })) (sym x) here
 
--- the answer that an accepted restart gives
-pub answer_restarted : (h : Handle) (serial deadline told old : ℕ) → h.serial ≡ serial → told ≡ deadline
-    → Restarted h told old ≡ Restarted (record { place = h.place; serial = serial }) deadline old
-answer_restarted h serial deadline told old e f = rw (← e, f) refl
-
 -- a wheel that runs out of memory before the facility is full has no room that was made
 pub no_room : {p : Parts} {v : FacilityView} → AreParts p → view_of p ≡ v → v.waiting ≡ [] → length v.state.pending ≢ v.state.capacity
     → p.wheel.room ≤ Wheels.held_count p.wheel → v.state.has_room ≡ false

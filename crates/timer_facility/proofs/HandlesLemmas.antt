@@ -45,15 +45,6 @@ pub AreRecorded-ticks : (handles : HandleList) (limit passed : ℕ) (s : Facilit
 AreRecorded-ticks handles limit passed s v t a = subst (λ (u : FacilityView). AreRecorded handles u.state) (sym t.ticked)
     (AreRecorded-run handles passed s a)
 
-recorded_close : (handles : HandleList) (s : FacilityState) (closed : Bool) → AreRecorded handles s
-    → AreRecorded handles (step_of_close s closed).state
-recorded_close handles s true a = a
-recorded_close handles s false a = record { sorted = a.sorted; used = a.used; each = tt }
-
--- a close leaves none
-pub AreRecorded-close : (handles : HandleList) (s : FacilityState) → AreRecorded handles s → AreRecorded handles (step s Close 0).state
-AreRecorded-close handles s a = recorded_close handles s s.is_closed a
-
 All-put : (P : Entry → Type 0) (e : Entry) (es : List Entry) → P e → AllByRecursion P es → AllByRecursion P (put e es)
 All-put P e [] p a = (p, tt)
 All-put P e (x ∷ xs) p a = elim (either (nat_lt e.timer.deadline x.timer.deadline)) [

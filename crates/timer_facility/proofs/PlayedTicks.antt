@@ -86,9 +86,6 @@ outs_of-ticks (suc n) s =
     ∙ sym (append_assoc (step s Tick 0).outs (outs_of (history (step s Tick 0).state (replicate n a_tick)))
     (step (state_after (step s Tick 0).state (replicate n a_tick)) Tick 0).outs)
 
-pub HasTicked-none : (s : FacilityState) (before : List Out) → s.now ≤ s.last → HasTicked s 0 before before s
-HasTicked-none s before i = record { state = refl; added = sym (append-nil before); left = omega arith; in_range = i }
-
 -- the state and the outs after one more
 ticked_state : (s : FacilityState) (n : ℕ) (before outs : List Out) (after after' : FacilityState) → HasTicked s n before outs after
     → after' ≡ (step after Tick 0).state
