@@ -13,9 +13,6 @@ use Rattle.timer_base.specs.WheelState.{WheelState, IsWellFormed, IsPending, tim
 
 -- A tick.
 
-due_is : (tick : ℕ) (t : Timer) → is_due_at tick t ≡ true → t.deadline ≡ tick
-due_is tick t h = grind (arith, nat_tests)
-
 is_later : (tick : ℕ) (t : Timer) → tick ≤ t.deadline → is_due_at tick t ≡ false → tick < t.deadline
 is_later tick t h k = grind (arith, nat_tests)
 

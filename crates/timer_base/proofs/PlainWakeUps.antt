@@ -1,5 +1,5 @@
 -- Lemmas for `quiet_until` of a `PlainWheel`: its first pending deadline.
-use Rattle.std.proofs.Common.{◌≡◌, ◌<◌, ◌≤◌, ℕ, true, false, List, [], ◌∷◌, refl, sym, ◌∙◌, ap, inl, inr, arith}
+use Rattle.std.proofs.Common.{◌≡◌, ◌≤◌, ℕ, true, false, List, [], ◌∷◌, refl, sym, ◌∙◌, ap, inl, inr, arith}
 use Rattle.std.specs.Prelude.{map, filter, min, Option, Some, None}
 use Rattle.std.specs.List.{AllByRecursion}
 use Rattle.std.proofs.lemmas.Bool.Decides.{nat_tests}
@@ -63,29 +63,3 @@ quiet_next last_tick now last room (e ∷ es) ds o a = record {
 -- the first pending deadline is a tick to wake up at
 pub quiet_until_next : (w : WheelState) → IsWellFormed w → IsQuietUntil (next_deadline w.pending) w
 quiet_until_next w f = quiet_next w.last_tick w.now w.last_serial w.room w.pending w.due f.ordered f.each
-
--- The loop.
-
-pub earliest-assoc : (a b c : Option ℕ) → earliest (earliest a b) c ≡ earliest a (earliest b c)
-earliest-assoc None b c = refl
-earliest-assoc (Some a) None c = refl
-earliest-assoc (Some a) (Some b) None = refl
-earliest-assoc (Some a) (Some b) (Some c) = let h : min (min a b) c ≡ min a (min b c) = omega arith in ap Some h
-
-pub earliest-none : (a : Option ℕ) → earliest a None ≡ a
-earliest-none None = refl
-earliest-none (Some a) = refl
-
-yes_after : (tick : ℕ) (t : Timer) → tick < t.deadline → is_after tick t ≡ true
-yes_after tick t h = grind (arith, nat_tests)
-
-not_after : (tick : ℕ) (t : Timer) → t.deadline ≤ tick → is_after tick t ≡ false
-not_after tick t h = grind (arith, nat_tests)
-
-pub first_after-taken : (tick : ℕ) (first : Option ℕ) (t : Timer) (ts : List Timer) → tick < t.deadline
-    → earliest (earliest first (Some t.deadline)) (first_after tick ts) ≡ earliest first (first_after tick (t ∷ ts))
-first_after-taken tick first t ts h = rw (yes_after tick t h) (earliest-assoc first (Some t.deadline) (first_after tick ts))
-
-pub first_after-passed : (tick : ℕ) (first : Option ℕ) (t : Timer) (ts : List Timer) → t.deadline ≤ tick
-    → earliest first (first_after tick ts) ≡ earliest first (first_after tick (t ∷ ts))
-first_after-passed tick first t ts h = rw (not_after tick t h) refl

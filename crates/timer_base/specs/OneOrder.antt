@@ -9,8 +9,7 @@ use Rattle.std.proofs.lemmas.List.Sorted.{IsPermutation-refl, IsPermutation-sym,
 use Rattle.std.proofs.lemmas.List.Sums.{sum_by-cons}
 use Rattle.timer_base.specs.declared.timer.Timer.{Timer}
 use Rattle.timer_base.specs.Order.{is_before, insert_in_order, in_order, itself, IsFirst, IsOrdered, IsNotAmong, AreDistinct}
-use Rattle.timer_base.specs.OrderLaws.{either, All-weaken, All-in_order, IsOrdered-in_order, AreDistinct-in_order, map-in_order}
-use Rattle.timer_base.specs.Pending.{Entry, timer_of, timers_of}
+use Rattle.timer_base.specs.OrderLaws.{either, All-weaken, All-in_order, IsOrdered-in_order, AreDistinct-in_order}
 
 -- z is a member of the list
 abbrev pub IsMember : {X : Type 0} → X → List X → Type 0
@@ -248,23 +247,6 @@ ordered_is_in_order timer xs ys p d o =
 pub in_order-ordered : {X : Type 0} (timer : X → Timer) (xs : List X) → AreDistinct (map timer xs)
     → IsOrdered (map timer xs) → in_order timer xs ≡ xs
 in_order-ordered timer xs d o = sym (ordered_is_in_order timer xs xs (IsPermutation-refl xs) d o)
-
--- a permutation of distinct timers has the same order
-pub in_order-permuted : {X : Type 0} (timer : X → Timer) (xs ys : List X) → IsPermutation xs ys
-    → AreDistinct (map timer xs)
-    → in_order timer xs ≡ in_order timer ys
-in_order-permuted timer xs ys p d =
-    let m = same_members xs ys p in
-    one_order timer (in_order timer xs) (in_order timer ys) (IsOrdered-in_order timer xs)
-    (IsOrdered-in_order timer ys)
-    (AreDistinct-in_order timer xs d) (AreDistinct-in_order timer ys (AreDistinct-permuted timer xs ys p d))
-    (All-in_order timer (λ z. IsMember z (in_order timer ys)) xs (into_order timer xs ys m.into))
-    (All-in_order timer (λ z. IsMember z (in_order timer xs)) ys (into_order timer ys xs m.back))
-
--- the timers of entries in order are the timers in order
-pub timers_of-in_order : (entries : List Entry) → timers_of (in_order timer_of entries)
-    ≡ in_order itself (timers_of entries)
-timers_of-in_order entries = map-in_order timer_of itself timer_of (λ entry. refl) entries
 
 pub map-itself : (ts : List Timer) → map itself ts ≡ ts
 map-itself [] = refl

@@ -11,23 +11,7 @@ use Rattle.timer_base.specs.Order.{is_before, insert_in_order, in_order, insert_
 pub either : (b : Bool) → (b ≡ true) ⊎ (b ≡ false)
 either b = elim b as (λ v. (v ≡ true) ⊎ (v ≡ false)) [ true ↦ inl refl | false ↦ inr refl ]
 
--- The comparison decides the order, both ways.
-
-pub before_means : (a b : Timer) → is_before a b ≡ true → (a.deadline < b.deadline)
-    ⊎ ((a.deadline ≡ b.deadline) × (a.serial < b.serial))
-before_means a b h = grind (arith, nat_tests)
-
-pub not_before_means : (a b : Timer) → is_before a b ≡ false → (b.deadline < a.deadline)
-    ⊎ ((a.deadline ≡ b.deadline) × (b.serial ≤ a.serial))
-not_before_means a b h = grind (arith, nat_tests)
-
-pub is_before_when : (a b : Timer) → (a.deadline < b.deadline)
-    ⊎ ((a.deadline ≡ b.deadline) × (a.serial < b.serial)) → is_before a b ≡ true
-is_before_when a b h = grind (arith, nat_tests)
-
-pub is_not_before_when : (a b : Timer) → (b.deadline < a.deadline)
-    ⊎ ((a.deadline ≡ b.deadline) × (b.serial ≤ a.serial)) → is_before a b ≡ false
-is_not_before_when a b h = grind (arith, nat_tests)
+-- Of two timers with different serials, exactly one comes first.
 
 not_both : (a b : Timer) → is_before a b ≡ true → is_before b a ≡ false
 not_both a b h = grind (arith, nat_tests)
@@ -239,14 +223,6 @@ IsFirst-filter timer p t [] f = tt
 IsFirst-filter timer p t (y ∷ ys) f = elim (either (p y)) [
   | inl k ↦ rw k (f.0, IsFirst-filter timer p t ys f.1)
   | inr k ↦ rw k (IsFirst-filter timer p t ys f.1)
-]
-
-pub IsOrdered-filter : {X : Type 0} (timer : X → Timer) (p : X → Bool) (ys : List X)
-    → IsOrdered (map timer ys) → IsOrdered (map timer (filter p ys))
-IsOrdered-filter timer p [] o = tt
-IsOrdered-filter timer p (y ∷ ys) o = elim (either (p y)) [
-  | inl k ↦ rw k (IsFirst-filter timer p (timer y) ys o.0, IsOrdered-filter timer p ys o.1)
-  | inr k ↦ rw k (IsOrdered-filter timer p ys o.1)
 ]
 
 filter_not : {X : Type 0} (timer : X → Timer) (p : X → Bool) (x : X) (ys : List X) → p x ≡ false

@@ -15,7 +15,7 @@ use Rattle.timer_base.specs.Pending.{Entry, timers_of, put, is_due_at, has_handl
 use Rattle.timer_base.specs.WheelState as Wheels
 use Rattle.timer_facility.specs.declared.limits.TheConstants.{MAX_PENDING}
 use Rattle.timer_facility.specs.declared.config.Config.{Config}
-use Rattle.timer_facility.specs.declared.request.Answer.TheVariants.{Started, Restarted}
+use Rattle.timer_facility.specs.declared.request.Answer.TheVariants.{Started}
 use Rattle.timer_facility.specs.declared.request.Reason.{Reason}
 use Rattle.timer_facility.specs.declared.request.TickFault.{TickFault}
 use Rattle.timer_facility.specs.declared.request.Notice.{Notice}

@@ -14,9 +14,9 @@ use Rattle.timer_facility.specs.declared.request.Request.{Request}
 use Rattle.timer_facility.specs.declared.request.Request.TheVariants as Requests
 use Rattle.timer_facility.specs.declared.request.Answer.{Answer}
 use Rattle.timer_facility.specs.declared.event.Out.TheVariants as Outs
-use Rattle.timer_facility.specs.State.{FacilityState, Asked, Tick, Close, Start, Stop, StopSerial, Restart, RestartSerial}
+use Rattle.timer_facility.specs.State.{FacilityState, Asked, Tick, Start, Stop, StopSerial, Restart, RestartSerial}
 use Rattle.timer_facility.specs.Verdict.{not_taken, start_refusal, interval_refusal, tick_refusal, of_client, named}
-use Rattle.timer_facility.specs.Step.{Step, step, step_of_request, step_of_tick, step_of_close, after_start, after_stop, after_restart, answer_to_start, answer_to_stop, answer_to_restart, with_number, new_timer}
+use Rattle.timer_facility.specs.Step.{Step, step, step_of_request, step_of_tick, after_start, after_stop, after_restart, answer_to_start, answer_to_stop, answer_to_restart, with_number, new_timer}
 use Rattle.timer_facility.specs.Run.{notices_in, state_after}
 use Rattle.timer_facility.specs.Ticked.{ticks, AreTicked}
 use Rattle.timer_facility.specs.Facility.{FacilityView, place_in, IsTaken}

@@ -26,16 +26,6 @@ pub after_ticks-numbered : (n serial : ℕ) (w : WheelState)
 after_ticks-numbered zero serial w = refl
 after_ticks-numbered (suc n) serial w = ap after_tick (after_ticks-numbered n serial w)
 
--- no tick is passed if none is asked for
-pub passes_none : (most : ℕ) (w : WheelState) → most ≡ 0 → Passes most 0 w w
-passes_none most w e = record {
-  at_most = omega arith;
-  some = λ h. absurd (omega arith);
-  ticked = refl;
-  quiet = λ n h. absurd (omega arith);
-  early = λ h. absurd (omega arith);
-}
-
 -- the clock is at its end if all that was left of it was passed
 at_the_end : (passed : ℕ) (old new : WheelState) → new ≡ after_ticks passed old
     → passed ≡ old.last_tick - old.now

@@ -210,10 +210,6 @@ pub each-none : (fact : ℕ → ℕ × Node → Type 0) (n : ℕ) (lists : List 
     → EachRow fact n lists
 each-none fact n lists e s h = rw (e s h) tt
 
-pub each-weaken : (fact goal : ℕ → ℕ × Node → Type 0) (n : ℕ) (lists : List (List (ℕ × Node)))
-    → ((s : ℕ) (row : ℕ × Node) → fact s row → goal s row) → EachRow fact n lists → EachRow goal n lists
-each-weaken fact goal n lists f a s h = All-weaken (fact s) (goal s) (list_at s lists) (f s) (a s h)
-
 -- No timers, no rows.
 pub no_rows : (rows : List (ℕ × Node)) → entries_of rows ≡ [] → rows ≡ []
 no_rows [] e = refl
@@ -652,10 +648,6 @@ module _ (n : ℕ) (row : ℕ × Node) (rest : List (ℕ × Node)) (lists : List
         (subst (λ (y : List (ℕ × Node)). AreRising 0 (timers_in y)) e (o n (omega arith))).1)
     | inr x ↦ rw (get_or-set_other lists n s rest [] x) (o s h)
   ]
-
-pub expired-others : (n s : ℕ) (rest : List (ℕ × Node)) (lists : List (List (ℕ × Node))) → s < n
-    → list_at s (slice_set lists n rest) ≡ list_at s lists
-expired-others n s rest lists h = get_or-set_other lists n s rest [] (let m : s ≢ n = omega arith in m)
 
 -- A clear.
 

@@ -1,6 +1,6 @@
 -- Lemmas for `revolutions`: the loop invariants of its walks, which measure rounds and take them away.
 use Rattle.std.proofs.Common.{◌≡◌, ◌≢◌, ◌<◌, ◌≤◌, ◌+◌, ◌-◌, ℕ, List, [], ◌∷◌, ◌++◌, length, refl, sym, ◌∙◌, ap, subst, inl, inr, arith, append_assoc, length-append, length-set, get_or-set_same, get_or-set_other}
-use Rattle.std.specs.Prelude.{IsSome, Option, Some, None, min, map, slice_set}
+use Rattle.std.specs.Prelude.{IsSome, Option, Some, min, map, slice_set}
 use Rattle.std.specs.List.{AllByRecursion}
 use Rattle.std.proofs.lemmas.Bool.{cases_eq}
 use Rattle.std.proofs.lemmas.List.{map-append, set-get_or}
@@ -9,7 +9,7 @@ use Rattle.timer_links.specs.declared.node.Node.{Node}
 use Rattle.timer_links.specs.Lists.{node_at, first_key, list_at, row_count, AreApart, IsNext, HasRounds, SetsRounds}
 use Rattle.timer_wheels.specs.Revolutions.{HasRoundsLeft, with_fewer_rounds}
 use Rattle.timer_wheels.proofs.RowLemmas.{all-append, all-rest, append-nil}
-use Rattle.timer_wheels.proofs.WalkLemmas.{IsWalking, IsNextRow, begun, next_row, found, in_use, walked, ended_none, ended_count, set_twice, length-list_at, some_none, same_key}
+use Rattle.timer_wheels.proofs.WalkLemmas.{IsWalking, IsNextRow, begun, next_row, found, in_use, walked, ended_count, set_twice, length-list_at, some_none, same_key}
 
 -- The fewest rounds.
 
@@ -56,11 +56,6 @@ pub measured-end : (l step : ℕ) (lists : List (List (ℕ × Node))) (at : Opti
     → list_at l lists ≡ m.past → AllByRecursion (HasRoundsLeft fewest) (list_at l lists)
 measured-end l step lists at most fewest m e =
     let P : List (ℕ × Node) → Type 0 = AllByRecursion (HasRoundsLeft fewest) in subst P (sym e) m.each
-
-pub measured-all : (l step : ℕ) (lists : List (List (ℕ × Node))) (at : Option ℕ) (most fewest : ℕ) → IsMeasuring l step lists at most fewest
-    → at ≡ None
-    → AllByRecursion (HasRoundsLeft fewest) (list_at l lists)
-measured-all l step lists at most fewest m e = measured-end l step lists at most fewest m (ended_none l step lists at m.past m.walk e)
 
 pub measured-enough : (l step : ℕ) (lists : List (List (ℕ × Node))) (at : Option ℕ) (most fewest : ℕ)
     → IsMeasuring l step lists at most fewest → row_count lists ≤ step
@@ -138,10 +133,6 @@ pub next_left : (l step k : ℕ) (old lists : List (List (ℕ × Node))) (at : O
     → IsNextLeft l step k old lists key
 next_left l step k old lists at key s e = left_of l step k old lists key s.past s.left s.rows s.is (sym e ∙ s.next) s.steps
 
-none_there : (left : List (ℕ × Node)) → None ≡ first_key left → left ≡ []
-none_there [] e = refl
-none_there (x ∷ xs) e = absurd (some_none x.0 (sym e))
-
 none_counted : (left : List (ℕ × Node)) → length left ≤ 0 → left ≡ []
 none_counted [] h = refl
 none_counted (x ∷ xs) h = absurd (omega arith)
@@ -153,10 +144,6 @@ counting-end l k old lists past left r i e =
     let all : list_at l old ≡ past = r ∙ (ap (λ (y : List (ℕ × Node)). past ++ y) e ∙ append-nil past) in
     i ∙ (ap (λ (y : List (ℕ × Node)). slice_set old l (fewer k past ++ y)) e
     ∙ (ap (slice_set old l) (append-nil (fewer k past)) ∙ ap (λ (y : List (ℕ × Node)). slice_set old l (fewer k y)) (sym all)))
-
-pub counting-none : (l step k : ℕ) (old lists : List (List (ℕ × Node))) (at : Option ℕ) → IsCounting l step k old lists at → at ≡ None
-    → lists ≡ slice_set old l (fewer k (list_at l old))
-counting-none l step k old lists at s e = counting-end l k old lists s.past s.left s.rows s.is (none_there s.left (sym e ∙ s.next))
 
 pub counting-enough : (l step k : ℕ) (old lists : List (List (ℕ × Node))) (at : Option ℕ) → IsCounting l step k old lists at
     → row_count old ≤ step

@@ -89,9 +89,6 @@ digits_down (r ∷ rs) a d t h hd = digits_down rs (a / r) (d / r) t.1 (quotient
 
 -- A pending timer at one tick: a is the tick before, d the deadline.
 
-abbrev pub IsIn : List ℕ → ℕ → ℕ → ℕ → Type 0
-IsIn table k a d = (level table a d ≡ k) × (digit table k d ≡ digit table k (a + 1))
-
 pub record LevelAtTick (table : List ℕ) (a d : ℕ) : Type 0 where
   -- the wheels below the lowest digit that is not zero are empty
   pub not_below : lowest table (a + 1) ≤ level table a d
@@ -197,9 +194,6 @@ level_at_tick (r ∷ rs) a d t b h = elim (cases_eq ((a + 1) % r) 0) [
 
 -- The level is the highest digit that differs.
 
-digits_same : (table : List ℕ) (j a b : ℕ) → a ≡ b → digit table j a ≡ digit table j b
-digits_same table j a b e = ap (digit table j) e
-
 highest_near : (r : ℕ) (rs : List ℕ) (a b : ℕ) → 0 < r → a ≢ b → a / r ≡ b / r → IsHighest (r ∷ rs) a b 0
 highest_near r rs a b z n e = record {
   differs = λ (x : a % r ≡ b % r). n (same_parts r a b (b / r) z e refl x);
@@ -249,9 +243,6 @@ lowest_is (r ∷ rs) t i h n = elim (cases_eq (t % r) 0) [
 ]
 
 -- Slots.
-
-pub digit-bound : (r : ℕ) (rs : List ℕ) (t : ℕ) → 0 < r → digit (r ∷ rs) 0 t < r
-digit-bound r rs t z = omega arith
 
 -- a slot of a wheel is below those of the wheels above it
 pub slot_below : (table : List ℕ) (k j t : ℕ) → IsTable table → k < j → k < length table

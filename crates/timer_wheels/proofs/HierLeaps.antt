@@ -164,12 +164,6 @@ module _ (t : Table) (b : Buckets) (words : List ℕ) (h : IsHier t b words) (z 
 
 -- One leap, and the tick after it.
 
-pub near_end : (table : List ℕ) (b : Buckets) (visit tick : ℕ) → tick < visit → AreNotVisitedBefore table b.slots b.tick visit b.links.lists
-    → AreNotVisitedBefore table b.slots b.tick (tick + 1) b.links.lists
-near_end table b visit tick h a s k = All-weaken (λ row. visit ≤ timer_visit table b.tick (timer_in row).deadline) (λ row. tick + 1
-    ≤ timer_visit table b.tick (timer_in row).deadline) (list_at s b.links.lists) (λ row q. let x : visit
-    ≤ timer_visit table b.tick (timer_in row).deadline = q in omega arith) (a s k)
-
 pub leap_and_tick : (table : List ℕ) (moves : ℕ) (old mid new : WheelState) → Leaps table 0 old mid → mid.due ≡ [] → new ≡ after_tick mid
     → moves ≡ hops_of table mid.now 1 mid.pending → moves + levels_of table new.now new.pending ≤ levels_of table mid.now mid.pending
     → Leaps table moves old new

@@ -14,9 +14,6 @@ use Rattle.timer_wheels.specs.BucketLists.{timer_in, timers_in, rows_below}
 use Rattle.timer_wheels.specs.Migration.{target, migrate_rows, left_rows}
 use Rattle.timer_wheels.proofs.RowLemmas.{rows_below-above, rows_below-with_row, append-nil, timers-append, AreDistinct-taken, IsNotAmong-others}
 
-abbrev Row : Type 0
-Row = ℕ × Node
-
 -- Where the rows of the emptied list go.
 
 pub target_due : (table : List ℕ) (tick : ℕ) (row : ℕ × Node) → is_due_at tick (timer_in row) ≡ true → target table tick row ≡ slots table
@@ -97,10 +94,6 @@ distinct-filter p (x ∷ xs) d = elim (either (p x)) [
   | inl k ↦ rw k (among-filter (timer_in x).serial p xs d.0, distinct-filter p xs d.1)
   | inr k ↦ rw k (distinct-filter p xs d.1)
 ]
-
-split_rows : (xs : List (ℕ × Node)) (x : ℕ × Node) (ys : List (ℕ × Node)) → Distinct (xs ++ x ∷ ys)
-    → AreDistinct (timers_in xs ++ timer_in x ∷ timers_in ys)
-split_rows xs x ys d = rw timers-append at d
 
 -- removing a row
 distinct-taken : (xs : List (ℕ × Node)) (x : ℕ × Node) (ys : List (ℕ × Node)) → Distinct (xs ++ x ∷ ys)

@@ -43,17 +43,6 @@ pub record IsEmptying (table : List ℕ) (l tick step moves : ℕ) (old lists : 
   pub few : moves ≤ step
   pub count : step + length (list_at l lists) ≡ length (list_at l old)
 
-pub begun : (table : List ℕ) (l tick : ℕ) (old : List (List (ℕ × Node))) → AllByRecursion (MayMigrate table tick l) (list_at l old)
-    → IsEmptying table l tick 0 0 old old
-begun table l tick old a = record {
-  leads = refl;
-  has_lists = refl;
-  rows = a;
-  moves_are = omega arith;
-  few = omega arith;
-  count = omega arith;
-}
-
 module _ (table : List ℕ) (l tick : ℕ) (lists : List (List (ℕ × Node))) (row : ℕ
     × Node) (rest : List (ℕ × Node)) (b : l < length lists) (at : list_at l lists ≡ row ∷ rest) (n : target table tick row ≢ l) where
   abbrev to : ℕ
@@ -304,10 +293,6 @@ pub front_of : (l key : ℕ) (lists : List (List (ℕ × Node))) → AreApart li
     → IsFront l key lists
 front_of l key lists a b e = front_in l key lists (list_at l lists) refl a b (sym e)
 
-pub no_front : (rows : List (ℕ × Node)) → None ≡ first_key rows → None ≡ first_deadline rows
-no_front [] e = refl
-no_front (x ∷ xs) e = absurd (some_none x.0 (sym e))
-
 none_some_node : (n : Node) → None ≡ Some n → ⊥
 none_some_node n e = cc
 
@@ -365,10 +350,6 @@ none_second l first next lists (row ∷ other ∷ rest) at b e n w =
 pub no_second : (l first : ℕ) (next : Option ℕ) (lists : List (List (ℕ × Node))) → l < length lists
     → Some first ≡ first_key (list_at l lists) → IsNext first lists next → next ≡ None → None ≡ second_deadline (list_at l lists)
 no_second l first next lists b e n w = none_second l first next lists (list_at l lists) refl b (sym e) n w
-
-pub no_row : (rows : List (ℕ × Node)) → None ≡ first_key rows → None ≡ second_deadline rows
-no_row [] e = refl
-no_row (x ∷ xs) e = absurd (some_none x.0 (sym e))
 
 pub second_there : (l key : ℕ) (lists : List (List (ℕ × Node))) → IsSecond l key lists → None ≡ node_at key lists → ⊥
 second_there l key lists f e = none_some_node f.node (e ∙ f.found)

@@ -5,7 +5,7 @@ use Rattle.std.specs.Int.{bit_at, w64, trailing_zeros}
 use Rattle.std.proofs.lemmas.Bool.{cases_eq, cases_lt}
 use Rattle.std.proofs.lemmas.Nat.Bits.{bit_at_set_same, bit_at_set_other, bit_at_clear_same, bit_at_clear_other, bit_at-trailing_zeros, bit_at-zero}
 use Rattle.timer_links.specs.declared.node.Node.{Node}
-use Rattle.timer_links.specs.Lists.{list_at, with_row, front_moved, first_row_moved, appended}
+use Rattle.timer_links.specs.Lists.{list_at, with_row, front_moved, first_row_moved}
 use Rattle.timer_wheels.specs.Buckets.{AddsRow}
 use Rattle.timer_wheels.specs.Occupied.{bit_of, filled, AreMarked, AreMarkedBut, IsClearFrom, IsFirstSet, IsLowestSet}
 
@@ -154,11 +154,6 @@ marked_added n words words2 l row old new f d h o t = (
   clear_too n l words words2 f o t.1,
 )
 
--- but one
-pub marked_but : (n : ℕ) (words words2 : List ℕ) (l : ℕ) (lists : Lists) → l < n → ((s : ℕ) → s ≢ l → bit_of words2 s ≡ bit_of words s)
-    → AreMarked n words lists → AreMarkedBut n l words2 lists
-marked_but n words words2 l lists f o t = ((λ s h m. o s m ∙ t.0 s h), clear_too n l words words2 f o t.1)
-
 pub marked_all : (n : ℕ) (words : List ℕ) (l : ℕ) (lists : Lists) → bit_of words l ≡ filled (list_at l lists) → AreMarkedBut n l words lists
     → AreMarked n words lists
 marked_all n words l lists e t = (
@@ -167,22 +162,6 @@ marked_all n words l lists e t = (
     | inr m ↦ t.0 s h m
   ]),
   t.1,
-)
-
--- a whole list moves to the one after the buckets
-pub marked_appended : (n : ℕ) (words words2 : List ℕ) (l : ℕ) (lists : Lists) → l < n → length lists ≡ n + 1 → bit_of words2 l ≡ 0
-    → ((s : ℕ) → s ≢ l → bit_of words2 s ≡ bit_of words s) → AreMarked n words lists → AreMarked n words2 (appended l n lists)
-marked_appended n words words2 l lists h len z o t = (
-  (λ (s : ℕ) (k : s < n).
-      let ne : s ≢ n = λ (e : s ≡ n). omega arith in
-      let other : list_at s (appended l n lists) ≡ list_at s (slice_set lists l []) =
-      get_or-set_other (slice_set lists l []) n s (list_at n lists ++ list_at l lists) [] ne in
-      elim (cases_eq s l) [
-        | inl e ↦ ap (bit_of words2) e ∙ (z ∙ sym (ap filled (other
-            ∙ (ap (λ (v : ℕ). list_at v (slice_set lists l [])) e ∙ get_or-set_same lists l [] [] (omega arith)))))
-        | inr m ↦ o s m ∙ (t.0 s k ∙ sym (ap filled (other ∙ get_or-set_other lists l s [] [] m)))
-      ]),
-  clear_too n l words words2 h o t.1,
 )
 
 -- the first row of a list moves to another

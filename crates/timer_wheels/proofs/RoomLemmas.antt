@@ -1,8 +1,7 @@
 -- Room changes nothing of what a wheel says of its timers.
 use Rattle.std.proofs.Common.{◌≡◌, ℕ, zero, suc, List, refl, sym, ◌∙◌, ap}
-use Rattle.std.specs.Prelude.{Option, Some, None}
 use Rattle.timer_base.specs.declared.timer.Timer.{Timer}
-use Rattle.timer_base.specs.WakeUps.{IsWakeUp, IsQuietUntil}
+use Rattle.timer_base.specs.WakeUps.{IsWakeUp}
 use Rattle.timer_base.specs.WheelState.{WheelState, after_tick, after_ticks, with_room}
 use Rattle.timer_links.specs.declared.node.Node.{Node}
 use Rattle.timer_wheels.specs.Hashed.{IsNextSweep}
@@ -15,10 +14,6 @@ wake_up-with_room room tick w h = record {
   later = h.later;
   in_time = h.in_time;
 }
-
-pub quiet-with_room : (room : ℕ) (found : Option ℕ) (w : WheelState) → IsQuietUntil found w → IsQuietUntil found (with_room room w)
-quiet-with_room room None w h = h
-quiet-with_room room (Some tick) w h = wake_up-with_room room tick w h
 
 pub next_sweep-with_room : (room n tick : ℕ) (w : WheelState) → IsNextSweep n tick w → IsNextSweep n tick (with_room room w)
 next_sweep-with_room room n tick w h = record {

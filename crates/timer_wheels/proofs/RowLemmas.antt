@@ -70,17 +70,6 @@ rows_below-above (suc n) l [] rows h = refl
 rows_below-above (suc n) zero (x ∷ xs) rows h = absurd (omega arith)
 rows_below-above (suc n) (suc l) (x ∷ xs) rows h = ap (λ (y : List (ℕ × Node)). x ++ y) (rows_below-above n l xs rows (omega arith))
 
--- lists that are alike in the first n have the same rows there
-pub rows_below-same : (n : ℕ) (old new : List (List (ℕ × Node))) → length old ≡ length new
-    → ((s : ℕ) → s < n → list_at s new ≡ list_at s old) → rows_below n new ≡ rows_below n old
-rows_below-same zero old new e h = refl
-rows_below-same (suc n) [] [] e h = refl
-rows_below-same (suc n) [] (y ∷ ys) e h = absurd (omega arith)
-rows_below-same (suc n) (x ∷ xs) [] e h = absurd (omega arith)
-rows_below-same (suc n) (x ∷ xs) (y ∷ ys) e h =
-    let a : y ≡ x = h 0 (omega arith) in
-    rw (a, rows_below-same n xs ys (omega arith) (λ s b. h (suc s) (omega arith))) refl
-
 -- empty lists have no rows
 pub rows_below-none : (n : ℕ) (lists : List (List (ℕ × Node))) → ((s : ℕ) → s < n → list_at s lists ≡ []) → rows_below n lists ≡ []
 rows_below-none zero lists h = refl
@@ -163,13 +152,6 @@ filter-entries p (x ∷ xs) = elim (either (p (entry_of x))) [
   | inr k ↦ rw k (filter-entries p xs)
 ]
 
-pub filter-timers : (p : Timer → Bool) (rows : List (ℕ × Node)) → filter p (timers_in rows) ≡ timers_in (filter (λ r. p (timer_in r)) rows)
-filter-timers p [] = refl
-filter-timers p (x ∷ xs) = elim (either (p (timer_in x))) [
-  | inl k ↦ rw k (ap (λ r. timer_in x ∷ r) (filter-timers p xs))
-  | inr k ↦ rw k (filter-timers p xs)
-]
-
 -- Serials.
 
 pub AreBelow-timers : (high : ℕ) (rows : List (ℕ × Node)) → AllByRecursion (λ row. (timer_in row).serial < high) rows
@@ -188,20 +170,6 @@ IsNotAmong-front serial (x ∷ xs) ys a = (a.0, IsNotAmong-front serial xs ys a.
 pub IsNotAmong-rest : (serial : ℕ) (xs ys : List Timer) → IsNotAmong serial (xs ++ ys) → IsNotAmong serial ys
 IsNotAmong-rest serial [] ys a = a
 IsNotAmong-rest serial (x ∷ xs) ys a = IsNotAmong-rest serial xs ys a.1
-
-pub IsNotAmong-filter : (serial : ℕ) (p : Timer → Bool) (ts : List Timer) → IsNotAmong serial ts → IsNotAmong serial (filter p ts)
-IsNotAmong-filter serial p [] a = tt
-IsNotAmong-filter serial p (t ∷ ts) a = elim (either (p t)) [
-  | inl k ↦ rw k (a.0, IsNotAmong-filter serial p ts a.1)
-  | inr k ↦ rw k (IsNotAmong-filter serial p ts a.1)
-]
-
-pub AreDistinct-filter : (p : Timer → Bool) (ts : List Timer) → AreDistinct ts → AreDistinct (filter p ts)
-AreDistinct-filter p [] d = tt
-AreDistinct-filter p (t ∷ ts) d = elim (either (p t)) [
-  | inl k ↦ rw k (IsNotAmong-filter t.serial p ts d.0, AreDistinct-filter p ts d.1)
-  | inr k ↦ rw k (AreDistinct-filter p ts d.1)
-]
 
 pub IsNotAmong-below : (high : ℕ) (ts : List Timer) → AreBelow high ts → IsNotAmong high ts
 IsNotAmong-below high [] b = tt

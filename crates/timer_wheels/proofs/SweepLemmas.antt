@@ -1,6 +1,6 @@
 -- Lemmas for `sweep_bucket`: its loop invariant.
 use Rattle.std.proofs.Common.{◌≡◌, ◌≢◌, ◌<◌, ◌≤◌, ◌+◌, ◌-◌, ℕ, zero, suc, List, [], ◌∷◌, ◌++◌, length, refl, sym, ◌∙◌, ap, subst, inl, inr, arith, length-set, length-append, append_assoc, get_or-set_same, get_or-set_other}
-use Rattle.std.specs.Prelude.{map, IsSome, Option, Some, None, slice_set}
+use Rattle.std.specs.Prelude.{map, IsSome, Option, Some, slice_set}
 use Rattle.std.proofs.lemmas.List.{set-get_or}
 use Rattle.std.proofs.lemmas.Bool.{cases_eq, eq-eqb, ne_eqb}
 use Rattle.timer_links.specs.declared.node.Node.{Node}
@@ -156,14 +156,6 @@ ended l due old lists past left r i e =
       is = i ∙ (ap (λ (y : List (ℕ × Node)). half_swept l due past y old) e
           ∙ ap (λ (y : List (ℕ × Node)). half_swept l due y [] old) (sym q));
     }
-
-none_left : (left : List (ℕ × Node)) → None ≡ first_key left → left ≡ []
-none_left [] e = refl
-none_left (x ∷ xs) e = absurd (some_none x.0 (sym e))
-
-pub ended_none : (l due step : ℕ) (old lists : List (List (ℕ × Node))) (at : Option ℕ) → IsSweeping l due step old lists at → at ≡ None
-    → IsSwept l due old lists
-ended_none l due step old lists at s e = ended l due old lists s.past s.left s.rows s.is (none_left s.left (sym e ∙ s.next))
 
 empty_when : (left : List (ℕ × Node)) → length left ≤ 0 → left ≡ []
 empty_when [] h = refl

@@ -1,8 +1,7 @@
 -- Lemmas for `walks`: the loop invariants of copying, counting and emptying one list.
-use Rattle.std.proofs.Common.{◌≡◌, ◌≢◌, ◌<◌, ◌≤◌, ◌+◌, ℕ, zero, suc, List, [], ◌∷◌, ◌++◌, length, refl, sym, ◌∙◌, ap, inl, inr, arith, append_assoc, length-append, length-set, get_or-set_same, get_or-set_other}
+use Rattle.std.proofs.Common.{◌≡◌, ◌<◌, ◌≤◌, ◌+◌, ℕ, zero, suc, List, [], ◌∷◌, ◌++◌, length, refl, sym, ◌∙◌, ap, arith, append_assoc, length-append, get_or-set_same}
 use Rattle.std.specs.Prelude.{true, IsSome, Option, Some, None, slice_set}
 use Rattle.std.specs.Option.{is_some}
-use Rattle.std.proofs.lemmas.Bool.{cases_eq}
 use Rattle.std.proofs.lemmas.List.{set-get_or}
 use Rattle.timer_base.specs.declared.timer.Timer.{Timer}
 use Rattle.timer_links.specs.declared.node.Node.{Node}
@@ -55,10 +54,6 @@ pub next_row : (l step : ℕ) (lists : List (List (ℕ × Node))) (at : Option �
     → IsWalking l step lists at past → at ≡ Some key → IsNextRow l step lists key past
 next_row l step lists at key past w e = next_of l step lists key past w.left w.rows (sym e ∙ w.next) w.count
 
-none_left : (left : List (ℕ × Node)) → None ≡ first_key left → left ≡ []
-none_left [] e = refl
-none_left (x ∷ xs) e = absurd (some_none x.0 (sym e))
-
 empty_when : (left : List (ℕ × Node)) → length left ≤ 0 → left ≡ []
 empty_when [] h = refl
 empty_when (x ∷ xs) h = absurd (omega arith)
@@ -66,11 +61,6 @@ empty_when (x ∷ xs) h = absurd (omega arith)
 all_past : (l : ℕ) (lists : List (List (ℕ × Node))) (past left : List (ℕ × Node)) → list_at l lists ≡ past ++ left → left ≡ []
     → list_at l lists ≡ past
 all_past l lists past left r e = r ∙ (ap (λ (y : List (ℕ × Node)). past ++ y) e ∙ append-nil past)
-
--- the walk is over where no key is left
-pub ended_none : (l step : ℕ) (lists : List (List (ℕ × Node))) (at : Option ℕ) (past : List (ℕ × Node)) → IsWalking l step lists at past
-    → at ≡ None → list_at l lists ≡ past
-ended_none l step lists at past w e = all_past l lists past w.left w.rows (none_left w.left (sym e ∙ w.next))
 
 -- and after as many steps as there are rows
 pub ended_count : (l step : ℕ) (lists : List (List (ℕ × Node))) (at : Option ℕ) (past : List (ℕ × Node)) → IsWalking l step lists at past
@@ -116,11 +106,6 @@ counted-one l step lists b a key at next c e n =
 pub counted-in_use : (l step : ℕ) (lists : List (List (ℕ × Node))) (b : l < length lists) (a : AreApart lists) (key : ℕ) (at : Option ℕ)
     → (c : IsCounting l step lists at) → at ≡ Some key → IsSome (node_at key lists)
 counted-in_use l step lists b a key at c e = in_use l step lists b a key c.past (next_row l step lists at key c.past c.walk e)
-
-pub counted-all : (l step : ℕ) (lists : List (List (ℕ × Node))) (at : Option ℕ) → IsCounting l step lists at → at ≡ None
-    → step ≡ length (list_at l lists)
-counted-all l step lists at c e = sym c.walk.count ∙ ap (λ (y : List (ℕ × Node)). length y)
-    (sym (ended_none l step lists at c.past c.walk e))
 
 pub counted-enough : (l step : ℕ) (lists : List (List (ℕ × Node))) (at : Option ℕ) → IsCounting l step lists at → row_count lists ≤ step
     → step ≡ length (list_at l lists)
@@ -185,12 +170,6 @@ emptied-one l step old new more row b s p =
           in let d : length s.left ≡ suc (length p.0) = ap (λ (y : List (ℕ × Node)). length y) e in omega arith);
     }
 
-pub emptied-none : (l step : ℕ) (old new more : List (List (ℕ × Node))) → l < length old → IsEmptying l step old new
-    → PopsFront l new None more → more ≡ slice_set old l []
-emptied-none l step old new more b s p =
-    let e : s.left ≡ [] = sym (left_there l old new s.left b s.is) ∙ p.0 in
-    p.1 ∙ (s.is ∙ ap (slice_set old l) e)
-
 pub emptied-count : (l step : ℕ) (old new : List (List (ℕ × Node))) → IsEmptying l step old new → row_count old ≤ step
     → new ≡ slice_set old l []
 emptied-count l step old new s h =
@@ -198,28 +177,11 @@ emptied-count l step old new s h =
     let c : length s.left + step ≡ length (list_at l old) = s.count in
     s.is ∙ ap (slice_set old l) (empty_when s.left (omega arith))
 
-pub length-emptying : (l step : ℕ) (old new : List (List (ℕ × Node))) → IsEmptying l step old new → length new ≡ length old
-length-emptying l step old new s = ap (λ (y : List (List (ℕ × Node))). length y) s.is ∙ length-set old l s.left
-
 -- the lists so far are empty, and the others are unchanged
 pub record AreEmptied (count : ℕ) (old new : List (List (ℕ × Node))) : Type 0 where
   pub same_length : length new ≡ length old
   pub emptied : (s : ℕ) → s < count → list_at s new ≡ []
   pub others : (s : ℕ) → count ≤ s → list_at s new ≡ list_at s old
-
-pub none-emptied : (lists : List (List (ℕ × Node))) → AreEmptied 0 lists lists
-none-emptied lists = record { same_length = refl; emptied = λ s h. absurd (omega arith); others = λ s h. refl }
-
-pub one-emptied : (l : ℕ) (old new more : List (List (ℕ × Node))) → l < length old → AreEmptied l old new → more ≡ slice_set new l []
-    → AreEmptied (l + 1) old more
-one-emptied l old new more b a e = record {
-  same_length = ap (λ (y : List (List (ℕ × Node))). length y) e ∙ (length-set new l [] ∙ a.same_length);
-  emptied = λ s h. elim (cases_eq s l) [
-    | inl q ↦ ap (λ (y : ℕ). list_at y more) q ∙ left_there l new more [] (let c : length new ≡ length old = a.same_length in omega arith) e
-    | inr x ↦ ap (list_at s) e ∙ (get_or-set_other new l s [] [] x ∙ a.emptied s (omega arith))
-  ];
-  others = λ s h. ap (list_at s) e ∙ (get_or-set_other new l s [] [] (let x : s ≢ l = omega arith in x) ∙ a.others s (omega arith));
-}
 
 pub emptied-some : (l step : ℕ) (old new more : List (List (ℕ × Node))) (popped : Option (ℕ × Node)) → l < length old
     → IsEmptying l step old new → is_some popped ≡ true → PopsFront l new popped more → IsEmptying l (step + 1) old more
