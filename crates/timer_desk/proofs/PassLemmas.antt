@@ -7,7 +7,7 @@ use Rattle.timer_facility.specs.declared.event.Out.TheVariants as Outs
 use Rattle.timer_facility.specs.State.{FacilityState, Tick}
 use Rattle.timer_facility.specs.Verdict.{tick_refusal}
 use Rattle.timer_facility.specs.Step.{Step, step, step_of_tick}
-use Rattle.timer_facility.specs.Run.{Placed, run}
+use Rattle.timer_facility.specs.Run.{PlacedEvent, run}
 use Rattle.timer_facility.specs.Facility.{FacilityView, view_after, with_nothing_waiting}
 use Rattle.timer_facility.specs.HandedOver.{HandsOver}
 use Rattle.timer_facility.specs.Ticked.{ticks, AreTicked}
@@ -34,7 +34,7 @@ none_wait : (limit : ℕ) (f g : FacilityView) (fault : TickFault) → HasTicked
 none_wait limit f g fault h quiet = ap (λ (v : FacilityView). v.waiting) h.unchanged ∙ quiet
 
 -- events, after which notices come
-events_then : (s : FacilityState) (ps : List Placed) (ns : List Notice)
+events_then : (s : FacilityState) (ps : List PlacedEvent) (ns : List Notice)
     → run s ps ≡ run s (ps ++ events (map Dones.Noticed ns))
 events_then s ps ns = ap (run s) (sym (append-nil ps)) ∙ ap (λ qs. run s (ps ++ qs)) (sym (events-notices ns))
 

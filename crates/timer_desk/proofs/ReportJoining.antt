@@ -4,7 +4,7 @@ use Rattle.std.specs.Prelude.{take, drop, Option, Some, None, if◌then◌else�
 use Rattle.std.proofs.lemmas.Grind.{flat_map-append}
 use Rattle.timer_facility.specs.State.{FacilityState, pending_of}
 use Rattle.timer_facility.specs.Step.{Step, step}
-use Rattle.timer_facility.specs.Run.{Placed, Happened, run, history, state_after, outs_of, notices, notices_in}
+use Rattle.timer_facility.specs.Run.{PlacedEvent, HistoryEntry, run, history, state_after, outs_of, notices, notices_in}
 use Rattle.timer_facility.specs.Owed.{owed}
 use Rattle.timer_desk.specs.declared.word.Numbered.{Numbered}
 use Rattle.timer_desk.specs.declared.report.Served.{Served}
@@ -28,11 +28,11 @@ flushed-append c (d ∷ r) q = let n = flushed-append c r q in omega arith
 
 -- Runs.
 
-state-append : (s : FacilityState) (xs ys : List Placed) → state_after s (xs ++ ys) ≡ state_after (state_after s xs) ys
+state-append : (s : FacilityState) (xs ys : List PlacedEvent) → state_after s (xs ++ ys) ≡ state_after (state_after s xs) ys
 state-append s [] ys = refl
 state-append s (x ∷ xs) ys = state-append (step s x.event x.place).state xs ys
 
-outs-append : (s : FacilityState) (xs ys : List Placed) → outs_of (history s (xs ++ ys))
+outs-append : (s : FacilityState) (xs ys : List PlacedEvent) → outs_of (history s (xs ++ ys))
     ≡ outs_of (history s xs) ++ outs_of (history (state_after s xs) ys)
 outs-append s [] ys = refl
 outs-append s (x ∷ xs) ys =
@@ -419,18 +419,18 @@ AreBehind-joined b (Dones.Flushed client count ∷ r) q h k = AreBehind-joined f
 
 -- What is owed.
 
-take_all : (hs : List Happened) → take (length hs) hs ≡ hs
+take_all : (hs : List HistoryEntry) → take (length hs) hs ≡ hs
 take_all [] = refl
 take_all (h ∷ hs) = ap (λ r. h ∷ r) (take_all hs)
 
 -- the lemma on every run, at a run's end
 abbrev pub IsLaw : FacilityState → Type 0
-IsLaw s = (placed : List Placed) (k : ℕ) → notices (take k (history s placed)) ≡ owed s (take k (history s placed))
+IsLaw s = (placed : List PlacedEvent) (k : ℕ) → notices (take k (history s placed)) ≡ owed s (take k (history s placed))
 
 owed_so_far : (s : FacilityState) → IsLaw s → (past : List Done) → outs past ≡ (run s (events past)).outs
     → notices_in (outs past) ≡ owed s (history s (events past))
 owed_so_far s law past h =
-    let hs : List Happened = history s (events past) in
+    let hs : List HistoryEntry = history s (events past) in
     ap notices_in h ∙ subst (λ gs. notices gs ≡ owed s gs) (take_all hs) (law (events past) (length hs))
 
 pub AreOwed-in_time : (s : FacilityState) → IsLaw s → (past ds : List Done) → AreInTime s past ds → AreOwed s past ds

@@ -8,7 +8,7 @@ use Rattle.timer_facility.specs.declared.event.Out.{Out}
 use Rattle.timer_facility.specs.declared.event.Out.TheVariants as Outs
 use Rattle.timer_facility.specs.State.{FacilityState, SingleEvent, Tick, Close}
 use Rattle.timer_facility.specs.Facility.{asked as event_asked, place_in}
-use Rattle.timer_facility.specs.Run.{Placed, run}
+use Rattle.timer_facility.specs.Run.{PlacedEvent, run}
 use Rattle.timer_facility.specs.Ticked.{ticks}
 use Rattle.timer_desk.specs.declared.word.Numbered.{Numbered}
 use Rattle.timer_desk.specs.declared.word.Word.{Word}
@@ -90,32 +90,32 @@ out_of client (Words.Answered number answer) = Outs.Answered client number answe
 out_of client (Words.NotTaken number reason) = Outs.NotTaken client number reason
 out_of client (Words.Notice notice) = Outs.Notice notice
 
-abbrev pub placed : SingleEvent → ℕ → Placed
+abbrev pub placed : SingleEvent → ℕ → PlacedEvent
 placed event place = record { event = event; place = place }
 
 -- a request that was tried and didn't run out of memory
-abbrev pub request_event : ℕ → Numbered → Word → Placed
+abbrev pub request_event : ℕ → Numbered → Word → PlacedEvent
 request_event client numbered word = placed (event_asked client numbered.number numbered.request)
     (place_told word)
 
-abbrev pub served_events : ℕ → Served → List Placed
+abbrev pub served_events : ℕ → Served → List PlacedEvent
 served_events client Idle = []
 served_events client NoRoom = []
 served_events client NoMemory = []
 served_events client (Did numbered word) = request_event client numbered word ∷ []
 
 -- a close that ran out of memory is no event
-abbrev pub close_events : Result ℕ CloseFault → List Placed
+abbrev pub close_events : Result ℕ CloseFault → List PlacedEvent
 close_events (Ok count) = placed Close 0 ∷ []
 close_events (Err CloseFaults.Closed) = placed Close 0 ∷ []
 close_events (Err CloseFaults.OutOfMemory) = []
 
 -- so many ticks were passed, or one was refused
-abbrev pub passed_events : Result ℕ TickFault → List Placed
+abbrev pub passed_events : Result ℕ TickFault → List PlacedEvent
 passed_events (Ok passed) = ticks passed
 passed_events (Err fault) = ticks 1
 
-abbrev pub events_in : Done → List Placed
+abbrev pub events_in : Done → List PlacedEvent
 events_in (Dones.Served client served) = served_events client served
 events_in (Dones.Ticked result) = placed Tick 0 ∷ []
 events_in (Dones.Passed limit passed) = passed_events passed
@@ -168,7 +168,7 @@ may_hold c before [] = before
 may_hold c before (done ∷ report) = may_hold c (held_after c before done) report
 
 -- the events of the facility, each accepted start with the place in its answer
-abbrev pub events : List Done → List Placed
+abbrev pub events : List Done → List PlacedEvent
 events report = flat_map events_in report
 
 -- its outs

@@ -12,7 +12,7 @@ use Rattle.timer_facility.specs.declared.request.Notice.TheVariants.{Expired}
 use Rattle.timer_facility.specs.State.{FacilityState, pending_of, SingleEvent, Asked, Tick, Close, Wanted, Start, Stop, StopSerial, Restart, RestartSerial}
 use Rattle.timer_facility.specs.Verdict.{not_taken, start_refusal, interval_refusal, tick_refusal, named}
 use Rattle.timer_facility.specs.Step.{step, step_of_request, step_of_tick, step_of_close, new_timer, with_number, after_start, after_stop, after_restart, after_taken, expired_next}
-use Rattle.timer_facility.specs.Run.{Placed, history, state_after}
+use Rattle.timer_facility.specs.Run.{PlacedEvent, history, state_after}
 use Rattle.timer_facility.specs.Owed.{accepted_ticks, ticks_by}
 use Rattle.timer_facility.proofs.VerdictLemmas.{not_taken-closed, not_taken-no_client}
 use Rattle.timer_facility.proofs.HandedOverLemmas.{adds_at_most_one, hands_over_tick, hands_over_close}
@@ -81,7 +81,7 @@ now_step s Tick place = now_ticked s (tick_refusal s)
 now_step s Close place = let h = now_closed s s.is_closed in omega arith
 
 -- each accepted tick, and nothing else, brings the clock one tick on
-pub now-run : (s : FacilityState) (ps : List Placed) → (state_after s ps).now ≡ s.now + accepted_ticks (history s ps)
+pub now-run : (s : FacilityState) (ps : List PlacedEvent) → (state_after s ps).now ≡ s.now + accepted_ticks (history s ps)
 now-run s [] = omega arith
 now-run s (p ∷ ps) =
     let one = now_step s p.event p.place in
@@ -140,11 +140,11 @@ none_step s c Close place h =
     let m = clients_closed s s.is_closed in
     record { no_client = omega arith; none = omega arith }
 
-none_run : (s : FacilityState) (c : ℕ) (ps : List Placed) → HasNone c s → HasNone c (state_after s ps)
+none_run : (s : FacilityState) (c : ℕ) (ps : List PlacedEvent) → HasNone c s → HasNone c (state_after s ps)
 none_run s c [] h = h
 none_run s c (p ∷ ps) h = none_run (step s p.event p.place).state c ps (none_step s c p.event p.place h)
 
 -- if no timer of a client that does not exist is pending, none ever will be
-pub pending-no_client : (s : FacilityState) (ps : List Placed) (client : ℕ) → length s.numbers ≤ client → pending_of s client ≡ 0
+pub pending-no_client : (s : FacilityState) (ps : List PlacedEvent) (client : ℕ) → length s.numbers ≤ client → pending_of s client ≡ 0
     → pending_of (state_after s ps) client ≡ 0
 pending-no_client s ps client l h = (none_run s client ps (record { no_client = l; none = h })).none

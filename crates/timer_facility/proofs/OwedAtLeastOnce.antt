@@ -8,7 +8,7 @@ use Rattle.timer_base.specs.Order.{is_before}
 use Rattle.timer_facility.specs.declared.request.Notice.{Notice}
 use Rattle.timer_facility.specs.declared.request.Notice.TheVariants.{Expired, Returned}
 use Rattle.timer_facility.specs.State.{FacilityState, IsSound}
-use Rattle.timer_facility.specs.Run.{Placed, Happened, history, notices}
+use Rattle.timer_facility.specs.Run.{PlacedEvent, HistoryEntry, history, notices}
 use Rattle.timer_facility.specs.Owed.{started, stopped, accepted_ticks, has_closed, is_among, timers_in_order, due, left_after, owed_by_ticks, owed_by_close, owed, IsIn, is_due_within, others, AreAllHandedOut}
 use Rattle.timer_facility.proofs.TimerLists.{either, filter_same, insert_timer, All_timers-weaken}
 use Rattle.timer_facility.proofs.OwedLemmas.{notices-history, started-later}
@@ -64,13 +64,13 @@ due_now tick t b h k = rw k (grind (arith, nat_tests))
 left_now : (tick : ℕ) (t : Timer) (b : Bool) → tick < t.deadline → b ≡ false → (nat_lt tick t.deadline && not b) ≡ true
 left_now tick t b h k = rw k (grind (arith, nat_tests))
 
-in_due : (s : FacilityState) (hs : List Happened) (tick : ℕ) (t : Timer) → IsIn t (started s hs) → is_among t.serial (stopped hs) ≡ false
+in_due : (s : FacilityState) (hs : List HistoryEntry) (tick : ℕ) (t : Timer) → IsIn t (started s hs) → is_among t.serial (stopped hs) ≡ false
     → t.deadline ≡ tick → IsIn t (due s hs tick)
 in_due s hs tick t a u h =
     let test : Timer → Bool = λ x. x.deadline == tick && not (is_among x.serial (stopped hs)) in
     in_order_too t (filter test (started s hs)) (in_filter test t (started s hs) (due_now tick t (is_among t.serial (stopped hs)) h u) a)
 
-in_left_after : (s : FacilityState) (hs : List Happened) (tick : ℕ) (t : Timer) → IsIn t (started s hs)
+in_left_after : (s : FacilityState) (hs : List HistoryEntry) (tick : ℕ) (t : Timer) → IsIn t (started s hs)
     → is_among t.serial (stopped hs) ≡ false → tick < t.deadline → IsIn t (left_after s hs tick)
 in_left_after s hs tick t a u h =
     let test : Timer → Bool = λ x. nat_lt tick x.deadline && not (is_among x.serial (stopped hs)) in
@@ -82,7 +82,7 @@ at_or_before d now n h = elim (either (d == now + suc n)) [
   | inr k ↦ inr (grind (arith, nat_tests))
 ]
 
-owed_at_its_tick : (s : FacilityState) (hs : List Happened) (t : Timer) → IsIn t (started s hs) → is_among t.serial (stopped hs) ≡ false
+owed_at_its_tick : (s : FacilityState) (hs : List HistoryEntry) (t : Timer) → IsIn t (started s hs) → is_among t.serial (stopped hs) ≡ false
     → s.now < t.deadline
     → (n : ℕ) → t.deadline ≤ s.now + n → IsIn (Expired t) (owed_by_ticks s hs n)
 owed_at_its_tick s hs t a u l zero h = absurd (omega arith)
@@ -94,7 +94,7 @@ owed_at_its_tick s hs t a u l (suc n) h =
       | inr k ↦ in_left (Expired t) (owed_by_ticks s hs n) here (owed_at_its_tick s hs t a u l n k)
     ]
 
-owed_at_the_close : (s : FacilityState) (hs : List Happened) (t : Timer) (b : Bool) → IsIn t (started s hs)
+owed_at_the_close : (s : FacilityState) (hs : List HistoryEntry) (t : Timer) (b : Bool) → IsIn t (started s hs)
     → is_among t.serial (stopped hs) ≡ false
     → s.now + accepted_ticks hs < t.deadline → b ≡ true → IsIn (Returned t) (owed_by_close s hs b)
 owed_at_the_close s hs t true a u l h =
@@ -102,9 +102,9 @@ owed_at_the_close s hs t true a u l h =
 owed_at_the_close s hs t false a u l h = absurd (cc)
 
 -- no timer of a run that was started and not stopped is forgotten
-pub handed-all : (s : FacilityState) (ps : List Placed) → IsSound s → AreAllHandedOut s (history s ps)
+pub handed-all : (s : FacilityState) (ps : List PlacedEvent) → IsSound s → AreAllHandedOut s (history s ps)
 handed-all s ps i =
-    let hs : List Happened = history s ps in
+    let hs : List HistoryEntry = history s ps in
     let told : notices hs ≡ owed s hs = notices-history s ps i in
     let ticks : List Notice = owed_by_ticks s hs (accepted_ticks hs) in
     let close : List Notice = owed_by_close s hs (has_closed hs) in
@@ -130,10 +130,10 @@ not_within now (suc n) t h =
     ≡ nat_lt m t.deadline) (sym one) (not_within_step (is_due_within now n t) (now + n) t.deadline (not_within now n t h))
 
 -- a close returns those of the started timers that no tick handed out
-pub left-others : (s : FacilityState) (ps : List Placed) → IsSound s
+pub left-others : (s : FacilityState) (ps : List PlacedEvent) → IsSound s
     → left_after s (history s ps) (s.now + accepted_ticks (history s ps)) ≡ others s (history s ps)
 left-others s ps i =
-    let hs : List Happened = history s ps in
+    let hs : List HistoryEntry = history s ps in
     let later : Timer → Bool = λ t. nat_lt (s.now + accepted_ticks hs) t.deadline && not (is_among t.serial (stopped hs)) in
     let other : Timer → Bool = λ t. not (is_due_within s.now (accepted_ticks hs) t) && not (is_among t.serial (stopped hs)) in
     ap timers_in_order (filter_same later other (started s hs)

@@ -16,7 +16,7 @@ use Rattle.timer_facility.specs.declared.event.Out.TheVariants as Outs
 use Rattle.timer_facility.specs.State.{FacilityState, IsSound, SingleEvent, Asked, Tick, Close, Wanted, Start, Stop, StopSerial, Restart, RestartSerial}
 use Rattle.timer_facility.specs.Verdict.{not_taken, start_refusal, interval_refusal, named, of_client, tick_refusal}
 use Rattle.timer_facility.specs.Step.{Step, step, step_of_request, step_of_tick, step_of_close, new_timer, with_number, after_start, after_stop, after_restart, answer_to_start, answer_to_stop, answer_to_restart}
-use Rattle.timer_facility.specs.Run.{Placed, history, state_after, notices, notice_in, notices_in, outs_of}
+use Rattle.timer_facility.specs.Run.{PlacedEvent, history, state_after, notices, notice_in, notices_in, outs_of}
 use Rattle.timer_facility.specs.Owed.{owed, started, timers_in_order, serials_told, timers_restarted, any_out, is_closing, is_tick_refusal}
 use Rattle.timer_facility.proofs.TimerLists.{or_false, filter_all, Among, All_timers-weaken, timers_in_order-ordered, first_timer-among, of_client_some}
 use Rattle.timer_facility.proofs.VerdictLemmas.{open_when, open_at_tick, startable, timely}
@@ -221,7 +221,7 @@ notices_in-append (x ∷ xs) ys = ap (λ ns. notice_in x ++ ns) (notices_in-appe
     ∙ sym (append_assoc (notice_in x) (notices_in xs) (notices_in ys))
 
 -- and so does a whole run
-keeps_run : (s : FacilityState) (r : Reading) (ns : List Notice) (c : FacilityState) (ps : List Placed) → Keeps s r ns c
+keeps_run : (s : FacilityState) (r : Reading) (ns : List Notice) (c : FacilityState) (ps : List PlacedEvent) → Keeps s r ns c
     → Keeps s (read_on r (history c ps)) (ns ++ notices (history c ps)) (state_after c ps)
 keeps_run s r ns c [] k = keeps_read s r r ns (ns ++ []) c refl (append-nil ns) k
 keeps_run s r ns c (p ∷ ps) k =
@@ -256,19 +256,19 @@ keeps_first s i =
     }
 
 -- whatever the events and the places are, the notices of a run are what is owed for it
-pub notices-history : (s : FacilityState) (ps : List Placed) → IsSound s → notices (history s ps) ≡ owed s (history s ps)
+pub notices-history : (s : FacilityState) (ps : List PlacedEvent) → IsSound s → notices (history s ps) ≡ owed s (history s ps)
 notices-history s ps i = (keeps_run s nothing_read [] s ps (keeps_first s i)).told ∙ sym (owed_is s (history s ps))
 
 -- no two of the timers that were started have one serial
-pub started-distinct : (s : FacilityState) (ps : List Placed) → IsSound s → AreDistinct (started s (history s ps))
+pub started-distinct : (s : FacilityState) (ps : List PlacedEvent) → IsSound s → AreDistinct (started s (history s ps))
 started-distinct s ps i = rw (started_is s (history s ps)) (keeps_run s nothing_read [] s ps (keeps_first s i)).distinct
 
 -- each of them has its deadline after the beginning
-pub started-later : (s : FacilityState) (ps : List Placed) → IsSound s → AllByRecursion (λ t. s.now < t.deadline) (started s (history s ps))
+pub started-later : (s : FacilityState) (ps : List PlacedEvent) → IsSound s → AllByRecursion (λ t. s.now < t.deadline) (started s (history s ps))
 started-later s ps i = rw (started_is s (history s ps)) (keeps_run s nothing_read [] s ps (keeps_first s i)).later
 
 -- a prefix of a history is a history
-pub take-history : (k : ℕ) (s : FacilityState) (ps : List Placed) → take k (history s ps) ≡ history s (take k ps)
+pub take-history : (k : ℕ) (s : FacilityState) (ps : List PlacedEvent) → take k (history s ps) ≡ history s (take k ps)
 take-history zero s ps = refl
 take-history (suc k) s [] = refl
 take-history (suc k) s (p ∷ ps) = ap (λ hs. record {
@@ -276,6 +276,6 @@ take-history (suc k) s (p ∷ ps) = ap (λ hs. record {
   outs = (step s p.event p.place).outs;
 } ∷ hs) (take-history k (step s p.event p.place).state ps)
 
-pub notices-take : (s : FacilityState) (ps : List Placed) (k : ℕ) → IsSound s
+pub notices-take : (s : FacilityState) (ps : List PlacedEvent) (k : ℕ) → IsSound s
     → notices (take k (history s ps)) ≡ owed s (take k (history s ps))
 notices-take s ps k i = rw (take-history k s ps) (notices-history s (take k ps) i)

@@ -11,7 +11,7 @@ use Rattle.timer_base.specs.OneOrder.{map-itself}
 use Rattle.timer_facility.specs.declared.request.Notice.{Notice}
 use Rattle.timer_facility.specs.declared.request.Notice.TheVariants.{Expired, Returned}
 use Rattle.timer_facility.specs.State.{FacilityState, IsSound}
-use Rattle.timer_facility.specs.Run.{Placed, Happened, history}
+use Rattle.timer_facility.specs.Run.{PlacedEvent, HistoryEntry, history}
 use Rattle.timer_facility.specs.Owed.{started, stopped, accepted_ticks, has_closed, is_among, timers_in_order, due, left_after, owed_by_ticks, owed_by_close, owed, timer_handed, handed_out, AreHandedOutOnce}
 use Rattle.timer_facility.proofs.TimerLists.{either, Among, IsOnly, AreDistinct-only}
 use Rattle.timer_facility.proofs.OwedLemmas.{notices-history, started-distinct}
@@ -114,7 +114,7 @@ joined all ks first tick ts ys d u e l =
 
 -- the members of what is due at a tick, and of what is left after it
 
-due-members : (s : FacilityState) (hs : List Happened) (tick : ℕ)
+due-members : (s : FacilityState) (hs : List HistoryEntry) (tick : ℕ)
     → AllByRecursion (IsBetween (started s hs) (stopped hs) tick (tick + 1)) (due s hs (tick + 1))
 due-members s hs tick =
     let all : List Timer = started s hs in
@@ -126,7 +126,7 @@ due-members s hs tick =
     record { among = a; later = omega arith; up_to = omega arith; unstopped = not_true (is_among t.serial (stopped hs)) parts.1 })
     (all_among all))
 
-left-members : (s : FacilityState) (hs : List Happened) (tick : ℕ)
+left-members : (s : FacilityState) (hs : List HistoryEntry) (tick : ℕ)
     → AllByRecursion (IsLater (started s hs) (stopped hs) tick) (left_after s hs tick)
 left-members s hs tick =
     let all : List Timer = started s hs in
@@ -137,12 +137,12 @@ left-members s hs tick =
     record { among = a; later = lt_is tick t.deadline parts.0; unstopped = not_true (is_among t.serial (stopped hs)) parts.1 })
     (all_among all))
 
-due-distinct : (s : FacilityState) (hs : List Happened) (tick : ℕ) → AreDistinct (started s hs) → AreDistinct (due s hs tick)
+due-distinct : (s : FacilityState) (hs : List HistoryEntry) (tick : ℕ) → AreDistinct (started s hs) → AreDistinct (due s hs tick)
 due-distinct s hs tick d =
     let test : Timer → Bool = λ t. t.deadline == tick && not (is_among t.serial (stopped hs)) in
     AreDistinct-timers_in_order (filter test (started s hs)) (AreDistinct-filter test (started s hs) d)
 
-left-distinct : (s : FacilityState) (hs : List Happened) (tick : ℕ) → AreDistinct (started s hs) → AreDistinct (left_after s hs tick)
+left-distinct : (s : FacilityState) (hs : List HistoryEntry) (tick : ℕ) → AreDistinct (started s hs) → AreDistinct (left_after s hs tick)
 left-distinct s hs tick d =
     let test : Timer → Bool = λ t. nat_lt tick t.deadline && not (is_among t.serial (stopped hs)) in
     AreDistinct-timers_in_order (filter test (started s hs)) (AreDistinct-filter test (started s hs) d)
@@ -158,7 +158,7 @@ handed-returned [] = refl
 handed-returned (t ∷ ts) = ap (λ xs. t ∷ xs) (handed-returned ts)
 
 -- what is owed by the first n ticks
-by_ticks : (s : FacilityState) (hs : List Happened) (n : ℕ) → AreDistinct (started s hs)
+by_ticks : (s : FacilityState) (hs : List HistoryEntry) (n : ℕ) → AreDistinct (started s hs)
     → IsUpTo (started s hs) (stopped hs) s.now (s.now + n) (map timer_handed (owed_by_ticks s hs n))
 by_ticks s hs zero d = record { distinct = tt; each = tt }
 by_ticks s hs (suc n) d =
@@ -198,7 +198,7 @@ record IsOnce (ks : List ℕ) (ts : List Timer) : Type 0 where
   unstopped : AllByRecursion (λ t. is_among t.serial ks ≡ false) ts
 
 -- and by a close
-by_close : (s : FacilityState) (hs : List Happened) (b : Bool) → AreDistinct (started s hs)
+by_close : (s : FacilityState) (hs : List HistoryEntry) (b : Bool) → AreDistinct (started s hs)
     → IsOnce (stopped hs) (map timer_handed (owed_by_ticks s hs (accepted_ticks hs) ++ owed_by_close s hs b))
 by_close s hs false d =
     let ticks : List Notice = owed_by_ticks s hs (accepted_ticks hs) in
@@ -228,9 +228,9 @@ by_close s hs true d =
     ∙ ap (λ xs. before ++ xs) (handed-returned rest))) here
 
 -- no timer of a run is handed out twice, and none that was stopped
-pub handed-once : (s : FacilityState) (ps : List Placed) → IsSound s → AreHandedOutOnce (history s ps)
+pub handed-once : (s : FacilityState) (ps : List PlacedEvent) → IsSound s → AreHandedOutOnce (history s ps)
 handed-once s ps i =
-    let hs : List Happened = history s ps in
+    let hs : List HistoryEntry = history s ps in
     let o : IsOnce (stopped hs) (map timer_handed (owed s hs)) = by_close s hs (has_closed hs) (started-distinct s ps i) in
     let here : IsOnce (stopped hs) (handed_out hs) = subst (λ ns. IsOnce (stopped hs) (map timer_handed ns))
     (sym (notices-history s ps i)) o in

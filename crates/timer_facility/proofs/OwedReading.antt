@@ -6,7 +6,7 @@ use Rattle.timer_base.specs.Pending.{timers_of}
 use Rattle.timer_facility.specs.declared.request.Notice.{Notice}
 use Rattle.timer_facility.specs.declared.request.Notice.TheVariants.{Expired, Returned}
 use Rattle.timer_facility.specs.State.{FacilityState}
-use Rattle.timer_facility.specs.Run.{Happened}
+use Rattle.timer_facility.specs.Run.{HistoryEntry}
 use Rattle.timer_facility.specs.Owed.{started, started_by, accepted_starts, serials_told, stopped, ticks_by, accepted_ticks, any_out, is_closing, has_closed, is_among, timers_in_order, due, owed_by_ticks, owed_by_close, owed}
 use Rattle.timer_facility.proofs.TimerLists.{or_false}
 
@@ -20,7 +20,7 @@ pub record Reading : Type 0 where
 abbrev pub nothing_read : Reading
 nothing_read = record { started = []; stopped = []; ticks = 0; is_closed = false }
 
-abbrev pub read_more : Reading → Happened → Reading
+abbrev pub read_more : Reading → HistoryEntry → Reading
 read_more r h = record {
   started = r.started ++ started_by h.event h.outs;
   stopped = r.stopped ++ serials_told h.outs;
@@ -28,11 +28,11 @@ read_more r h = record {
   is_closed = r.is_closed || any_out is_closing h.outs;
 }
 
-abbrev pub read_on : Reading → List Happened → Reading
+abbrev pub read_on : Reading → List HistoryEntry → Reading
 read_on r [] = r
 read_on r (h ∷ hs) = read_on (read_more r h) hs
 
-abbrev pub reading : List Happened → Reading
+abbrev pub reading : List HistoryEntry → Reading
 reading hs = read_on nothing_read hs
 
 -- the timers pending in s, and those started since
@@ -72,7 +72,7 @@ or_assoc true b c = refl
 or_assoc false b c = refl
 
 -- a reading, and the whole of a history
-abbrev joined : Reading → List Happened → Reading
+abbrev joined : Reading → List HistoryEntry → Reading
 joined r hs = record {
   started = r.started ++ accepted_starts hs;
   stopped = r.stopped ++ stopped hs;
@@ -80,7 +80,7 @@ joined r hs = record {
   is_closed = r.is_closed || has_closed hs;
 }
 
-read_on-joined : (r : Reading) (hs : List Happened) → read_on r hs ≡ joined r hs
+read_on-joined : (r : Reading) (hs : List HistoryEntry) → read_on r hs ≡ joined r hs
 read_on-joined r [] = reading_is r.started (r.started ++ []) r.stopped (r.stopped ++ []) r.ticks (r.ticks + 0) r.is_closed
     (r.is_closed || false)
     (sym (append-nil r.started)) (sym (append-nil r.stopped)) (omega arith) (sym (or_false r.is_closed))
@@ -94,30 +94,30 @@ read_on-joined r (h ∷ hs) = read_on-joined (read_more r h) hs
     (omega arith) (or_assoc r.is_closed (any_out is_closing h.outs) (has_closed hs))
 
 -- the reading of a whole history
-abbrev whole : List Happened → Reading
+abbrev whole : List HistoryEntry → Reading
 whole hs = record { started = accepted_starts hs; stopped = stopped hs; ticks = accepted_ticks hs; is_closed = has_closed hs }
 
-whole_is : (hs : List Happened) → whole hs ≡ reading hs
+whole_is : (hs : List HistoryEntry) → whole hs ≡ reading hs
 whole_is hs =
     reading_is (accepted_starts hs) (accepted_starts hs) (stopped hs) (stopped hs) (accepted_ticks hs) (0 + accepted_ticks hs)
     (has_closed hs) (has_closed hs) refl refl (omega arith) refl
     ∙ sym (read_on-joined nothing_read hs)
 
-ticks_same : (s : FacilityState) (hs : List Happened) (n : ℕ) → owed_by_ticks s hs n ≡ owed_at_ticks s (whole hs) n
+ticks_same : (s : FacilityState) (hs : List HistoryEntry) (n : ℕ) → owed_by_ticks s hs n ≡ owed_at_ticks s (whole hs) n
 ticks_same s hs zero = refl
 ticks_same s hs (suc n) = ap (λ xs. xs ++ map (λ t. Expired t) (due s hs (s.now + suc n))) (ticks_same s hs n)
 
-close_same : (s : FacilityState) (hs : List Happened) (b : Bool) → owed_by_close s hs b ≡ owed_at_close s (whole hs) b
+close_same : (s : FacilityState) (hs : List HistoryEntry) (b : Bool) → owed_by_close s hs b ≡ owed_at_close s (whole hs) b
 close_same s hs true = refl
 close_same s hs false = refl
 
 -- what is owed for a history is what is owed for its reading
-pub owed_is : (s : FacilityState) (hs : List Happened) → owed s hs ≡ owed_for s (reading hs)
+pub owed_is : (s : FacilityState) (hs : List HistoryEntry) → owed s hs ≡ owed_for s (reading hs)
 owed_is s hs =
     ap (λ xs. xs ++ owed_by_close s hs (has_closed hs)) (ticks_same s hs (accepted_ticks hs))
     ∙ ap (λ ys. owed_at_ticks s (whole hs) (accepted_ticks hs) ++ ys) (close_same s hs (has_closed hs))
     ∙ ap (owed_for s) (whole_is hs)
 
 -- the timers started in a history are those of its reading
-pub started_is : (s : FacilityState) (hs : List Happened) → started s hs ≡ all_started s (reading hs)
+pub started_is : (s : FacilityState) (hs : List HistoryEntry) → started s hs ≡ all_started s (reading hs)
 started_is s hs = ap (all_started s) (whole_is hs)

@@ -17,33 +17,33 @@ use Rattle.timer_facility.specs.declared.event.Out.TheVariants as Outs
 use Rattle.timer_facility.specs.State.{FacilityState, IsSound, SingleEvent, Wanted, Asked, Stop, StopSerial, Restart, RestartSerial}
 use Rattle.timer_facility.specs.Verdict.{not_taken}
 use Rattle.timer_facility.specs.Step.{Step, step, step_of_request}
-use Rattle.timer_facility.specs.Run.{Placed, Happened, history, state_after, outs_of}
+use Rattle.timer_facility.specs.Run.{PlacedEvent, HistoryEntry, history, state_after, outs_of}
 use Rattle.timer_facility.specs.Facility.{FacilityView, place_in, asked, IsTaken, IsNotTaken}
 use Rattle.timer_facility.specs.Played.{singles_of, ArePlaced, IsRun, IsPlayed, AddsRun}
 
-state_after-append : (s : FacilityState) (xs ys : List Placed) → state_after s (xs ++ ys) ≡ state_after (state_after s xs) ys
+state_after-append : (s : FacilityState) (xs ys : List PlacedEvent) → state_after s (xs ++ ys) ≡ state_after (state_after s xs) ys
 state_after-append s [] ys = refl
 state_after-append s (x ∷ xs) ys = state_after-append (step s x.event x.place).state xs ys
 
-history-append : (s : FacilityState) (xs ys : List Placed) → history s (xs ++ ys) ≡ history s xs ++ history (state_after s xs) ys
+history-append : (s : FacilityState) (xs ys : List PlacedEvent) → history s (xs ++ ys) ≡ history s xs ++ history (state_after s xs) ys
 history-append s [] ys = refl
 history-append s (x ∷ xs) ys = ap (λ hs. record {
   event = x.event;
   outs = (step s x.event x.place).outs;
 } ∷ hs) (history-append (step s x.event x.place).state xs ys)
 
-outs_of-append : (xs ys : List Happened) → outs_of (xs ++ ys) ≡ outs_of xs ++ outs_of ys
+outs_of-append : (xs ys : List HistoryEntry) → outs_of (xs ++ ys) ≡ outs_of xs ++ outs_of ys
 outs_of-append [] ys = refl
 outs_of-append (x ∷ xs) ys = ap (λ outs. x.outs ++ outs) (outs_of-append xs ys) ∙ sym (append_assoc x.outs (outs_of xs) (outs_of ys))
 
-ArePlaced-append : (s : FacilityState) (es fs : List Event) (xs ys : List Placed) → ArePlaced s es xs → ArePlaced (state_after s xs) fs ys
+ArePlaced-append : (s : FacilityState) (es fs : List Event) (xs ys : List PlacedEvent) → ArePlaced s es xs → ArePlaced (state_after s xs) fs ys
     → ArePlaced s (es ++ fs) (xs ++ ys)
 ArePlaced-append s [] fs xs ys a b =
     let b' : ArePlaced s fs ys = subst (λ zs. ArePlaced (state_after s zs) fs ys) a b in
     subst (λ zs. ArePlaced s fs (zs ++ ys)) (sym a) b'
 ArePlaced-append s (e ∷ es) fs xs ys a b =
-    let one : List Placed = a.0 in
-    let rest : List Placed = a.1 in
+    let one : List PlacedEvent = a.0 in
+    let rest : List PlacedEvent = a.1 in
     let parts : xs ≡ one ++ rest = a.2 in
     let here : state_after s xs ≡ state_after (state_after s one) rest = ap (state_after s) parts ∙ state_after-append s one rest in (
       one,
@@ -57,8 +57,8 @@ ArePlaced-append s (e ∷ es) fs xs ys a b =
 pub IsRun-more : (s : FacilityState) (es : List Event) (e : Event) (outs outs' : List Out) (c c' : FacilityState) → IsRun s es outs c
     → AddsRun c e outs outs' c' → IsRun s (es ++ e ∷ []) outs' c'
 IsRun-more s es e outs outs' c c' a b =
-    let xs : List Placed = a.placed in
-    let ys : List Placed = b.runs.placed in
+    let xs : List PlacedEvent = a.placed in
+    let ys : List PlacedEvent = b.runs.placed in
     let next : FacilityState = state_after s xs in
     let here : c ≡ next = a.after_is in
     record {
@@ -74,8 +74,8 @@ IsRun-more s es e outs outs' c c' a b =
 pub IsRun-join : (s c d : FacilityState) (es fs : List Event) (outs outs' : List Out) → IsRun s es outs c → IsRun c fs outs' d
     → IsRun s (es ++ fs) (outs ++ outs') d
 IsRun-join s c d es fs outs outs' a b =
-    let xs : List Placed = a.placed in
-    let ys : List Placed = b.placed in
+    let xs : List PlacedEvent = a.placed in
+    let ys : List PlacedEvent = b.placed in
     let next : FacilityState = state_after s xs in
     let here : c ≡ next = a.after_is in
     record {
@@ -95,7 +95,7 @@ pub AddsRun-one : (s : FacilityState) (event : Event) (single : SingleEvent) (pl
     → singles_of s event ≡ single ∷ []
     → outs ≡ before ++ (step s single place).outs → after ≡ (step s single place).state → AddsRun s event before outs after
 AddsRun-one s event single place before outs after h o e =
-    let p : Placed = record { event = single; place = place } in
+    let p : PlacedEvent = record { event = single; place = place } in
     record {
       more = (step s single place).outs;
       appended = o;

@@ -15,7 +15,7 @@ use Rattle.timer_facility.specs.declared.event.Out.TheVariants as Outs
 use Rattle.timer_facility.specs.State.{FacilityState, Tick}
 use Rattle.timer_facility.specs.Verdict.{tick_refusal}
 use Rattle.timer_facility.specs.Step.{Step, step, step_of_tick, after_tick, expired_next}
-use Rattle.timer_facility.specs.Run.{Placed, history, state_after, outs_of, notices, notices_in}
+use Rattle.timer_facility.specs.Run.{PlacedEvent, history, state_after, outs_of, notices, notices_in}
 use Rattle.timer_facility.specs.Facility.{FacilityView}
 use Rattle.timer_facility.proofs.PlayedNotices.{outs-notices, length-notices}
 use Rattle.timer_facility.proofs.OwedLemmas.{notices_in-append}
@@ -122,7 +122,7 @@ HasTicked-more s n before outs outs' after after' h a e o =
       in_range = subst (λ (c : FacilityState). c.now ≤ c.last) (sym there) l.1;
     }
 
-map-ticks : (n : ℕ) → map (λ (p : Placed). p.event) (replicate n a_tick) ≡ replicate n Tick
+map-ticks : (n : ℕ) → map (λ (p : PlacedEvent). p.event) (replicate n a_tick) ≡ replicate n Tick
 map-ticks zero = refl
 map-ticks (suc n) = ap (λ es. Tick ∷ es) (map-ticks n)
 

@@ -16,7 +16,7 @@ use Rattle.timer_facility.specs.declared.event.Out.TheVariants as Outs
 use Rattle.timer_facility.specs.State.{FacilityState, Wanted, Start, Stop, StopSerial, Restart, RestartSerial, SingleEvent, Asked, Tick, Close}
 use Rattle.timer_facility.specs.Verdict.{not_taken, named, of_client, start_refusal, interval_refusal, tick_refusal}
 use Rattle.timer_facility.specs.Step.{Step, step, step_of_request, step_of_tick, step_of_close, with_number, new_timer, after_start, after_stop, after_restart, answer_to_start, answer_to_stop, answer_to_restart}
-use Rattle.timer_facility.specs.Run.{Placed, state_after, run, bare_answer, bare, bare_outs, bare_entry, bare_state, NamesBySerial, AreSameButForPlaces}
+use Rattle.timer_facility.specs.Run.{PlacedEvent, state_after, run, bare_answer, bare, bare_outs, bare_entry, bare_state, NamesBySerial, AreSameButForPlaces}
 use Rattle.timer_facility.specs.Played.{ticks_left, singles_of, ArePlaced, IsRun}
 use Rattle.timer_facility.proofs.TimerLists.{either}
 
@@ -181,18 +181,18 @@ step-bare s Close place n = close-bare s s.is_closed
 -- Nor does a run.
 
 -- the events of a run
-abbrev events_of : List Placed → List SingleEvent
+abbrev events_of : List PlacedEvent → List SingleEvent
 events_of ps = map (λ p. p.event) ps
 
 -- the same events, each at place 0
-abbrev at_none : List SingleEvent → List Placed
+abbrev at_none : List SingleEvent → List PlacedEvent
 at_none events = map (λ event. record { event = event; place = 0 }) events
 
 bare_outs-append : (xs ys : List Out) → bare_outs (xs ++ ys) ≡ bare_outs xs ++ bare_outs ys
 bare_outs-append [] ys = refl
 bare_outs-append (x ∷ xs) ys = ap (λ os. bare x ∷ os) (bare_outs-append xs ys)
 
-run-bare : (s : FacilityState) (ps : List Placed) → AllByRecursion NamesBySerial (events_of ps)
+run-bare : (s : FacilityState) (ps : List PlacedEvent) → AllByRecursion NamesBySerial (events_of ps)
     → IsBareStep (run s ps) (run (bare_state s) (at_none (events_of ps)))
 run-bare s [] n = (refl, refl)
 run-bare s (p ∷ ps) n =
@@ -208,7 +208,7 @@ run-bare s (p ∷ ps) n =
     )
 
 -- two runs of the same events
-pub runs-bare : (s t : FacilityState) (ps qs : List Placed) → bare_state s ≡ bare_state t → events_of ps ≡ events_of qs
+pub runs-bare : (s t : FacilityState) (ps qs : List PlacedEvent) → bare_state s ≡ bare_state t → events_of ps ≡ events_of qs
     → AllByRecursion NamesBySerial (events_of ps) → AreSameButForPlaces (run s ps) (run t qs)
 runs-bare s t ps qs e f n =
     let a : IsBareStep (run s ps) (run (bare_state s) (at_none (events_of ps))) = run-bare s ps n in
@@ -241,7 +241,7 @@ singles_name s (Events.Restart client number serial interval action) = (tt, tt)
 singles_name s (Events.Ticks count) = ticks_name (min count (ticks_left s + 1))
 singles_name s Events.Close = (tt, tt)
 
-events_of-append : (xs ys : List Placed) → events_of (xs ++ ys) ≡ events_of xs ++ events_of ys
+events_of-append : (xs ys : List PlacedEvent) → events_of (xs ++ ys) ≡ events_of xs ++ events_of ys
 events_of-append [] ys = refl
 events_of-append (x ∷ xs) ys = ap (λ es. x.event ∷ es) (events_of-append xs ys)
 
@@ -251,21 +251,21 @@ all-append [] ys a b = b
 all-append (x ∷ xs) ys a b = (a.0, all-append xs ys a.1 b)
 
 -- the single events that two places of one list make are the same, and name their timers by serial
-record AreAlike (ps qs : List Placed) : Type 0 where
+record AreAlike (ps qs : List PlacedEvent) : Type 0 where
   same : events_of ps ≡ events_of qs
   named : AllByRecursion NamesBySerial (events_of ps)
 
-placed-alike : (s t : FacilityState) (events : List Event) (ps qs : List Placed) → bare_state s ≡ bare_state t → ArePlaced s events ps
+placed-alike : (s t : FacilityState) (events : List Event) (ps qs : List PlacedEvent) → bare_state s ≡ bare_state t → ArePlaced s events ps
     → ArePlaced t events qs → AreAlike ps qs
 placed-alike s t [] ps qs e a b = record {
   same = ap events_of a ∙ sym (ap events_of b);
   named = subst (λ xs. AllByRecursion NamesBySerial (events_of xs)) (sym a) tt;
 }
 placed-alike s t (event ∷ events) ps qs e a b =
-    let one : List Placed = a.0 in
-    let rest : List Placed = a.1 in
-    let one' : List Placed = b.0 in
-    let rest' : List Placed = b.1 in
+    let one : List PlacedEvent = a.0 in
+    let rest : List PlacedEvent = a.1 in
+    let one' : List PlacedEvent = b.0 in
+    let rest' : List PlacedEvent = b.1 in
     let singles : singles_of s event ≡ singles_of t event = sym (singles_of-bare s event) ∙ ap (λ c. singles_of c event) e
     ∙ singles_of-bare t event in
     let here : events_of one ≡ events_of one' = a.3 ∙ singles ∙ sym b.3 in

@@ -2,7 +2,7 @@
 use Rattle.std.proofs.Common.{◌≡◌, ℕ, true, List, [], ◌∷◌, ◌++◌, refl, sym, ◌∙◌, ap, subst}
 use Rattle.timer_facility.specs.State.{FacilityState, SingleEvent, Asked, Tick, Close}
 use Rattle.timer_facility.specs.Step.{Step, step, step_of_request, step_of_tick, step_of_close}
-use Rattle.timer_facility.specs.Run.{Placed, run, notices_in}
+use Rattle.timer_facility.specs.Run.{PlacedEvent, run, notices_in}
 use Rattle.timer_facility.proofs.OwedLemmas.{notices_in-append}
 use Rattle.timer_facility.proofs.VerdictLemmas.{not_taken-closed, tick_refusal-closed}
 
@@ -16,7 +16,7 @@ step-closed s (Asked client number wanted) place h =
 step-closed s Tick place h = subst (λ v. IsIdle s (step_of_tick s v)) (sym (tick_refusal-closed s h)) (refl, refl)
 step-closed s Close place h = subst (λ b. IsIdle s (step_of_close s b)) (sym h) (refl, refl)
 
-pub run-closed : (s : FacilityState) (ps : List Placed) → s.is_closed ≡ true → IsIdle s (run s ps)
+pub run-closed : (s : FacilityState) (ps : List PlacedEvent) → s.is_closed ≡ true → IsIdle s (run s ps)
 run-closed s [] h = (refl, refl)
 run-closed s (p ∷ ps) h =
     let st : Step = step s p.event p.place in

@@ -17,7 +17,7 @@ use Rattle.timer_facility.specs.declared.request.Notice.TheVariants.{Expired, Re
 use Rattle.timer_facility.specs.declared.event.Out.{Out}
 use Rattle.timer_facility.specs.declared.event.Out.TheVariants as Outs
 use Rattle.timer_facility.specs.State.{FacilityState, SingleEvent, Asked, Tick, Start, Restart, RestartSerial}
-use Rattle.timer_facility.specs.Run.{Happened, notices}
+use Rattle.timer_facility.specs.Run.{HistoryEntry, notices}
 
 -- the timer of a start and its answer, if it was accepted
 abbrev pub timer_started : ℕ → ℕ → ℕ → Out → List Timer
@@ -65,7 +65,7 @@ started_by (Asked client number (RestartSerial serial interval action)) outs =
 started_by _ outs = []
 
 -- the timers of the accepted starts and restarts
-abbrev pub accepted_starts : List Happened → List Timer
+abbrev pub accepted_starts : List HistoryEntry → List Timer
 accepted_starts [] = []
 accepted_starts (h ∷ hs) = started_by h.event h.outs ++ accepted_starts hs
 
@@ -81,11 +81,11 @@ serials_told [] = []
 serials_told (out ∷ outs) = serial_told out ++ serials_told outs
 
 -- the timers pending in s, and those of the accepted starts and restarts since
-abbrev pub started : FacilityState → List Happened → List Timer
+abbrev pub started : FacilityState → List HistoryEntry → List Timer
 started s hs = timers_of s.pending ++ accepted_starts hs
 
 -- the serials in the answers to the accepted stops, and the old ones of the accepted restarts
-abbrev pub stopped : List Happened → List ℕ
+abbrev pub stopped : List HistoryEntry → List ℕ
 stopped [] = []
 stopped (h ∷ hs) = serials_told h.outs ++ stopped hs
 
@@ -110,12 +110,12 @@ ticks_by Tick outs = if any_out is_tick_refusal outs then 0 else 1
 ticks_by _ outs = 0
 
 -- how many ticks were accepted
-abbrev pub accepted_ticks : List Happened → ℕ
+abbrev pub accepted_ticks : List HistoryEntry → ℕ
 accepted_ticks [] = 0
 accepted_ticks (h ∷ hs) = ticks_by h.event h.outs + accepted_ticks hs
 
 -- a close was accepted
-abbrev pub has_closed : List Happened → Bool
+abbrev pub has_closed : List HistoryEntry → Bool
 has_closed [] = false
 has_closed (h ∷ hs) = any_out is_closing h.outs || has_closed hs
 
@@ -129,28 +129,28 @@ abbrev pub timers_in_order : List Timer → List Timer
 timers_in_order ts = in_order (λ t. t) ts
 
 -- of the started timers those with this deadline that were not stopped, by serial
-abbrev pub due : FacilityState → List Happened → ℕ → List Timer
+abbrev pub due : FacilityState → List HistoryEntry → ℕ → List Timer
 due s hs tick = timers_in_order (filter (λ t. t.deadline == tick && not (is_among t.serial (stopped hs)))
     (started s hs))
 
 -- those with a later deadline that were not stopped, by deadline and then by serial
-abbrev pub left_after : FacilityState → List Happened → ℕ → List Timer
+abbrev pub left_after : FacilityState → List HistoryEntry → ℕ → List Timer
 left_after s hs tick = timers_in_order (filter (λ t.
     nat_lt tick t.deadline && not (is_among t.serial (stopped hs))) (started s hs))
 
 -- what is due at each of the first n ticks after s in turn
-abbrev pub owed_by_ticks : FacilityState → List Happened → ℕ → List Notice
+abbrev pub owed_by_ticks : FacilityState → List HistoryEntry → ℕ → List Notice
 owed_by_ticks s hs zero = []
 owed_by_ticks s hs (suc n) = owed_by_ticks s hs n ++ map (λ t. Expired t) (due s hs (s.now + suc n))
 
 -- at a close, all others
-abbrev pub owed_by_close : FacilityState → List Happened → Bool → List Notice
+abbrev pub owed_by_close : FacilityState → List HistoryEntry → Bool → List Notice
 owed_by_close s hs false = []
 owed_by_close s hs true = map (λ t. Returned t) (left_after s hs (s.now + accepted_ticks hs))
 
 -- what is owed for a history that begins in s: at each accepted tick what is due, at an accepted close all
 -- others
-abbrev pub owed : FacilityState → List Happened → List Notice
+abbrev pub owed : FacilityState → List HistoryEntry → List Notice
 owed s hs = owed_by_ticks s hs (accepted_ticks hs) ++ owed_by_close s hs (has_closed hs)
 
 -- the timer that a notice hands out
@@ -159,7 +159,7 @@ timer_handed (Expired t) = t
 timer_handed (Returned t) = t
 
 -- the timers that a history hands out, in their order
-abbrev pub handed_out : List Happened → List Timer
+abbrev pub handed_out : List HistoryEntry → List Timer
 handed_out hs = map timer_handed (notices hs)
 
 -- one of the list
@@ -169,7 +169,7 @@ IsIn x (y ∷ ys) = (x ≡ y) ⊎ IsIn x ys
 
 -- each timer that was started and not stopped is handed out: if its deadline was reached it expired, and
 -- if a close came before that it was returned
-pub record AreAllHandedOut (s : FacilityState) (hs : List Happened) : Type 0 where
+pub record AreAllHandedOut (s : FacilityState) (hs : List HistoryEntry) : Type 0 where
   pub expired : (t : Timer) → IsIn t (started s hs) → is_among t.serial (stopped hs) ≡ false
       → t.deadline ≤ s.now + accepted_ticks hs → IsIn (Expired t) (notices hs)
   pub returned : (t : Timer) → IsIn t (started s hs) → is_among t.serial (stopped hs) ≡ false
@@ -182,11 +182,11 @@ is_due_within now (suc n) t = is_due_within now n t || (t.deadline == now + suc 
 
 -- of the started timers the others: those that were not due at any accepted tick and were not stopped, by
 -- deadline and then by serial
-abbrev pub others : FacilityState → List Happened → List Timer
+abbrev pub others : FacilityState → List HistoryEntry → List Timer
 others s hs = timers_in_order (filter (λ t. not (is_due_within s.now (accepted_ticks hs) t) && not
     (is_among t.serial (stopped hs))) (started s hs))
 
 -- no timer is handed out twice, and none that was stopped
-pub record AreHandedOutOnce (hs : List Happened) : Type 0 where
+pub record AreHandedOutOnce (hs : List HistoryEntry) : Type 0 where
   pub once : AreDistinct (handed_out hs)
   pub not_stopped : AllByRecursion (λ t. is_among t.serial (stopped hs) ≡ false) (handed_out hs)

@@ -4,7 +4,7 @@ use Rattle.timer_facility.specs.declared.event.Event.{Event}
 use Rattle.timer_facility.specs.declared.event.Event.TheVariants as Events
 use Rattle.timer_facility.specs.declared.event.Out.{Out}
 use Rattle.timer_facility.specs.State.{FacilityState, SingleEvent, Asked, Tick, Close, Start, StopSerial, RestartSerial}
-use Rattle.timer_facility.specs.Run.{Placed, history, state_after, run, notices}
+use Rattle.timer_facility.specs.Run.{PlacedEvent, history, state_after, run, notices}
 use Rattle.timer_facility.specs.Owed.{owed}
 
 -- how many ticks can still be accepted
@@ -21,17 +21,17 @@ singles_of s (Events.Ticks count) = replicate (min count (ticks_left s + 1)) Tic
 singles_of s Events.Close = Close ∷ []
 
 -- the single events of these events, each with some place
-abbrev pub ArePlaced : FacilityState → List Event → List Placed → Type 0
+abbrev pub ArePlaced : FacilityState → List Event → List PlacedEvent → Type 0
 ArePlaced s [] placed = placed ≡ []
 ArePlaced s (event ∷ events) placed =
-    (one rest : List Placed) × (placed ≡ one ++ rest) × (map (λ p. p.event) one ≡ singles_of s event)
+    (one rest : List PlacedEvent) × (placed ≡ one ++ rest) × (map (λ p. p.event) one ≡ singles_of s event)
     × ArePlaced (state_after s one) events rest
 
 -- the outs and the state are those of a run of the events
 pub record IsRun (s : FacilityState) (events : List Event) (outs : List Out)
     (after : FacilityState) : Type 0 where
   -- the single events, each with the place that the wheel gave
-  pub placed : List Placed
+  pub placed : List PlacedEvent
   pub singles : ArePlaced s events placed
   pub outs_are : outs ≡ (run s placed).outs
   pub after_is : after ≡ (run s placed).state

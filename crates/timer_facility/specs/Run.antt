@@ -10,17 +10,17 @@ use Rattle.timer_facility.specs.State.{FacilityState, SingleEvent, Asked, Stop, 
 use Rattle.timer_facility.specs.Step.{Step, step}
 
 -- an event, and the place that the wheel gives if it is an accepted start or restart
-pub record Placed : Type 0 where
+pub record PlacedEvent : Type 0 where
   pub event : SingleEvent
   pub place : ℕ
 
 -- an event, and its outs
-pub record Happened : Type 0 where
+pub record HistoryEntry : Type 0 where
   pub event : SingleEvent
   pub outs : List Out
 
 -- the events one after another, each with its outs
-abbrev pub history : FacilityState → List Placed → List Happened
+abbrev pub history : FacilityState → List PlacedEvent → List HistoryEntry
 history s [] = []
 history s (p ∷ ps) = record {
   event = p.event;
@@ -29,17 +29,17 @@ history s (p ∷ ps) = record {
 } ∷ history (step s p.event p.place).state ps
 
 -- the state after the events
-abbrev pub state_after : FacilityState → List Placed → FacilityState
+abbrev pub state_after : FacilityState → List PlacedEvent → FacilityState
 state_after s [] = s
 state_after s (p ∷ ps) = state_after (step s p.event p.place).state ps
 
 -- the outs of the events, joined
-abbrev pub outs_of : List Happened → List Out
+abbrev pub outs_of : List HistoryEntry → List Out
 outs_of [] = []
 outs_of (h ∷ hs) = h.outs ++ outs_of hs
 
 -- the steps of the events one after another, their outs joined
-abbrev pub run : FacilityState → List Placed → Step
+abbrev pub run : FacilityState → List PlacedEvent → Step
 run s placed = record { outs = outs_of (history s placed); state = state_after s placed }
 
 -- the notice that an out is, if it is one
@@ -53,7 +53,7 @@ notices_in [] = []
 notices_in (out ∷ outs) = notice_in out ++ notices_in outs
 
 -- the notices of a history, in their order
-abbrev pub notices : List Happened → List Notice
+abbrev pub notices : List HistoryEntry → List Notice
 notices hs = notices_in (outs_of hs)
 
 -- an answer without the place

@@ -2,15 +2,15 @@
 use Rattle.std.specs.Prelude.{◌≡◌, ◌<◌, ◌≤◌, ◌-◌, ℕ, min, List, [], None, length, replicate}
 use Rattle.timer_facility.specs.State.{FacilityState, Tick}
 use Rattle.timer_facility.specs.Verdict.{tick_refusal}
-use Rattle.timer_facility.specs.Run.{Placed, history, state_after, run, notices}
+use Rattle.timer_facility.specs.Run.{PlacedEvent, history, state_after, run, notices}
 use Rattle.timer_facility.specs.Facility.{FacilityView, view_after}
 
 -- one tick; its place is never read
-abbrev pub a_tick : Placed
+abbrev pub a_tick : PlacedEvent
 a_tick = record { event = Tick; place = 0 }
 
 -- `n` ticks
-abbrev pub ticks : ℕ → List Placed
+abbrev pub ticks : ℕ → List PlacedEvent
 ticks n = replicate n a_tick
 
 -- at most `limit` ticks were asked for and `passed` were passed: that many single ticks, each of them

@@ -8,7 +8,7 @@ ghost use Rattle.timer_facility.specs.State.{FacilityState, IsSound, SingleEvent
 ghost use Rattle.timer_facility.specs.Verdict.{Refusal, verdict, closed_refusal};
 ghost use Rattle.timer_facility.specs.Refused.{refusals_in, refusals_of};
 ghost use Rattle.timer_facility.specs.Step.{step, refused};
-ghost use Rattle.timer_facility.specs.Run.{Placed, history, state_after, run, notices, notices_in, bare_outs, bare_state, NamesBySerial, AreSameButForPlaces};
+ghost use Rattle.timer_facility.specs.Run.{PlacedEvent, history, state_after, run, notices, notices_in, bare_outs, bare_state, NamesBySerial, AreSameButForPlaces};
 ghost use Rattle.timer_facility.specs.HandedOver.{AddsAtMostOne, HandsOver};
 ghost use Rattle.timer_facility.specs.Owed.{owed, left_after, accepted_ticks, others, AreHandedOutOnce, AreAllHandedOut};
 ghost use Rattle.timer_facility.specs.Played.{IsRun};
@@ -17,25 +17,25 @@ ghost use Rattle.timer_facility.specs.declared.event.Out.{Out};
 
 /// Whatever the events are, after each of them the notices so far are what is owed.
 pub fn notices_are_owed()
-    ensures { (s : FacilityState) (placed : List Placed) (k : ℕ) → IsSound s
+    ensures { (s : FacilityState) (placed : List PlacedEvent) (k : ℕ) → IsSound s
         → notices (take k (history s placed)) ≡ owed s (take k (history s placed)) }
 {}
 
 /// No timer is handed out twice, and a stopped one never is.
 pub fn each_timer_is_handed_out_once()
-    ensures { (s : FacilityState) (placed : List Placed) → IsSound s → AreHandedOutOnce (history s placed) }
+    ensures { (s : FacilityState) (placed : List PlacedEvent) → IsSound s → AreHandedOutOnce (history s placed) }
 {}
 
 /// Each timer that was started and not stopped is handed out: it expires if its deadline is reached, and
 /// is returned if the facility was closed before that.
 pub fn each_timer_is_handed_out()
-    ensures { (s : FacilityState) (placed : List Placed) → IsSound s → AreAllHandedOut s (history s placed) }
+    ensures { (s : FacilityState) (placed : List PlacedEvent) → IsSound s → AreAllHandedOut s (history s placed) }
 {}
 
 /// A close returns the others: of all timers that were started, those that no tick handed out and that
 /// were not stopped.
 pub fn a_close_returns_the_others()
-    ensures { (s : FacilityState) (placed : List Placed) → IsSound s
+    ensures { (s : FacilityState) (placed : List PlacedEvent) → IsSound s
         → left_after s (history s placed) (s.now + accepted_ticks (history s placed))
         ≡ others s (history s placed) }
 {}
@@ -43,7 +43,7 @@ pub fn a_close_returns_the_others()
 /// The outs of events, and the state after them, do not depend on the places that a wheel chooses,
 /// if each stop and restart names its timer by serial.
 pub fn bare_outs_do_not_depend_on_places()
-    ensures { (s t : FacilityState) (placed others : List Placed) → bare_state s ≡ bare_state t
+    ensures { (s t : FacilityState) (placed others : List PlacedEvent) → bare_state s ≡ bare_state t
         → map (λ p. p.event) placed ≡ map (λ p. p.event) others
         → AllByRecursion NamesBySerial (map (λ p. p.event) placed)
         → AreSameButForPlaces (run s placed) (run t others) }
@@ -79,7 +79,7 @@ pub fn a_closed_facility_refuses_each_event()
 
 /// After the close nothing is handed out, and nothing changes.
 pub fn nothing_comes_after_the_close()
-    ensures { (s : FacilityState) (placed : List Placed) → s.is_closed ≡ true
+    ensures { (s : FacilityState) (placed : List PlacedEvent) → s.is_closed ≡ true
         → (notices_in (run s placed).outs ≡ []) × ((run s placed).state ≡ s) }
 {}
 
@@ -97,13 +97,13 @@ pub fn what_is_handed_out_was_pending()
 
 /// After a run, now is the start's now and one more for each accepted tick.
 pub fn now_counts_the_accepted_ticks()
-    ensures { (s : FacilityState) (placed : List Placed)
+    ensures { (s : FacilityState) (placed : List PlacedEvent)
         → (state_after s placed).now ≡ s.now + accepted_ticks (history s placed) }
 {}
 
 /// A client that does not exist has no pending timer after a run, if it had none before.
 pub fn no_timer_is_of_no_client()
-    ensures { (s : FacilityState) (placed : List Placed) (client : ℕ) → length s.numbers ≤ client
+    ensures { (s : FacilityState) (placed : List PlacedEvent) (client : ℕ) → length s.numbers ≤ client
         → pending_of s client ≡ 0 → pending_of (state_after s placed) client ≡ 0 }
 {}
 

@@ -4,7 +4,7 @@ use Rattle.std.proofs.lemmas.Bool.{eq-eqb, ne_eqb}
 use Rattle.slab.specs.Slab.{Slab}
 use Rattle.timer_links.specs.declared.node.Node.{Node}
 use Rattle.timer_links.specs.declared.ring.Sides.{Sides}
-use Rattle.timer_links.specs.Lists.{list_if_alone, IsAloneIn}
+use Rattle.timer_links.specs.Lists.{list_if_alone, IsAloneIn, KeyedLists}
 use Rattle.timer_links.specs.Ring.{sides_at, neighbour_on_both_sides}
 use Rattle.timer_links.specs.Links.{places, IsLinked}
 use Rattle.timer_links.proofs.Chains.{In, last, last_in}
@@ -34,7 +34,7 @@ sides_of n l s (y ∷ ys) (r ∷ rs) b e f o = rw (
       (λ (q : last (n + y.0) (places n ys) ≡ n + r.0). o r.0 (has_place n r.0 (y ∷ ys) (last_as n (n + r.0) y.0 ys q)) (inl refl)),
 ) refl
 
-pub is_alone_in : (n : ℕ) (nodes : Slab Node) (s : List Sides) (v : List (List (ℕ × Node))) (key : ℕ) (x : Sides) → IsLinked n nodes s v
+pub is_alone_in : (n : ℕ) (nodes : Slab Node) (s : List Sides) (v : KeyedLists) (key : ℕ) (x : Sides) → IsLinked n nodes s v
     → x ≡ sides_at s (n + key) → IsAloneIn key v (neighbour_on_both_sides x)
 is_alone_in n nodes s v key x h q l front node rest d e =
     let b : l < n = low n nodes s v h l d in

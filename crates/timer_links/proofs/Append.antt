@@ -6,7 +6,7 @@ use Rattle.std.proofs.lemmas.List.{append_assoc}
 use Rattle.slab.specs.Slab.{Slab}
 use Rattle.timer_links.specs.declared.node.Node.{Node}
 use Rattle.timer_links.specs.declared.ring.Sides.{Sides}
-use Rattle.timer_links.specs.Lists.{first_key, node_at, list_at, row_count, appended}
+use Rattle.timer_links.specs.Lists.{first_key, node_at, list_at, row_count, appended, KeyedLists}
 use Rattle.timer_links.specs.Ring.{sides_at, Joins}
 use Rattle.timer_links.specs.Links.{places, AreRings, IsLinked}
 use Rattle.timer_links.proofs.Chains.{last}
@@ -16,7 +16,7 @@ use Rattle.timer_links.proofs.RingJoins.{joins_as, ends_are, rings_appended}
 use Rattle.timer_links.proofs.LinksCalls.{low}
 use Rattle.timer_links.proofs.PopFront.{front_of}
 
-module _ (v : List (List (ℕ × Node))) (from to : ℕ) (o : to ≢ from) (bf : from < length v) (bt : to < length v) where
+module _ (v : KeyedLists) (from to : ℕ) (o : to ≢ from) (bf : from < length v) (bt : to < length v) where
   emptied : length (slice_set v from []) ≡ length v
   emptied = length-set v from []
 
@@ -99,7 +99,7 @@ module _ (v : List (List (ℕ × Node))) (from to : ℕ) (o : to ≢ from) (bf :
     pub node_now : (k : ℕ) → node_at k (appended from to v) ≡ node_at k v
     node_now k = by_old k (node_at k v) refl
 
-pub appended_linked : (n : ℕ) (nodes : Slab Node) (s t a u : List Sides) (v : List (List (ℕ × Node))) (from to key : ℕ)
+pub appended_linked : (n : ℕ) (nodes : Slab Node) (s t a u : List Sides) (v : KeyedLists) (from to key : ℕ)
     → IsLinked n nodes s v → (bf : from < length v) → (bt : to < length v) → (o : to ≢ from) → first_key (list_at from v) ≡ Some key
     → Joins (sides_at s to).before (sides_at s from).after s t → Joins (sides_at s from).before to t a → Joins from from a u
     → IsLinked n nodes u (appended from to v)

@@ -7,7 +7,7 @@ use Rattle.slab.specs.Slab.{Slab, get, slab_len, ContainsKey, Updates}
 use Rattle.timer_links.specs.declared.node.Node.{Node}
 use Rattle.timer_links.specs.declared.ring.Sides.{Sides}
 use Rattle.timer_links.specs.declared.ring.TheConstants.{PLACES}
-use Rattle.timer_links.specs.Lists.{node_at, first_key, list_at, row_count, without_key, with_row, moved_back}
+use Rattle.timer_links.specs.Lists.{node_at, first_key, list_at, row_count, without_key, with_row, moved_back, KeyedLists}
 use Rattle.timer_links.specs.Ring.{sides_at, key_of, Joins, JoinsLast, IsGrown}
 use Rattle.timer_links.specs.Links.{places, AreRings, IsLinked}
 use Rattle.timer_links.proofs.Chains.{In, last, last_in, chain_same}
@@ -34,7 +34,7 @@ pub some_is : (o : Option Node) (node : Node) → o ≡ Some node → IsSome o
 some_is None node e = absurd (some_none node (sym e))
 some_is (Some x) node e = refl
 
-module _ (n : ℕ) (nodes : Slab Node) (s : List Sides) (v : List (List (ℕ × Node))) (h : IsLinked n nodes s v) where
+module _ (n : ℕ) (nodes : Slab Node) (s : List Sides) (v : KeyedLists) (h : IsLinked n nodes s v) where
   pub used : (key : ℕ) → IsSome (node_at key v) → ContainsKey nodes key
   used key i = rw (h.held key) i
 
@@ -94,12 +94,12 @@ module _ (n : ℕ) (nodes : Slab Node) (s : List Sides) (v : List (List (ℕ × 
       some_none i.node (sym (node_at-here n s v h.rings key l i.front i.node i.rest (low l d) i.is h.many) ∙ e)))
 
 -- a key's row is out of the rings
-record IsOut (n key : ℕ) (u : List Sides) (v : List (List (ℕ × Node))) : Type 0 where
+record IsOut (n key : ℕ) (u : List Sides) (v : KeyedLists) : Type 0 where
   pub many : length (map (without_key key) v) ≡ n
   pub rings : AreRings n u (map (without_key key) v)
   pub total : row_count (map (without_key key) v) + 1 ≡ row_count v
 
-out : (n : ℕ) (nodes : Slab Node) (s u : List Sides) (v : List (List (ℕ × Node))) (key : ℕ) → IsLinked n nodes s v → ContainsKey nodes key
+out : (n : ℕ) (nodes : Slab Node) (s u : List Sides) (v : KeyedLists) (key : ℕ) → IsLinked n nodes s v → ContainsKey nodes key
     → Joins (sides_at s (n + key)).before (sides_at s (n + key)).after s u → IsOut n key u v
 out n nodes s u v key h c j =
     let x = held (get nodes key) c in
@@ -114,7 +114,7 @@ out n nodes s u v key h c j =
     row_count-set v f.l (f.front ++ f.rest) f.below in
     let c2 : length (list_at f.l v) ≡ length (f.front ++ f.rest) + 1 =
     ap (λ (y : List (ℕ × Node)). length y) f.is ∙ length_split key x.node f.rest f.front in
-    let P : List (List (ℕ × Node)) → Type 0 = λ y. (length y ≡ n) × AreRings n u y × (row_count y + 1 ≡ row_count v) in
+    let P : KeyedLists → Type 0 = λ y. (length y ≡ n) × AreRings n u y × (row_count y + 1 ≡ row_count v) in
     let p = subst P (sym e) (
       length-set v f.l (f.front ++ f.rest)
           ∙ h.many,
@@ -123,7 +123,7 @@ out n nodes s u v key h c j =
     ) in
     record { many = p.0; rings = p.1; total = p.2 }
 
-pub unlinked : (n : ℕ) (nodes less : Slab Node) (s u : List Sides) (v : List (List (ℕ × Node))) (key : ℕ) → IsLinked n nodes s v
+pub unlinked : (n : ℕ) (nodes less : Slab Node) (s u : List Sides) (v : KeyedLists) (key : ℕ) → IsLinked n nodes s v
     → ContainsKey nodes key → Updates nodes less key None → slab_len less + 1 ≡ slab_len nodes
     → Joins (sides_at s (n + key)).before (sides_at s (n + key)).after s u → IsLinked n less u (map (without_key key) v)
 unlinked n nodes less s u v key h c z len j =
@@ -148,13 +148,13 @@ unlinked n nodes less s u v key h c z len j =
       numbered = rw j.size h.numbered;
     }
 
-absent : (n : ℕ) (s : List Sides) (v : List (List (ℕ × Node))) → AreRings n s v → length v ≡ n → (key : ℕ) → node_at key v ≡ None → (m : ℕ)
+absent : (n : ℕ) (s : List Sides) (v : KeyedLists) → AreRings n s v → length v ≡ n → (key : ℕ) → node_at key v ≡ None → (m : ℕ)
     → m < n → Has key (list_at m v) → ⊥
 absent n s v h many key e m b x =
     let i = split_at key (list_at m v) x in
     some_none i.node (sym (node_at-here n s v h key m i.front i.node i.rest b i.is many) ∙ e)
 
-row_pushed : (v : List (List (ℕ × Node))) (l : ℕ) (row : ℕ × Node) → l < length v → row_count (with_row l row v) ≡ row_count v + 1
+row_pushed : (v : KeyedLists) (l : ℕ) (row : ℕ × Node) → l < length v → row_count (with_row l row v) ≡ row_count v + 1
 row_pushed v l row b =
     let c1 : row_count (slice_set v l (list_at l v ++ row ∷ [])) + length (list_at l v) ≡ row_count v + length (list_at l v ++ row ∷ []) =
     row_count-set v l (list_at l v ++ row ∷ []) b in
@@ -164,7 +164,7 @@ row_pushed v l row b =
 pub size_last : (root place : ℕ) (s u : List Sides) → JoinsLast root place s u → length u ≡ length s
 size_last root place s u (t, j, k) = k.size ∙ j.size
 
-pub moved : (n : ℕ) (nodes : Slab Node) (s t u : List Sides) (v : List (List (ℕ × Node))) (key l : ℕ) (node : Node) → IsLinked n nodes s v
+pub moved : (n : ℕ) (nodes : Slab Node) (s t u : List Sides) (v : KeyedLists) (key l : ℕ) (node : Node) → IsLinked n nodes s v
     → get nodes key ≡ Some node → l < length v
     → Joins (sides_at s (n + key)).before (sides_at s (n + key)).after s t → JoinsLast l (n + key) t u
     → IsLinked n nodes u (moved_back key l node v)
@@ -194,7 +194,7 @@ moved n nodes s t u v key l node h g d j jl =
     }
 
 -- more places change nothing
-pub grown : (n : ℕ) (nodes : Slab Node) (s t : List Sides) (v : List (List (ℕ × Node))) → IsLinked n nodes s v → IsGrown s t
+pub grown : (n : ℕ) (nodes : Slab Node) (s t : List Sides) (v : KeyedLists) → IsLinked n nodes s v → IsGrown s t
     → length t ≤ PLACES → IsLinked n nodes t v
 grown n nodes s t v h g f =
     let more : length s ≤ length t = g.longer in
@@ -210,7 +210,7 @@ grown n nodes s t v h g f =
     }
 
 -- nor does more room in the slab
-pub roomier : (n c : ℕ) (nodes : Slab Node) (s : List Sides) (v : List (List (ℕ × Node))) → IsLinked n nodes s v
+pub roomier : (n c : ℕ) (nodes : Slab Node) (s : List Sides) (v : KeyedLists) → IsLinked n nodes s v
     → IsLinked n (record nodes { capacity = c }) s v
 roomier n c nodes s v h = record {
   many = h.many;
@@ -223,11 +223,11 @@ roomier n c nodes s v h = record {
   numbered = h.numbered;
 }
 
-pub refused : (n : ℕ) (nodes same : Slab Node) (s : List Sides) (v : List (List (ℕ × Node))) → IsLinked n nodes s v
+pub refused : (n : ℕ) (nodes same : Slab Node) (s : List Sides) (v : KeyedLists) → IsLinked n nodes s v
     → same ≡ record nodes { capacity = same.capacity } → IsLinked n same s v
 refused n nodes same s v h e = let P : Slab Node → Type 0 = λ x. IsLinked n x s v in subst P (sym e) (roomier n same.capacity nodes s v h)
 
-pub pushed : (n : ℕ) (nodes more : Slab Node) (s u : List Sides) (v : List (List (ℕ × Node))) (key l : ℕ) (node : Node)
+pub pushed : (n : ℕ) (nodes more : Slab Node) (s u : List Sides) (v : KeyedLists) (key l : ℕ) (node : Node)
     → IsLinked n nodes s v → l < length v → get nodes key ≡ None → Updates nodes more key (Some node) → slab_len more ≡ slab_len nodes + 1
     → n + key < length s → JoinsLast l (n + key) s u → IsLinked n more u (with_row l (key, node) v)
 pushed n nodes more s u v key l node h d g z len r jl =
@@ -255,7 +255,7 @@ pushed n nodes more s u v key l node h d g z len r jl =
     }
 
 -- the back of a list, once two places were joined
-pub back_after : (n : ℕ) (nodes : Slab Node) (s t : List Sides) (v : List (List (ℕ × Node))) (f b l : ℕ) → IsLinked n nodes s v
+pub back_after : (n : ℕ) (nodes : Slab Node) (s t : List Sides) (v : KeyedLists) (f b l : ℕ) → IsLinked n nodes s v
     → l < length v → f < length s → Joins f b s t → (sides_at t l).before < length t
 back_after n nodes s t v f b l h d r j = rw j.size (elim (cases_eq l b) [
   | inl q ↦ rw (q, j.back_to) r
@@ -282,13 +282,13 @@ read_as : (s t : List Sides) (p : ℕ) (x : Sides) → t ≡ s → x ≡ sides_a
     → (sides_at s p).after < length s → IsRead s t p x
 read_as s t p x e f b a = record { is = f; low = b; before = rw (f, e) b; after = rw (f, e) a }
 
-pub read_node : (n : ℕ) (nodes : Slab Node) (s : List Sides) (v : List (List (ℕ × Node))) (key : ℕ) (t : List Sides) (x : Sides)
+pub read_node : (n : ℕ) (nodes : Slab Node) (s : List Sides) (v : KeyedLists) (key : ℕ) (t : List Sides) (x : Sides)
     → IsLinked n nodes s v → ContainsKey nodes key → t ≡ s → x ≡ slice_index_or s (n + key) x → IsRead s t (n + key) x
 read_node n nodes s v key t x h c e f = read_as s t (n + key) x e
     (get_or_read s (n + key) x (h.reached key c) f (record { before = 0; after = 0 })) (before_in n nodes s v h key c)
     (after_in n nodes s v h key c)
 
-pub read_root : (n : ℕ) (nodes : Slab Node) (s : List Sides) (v : List (List (ℕ × Node))) (l : ℕ) (t : List Sides) (x : Sides)
+pub read_root : (n : ℕ) (nodes : Slab Node) (s : List Sides) (v : KeyedLists) (l : ℕ) (t : List Sides) (x : Sides)
     → IsLinked n nodes s v → l < length v → t ≡ s → x ≡ slice_index_or s l x → IsRead s t l x
 read_root n nodes s v l t x h d e f =
     let b : l < n = low n nodes s v h l d in
@@ -299,7 +299,7 @@ no_value : (o : Option Node) → (IsSome o → IsTrue false) → o ≡ None
 no_value None h = refl
 no_value (Some x) h = let f : IsTrue false = h refl in cc
 
-pub unused : (n : ℕ) (nodes : Slab Node) (s : List Sides) (v : List (List (ℕ × Node))) (key : ℕ) → IsLinked n nodes s v
+pub unused : (n : ℕ) (nodes : Slab Node) (s : List Sides) (v : KeyedLists) (key : ℕ) → IsLinked n nodes s v
     → (ContainsKey nodes key → IsTrue false) → node_at key v ≡ None
 unused n nodes s v key h f = sym (h.held key) ∙ no_value (get nodes key) f
 
@@ -308,7 +308,7 @@ rows_none n l [] b e = refl
 rows_none n l (r ∷ rs) b e = let q : n + r.0 ≡ l = e in absurd (omega arith)
 
 -- a list is empty where its root is its own neighbour
-pub root_alone : (n : ℕ) (nodes : Slab Node) (s : List Sides) (v : List (List (ℕ × Node))) (l : ℕ) (x : Sides) → IsLinked n nodes s v
+pub root_alone : (n : ℕ) (nodes : Slab Node) (s : List Sides) (v : KeyedLists) (l : ℕ) (x : Sides) → IsLinked n nodes s v
     → l < length v → x ≡ slice_index_or s l x → (x.after ≡ l → list_at l v ≡ []) × (list_at l v ≡ [] → x.after ≡ l)
 root_alone n nodes s v l x h d f =
     let b : l < n = low n nodes s v h l d in

@@ -6,7 +6,7 @@ use Rattle.std.proofs.lemmas.List.{get_or_append_left, get_or_push, length-repli
 use Rattle.slab.specs.Slab.{Slab, get}
 use Rattle.timer_links.specs.declared.node.Node.{Node}
 use Rattle.timer_links.specs.declared.ring.Sides.{Sides}
-use Rattle.timer_links.specs.Lists.{list_at, row_count}
+use Rattle.timer_links.specs.Lists.{list_at, row_count, KeyedLists}
 use Rattle.timer_links.specs.Ring.{sides_at}
 use Rattle.timer_links.specs.Links.{IsLinked}
 use Rattle.timer_links.proofs.Rows.{none_is, node_at-none}
@@ -35,7 +35,7 @@ one_more n sides more h e =
       ];
     })
 
-abbrev pub no_rows : ℕ → List (List (ℕ × Node))
+abbrev pub no_rows : ℕ → KeyedLists
 no_rows n = replicate n []
 
 list_is_empty : (n l : ℕ) → list_at l (no_rows n) ≡ []

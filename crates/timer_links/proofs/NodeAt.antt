@@ -3,7 +3,7 @@ use Rattle.std.proofs.Common.{◌≡◌, ◌≢◌, ◌<◌, ℕ, zero, suc, Lis
 use Rattle.std.specs.Prelude.{map, Option, Some, None}
 use Rattle.std.proofs.lemmas.Bool.{cases_eq, eq-eqb, ne_eqb}
 use Rattle.timer_links.specs.declared.node.Node.{Node}
-use Rattle.timer_links.specs.Lists.{node_in, node_at, first_of, without_key, with_row}
+use Rattle.timer_links.specs.Lists.{node_in, node_at, first_of, without_key, with_row, KeyedLists}
 use Rattle.timer_links.proofs.Rows.{some_none}
 
 in_without_this : (key : ℕ) (rows : List (ℕ × Node)) → node_in key (without_key key rows) ≡ None
@@ -20,11 +20,11 @@ in_without_other key k (r ∷ rs) n = elim (cases_eq r.0 key) [
   | inr m ↦ rw (ne_eqb r.0 key m, in_without_other key k rs n) refl
 ]
 
-pub without_this : (key : ℕ) (v : List (List (ℕ × Node))) → node_at key (map (without_key key) v) ≡ None
+pub without_this : (key : ℕ) (v : KeyedLists) → node_at key (map (without_key key) v) ≡ None
 without_this key [] = refl
 without_this key (x ∷ xs) = rw (in_without_this key x) (without_this key xs)
 
-pub without_other : (key k : ℕ) (v : List (List (ℕ × Node))) → k ≢ key → node_at k (map (without_key key) v) ≡ node_at k v
+pub without_other : (key k : ℕ) (v : KeyedLists) → k ≢ key → node_at k (map (without_key key) v) ≡ node_at k v
 without_other key k [] n = refl
 without_other key k (x ∷ xs) n = rw (in_without_other key k x n, without_other key k xs n) refl
 
@@ -44,14 +44,14 @@ in_push_other : (key k : ℕ) (node : Node) (rows : List (ℕ × Node)) → k �
 in_push_other key k node [] n = rw (ne_eqb key k (λ (q : key ≡ k). n (sym q))) refl
 in_push_other key k node (r ∷ rs) n = rw (in_push_other key k node rs n) refl
 
-pub push_this : (key : ℕ) (node : Node) (v : List (List (ℕ × Node))) (l : ℕ) → l < length v → node_at key v ≡ None
+pub push_this : (key : ℕ) (node : Node) (v : KeyedLists) (l : ℕ) → l < length v → node_at key v ≡ None
     → node_at key (with_row l (key, node) v) ≡ Some node
 push_this key node [] l b h = absurd (omega arith)
 push_this key node (x ∷ xs) zero b h = rw (in_push_this key node x (none_both (node_in key x) (node_at key xs) h).0) refl
 push_this key node (x ∷ xs) (suc l) b h = let z = none_both (node_in key x) (node_at key xs) h
     in rw z.0 (push_this key node xs l (omega arith) z.1)
 
-pub push_other : (key k : ℕ) (node : Node) (v : List (List (ℕ × Node))) (l : ℕ) → k ≢ key
+pub push_other : (key k : ℕ) (node : Node) (v : KeyedLists) (l : ℕ) → k ≢ key
     → node_at k (with_row l (key, node) v) ≡ node_at k v
 push_other key k node [] l n = refl
 push_other key k node (x ∷ xs) zero n = rw (in_push_other key k node x n) refl

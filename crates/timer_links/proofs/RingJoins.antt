@@ -4,7 +4,7 @@ use Rattle.std.specs.Prelude.{slice_set}
 use Rattle.std.proofs.lemmas.Bool.{cases_eq}
 use Rattle.timer_links.specs.declared.node.Node.{Node}
 use Rattle.timer_links.specs.declared.ring.Sides.{Sides}
-use Rattle.timer_links.specs.Lists.{list_at, with_row, appended}
+use Rattle.timer_links.specs.Lists.{list_at, with_row, appended, KeyedLists}
 use Rattle.timer_links.specs.Ring.{sides_at, AreJoined, IsChain, Joins, JoinsLast}
 use Rattle.timer_links.specs.Links.{places, AreRings}
 use Rattle.timer_links.proofs.Chains.{In, IsApart, last, last_in, last_not_start, last_push, last_on, starts_in, starts_ring, in_either, in_ring, apart_push, apart_both, glue, Halves, halves, kept, ring_kept, extended}
@@ -53,7 +53,7 @@ detached_at n l key s u front (y ∷ ys) b h a d o j =
     ])
     h.back.1)
 
-module _ (n : ℕ) (s : List Sides) (v : List (List (ℕ × Node))) (h : AreRings n s v) (key l : ℕ) (front : List (ℕ × Node)) (node : Node)
+module _ (n : ℕ) (s : List Sides) (v : KeyedLists) (h : AreRings n s v) (key l : ℕ) (front : List (ℕ × Node)) (node : Node)
     (rest : List (ℕ × Node)) (b : l < n) (e : list_at l v ≡ front ++ (key, node) ∷ rest) where
   here : Halves s l (places n front) (n + key) (places n rest ++ l ∷ [])
   here = halves s l (places n front) (n + key) (places n rest ++ l ∷ []) (ring_here n s v h key l front node rest b e)
@@ -103,12 +103,12 @@ module _ (n : ℕ) (s : List Sides) (v : List (List (ℕ × Node))) (h : AreRing
       (λ i. elsewhere n s v h l m (first n rest l) b c o first_here i)
       (h m c))
 
-pub back_is : (n : ℕ) (s : List Sides) (v : List (List (ℕ × Node))) → AreRings n s v → (l : ℕ) → l < n
+pub back_is : (n : ℕ) (s : List Sides) (v : KeyedLists) → AreRings n s v → (l : ℕ) → l < n
     → (sides_at s l).before ≡ last l (places n (list_at l v))
 back_is n s v h l b = (halves s l (places n (list_at l v)) l [] (h l b)).seam.back_to
 
 -- a place that is in no ring is put at the back of one
-module _ (n : ℕ) (s : List Sides) (v : List (List (ℕ × Node))) (h : AreRings n s v) (key l : ℕ) (node : Node) (b : l < n) (loose : (m : ℕ)
+module _ (n : ℕ) (s : List Sides) (v : KeyedLists) (h : AreRings n s v) (key l : ℕ) (node : Node) (b : l < n) (loose : (m : ℕ)
     → m < n → Has key (list_at m v) → ⊥) where
   off : (m : ℕ) → m < n → In (n + key) (m ∷ places n (list_at m v)) → ⊥
   off m c (inl q) = let z : m ≡ n + key = q in absurd (omega arith)
@@ -145,7 +145,7 @@ module _ (n : ℕ) (s : List Sides) (v : List (List (ℕ × Node))) (h : AreRing
       (h m c)))
 
 -- all rows of one list move to the back of another
-module _ (n : ℕ) (s : List Sides) (v : List (List (ℕ × Node))) (h : AreRings n s v) (from to : ℕ) (y : ℕ
+module _ (n : ℕ) (s : List Sides) (v : KeyedLists) (h : AreRings n s v) (from to : ℕ) (y : ℕ
     × Node) (ys : List (ℕ × Node)) (bf : from < n) (bt : to < n) (o : to ≢ from) (e : list_at from v ≡ y ∷ ys) where
   source : IsChain s from ((n + y.0) ∷ (places n ys ++ from ∷ []))
   source = chain_as s from (places n (list_at from v) ++ from ∷ []) ((n + y.0) ∷ (places n ys ++ from ∷ []))

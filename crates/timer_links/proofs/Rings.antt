@@ -4,7 +4,7 @@ use Rattle.std.specs.Prelude.{map, Some, slice_set}
 use Rattle.std.proofs.lemmas.Bool.{cases_eq}
 use Rattle.timer_links.specs.declared.node.Node.{Node}
 use Rattle.timer_links.specs.declared.ring.Sides.{Sides}
-use Rattle.timer_links.specs.Lists.{node_in, node_at, list_at, without_key, AreApart}
+use Rattle.timer_links.specs.Lists.{node_in, node_at, list_at, without_key, AreApart, KeyedLists}
 use Rattle.timer_links.specs.Ring.{IsChain}
 use Rattle.timer_links.specs.Links.{places, AreRings}
 use Rattle.timer_links.proofs.Chains.{In, IsApart}
@@ -99,7 +99,7 @@ distinct_on s n l b p (r ∷ rs) c = (
   distinct_on s n l b (n + r.0) rs c.1,
 )
 
-module _ (n : ℕ) (s : List Sides) (v : List (List (ℕ × Node))) (h : AreRings n s v) where
+module _ (n : ℕ) (s : List Sides) (v : KeyedLists) (h : AreRings n s v) where
   ring_of : (l key : ℕ) (node : Node) (front rest : List (ℕ × Node)) → l < n → list_at l v ≡ front ++ (key, node) ∷ rest
       → IsChain s l (places n (front ++ (key, node) ∷ rest) ++ l ∷ [])
   ring_of l key node front rest b e = chain_as s l (places n (list_at l v) ++ l ∷ []) (places n (front ++ (key, node) ∷ rest) ++ l ∷ [])
@@ -158,12 +158,12 @@ module _ (n : ℕ) (s : List Sides) (v : List (List (ℕ × Node))) (h : AreRing
       node_at-here = node_at-some key l node v (rw many b) (ap (node_in key) e
           ∙ node_in-split key node front rest distinct_here) (λ m d o. node_in-absent key (list_at m v) (not_elsewhere m (rw many at d) o))
 
-pub apart : (n : ℕ) (s : List Sides) (v : List (List (ℕ × Node))) → AreRings n s v → length v ≡ n → AreApart v
+pub apart : (n : ℕ) (s : List Sides) (v : KeyedLists) → AreRings n s v → length v ≡ n → AreApart v
 apart n s v h many l front row rest b e = let d : l < n = rw many at b
     in (node_at-here n s v h row.0 l front row.1 rest d e many, without_is n s v h row.0 l front row.1 rest d e many)
 
 -- the rings, once one list has changed
-pub rings_set : (n : ℕ) (u : List Sides) (v : List (List (ℕ × Node))) (l : ℕ) (rows : List (ℕ × Node)) → length v ≡ n
+pub rings_set : (n : ℕ) (u : List Sides) (v : KeyedLists) (l : ℕ) (rows : List (ℕ × Node)) → length v ≡ n
     → IsChain u l (places n rows ++ l ∷ [])
     → ((m : ℕ) → m < n → m ≢ l → IsChain u m (places n (list_at m v) ++ m ∷ [])) → AreRings n u (slice_set v l rows)
 rings_set n u v l rows many c o m d = elim (cases_eq m l) [

@@ -3,7 +3,7 @@ use Rattle.std.proofs.Common.{◌≡◌, ◌≢◌, ◌<◌, ◌≤◌, ◌+◌,
 use Rattle.std.specs.Prelude.{map, Option, Some, None, IsSome, slice_set}
 use Rattle.std.proofs.lemmas.Bool.{cases_eq, eq-eqb, ne_eqb}
 use Rattle.timer_links.specs.declared.node.Node.{Node}
-use Rattle.timer_links.specs.Lists.{node_in, node_at, first_of, list_at, row_count, without_key}
+use Rattle.timer_links.specs.Lists.{node_in, node_at, first_of, list_at, row_count, without_key, KeyedLists}
 
 pub some_none : {X : Type 0} (x : X) → Some x ≢ None
 some_none x = λ (h : Some x ≡ None). cc
@@ -106,7 +106,7 @@ split_at key (r ∷ rs) (inr h) =
     record { front = r ∷ i.front; node = i.node; rest = i.rest; is = ap (λ (y : List (ℕ × Node)). r ∷ y) i.is }
 
 -- the same, for the node that the lists have under a key
-pub record Found (key : ℕ) (node : Node) (v : List (List (ℕ × Node))) : Type 0 where
+pub record Found (key : ℕ) (node : Node) (v : KeyedLists) : Type 0 where
   pub l : ℕ
   pub below : l < length v
   pub front : List (ℕ × Node)
@@ -141,7 +141,7 @@ first_some : (a b : Option Node) (node : Node) → IsSome a → first_of a b ≡
 first_some None b node i h = absurd (none_is i)
 first_some (Some x) b node i h = h
 
-pub found : (key : ℕ) (node : Node) (v : List (List (ℕ × Node))) → node_at key v ≡ Some node → Found key node v
+pub found : (key : ℕ) (node : Node) (v : KeyedLists) → node_at key v ≡ Some node → Found key node v
 found key node [] h = absurd (some_none node (sym h))
 found key node (x ∷ xs) h = elim (of_first (node_in key x)) [
   | inl e ↦
@@ -153,40 +153,40 @@ found key node (x ∷ xs) h = elim (of_first (node_in key x)) [
       record { l = 0; below = omega arith; front = f.front; rest = f.rest; is = f.is }
 ]
 
-pub map_each : (f : List (ℕ × Node) → List (ℕ × Node)) (lists : List (List (ℕ × Node)))
+pub map_each : (f : List (ℕ × Node) → List (ℕ × Node)) (lists : KeyedLists)
     → ((l : ℕ) → l < length lists → f (list_at l lists) ≡ list_at l lists) → map f lists ≡ lists
 map_each f [] h = refl
-map_each f (x ∷ xs) h = rw (h 0 (omega arith)) (ap (λ (y : List (List (ℕ × Node))). x ∷ y) (map_each f xs (λ l b. h (suc l) (omega arith))))
+map_each f (x ∷ xs) h = rw (h 0 (omega arith)) (ap (λ (y : KeyedLists). x ∷ y) (map_each f xs (λ l b. h (suc l) (omega arith))))
 
-pub map_without : (key l : ℕ) (lists : List (List (ℕ × Node))) → ((m : ℕ) → m < length lists → m ≢ l
+pub map_without : (key l : ℕ) (lists : KeyedLists) → ((m : ℕ) → m < length lists → m ≢ l
     → without_key key (list_at m lists) ≡ list_at m lists) → map (without_key key) lists
     ≡ slice_set lists l (without_key key (list_at l lists))
 map_without key l [] h = refl
-map_without key zero (y ∷ ys) h = ap (λ (z : List (List (ℕ × Node))). without_key key y ∷ z)
+map_without key zero (y ∷ ys) h = ap (λ (z : KeyedLists). without_key key y ∷ z)
     (map_each (without_key key) ys (λ m b. h (suc m) (omega arith) (omega arith)))
 map_without key (suc l) (y ∷ ys) h = rw (h 0 (omega arith) (omega arith))
-    (ap (λ (z : List (List (ℕ × Node))). y ∷ z) (map_without key l ys (λ m b n. h (suc m) (omega arith) (omega arith))))
+    (ap (λ (z : KeyedLists). y ∷ z) (map_without key l ys (λ m b n. h (suc m) (omega arith) (omega arith))))
 
-pub node_at-none : (k : ℕ) (lists : List (List (ℕ × Node))) → ((l : ℕ) → l < length lists → node_in k (list_at l lists) ≡ None)
+pub node_at-none : (k : ℕ) (lists : KeyedLists) → ((l : ℕ) → l < length lists → node_in k (list_at l lists) ≡ None)
     → node_at k lists ≡ None
 node_at-none k [] h = refl
 node_at-none k (x ∷ xs) h = rw (h 0 (omega arith)) (node_at-none k xs (λ l b. h (suc l) (omega arith)))
 
-pub node_at-some : (k l : ℕ) (n : Node) (lists : List (List (ℕ × Node))) → l < length lists → node_in k (list_at l lists) ≡ Some n
+pub node_at-some : (k l : ℕ) (n : Node) (lists : KeyedLists) → l < length lists → node_in k (list_at l lists) ≡ Some n
     → ((m : ℕ) → m < length lists → m ≢ l → node_in k (list_at m lists) ≡ None) → node_at k lists ≡ Some n
 node_at-some k l n [] b h o = absurd (omega arith)
 node_at-some k zero n (x ∷ xs) b h o = rw h refl
 node_at-some k (suc l) n (x ∷ xs) b h o = rw (o 0 (omega arith) (omega arith))
     (node_at-some k l n xs (omega arith) h (λ m d e. o (suc m) (omega arith) (omega arith)))
 
-pub row_count-set : (lists : List (List (ℕ × Node))) (l : ℕ) (rows : List (ℕ × Node)) → l < length lists
+pub row_count-set : (lists : KeyedLists) (l : ℕ) (rows : List (ℕ × Node)) → l < length lists
     → row_count (slice_set lists l rows) + length (list_at l lists) ≡ row_count lists + length rows
 row_count-set [] l rows h = absurd (omega arith)
 row_count-set (x ∷ xs) zero rows h = omega arith
 row_count-set (x ∷ xs) (suc l) rows h = let e : row_count (slice_set xs l rows) + length (list_at l xs) ≡ row_count xs + length rows =
     row_count-set xs l rows (omega arith) in omega arith
 
-pub length_list_at : (lists : List (List (ℕ × Node))) (l : ℕ) → length (list_at l lists) ≤ row_count lists
+pub length_list_at : (lists : KeyedLists) (l : ℕ) → length (list_at l lists) ≤ row_count lists
 length_list_at [] l = omega arith
 length_list_at (x ∷ xs) zero = omega arith
 length_list_at (x ∷ xs) (suc l) = let h : length (list_at l xs) ≤ row_count xs = length_list_at xs l in omega arith

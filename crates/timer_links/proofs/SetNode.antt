@@ -7,7 +7,7 @@ use Rattle.std.proofs.lemmas.Bool.{cases_eq, ne_eqb}
 use Rattle.slab.specs.Slab.{Slab, get, slab_len, with_value, ContainsKey}
 use Rattle.timer_links.specs.declared.node.Node.{Node}
 use Rattle.timer_links.specs.declared.ring.Sides.{Sides}
-use Rattle.timer_links.specs.Lists.{node_in, node_at, list_at, row_count}
+use Rattle.timer_links.specs.Lists.{node_in, node_at, list_at, row_count, KeyedLists}
 use Rattle.timer_links.specs.Links.{places, IsLinked}
 use Rattle.timer_links.proofs.Rows.{none_is, length_split, row_count-set, same_node}
 use Rattle.timer_links.proofs.Rings.{rings_set, chain_as, node_at-here}
@@ -39,13 +39,13 @@ module _ (key : ℕ) (was node : Node) (rest : List (ℕ × Node)) where
   other_in k [] n = rw (ne_eqb key k (λ (q : key ≡ k). n (sym q))) refl
   other_in k (x ∷ xs) n = rw (other_in k xs n) refl
 
-other_at : (k l : ℕ) (rows : List (ℕ × Node)) (v : List (List (ℕ × Node))) → node_in k rows ≡ node_in k (list_at l v)
+other_at : (k l : ℕ) (rows : List (ℕ × Node)) (v : KeyedLists) → node_in k rows ≡ node_in k (list_at l v)
     → node_at k (slice_set v l rows) ≡ node_at k v
 other_at k l rows [] e = refl
 other_at k zero rows (x ∷ xs) e = rw e refl
 other_at k (suc l) rows (x ∷ xs) e = rw (other_at k l rows xs e) refl
 
-pub node_set : (n : ℕ) (nodes : Slab Node) (s : List Sides) (v : List (List (ℕ × Node))) (key l : ℕ) (front : List (ℕ × Node))
+pub node_set : (n : ℕ) (nodes : Slab Node) (s : List Sides) (v : KeyedLists) (key l : ℕ) (front : List (ℕ × Node))
     (was node : Node) (rest : List (ℕ × Node)) → IsLinked n nodes s v → l < length v → list_at l v ≡ front ++ (key, was) ∷ rest
     → IsLinked n (with_value nodes key node) s (slice_set v l (front ++ (key, node) ∷ rest))
 node_set n nodes s v key l front was node rest h d e =
@@ -88,7 +88,7 @@ node_set n nodes s v key l front was node rest h d e =
     }
 
 -- which node stood there
-pub node_was : (n : ℕ) (nodes : Slab Node) (s : List Sides) (v : List (List (ℕ × Node))) (key l : ℕ) (front : List (ℕ × Node))
+pub node_was : (n : ℕ) (nodes : Slab Node) (s : List Sides) (v : KeyedLists) (key l : ℕ) (front : List (ℕ × Node))
     (was x : Node) (rest : List (ℕ × Node)) → IsLinked n nodes s v → l < length v → list_at l v ≡ front ++ (key, was) ∷ rest
     → get nodes key ≡ Some x → x ≡ was
 node_was n nodes s v key l front was x rest h d e g = same_node x was (sym g

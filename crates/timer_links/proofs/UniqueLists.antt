@@ -9,7 +9,7 @@ use Rattle.slab.specs.Slab.{Slab, get, slab_len}
 use Rattle.timer_links.specs.declared.node.Node.{Node}
 use Rattle.timer_links.specs.declared.ring.Sides.{Sides}
 use Rattle.timer_links.specs.declared.links.Links.TheInside.{Inside}
-use Rattle.timer_links.specs.Lists.{LinksState, list_at, row_count}
+use Rattle.timer_links.specs.Lists.{LinksState, list_at, row_count, KeyedLists}
 use Rattle.timer_links.specs.Ring.{sides_at, key_of, IsChain}
 use Rattle.timer_links.specs.Links.{places, walk, lists_of, IsLinked, HasRoom}
 use Rattle.timer_links.proofs.Rows.{length_list_at}
@@ -38,7 +38,7 @@ walk_is (suc m) n nodes s l p [] b f a c = rw (c.0.forth, root_low n l b) refl
 walk_is (suc m) n nodes s l p (r ∷ rs) b f a c = rw (c.0.forth, key_high n r.0, a.0)
     (ap (λ (x : List (ℕ × Node)). r ∷ x) (walk_is m n nodes s l (n + r.0) rs b (omega arith) a.1 c.1))
 
-module _ (n : ℕ) (nodes : Slab Node) (s : List Sides) (v : List (List (ℕ × Node))) (h : IsLinked n nodes s v) where
+module _ (n : ℕ) (nodes : Slab Node) (s : List Sides) (v : KeyedLists) (h : IsLinked n nodes s v) where
   held_from : (l : ℕ) (rows front : List (ℕ × Node)) → l < n → list_at l v ≡ front ++ rows → AreHeld nodes rows
   held_from l [] front b e = tt
   held_from l (r ∷ rs) front b e = (
@@ -59,19 +59,19 @@ module _ (n : ℕ) (nodes : Slab Node) (s : List Sides) (v : List (List (ℕ × 
       get_or-map-range_with_len f 0 n l l [] b (omega arith) ∙ walk_is (slab_len nodes) n nodes s l l (list_at l v) b (omega arith)
       (held_from l (list_at l v) [] b refl) (h.rings l b))
 
-pub closed : (n : ℕ) (nodes : Slab Node) (s : List Sides) (v : List (List (ℕ × Node))) → IsLinked n nodes s v
+pub closed : (n : ℕ) (nodes : Slab Node) (s : List Sides) (v : KeyedLists) → IsLinked n nodes s v
     → IsLinked n nodes s (lists_of n nodes s)
-closed n nodes s v h = let P : List (List (ℕ × Node)) → Type 0 = λ x. IsLinked n nodes s x in subst P (sym (lists_are n nodes s v h)) h
+closed n nodes s v h = let P : KeyedLists → Type 0 = λ x. IsLinked n nodes s x in subst P (sym (lists_are n nodes s v h)) h
 
 -- the lists of a value, which is open
 pub opened : (s : Inside) (v : LinksState) → record { lists = lists_of s.lists s.nodes s.sides.items; room = s.room } ≡ v
     → IsLinked s.lists s.nodes s.sides.items (lists_of s.lists s.nodes s.sides.items) × HasRoom s.room s.lists s.nodes s.sides.items
     → IsLinked s.lists s.nodes s.sides.items v.lists
-opened s v e h = let P : List (List (ℕ × Node)) → Type 0 = λ x. IsLinked s.lists s.nodes s.sides.items x in
+opened s v e h = let P : KeyedLists → Type 0 = λ x. IsLinked s.lists s.nodes s.sides.items x in
     subst P (ap (λ (r : LinksState). r.lists) e) h.0
 
 -- what was written to the slice of a vector is the vector's
-pub written : {Z : Type 0} (n : ℕ) (nodes : Slab Node) (sides : Vec Sides Z) (ws : List Sides) (v : List (List (ℕ × Node)))
+pub written : {Z : Type 0} (n : ℕ) (nodes : Slab Node) (sides : Vec Sides Z) (ws : List Sides) (v : KeyedLists)
     → length ws ≡ sides.len → IsLinked n nodes ws v → IsLinked n nodes (with_items sides ws).items v
 written n nodes sides ws v e h = let P : List Sides → Type 0 = λ x. IsLinked n nodes x v in subst P (sym (with_items_is sides ws e)) h
 
@@ -98,10 +98,10 @@ no_room n nodes s = record {
 }
 
 -- the value of these fields is the state with these lists and this room
-pub state_is : (w : LinksState) (x : List (List (ℕ × Node))) (room : ℕ) → x ≡ w.lists → room ≡ w.room
+pub state_is : (w : LinksState) (x : KeyedLists) (room : ℕ) → x ≡ w.lists → room ≡ w.room
     → record { lists = x; room = room } ≡ w
 state_is w x room e k =
-    let f : List (List (ℕ × Node)) → LinksState = λ y. record { lists = y; room = room } in
+    let f : KeyedLists → LinksState = λ y. record { lists = y; room = room } in
     let g : ℕ → LinksState = λ y. record { lists = w.lists; room = y } in
     ap f e ∙ ap g k
 

@@ -5,7 +5,7 @@ use Rattle.slab.specs.Slab.{Slab, get, slab_len, ContainsKey}
 use Rattle.timer_links.specs.declared.node.Node.{Node}
 use Rattle.timer_links.specs.declared.ring.Sides.{Sides}
 use Rattle.timer_links.specs.declared.ring.TheConstants.{PLACES}
-use Rattle.timer_links.specs.Lists.{list_at, node_at, row_count}
+use Rattle.timer_links.specs.Lists.{list_at, node_at, row_count, KeyedLists}
 use Rattle.timer_links.specs.Ring.{sides_at, key_of, IsChain}
 
 -- the row of a key and its node, before these rows
@@ -24,7 +24,7 @@ walk (suc n) lists nodes sides place = rows_of nodes (key_of lists place)
     (walk n lists nodes sides (sides_at sides place).after)
 
 -- the lists, each walked from the place after its root
-abbrev pub lists_of : ℕ → Slab Node → List Sides → List (List (ℕ × Node))
+abbrev pub lists_of : ℕ → Slab Node → List Sides → KeyedLists
 lists_of lists nodes sides = map (λ root. walk (slab_len nodes) lists nodes sides (sides_at sides root).after)
     (range_with_len 0 lists)
 
@@ -34,12 +34,12 @@ places lists [] = []
 places lists (row ∷ rest) = (lists + row.0) ∷ places lists rest
 
 -- each list is a ring: its root, its nodes in their order, and back to the root
-abbrev pub AreRings : ℕ → List Sides → List (List (ℕ × Node)) → Type 0
+abbrev pub AreRings : ℕ → List Sides → KeyedLists → Type 0
 AreRings lists sides v = (l : ℕ) → l < lists → IsChain sides l (places lists (list_at l v) ++ l ∷ [])
 
 -- the nodes under these keys stand in these lists, and each list is a ring
 pub record IsLinked (lists : ℕ) (nodes : Slab Node) (sides : List Sides)
-    (v : List (List (ℕ × Node))) : Type 0 where
+    (v : KeyedLists) : Type 0 where
   pub many : length v ≡ lists
   pub few : lists ≤ 65537
   pub rings : AreRings lists sides v

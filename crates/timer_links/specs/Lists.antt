@@ -2,9 +2,13 @@
 use Rattle.std.specs.Prelude.{◌≡◌, ◌<◌, ℕ, ◌+◌, not, ◌==◌, if◌then◌else◌, List, [], ◌∷◌, ◌++◌, length, map, filter, Option, Some, None, slice_index_or, slice_set}
 use Rattle.timer_links.specs.declared.node.Node.{Node}
 
+-- the lists, each with its rows in order: a key and the node under it
+abbrev pub KeyedLists : Type 0
+KeyedLists = List (List (ℕ × Node))
+
 -- the lists, and for how many nodes at one time room was made
 pub record LinksState : Type 0 where
-  pub lists : List (List (ℕ × Node))
+  pub lists : KeyedLists
   pub room : ℕ
 
 -- the node under a key of one list
@@ -18,7 +22,7 @@ first_of (Some node) other = Some node
 first_of None other = other
 
 -- the node under a key, in whichever list it stands
-abbrev pub node_at : ℕ → List (List (ℕ × Node)) → Option Node
+abbrev pub node_at : ℕ → KeyedLists → Option Node
 node_at key [] = None
 node_at key (rows ∷ lists) = first_of (node_in key rows) (node_at key lists)
 
@@ -32,60 +36,60 @@ abbrev pub without_key : ℕ → List (ℕ × Node) → List (ℕ × Node)
 without_key key rows = filter (λ row. not (row.0 == key)) rows
 
 -- the list of this number, counted from 0
-abbrev pub list_at : ℕ → List (List (ℕ × Node)) → List (ℕ × Node)
+abbrev pub list_at : ℕ → KeyedLists → List (ℕ × Node)
 list_at l lists = slice_index_or lists l []
 
 -- the row is pushed to the back of one list
-abbrev pub with_row : ℕ → ℕ × Node → List (List (ℕ × Node)) → List (List (ℕ × Node))
+abbrev pub with_row : ℕ → ℕ × Node → KeyedLists → KeyedLists
 with_row l row lists = slice_set lists l (list_at l lists ++ row ∷ [])
 
 -- how many rows stand in all lists
-abbrev pub row_count : List (List (ℕ × Node)) → ℕ
+abbrev pub row_count : KeyedLists → ℕ
 row_count [] = 0
 row_count (rows ∷ lists) = length rows + row_count lists
 
 -- the first row of one list is removed, where there is one
-abbrev pub PopsFront : ℕ → List (List (ℕ × Node)) → Option (ℕ × Node) → List (List (ℕ × Node)) → Type 0
+abbrev pub PopsFront : ℕ → KeyedLists → Option (ℕ × Node) → KeyedLists → Type 0
 PopsFront l old None new = (list_at l old ≡ []) × (new ≡ old)
 PopsFront l old (Some row) new = (rest : List (ℕ × Node)) × (list_at l old ≡ row ∷ rest)
     × (new ≡ slice_set old l rest)
 
 -- the node moves to the back of one list, and keeps its key
-abbrev pub moved_back : ℕ → ℕ → Node → List (List (ℕ × Node)) → List (List (ℕ × Node))
+abbrev pub moved_back : ℕ → ℕ → Node → KeyedLists → KeyedLists
 moved_back key l node lists = with_row l (key, node) (map (without_key key) lists)
 
 -- the key's node moves to the back of one list
-abbrev pub MovesBack : ℕ → ℕ → List (List (ℕ × Node)) → List (List (ℕ × Node)) → Type 0
+abbrev pub MovesBack : ℕ → ℕ → KeyedLists → KeyedLists → Type 0
 MovesBack key l old new = (node : Node) → node_at key old ≡ Some node → new ≡ moved_back key l node old
 
 -- the first of these rows of one list moves to the back of another, where there is one
-abbrev pub first_row_moved : ℕ → ℕ → List (List (ℕ × Node)) → List (ℕ × Node) → List (List (ℕ × Node))
+abbrev pub first_row_moved : ℕ → ℕ → KeyedLists → List (ℕ × Node) → KeyedLists
 first_row_moved from to lists [] = lists
 first_row_moved from to lists (row ∷ rest) = with_row to row (slice_set lists from rest)
 
 -- the first row of one list moves to the back of another, where there is one
-abbrev pub front_moved : ℕ → ℕ → List (List (ℕ × Node)) → List (List (ℕ × Node))
+abbrev pub front_moved : ℕ → ℕ → KeyedLists → KeyedLists
 front_moved from to lists = first_row_moved from to lists (list_at from lists)
 
 -- all rows of one list move to the back of another, in their order
-abbrev pub appended : ℕ → ℕ → List (List (ℕ × Node)) → List (List (ℕ × Node))
+abbrev pub appended : ℕ → ℕ → KeyedLists → KeyedLists
 appended from to lists = slice_set (slice_set lists from []) to (list_at to lists ++ list_at from lists)
 
 -- wherever the key stands, this is the key after it, or none where it is the last one
-abbrev pub IsNext : ℕ → List (List (ℕ × Node)) → Option ℕ → Type 0
+abbrev pub IsNext : ℕ → KeyedLists → Option ℕ → Type 0
 IsNext key lists found =
     (l : ℕ) (front : List (ℕ × Node)) (node : Node) (rest : List (ℕ × Node))
     → l < length lists → list_at l lists ≡ front ++ (key, node) ∷ rest → found ≡ first_key rest
 
 -- wherever the key stands, its node has these rounds, and all else stays
-abbrev pub SetsRounds : ℕ → ℕ → List (List (ℕ × Node)) → List (List (ℕ × Node)) → Type 0
+abbrev pub SetsRounds : ℕ → ℕ → KeyedLists → KeyedLists → Type 0
 SetsRounds key rounds old new =
     (l : ℕ) (front : List (ℕ × Node)) (node : Node) (rest : List (ℕ × Node))
     → l < length old → list_at l old ≡ front ++ (key, node) ∷ rest
     → new ≡ slice_set old l (front ++ (key, record node { rounds = rounds }) ∷ rest)
 
 -- wherever the key stands, it has this node, and all else stays
-abbrev pub SetsNode : ℕ → Node → List (List (ℕ × Node)) → List (List (ℕ × Node)) → Type 0
+abbrev pub SetsNode : ℕ → Node → KeyedLists → KeyedLists → Type 0
 SetsNode key node old new =
     (l : ℕ) (front : List (ℕ × Node)) (was : Node) (rest : List (ℕ × Node))
     → l < length old → list_at l old ≡ front ++ (key, was) ∷ rest
@@ -98,17 +102,17 @@ list_if_alone l [] (x ∷ xs) = None
 list_if_alone l (x ∷ xs) rest = None
 
 -- wherever the key stands, this is its list where no other row is in it, and else none
-abbrev pub IsAloneIn : ℕ → List (List (ℕ × Node)) → Option ℕ → Type 0
+abbrev pub IsAloneIn : ℕ → KeyedLists → Option ℕ → Type 0
 IsAloneIn key lists emptied =
     (l : ℕ) (front : List (ℕ × Node)) (node : Node) (rest : List (ℕ × Node))
     → l < length lists → list_at l lists ≡ front ++ (key, node) ∷ rest → emptied ≡ list_if_alone l front rest
 
 -- the node under the key has these rounds
-abbrev pub HasRounds : ℕ → List (List (ℕ × Node)) → ℕ → Type 0
+abbrev pub HasRounds : ℕ → KeyedLists → ℕ → Type 0
 HasRounds key lists rounds = (node : Node) → node_at key lists ≡ Some node → rounds ≡ node.rounds
 
 -- a row's key stands nowhere else
-abbrev pub AreApart : List (List (ℕ × Node)) → Type 0
+abbrev pub AreApart : KeyedLists → Type 0
 AreApart lists =
     (l : ℕ) (front : List (ℕ × Node)) (row : ℕ × Node) (rest : List (ℕ × Node))
     → l < length lists → list_at l lists ≡ front ++ row ∷ rest

@@ -10,7 +10,7 @@ use Rattle.timer_base.specs.OrderLaws.{either, in_order-newest, in_order-anywher
 use Rattle.timer_base.specs.Pending.{Entry, timer_of, timers_of, is_due_at, entries_due, put, has_handle, has_serial, first_timer, without_serial, without_found}
 use Rattle.timer_base.specs.WheelState.{WheelState, IsPending, after_start, after_stop, after_expiry, after_clear}
 use Rattle.timer_links.specs.declared.node.Node.{Node}
-use Rattle.timer_links.specs.Lists.{list_at, node_in, node_at, first_of, with_row, without_key, row_count, AreApart}
+use Rattle.timer_links.specs.Lists.{list_at, node_in, node_at, first_of, with_row, without_key, row_count, AreApart, KeyedLists}
 use Rattle.timer_wheels.specs.Buckets.{AddsRow}
 use Rattle.timer_wheels.specs.BucketLaws.{timers_of-entries}
 use Rattle.timer_wheels.specs.BucketLists.{timer_in, timers_in, entry_of, entries_of, rows_below, pending_in, wheel_state, ArePending, AreDue, AreInOrder, EachRow}
@@ -136,7 +136,7 @@ AreBelow-pending last_tick now last high rows h a = AreBelow-timers high rows
     (All-weaken (λ row. IsPending last_tick now last (timer_in row)) (λ row. (timer_in row).serial < high) rows
     (λ row p. newer last_tick now last high (timer_in row) h p) a)
 
-module _ (n last_tick now last bucket place : ℕ) (node : Node) (lists : List (List (ℕ × Node))) (h : bucket < n) (b : bucket < length lists)
+module _ (n last_tick now last bucket place : ℕ) (node : Node) (lists : KeyedLists) (h : bucket < n) (b : bucket < length lists)
     (fresh : last < node.timer.serial) (p : ArePending last_tick now last (rows_below n lists)) where
   inserted : IsInserted (place, node) (rows_below n lists) (rows_below n (with_row bucket (place, node) lists))
   inserted = rows_below-with_row n bucket (place, node) lists h b
@@ -172,7 +172,7 @@ module _ (n last_tick now last bucket place : ℕ) (node : Node) (lists : List (
       (IsNotAmong-below node.timer.serial (timers_in (rows_below n lists)) older) d
 
 -- A newest row is pushed to the back of one list: each list stays in order.
-pub in_order-with_row : (m l : ℕ) (row : ℕ × Node) (lists : List (List (ℕ × Node))) → l < length lists → 0 < (timer_in row).serial
+pub in_order-with_row : (m l : ℕ) (row : ℕ × Node) (lists : KeyedLists) → l < length lists → 0 < (timer_in row).serial
     → AreBelow (timer_in row).serial (timers_in (list_at l lists)) → AreInOrder m lists → AreInOrder m (with_row l row lists)
 in_order-with_row m l row lists b z older o s h = elim (cases_eq s l) [
   | inl e ↦ rw (e, get_or-set_same lists l (list_at l lists ++ row ∷ []) [] b, timers-append (list_at l lists) (row ∷ []))
@@ -182,7 +182,7 @@ in_order-with_row m l row lists b z older o s h = elim (cases_eq s l) [
 
 -- A wheel's own invariant, for each row.
 
-pub each-with_row : (fact : ℕ → ℕ × Node → Type 0) (n l : ℕ) (row : ℕ × Node) (lists : List (List (ℕ × Node))) → l < length lists
+pub each-with_row : (fact : ℕ → ℕ × Node → Type 0) (n l : ℕ) (row : ℕ × Node) (lists : KeyedLists) → l < length lists
     → fact l row → EachRow fact n lists → EachRow fact n (with_row l row lists)
 each-with_row fact n l row lists b f a s h = elim (cases_eq s l) [
   | inl e ↦ rw (e, get_or-set_same lists l (list_at l lists ++ row ∷ []) [] b)
@@ -190,23 +190,23 @@ each-with_row fact n l row lists b f a s h = elim (cases_eq s l) [
   | inr x ↦ rw (get_or-set_other lists l s (list_at l lists ++ row ∷ []) [] x) (a s h)
 ]
 
-pub each-added : (fact : ℕ → ℕ × Node → Type 0) (n l : ℕ) (row : ℕ × Node) (old new : List (List (ℕ × Node))) → AddsRow n l row old new
+pub each-added : (fact : ℕ → ℕ × Node → Type 0) (n l : ℕ) (row : ℕ × Node) (old new : KeyedLists) → AddsRow n l row old new
     → fact l row → EachRow fact n old → EachRow fact n new
 each-added fact n l row old new d f a s h = elim (cases_eq s l) [
   | inl e ↦ rw (e, d.here) (all-append (fact l) (list_at l old) (row ∷ []) (a l (rw (← e) h)) (f, tt))
   | inr x ↦ rw (d.others s h x) (a s h)
 ]
 
-pub each-without_key : (fact : ℕ → ℕ × Node → Type 0) (n key : ℕ) (lists : List (List (ℕ × Node))) → EachRow fact n lists
+pub each-without_key : (fact : ℕ → ℕ × Node → Type 0) (n key : ℕ) (lists : KeyedLists) → EachRow fact n lists
     → EachRow fact n (map (without_key key) lists)
 each-without_key fact n key lists a s h = rw (list_at-without_key s key lists)
     (All-filter (fact s) (fact s) (λ r. not (r.0 == key)) (list_at s lists) (λ r e f. f) (a s h))
 
-pub each-same : (fact : ℕ → ℕ × Node → Type 0) (n : ℕ) (old new : List (List (ℕ × Node)))
+pub each-same : (fact : ℕ → ℕ × Node → Type 0) (n : ℕ) (old new : KeyedLists)
     → ((s : ℕ) → s < n → list_at s new ≡ list_at s old) → EachRow fact n old → EachRow fact n new
 each-same fact n old new e a s h = rw (e s h) (a s h)
 
-pub each-none : (fact : ℕ → ℕ × Node → Type 0) (n : ℕ) (lists : List (List (ℕ × Node))) → ((s : ℕ) → s < n → list_at s lists ≡ [])
+pub each-none : (fact : ℕ → ℕ × Node → Type 0) (n : ℕ) (lists : KeyedLists) → ((s : ℕ) → s < n → list_at s lists ≡ [])
     → EachRow fact n lists
 each-none fact n lists e s h = rw (e s h) tt
 
@@ -218,7 +218,7 @@ no_rows (x ∷ xs) e = absurd (cc)
 -- The rows after those of the buckets.
 
 -- the lists of a wheel are its buckets and one more
-pub row_count-parts : (n : ℕ) (lists : List (List (ℕ × Node))) → length lists ≡ n + 1
+pub row_count-parts : (n : ℕ) (lists : KeyedLists) → length lists ≡ n + 1
     → row_count lists ≡ length (rows_below n lists) + length (list_at n lists)
 row_count-parts zero [] e = absurd (omega arith)
 row_count-parts zero (x ∷ []) e = omega arith
@@ -252,7 +252,7 @@ first_of-assoc None b c = refl
 first_of-assoc (Some n) b c = refl
 
 -- each key is that of a pending timer or of one that is due
-pub node_at-parts : (n key : ℕ) (lists : List (List (ℕ × Node))) → length lists ≡ n + 1
+pub node_at-parts : (n key : ℕ) (lists : KeyedLists) → length lists ≡ n + 1
     → node_at key lists ≡ first_of (node_in key (rows_below n lists)) (node_in key (list_at n lists))
 node_at-parts zero key [] l = absurd (omega arith)
 node_at-parts zero key (x ∷ []) l = first_of-none (node_in key x)
@@ -268,7 +268,7 @@ node_at-parts (suc n) key (x ∷ xs) l =
 abbrev pub HasNode : ℕ → Option Node → ℕ × Node → Type 0
 HasNode key found row = row.0 ≡ key → Some row.1 ≡ found
 
-pub apart_from : (lists : List (List (ℕ × Node))) (l key : ℕ) (front rows : List (ℕ × Node)) → AreApart lists → l < length lists
+pub apart_from : (lists : KeyedLists) (l key : ℕ) (front rows : List (ℕ × Node)) → AreApart lists → l < length lists
     → list_at l lists ≡ front ++ rows → AllByRecursion (HasNode key (node_at key lists)) rows
 apart_from lists l key front [] a b e = tt
 apart_from lists l key front (x ∷ xs) a b e = (
@@ -276,7 +276,7 @@ apart_from lists l key front (x ∷ xs) a b e = (
   apart_from lists l key (front ++ x ∷ []) xs a b (e ∙ sym (append_assoc front (x ∷ []) xs)),
 )
 
-pub apart_rows : (n key : ℕ) (lists : List (List (ℕ × Node))) → n ≤ length lists → AreApart lists
+pub apart_rows : (n key : ℕ) (lists : KeyedLists) → n ≤ length lists → AreApart lists
     → AllByRecursion (HasNode key (node_at key lists)) (rows_below n lists)
 apart_rows n key lists b a = all-rows_below (HasNode key (node_at key lists)) n lists
     (λ s h. apart_from lists s key [] (list_at s lists) a (omega arith) refl)
@@ -288,11 +288,11 @@ abbrev pub AreLater : ℕ → List (ℕ × Node) → Type 0
 AreLater now rows = AllByRecursion (λ row. now < (timer_in row).deadline) rows
 
 -- the rows of the first n lists are after the tick, and those of the next list are not
-pub record IsSeparated (now n : ℕ) (lists : List (List (ℕ × Node))) : Type 0 where
+pub record IsSeparated (now n : ℕ) (lists : KeyedLists) : Type 0 where
   pub later : AreLater now (rows_below n lists)
   pub past : AreDue now (list_at n lists)
 
-pub separated : (last_tick now last n : ℕ) (lists : List (List (ℕ × Node))) → ArePending last_tick now last (rows_below n lists)
+pub separated : (last_tick now last n : ℕ) (lists : KeyedLists) → ArePending last_tick now last (rows_below n lists)
     → AreDue now (list_at n lists) → IsSeparated now n lists
 separated last_tick now last n lists p q = record {
   later = All-weaken (λ row. IsPending last_tick now last (timer_in row)) (λ row. now < (timer_in row).deadline) (rows_below n lists)
@@ -325,7 +325,7 @@ pending_part now key node None due a h e = absurd (not_past now key node due a h
 pending_part now key node (Some n) due a h e = e
 
 -- it stands among the pending ones
-pending_there : (now n key : ℕ) (node : Node) (lists : List (List (ℕ × Node))) → length lists ≡ n + 1 → IsSeparated now n lists
+pending_there : (now n key : ℕ) (node : Node) (lists : KeyedLists) → length lists ≡ n + 1 → IsSeparated now n lists
     → now < node.timer.deadline → node_at key lists ≡ Some node → node_in key (rows_below n lists) ≡ Some node
 pending_there now n key node lists len p h e = pending_part now key node (node_in key (rows_below n lists)) (list_at n lists) p.past h
     (sym (node_at-parts n key lists len) ∙ e)
@@ -490,7 +490,7 @@ same_part key node (x ∷ xs) a e d = elim (cases_eq x.0 key) [
       same_there key node x xs d.0 k f (same_part key node xs a.1 f d.1)
 ]
 
-pub stopped : (n last_tick now last key : ℕ) (node : Node) (lists : List (List (ℕ × Node))) → length lists ≡ n + 1 → IsSeparated now n lists
+pub stopped : (n last_tick now last key : ℕ) (node : Node) (lists : KeyedLists) → length lists ≡ n + 1 → IsSeparated now n lists
     → AreApart lists → now < node.timer.deadline → node_at key lists ≡ Some node → AreDistinct (timers_in (rows_below n lists))
     → wheel_state n last_tick now last (map (without_key key) lists) ≡ (let w : WheelState = wheel_state n last_tick now last lists
     in record w { pending = without_found (Some node.timer) w.pending })
@@ -511,18 +511,18 @@ stopped n last_tick now last key node lists len p apart h e d =
     list_at-without_key n key lists ∙ due_without now key node (list_at n lists) p.past h due_each in
     rw (a, b) refl
 
-pub stopped-pending : (n last_tick now last key : ℕ) (lists : List (List (ℕ × Node))) → ArePending last_tick now last (rows_below n lists)
+pub stopped-pending : (n last_tick now last key : ℕ) (lists : KeyedLists) → ArePending last_tick now last (rows_below n lists)
     → ArePending last_tick now last (rows_below n (map (without_key key) lists))
 stopped-pending n last_tick now last key lists p = rw (rows_below-without_key n key lists)
     (All-filter (λ (row : ℕ × Node). IsPending last_tick now last (timer_in row)) (λ (row : ℕ
     × Node). IsPending last_tick now last (timer_in row)) (λ (r : ℕ × Node). not (r.0 == key)) (rows_below n lists) (λ r e f. f) p)
 
-pub stopped-distinct : (n key : ℕ) (lists : List (List (ℕ × Node))) → AreDistinct (timers_in (rows_below n lists))
+pub stopped-distinct : (n key : ℕ) (lists : KeyedLists) → AreDistinct (timers_in (rows_below n lists))
     → AreDistinct (timers_in (rows_below n (map (without_key key) lists)))
 stopped-distinct n key lists d = rw (rows_below-without_key n key lists)
     (AreDistinct-part (λ (r : ℕ × Node). not (r.0 == key)) (rows_below n lists) d)
 
-pub stopped-in_order : (m key : ℕ) (lists : List (List (ℕ × Node))) → AreInOrder m lists → AreInOrder m (map (without_key key) lists)
+pub stopped-in_order : (m key : ℕ) (lists : KeyedLists) → AreInOrder m lists → AreInOrder m (map (without_key key) lists)
 stopped-in_order m key lists o s h = rw (list_at-without_key s key lists)
     (AreRising-part (λ (r : ℕ × Node). not (r.0 == key)) 0 (list_at s lists) (o s h))
 
@@ -536,7 +536,7 @@ list_at-replicate (suc k) (suc s) = list_at-replicate k s
 -- The node that a stop finds.
 
 -- the node under the key has this timer
-pub record HasTimer (now key : ℕ) (t : Timer) (lists : List (List (ℕ × Node))) : Type 0 where
+pub record HasTimer (now key : ℕ) (t : Timer) (lists : KeyedLists) : Type 0 where
   pub node : Node
   pub at : node_at key lists ≡ Some node
   pub timer : node.timer ≡ t
@@ -548,7 +548,7 @@ no_timer t e = cc
 same_timer : (a b : Timer) → Some a ≡ Some b → a ≡ b
 same_timer a b e = cc
 
-module _ (now n : ℕ) (handle : Handle) (lists : List (List (ℕ × Node))) (len : length lists
+module _ (now n : ℕ) (handle : Handle) (lists : KeyedLists) (len : length lists
     ≡ n + 1) (p : IsSeparated now n lists) (apart : AreApart lists) where
   each_has : (found : Option Node) → node_at handle.place lists ≡ found → AllByRecursion (HasNode handle.place found) (rows_below n lists)
   each_has found e = subst (λ (o : Option Node). AllByRecursion (HasNode handle.place o) (rows_below n lists)) e
@@ -578,7 +578,7 @@ module _ (now n : ℕ) (handle : Handle) (lists : List (List (ℕ × Node))) (le
       → first_timer (has_handle handle) (pending_in (rows_below n lists)) ≡ Some t → HasTimer now handle.place t lists
   look-has t d h = look-timer t (node_at handle.place lists) refl d h
 
-  pub stop-found : (last_tick last : ℕ) (t : Timer) (new : List (List (ℕ × Node))) → AreDistinct (timers_in (rows_below n lists))
+  pub stop-found : (last_tick last : ℕ) (t : Timer) (new : KeyedLists) → AreDistinct (timers_in (rows_below n lists))
       → first_timer (has_handle handle) (pending_in (rows_below n lists)) ≡ Some t → new ≡ map (without_key handle.place) lists
       → wheel_state n last_tick now last new ≡ after_stop handle (wheel_state n last_tick now last lists)
   stop-found last_tick last t new d h e =
@@ -590,13 +590,13 @@ module _ (now n : ℕ) (handle : Handle) (lists : List (List (ℕ × Node))) (le
 
 -- What is due stays due.
 
-pub past-with_row : (now n bucket : ℕ) (row : ℕ × Node) (lists : List (List (ℕ × Node))) → bucket < n → AreDue now (list_at n lists)
+pub past-with_row : (now n bucket : ℕ) (row : ℕ × Node) (lists : KeyedLists) → bucket < n → AreDue now (list_at n lists)
     → AreDue now (list_at n (with_row bucket row lists))
 past-with_row now n bucket row lists h a =
     let m : n ≢ bucket = omega arith in
     subst (AreDue now) (sym (get_or-set_other lists bucket n (list_at bucket lists ++ row ∷ []) [] m)) a
 
-pub past-without_key : (now n key : ℕ) (lists : List (List (ℕ × Node))) → AreDue now (list_at n lists)
+pub past-without_key : (now n key : ℕ) (lists : KeyedLists) → AreDue now (list_at n lists)
     → AreDue now (list_at n (map (without_key key) lists))
 past-without_key now n key lists a = rw (list_at-without_key n key lists)
     (All-filter (λ (row : ℕ × Node). (timer_in row).deadline ≡ now) (λ (row : ℕ × Node). (timer_in row).deadline
@@ -624,7 +624,7 @@ none_past now (x ∷ xs) e = absurd (cc)
 
 -- An expiry.
 
-module _ (n : ℕ) (row : ℕ × Node) (rest : List (ℕ × Node)) (lists : List (List (ℕ × Node))) (len : length lists
+module _ (n : ℕ) (row : ℕ × Node) (rest : List (ℕ × Node)) (lists : KeyedLists) (len : length lists
     ≡ n + 1) (e : list_at n lists ≡ row ∷ rest) where
   expired-due : list_at n (slice_set lists n rest) ≡ rest
   expired-due = get_or-set_same lists n rest [] (omega arith)
@@ -651,11 +651,11 @@ module _ (n : ℕ) (row : ℕ × Node) (rest : List (ℕ × Node)) (lists : List
 
 -- A clear.
 
-pub cleared : (n last_tick now last : ℕ) (old new : List (List (ℕ × Node))) → ((s : ℕ) → s < n → list_at s new ≡ [])
+pub cleared : (n last_tick now last : ℕ) (old new : KeyedLists) → ((s : ℕ) → s < n → list_at s new ≡ [])
     → list_at n new ≡ list_at n old → wheel_state n last_tick now last new ≡ after_clear (wheel_state n last_tick now last old)
 cleared n last_tick now last old new e d = rw (rows_below-none n new e, d) refl
 
-pub cleared-in_order : (n : ℕ) (old new : List (List (ℕ × Node))) → ((s : ℕ) → s < n → list_at s new ≡ []) → list_at n new ≡ list_at n old
+pub cleared-in_order : (n : ℕ) (old new : KeyedLists) → ((s : ℕ) → s < n → list_at s new ≡ []) → list_at n new ≡ list_at n old
     → AreInOrder (n + 1) old → AreInOrder (n + 1) new
 cleared-in_order n old new e d o s h = elim (cases_eq s n) [
   | inl q ↦ rw (q, d) (o n (omega arith))

@@ -6,7 +6,7 @@ use Rattle.std.proofs.lemmas.Bool.{cases_eq}
 use Rattle.std.proofs.lemmas.List.{map-append, set-get_or}
 use Rattle.timer_base.specs.OrderLaws.{All-weaken}
 use Rattle.timer_links.specs.declared.node.Node.{Node}
-use Rattle.timer_links.specs.Lists.{node_at, first_key, list_at, row_count, AreApart, IsNext, HasRounds, SetsRounds}
+use Rattle.timer_links.specs.Lists.{node_at, first_key, list_at, row_count, AreApart, IsNext, HasRounds, SetsRounds, KeyedLists}
 use Rattle.timer_wheels.specs.Revolutions.{HasRoundsLeft, with_fewer_rounds}
 use Rattle.timer_wheels.proofs.RowLemmas.{all-append, all-rest, append-nil}
 use Rattle.timer_wheels.proofs.WalkLemmas.{IsWalking, IsNextRow, begun, next_row, found, in_use, walked, ended_count, set_twice, length-list_at, some_none, same_key}
@@ -14,25 +14,25 @@ use Rattle.timer_wheels.proofs.WalkLemmas.{IsWalking, IsNextRow, begun, next_row
 -- The fewest rounds.
 
 -- the rows so far have at least so many rounds
-pub record IsMeasuring (l step : ℕ) (lists : List (List (ℕ × Node))) (at : Option ℕ) (most fewest : ℕ) : Type 0 where
+pub record IsMeasuring (l step : ℕ) (lists : KeyedLists) (at : Option ℕ) (most fewest : ℕ) : Type 0 where
   pub past : List (ℕ × Node)
   pub walk : IsWalking l step lists at past
   pub at_most : fewest ≤ most
   pub each : AllByRecursion (HasRoundsLeft fewest) past
 
-pub measured-none : (l : ℕ) (lists : List (List (ℕ × Node))) (at : Option ℕ) (most : ℕ) → at ≡ first_key (list_at l lists)
+pub measured-none : (l : ℕ) (lists : KeyedLists) (at : Option ℕ) (most : ℕ) → at ≡ first_key (list_at l lists)
     → IsMeasuring l 0 lists at most most
 measured-none l lists at most e = record { past = []; walk = begun l lists at e; at_most = omega arith; each = tt }
 
 fewer_left : (a b : ℕ) (rows : List (ℕ × Node)) → b ≤ a → AllByRecursion (HasRoundsLeft a) rows → AllByRecursion (HasRoundsLeft b) rows
 fewer_left a b rows h f = All-weaken (HasRoundsLeft a) (HasRoundsLeft b) rows (λ row k. omega arith) f
 
-pub measured-in_use : (l step : ℕ) (lists : List (List (ℕ × Node))) (b : l < length lists) (a : AreApart lists) (key : ℕ) (at : Option ℕ)
+pub measured-in_use : (l step : ℕ) (lists : KeyedLists) (b : l < length lists) (a : AreApart lists) (key : ℕ) (at : Option ℕ)
     (most fewest : ℕ)
     → (m : IsMeasuring l step lists at most fewest) → at ≡ Some key → IsSome (node_at key lists)
 measured-in_use l step lists b a key at most fewest m e = in_use l step lists b a key m.past (next_row l step lists at key m.past m.walk e)
 
-pub measured-one : (l step : ℕ) (lists : List (List (ℕ × Node))) (b : l < length lists) (a : AreApart lists) (key : ℕ) (at next : Option ℕ)
+pub measured-one : (l step : ℕ) (lists : KeyedLists) (b : l < length lists) (a : AreApart lists) (key : ℕ) (at next : Option ℕ)
     (most fewest rounds less : ℕ)
     → (m : IsMeasuring l step lists at most fewest) → at ≡ Some key → HasRounds key lists rounds → IsNext key lists next
     → less ≡ min fewest rounds
@@ -51,26 +51,26 @@ measured-one l step lists b a key at next most fewest rounds less m e r n k =
       );
     }
 
-pub measured-end : (l step : ℕ) (lists : List (List (ℕ × Node))) (at : Option ℕ) (most fewest : ℕ)
+pub measured-end : (l step : ℕ) (lists : KeyedLists) (at : Option ℕ) (most fewest : ℕ)
     → (m : IsMeasuring l step lists at most fewest)
     → list_at l lists ≡ m.past → AllByRecursion (HasRoundsLeft fewest) (list_at l lists)
 measured-end l step lists at most fewest m e =
     let P : List (ℕ × Node) → Type 0 = AllByRecursion (HasRoundsLeft fewest) in subst P (sym e) m.each
 
-pub measured-enough : (l step : ℕ) (lists : List (List (ℕ × Node))) (at : Option ℕ) (most fewest : ℕ)
+pub measured-enough : (l step : ℕ) (lists : KeyedLists) (at : Option ℕ) (most fewest : ℕ)
     → IsMeasuring l step lists at most fewest → row_count lists ≤ step
     → AllByRecursion (HasRoundsLeft fewest) (list_at l lists)
 measured-enough l step lists at most fewest m h = measured-end l step lists at most fewest m (ended_count l step lists at m.past m.walk h)
 
 -- the rows of the lists so far have at least so many rounds
-pub record AreMeasured (count : ℕ) (lists : List (List (ℕ × Node))) (most fewest : ℕ) : Type 0 where
+pub record AreMeasured (count : ℕ) (lists : KeyedLists) (most fewest : ℕ) : Type 0 where
   pub at_most : fewest ≤ most
   pub each : (s : ℕ) → s < count → AllByRecursion (HasRoundsLeft fewest) (list_at s lists)
 
-pub none-measured : (lists : List (List (ℕ × Node))) (most : ℕ) → AreMeasured 0 lists most most
+pub none-measured : (lists : KeyedLists) (most : ℕ) → AreMeasured 0 lists most most
 none-measured lists most = record { at_most = omega arith; each = λ s h. absurd (omega arith) }
 
-pub one-measured : (l : ℕ) (lists : List (List (ℕ × Node))) (most fewest less : ℕ) → AreMeasured l lists most fewest → less ≤ fewest
+pub one-measured : (l : ℕ) (lists : KeyedLists) (most fewest less : ℕ) → AreMeasured l lists most fewest → less ≤ fewest
     → AllByRecursion (HasRoundsLeft less) (list_at l lists) → AreMeasured (l + 1) lists most less
 one-measured l lists most fewest less m h f = record {
   at_most = (let top : fewest ≤ most = m.at_most in omega arith);
@@ -86,7 +86,7 @@ abbrev fewer : ℕ → List (ℕ × Node) → List (ℕ × Node)
 fewer k rows = map (with_fewer_rounds k) rows
 
 -- these rows have lost their rounds, and those are left
-pub record IsCounting (l step k : ℕ) (old lists : List (List (ℕ × Node))) (at : Option ℕ) : Type 0 where
+pub record IsCounting (l step k : ℕ) (old lists : KeyedLists) (at : Option ℕ) : Type 0 where
   pub past : List (ℕ × Node)
   pub left : List (ℕ × Node)
   pub rows : list_at l old ≡ past ++ left
@@ -94,7 +94,7 @@ pub record IsCounting (l step k : ℕ) (old lists : List (List (ℕ × Node))) (
   pub next : at ≡ first_key left
   pub steps : length past ≡ step
 
-pub counting-begun : (l k : ℕ) (old : List (List (ℕ × Node))) (at : Option ℕ) → at ≡ first_key (list_at l old) → IsCounting l 0 k old old at
+pub counting-begun : (l k : ℕ) (old : KeyedLists) (at : Option ℕ) → at ≡ first_key (list_at l old) → IsCounting l 0 k old old at
 counting-begun l k old at e = record {
   past = [];
   left = list_at l old;
@@ -105,7 +105,7 @@ counting-begun l k old at e = record {
 }
 
 -- the next row
-pub record IsNextLeft (l step k : ℕ) (old lists : List (List (ℕ × Node))) (key : ℕ) : Type 0 where
+pub record IsNextLeft (l step k : ℕ) (old lists : KeyedLists) (key : ℕ) : Type 0 where
   pub past : List (ℕ × Node)
   pub node : Node
   pub rest : List (ℕ × Node)
@@ -113,7 +113,7 @@ pub record IsNextLeft (l step k : ℕ) (old lists : List (List (ℕ × Node))) (
   pub is : lists ≡ slice_set old l (fewer k past ++ (key, node) ∷ rest)
   pub steps : length past ≡ step
 
-left_of : (l step k : ℕ) (old lists : List (List (ℕ × Node))) (key : ℕ) (past left : List (ℕ × Node)) → list_at l old ≡ past ++ left
+left_of : (l step k : ℕ) (old lists : KeyedLists) (key : ℕ) (past left : List (ℕ × Node)) → list_at l old ≡ past ++ left
     → lists ≡ slice_set old l (fewer k past ++ left) → Some key ≡ first_key left → length past ≡ step → IsNextLeft l step k old lists key
 left_of l step k old lists key past [] r i e c = absurd (some_none key e)
 left_of l step k old lists key past (x ∷ xs) r i e c =
@@ -128,7 +128,7 @@ left_of l step k old lists key past (x ∷ xs) r i e c =
       steps = c;
     }
 
-pub next_left : (l step k : ℕ) (old lists : List (List (ℕ × Node))) (at : Option ℕ) (key : ℕ) → IsCounting l step k old lists at
+pub next_left : (l step k : ℕ) (old lists : KeyedLists) (at : Option ℕ) (key : ℕ) → IsCounting l step k old lists at
     → at ≡ Some key
     → IsNextLeft l step k old lists key
 next_left l step k old lists at key s e = left_of l step k old lists key s.past s.left s.rows s.is (sym e ∙ s.next) s.steps
@@ -137,7 +137,7 @@ none_counted : (left : List (ℕ × Node)) → length left ≤ 0 → left ≡ []
 none_counted [] h = refl
 none_counted (x ∷ xs) h = absurd (omega arith)
 
-counting-end : (l k : ℕ) (old lists : List (List (ℕ × Node))) (past left : List (ℕ × Node)) → list_at l old ≡ past ++ left
+counting-end : (l k : ℕ) (old lists : KeyedLists) (past left : List (ℕ × Node)) → list_at l old ≡ past ++ left
     → lists ≡ slice_set old l (fewer k past ++ left)
     → left ≡ [] → lists ≡ slice_set old l (fewer k (list_at l old))
 counting-end l k old lists past left r i e =
@@ -145,7 +145,7 @@ counting-end l k old lists past left r i e =
     i ∙ (ap (λ (y : List (ℕ × Node)). slice_set old l (fewer k past ++ y)) e
     ∙ (ap (slice_set old l) (append-nil (fewer k past)) ∙ ap (λ (y : List (ℕ × Node)). slice_set old l (fewer k y)) (sym all)))
 
-pub counting-enough : (l step k : ℕ) (old lists : List (List (ℕ × Node))) (at : Option ℕ) → IsCounting l step k old lists at
+pub counting-enough : (l step k : ℕ) (old lists : KeyedLists) (at : Option ℕ) → IsCounting l step k old lists at
     → row_count old ≤ step
     → lists ≡ slice_set old l (fewer k (list_at l old))
 counting-enough l step k old lists at s h =
@@ -155,7 +155,7 @@ counting-enough l step k old lists at s h =
     let c : length s.past ≡ step = s.steps in
     counting-end l k old lists s.past s.left s.rows s.is (none_counted s.left (omega arith))
 
-module _ (l step k : ℕ) (old lists : List (List (ℕ × Node))) (b : l < length old) (key : ℕ) (w : IsNextLeft l step k old lists key) where
+module _ (l step k : ℕ) (old lists : KeyedLists) (b : l < length old) (key : ℕ) (w : IsNextLeft l step k old lists key) where
   pub counting-in_range : l < length lists
   counting-in_range = rw (w.is, length-set old l (fewer k w.past ++ (key, w.node) ∷ w.rest)) b
 
@@ -176,7 +176,7 @@ module _ (l step k : ℕ) (old lists : List (List (ℕ × Node))) (b : l < lengt
       let here : k ≤ w.node.rounds = (all-rest (HasRoundsLeft k) w.past ((key, w.node) ∷ w.rest) (subst P w.rows f)).0 in
       omega arith
 
-  pub counting-one : (rounds less : ℕ) (new : List (List (ℕ × Node))) (next : Option ℕ) → AreApart lists → HasRounds key lists rounds
+  pub counting-one : (rounds less : ℕ) (new : KeyedLists) (next : Option ℕ) → AreApart lists → HasRounds key lists rounds
       → less ≡ rounds - k
       → SetsRounds key less lists new → IsNext key lists next → IsCounting l (step + 1) k old new next
   counting-one rounds less new next a r e t n =
@@ -192,7 +192,7 @@ module _ (l step k : ℕ) (old lists : List (List (ℕ × Node))) (b : l < lengt
         rows = w.rows ∙ sym (append_assoc w.past ((key, w.node) ∷ []) w.rest);
         is =
             t l (fewer k w.past) w.node w.rest counting-in_range counting-standing
-            ∙ (ap (λ (y : List (List (ℕ × Node))). slice_set y l (fewer k w.past ++ (key, record w.node { rounds = less }) ∷ w.rest)) w.is
+            ∙ (ap (λ (y : KeyedLists). slice_set y l (fewer k w.past ++ (key, record w.node { rounds = less }) ∷ w.rest)) w.is
             ∙ (set_twice old l (fewer k w.past ++ (key, w.node) ∷ w.rest) (fewer k w.past
             ++ (key, record w.node { rounds = less }) ∷ w.rest)
             ∙ ap (slice_set old l)
@@ -205,19 +205,19 @@ module _ (l step k : ℕ) (old lists : List (List (ℕ × Node))) (b : l < lengt
       }
 
 -- the lists so far have lost their rounds, and the others are unchanged
-pub record AreCounted (count k : ℕ) (old new : List (List (ℕ × Node))) : Type 0 where
+pub record AreCounted (count k : ℕ) (old new : KeyedLists) : Type 0 where
   pub same_length : length new ≡ length old
   pub counted : (s : ℕ) → s < count → list_at s new ≡ fewer k (list_at s old)
   pub others : (s : ℕ) → count ≤ s → list_at s new ≡ list_at s old
 
-pub none-counted : (k : ℕ) (lists : List (List (ℕ × Node))) → AreCounted 0 k lists lists
+pub none-counted : (k : ℕ) (lists : KeyedLists) → AreCounted 0 k lists lists
 none-counted k lists = record { same_length = refl; counted = λ s h. absurd (omega arith); others = λ s h. refl }
 
-pub one-counted : (l k : ℕ) (old new more : List (List (ℕ × Node))) → l < length old → AreCounted l k old new
+pub one-counted : (l k : ℕ) (old new more : KeyedLists) → l < length old → AreCounted l k old new
     → more ≡ slice_set new l (fewer k (list_at l new))
     → AreCounted (l + 1) k old more
 one-counted l k old new more b a e = record {
-  same_length = ap (λ (y : List (List (ℕ × Node))). length y) e ∙ (length-set new l (fewer k (list_at l new)) ∙ a.same_length);
+  same_length = ap (λ (y : KeyedLists). length y) e ∙ (length-set new l (fewer k (list_at l new)) ∙ a.same_length);
   counted = λ s h. elim (cases_eq s l) [
     | inl q ↦
         ap (λ (y : ℕ). list_at y more) q
@@ -230,7 +230,7 @@ one-counted l k old new more b a e = record {
       ∙ a.others s (omega arith));
 }
 
-pub still_enough : (l count k : ℕ) (old new : List (List (ℕ × Node))) → l < count → AreCounted l k old new
+pub still_enough : (l count k : ℕ) (old new : KeyedLists) → l < count → AreCounted l k old new
     → ((s : ℕ) → s < count → AllByRecursion (HasRoundsLeft k) (list_at s old)) → AllByRecursion (HasRoundsLeft k) (list_at l new)
 still_enough l count k old new h a f =
     let P : List (ℕ × Node) → Type 0 = AllByRecursion (HasRoundsLeft k) in subst P (sym (a.others l (omega arith))) (f l h)

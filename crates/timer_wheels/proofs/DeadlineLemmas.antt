@@ -13,7 +13,7 @@ use Rattle.timer_base.specs.PlainState.{earliest}
 use Rattle.timer_base.specs.WakeUps.{next_deadline}
 use Rattle.timer_base.specs.WheelState.{IsPending}
 use Rattle.timer_links.specs.declared.node.Node.{Node}
-use Rattle.timer_links.specs.Lists.{first_key, list_at, node_at, AreApart}
+use Rattle.timer_links.specs.Lists.{first_key, list_at, node_at, AreApart, KeyedLists}
 use Rattle.timer_wheels.specs.BucketLists.{timer_in, timers_in, entry_of, pending_in, rows_below}
 use Rattle.timer_wheels.specs.Buckets.{state_of}
 use Rattle.timer_wheels.specs.Deadlines.{HasDeadline, IsLeast, IsLeastDeadline}
@@ -79,16 +79,16 @@ least-one t = record { has = inl refl; none_earlier = (omega arith, tt) }
 
 -- The walk along one list.
 
-pub record IsSeeking (l step : ℕ) (lists : List (List (ℕ × Node))) (at least : Option ℕ) : Type 0 where
+pub record IsSeeking (l step : ℕ) (lists : KeyedLists) (at least : Option ℕ) : Type 0 where
   pub past : List (ℕ × Node)
   pub walk : IsWalking l step lists at past
   pub is_least : IsLeastDeadline least (timers_in past)
 
-pub seeking-begun : (l : ℕ) (lists : List (List (ℕ × Node))) (at : Option ℕ) → at ≡ first_key (list_at l lists)
+pub seeking-begun : (l : ℕ) (lists : KeyedLists) (at : Option ℕ) → at ≡ first_key (list_at l lists)
     → IsSeeking l 0 lists at None
 seeking-begun l lists at e = record { past = []; walk = begun l lists at e; is_least = refl }
 
-pub seeking-one : (l step : ℕ) (lists : List (List (ℕ × Node))) (b : l < length lists) (a : AreApart lists) (key : ℕ)
+pub seeking-one : (l step : ℕ) (lists : KeyedLists) (b : l < length lists) (a : AreApart lists) (key : ℕ)
     (at next least more : Option ℕ) (node : Node) → (s : IsSeeking l step lists at least) → at ≡ Some key → Some node ≡ node_at key lists
     → more ≡ earliest least (Some node.timer.deadline)
     → ((w : IsNextRow l step lists key s.past) → next ≡ first_key w.rest) → IsSeeking l (step + 1) lists next more
@@ -107,13 +107,13 @@ seeking-one l step lists b a key at next least more node s e f m n =
           (sym (timers-append s.past ((key, w.node) ∷ []))) both);
     }
 
-pub sought : (l step : ℕ) (lists : List (List (ℕ × Node))) (at least : Option ℕ) → (s : IsSeeking l step lists at least)
+pub sought : (l step : ℕ) (lists : KeyedLists) (at least : Option ℕ) → (s : IsSeeking l step lists at least)
     → list_at l lists ≡ s.past → IsLeastDeadline least (timers_in (list_at l lists))
 sought l step lists at least s e = subst (λ (rows : List (ℕ × Node)). IsLeastDeadline least (timers_in rows)) (sym e) s.is_least
 
 -- Several lists.
 
-pub least-more : (n : ℕ) (lists : List (List (ℕ × Node))) (least one more : Option ℕ) → n < length lists
+pub least-more : (n : ℕ) (lists : KeyedLists) (least one more : Option ℕ) → n < length lists
     → IsLeastDeadline least (timers_in (rows_below n lists)) → IsLeastDeadline one (timers_in (list_at n lists)) → more ≡ earliest least one
     → IsLeastDeadline more (timers_in (rows_below (n + 1) lists))
 least-more n lists least one more b l m e =
@@ -259,7 +259,7 @@ of_timers d [] a = tt
 of_timers d (r ∷ rs) a = (a.0, of_timers d rs a.1)
 
 -- what one list has, all have together
-has_below : (d n l : ℕ) (lists : List (List (ℕ × Node))) → l < n → l < length lists → HasDeadline d (timers_in (list_at l lists))
+has_below : (d n l : ℕ) (lists : KeyedLists) → l < n → l < length lists → HasDeadline d (timers_in (list_at l lists))
     → HasDeadline d (timers_in (rows_below n lists))
 has_below d n l lists k m h =
     let w = around n l lists k m in

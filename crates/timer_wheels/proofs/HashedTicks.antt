@@ -11,7 +11,7 @@ use Rattle.timer_base.specs.OrderLaws.{filter-in_order, in_order-same, AllAt, Ar
 use Rattle.timer_base.specs.Pending.{Entry, timer_of, is_due_at, entries_due, entries_left}
 use Rattle.timer_base.specs.WheelState.{IsPending, after_tick}
 use Rattle.timer_links.specs.declared.node.Node.{Node}
-use Rattle.timer_links.specs.Lists.{list_at}
+use Rattle.timer_links.specs.Lists.{list_at, KeyedLists}
 use Rattle.timer_wheels.specs.BucketLaws.{timers_of-entries}
 use Rattle.timer_wheels.specs.BucketLists.{timer_in, timers_in, entry_of, entries_of, rows_below, pending_in, wheel_state, ArePending, AreInOrder}
 use Rattle.timer_wheels.specs.Hashed.{IsInBucket, AreInBuckets, rounds_of}
@@ -190,7 +190,7 @@ all-due n now (x ∷ xs) a = elim (cases_eq x.1.rounds 0) [
 
 -- All lists.
 
-pub entries_below : (p : Entry → Bool) (n : ℕ) (old new : List (List (ℕ × Node))) → length old ≡ length new
+pub entries_below : (p : Entry → Bool) (n : ℕ) (old new : KeyedLists) → length old ≡ length new
     → ((t : ℕ) → t < n → entries_of (list_at t new) ≡ filter p (entries_of (list_at t old)))
     → entries_of (rows_below n new) ≡ filter p (entries_of (rows_below n old))
 entries_below p zero old new e h = refl
@@ -217,7 +217,7 @@ pub both : (P Q : ℕ × Node → Type 0) (rows : List (ℕ × Node)) → AllByR
 both P Q [] a b = tt
 both P Q (x ∷ xs) a b = ((a.0, b.0), both P Q xs a.1 b.1)
 
-module _ (n last_tick now last : ℕ) (lists : List (List (ℕ × Node))) (z : 0 < n) (len : length lists
+module _ (n last_tick now last : ℕ) (lists : KeyedLists) (z : 0 < n) (len : length lists
     ≡ n + 1) (p : ArePending last_tick now last (rows_below n lists)) (b : AreInBuckets n now lists) (none : list_at n lists ≡ []) where
   below : (now + 1) % n < n
   below = omega arith
@@ -351,7 +351,7 @@ pub next_slot : (n now slot next : ℕ) → slot ≡ now % n → next ≡ (slot 
 next_slot n now slot next e f = f ∙ (ap (λ (y : ℕ). (y + 1) % n) e ∙ mod-add-mod now n 1)
 
 -- another name for the number of slots and the tick
-pub same_frame : (n now m tick : ℕ) (lists : List (List (ℕ × Node))) → m ≡ n → tick ≡ now → AreInBuckets n now lists
+pub same_frame : (n now m tick : ℕ) (lists : KeyedLists) → m ≡ n → tick ≡ now → AreInBuckets n now lists
     → AreInBuckets m tick lists
 same_frame n now m tick lists e f a = subst (λ (k : ℕ). AreInBuckets k tick lists) (sym e)
     (subst (λ (k : ℕ). AreInBuckets n k lists) (sym f) a)

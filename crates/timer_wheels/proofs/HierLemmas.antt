@@ -8,8 +8,7 @@ use Rattle.timer_base.specs.declared.limits.TheConstants.{LAST}
 use Rattle.timer_base.specs.OrderLaws.{either}
 use Rattle.timer_base.specs.Pending.{Entry, put, without_found}
 use Rattle.timer_base.specs.WheelState.{WheelState, empty_wheel, after_start, after_stop, timer_at, after_withdrawal}
-use Rattle.timer_links.specs.declared.node.Node.{Node}
-use Rattle.timer_links.specs.Lists.{list_at, with_row, without_key}
+use Rattle.timer_links.specs.Lists.{list_at, with_row, without_key, KeyedLists}
 use Rattle.timer_wheels.specs.declared.buckets.Buckets.{Buckets}
 use Rattle.timer_wheels.specs.Buckets.{state_of, IsSameFrame}
 use Rattle.timer_wheels.specs.Digits.{slots, level, bucket, last_of}
@@ -91,7 +90,7 @@ module _ (table : List ℕ) (old new : Buckets) where
   started_placed list place t h at p e f =
       let Q : ℕ → Type 0 = λ k. EachRow (IsPlaced table k) new.slots new.links.lists in
       let R : ℕ → Type 0 = λ k. EachRow (IsPlaced table old.tick) k new.links.lists in
-      let P : List (List (ℕ × Node)) → Type 0 = λ lists. EachRow (IsPlaced table old.tick) old.slots lists in
+      let P : KeyedLists → Type 0 = λ lists. EachRow (IsPlaced table old.tick) old.slots lists in
       let len : length old.links.lists ≡ old.slots + 1 = old.has_lists in
       subst Q (sym f.tick) (subst R (sym f.slots) (subst P (sym e)
       (each-with_row (IsPlaced table old.tick) old.slots list (
@@ -122,12 +121,12 @@ module _ (table : List ℕ) (old new : Buckets) where
 
   -- A stop.
 
-  placed_lists : (now key n : ℕ) (found : Option Timer) (before after : List (List (ℕ × Node)))
+  placed_lists : (now key n : ℕ) (found : Option Timer) (before after : KeyedLists)
       → MatchOption found (after ≡ before) (λ t. after ≡ map (without_key key) before) → EachRow (IsPlaced table now) n before
       → EachRow (IsPlaced table now) n after
-  placed_lists now key n None before after m p = let P : List (List (ℕ × Node)) → Type 0 = λ lists. EachRow (IsPlaced table now) n lists
+  placed_lists now key n None before after m p = let P : KeyedLists → Type 0 = λ lists. EachRow (IsPlaced table now) n lists
       in subst P (sym m) p
-  placed_lists now key n (Some t) before after m p = let P : List (List (ℕ × Node)) → Type 0 = λ lists. EachRow (IsPlaced table now) n lists
+  placed_lists now key n (Some t) before after m p = let P : KeyedLists → Type 0 = λ lists. EachRow (IsPlaced table now) n lists
       in subst P (sym m) (each-without_key (IsPlaced table now) n key before p)
 
   pub stopped_placed : (key : ℕ) (found : Option Timer) → MatchOption found (new.links.lists ≡ old.links.lists) (λ t. new.links.lists

@@ -10,7 +10,7 @@ use Rattle.timer_base.specs.OrderLaws.{either, map-in_order, in_order-same, AllA
 use Rattle.timer_base.specs.Pending.{Entry, timer_of, is_due_at, entries_due, entries_left}
 use Rattle.timer_base.specs.WheelState.{WheelState, IsPending, after_tick}
 use Rattle.timer_links.specs.declared.node.Node.{Node}
-use Rattle.timer_links.specs.Lists.{list_at}
+use Rattle.timer_links.specs.Lists.{list_at, KeyedLists}
 use Rattle.timer_wheels.specs.Digits.{IsTable, HasDigits, level, lowest, slots_below, slots, bucket, emptied, hops, last_of, BucketAtTick}
 use Rattle.timer_wheels.proofs.DigitLaws.{bucket_at_tick, digits_down, emptied_in_range}
 use Rattle.timer_wheels.specs.BucketLists.{timer_in, timers_in, entry_of, entries_of, rows_below, pending_in, ArePending, AreInOrder, EachRow, wheel_state}
@@ -22,7 +22,7 @@ use Rattle.timer_wheels.proofs.BucketLemmas.{filter-pending_in, AreRising-part}
 use Rattle.timer_wheels.proofs.MigrationLemmas.{target_due, target_left, migrate_rows-length, to_list, list_at-migrate_rows, Distinct, distinct-filter, in_order-pulled, distinct-pulled, GoesDown, AreMigrated, migrate_rows_keeps}
 
 -- the invariant of a hierarchical wheel before a tick
-pub record IsBefore (table : List ℕ) (last_tick a last_serial : ℕ) (lists : List (List (ℕ × Node))) : Type 0 where
+pub record IsBefore (table : List ℕ) (last_tick a last_serial : ℕ) (lists : KeyedLists) : Type 0 where
   pub is_table : IsTable table
   pub digits : HasDigits table last_tick
   pub before_last : a < last_tick
@@ -217,7 +217,7 @@ all_row_hops table a (x ∷ xs) h = elim (either (is_due_at (a + 1) (timer_in x)
 
 -- The tick.
 
-module _ (table : List ℕ) (last_tick a last_serial : ℕ) (lists : List (List (ℕ × Node)))
+module _ (table : List ℕ) (last_tick a last_serial : ℕ) (lists : KeyedLists)
     (b : IsBefore table last_tick a last_serial lists) where
   -- the list that is emptied, its rows, and how many slots the wheels below it have
   abbrev l : ℕ
@@ -229,10 +229,10 @@ module _ (table : List ℕ) (last_tick a last_serial : ℕ) (lists : List (List 
   abbrev m : ℕ
   m = slots_below (lowest table (a + 1)) table
 
-  abbrev base : List (List (ℕ × Node))
+  abbrev base : KeyedLists
   base = slice_set lists (emptied table (a + 1)) []
 
-  abbrev after : List (List (ℕ × Node))
+  abbrev after : KeyedLists
   after = migrated table (a + 1) (emptied table (a + 1)) lists
 
   tick_digits : HasDigits table (a + 1)
@@ -596,7 +596,7 @@ state last_tick tick last_serial pending due = record {
   room = 0;
 }
 
-pub record IsNext (table : List ℕ) (n last_tick a last_serial moves : ℕ) (lists new : List (List (ℕ × Node))) : Type 0 where
+pub record IsNext (table : List ℕ) (n last_tick a last_serial moves : ℕ) (lists new : KeyedLists) : Type 0 where
   pub has_lists : length new ≡ n + 1
   pub pending : ArePending last_tick (a + 1) last_serial (rows_below n new)
   pub distinct : AreDistinct (timers_in (rows_below n new))
@@ -610,7 +610,7 @@ same_state : (last_tick tick last_serial : ℕ) (p q d e : List Entry) → p ≡
     → state last_tick tick last_serial p d ≡ state last_tick tick last_serial q e
 same_state last_tick tick last_serial p q d e h k = cc
 
-next_here : (table : List ℕ) (last_tick a last_serial moves : ℕ) (lists new : List (List (ℕ × Node)))
+next_here : (table : List ℕ) (last_tick a last_serial moves : ℕ) (lists new : KeyedLists)
     → IsBefore table last_tick a last_serial lists
     → new ≡ migrated table (a + 1) (emptied table (a + 1)) lists
     → moves ≡ length (left_rows (a + 1) (list_at (emptied table (a + 1)) lists))
@@ -619,9 +619,9 @@ next_here table last_tick a last_serial moves lists new b e g =
     let hops : moves ≡ hops_of table a 1 (pending_in (rows_below (slots table) lists)) =
     g ∙ after-moves table last_tick a last_serial lists b in
     let left : pending_in (rows_below (slots table) new) ≡ entries_left (a + 1) (pending_in (rows_below (slots table) lists)) =
-    ap (λ (y : List (List (ℕ × Node))). pending_in (rows_below (slots table) y)) e ∙ after-left table last_tick a last_serial lists b in
+    ap (λ (y : KeyedLists). pending_in (rows_below (slots table) y)) e ∙ after-left table last_tick a last_serial lists b in
     let due_is : entries_of (list_at (slots table) new) ≡ entries_due (a + 1) (pending_in (rows_below (slots table) lists)) =
-    ap (λ (y : List (List (ℕ × Node))). entries_of (list_at (slots table) y)) e ∙ after-due table last_tick a last_serial lists b in
+    ap (λ (y : KeyedLists). entries_of (list_at (slots table) y)) e ∙ after-due table last_tick a last_serial lists b in
     let levels : levels_of table (a + 1) (pending_in (rows_below (slots table) new))
     ≡ levels_of table (a + 1) (entries_left (a + 1) (pending_in (rows_below (slots table) lists))) = ap (levels_of table (a + 1)) left
     in
@@ -631,14 +631,14 @@ next_here table last_tick a last_serial moves lists new b e g =
     = levels_pay table a (pending_in (rows_below (slots table) lists))
     (all_fall table last_tick a last_serial (rows_below (slots table) lists) b.is_table b.digits b.pending) in
     record {
-      has_lists = ap (λ (y : List (List (ℕ × Node))). length y) e ∙ after-length table last_tick a last_serial lists b;
-      pending = (let P : List (List (ℕ × Node)) → Type 0 = λ y. ArePending last_tick (a + 1) last_serial (rows_below (slots table) y)
+      has_lists = ap (λ (y : KeyedLists). length y) e ∙ after-length table last_tick a last_serial lists b;
+      pending = (let P : KeyedLists → Type 0 = λ y. ArePending last_tick (a + 1) last_serial (rows_below (slots table) y)
           in subst P (sym e) (after-pending table last_tick a last_serial lists b));
-      distinct = (let P : List (List (ℕ × Node)) → Type 0 = λ y. AreDistinct (timers_in (rows_below (slots table) y))
+      distinct = (let P : KeyedLists → Type 0 = λ y. AreDistinct (timers_in (rows_below (slots table) y))
           in subst P (sym e) (after-distinct table last_tick a last_serial lists b));
-      in_order = (let P : List (List (ℕ × Node)) → Type 0 = AreInOrder (slots table + 1)
+      in_order = (let P : KeyedLists → Type 0 = AreInOrder (slots table + 1)
           in subst P (sym e) (after-in_order table last_tick a last_serial lists b));
-      placed = (let P : List (List (ℕ × Node)) → Type 0 = EachRow (IsPlaced table (a + 1)) (slots table)
+      placed = (let P : KeyedLists → Type 0 = EachRow (IsPlaced table (a + 1)) (slots table)
           in subst P (sym e) (after-placed table last_tick a last_serial lists b));
       ticked = same_state last_tick (a + 1) last_serial (pending_in (rows_below (slots table) new))
           (entries_left (a + 1) (pending_in (rows_below (slots table) lists))) (entries_of (list_at (slots table) new))
@@ -647,7 +647,7 @@ next_here table last_tick a last_serial moves lists new b e g =
       pays = omega arith;
     }
 
-pub next_of : (table : List ℕ) (n last_tick a last_serial moves : ℕ) (lists new : List (List (ℕ × Node))) → n ≡ slots table
+pub next_of : (table : List ℕ) (n last_tick a last_serial moves : ℕ) (lists new : KeyedLists) → n ≡ slots table
     → IsBefore table last_tick a last_serial lists
     → new ≡ migrated table (a + 1) (emptied table (a + 1)) lists
     → moves ≡ length (left_rows (a + 1) (list_at (emptied table (a + 1)) lists))
@@ -660,7 +660,7 @@ no_rows : (rows : List (ℕ × Node)) → entries_of rows ≡ [] → rows ≡ []
 no_rows [] e = refl
 no_rows (x ∷ xs) e = cc
 
-pub before_of : (table : List ℕ) (n last_tick a last_serial : ℕ) (lists : List (List (ℕ × Node))) → n ≡ slots table → IsTable table
+pub before_of : (table : List ℕ) (n last_tick a last_serial : ℕ) (lists : KeyedLists) → n ≡ slots table → IsTable table
     → HasDigits table last_tick → a < last_tick
     → length lists ≡ n + 1 → EachRow (IsPlaced table a) n lists → ArePending last_tick a last_serial (rows_below n lists)
     → AreDistinct (timers_in (rows_below n lists)) → AreInOrder (n + 1) lists → entries_of (list_at n lists) ≡ []

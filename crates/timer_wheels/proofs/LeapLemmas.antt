@@ -8,7 +8,7 @@ use Rattle.timer_base.specs.Pending.{Entry, timer_of}
 use Rattle.timer_base.specs.TickLaws.{AreAfter, passing_quiet, after_ticks-add, none_left_out}
 use Rattle.timer_base.specs.WheelState.{WheelState, IsPending, after_tick, after_ticks}
 use Rattle.timer_links.specs.declared.node.Node.{Node}
-use Rattle.timer_links.specs.Lists.{list_at}
+use Rattle.timer_links.specs.Lists.{list_at, KeyedLists}
 use Rattle.timer_wheels.specs.Digits.{IsTable, HasDigits, level, hops}
 use Rattle.timer_wheels.proofs.DigitLaws.{digits_down}
 use Rattle.timer_wheels.specs.Leap.{timer_visit, AreNotVisitedBefore, Leaps}
@@ -99,7 +99,7 @@ module _ (table : List ℕ) (last a visit n : ℕ) (i : IsTable table) (h : HasD
       → visit ≤ timer_visit table a (timer_in row).deadline → Waits table last a visit (timer_in row).deadline
   waiting_row last_serial row p q = record { later = p.later; in_range = p.in_range; not_before = q }
 
-  all_waiting : (k last_serial : ℕ) (lists : List (List (ℕ × Node))) → ArePending last a last_serial (rows_below k lists)
+  all_waiting : (k last_serial : ℕ) (lists : KeyedLists) → ArePending last a last_serial (rows_below k lists)
       → AreNotVisitedBefore table k a visit lists → (s : ℕ) → s < k
       → AllByRecursion (λ row. Waits table last a visit (timer_in row).deadline) (list_at s lists)
   all_waiting k last_serial lists p q s b = both (list_at s lists)
@@ -115,7 +115,7 @@ module _ (table : List ℕ) (last a visit n : ℕ) (i : IsTable table) (h : HasD
   entries_wait [] f = tt
   entries_wait (r ∷ rs) f = (f.0, entries_wait rs f.1)
 
-  module _ (k last_serial : ℕ) (lists : List (List (ℕ × Node))) (p : ArePending last a last_serial (rows_below k lists))
+  module _ (k last_serial : ℕ) (lists : KeyedLists) (p : ArePending last a last_serial (rows_below k lists))
       (q : AreNotVisitedBefore table k a visit lists) where
     pending_wait : AllByRecursion (λ e. Waits table last a visit e.timer.deadline) (pending_in (rows_below k lists))
     pending_wait = All-in_order timer_of (λ e. Waits table last a visit e.timer.deadline) (entries_of (rows_below k lists))

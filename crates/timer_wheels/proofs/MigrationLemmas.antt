@@ -8,7 +8,7 @@ use Rattle.timer_base.specs.Order.{AreDistinct, IsNotAmong, in_order, insert_in_
 use Rattle.timer_base.specs.OrderLaws.{either, in_order-anywhere}
 use Rattle.timer_base.specs.Pending.{is_due_at}
 use Rattle.timer_links.specs.declared.node.Node.{Node}
-use Rattle.timer_links.specs.Lists.{list_at, with_row}
+use Rattle.timer_links.specs.Lists.{list_at, with_row, KeyedLists}
 use Rattle.timer_wheels.specs.Digits.{slots, bucket}
 use Rattle.timer_wheels.specs.BucketLists.{timer_in, timers_in, rows_below}
 use Rattle.timer_wheels.specs.Migration.{target, migrate_rows, left_rows}
@@ -23,7 +23,7 @@ pub target_left : (table : List ℕ) (tick : ℕ) (row : ℕ × Node) → is_due
     → target table tick row ≡ bucket table tick (timer_in row).deadline
 target_left table tick row h = rw h refl
 
-pub migrate_rows-length : (table : List ℕ) (tick : ℕ) (rows : List (ℕ × Node)) (lists : List (List (ℕ × Node)))
+pub migrate_rows-length : (table : List ℕ) (tick : ℕ) (rows : List (ℕ × Node)) (lists : KeyedLists)
     → length (migrate_rows table tick rows lists) ≡ length lists
 migrate_rows-length table tick [] lists = refl
 migrate_rows-length table tick (x ∷ xs) lists = migrate_rows-length table tick xs (with_row (target table tick x) x lists)
@@ -34,11 +34,11 @@ abbrev pub to_list : List ℕ → ℕ → ℕ → List (ℕ × Node) → List (�
 to_list table tick s rows = filter (λ row. target table tick row == s) rows
 
 -- each list afterwards
-pub list_at-migrate_rows : (table : List ℕ) (tick s : ℕ) (rows : List (ℕ × Node)) (lists : List (List (ℕ × Node))) → s < length lists
+pub list_at-migrate_rows : (table : List ℕ) (tick s : ℕ) (rows : List (ℕ × Node)) (lists : KeyedLists) → s < length lists
     → list_at s (migrate_rows table tick rows lists) ≡ list_at s lists ++ to_list table tick s rows
 list_at-migrate_rows table tick s [] lists b = sym (append-nil (list_at s lists))
 list_at-migrate_rows table tick s (x ∷ xs) lists b =
-    let lists2 : List (List (ℕ × Node)) = with_row (target table tick x) x lists in
+    let lists2 : KeyedLists = with_row (target table tick x) x lists in
     let b2 : s < length lists2 = rw (length-set lists (target table tick x) (list_at (target table tick x) lists ++ x ∷ [])) b in
     let ih : list_at s (migrate_rows table tick xs lists2) ≡ list_at s lists2 ++ to_list table tick s xs =
     list_at-migrate_rows table tick s xs lists2 b2 in
@@ -132,7 +132,7 @@ distinct-pulled front (x ∷ xs) rest d =
 
 -- What is pending afterwards, in order.
 
-pub record AreMigrated (table : List ℕ) (tick : ℕ) (rows : List (ℕ × Node)) (lists : List (List (ℕ × Node))) : Type 0 where
+pub record AreMigrated (table : List ℕ) (tick : ℕ) (rows : List (ℕ × Node)) (lists : KeyedLists) : Type 0 where
   pub distinct : AreDistinct (timers_in (rows_below (slots table) (migrate_rows table tick rows lists)))
   pub pending : in_order timer_in (rows_below (slots table) (migrate_rows table tick rows lists))
       ≡ in_order timer_in (left_rows tick rows ++ rows_below (slots table) lists)
@@ -141,7 +141,7 @@ pub record AreMigrated (table : List ℕ) (tick : ℕ) (rows : List (ℕ × Node
 abbrev pub GoesDown : List ℕ → ℕ → ℕ × Node → Type 0
 GoesDown table tick row = is_due_at tick (timer_in row) ≡ false → bucket table tick (timer_in row).deadline < slots table
 
-migrate_rows_due : (table : List ℕ) (tick : ℕ) (x : ℕ × Node) (xs : List (ℕ × Node)) (lists : List (List (ℕ × Node)))
+migrate_rows_due : (table : List ℕ) (tick : ℕ) (x : ℕ × Node) (xs : List (ℕ × Node)) (lists : KeyedLists)
     → is_due_at tick (timer_in x) ≡ true → Distinct ((x ∷ xs) ++ rows_below (slots table) lists)
     → (Distinct (xs ++ rows_below (slots table) (with_row (slots table) x lists))
     → AreMigrated table tick xs (with_row (slots table) x lists)) → AreMigrated table tick (x ∷ xs) lists
@@ -159,7 +159,7 @@ kept_left : (tick : ℕ) (x : ℕ × Node) (xs rows : List (ℕ × Node)) → is
     → in_order timer_in (left_rows tick (x ∷ xs) ++ rows) ≡ insert_in_order timer_in x (in_order timer_in (left_rows tick xs ++ rows))
 kept_left tick x xs rows k = rw k refl
 
-migrate_rows_left : (table : List ℕ) (tick : ℕ) (x : ℕ × Node) (xs : List (ℕ × Node)) (lists : List (List (ℕ × Node))) (l : ℕ)
+migrate_rows_left : (table : List ℕ) (tick : ℕ) (x : ℕ × Node) (xs : List (ℕ × Node)) (lists : KeyedLists) (l : ℕ)
     → l ≡ bucket table tick (timer_in x).deadline → l < slots table → length lists ≡ slots table + 1 → is_due_at tick (timer_in x) ≡ false
     → Distinct ((x ∷ xs) ++ rows_below (slots table) lists)
     → (Distinct (xs ++ rows_below (slots table) (with_row l x lists)) → AreMigrated table tick xs (with_row l x lists))
@@ -181,8 +181,8 @@ migrate_rows_left table tick x xs lists l le b len k d ih =
     let n2 = among-front (timer_in x).serial i.front i.rest (among-rest (timer_in x).serial xs (i.front ++ i.rest) d1.0) in
     let w : with_row (target table tick x) x lists ≡ with_row l x lists =
     ap (λ (v : ℕ). with_row v x lists) (target_left table tick x k ∙ sym le) in
-    let S : List (List (ℕ × Node)) → Type 0 = λ ys. Distinct (rows_below (slots table) (migrate_rows table tick xs ys)) in
-    let T : List (List (ℕ × Node)) → Type 0 = λ ys. in_order timer_in (rows_below (slots table) (migrate_rows table tick xs ys))
+    let S : KeyedLists → Type 0 = λ ys. Distinct (rows_below (slots table) (migrate_rows table tick xs ys)) in
+    let T : KeyedLists → Type 0 = λ ys. in_order timer_in (rows_below (slots table) (migrate_rows table tick xs ys))
     ≡ in_order timer_in (ls ++ rows_below (slots table) (with_row l x lists)) in
     record {
       distinct = subst S (sym w) s.distinct;
@@ -196,7 +196,7 @@ migrate_rows_left table tick x xs lists l le b len k d ih =
           ∙ sym (kept_left tick x xs (rows_below (slots table) lists) k))))));
     }
 
-pub migrate_rows_keeps : (table : List ℕ) (tick : ℕ) (rows : List (ℕ × Node)) (lists : List (List (ℕ × Node)))
+pub migrate_rows_keeps : (table : List ℕ) (tick : ℕ) (rows : List (ℕ × Node)) (lists : KeyedLists)
     → length lists ≡ slots table + 1 → AllByRecursion (GoesDown table tick) rows → Distinct (rows ++ rows_below (slots table) lists)
     → AreMigrated table tick rows lists
 migrate_rows_keeps table tick [] lists len g d = record { distinct = d; pending = refl }

@@ -6,7 +6,7 @@ use Rattle.std.proofs.lemmas.List.{set-get_or}
 use Rattle.std.proofs.lemmas.Bool.{eq-eqb, ne_eqb}
 use Rattle.timer_base.specs.Pending.{is_due_at}
 use Rattle.timer_links.specs.declared.node.Node.{Node}
-use Rattle.timer_links.specs.Lists.{list_at, with_row, row_count, front_moved, first_row_moved, appended, node_at, first_key, AreApart, IsNext}
+use Rattle.timer_links.specs.Lists.{list_at, with_row, row_count, front_moved, first_row_moved, appended, node_at, first_key, AreApart, IsNext, KeyedLists}
 use Rattle.timer_wheels.specs.Digits.{slots, bucket, last_of}
 use Rattle.timer_wheels.specs.BucketLists.{timer_in}
 use Rattle.timer_wheels.specs.Migration.{target, migrate_rows, migrated, left_rows, first_deadline, second_deadline, MayMigrate, IsOfTick}
@@ -15,27 +15,27 @@ use Rattle.timer_wheels.proofs.RowLemmas.{append-nil}
 
 -- Lists that are updated twice.
 
-pub set_twice : (v : List (List (ℕ × Node))) (i : ℕ) (a b : List (ℕ × Node)) → slice_set (slice_set v i a) i b ≡ slice_set v i b
+pub set_twice : (v : KeyedLists) (i : ℕ) (a b : List (ℕ × Node)) → slice_set (slice_set v i a) i b ≡ slice_set v i b
 set_twice [] i a b = refl
 set_twice (x ∷ xs) zero a b = refl
-set_twice (x ∷ xs) (suc i) a b = ap (λ (y : List (List (ℕ × Node))). x ∷ y) (set_twice xs i a b)
+set_twice (x ∷ xs) (suc i) a b = ap (λ (y : KeyedLists). x ∷ y) (set_twice xs i a b)
 
-set_swapped : (v : List (List (ℕ × Node))) (i j : ℕ) (a b : List (ℕ × Node)) → i ≢ j
+set_swapped : (v : KeyedLists) (i j : ℕ) (a b : List (ℕ × Node)) → i ≢ j
     → slice_set (slice_set v i a) j b ≡ slice_set (slice_set v j b) i a
 set_swapped [] i j a b n = refl
 set_swapped (x ∷ xs) zero zero a b n = absurd (n refl)
 set_swapped (x ∷ xs) zero (suc j) a b n = refl
 set_swapped (x ∷ xs) (suc i) zero a b n = refl
-set_swapped (x ∷ xs) (suc i) (suc j) a b n = ap (λ (y : List (List (ℕ × Node))). x ∷ y)
+set_swapped (x ∷ xs) (suc i) (suc j) a b n = ap (λ (y : KeyedLists). x ∷ y)
     (set_swapped xs i j a b (λ (e : i ≡ j). n (ap (λ (k : ℕ). suc k) e)))
 
-pub length_list_at : (lists : List (List (ℕ × Node))) (l : ℕ) → length (list_at l lists) ≤ row_count lists
+pub length_list_at : (lists : KeyedLists) (l : ℕ) → length (list_at l lists) ≤ row_count lists
 length_list_at [] l = omega arith
 length_list_at (x ∷ xs) zero = omega arith
 length_list_at (x ∷ xs) (suc l) = let h : length (list_at l xs) ≤ row_count xs = length_list_at xs l in omega arith
 
 -- some rows of the list have moved, and moving the rest leads to the same lists
-pub record IsEmptying (table : List ℕ) (l tick step moves : ℕ) (old lists : List (List (ℕ × Node))) : Type 0 where
+pub record IsEmptying (table : List ℕ) (l tick step moves : ℕ) (old lists : KeyedLists) : Type 0 where
   pub leads : migrated table tick l lists ≡ migrated table tick l old
   pub has_lists : length lists ≡ length old
   pub rows : AllByRecursion (MayMigrate table tick l) (list_at l lists)
@@ -43,12 +43,12 @@ pub record IsEmptying (table : List ℕ) (l tick step moves : ℕ) (old lists : 
   pub few : moves ≤ step
   pub count : step + length (list_at l lists) ≡ length (list_at l old)
 
-module _ (table : List ℕ) (l tick : ℕ) (lists : List (List (ℕ × Node))) (row : ℕ
+module _ (table : List ℕ) (l tick : ℕ) (lists : KeyedLists) (row : ℕ
     × Node) (rest : List (ℕ × Node)) (b : l < length lists) (at : list_at l lists ≡ row ∷ rest) (n : target table tick row ≢ l) where
   abbrev to : ℕ
   to = target table tick row
 
-  abbrev after : List (List (ℕ × Node))
+  abbrev after : KeyedLists
   after = with_row (target table tick row) row (slice_set lists l rest)
 
   moved_is : front_moved l to lists ≡ after
@@ -65,7 +65,7 @@ module _ (table : List ℕ) (l tick : ℕ) (lists : List (List (ℕ × Node))) (
   emptied_is : slice_set after l [] ≡ with_row to row (slice_set lists l [])
   emptied_is =
       set_swapped (slice_set lists l rest) to l (list_at to (slice_set lists l rest) ++ row ∷ []) [] n
-      ∙ (ap (λ (y : List (List (ℕ × Node))). slice_set y to (list_at to (slice_set lists l rest) ++ row ∷ [])) (set_twice lists l rest [])
+      ∙ (ap (λ (y : KeyedLists). slice_set y to (list_at to (slice_set lists l rest) ++ row ∷ [])) (set_twice lists l rest [])
       ∙ ap (λ (y : List (ℕ × Node)). slice_set (slice_set lists l []) to (y ++ row ∷ [])) to_same)
 
   leads_same : migrated table tick l after ≡ migrated table tick l lists
@@ -86,7 +86,7 @@ left_more : (tick : ℕ) (row : ℕ × Node) (rest : List (ℕ × Node)) → is_
 left_more tick row rest k = rw k refl
 
 -- the first row, where there is one
-pub record IsFirstRow (table : List ℕ) (l tick d : ℕ) (lists : List (List (ℕ × Node))) : Type 0 where
+pub record IsFirstRow (table : List ℕ) (l tick d : ℕ) (lists : KeyedLists) : Type 0 where
   pub row : ℕ × Node
   pub rest : List (ℕ × Node)
   pub at : list_at l lists ≡ row ∷ rest
@@ -100,7 +100,7 @@ some_same a b e = cc
 some_none : (a : ℕ) → Some a ≡ None → ⊥
 some_none a e = cc
 
-first_in : (table : List ℕ) (l tick d : ℕ) (lists : List (List (ℕ × Node))) (rows : List (ℕ × Node)) → list_at l lists ≡ rows
+first_in : (table : List ℕ) (l tick d : ℕ) (lists : KeyedLists) (rows : List (ℕ × Node)) → list_at l lists ≡ rows
     → AllByRecursion (MayMigrate table tick l) rows → first_deadline rows ≡ Some d → IsFirstRow table l tick d lists
 first_in table l tick d lists [] at a e = absurd (some_none d (sym e))
 first_in table l tick d lists (row ∷ rest) at a e = record {
@@ -112,7 +112,7 @@ first_in table l tick d lists (row ∷ rest) at a e = record {
   others = a.1;
 }
 
-pub first_row : (table : List ℕ) (l tick step moves d : ℕ) (old lists : List (List (ℕ × Node)))
+pub first_row : (table : List ℕ) (l tick step moves d : ℕ) (old lists : KeyedLists)
     → IsEmptying table l tick step moves old lists → Some d ≡ first_deadline (list_at l lists) → IsFirstRow table l tick d lists
 first_row table l tick step moves d old lists s e = first_in table l tick d lists (list_at l lists) refl s.rows (sym e)
 
@@ -124,12 +124,12 @@ none_long : (rows : List (ℕ × Node)) → length rows ≤ 0 → rows ≡ []
 none_long [] h = refl
 none_long (x ∷ xs) h = absurd (omega arith)
 
-pub record IsEmptied (table : List ℕ) (l tick moves : ℕ) (old lists : List (List (ℕ × Node))) : Type 0 where
+pub record IsEmptied (table : List ℕ) (l tick moves : ℕ) (old lists : KeyedLists) : Type 0 where
   pub lists_are : lists ≡ migrated table tick l old
   pub moves_are : moves ≡ length (left_rows tick (list_at l old))
   pub emptied : list_at l lists ≡ []
 
-at_end : (table : List ℕ) (l tick step moves : ℕ) (old lists : List (List (ℕ × Node))) → IsEmptying table l tick step moves old lists
+at_end : (table : List ℕ) (l tick step moves : ℕ) (old lists : KeyedLists) → IsEmptying table l tick step moves old lists
     → list_at l lists ≡ [] → IsEmptied table l tick moves old lists
 at_end table l tick step moves old lists s e =
     let y : length (left_rows tick (list_at l lists)) ≡ 0 = ap (λ (y : List (ℕ × Node)). length (left_rows tick y)) e in
@@ -141,18 +141,18 @@ at_end table l tick step moves old lists s e =
       emptied = e;
     }
 
-pub ended_none : (table : List ℕ) (l tick step moves : ℕ) (old lists : List (List (ℕ × Node)))
+pub ended_none : (table : List ℕ) (l tick step moves : ℕ) (old lists : KeyedLists)
     → IsEmptying table l tick step moves old lists → None ≡ first_deadline (list_at l lists) → IsEmptied table l tick moves old lists
 ended_none table l tick step moves old lists s e = at_end table l tick step moves old lists s (none_first (list_at l lists) (sym e))
 
-pub ended_count : (table : List ℕ) (l tick step moves : ℕ) (old lists : List (List (ℕ × Node)))
+pub ended_count : (table : List ℕ) (l tick step moves : ℕ) (old lists : KeyedLists)
     → IsEmptying table l tick step moves old lists → row_count old ≤ step → IsEmptied table l tick moves old lists
 ended_count table l tick step moves old lists s h =
     let a : length (list_at l old) ≤ row_count old = length_list_at old l in
     let c : step + length (list_at l lists) ≡ length (list_at l old) = s.count in
     at_end table l tick step moves old lists s (none_long (list_at l lists) (omega arith))
 
-module _ (table : List ℕ) (l tick step moves d : ℕ) (old lists new : List (List (ℕ × Node))) (b : l < length old)
+module _ (table : List ℕ) (l tick step moves d : ℕ) (old lists new : KeyedLists) (b : l < length old)
     (s : IsEmptying table l tick step moves old lists) (f : IsFirstRow table l tick d lists) where
   b2 : l < length lists
   b2 = let e : length lists ≡ length old = s.has_lists in omega arith
@@ -178,7 +178,7 @@ module _ (table : List ℕ) (l tick step moves d : ℕ) (old lists new : List (L
       record {
         leads = ap (migrated table tick l) (new_is to q e) ∙ (leads_same table l tick lists f.row f.rest b2 f.at f.first.elsewhere
             ∙ s.leads);
-        has_lists = ap (λ (y : List (List (ℕ × Node))). length y) (new_is to q e)
+        has_lists = ap (λ (y : KeyedLists). length y) (new_is to q e)
             ∙ (length_same table l tick lists f.row f.rest b2 f.at f.first.elsewhere ∙ s.has_lists);
         rows = subst (AllByRecursion (MayMigrate table tick l)) (sym r) f.others;
         moves_are = ap (λ (y : List (ℕ × Node)). moves2 + length (left_rows tick y)) r
@@ -238,7 +238,7 @@ module _ (table : List ℕ) (l tick step moves d : ℕ) (old lists new : List (L
 
 -- A bucket whose rows are all due moves as a whole.
 
-migrate_rows_whole : (table : List ℕ) (tick : ℕ) (rows : List (ℕ × Node)) (lists : List (List (ℕ × Node))) → slots table < length lists
+migrate_rows_whole : (table : List ℕ) (tick : ℕ) (rows : List (ℕ × Node)) (lists : KeyedLists) → slots table < length lists
     → AllByRecursion (IsOfTick tick) rows → migrate_rows table tick rows lists
     ≡ slice_set lists (slots table) (list_at (slots table) lists ++ rows)
 migrate_rows_whole table tick [] lists b a = sym (ap (slice_set lists (slots table)) (append-nil (list_at (slots table) lists))
@@ -246,7 +246,7 @@ migrate_rows_whole table tick [] lists b a = sym (ap (slice_set lists (slots tab
 migrate_rows_whole table tick (x ∷ xs) lists b a =
     let to : target table tick x ≡ slots table = target_due table tick x (eq-eqb (timer_in x).deadline tick a.0) in
     let had : List (ℕ × Node) = list_at (slots table) lists in
-    let more : List (List (ℕ × Node)) = with_row (slots table) x lists in
+    let more : KeyedLists = with_row (slots table) x lists in
     let b2 : slots table < length more = rw (length-set lists (slots table) (list_at (slots table) lists ++ x ∷ [])) b in
     ap (λ (k : ℕ). migrate_rows table tick xs (with_row k x lists)) to
     ∙ (migrate_rows_whole table tick xs more b2 a.1
@@ -254,14 +254,14 @@ migrate_rows_whole table tick (x ∷ xs) lists b a =
     ∙ (set_twice lists (slots table) (had ++ x ∷ []) ((had ++ x ∷ []) ++ xs)
     ∙ ap (slice_set lists (slots table)) (append_assoc had (x ∷ []) xs))))
 
-migrated_whole : (table : List ℕ) (tick l : ℕ) (lists : List (List (ℕ × Node))) → slots table < length lists → slots table ≢ l
+migrated_whole : (table : List ℕ) (tick l : ℕ) (lists : KeyedLists) → slots table < length lists → slots table ≢ l
     → AllByRecursion (IsOfTick tick) (list_at l lists) → migrated table tick l lists ≡ appended l (slots table) lists
 migrated_whole table tick l lists b n a =
     migrate_rows_whole table tick (list_at l lists) (slice_set lists l []) (rw (length-set lists l []) b) a
     ∙ ap (λ (y : List (ℕ × Node)). slice_set (slice_set lists l []) (slots table) (y ++ list_at l lists))
     (get_or-set_other lists l (slots table) [] [] n)
 
-pub append_whole : (table : List ℕ) (k tick l : ℕ) (lists : List (List (ℕ × Node))) → k ≡ slots table → length lists ≡ slots table + 1
+pub append_whole : (table : List ℕ) (k tick l : ℕ) (lists : KeyedLists) → k ≡ slots table → length lists ≡ slots table + 1
     → l < slots table → AllByRecursion (IsOfTick tick) (list_at l lists) → appended l k lists ≡ migrated table tick l lists
 append_whole table k tick l lists e b h a =
     let n : slots table ≢ l = λ (x : slots table ≡ l). omega arith in
@@ -273,12 +273,12 @@ none_left_over tick (x ∷ xs) a = rw (eq-eqb (timer_in x).deadline tick a.0) (n
 
 -- The first row by its key.
 
-pub record IsFront (l key : ℕ) (lists : List (List (ℕ × Node))) : Type 0 where
+pub record IsFront (l key : ℕ) (lists : KeyedLists) : Type 0 where
   pub node : Node
   pub found : node_at key lists ≡ Some node
   pub first : first_deadline (list_at l lists) ≡ Some node.timer.deadline
 
-front_in : (l key : ℕ) (lists : List (List (ℕ × Node))) (rows : List (ℕ × Node)) → list_at l lists ≡ rows → AreApart lists
+front_in : (l key : ℕ) (lists : KeyedLists) (rows : List (ℕ × Node)) → list_at l lists ≡ rows → AreApart lists
     → l < length lists → first_key rows ≡ Some key → IsFront l key lists
 front_in l key lists [] at a b e = absurd (some_none key (sym e))
 front_in l key lists (row ∷ rest) at a b e =
@@ -289,7 +289,7 @@ front_in l key lists (row ∷ rest) at a b e =
       first = ap first_deadline at;
     }
 
-pub front_of : (l key : ℕ) (lists : List (List (ℕ × Node))) → AreApart lists → l < length lists → Some key ≡ first_key (list_at l lists)
+pub front_of : (l key : ℕ) (lists : KeyedLists) → AreApart lists → l < length lists → Some key ≡ first_key (list_at l lists)
     → IsFront l key lists
 front_of l key lists a b e = front_in l key lists (list_at l lists) refl a b (sym e)
 
@@ -299,25 +299,25 @@ none_some_node n e = cc
 some_node : (m n : Node) → Some m ≡ Some n → m ≡ n
 some_node m n e = cc
 
-pub never_none : (l key : ℕ) (lists : List (List (ℕ × Node))) → IsFront l key lists → None ≡ node_at key lists → ⊥
+pub never_none : (l key : ℕ) (lists : KeyedLists) → IsFront l key lists → None ≡ node_at key lists → ⊥
 never_none l key lists f e = none_some_node f.node (e ∙ f.found)
 
-pub front_deadline_is : (l key : ℕ) (node : Node) (lists : List (List (ℕ × Node))) → IsFront l key lists → Some node ≡ node_at key lists
+pub front_deadline_is : (l key : ℕ) (node : Node) (lists : KeyedLists) → IsFront l key lists → Some node ≡ node_at key lists
     → Some node.timer.deadline ≡ first_deadline (list_at l lists)
 front_deadline_is l key node lists f e = ap (λ (n : Node). Some n.timer.deadline) (some_node node f.node (e ∙ f.found)) ∙ sym f.first
 
-pub front_in_use : (l key : ℕ) (lists : List (List (ℕ × Node))) → IsFront l key lists → IsSome (node_at key lists)
+pub front_in_use : (l key : ℕ) (lists : KeyedLists) → IsFront l key lists → IsSome (node_at key lists)
 front_in_use l key lists f = rw f.found refl
 
 -- The second row, which is read ahead.
 
-pub record IsSecond (l key : ℕ) (lists : List (List (ℕ × Node))) : Type 0 where
+pub record IsSecond (l key : ℕ) (lists : KeyedLists) : Type 0 where
   pub node : Node
   pub found : node_at key lists ≡ Some node
   pub second : second_deadline (list_at l lists) ≡ Some node.timer.deadline
 
 -- the row behind the first one, under this key
-second_in : (l first : ℕ) (next : Option ℕ) (lists : List (List (ℕ × Node))) (rows : List (ℕ × Node)) → list_at l lists ≡ rows
+second_in : (l first : ℕ) (next : Option ℕ) (lists : KeyedLists) (rows : List (ℕ × Node)) → list_at l lists ≡ rows
     → AreApart lists → l < length lists → first_key rows ≡ Some first → IsNext first lists next
     → (key : ℕ) → next ≡ Some key → IsSecond l key lists
 second_in l first next lists [] at a b e n key w = absurd (some_none first (sym e))
@@ -334,12 +334,12 @@ second_in l first next lists (row ∷ other ∷ rest) at a b e n key w =
       second = ap second_deadline at;
     }
 
-pub second_of : (l first key : ℕ) (next : Option ℕ) (lists : List (List (ℕ × Node))) → AreApart lists → l < length lists
+pub second_of : (l first key : ℕ) (next : Option ℕ) (lists : KeyedLists) → AreApart lists → l < length lists
     → Some first ≡ first_key (list_at l lists) → IsNext first lists next → next ≡ Some key → IsSecond l key lists
 second_of l first key next lists a b e n w = second_in l first next lists (list_at l lists) refl a b (sym e) n key w
 
 -- no row is behind the first one
-none_second : (l first : ℕ) (next : Option ℕ) (lists : List (List (ℕ × Node))) (rows : List (ℕ × Node)) → list_at l lists ≡ rows
+none_second : (l first : ℕ) (next : Option ℕ) (lists : KeyedLists) (rows : List (ℕ × Node)) → list_at l lists ≡ rows
     → l < length lists → first_key rows ≡ Some first → IsNext first lists next → next ≡ None → None ≡ second_deadline rows
 none_second l first next lists [] at b e n w = refl
 none_second l first next lists (row ∷ []) at b e n w = refl
@@ -347,13 +347,13 @@ none_second l first next lists (row ∷ other ∷ rest) at b e n w =
     let k : row.0 ≡ first = some_same row.0 first e in
     absurd (some_none other.0 (sym (n l [] row.1 (other ∷ rest) b (at ∙ ap (λ (x : ℕ). (x, row.1) ∷ other ∷ rest) k)) ∙ w))
 
-pub no_second : (l first : ℕ) (next : Option ℕ) (lists : List (List (ℕ × Node))) → l < length lists
+pub no_second : (l first : ℕ) (next : Option ℕ) (lists : KeyedLists) → l < length lists
     → Some first ≡ first_key (list_at l lists) → IsNext first lists next → next ≡ None → None ≡ second_deadline (list_at l lists)
 no_second l first next lists b e n w = none_second l first next lists (list_at l lists) refl b (sym e) n w
 
-pub second_there : (l key : ℕ) (lists : List (List (ℕ × Node))) → IsSecond l key lists → None ≡ node_at key lists → ⊥
+pub second_there : (l key : ℕ) (lists : KeyedLists) → IsSecond l key lists → None ≡ node_at key lists → ⊥
 second_there l key lists f e = none_some_node f.node (e ∙ f.found)
 
-pub next_deadline_is : (l key : ℕ) (node : Node) (lists : List (List (ℕ × Node))) → IsSecond l key lists → Some node ≡ node_at key lists
+pub next_deadline_is : (l key : ℕ) (node : Node) (lists : KeyedLists) → IsSecond l key lists → Some node ≡ node_at key lists
     → Some node.timer.deadline ≡ second_deadline (list_at l lists)
 next_deadline_is l key node lists f e = ap (λ (n : Node). Some n.timer.deadline) (some_node node f.node (e ∙ f.found)) ∙ sym f.second

@@ -1,8 +1,7 @@
 -- Lemmas for `migration::next_tick`: from the invariant before a tick to the lists after it.
 use Rattle.std.proofs.Common.{◌≡◌, ◌<◌, ◌+◌, ℕ, List, [], length, sym, ◌∙◌, ap, subst, arith}
 use Rattle.std.specs.List.{AllByRecursion}
-use Rattle.timer_links.specs.declared.node.Node.{Node}
-use Rattle.timer_links.specs.Lists.{list_at}
+use Rattle.timer_links.specs.Lists.{list_at, KeyedLists}
 use Rattle.timer_wheels.specs.declared.buckets.Buckets.{Buckets}
 use Rattle.timer_wheels.specs.declared.table.Table.{Table}
 use Rattle.timer_wheels.specs.Buckets.{state_of}
@@ -36,7 +35,7 @@ module _ (t : Table) (b : Buckets) (words : List ℕ) (h : IsHier t b words) (z 
       subst P (sym e) (all_of_tick (radices t) b.last_tick b.tick b.last_serial b.links.lists before_tick
       (none_below (radices t) (b.tick + 1) (omega arith)))
 
-  pub next_at : (list moves : ℕ) (new : List (List (ℕ × Node))) → list ≡ emptied (radices t) (b.tick + 1)
+  pub next_at : (list moves : ℕ) (new : KeyedLists) → list ≡ emptied (radices t) (b.tick + 1)
       → new ≡ migrated (radices t) (b.tick + 1) list b.links.lists → moves ≡ length (left_rows (b.tick + 1) (list_at list b.links.lists))
       → IsNext (radices t) b.slots b.last_tick b.tick b.last_serial moves b.links.lists new
   next_at list moves new e f k =

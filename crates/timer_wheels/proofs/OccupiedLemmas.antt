@@ -5,7 +5,7 @@ use Rattle.std.specs.Int.{bit_at, w64, trailing_zeros}
 use Rattle.std.proofs.lemmas.Bool.{cases_eq, cases_lt}
 use Rattle.std.proofs.lemmas.Nat.Bits.{bit_at_set_same, bit_at_set_other, bit_at_clear_same, bit_at_clear_other, bit_at-trailing_zeros, bit_at-zero}
 use Rattle.timer_links.specs.declared.node.Node.{Node}
-use Rattle.timer_links.specs.Lists.{list_at, with_row, front_moved, first_row_moved}
+use Rattle.timer_links.specs.Lists.{list_at, with_row, front_moved, first_row_moved, KeyedLists}
 use Rattle.timer_wheels.specs.Buckets.{AddsRow}
 use Rattle.timer_wheels.specs.Occupied.{bit_of, filled, AreMarked, AreMarkedBut, IsClearFrom, IsFirstSet, IsLowestSet}
 
@@ -104,10 +104,7 @@ first_bit k j words h t c =
 
 -- The bits and the lists.
 
-abbrev Lists : Type 0
-Lists = List (List (ℕ × Node))
-
-pub marked_none : (n : ℕ) (words : List ℕ) (lists : Lists) → ((s : ℕ) → bit_of words s ≡ 0) → ((s : ℕ) → s < n → list_at s lists ≡ [])
+pub marked_none : (n : ℕ) (words : List ℕ) (lists : KeyedLists) → ((s : ℕ) → bit_of words s ≡ 0) → ((s : ℕ) → s < n → list_at s lists ≡ [])
     → AreMarked n words lists
 marked_none n words lists w e = ((λ s h. w s ∙ sym (ap filled (e s h))), (λ s a b. w s))
 
@@ -120,7 +117,7 @@ filled_behind [] row = refl
 filled_behind (x ∷ xs) row = refl
 
 -- the bits are those of the same lists
-pub marked_same : (n : ℕ) (words : List ℕ) (old new : Lists) → ((s : ℕ) → s < n → list_at s new ≡ list_at s old) → AreMarked n words old
+pub marked_same : (n : ℕ) (words : List ℕ) (old new : KeyedLists) → ((s : ℕ) → s < n → list_at s new ≡ list_at s old) → AreMarked n words old
     → AreMarked n words new
 marked_same n words old new e t = ((λ s h. t.0 s h ∙ sym (ap filled (e s h))), t.1)
 
@@ -130,7 +127,7 @@ clear_too : (n l : ℕ) (words words2 : List ℕ) → l < n → ((s : ℕ) → s
 clear_too n l words words2 h o c s a b = o s (λ (e : s ≡ l). omega arith) ∙ c s a b
 
 -- one bit is set, and one row inserted
-pub marked_with_row : (n : ℕ) (words words2 : List ℕ) (l : ℕ) (row : ℕ × Node) (lists : Lists) → l < n → l < length lists
+pub marked_with_row : (n : ℕ) (words words2 : List ℕ) (l : ℕ) (row : ℕ × Node) (lists : KeyedLists) → l < n → l < length lists
     → bit_of words2 l ≡ 1 → ((s : ℕ) → s ≢ l → bit_of words2 s ≡ bit_of words s) → AreMarked n words lists
     → AreMarked n words2 (with_row l row lists)
 marked_with_row n words words2 l row lists f b h o t = (
@@ -143,7 +140,7 @@ marked_with_row n words words2 l row lists f b h o t = (
 )
 
 -- one bit is set, and one row added
-pub marked_added : (n : ℕ) (words words2 : List ℕ) (l : ℕ) (row : ℕ × Node) (old new : Lists) → l < n → AddsRow n l row old new
+pub marked_added : (n : ℕ) (words words2 : List ℕ) (l : ℕ) (row : ℕ × Node) (old new : KeyedLists) → l < n → AddsRow n l row old new
     → bit_of words2 l ≡ 1 → ((s : ℕ) → s ≢ l → bit_of words2 s ≡ bit_of words s) → AreMarked n words old → AreMarked n words2 new
 marked_added n words words2 l row old new f d h o t = (
   (λ (s : ℕ) (k : s < n). elim (cases_eq s l) [
@@ -154,7 +151,7 @@ marked_added n words words2 l row old new f d h o t = (
   clear_too n l words words2 f o t.1,
 )
 
-pub marked_all : (n : ℕ) (words : List ℕ) (l : ℕ) (lists : Lists) → bit_of words l ≡ filled (list_at l lists) → AreMarkedBut n l words lists
+pub marked_all : (n : ℕ) (words : List ℕ) (l : ℕ) (lists : KeyedLists) → bit_of words l ≡ filled (list_at l lists) → AreMarkedBut n l words lists
     → AreMarked n words lists
 marked_all n words l lists e t = (
   (λ (s : ℕ) (h : s < n). elim (cases_eq s l) [
@@ -165,37 +162,37 @@ marked_all n words l lists e t = (
 )
 
 -- the first row of a list moves to another
-moved_same : (l to s : ℕ) (lists : Lists) (rows : List (ℕ × Node)) → s ≢ l → s ≢ to
+moved_same : (l to s : ℕ) (lists : KeyedLists) (rows : List (ℕ × Node)) → s ≢ l → s ≢ to
     → list_at s (first_row_moved l to lists rows) ≡ list_at s lists
 moved_same l to s lists [] n m = refl
 moved_same l to s lists (row ∷ rest) n m = get_or-set_other (slice_set lists l rest) to s (list_at to (slice_set lists l rest)
     ++ row ∷ []) [] m ∙ get_or-set_other lists l s rest [] n
 
-moved_there : (l to : ℕ) (lists : Lists) (row : ℕ × Node) (rest : List (ℕ × Node)) → to < length lists
+moved_there : (l to : ℕ) (lists : KeyedLists) (row : ℕ × Node) (rest : List (ℕ × Node)) → to < length lists
     → filled (list_at to (first_row_moved l to lists (row ∷ rest))) ≡ 1
 moved_there l to lists row rest b =
     ap filled (get_or-set_same (slice_set lists l rest) to (list_at to (slice_set lists l rest) ++ row ∷ []) []
     (rw (length-set lists l rest) b))
     ∙ filled_behind (list_at to (slice_set lists l rest)) row
 
-pub marked_due : (n : ℕ) (words : List ℕ) (l to : ℕ) (lists new : Lists) → to ≡ n → new ≡ front_moved l to lists
+pub marked_due : (n : ℕ) (words : List ℕ) (l to : ℕ) (lists new : KeyedLists) → to ≡ n → new ≡ front_moved l to lists
     → AreMarkedBut n l words lists → AreMarkedBut n l words new
 marked_due n words l to lists new q e t = (
   (λ (s : ℕ) (h : s < n) (d : s ≢ l).
       let m : s ≢ to = λ (x : s ≡ to). omega arith in
-      t.0 s h d ∙ sym (ap (λ (y : Lists). filled (list_at s y)) e ∙ ap filled (moved_same l to s lists (list_at l lists) d m))),
+      t.0 s h d ∙ sym (ap (λ (y : KeyedLists). filled (list_at s y)) e ∙ ap filled (moved_same l to s lists (list_at l lists) d m))),
   t.1,
 )
 
-pub marked_left : (n : ℕ) (words words2 : List ℕ) (l to : ℕ) (row : ℕ × Node) (rest : List (ℕ × Node)) (lists new : Lists) → to < n
+pub marked_left : (n : ℕ) (words words2 : List ℕ) (l to : ℕ) (row : ℕ × Node) (rest : List (ℕ × Node)) (lists new : KeyedLists) → to < n
     → to < length lists → bit_of words2 to ≡ 1 → ((s : ℕ) → s ≢ to → bit_of words2 s ≡ bit_of words s)
     → list_at l lists ≡ row ∷ rest → new ≡ front_moved l to lists → AreMarkedBut n l words lists → AreMarkedBut n l words2 new
 marked_left n words words2 l to row rest lists new f b z o at e t =
     let is : new ≡ first_row_moved l to lists (row ∷ rest) = e ∙ ap (first_row_moved l to lists) at in (
       (λ (s : ℕ) (h : s < n) (d : s ≢ l). elim (cases_eq s to) [
         | inl q ↦ ap (bit_of words2) q ∙ (z ∙ sym (ap (λ (v : ℕ). filled (list_at v new)) q
-            ∙ (ap (λ (y : Lists). filled (list_at to y)) is ∙ moved_there l to lists row rest b)))
-        | inr m ↦ o s m ∙ (t.0 s h d ∙ sym (ap (λ (y : Lists). filled (list_at s y)) is
+            ∙ (ap (λ (y : KeyedLists). filled (list_at to y)) is ∙ moved_there l to lists row rest b)))
+        | inr m ↦ o s m ∙ (t.0 s h d ∙ sym (ap (λ (y : KeyedLists). filled (list_at s y)) is
             ∙ ap filled (moved_same l to s lists (row ∷ rest) d m)))
       ]),
       clear_too n to words words2 f o t.1,

@@ -4,13 +4,13 @@ use Rattle.std.specs.Prelude.{Option, Some, None, IsSome, map, slice_set}
 use Rattle.std.proofs.lemmas.Bool.{eqb-true}
 use Rattle.timer_base.specs.OrderLaws.{either}
 use Rattle.timer_links.specs.declared.node.Node.{Node}
-use Rattle.timer_links.specs.Lists.{list_at, node_in, node_at, first_of, with_row, without_key, AreApart, SetsNode, MovesBack}
+use Rattle.timer_links.specs.Lists.{list_at, node_in, node_at, first_of, with_row, without_key, AreApart, SetsNode, MovesBack, KeyedLists}
 use Rattle.timer_wheels.proofs.MigrationLoop.{set_twice}
 
 -- Where a node stands.
 
 -- the node stands in a list
-pub record StandsIn (key : ℕ) (node : Node) (lists : List (List (ℕ × Node))) : Type 0 where
+pub record StandsIn (key : ℕ) (node : Node) (lists : KeyedLists) : Type 0 where
   pub l : ℕ
   pub in_range : l < length lists
   pub front : List (ℕ × Node)
@@ -45,7 +45,7 @@ first_is : (a b : Option Node) (node : Node) → first_of a b ≡ Some node → 
 first_is None b node e = inr e
 first_is (Some n) b node e = inl e
 
-pub stands_in : (key : ℕ) (node : Node) (lists : List (List (ℕ × Node))) → node_at key lists ≡ Some node → StandsIn key node lists
+pub stands_in : (key : ℕ) (node : Node) (lists : KeyedLists) → node_at key lists ≡ Some node → StandsIn key node lists
 stands_in key node [] e = absurd (some_none node e)
 stands_in key node (rows ∷ lists) e = elim (first_is (node_in key rows) (node_at key lists) node e) [
   | inl f ↦ let s = among key node rows f in record { l = 0; in_range = omega arith; front = s.front; rest = s.rest; at = s.at }
@@ -61,7 +61,7 @@ stands_in key node (rows ∷ lists) e = elim (first_is (node_in key rows) (node_
 -- Another node under the key, at the back of a list.
 
 -- some node is under the key
-pub record IsUsed (key : ℕ) (lists : List (List (ℕ × Node))) : Type 0 where
+pub record IsUsed (key : ℕ) (lists : KeyedLists) : Type 0 where
   pub node : Node
   pub at : node_at key lists ≡ Some node
 
@@ -69,10 +69,10 @@ used_by : (found : Option Node) → IsSome found → (n : Node) × (found ≡ So
 used_by None h = absurd (cc)
 used_by (Some n) h = (n, refl)
 
-pub used : (key : ℕ) (lists : List (List (ℕ × Node))) → IsSome (node_at key lists) → IsUsed key lists
+pub used : (key : ℕ) (lists : KeyedLists) → IsSome (node_at key lists) → IsUsed key lists
 used key lists h = let u = used_by (node_at key lists) h in record { node = u.0; at = u.1 }
 
-module _ (key list : ℕ) (node : Node) (old mid : List (List (ℕ × Node))) (u : IsUsed key old) (apart : AreApart old)
+module _ (key list : ℕ) (node : Node) (old mid : KeyedLists) (u : IsUsed key old) (apart : AreApart old)
     (set : SetsNode key node old mid) (apart2 : AreApart mid) where
   was : StandsIn key u.node old
   was = stands_in key u.node old u.at
@@ -81,7 +81,7 @@ module _ (key list : ℕ) (node : Node) (old mid : List (List (ℕ × Node))) (u
   mid_is = set was.l was.front u.node was.rest was.in_range was.at
 
   mid_length : length mid ≡ length old
-  mid_length = ap (λ (y : List (List (ℕ × Node))). length y) mid_is ∙ length-set old was.l (was.front ++ (key, node) ∷ was.rest)
+  mid_length = ap (λ (y : KeyedLists). length y) mid_is ∙ length-set old was.l (was.front ++ (key, node) ∷ was.rest)
 
   mid_at : list_at was.l mid ≡ was.front ++ (key, node) ∷ was.rest
   mid_at = ap (list_at was.l) mid_is ∙ get_or-set_same old was.l (was.front ++ (key, node) ∷ was.rest) [] was.in_range
@@ -99,13 +99,13 @@ module _ (key list : ℕ) (node : Node) (old mid : List (List (ℕ × Node))) (u
   same_others : map (without_key key) mid ≡ map (without_key key) old
   same_others =
       mid_apart.1
-      ∙ (ap (λ (y : List (List (ℕ × Node))). slice_set y was.l (was.front ++ was.rest)) mid_is
+      ∙ (ap (λ (y : KeyedLists). slice_set y was.l (was.front ++ was.rest)) mid_is
       ∙ (set_twice old was.l (was.front ++ (key, node) ∷ was.rest) (was.front ++ was.rest)
       ∙ sym (apart was.l was.front (key, u.node) was.rest was.in_range was.at).1))
 
-  pub replaced : (new : List (List (ℕ × Node))) → MovesBack key list mid new → new ≡ with_row list (key, node) (map (without_key key) old)
+  pub replaced : (new : KeyedLists) → MovesBack key list mid new → new ≡ with_row list (key, node) (map (without_key key) old)
   replaced new m = m node now_under ∙ ap (with_row list (key, node)) same_others
 
 -- a node that was found under the key makes it used
-pub is_used : (key : ℕ) (node : Node) (lists : List (List (ℕ × Node))) → node_at key lists ≡ Some node → IsSome (node_at key lists)
+pub is_used : (key : ℕ) (node : Node) (lists : KeyedLists) → node_at key lists ≡ Some node → IsSome (node_at key lists)
 is_used key node lists e = rw e refl

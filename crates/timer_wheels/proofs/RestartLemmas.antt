@@ -1,5 +1,5 @@
 -- Lemmas for `Buckets::restart`: a stop, and a start under the same key.
-use Rattle.std.proofs.Common.{◌≡◌, ◌<◌, ◌≤◌, ◌+◌, ℕ, List, [], ◌∷◌, ◌++◌, length, refl, ◌∙◌, ap, arith, length-set}
+use Rattle.std.proofs.Common.{◌≡◌, ◌<◌, ◌≤◌, ◌+◌, ℕ, [], ◌∷◌, ◌++◌, length, refl, ◌∙◌, ap, arith, length-set}
 use Rattle.std.specs.Prelude.{Some, IsSome, map}
 use Rattle.std.proofs.lemmas.List.{length-map}
 use Rattle.timer_base.specs.declared.timer.Timer.{Timer}
@@ -7,7 +7,7 @@ use Rattle.timer_base.specs.declared.timer.Handle.{Handle}
 use Rattle.timer_base.specs.Order.{AreDistinct}
 use Rattle.timer_base.specs.WheelState.{IsPending, timer_at, after_start, after_stop}
 use Rattle.timer_links.specs.declared.node.Node.{Node}
-use Rattle.timer_links.specs.Lists.{list_at, node_at, with_row, without_key, AreApart}
+use Rattle.timer_links.specs.Lists.{list_at, node_at, with_row, without_key, AreApart, KeyedLists}
 use Rattle.timer_wheels.specs.declared.buckets.Buckets.{Buckets}
 use Rattle.timer_wheels.specs.Buckets.{roomless_state, state_of}
 use Rattle.timer_wheels.specs.BucketLists.{timer_in, timers_in, rows_below, wheel_state, ArePending, AreDue, AreInOrder, EachRow}
@@ -24,7 +24,7 @@ pub record MayRestart (b : Buckets) (bucket : ℕ) (timer : Timer) : Type 0 wher
 module _ (b : Buckets) (handle : Handle) (bucket rounds : ℕ) (timer : Timer) (m : MayRestart b bucket timer) (apart : AreApart
     b.links.lists)
     (old : Timer) (e : timer_at handle (state_of b) ≡ Some old) where
-  abbrev rest : List (List (ℕ × Node))
+  abbrev rest : KeyedLists
   rest = map (without_key handle.place) b.links.lists
 
   abbrev node : Node
@@ -78,7 +78,7 @@ module _ (b : Buckets) (handle : Handle) (bucket rounds : ℕ) (timer : Timer) (
       rest b.distinct e refl)
 
 -- each row satisfies the wheel's own invariant
-pub each_restarted : (fact : ℕ → ℕ × Node → Type 0) (n key bucket : ℕ) (node : Node) (lists : List (List (ℕ × Node)))
+pub each_restarted : (fact : ℕ → ℕ × Node → Type 0) (n key bucket : ℕ) (node : Node) (lists : KeyedLists)
     → bucket < length lists → fact bucket (key, node) → EachRow fact n lists
     → EachRow fact n (with_row bucket (key, node) (map (without_key key) lists))
 each_restarted fact n key bucket node lists h f a = each-with_row fact n bucket (key, node) (map (without_key key) lists)

@@ -12,7 +12,7 @@ use Rattle.timer_base.specs.Pending.{Entry, timer_of}
 use Rattle.timer_base.specs.TickLaws.{AreAfter, IsPassing, after_ticks-now, after_ticks-last, after_ticks-add, passing_quiet}
 use Rattle.timer_base.specs.WheelState.{WheelState, IsPending, Advances, after_ticks}
 use Rattle.timer_links.specs.declared.node.Node.{Node}
-use Rattle.timer_links.specs.Lists.{list_at}
+use Rattle.timer_links.specs.Lists.{list_at, KeyedLists}
 use Rattle.timer_wheels.specs.BucketLaws.{timers_of-entries}
 use Rattle.timer_wheels.specs.BucketLists.{timer_in, timers_in, entries_of, rows_below, pending_in, wheel_state, ArePending, AreDue, AreInOrder}
 use Rattle.timer_wheels.specs.Hashed.{IsInBucket, AreInBuckets}
@@ -45,7 +45,7 @@ pub timers-fewer : (k : ℕ) (rows : List (ℕ × Node)) → timers_in (map (wit
 timers-fewer k [] = refl
 timers-fewer k (x ∷ xs) = ap (λ (r : List Timer). timer_in x ∷ r) (timers-fewer k xs)
 
-entries_below-same : (n : ℕ) (old new : List (List (ℕ × Node))) → length old ≡ length new
+entries_below-same : (n : ℕ) (old new : KeyedLists) → length old ≡ length new
     → ((t : ℕ) → t < n → entries_of (list_at t new) ≡ entries_of (list_at t old))
     → entries_of (rows_below n new) ≡ entries_of (rows_below n old)
 entries_below-same zero old new e h = refl
@@ -88,7 +88,7 @@ later_entries : (tick : ℕ) (rows : List (ℕ × Node)) → AllByRecursion (λ 
 later_entries tick [] a = tt
 later_entries tick (x ∷ xs) a = (a.0, later_entries tick xs a.1)
 
-pub quiet_now : (n last_tick now last : ℕ) (lists : List (List (ℕ × Node))) → ArePending last_tick now last (rows_below n lists)
+pub quiet_now : (n last_tick now last : ℕ) (lists : KeyedLists) → ArePending last_tick now last (rows_below n lists)
     → AreAfter (now + 0) (pending_in (rows_below n lists))
 quiet_now n last_tick now last lists p =
     All-in_order timer_of (λ entry. now + 0 < entry.timer.deadline) (entries_of (rows_below n lists))
@@ -100,7 +100,7 @@ none_due tick rows e = let P : List (ℕ × Node) → Type 0 = AreDue tick in su
 
 -- All lists.
 
-module _ (n last_tick now last k tick : ℕ) (old new : List (List (ℕ × Node))) (z : 0 < n) (e : tick ≡ now + k * n) (len : length new
+module _ (n last_tick now last k tick : ℕ) (old new : KeyedLists) (z : 0 < n) (e : tick ≡ now + k * n) (len : length new
     ≡ length old) (p : ArePending last_tick now last (rows_below n old)) (b : AreInBuckets n now old) (enough : (s : ℕ) → s < n
     → AllByRecursion (HasRoundsLeft k) (list_at s old)) (counted : (s : ℕ) → s < n
     → list_at s new ≡ map (with_fewer_rounds k) (list_at s old)) (others : list_at n new ≡ list_at n old) where

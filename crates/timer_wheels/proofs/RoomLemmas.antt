@@ -3,7 +3,7 @@ use Rattle.std.proofs.Common.{◌≡◌, ℕ, zero, suc, List, refl, sym, ◌∙
 use Rattle.timer_base.specs.declared.timer.Timer.{Timer}
 use Rattle.timer_base.specs.WakeUps.{IsWakeUp}
 use Rattle.timer_base.specs.WheelState.{WheelState, after_tick, after_ticks, with_room}
-use Rattle.timer_links.specs.declared.node.Node.{Node}
+use Rattle.timer_links.specs.Lists.{KeyedLists}
 use Rattle.timer_wheels.specs.Hashed.{IsNextSweep}
 use Rattle.timer_wheels.specs.Leap.{Leaps}
 use Rattle.timer_wheels.specs.Shown.{ShowsBuckets}
@@ -22,7 +22,7 @@ next_sweep-with_room room n tick w h = record {
   none_before = h.none_before;
 }
 
-pub shows-with_room : (room n : ℕ) (bucket_of rounds_of : Timer → ℕ) (w : WheelState) (lists : List (List (ℕ × Node)))
+pub shows-with_room : (room n : ℕ) (bucket_of rounds_of : Timer → ℕ) (w : WheelState) (lists : KeyedLists)
     → ShowsBuckets n bucket_of rounds_of w lists → ShowsBuckets n bucket_of rounds_of (with_room room w) lists
 shows-with_room room n bucket_of rounds_of w lists h = record {
   count = h.count;

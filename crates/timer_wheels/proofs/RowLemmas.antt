@@ -7,7 +7,7 @@ use Rattle.timer_base.specs.Order.{AreBelow, AreDistinct, IsNotAmong}
 use Rattle.timer_base.specs.OrderLaws.{either}
 use Rattle.timer_base.specs.Pending.{Entry}
 use Rattle.timer_links.specs.declared.node.Node.{Node}
-use Rattle.timer_links.specs.Lists.{list_at, with_row, without_key}
+use Rattle.timer_links.specs.Lists.{list_at, with_row, without_key, KeyedLists}
 use Rattle.timer_wheels.specs.BucketLists.{timer_in, timers_in, entry_of, entries_of, rows_below}
 
 -- Facts of every row.
@@ -25,7 +25,7 @@ all-rest P [] ys a = a
 all-rest P (x ∷ xs) ys a = all-rest P xs ys a.1
 
 -- what holds of each row of each list, holds of all rows
-pub all-rows_below : (P : ℕ × Node → Type 0) (n : ℕ) (lists : List (List (ℕ × Node)))
+pub all-rows_below : (P : ℕ × Node → Type 0) (n : ℕ) (lists : KeyedLists)
     → ((s : ℕ) → s < n → AllByRecursion P (list_at s lists)) → AllByRecursion P (rows_below n lists)
 all-rows_below P zero lists h = tt
 all-rows_below P (suc n) [] h = tt
@@ -33,7 +33,7 @@ all-rows_below P (suc n) (x ∷ xs) h = all-append P x (rows_below n xs) (h 0 (o
     (all-rows_below P n xs (λ s b. h (suc s) (omega arith)))
 
 -- and back
-pub all-list_at : (P : ℕ × Node → Type 0) (n : ℕ) (lists : List (List (ℕ × Node))) → AllByRecursion P (rows_below n lists) → (s : ℕ) → s < n
+pub all-list_at : (P : ℕ × Node → Type 0) (n : ℕ) (lists : KeyedLists) → AllByRecursion P (rows_below n lists) → (s : ℕ) → s < n
     → AllByRecursion P (list_at s lists)
 all-list_at P zero lists a s b = absurd (omega arith)
 all-list_at P (suc n) [] a s b = tt
@@ -43,13 +43,13 @@ all-list_at P (suc n) (x ∷ xs) a (suc s) b = all-list_at P n xs (all-rest P x 
 -- One list is replaced.
 
 -- the rows before and behind those of one list
-pub record IsAround (n l : ℕ) (lists : List (List (ℕ × Node))) : Type 0 where
+pub record IsAround (n l : ℕ) (lists : KeyedLists) : Type 0 where
   pub front : List (ℕ × Node)
   pub rest : List (ℕ × Node)
   pub rows : rows_below n lists ≡ front ++ (list_at l lists ++ rest)
   pub with_rows : (rows : List (ℕ × Node)) → rows_below n (slice_set lists l rows) ≡ front ++ (rows ++ rest)
 
-pub around : (n l : ℕ) (lists : List (List (ℕ × Node))) → l < n → l < length lists → IsAround n l lists
+pub around : (n l : ℕ) (lists : KeyedLists) → l < n → l < length lists → IsAround n l lists
 around zero l lists h b = absurd (omega arith)
 around (suc n) l [] h b = absurd (omega arith)
 around (suc n) zero (x ∷ xs) h b = record { front = []; rest = rows_below n xs; rows = refl; with_rows = λ rows. refl }
@@ -63,7 +63,7 @@ around (suc n) (suc l) (x ∷ xs) h b =
     }
 
 -- a list after the first n is none of them
-pub rows_below-above : (n l : ℕ) (lists : List (List (ℕ × Node))) (rows : List (ℕ × Node)) → n ≤ l
+pub rows_below-above : (n l : ℕ) (lists : KeyedLists) (rows : List (ℕ × Node)) → n ≤ l
     → rows_below n (slice_set lists l rows) ≡ rows_below n lists
 rows_below-above zero l lists rows h = refl
 rows_below-above (suc n) l [] rows h = refl
@@ -71,7 +71,7 @@ rows_below-above (suc n) zero (x ∷ xs) rows h = absurd (omega arith)
 rows_below-above (suc n) (suc l) (x ∷ xs) rows h = ap (λ (y : List (ℕ × Node)). x ++ y) (rows_below-above n l xs rows (omega arith))
 
 -- empty lists have no rows
-pub rows_below-none : (n : ℕ) (lists : List (List (ℕ × Node))) → ((s : ℕ) → s < n → list_at s lists ≡ []) → rows_below n lists ≡ []
+pub rows_below-none : (n : ℕ) (lists : KeyedLists) → ((s : ℕ) → s < n → list_at s lists ≡ []) → rows_below n lists ≡ []
 rows_below-none zero lists h = refl
 rows_below-none (suc n) [] h = refl
 rows_below-none (suc n) (x ∷ xs) h =
@@ -88,7 +88,7 @@ pub record IsInserted (row : ℕ × Node) (old new : List (ℕ × Node)) : Type 
   pub new_is : new ≡ front ++ row ∷ rest
 
 -- a row is inserted into one list, anywhere
-pub rows_below-inserted : (n l : ℕ) (row : ℕ × Node) (before after : List (ℕ × Node)) (lists : List (List (ℕ × Node))) → l < n
+pub rows_below-inserted : (n l : ℕ) (row : ℕ × Node) (before after : List (ℕ × Node)) (lists : KeyedLists) → l < n
     → l < length lists → list_at l lists ≡ before ++ after
     → IsInserted row (rows_below n lists) (rows_below n (slice_set lists l (before ++ row ∷ after)))
 rows_below-inserted n l row before after lists h b e =
@@ -108,7 +108,7 @@ append-nil [] = refl
 append-nil (x ∷ xs) = ap (λ r. x ∷ r) (append-nil xs)
 
 -- a row is pushed to the back of one list
-pub rows_below-with_row : (n l : ℕ) (row : ℕ × Node) (lists : List (List (ℕ × Node))) → l < n → l < length lists
+pub rows_below-with_row : (n l : ℕ) (row : ℕ × Node) (lists : KeyedLists) → l < n → l < length lists
     → IsInserted row (rows_below n lists) (rows_below n (with_row l row lists))
 rows_below-with_row n l row lists h b = rows_below-inserted n l row (list_at l lists) [] lists h b (sym (append-nil (list_at l lists)))
 
@@ -121,14 +121,14 @@ filter-append p (x ∷ xs) ys = elim (either (p x)) [
   | inr k ↦ rw k (filter-append p xs ys)
 ]
 
-pub rows_below-without_key : (n key : ℕ) (lists : List (List (ℕ × Node)))
+pub rows_below-without_key : (n key : ℕ) (lists : KeyedLists)
     → rows_below n (map (without_key key) lists) ≡ without_key key (rows_below n lists)
 rows_below-without_key zero key lists = refl
 rows_below-without_key (suc n) key [] = refl
 rows_below-without_key (suc n) key (x ∷ xs) = ap (λ (y : List (ℕ × Node)). without_key key x ++ y) (rows_below-without_key n key xs)
     ∙ sym (filter-append (λ r. not (r.0 == key)) x (rows_below n xs))
 
-pub list_at-without_key : (s key : ℕ) (lists : List (List (ℕ × Node)))
+pub list_at-without_key : (s key : ℕ) (lists : KeyedLists)
     → list_at s (map (without_key key) lists) ≡ without_key key (list_at s lists)
 list_at-without_key s key [] = refl
 list_at-without_key zero key (x ∷ xs) = refl
@@ -202,7 +202,7 @@ IsNotAmong-others t [] ys d = d.0
 IsNotAmong-others t (x ∷ xs) ys d = ((λ e. (IsNotAmong-rest x.serial xs (t ∷ ys) d.0).0 (sym e)), IsNotAmong-others t xs ys d.1)
 
 -- one more list
-pub rows_below-more : (n : ℕ) (lists : List (List (ℕ × Node))) → n < length lists
+pub rows_below-more : (n : ℕ) (lists : KeyedLists) → n < length lists
     → rows_below (suc n) lists ≡ rows_below n lists ++ list_at n lists
 rows_below-more zero [] h = absurd (omega arith)
 rows_below-more zero (x ∷ xs) h = append-nil x
@@ -211,7 +211,7 @@ rows_below-more (suc n) (x ∷ xs) h = ap (λ (y : List (ℕ × Node)). x ++ y) 
     ∙ sym (append_assoc x (rows_below n xs) (list_at n xs))
 
 -- the timers copied from one more list
-pub timers_below-more : (n : ℕ) (lists : List (List (ℕ × Node))) (old new : List Timer) → n < length lists
+pub timers_below-more : (n : ℕ) (lists : KeyedLists) (old new : List Timer) → n < length lists
     → old ≡ timers_in (rows_below n lists) → new ≡ old ++ timers_in (list_at n lists) → new ≡ timers_in (rows_below (n + 1) lists)
 timers_below-more n lists old new h a b =
     let e : n + 1 ≡ suc n = omega arith in

@@ -10,7 +10,7 @@ use Rattle.timer_base.specs.OrderLaws.{either, insert_in_order-commutes, in_orde
 use Rattle.timer_base.specs.Pending.{Entry, timer_of}
 use Rattle.timer_base.specs.WheelState.{WheelState}
 use Rattle.timer_links.specs.declared.node.Node.{Node}
-use Rattle.timer_links.specs.Lists.{list_at}
+use Rattle.timer_links.specs.Lists.{list_at, KeyedLists}
 use Rattle.timer_wheels.specs.BucketLists.{timer_in, timers_in, entries_of, rows_below, pending_in, wheel_state, AreInOrder, EachRow}
 use Rattle.timer_wheels.specs.BucketLaws.{timers_of-entries}
 use Rattle.timer_wheels.specs.Shown.{without_deadline, by_serial, row_of, entries_at, ShowsBuckets}
@@ -28,7 +28,7 @@ filter-each p [] a = refl
 filter-each p (x ∷ xs) a = rw a.0 (ap (λ r. x ∷ r) (filter-each p xs a.1))
 
 -- no row of the lists satisfies the test
-pub filter-no_list : (p : ℕ × Node → Bool) (n : ℕ) (lists : List (List (ℕ × Node)))
+pub filter-no_list : (p : ℕ × Node → Bool) (n : ℕ) (lists : KeyedLists)
     → ((t : ℕ) → t < n → AllByRecursion (λ row. p row ≡ false) (list_at t lists)) → filter p (rows_below n lists) ≡ []
 filter-no_list p zero lists h = refl
 filter-no_list p (suc n) [] h = refl
@@ -36,7 +36,7 @@ filter-no_list p (suc n) (x ∷ xs) h = filter-append p x (rows_below n xs)
     ∙ rw (filter-none p x (h 0 (omega arith)), filter-no_list p n xs (λ t b. h (suc t) (omega arith))) refl
 
 -- only rows of one list do
-pub filter-one_list : (p : ℕ × Node → Bool) (n s : ℕ) (lists : List (List (ℕ × Node))) → s < n → s < length lists
+pub filter-one_list : (p : ℕ × Node → Bool) (n s : ℕ) (lists : KeyedLists) → s < n → s < length lists
     → ((t : ℕ) → t < n → t ≢ s → AllByRecursion (λ row. p row ≡ false) (list_at t lists))
     → filter p (rows_below n lists) ≡ filter p (list_at s lists)
 filter-one_list p zero s lists h b o = absurd (omega arith)
@@ -104,7 +104,7 @@ rows_again bucket_of rounds_of s (x ∷ xs) a =
     ap (λ (k : ℕ). (x.0, record x.1 { rounds = k }) ∷ map (row_of rounds_of) (entries_of xs)) (sym a.0.1)
     ∙ ap (λ (r : List (ℕ × Node)). x ∷ r) (rows_again bucket_of rounds_of s xs a.1)
 
-module _ (n : ℕ) (bucket_of rounds_of : Timer → ℕ) (lists : List (List (ℕ × Node))) (len : length lists
+module _ (n : ℕ) (bucket_of rounds_of : Timer → ℕ) (lists : KeyedLists) (len : length lists
     ≡ n + 1) (each : EachRow (IsAt bucket_of rounds_of) n lists) where
   other_rows : (s t : ℕ) → t < n → t ≢ s → AllByRecursion (λ row. (bucket_of (timer_in row) == s) ≡ false) (list_at t lists)
   other_rows s t h e = All-weaken (IsAt bucket_of rounds_of t) (λ row. (bucket_of (timer_in row) == s)
@@ -134,7 +134,7 @@ module _ (n : ℕ) (bucket_of rounds_of : Timer → ℕ) (lists : List (List (�
   }
 
 -- a list with rows is of a bucket with pending timers
-pub some_at : (n : ℕ) (bucket_of rounds_of : Timer → ℕ) (w : WheelState) (lists : List (List (ℕ × Node)))
+pub some_at : (n : ℕ) (bucket_of rounds_of : Timer → ℕ) (w : WheelState) (lists : KeyedLists)
     → ShowsBuckets n bucket_of rounds_of w lists → (s : ℕ) → s < n → 0 < length (list_at s lists)
     → 0 < length (entries_at bucket_of s w.pending)
 some_at n bucket_of rounds_of w lists h s b k =

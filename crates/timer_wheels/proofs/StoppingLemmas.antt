@@ -8,7 +8,7 @@ use Rattle.timer_base.specs.declared.timer.Handle.{Handle}
 use Rattle.timer_base.specs.TickLaws.{after_ticks-serial}
 use Rattle.timer_base.specs.WheelState.{WheelState, timer_at, Advances}
 use Rattle.timer_links.specs.declared.node.Node.{Node}
-use Rattle.timer_links.specs.Lists.{list_at, without_key, list_if_alone, AreApart, IsAloneIn}
+use Rattle.timer_links.specs.Lists.{list_at, without_key, list_if_alone, AreApart, IsAloneIn, KeyedLists}
 use Rattle.timer_wheels.specs.declared.buckets.Buckets.{Buckets}
 use Rattle.timer_wheels.specs.Buckets.{state_of}
 use Rattle.timer_wheels.specs.Digits.{slots}
@@ -27,12 +27,12 @@ use Rattle.timer_wheels.proofs.BucketLemmas.{IsSeparated, separated, look-has}
 -- A stop.
 
 -- one row is removed from a bucket, and its bit is cleared where no other row is left in it
-kept_filled : (n : ℕ) (words words2 : List ℕ) (l : ℕ) (rows : List (ℕ × Node)) (lists new : List (List (ℕ × Node))) → l < n
+kept_filled : (n : ℕ) (words words2 : List ℕ) (l : ℕ) (rows : List (ℕ × Node)) (lists new : KeyedLists) → l < n
     → l < length lists → filled (list_at l lists) ≡ 1 → filled rows ≡ 1 → new ≡ slice_set lists l rows → words2 ≡ words
     → AreMarked n words lists → AreMarked n words2 new
 kept_filled n words words2 l rows lists new h b was now e c t = (
   (λ (s : ℕ) (k : s < n). ap (λ (w : List ℕ). bit_of w s) c ∙ (t.0 s k
-      ∙ sym (ap (λ (y : List (List (ℕ × Node))). filled (list_at s y)) e ∙ elim (cases_eq s l) [
+      ∙ sym (ap (λ (y : KeyedLists). filled (list_at s y)) e ∙ elim (cases_eq s l) [
         | inl q ↦ ap (λ (v : ℕ). filled (list_at v (slice_set lists l rows))) q
             ∙ (ap filled (get_or-set_same lists l rows [] b) ∙ (now ∙ sym (ap (λ (v : ℕ). filled (list_at v lists)) q ∙ was)))
         | inr m ↦ ap filled (get_or-set_other lists l s rows [] m)
@@ -40,14 +40,14 @@ kept_filled n words words2 l rows lists new h b was now e c t = (
   (λ s a d. ap (λ (w : List ℕ). bit_of w s) c ∙ t.1 s a d),
 )
 
-taken_out : (n : ℕ) (words words2 : List ℕ) (key l : ℕ) (node : Node) (front rest : List (ℕ × Node)) (lists new : List (List (ℕ × Node)))
+taken_out : (n : ℕ) (words words2 : List ℕ) (key l : ℕ) (node : Node) (front rest : List (ℕ × Node)) (lists new : KeyedLists)
     → l < n → l < length lists → list_at l lists ≡ front ++ (key, node) ∷ rest → new ≡ slice_set lists l (front ++ rest)
     → Clears (list_if_alone l front rest) words words2 → AreMarked n words lists → AreMarked n words2 new
 taken_out n words words2 key l node [] [] lists new h b at e c t = (
   (λ (s : ℕ) (k : s < n). elim (cases_eq s l) [
-    | inl q ↦ ap (bit_of words2) q ∙ (c.0 ∙ sym (ap (λ (y : List (List (ℕ × Node))). filled (list_at s y)) e
+    | inl q ↦ ap (bit_of words2) q ∙ (c.0 ∙ sym (ap (λ (y : KeyedLists). filled (list_at s y)) e
         ∙ (ap (λ (v : ℕ). filled (list_at v (slice_set lists l []))) q ∙ ap filled (get_or-set_same lists l [] [] b))))
-    | inr m ↦ c.1 s m ∙ (t.0 s k ∙ sym (ap (λ (y : List (List (ℕ × Node))). filled (list_at s y)) e
+    | inr m ↦ c.1 s m ∙ (t.0 s k ∙ sym (ap (λ (y : KeyedLists). filled (list_at s y)) e
         ∙ ap filled (get_or-set_other lists l s [] [] m)))
   ]),
   (λ s a d. c.1 s (λ (q : s ≡ l). omega arith) ∙ t.1 s a d),
@@ -110,7 +110,7 @@ module _ (t : Table) (b : Buckets) (words : List ℕ) (h : IsHier t b words) (ap
       in emptied_at handle.place f.node emptied f.later (stands_in handle.place f.node b.links.lists f.at) e
 
   -- the links of the buckets after a stop
-  pub stopped_links : (found : Option Timer) (timer : Timer) (key : ℕ) (new : List (List (ℕ × Node))) → found ≡ Some timer
+  pub stopped_links : (found : Option Timer) (timer : Timer) (key : ℕ) (new : KeyedLists) → found ≡ Some timer
       → MatchOption found (new ≡ b.links.lists) (λ t. new ≡ map (without_key key) b.links.lists) → new ≡ map (without_key key) b.links.lists
   stopped_links None timer key new e m = absurd (cc)
   stopped_links (Some u) timer key new e m = m

@@ -4,26 +4,26 @@ use Rattle.std.specs.Prelude.{map, IsSome, Option, Some, slice_set}
 use Rattle.std.proofs.lemmas.List.{set-get_or}
 use Rattle.std.proofs.lemmas.Bool.{cases_eq, eq-eqb, ne_eqb}
 use Rattle.timer_links.specs.declared.node.Node.{Node}
-use Rattle.timer_links.specs.Lists.{node_at, first_key, list_at, row_count, without_key, with_row, moved_back, AreApart, SetsRounds}
+use Rattle.timer_links.specs.Lists.{node_at, first_key, list_at, row_count, without_key, with_row, moved_back, AreApart, SetsRounds, KeyedLists}
 use Rattle.timer_wheels.specs.Sweep.{due_now, due_later, half_swept, swept}
 use Rattle.timer_wheels.proofs.RowLemmas.{append-nil}
 use Rattle.timer_wheels.proofs.WalkLemmas.{some_none, same_key, length-list_at, set_twice}
 
-set_swapped : (v : List (List (ℕ × Node))) (i j : ℕ) (a b : List (ℕ × Node)) → i ≢ j
+set_swapped : (v : KeyedLists) (i j : ℕ) (a b : List (ℕ × Node)) → i ≢ j
     → slice_set (slice_set v i a) j b ≡ slice_set (slice_set v j b) i a
 set_swapped [] i j a b n = refl
 set_swapped (x ∷ xs) zero zero a b n = absurd (n refl)
 set_swapped (x ∷ xs) zero (suc j) a b n = refl
 set_swapped (x ∷ xs) (suc i) zero a b n = refl
-set_swapped (x ∷ xs) (suc i) (suc j) a b n = ap (λ (y : List (List (ℕ × Node))). x ∷ y)
+set_swapped (x ∷ xs) (suc i) (suc j) a b n = ap (λ (y : KeyedLists). x ∷ y)
     (set_swapped xs i j a b (λ (e : i ≡ j). n (ap (λ (k : ℕ). suc k) e)))
 
 -- both lists are replaced
-rewritten : (v : List (List (ℕ × Node))) (i j : ℕ) (a b c : List (ℕ × Node)) → i ≢ j
+rewritten : (v : KeyedLists) (i j : ℕ) (a b c : List (ℕ × Node)) → i ≢ j
     → slice_set (slice_set (slice_set v i a) j b) i c ≡ slice_set (slice_set v i c) j b
 rewritten v i j a b c n =
     set_swapped (slice_set v i a) j i b c (λ (e : j ≡ i). n (sym e))
-    ∙ ap (λ (y : List (List (ℕ × Node))). slice_set y j b) (set_twice v i a c)
+    ∙ ap (λ (y : KeyedLists). slice_set y j b) (set_twice v i a c)
 
 now-append : (rows : List (ℕ × Node)) (r : ℕ × Node) → r.1.rounds ≡ 0 → due_now (rows ++ r ∷ []) ≡ due_now rows ++ r ∷ []
 now-append [] r h = rw (eq-eqb r.1.rounds 0 h) refl
@@ -55,7 +55,7 @@ later-append (x ∷ xs) r h = elim (cases_eq x.1.rounds 0) [
       (later-append xs r h))
 ]
 
-module _ (l due : ℕ) (old : List (List (ℕ × Node))) (n : l ≢ due) (lb : l < length old) (db : due < length old) where
+module _ (l due : ℕ) (old : KeyedLists) (n : l ≢ due) (lb : l < length old) (db : due < length old) where
   pub at_list : (past left : List (ℕ × Node)) → list_at l (half_swept l due past left old) ≡ due_later past ++ left
   at_list past left = get_or-set_other (slice_set old l (due_later past ++ left)) due l (list_at due old ++ due_now past) [] n
       ∙ get_or-set_same old l (due_later past ++ left) [] lb
@@ -72,7 +72,7 @@ module _ (l due : ℕ) (old : List (List (ℕ × Node))) (n : l ≢ due) (lb : l
   pub due_step : (past rest : List (ℕ × Node)) (r : ℕ × Node) → r.1.rounds ≡ 0 → AreApart (half_swept l due past (r ∷ rest) old)
       → moved_back r.0 due r.1 (half_swept l due past (r ∷ rest) old) ≡ half_swept l due (past ++ r ∷ []) rest old
   due_step past rest r z a =
-      let w : List (List (ℕ × Node)) = half_swept l due past (r ∷ rest) old in
+      let w : KeyedLists = half_swept l due past (r ∷ rest) old in
       let m : map (without_key r.0) w ≡ half_swept l due past rest old =
       (a l (due_later past) r rest (rw (same_length past (r ∷ rest)) lb) (at_list past (r ∷ rest))).1
       ∙ rewritten old l due (due_later past ++ r ∷ rest) (list_at due old ++ due_now past) (due_later past ++ rest) n in
@@ -97,7 +97,7 @@ module _ (l due : ℕ) (old : List (List (ℕ × Node))) (n : l ≢ due) (lb : l
       ) refl
 
 -- some rows of the list were swept, and the key is that of the next one
-pub record IsSweeping (l due step : ℕ) (old lists : List (List (ℕ × Node))) (at : Option ℕ) : Type 0 where
+pub record IsSweeping (l due step : ℕ) (old lists : KeyedLists) (at : Option ℕ) : Type 0 where
   pub past : List (ℕ × Node)
   pub left : List (ℕ × Node)
   pub rows : list_at l old ≡ past ++ left
@@ -105,19 +105,19 @@ pub record IsSweeping (l due step : ℕ) (old lists : List (List (ℕ × Node)))
   pub next : at ≡ first_key left
   pub steps : length past ≡ step
 
-pub begun : (l due : ℕ) (old : List (List (ℕ × Node))) (at : Option ℕ) → at ≡ first_key (list_at l old) → IsSweeping l due 0 old old at
+pub begun : (l due : ℕ) (old : KeyedLists) (at : Option ℕ) → at ≡ first_key (list_at l old) → IsSweeping l due 0 old old at
 begun l due old at e = record {
   past = [];
   left = list_at l old;
   rows = refl;
-  is = sym (ap (λ (y : List (List (ℕ × Node))). slice_set y due (list_at due old ++ [])) (set-get_or old l [])
+  is = sym (ap (λ (y : KeyedLists). slice_set y due (list_at due old ++ [])) (set-get_or old l [])
       ∙ (ap (slice_set old due) (append-nil (list_at due old)) ∙ set-get_or old due []));
   next = e;
   steps = refl;
 }
 
 -- the next row
-pub record IsNext (l due step : ℕ) (old lists : List (List (ℕ × Node))) (key : ℕ) : Type 0 where
+pub record IsNext (l due step : ℕ) (old lists : KeyedLists) (key : ℕ) : Type 0 where
   pub past : List (ℕ × Node)
   pub node : Node
   pub rest : List (ℕ × Node)
@@ -125,7 +125,7 @@ pub record IsNext (l due step : ℕ) (old lists : List (List (ℕ × Node))) (ke
   pub is : lists ≡ half_swept l due past ((key, node) ∷ rest) old
   pub steps : length past ≡ step
 
-next_of : (l due step : ℕ) (old lists : List (List (ℕ × Node))) (key : ℕ) (past left : List (ℕ × Node)) → list_at l old ≡ past ++ left
+next_of : (l due step : ℕ) (old lists : KeyedLists) (key : ℕ) (past left : List (ℕ × Node)) → list_at l old ≡ past ++ left
     → lists ≡ half_swept l due past left old → Some key ≡ first_key left → length past ≡ step → IsNext l due step old lists key
 next_of l due step old lists key past [] r i e c = absurd (some_none key e)
 next_of l due step old lists key past (x ∷ xs) r i e c =
@@ -140,15 +140,15 @@ next_of l due step old lists key past (x ∷ xs) r i e c =
       steps = c;
     }
 
-pub next_row : (l due step : ℕ) (old lists : List (List (ℕ × Node))) (at : Option ℕ) (key : ℕ) → IsSweeping l due step old lists at
+pub next_row : (l due step : ℕ) (old lists : KeyedLists) (at : Option ℕ) (key : ℕ) → IsSweeping l due step old lists at
     → at ≡ Some key → IsNext l due step old lists key
 next_row l due step old lists at key s e = next_of l due step old lists key s.past s.left s.rows s.is (sym e ∙ s.next) s.steps
 
 -- the end of the walk
-pub record IsSwept (l due : ℕ) (old lists : List (List (ℕ × Node))) : Type 0 where
+pub record IsSwept (l due : ℕ) (old lists : KeyedLists) : Type 0 where
   pub is : lists ≡ swept l due old
 
-ended : (l due : ℕ) (old lists : List (List (ℕ × Node))) (past left : List (ℕ × Node)) → list_at l old ≡ past ++ left
+ended : (l due : ℕ) (old lists : KeyedLists) (past left : List (ℕ × Node)) → list_at l old ≡ past ++ left
     → lists ≡ half_swept l due past left old → left ≡ [] → IsSwept l due old lists
 ended l due old lists past left r i e =
     let q : list_at l old ≡ past = r ∙ (ap (λ (y : List (ℕ × Node)). past ++ y) e ∙ append-nil past) in
@@ -161,7 +161,7 @@ empty_when : (left : List (ℕ × Node)) → length left ≤ 0 → left ≡ []
 empty_when [] h = refl
 empty_when (x ∷ xs) h = absurd (omega arith)
 
-pub ended_count : (l due step : ℕ) (old lists : List (List (ℕ × Node))) (at : Option ℕ) → IsSweeping l due step old lists at
+pub ended_count : (l due step : ℕ) (old lists : KeyedLists) (at : Option ℕ) → IsSweeping l due step old lists at
     → row_count old ≤ step → IsSwept l due old lists
 ended_count l due step old lists at s h =
     let a : length (list_at l old) ≤ row_count old = length-list_at old l in
@@ -170,7 +170,7 @@ ended_count l due step old lists at s h =
     let c : length s.past ≡ step = s.steps in
     ended l due old lists s.past s.left s.rows s.is (empty_when s.left (omega arith))
 
-module _ (l due step : ℕ) (old lists : List (List (ℕ × Node))) (n : l ≢ due) (lb : l < length old) (db : due < length old) (key : ℕ)
+module _ (l due step : ℕ) (old lists : KeyedLists) (n : l ≢ due) (lb : l < length old) (db : due < length old) (key : ℕ)
     (w : IsNext l due step old lists key) where
   pub in_range : l < length lists
   in_range = rw (w.is, same_length l due old n lb db w.past ((key, w.node) ∷ w.rest)) lb
@@ -194,19 +194,19 @@ module _ (l due step : ℕ) (old lists : List (List (ℕ × Node))) (n : l ≢ d
   rows_more : list_at l old ≡ (w.past ++ (key, w.node) ∷ []) ++ w.rest
   rows_more = w.rows ∙ sym (append_assoc w.past ((key, w.node) ∷ []) w.rest)
 
-  after_due : (new : List (List (ℕ × Node))) (at : Option ℕ) → AreApart lists → w.node.rounds ≡ 0 → new ≡ moved_back key due w.node lists
+  after_due : (new : KeyedLists) (at : Option ℕ) → AreApart lists → w.node.rounds ≡ 0 → new ≡ moved_back key due w.node lists
       → at ≡ first_key w.rest → IsSweeping l due (step + 1) old new at
   after_due new at a z e f = record {
     past = w.past ++ (key, w.node) ∷ [];
     left = w.rest;
     rows = rows_more;
-    is = e ∙ (ap (moved_back key due w.node) w.is ∙ due_step l due old n lb db w.past w.rest (key, w.node) z (let P : List (List (ℕ × Node))
+    is = e ∙ (ap (moved_back key due w.node) w.is ∙ due_step l due old n lb db w.past w.rest (key, w.node) z (let P : KeyedLists
         → Type 0 = AreApart in subst P w.is a));
     next = f;
     steps = more;
   }
 
-  after_later : (new : List (List (ℕ × Node))) (at : Option ℕ) → w.node.rounds ≢ 0 → SetsRounds key (w.node.rounds - 1) lists new
+  after_later : (new : KeyedLists) (at : Option ℕ) → w.node.rounds ≢ 0 → SetsRounds key (w.node.rounds - 1) lists new
       → at ≡ first_key w.rest → IsSweeping l due (step + 1) old new at
   after_later new at z e f = record {
     past = w.past ++ (key, w.node) ∷ [];
@@ -214,7 +214,7 @@ module _ (l due step : ℕ) (old lists : List (List (ℕ × Node))) (n : l ≢ d
     rows = rows_more;
     is =
         e l (due_later w.past) w.node w.rest in_range standing
-        ∙ (ap (λ (y : List (List (ℕ × Node))). slice_set y l (due_later w.past
+        ∙ (ap (λ (y : KeyedLists). slice_set y l (due_later w.past
         ++ (key, record w.node { rounds = w.node.rounds - 1 }) ∷ w.rest)) w.is
         ∙ later_step l due old n lb db w.past w.rest (key, w.node) z);
     next = f;
@@ -222,7 +222,7 @@ module _ (l due step : ℕ) (old lists : List (List (ℕ × Node))) (n : l ≢ d
   }
 
   -- one timer lost a round or became due
-  pub passed : (new : List (List (ℕ × Node))) (at : Option ℕ) → AreApart lists
+  pub passed : (new : KeyedLists) (at : Option ℕ) → AreApart lists
       → ((node : Node) → node_at key lists ≡ Some node → node.rounds ≡ 0 → new ≡ moved_back key due node lists)
       → ((node : Node) → node_at key lists ≡ Some node → node.rounds ≢ 0 → SetsRounds key (node.rounds - 1) lists new)
       → at ≡ first_key w.rest → IsSweeping l due (step + 1) old new at

@@ -10,7 +10,7 @@ use Rattle.timer_base.specs.Pending.{Entry, timer_of}
 use Rattle.timer_base.specs.WheelState.{timer_at, due_at}
 use Rattle.timer_links.specs.declared.node.Node.{Node}
 use Rattle.timer_links.specs.Keys.{AreUnused, IsFirstUsed}
-use Rattle.timer_links.specs.Lists.{list_at, node_at, AreApart}
+use Rattle.timer_links.specs.Lists.{list_at, node_at, AreApart, KeyedLists}
 use Rattle.timer_wheels.specs.BucketLists.{entry_of, entries_of, rows_below}
 use Rattle.timer_wheels.specs.Buckets.{state_of}
 use Rattle.timer_wheels.specs.HeldPlaces.{IsHeld, IsFirstHeld}
@@ -20,7 +20,7 @@ use Rattle.timer_wheels.proofs.RowLemmas.{all-rows_below}
 use Rattle.timer_wheels.proofs.WithdrawLemmas.{all_later, due-some}
 
 -- each row stands under its key
-under_from : (lists : List (List (ℕ × Node))) (l : ℕ) (front rows : List (ℕ × Node)) → AreApart lists → l < length lists
+under_from : (lists : KeyedLists) (l : ℕ) (front rows : List (ℕ × Node)) → AreApart lists → l < length lists
     → list_at l lists ≡ front ++ rows → AllByRecursion (λ row. node_at row.0 lists ≡ Some row.1) rows
 under_from lists l front [] a b e = tt
 under_from lists l front (x ∷ xs) a b e = (
@@ -31,7 +31,7 @@ under_from lists l front (x ∷ xs) a b e = (
 none_some : (node : Node) → None ≡ Some node → ⊥
 none_some node e = absurd (cc)
 
-elsewhere : (from to : ℕ) (lists : List (List (ℕ × Node))) → AreUnused from to lists → (row : ℕ × Node) → node_at row.0 lists ≡ Some row.1
+elsewhere : (from to : ℕ) (lists : KeyedLists) → AreUnused from to lists → (row : ℕ × Node) → node_at row.0 lists ≡ Some row.1
     → (row.0 < from) ⊎ (to ≤ row.0)
 elsewhere from to lists u row e = elim (cases_lt row.0 from) [
   | inl h ↦ inl h
@@ -41,7 +41,7 @@ elsewhere from to lists u row e = elim (cases_lt row.0 from) [
   ]
 ]
 
-before : (from : ℕ) (lists : List (List (ℕ × Node))) → ((key : ℕ) → from ≤ key → node_at key lists ≡ None) → (row : ℕ × Node)
+before : (from : ℕ) (lists : KeyedLists) → ((key : ℕ) → from ≤ key → node_at key lists ≡ None) → (row : ℕ × Node)
     → node_at row.0 lists ≡ Some row.1 → row.0 < from
 before from lists u row e = elim (cases_lt row.0 from) [
   | inl h ↦ h

@@ -9,7 +9,7 @@ use Rattle.timer_base.specs.Pending.{timer_of}
 use Rattle.timer_base.specs.WakeUps.{IsWakeUp}
 use Rattle.timer_base.specs.WheelState.{IsPending}
 use Rattle.timer_links.specs.declared.node.Node.{Node}
-use Rattle.timer_links.specs.Lists.{list_at, row_count}
+use Rattle.timer_links.specs.Lists.{list_at, row_count, KeyedLists}
 use Rattle.timer_wheels.specs.Hashed.{slot_of, rounds_of, IsInBucket, AreInBuckets, IsNextSweep}
 use Rattle.timer_wheels.specs.Shown.{entries_at}
 use Rattle.timer_wheels.specs.BucketLists.{timer_in, entries_of, rows_below, pending_in, wheel_state, ArePending, AreInOrder, EachRow}
@@ -28,7 +28,7 @@ none_left : (rows : List (ℕ × Node)) → AllByRecursion (λ row. ⊥) rows �
 none_left [] a h = omega arith
 none_left (r ∷ rs) a h = a.0
 
-some_pending : (n l : ℕ) (lists : List (List (ℕ × Node))) → l < n → 0 < length (list_at l lists)
+some_pending : (n l : ℕ) (lists : KeyedLists) → l < n → 0 < length (list_at l lists)
     → 0 < length (pending_in (rows_below n lists))
 some_pending n l lists b h = elim (some_or_none (rows_below n lists)) [
   | inl e ↦ absurd (
@@ -43,7 +43,7 @@ entries_each : (visit : ℕ) (rows : List (ℕ × Node)) → AllByRecursion (λ 
 entries_each visit [] a = tt
 entries_each visit (r ∷ rs) a = (a.0, entries_each visit rs a.1)
 
-module _ (n last now last_serial : ℕ) (lists : List (List (ℕ × Node))) where
+module _ (n last now last_serial : ℕ) (lists : KeyedLists) where
   -- some bucket has a timer, and no deadline is before this tick
   pub wakes : (visit l : ℕ) → l < n → 0 < length (list_at l lists) → now < visit
       → EachRow (λ s row. visit ≤ (timer_in row).deadline) n lists → IsWakeUp visit (wheel_state n last now last_serial lists)
@@ -69,7 +69,7 @@ no_length [] e = refl
 no_length (x ∷ xs) e = absurd (omega arith)
 
 -- where the lists have no row nothing is pending
-pub none_at_all : (n : ℕ) (lists : List (List (ℕ × Node))) → length lists ≡ n + 1 → row_count lists ≡ 0
+pub none_at_all : (n : ℕ) (lists : KeyedLists) → length lists ≡ n + 1 → row_count lists ≡ 0
     → pending_in (rows_below n lists) ≡ []
 none_at_all n lists e z =
     let parts : row_count lists ≡ length (rows_below n lists) + length (list_at n lists) = row_count-parts n lists e in
@@ -77,16 +77,16 @@ none_at_all n lists e z =
     no_length (pending_in (rows_below n lists)) (omega arith)
 
 -- the slots up to some steps ahead have no timer
-abbrev pub AreEmptyAhead : ℕ → ℕ → ℕ → List (List (ℕ × Node)) → Type 0
+abbrev pub AreEmptyAhead : ℕ → ℕ → ℕ → KeyedLists → Type 0
 AreEmptyAhead n slot step lists = (j : ℕ) → 0 < j → j ≤ step → list_at ((slot + j) % n) lists ≡ []
 
-pub none_ahead : (n slot : ℕ) (lists : List (List (ℕ × Node))) → AreEmptyAhead n slot 0 lists
+pub none_ahead : (n slot : ℕ) (lists : KeyedLists) → AreEmptyAhead n slot 0 lists
 none_ahead n slot lists j a b = absurd (omega arith)
 
 which : (j step : ℕ) → j ≤ step + 1 → (j ≤ step) ⊎ (j ≡ step + 1)
 which j step h = elim (cases_lt j (step + 1)) [ inl k ↦ inl (omega arith) | inr k ↦ inr (omega arith) ]
 
-pub one_ahead : (n slot step bucket : ℕ) (lists : List (List (ℕ × Node))) → bucket ≡ (slot + (step + 1)) % n → list_at bucket lists ≡ []
+pub one_ahead : (n slot step bucket : ℕ) (lists : KeyedLists) → bucket ≡ (slot + (step + 1)) % n → list_at bucket lists ≡ []
     → AreEmptyAhead n slot step lists → AreEmptyAhead n slot (step + 1) lists
 one_ahead n slot step bucket lists e z f j a b = elim (which j step b) [
   | inl k ↦ f j a k
@@ -100,7 +100,7 @@ ahead_of n slot s a b = elim (cases_lt slot s) [
 ]
 
 -- after a full turn no slot is left
-pub all_ahead : (n slot : ℕ) (lists : List (List (ℕ × Node))) → slot < n → AreEmptyAhead n slot n lists → (s : ℕ) → s < n
+pub all_ahead : (n slot : ℕ) (lists : KeyedLists) → slot < n → AreEmptyAhead n slot n lists → (s : ℕ) → s < n
     → list_at s lists ≡ []
 all_ahead n slot lists a f s b = let j = ahead_of n slot s a b in ap (λ (x : ℕ). list_at x lists) (sym j.3) ∙ f j.0 j.1 j.2
 
@@ -108,7 +108,7 @@ slot_of_deadline : (n now j d : ℕ) → d ≡ now + j → (now % n + j) % n ≡
 slot_of_deadline n now j d e = mod-add-mod now n j ∙ ap (λ (x : ℕ). x % n) (sym e)
 
 -- a timer of a slot that has one is not before the first such slot
-row_in_time : (n now slot step s d : ℕ) (lists : List (List (ℕ × Node))) → slot ≡ now % n → AreEmptyAhead n slot step lists → d % n ≡ s
+row_in_time : (n now slot step s d : ℕ) (lists : KeyedLists) → slot ≡ now % n → AreEmptyAhead n slot step lists → d % n ≡ s
     → now < d → 0 < length (list_at s lists) → now + (step + 1) ≤ d
 row_in_time n now slot step s d lists a f m k h = elim (cases_lt d (now + (step + 1))) [
   | inl b ↦ absurd (
@@ -119,7 +119,7 @@ row_in_time n now slot step s d lists a f m k h = elim (cases_lt d (now + (step 
   | inr b ↦ b
 ]
 
-module _ (n last now last_serial slot step : ℕ) (lists : List (List (ℕ × Node))) (a : slot
+module _ (n last now last_serial slot step : ℕ) (lists : KeyedLists) (a : slot
     ≡ now % n) (f : AreEmptyAhead n slot step lists) where
   rows_in_time : (s : ℕ) (rows : List (ℕ × Node)) → 0 < length (list_at s lists)
       → AllByRecursion (λ row. IsPending last now last_serial (timer_in row)) rows → AllByRecursion (IsInBucket n now s) rows
@@ -148,7 +148,7 @@ module _ (n last now last_serial slot step : ℕ) (lists : List (List (ℕ × No
 slot_ahead : (n now slot j t : ℕ) → slot ≡ now % n → t ≡ now + j → (slot + j) % n ≡ t % n
 slot_ahead n now slot j t a e = ap (λ (x : ℕ). (x + j) % n) a ∙ slot_of_deadline n now j t e
 
-module _ (n last now last_serial slot step : ℕ) (lists : List (List (ℕ × Node))) (z : 0 < n) (a : slot
+module _ (n last now last_serial slot step : ℕ) (lists : KeyedLists) (z : 0 < n) (a : slot
     ≡ now % n) (f : AreEmptyAhead n slot step lists) (len : length lists
     ≡ n + 1) (o : AreInOrder (n + 1) lists) (q : AreInBuckets n now lists) where
   passed_none : (t : ℕ) → now < t → t < now + (step + 1) → entries_at (slot_of n) (t % n) (pending_in (rows_below n lists)) ≡ []

@@ -10,7 +10,7 @@ use Rattle.timer_base.specs.OrderLaws.{AreDistinct-rising, AreRising-weaken}
 use Rattle.timer_base.specs.Pending.{Entry, has_handle, first_timer, without_serial, without_found}
 use Rattle.timer_base.specs.WheelState.{WheelState, IsPending, due_at, after_start, after_withdrawal}
 use Rattle.timer_links.specs.declared.node.Node.{Node}
-use Rattle.timer_links.specs.Lists.{list_at, node_in, node_at, first_of, with_row, without_key, AreApart}
+use Rattle.timer_links.specs.Lists.{list_at, node_in, node_at, first_of, with_row, without_key, AreApart, KeyedLists}
 use Rattle.timer_wheels.specs.declared.buckets.Buckets.{Buckets}
 use Rattle.timer_wheels.specs.Buckets.{roomless_state, state_of, AddsRow}
 use Rattle.timer_wheels.specs.BucketLists.{timer_in, timers_in, entry_of, entries_of, rows_below, wheel_state, ArePending, AreDue, AreInOrder}
@@ -122,7 +122,7 @@ rising_without low row [] rest r = AreRising-weaken (timer_in row).serial low (t
     in omega arith) r.1
 rising_without low row (x ∷ xs) rest r = (r.0, rising_without (timer_in x).serial row xs rest r.1)
 
-module _ (now n : ℕ) (handle : Handle) (lists : List (List (ℕ × Node))) (len : length lists
+module _ (now n : ℕ) (handle : Handle) (lists : KeyedLists) (len : length lists
     ≡ n + 1) (later : AreLater now (rows_below n lists)) (past : AreDue now (list_at n lists)) (apart : AreApart lists) where
   each_due : (found : Option Node) → node_at handle.place lists ≡ found → AllByRecursion (HasNode handle.place found) (list_at n lists)
   each_due found e = subst (λ (o : Option Node). AllByRecursion (HasNode handle.place o) (list_at n lists)) e
@@ -209,7 +209,7 @@ module _ (b : Buckets) (handle : Handle) (apart : AreApart b.links.lists) (t : T
   row = (handle.place, f.node)
 
   -- the lists without it
-  abbrev rest : List (List (ℕ × Node))
+  abbrev rest : KeyedLists
   rest = slice_set b.links.lists b.slots (f.front ++ f.rest)
 
   in_links : b.slots < length b.links.lists
@@ -277,21 +277,21 @@ module _ (b : Buckets) (handle : Handle) (apart : AreApart b.links.lists) (t : T
   -- A withdrawal, by the lists that it leaves.
 
   pub withdrawn_length : length (map (without_key handle.place) b.links.lists) ≡ b.slots + 1
-  withdrawn_length = ap (λ (y : List (List (ℕ × Node))). length y) withdrawn_is ∙ rest_length
+  withdrawn_length = ap (λ (y : KeyedLists). length y) withdrawn_is ∙ rest_length
 
   pub withdrawn_pending : ArePending b.last_tick b.tick b.last_serial (rows_below b.slots (map (without_key handle.place) b.links.lists))
-  withdrawn_pending = let P : List (List (ℕ × Node)) → Type 0 = λ y. ArePending b.last_tick b.tick b.last_serial (rows_below b.slots y)
+  withdrawn_pending = let P : KeyedLists → Type 0 = λ y. ArePending b.last_tick b.tick b.last_serial (rows_below b.slots y)
       in subst P (sym withdrawn_is) rest_pending
 
   pub withdrawn_distinct : AreDistinct (timers_in (rows_below b.slots (map (without_key handle.place) b.links.lists)))
-  withdrawn_distinct = let P : List (List (ℕ × Node)) → Type 0 = λ y. AreDistinct (timers_in (rows_below b.slots y))
+  withdrawn_distinct = let P : KeyedLists → Type 0 = λ y. AreDistinct (timers_in (rows_below b.slots y))
       in subst P (sym withdrawn_is) rest_distinct
 
   pub withdrawn_past : AreDue b.tick (list_at b.slots (map (without_key handle.place) b.links.lists))
-  withdrawn_past = let P : List (List (ℕ × Node)) → Type 0 = λ y. AreDue b.tick (list_at b.slots y) in subst P (sym withdrawn_is) rest_past
+  withdrawn_past = let P : KeyedLists → Type 0 = λ y. AreDue b.tick (list_at b.slots y) in subst P (sym withdrawn_is) rest_past
 
   pub withdrawn_in_order : AreInOrder (b.slots + 1) (map (without_key handle.place) b.links.lists)
-  withdrawn_in_order = let P : List (List (ℕ × Node)) → Type 0 = AreInOrder (b.slots + 1) in subst P (sym withdrawn_is) rest_in_order
+  withdrawn_in_order = let P : KeyedLists → Type 0 = AreInOrder (b.slots + 1) in subst P (sym withdrawn_is) rest_in_order
 
   pub withdrawn_state : wheel_state b.slots b.last_tick b.tick b.last_serial (map (without_key handle.place) b.links.lists)
       ≡ after_withdrawal handle (roomless_state b)
@@ -303,7 +303,7 @@ module _ (b : Buckets) (handle : Handle) (apart : AreApart b.links.lists) (t : T
   -- Another timer is started in its place.
 
   module _ (bucket rounds : ℕ) (timer : Timer) (m : MayRestart b bucket timer) where
-    abbrev less : List (List (ℕ × Node))
+    abbrev less : KeyedLists
     less = map (without_key handle.place) b.links.lists
 
     abbrev node : Node

@@ -10,7 +10,7 @@ use Rattle.timer_base.specs.OrderLaws.{map-in_order, All-in_order, IsOrdered-in_
 use Rattle.timer_base.specs.Pending.{timer_of, timers_of}
 use Rattle.timer_base.specs.WheelState.{IsPending, IsWellFormed}
 use Rattle.timer_links.specs.declared.node.Node.{Node}
-use Rattle.timer_links.specs.Lists.{list_at}
+use Rattle.timer_links.specs.Lists.{list_at, KeyedLists}
 use Rattle.timer_wheels.specs.BucketLists.{timer_in, timers_in, entries_of, rows_below, pending_in, wheel_state, ArePending, AreDue, AreInOrder}
 
 pub timers_of-entries : (rows : List (ℕ × Node)) → map timer_of (entries_of rows) ≡ timers_in rows
@@ -29,7 +29,7 @@ all-timers : (P : Timer → Type 0) (rows : List (ℕ × Node)) → AllByRecursi
 all-timers P [] a = tt
 all-timers P (x ∷ xs) a = (a.0, all-timers P xs a.1)
 
-pub wheel_state-well_formed : (n last_tick now last : ℕ) (lists : List (List (ℕ × Node)))
+pub wheel_state-well_formed : (n last_tick now last : ℕ) (lists : KeyedLists)
     → last_tick ≤ LAST → now ≤ last_tick → last ≤ LAST
     → ArePending last_tick now last (rows_below n lists) → AreDistinct (timers_in (rows_below n lists))
     → AreDue now (list_at n lists) → AreInOrder (n + 1) lists

@@ -11,7 +11,7 @@ use Rattle.timer_base.specs.OrderLaws.{AreRising-prop}
 use Rattle.timer_base.specs.Pending.{Entry, timer_of}
 use Rattle.timer_base.specs.WheelState.{WheelState, IsPending}
 use Rattle.timer_links.specs.declared.node.Node.{Node}
-use Rattle.timer_links.specs.Lists.{list_at}
+use Rattle.timer_links.specs.Lists.{list_at, KeyedLists}
 
 -- the timer of a row
 abbrev pub timer_in : ℕ × Node → Timer
@@ -29,7 +29,7 @@ abbrev pub entries_of : List (ℕ × Node) → List Entry
 entries_of rows = map entry_of rows
 
 -- the rows of the first n lists, list by list
-abbrev pub rows_below : ℕ → List (List (ℕ × Node)) → List (ℕ × Node)
+abbrev pub rows_below : ℕ → KeyedLists → List (ℕ × Node)
 rows_below zero lists = []
 rows_below (suc n) [] = []
 rows_below (suc n) (rows ∷ lists) = rows ++ rows_below n lists
@@ -39,7 +39,7 @@ abbrev pub pending_in : List (ℕ × Node) → List Entry
 pending_in rows = in_order timer_of (entries_of rows)
 
 -- the state of a wheel with n buckets and no room
-abbrev pub wheel_state : ℕ → ℕ → ℕ → ℕ → List (List (ℕ × Node)) → WheelState
+abbrev pub wheel_state : ℕ → ℕ → ℕ → ℕ → KeyedLists → WheelState
 wheel_state n last_tick now last_serial lists = record {
   last_tick = last_tick;
   now = now;
@@ -55,11 +55,11 @@ ArePending last_tick now last_serial rows = AllByRecursion
     (λ row. IsPending last_tick now last_serial (timer_in row)) rows
 
 -- each row of the first n lists is of a pending timer
-abbrev pub ArePendingBelow : ℕ → ℕ → ℕ → ℕ → List (List (ℕ × Node)) → Type 0
+abbrev pub ArePendingBelow : ℕ → ℕ → ℕ → ℕ → KeyedLists → Type 0
 ArePendingBelow n last_tick now last_serial lists = ArePending last_tick now last_serial (rows_below n lists)
 
 -- each of the first n lists has its rows in order of starting
-abbrev pub AreInOrder : ℕ → List (List (ℕ × Node)) → Type 0
+abbrev pub AreInOrder : ℕ → KeyedLists → Type 0
 AreInOrder n lists = (s : ℕ) → s < n → AreRising 0 (timers_in (list_at s lists))
 
 -- the deadline of each row is the tick
@@ -67,13 +67,13 @@ abbrev pub AreDue : ℕ → List (ℕ × Node) → Type 0
 AreDue now rows = AllByRecursion (λ row. (timer_in row).deadline ≡ now) rows
 
 -- each row of the first n lists is as the fact says of its list
-abbrev pub EachRow : (ℕ → ℕ × Node → Type 0) → ℕ → List (List (ℕ × Node)) → Type 0
+abbrev pub EachRow : (ℕ → ℕ × Node → Type 0) → ℕ → KeyedLists → Type 0
 EachRow fact n lists = (s : ℕ) → s < n → AllByRecursion (fact s) (list_at s lists)
 
 IsPending-prop : (last_tick now last_serial : ℕ) (t : Timer) → IsProp (IsPending last_tick now last_serial t)
 IsPending-prop last_tick now last_serial t = hlevel props
 
-pub ArePendingBelow-prop : (n last_tick now last_serial : ℕ) (lists : List (List (ℕ × Node)))
+pub ArePendingBelow-prop : (n last_tick now last_serial : ℕ) (lists : KeyedLists)
     → IsProp (ArePendingBelow n last_tick now last_serial lists)
 ArePendingBelow-prop n last_tick now last_serial lists =
     AllByRecursion-prop (λ row. IsPending last_tick now last_serial (timer_in row))
@@ -82,11 +82,11 @@ ArePendingBelow-prop n last_tick now last_serial lists =
 pub AreDue-prop : (now : ℕ) (rows : List (ℕ × Node)) → IsProp (AreDue now rows)
 AreDue-prop now rows = AllByRecursion-prop (λ row. (timer_in row).deadline ≡ now) (λ row. ℕ_set _ _) rows
 
-pub AreInOrder-prop : (n : ℕ) (lists : List (List (ℕ × Node))) → IsProp (AreInOrder n lists)
+pub AreInOrder-prop : (n : ℕ) (lists : KeyedLists) → IsProp (AreInOrder n lists)
 AreInOrder-prop n lists = Π_prop (λ s. Π_prop (λ b. AreRising-prop 0 (timers_in (list_at s lists))))
 
 pub EachRow-prop : (fact : ℕ → ℕ × Node → Type 0) → ((s : ℕ) (row : ℕ × Node) → IsProp (fact s row))
-    → (n : ℕ) (lists : List (List (ℕ × Node))) → IsProp (EachRow fact n lists)
+    → (n : ℕ) (lists : KeyedLists) → IsProp (EachRow fact n lists)
 EachRow-prop fact prop n lists = Π_prop (λ s. Π_prop
     (λ b. AllByRecursion-prop (fact s) (prop s) (list_at s lists)))
 

@@ -1,9 +1,9 @@
 -- The state that `Buckets` represents, and how its calls change the lists.
-use Rattle.std.specs.Prelude.{◌≡◌, ◌≢◌, ◌<◌, ◌++◌, ℕ, List, [], ◌∷◌, map, Option, Some, None, MatchOption}
+use Rattle.std.specs.Prelude.{◌≡◌, ◌≢◌, ◌<◌, ◌++◌, ℕ, [], ◌∷◌, map, Option, Some, None, MatchOption}
 use Rattle.timer_base.specs.declared.timer.Timer.{Timer}
 use Rattle.timer_base.specs.WheelState.{WheelState, IsWellFormed, with_room, with_room-well_formed}
 use Rattle.timer_links.specs.declared.node.Node.{Node}
-use Rattle.timer_links.specs.Lists.{list_at, with_row, without_key}
+use Rattle.timer_links.specs.Lists.{list_at, with_row, without_key, KeyedLists}
 use Rattle.timer_wheels.specs.declared.buckets.Buckets.{Buckets}
 use Rattle.timer_wheels.specs.BucketLists.{wheel_state}
 use Rattle.timer_wheels.specs.BucketLaws.{wheel_state-well_formed}
@@ -33,18 +33,18 @@ abbrev pub row_at : ℕ → Timer → ℕ → ℕ × Node
 row_at place timer rounds = (place, record { timer = timer; rounds = rounds })
 
 -- where a timer was found, the row under its key is removed; else the lists are unchanged
-abbrev pub RemovesRow : {X : Type 0} → Option X → ℕ → List (List (ℕ × Node)) → List (List (ℕ × Node)) → Type 0
+abbrev pub RemovesRow : {X : Type 0} → Option X → ℕ → KeyedLists → KeyedLists → Type 0
 RemovesRow found key old new = MatchOption found (new ≡ old) (λ r. new ≡ map (without_key key) old)
 
 -- where a timer was found, the row under its key is removed, and this row is pushed to the back of a list;
 -- else the lists are unchanged
-abbrev pub ReplacesRow : {X : Type 0} → Option X → ℕ → ℕ × Node → List (List (ℕ × Node))
-    → List (List (ℕ × Node)) → Type 0
+abbrev pub ReplacesRow : {X : Type 0} → Option X → ℕ → ℕ × Node → KeyedLists
+    → KeyedLists → Type 0
 ReplacesRow found l row old new = MatchOption found (new ≡ old) (λ r. new
     ≡ with_row l row (map (without_key row.0) old))
 
 -- the row is pushed to the back of list l; the others of the first n lists are unchanged
-pub record AddsRow (n l : ℕ) (row : ℕ × Node) (old new : List (List (ℕ × Node))) : Type 0 where
+pub record AddsRow (n l : ℕ) (row : ℕ × Node) (old new : KeyedLists) : Type 0 where
   pub here : list_at l new ≡ list_at l old ++ row ∷ []
   pub others : (s : ℕ) → s < n → s ≢ l → list_at s new ≡ list_at s old
 

@@ -1,11 +1,12 @@
 -- The slot and the rounds of a timer in a hashed wheel, what its `links` shows, and the invariant of its
 -- rows.
-use Rattle.std.specs.Prelude.{◌≡◌, ℕ, ◌+◌, ◌-◌, ◌/◌, ◌%◌, ◌<◌, ◌≤◌, List, [], length}
+use Rattle.std.specs.Prelude.{◌≡◌, ℕ, ◌+◌, ◌-◌, ◌/◌, ◌%◌, ◌<◌, ◌≤◌, [], length}
 use Rattle.std.specs.Coded.{×_prop}
 use Rattle.std.proofs.Props.{props}
 use Rattle.timer_base.specs.declared.timer.Timer.{Timer}
 use Rattle.timer_base.specs.WheelState.{WheelState}
 use Rattle.timer_links.specs.declared.node.Node.{Node}
+use Rattle.timer_links.specs.Lists.{KeyedLists}
 use Rattle.timer_wheels.specs.BucketLists.{timer_in, EachRow, EachRow-prop}
 use Rattle.timer_wheels.specs.Shown.{entries_at, ShowsBuckets}
 
@@ -19,7 +20,7 @@ rounds_of n now t = (t.deadline - now - 1) / n
 
 -- list s, for s below n, has the pending timers with deadline mod n = s, by serial, each under its place with
 -- its rounds, and list n has what is due
-abbrev pub IsHashed : ℕ → WheelState → List (List (ℕ × Node)) → Type 0
+abbrev pub IsHashed : ℕ → WheelState → KeyedLists → Type 0
 IsHashed n w lists = ShowsBuckets n (slot_of n) (rounds_of n w.now) w lists
 
 -- the next tick that sweeps a bucket with a timer
@@ -36,11 +37,11 @@ abbrev pub IsInBucket : ℕ → ℕ → ℕ → ℕ × Node → Type 0
 IsInBucket n now s row = (slot_of n (timer_in row) ≡ s) × (row.1.rounds ≡ rounds_of n now (timer_in row))
 
 -- each row stands in its bucket, with its rounds
-abbrev pub AreInBuckets : ℕ → ℕ → List (List (ℕ × Node)) → Type 0
+abbrev pub AreInBuckets : ℕ → ℕ → KeyedLists → Type 0
 AreInBuckets n now lists = EachRow (IsInBucket n now) n lists
 
 IsInBucket-prop : (n now s : ℕ) (row : ℕ × Node) → IsProp (IsInBucket n now s row)
 IsInBucket-prop n now s row = ×_prop (hlevel props) (hlevel props)
 
-pub AreInBuckets-prop : (n now : ℕ) (lists : List (List (ℕ × Node))) → IsProp (AreInBuckets n now lists)
+pub AreInBuckets-prop : (n now : ℕ) (lists : KeyedLists) → IsProp (AreInBuckets n now lists)
 AreInBuckets-prop n now lists = EachRow-prop (IsInBucket n now) (IsInBucket-prop n now) n lists

@@ -1,7 +1,7 @@
 -- The next visit of a bucket in a hierarchy of wheels (the tick that empties it), and leaps of its clock.
 use Rattle.std.specs.Prelude.{◌≡◌, ℕ, ◌+◌, ◌-◌, ◌*◌, ◌/◌, ◌<◌, ◌≤◌, nat_lt, zero, suc, ◌==◌, ◌⊎◌, if◌then◌else◌, List, [], ◌∷◌, length, Option, MatchOption}
 use Rattle.timer_base.specs.WheelState.{WheelState, after_ticks}
-use Rattle.timer_links.specs.declared.node.Node.{Node}
+use Rattle.timer_links.specs.Lists.{KeyedLists}
 use Rattle.timer_wheels.specs.BucketLists.{timer_in, EachRow}
 use Rattle.timer_wheels.specs.Placement.{hops_of, levels_of}
 
@@ -24,12 +24,12 @@ list_visit [] l now = now
 list_visit (r ∷ rs) l now = if nat_lt l r then r * (now / r) + l else r * list_visit rs (l - r) (now / r)
 
 -- no bucket with a timer is visited before this tick
-abbrev pub AreNotVisitedBefore : List ℕ → ℕ → ℕ → ℕ → List (List (ℕ × Node)) → Type 0
+abbrev pub AreNotVisitedBefore : List ℕ → ℕ → ℕ → ℕ → KeyedLists → Type 0
 AreNotVisitedBefore table n now visit lists = EachRow (λ s row. visit
     ≤ timer_visit table now (timer_in row).deadline) n lists
 
 -- the same of a tick that is found, and of every tick where none is
-abbrev pub IsVisitBound : List ℕ → ℕ → ℕ → Option ℕ → List (List (ℕ × Node)) → Type 0
+abbrev pub IsVisitBound : List ℕ → ℕ → ℕ → Option ℕ → KeyedLists → Type 0
 IsVisitBound table n now found lists =
     MatchOption found ((visit : ℕ) → AreNotVisitedBefore table n now visit lists)
     (λ visit. AreNotVisitedBefore table n now visit lists)

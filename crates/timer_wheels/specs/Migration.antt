@@ -3,7 +3,7 @@
 use Rattle.std.specs.Prelude.{◌≡◌, ◌≢◌, ℕ, ◌≤◌, not, if◌then◌else◌, List, [], ◌∷◌, filter, slice_set, Option, Some, None}
 use Rattle.timer_base.specs.Pending.{is_due_at}
 use Rattle.timer_links.specs.declared.node.Node.{Node}
-use Rattle.timer_links.specs.Lists.{list_at, with_row}
+use Rattle.timer_links.specs.Lists.{list_at, with_row, KeyedLists}
 use Rattle.timer_wheels.specs.Digits.{bucket, slots, last_of}
 use Rattle.timer_wheels.specs.BucketLists.{timer_in}
 
@@ -13,13 +13,13 @@ target table tick row = if is_due_at tick (timer_in row) then slots table else b
     (timer_in row).deadline
 
 -- the rows move, one after another, to the back of their lists
-abbrev pub migrate_rows : List ℕ → ℕ → List (ℕ × Node) → List (List (ℕ × Node)) → List (List (ℕ × Node))
+abbrev pub migrate_rows : List ℕ → ℕ → List (ℕ × Node) → KeyedLists → KeyedLists
 migrate_rows table tick [] lists = lists
 migrate_rows table tick (row ∷ rows) lists = migrate_rows table tick rows
     (with_row (target table tick row) row lists)
 
 -- one list is emptied from its front
-abbrev pub migrated : List ℕ → ℕ → ℕ → List (List (ℕ × Node)) → List (List (ℕ × Node))
+abbrev pub migrated : List ℕ → ℕ → ℕ → KeyedLists → KeyedLists
 migrated table tick l lists = migrate_rows table tick (list_at l lists) (slice_set lists l [])
 
 -- the rows that are due at this tick

@@ -4,7 +4,7 @@ use Rattle.std.specs.Int.{bit_at}
 use Rattle.std.specs.Coded.{Π_prop, ×_prop}
 use Rattle.std.proofs.Math.Nat.{ℕ_set}
 use Rattle.timer_links.specs.declared.node.Node.{Node}
-use Rattle.timer_links.specs.Lists.{list_at}
+use Rattle.timer_links.specs.Lists.{list_at, KeyedLists}
 
 -- the bit of list s
 abbrev pub bit_of : List ℕ → ℕ → ℕ
@@ -31,11 +31,11 @@ abbrev pub IsClearFrom : ℕ → List ℕ → Type 0
 IsClearFrom n words = (s : ℕ) → n ≤ s → s < 640 → bit_of words s ≡ 0
 
 -- each bit of the first n lists is set exactly where its list has rows, and no other is set
-abbrev pub AreMarked : ℕ → List ℕ → List (List (ℕ × Node)) → Type 0
+abbrev pub AreMarked : ℕ → List ℕ → KeyedLists → Type 0
 AreMarked n words lists = ((s : ℕ) → s < n → bit_of words s ≡ filled (list_at s lists)) × IsClearFrom n words
 
 -- the same but for the bit of one list
-abbrev pub AreMarkedBut : ℕ → ℕ → List ℕ → List (List (ℕ × Node)) → Type 0
+abbrev pub AreMarkedBut : ℕ → ℕ → List ℕ → KeyedLists → Type 0
 AreMarkedBut n l words lists = ((s : ℕ) → s < n → s ≢ l → bit_of words s ≡ filled (list_at s lists))
     × IsClearFrom n words
 
@@ -44,7 +44,7 @@ abbrev pub Clears : Option ℕ → List ℕ → List ℕ → Type 0
 Clears None old new = new ≡ old
 Clears (Some l) old new = (bit_of new l ≡ 0) × ((s : ℕ) → s ≢ l → bit_of new s ≡ bit_of old s)
 
-pub AreMarked-prop : (n : ℕ) (words : List ℕ) (lists : List (List (ℕ × Node)))
+pub AreMarked-prop : (n : ℕ) (words : List ℕ) (lists : KeyedLists)
     → IsProp (AreMarked n words lists)
 AreMarked-prop n words lists =
     ×_prop (Π_prop (λ s. Π_prop (λ b. ℕ_set (bit_of words s) (filled (list_at s lists)))))

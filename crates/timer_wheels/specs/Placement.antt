@@ -7,6 +7,7 @@ use Rattle.timer_base.specs.declared.timer.Timer.{Timer}
 use Rattle.timer_base.specs.Pending.{Entry}
 use Rattle.timer_base.specs.WheelState.{WheelState}
 use Rattle.timer_links.specs.declared.node.Node.{Node}
+use Rattle.timer_links.specs.Lists.{KeyedLists}
 use Rattle.timer_wheels.specs.Digits.{level, bucket, slots, hops}
 use Rattle.timer_wheels.specs.Shown.{ShowsBuckets}
 use Rattle.timer_wheels.specs.BucketLists.{timer_in}
@@ -25,7 +26,7 @@ IsPlaced table now s row = (bucket table now (timer_in row).deadline ≡ s) × (
 
 -- list s, for s below the number of slots, has the pending timers whose bucket it is, by serial, each under
 -- its place with no rounds, and the next list has what is due
-abbrev pub ShowsWheels : List ℕ → WheelState → List (List (ℕ × Node)) → Type 0
+abbrev pub ShowsWheels : List ℕ → WheelState → KeyedLists → Type 0
 ShowsWheels table w lists = ShowsBuckets (slots table) (bucket_at table w.now) no_rounds w lists
 
 pub IsPlaced-prop : (table : List ℕ) (now s : ℕ) (row : ℕ × Node) → IsProp (IsPlaced table now s row)

@@ -5,7 +5,7 @@ use Rattle.timer_base.specs.Order.{in_order}
 use Rattle.timer_base.specs.Pending.{Entry}
 use Rattle.timer_base.specs.WheelState.{WheelState}
 use Rattle.timer_links.specs.declared.node.Node.{Node}
-use Rattle.timer_links.specs.Lists.{list_at}
+use Rattle.timer_links.specs.Lists.{list_at, KeyedLists}
 use Rattle.timer_wheels.specs.BucketLists.{entries_of}
 
 -- the timer, were its deadline 0
@@ -27,7 +27,7 @@ entries_at bucket_of s entries = filter (λ entry. bucket_of entry.timer == s) e
 -- of n + 1 lists each of the first n has the pending timers of its bucket, by serial, each under its place
 -- with its rounds, and the next one has what is due
 pub record ShowsBuckets (n : ℕ) (bucket_of rounds_of : Timer
-    → ℕ) (w : WheelState) (lists : List (List (ℕ × Node))) : Type 0 where
+    → ℕ) (w : WheelState) (lists : KeyedLists) : Type 0 where
   pub count : length lists ≡ n + 1
   pub buckets : (s : ℕ) → s < n → list_at s lists ≡ map (row_of rounds_of)
       (by_serial (entries_at bucket_of s w.pending))

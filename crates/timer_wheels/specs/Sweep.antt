@@ -1,7 +1,7 @@
 -- The lists of a hashed wheel after one bucket is swept.
 use Rattle.std.specs.Prelude.{ℕ, ◌-◌, ◌==◌, if◌then◌else◌, List, [], ◌∷◌, ◌++◌, slice_set}
 use Rattle.timer_links.specs.declared.node.Node.{Node}
-use Rattle.timer_links.specs.Lists.{list_at}
+use Rattle.timer_links.specs.Lists.{list_at, KeyedLists}
 
 -- the rows with no rounds left
 abbrev pub due_now : List (ℕ × Node) → List (ℕ × Node)
@@ -20,11 +20,11 @@ due_later (row ∷ rows) = if row.1.rounds == 0 then due_later rows else (
 ) ∷ due_later rows
 
 -- the lists where these rows of one list were swept, and those not yet
-abbrev pub half_swept : ℕ → ℕ → List (ℕ × Node) → List (ℕ × Node) → List (List (ℕ × Node))
-    → List (List (ℕ × Node))
+abbrev pub half_swept : ℕ → ℕ → List (ℕ × Node) → List (ℕ × Node) → KeyedLists
+    → KeyedLists
 half_swept l due past left lists = slice_set (slice_set lists l (due_later past ++ left)) due
     (list_at due lists ++ due_now past)
 
 -- one list was swept
-abbrev pub swept : ℕ → ℕ → List (List (ℕ × Node)) → List (List (ℕ × Node))
+abbrev pub swept : ℕ → ℕ → KeyedLists → KeyedLists
 swept l due lists = half_swept l due (list_at l lists) [] lists

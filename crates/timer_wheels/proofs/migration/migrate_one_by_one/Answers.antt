@@ -1,6 +1,5 @@
 use Rattle.std.proofs.Common.{◌≡◌, ◌<◌, ◌≤◌, ◌+◌, ℕ, List, length, sym, ◌∙◌, ap, subst, arith}
-use Rattle.timer_links.specs.declared.node.Node.{Node}
-use Rattle.timer_links.specs.Lists.{LinksState, row_count}
+use Rattle.timer_links.specs.Lists.{LinksState, row_count, KeyedLists}
 use Rattle.timer_wheels.specs.Digits.{slots}
 use Rattle.timer_wheels.specs.Occupied.{bit_of, filled, AreMarkedBut}
 use Rattle.timer_wheels.specs.Tables.{radices}
@@ -9,10 +8,10 @@ use Rattle.timer_wheels.proofs.OccupiedLemmas.{marked_due, marked_left, marked_a
 use Rattle.timer_wheels.proofs.migration.migrate_one_by_one.Goals as goal
 use Rattle.timer_wheels.proofs.migration.migrate_one_by_one.Goals.{then-deadline-tick, else-deadline-tick}
 
-in_lists : (l n : ℕ) (lists : List (List (ℕ × Node))) → length lists ≡ n + 1 → l < n → l < length lists
+in_lists : (l n : ℕ) (lists : KeyedLists) → length lists ≡ n + 1 → l < n → l < length lists
 in_lists l n lists e h = omega arith
 
-in_new : (to n : ℕ) (lists old : List (List (ℕ × Node))) → to < n → length old ≡ n + 1 → length lists ≡ length old → to < length lists
+in_new : (to n : ℕ) (lists old : KeyedLists) → to < n → length old ≡ n + 1 → length lists ≡ length old → to < length lists
 in_new to n lists old h e f = omega arith
 
 pub loop-step-preserved : goal.loop-step-preserved
@@ -68,7 +67,7 @@ loop-step-preserved c =
       }
     ]
 
-ended : (table : List ℕ) (list tick step moves : ℕ) (old links : List (List (ℕ × Node))) → IsEmptying table list tick step moves old links
+ended : (table : List ℕ) (list tick step moves : ℕ) (old links : KeyedLists) → IsEmptying table list tick step moves old links
     → (n : ℕ) → n ≡ row_count old → n ≤ step → IsEmptied table list tick moves old links
 ended table list tick step moves old links i n e h = ended_count table list tick step moves old links i (omega arith)
 

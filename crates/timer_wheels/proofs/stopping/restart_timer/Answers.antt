@@ -1,7 +1,7 @@
-use Rattle.std.proofs.Common.{◌≡◌, ◌<◌, ◌≤◌, ◌+◌, ℕ, List, length, refl, sym, ◌∙◌, subst, arith}
+use Rattle.std.proofs.Common.{◌≡◌, ◌<◌, ◌≤◌, ◌+◌, ℕ, length, refl, sym, ◌∙◌, subst, arith}
 use Rattle.std.specs.Prelude.{map}
 use Rattle.timer_links.specs.declared.node.Node.{Node}
-use Rattle.timer_links.specs.Lists.{with_row, without_key}
+use Rattle.timer_links.specs.Lists.{with_row, without_key, KeyedLists}
 use Rattle.timer_wheels.specs.Digits.{slots}
 use Rattle.timer_wheels.specs.Occupied.{AreMarked}
 use Rattle.timer_wheels.specs.Placement.{IsPlaced}
@@ -46,7 +46,7 @@ returns-clause-hier c =
     let key = c.args.handle.place in
     let to = c.bucket_of-list.result in
     let new = c.restart.new.self in
-    let rest : List (List (ℕ × Node)) = map (without_key key) b.links.lists in
+    let rest : KeyedLists = map (without_key key) b.links.lists in
     let row : ℕ × Node = (key, record { timer = c.args.timer; rounds = 0 }) in
     let f = c.restart.ensures.frame in
     let in_slots : to < b.slots = below to (slots t) b.slots (sym h.has_slots) c.bucket_of-list.ensures.in_range in
@@ -58,9 +58,9 @@ returns-clause-hier c =
     let marked = marked_with_row b.slots c.clear_emptied.new.occupied c.insert.new.self to row rest in_slots
     (in_lists to b.slots (length rest) (length-map b.links.lists (without_key key)
     ∙ b.has_lists) in_slots) c.insert.ensures.here c.insert.ensures.others without in
-    let P : List (List (ℕ × Node)) → Type 0 = AreMarked b.slots c.insert.new.self in
+    let P : KeyedLists → Type 0 = AreMarked b.slots c.insert.new.self in
     let R : ℕ → Type 0 = λ k. AreMarked k c.insert.new.self new.links.lists in
-    let S : List (List (ℕ × Node)) → Type 0 = EachRow (IsPlaced t b.tick) b.slots in
+    let S : KeyedLists → Type 0 = EachRow (IsPlaced t b.tick) b.slots in
     let T : ℕ → Type 0 = λ k. EachRow (IsPlaced t b.tick) k new.links.lists in
     let U : ℕ → Type 0 = λ k. EachRow (IsPlaced t k) new.slots new.links.lists in
     record {

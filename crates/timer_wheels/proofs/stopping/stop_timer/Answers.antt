@@ -1,7 +1,6 @@
-use Rattle.std.proofs.Common.{◌≡◌, ℕ, List, sym, ap, ◌∙◌, subst}
+use Rattle.std.proofs.Common.{◌≡◌, ℕ, sym, ap, ◌∙◌, subst}
 use Rattle.std.specs.Prelude.{Some, map}
-use Rattle.timer_links.specs.declared.node.Node.{Node}
-use Rattle.timer_links.specs.Lists.{without_key}
+use Rattle.timer_links.specs.Lists.{without_key, KeyedLists}
 use Rattle.timer_wheels.specs.Occupied.{AreMarked}
 use Rattle.timer_wheels.specs.Buckets.{taken_timer}
 use Rattle.timer_wheels.specs.Tables.{radices}
@@ -20,7 +19,7 @@ returns-clause-hier c =
     let h = c.requires.hier in
     let f = c.take.ensures.frame in
     let links : c.take.new.self.links.lists ≡ map (without_key c.args.handle.place) b.links.lists = c.in_ok-timer.ensures.lists in
-    let P : List (List (ℕ × Node)) → Type 0 = AreMarked b.slots c.clear_emptied.new.occupied in
+    let P : KeyedLists → Type 0 = AreMarked b.slots c.clear_emptied.new.occupied in
     let R : ℕ → Type 0 = λ k. AreMarked k c.clear_emptied.new.occupied c.take.new.self.links.lists in
     record {
       has_slots = f.slots ∙ h.has_slots;

@@ -1,6 +1,5 @@
-use Rattle.std.proofs.Common.{◌≡◌, ◌+◌, ◌%◌, ℕ, List, length, ◌∙◌, ap}
-use Rattle.timer_links.specs.declared.node.Node.{Node}
-use Rattle.timer_links.specs.Lists.{list_at}
+use Rattle.std.proofs.Common.{◌≡◌, ◌+◌, ◌%◌, ℕ, length, ◌∙◌, ap}
+use Rattle.timer_links.specs.Lists.{list_at, KeyedLists}
 use Rattle.timer_base.specs.WheelState.{with_room, WheelState}
 use Rattle.timer_wheels.specs.Buckets.{state_of}
 use Rattle.timer_wheels.specs.Sweep.{swept}
@@ -8,14 +7,14 @@ use Rattle.timer_wheels.proofs.BucketLemmas.{no_rows, due_past}
 use Rattle.timer_wheels.proofs.HashedTicks.{length-swept, ticked, ticked-pending, ticked-distinct, ticked-in_order, ticked-in_buckets}
 use Rattle.timer_wheels.proofs.sweep.next_tick.Goals as goal
 
-gone_through : (n tick slot : ℕ) (old new : List (List (ℕ × Node))) → new ≡ swept slot n old → slot ≡ (tick + 1) % n
+gone_through : (n tick slot : ℕ) (old new : KeyedLists) → new ≡ swept slot n old → slot ≡ (tick + 1) % n
     → new ≡ swept ((tick + 1) % n) n old
 gone_through n tick slot old new e f = e ∙ ap (λ (k : ℕ). swept k n old) f
 
 pub invariant_of-buckets-clause-has_lists : goal.invariant_of-buckets-clause-has_lists
 invariant_of-buckets-clause-has_lists c =
     let b = c.args.buckets.now in
-    ap (λ (y : List (List (ℕ × Node))). length y) (gone_through b.slots b.tick c.args.slot b.links.lists c.sweep_bucket.new.links.lists
+    ap (λ (y : KeyedLists). length y) (gone_through b.slots b.tick c.args.slot b.links.lists c.sweep_bucket.new.links.lists
     c.sweep_bucket.ensures.swept c.requires.slot)
     ∙ (length-swept b.slots b.last_tick b.tick b.last_serial b.links.lists c.requires.has_slots b.has_lists b.pending c.requires.in_buckets
     (no_rows (list_at b.slots b.links.lists) c.requires.nothing_due) ∙ b.has_lists)

@@ -1,6 +1,5 @@
-use Rattle.std.proofs.Common.{ℕ, List, ap}
-use Rattle.timer_links.specs.declared.node.Node.{Node}
-use Rattle.timer_links.specs.Lists.{LinksState}
+use Rattle.std.proofs.Common.{ap}
+use Rattle.timer_links.specs.Lists.{LinksState, KeyedLists}
 use Rattle.timer_links.proofs.UniqueLists.{closed, lists_are, no_room}
 use Rattle.timer_links.proofs.NewLinks.{no_roots, one_more, empty_linked}
 use Rattle.timer_links.proofs.links.Links.new.Goals as goal
@@ -21,6 +20,6 @@ invariant_of-result c = (
 
 pub returns : goal.returns
 returns c =
-    let f : List (List (ℕ × Node)) → LinksState = λ x. record { lists = x; room = 0 } in
+    let f : KeyedLists → LinksState = λ x. record { lists = x; room = 0 } in
     ap f (lists_are _ _ _ _ (empty_linked c.args.lists c.loop-list.list c.new.result c.loop-list.sides.items c.new.ensures.empty
     c.loop-list.invariant c.loop-list.auto.list-end c.loop-list-test.false c.requires))

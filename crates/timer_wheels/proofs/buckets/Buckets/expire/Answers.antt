@@ -3,31 +3,31 @@ use Rattle.std.proofs.Common.{◌≡◌, ◌+◌, ℕ, List, length, sym, ◌∙
 use Rattle.std.specs.Prelude.{Option, Some, None}
 use Rattle.timer_links.specs.declared.node.Node.{Node}
 use Rattle.timer_base.specs.Order.{AreDistinct}
-use Rattle.timer_links.specs.Lists.{list_at, PopsFront}
+use Rattle.timer_links.specs.Lists.{list_at, PopsFront, KeyedLists}
 use Rattle.timer_wheels.specs.BucketLists.{rows_below, timers_in, ArePending, AreDue, AreInOrder}
 use Rattle.timer_wheels.proofs.BucketLemmas.{expired-rows, expired, expired-past, expired-in_order}
 use Rattle.timer_wheels.proofs.buckets.Buckets.expire.Goals as goal
 
 -- what removing the first due row leaves unchanged
-record KeepsBuckets (now n : ℕ) (old new : List (List (ℕ × Node))) : Type 0 where
+record KeepsBuckets (now n : ℕ) (old new : KeyedLists) : Type 0 where
   has_lists : length new ≡ n + 1
   rows : rows_below n new ≡ rows_below n old
   in_order : AreInOrder (n + 1) new
   past : AreDue now (list_at n new)
 
-popped : (now n : ℕ) (found : Option (ℕ × Node)) (old new : List (List (ℕ × Node))) → length old ≡ n + 1 → AreInOrder (n + 1) old
+popped : (now n : ℕ) (found : Option (ℕ × Node)) (old new : KeyedLists) → length old ≡ n + 1 → AreInOrder (n + 1) old
     → AreDue now (list_at n old) → PopsFront n old found new → KeepsBuckets now n old new
 popped now n None old new h o q p = record {
-  has_lists = ap (λ (y : List (List (ℕ × Node))). length y) p.1 ∙ h;
+  has_lists = ap (λ (y : KeyedLists). length y) p.1 ∙ h;
   rows = ap (rows_below n) p.1;
-  in_order = let P : List (List (ℕ × Node)) → Type 0 = AreInOrder (n + 1) in subst P (sym p.1) o;
-  past = let P : List (List (ℕ × Node)) → Type 0 = λ lists. AreDue now (list_at n lists) in subst P (sym p.1) q;
+  in_order = let P : KeyedLists → Type 0 = AreInOrder (n + 1) in subst P (sym p.1) o;
+  past = let P : KeyedLists → Type 0 = λ lists. AreDue now (list_at n lists) in subst P (sym p.1) q;
 }
 popped now n (Some row) old new h o q p = record {
-  has_lists = ap (λ (y : List (List (ℕ × Node))). length y) p.2 ∙ (length-set old n p.0 ∙ h);
+  has_lists = ap (λ (y : KeyedLists). length y) p.2 ∙ (length-set old n p.0 ∙ h);
   rows = ap (rows_below n) p.2 ∙ expired-rows n row p.0 old h p.1;
-  in_order = let P : List (List (ℕ × Node)) → Type 0 = AreInOrder (n + 1) in subst P (sym p.2) (expired-in_order n row p.0 old h p.1 o);
-  past = let P : List (List (ℕ × Node)) → Type 0 = λ lists. AreDue now (list_at n lists)
+  in_order = let P : KeyedLists → Type 0 = AreInOrder (n + 1) in subst P (sym p.2) (expired-in_order n row p.0 old h p.1 o);
+  past = let P : KeyedLists → Type 0 = λ lists. AreDue now (list_at n lists)
       in subst P (sym p.2) (expired-past n row p.0 old h p.1 now q);
 }
 

@@ -2,7 +2,7 @@ use Rattle.std.proofs.Common.{◌≡◌, ◌≤◌, ◌+◌, ℕ, List, length, 
 use Rattle.timer_base.specs.declared.timer.Timer.{Timer}
 use Rattle.timer_base.specs.Order.{in_order, itself}
 use Rattle.timer_base.specs.Pending.{timers_of}
-use Rattle.timer_links.specs.declared.node.Node.{Node}
+use Rattle.timer_links.specs.Lists.{KeyedLists}
 use Rattle.timer_wheels.specs.BucketLists.{rows_below, timers_in, pending_in}
 use Rattle.timer_wheels.proofs.RowLemmas.{timers_below-more}
 use Rattle.timer_wheels.specs.BucketLaws.{timers_of-pending}
@@ -15,7 +15,7 @@ loop-bucket-preserved c =
     timers_below-more c.loop-bucket.bucket b.links.lists c.loop-bucket.timers.items c.copy_list.new.timers.items
     (omega arith) c.loop-bucket.invariant c.in_ok-copy_list.ensures
 
-sorted_rows : (n k : ℕ) (lists : List (List (ℕ × Node))) (items new : List Timer) → n ≤ k → k ≤ n → items ≡ timers_in (rows_below k lists)
+sorted_rows : (n k : ℕ) (lists : KeyedLists) (items new : List Timer) → n ≤ k → k ≤ n → items ≡ timers_in (rows_below k lists)
     → new ≡ in_order itself items → new ≡ timers_of (pending_in (rows_below n lists))
 sorted_rows n k lists items new a b i s =
     let e : k ≡ n = omega arith in

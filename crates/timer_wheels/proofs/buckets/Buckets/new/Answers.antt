@@ -1,8 +1,7 @@
-use Rattle.std.proofs.Common.{◌≡◌, ◌+◌, ℕ, List, [], length, refl, ◌∙◌, ap}
+use Rattle.std.proofs.Common.{◌≡◌, ◌+◌, ℕ, [], length, refl, ◌∙◌, ap}
 use Rattle.std.specs.Prelude.{replicate}
 use Rattle.std.proofs.lemmas.List.{length-replicate}
-use Rattle.timer_links.specs.declared.node.Node.{Node}
-use Rattle.timer_links.specs.Lists.{LinksState, list_at}
+use Rattle.timer_links.specs.Lists.{LinksState, list_at, KeyedLists}
 use Rattle.timer_wheels.specs.BucketLists.{rows_below}
 use Rattle.timer_wheels.proofs.RowLemmas.{rows_below-none}
 use Rattle.timer_wheels.proofs.BucketLemmas.{list_at-replicate}
@@ -11,14 +10,14 @@ use Rattle.timer_wheels.proofs.buckets.Buckets.new.Goals as goal
 lists_of_new : (k : ℕ) (links : LinksState) → links ≡ record { lists = replicate k []; room = 0 } → links.lists ≡ replicate k []
 lists_of_new k links e = ap (λ (x : LinksState). x.lists) e
 
-at_new : (n k s : ℕ) (lists : List (List (ℕ × Node))) → lists ≡ replicate k [] → list_at s lists ≡ []
+at_new : (n k s : ℕ) (lists : KeyedLists) → lists ≡ replicate k [] → list_at s lists ≡ []
 at_new n k s lists e = ap (list_at s) e ∙ list_at-replicate k s
 
-rows_new : (n k : ℕ) (lists : List (List (ℕ × Node))) → lists ≡ replicate k [] → rows_below n lists ≡ []
+rows_new : (n k : ℕ) (lists : KeyedLists) → lists ≡ replicate k [] → rows_below n lists ≡ []
 rows_new n k lists e = rows_below-none n lists (λ s h. at_new n k s lists e)
 
 pub invariant_of-result-clause-has_lists : goal.invariant_of-result-clause-has_lists
-invariant_of-result-clause-has_lists c = ap (λ (y : List (List (ℕ × Node))). length y) (lists_of_new _ _ c.in_ok-new.ensures)
+invariant_of-result-clause-has_lists c = ap (λ (y : KeyedLists). length y) (lists_of_new _ _ c.in_ok-new.ensures)
     ∙ length-replicate (c.args.slots + 1) []
 
 pub invariant_of-result-clause-pending : goal.invariant_of-result-clause-pending

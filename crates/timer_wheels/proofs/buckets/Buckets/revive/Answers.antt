@@ -1,8 +1,7 @@
-use Rattle.std.proofs.Common.{ap, ◌≡◌, ◌+◌, ℕ, List, length, sym, ◌∙◌, subst}
+use Rattle.std.proofs.Common.{ap, ◌≡◌, ◌+◌, length, sym, ◌∙◌, subst}
 use Rattle.timer_base.specs.Order.{AreDistinct}
 use Rattle.timer_base.specs.WheelState.{with_room, after_start, after_withdrawal}
-use Rattle.timer_links.specs.declared.node.Node.{Node}
-use Rattle.timer_links.specs.Lists.{list_at}
+use Rattle.timer_links.specs.Lists.{list_at, KeyedLists}
 use Rattle.timer_wheels.specs.Buckets.{roomless_state, state_of, AddsRow, row_at}
 use Rattle.timer_wheels.specs.BucketLists.{timers_in, rows_below, wheel_state, ArePending, AreDue, AreInOrder}
 use Rattle.timer_wheels.proofs.WithdrawLemmas.{withdrawn_used, revived_length, revived_pending, revived_distinct, revived_past, revived_in_order, revived_state, revived_lists}
@@ -15,7 +14,7 @@ replace_node-requires-clause-used c = withdrawn_used c.args.self.now c.args.hand
 pub invariant_of-self-clause-has_lists : goal.invariant_of-self-clause-has_lists
 invariant_of-self-clause-has_lists c =
     let b = c.args.self.now in
-    let P : List (List (ℕ × Node)) → Type 0 = λ lists. length lists ≡ b.slots + 1 in
+    let P : KeyedLists → Type 0 = λ lists. length lists ≡ b.slots + 1 in
     subst P (sym c.replace_node.ensures.replaced) (revived_length b c.args.handle c.keys_are_apart.ensures c.in_ok-old.old (sym
     c.look_due.ensures
     ∙ c.in_ok-old.was) c.args.bucket c.args.rounds c.args.timer (record {
@@ -28,7 +27,7 @@ invariant_of-self-clause-has_lists c =
 pub invariant_of-self-clause-pending : goal.invariant_of-self-clause-pending
 invariant_of-self-clause-pending c =
     let b = c.args.self.now in
-    let P : List (List (ℕ × Node)) → Type 0 = λ lists. ArePending b.last_tick b.tick c.args.timer.serial (rows_below b.slots lists) in
+    let P : KeyedLists → Type 0 = λ lists. ArePending b.last_tick b.tick c.args.timer.serial (rows_below b.slots lists) in
     subst P (sym c.replace_node.ensures.replaced) (revived_pending b c.args.handle c.keys_are_apart.ensures c.in_ok-old.old (sym
     c.look_due.ensures
     ∙ c.in_ok-old.was) c.args.bucket c.args.rounds c.args.timer (record {
@@ -41,7 +40,7 @@ invariant_of-self-clause-pending c =
 pub invariant_of-self-clause-distinct : goal.invariant_of-self-clause-distinct
 invariant_of-self-clause-distinct c =
     let b = c.args.self.now in
-    let P : List (List (ℕ × Node)) → Type 0 = λ lists. AreDistinct (timers_in (rows_below b.slots lists)) in
+    let P : KeyedLists → Type 0 = λ lists. AreDistinct (timers_in (rows_below b.slots lists)) in
     subst P (sym c.replace_node.ensures.replaced) (revived_distinct b c.args.handle c.keys_are_apart.ensures c.in_ok-old.old (sym
     c.look_due.ensures
     ∙ c.in_ok-old.was) c.args.bucket c.args.rounds c.args.timer (record {
@@ -54,7 +53,7 @@ invariant_of-self-clause-distinct c =
 pub invariant_of-self-clause-due : goal.invariant_of-self-clause-due
 invariant_of-self-clause-due c =
     let b = c.args.self.now in
-    let P : List (List (ℕ × Node)) → Type 0 = λ lists. AreDue b.tick (list_at b.slots lists) in
+    let P : KeyedLists → Type 0 = λ lists. AreDue b.tick (list_at b.slots lists) in
     subst P (sym c.replace_node.ensures.replaced) (revived_past b c.args.handle c.keys_are_apart.ensures c.in_ok-old.old (sym
     c.look_due.ensures
     ∙ c.in_ok-old.was) c.args.bucket c.args.rounds c.args.timer (record {
@@ -67,7 +66,7 @@ invariant_of-self-clause-due c =
 pub invariant_of-self-clause-in_order : goal.invariant_of-self-clause-in_order
 invariant_of-self-clause-in_order c =
     let b = c.args.self.now in
-    let P : List (List (ℕ × Node)) → Type 0 = AreInOrder (b.slots + 1) in
+    let P : KeyedLists → Type 0 = AreInOrder (b.slots + 1) in
     subst P (sym c.replace_node.ensures.replaced) (revived_in_order b c.args.handle c.keys_are_apart.ensures c.in_ok-old.old (sym
     c.look_due.ensures
     ∙ c.in_ok-old.was) c.args.bucket c.args.rounds c.args.timer (record {
@@ -80,7 +79,7 @@ invariant_of-self-clause-in_order c =
 pub returns-clause-revived : goal.returns-clause-revived
 returns-clause-revived c =
     let b = c.args.self.now in
-    let P : List (List (ℕ × Node)) → Type 0 = λ lists. wheel_state b.slots b.last_tick b.tick c.args.timer.serial lists
+    let P : KeyedLists → Type 0 = λ lists. wheel_state b.slots b.last_tick b.tick c.args.timer.serial lists
     ≡ after_start c.args.handle.place c.args.timer (after_withdrawal c.args.handle (roomless_state b)) in
     rw c.replace_node.ensures.room (ap (with_room b.links.room) (subst P (sym c.replace_node.ensures.replaced) (revived_state b
     c.args.handle c.keys_are_apart.ensures c.in_ok-old.old (sym c.look_due.ensures
@@ -94,7 +93,7 @@ returns-clause-revived c =
 pub returns-clause-lists : goal.returns-clause-lists
 returns-clause-lists c =
     let b = c.args.self.now in
-    let P : List (List (ℕ × Node)) → Type 0 = AddsRow b.slots c.args.bucket (row_at c.args.handle.place c.args.timer c.args.rounds)
+    let P : KeyedLists → Type 0 = AddsRow b.slots c.args.bucket (row_at c.args.handle.place c.args.timer c.args.rounds)
     b.links.lists
     in
     subst P (sym c.replace_node.ensures.replaced) (revived_lists b c.args.handle c.keys_are_apart.ensures c.in_ok-old.old (sym

@@ -2,22 +2,22 @@ use Rattle.std.proofs.lemmas.List.{length-map}
 use Rattle.std.proofs.Common.{◌≤◌, ◌≡◌, ◌<◌, ◌+◌, ℕ, List, [], ◌∷◌, ◌++◌, length, ◌∙◌, ap, arith, length-set}
 use Rattle.timer_base.specs.WheelState.{with_room, IsPending}
 use Rattle.timer_links.specs.declared.node.Node.{Node}
-use Rattle.timer_links.specs.Lists.{row_count, list_at, with_row}
+use Rattle.timer_links.specs.Lists.{row_count, list_at, with_row, KeyedLists}
 use Rattle.timer_wheels.specs.BucketLists.{rows_below, pending_in, entries_of, entry_of, timer_in}
 use Rattle.timer_wheels.proofs.RowLemmas.{all-list_at}
 use Rattle.timer_wheels.proofs.BucketLemmas.{row_count-parts, length-pending_in, started, started-pending, started-distinct, past-with_row, in_order-with_row, AreBelow-pending}
 use Rattle.timer_wheels.proofs.buckets.Buckets.start.Goals as goal
 
-length-with_row : (l : ℕ) (row : ℕ × Node) (lists : List (List (ℕ × Node))) → length (with_row l row lists) ≡ length lists
+length-with_row : (l : ℕ) (row : ℕ × Node) (lists : KeyedLists) → length (with_row l row lists) ≡ length lists
 length-with_row l row lists = length-set lists l (list_at l lists ++ row ∷ [])
 
-in_range : (n bucket : ℕ) (lists : List (List (ℕ × Node))) → bucket < n → length lists ≡ n + 1 → bucket < length lists
+in_range : (n bucket : ℕ) (lists : KeyedLists) → bucket < n → length lists ≡ n + 1 → bucket < length lists
 in_range n bucket lists h e = omega arith
 
 pub invariant_of-self-2-clause-has_lists : goal.invariant_of-self-2-clause-has_lists
 invariant_of-self-2-clause-has_lists c =
     let b = c.args.self.now in
-    ap (λ (y : List (List (ℕ × Node))). length y) c.in-Ok.ensures.pushed
+    ap (λ (y : KeyedLists). length y) c.in-Ok.ensures.pushed
     ∙ (length-with_row c.args.bucket (c.in-Ok.place, record { timer = c.args.timer; rounds = c.args.rounds }) b.links.lists ∙ b.has_lists)
 
 pub invariant_of-self-2-clause-pending : goal.invariant_of-self-2-clause-pending

@@ -1,8 +1,7 @@
 use Rattle.timer_base.specs.WheelState.{with_room}
-use Rattle.std.proofs.Common.{◌+◌, ℕ, List, length, sym, ◌∙◌, ap}
+use Rattle.std.proofs.Common.{◌+◌, length, sym, ◌∙◌, ap}
 use Rattle.std.proofs.lemmas.List.{length-map}
-use Rattle.timer_links.specs.declared.node.Node.{Node}
-use Rattle.timer_links.specs.Lists.{without_key}
+use Rattle.timer_links.specs.Lists.{without_key, KeyedLists}
 use Rattle.timer_wheels.proofs.BucketLemmas.{separated, past-without_key, look-has, stop-found, stopped-pending, stopped-distinct, stopped-in_order}
 use Rattle.timer_wheels.proofs.ReplaceLemmas.{is_used}
 use Rattle.timer_wheels.proofs.buckets.Buckets.take.Goals as goal
@@ -10,7 +9,7 @@ use Rattle.timer_wheels.proofs.buckets.Buckets.take.Goals as goal
 pub invariant_of-self-clause-has_lists : goal.invariant_of-self-clause-has_lists
 invariant_of-self-clause-has_lists c =
     let b = c.args.self.now in
-    ap (λ (y : List (List (ℕ × Node))). length y) c.take-taken.ensures.taken
+    ap (λ (y : KeyedLists). length y) c.take-taken.ensures.taken
     ∙ (length-map b.links.lists (without_key c.args.handle.place) ∙ b.has_lists)
 
 pub invariant_of-self-clause-pending : goal.invariant_of-self-clause-pending

@@ -1,15 +1,14 @@
-use Rattle.std.proofs.Common.{◌≡◌, ◌<◌, ◌+◌, ◌%◌, ℕ, List, length, sym, arith}
+use Rattle.std.proofs.Common.{◌≡◌, ◌<◌, ◌+◌, ◌%◌, ℕ, length, sym, arith}
 use Rattle.std.specs.Prelude.{map, Option, Some, None, MatchOption}
 use Rattle.timer_base.specs.declared.timer.Timer.{Timer}
 use Rattle.timer_base.specs.declared.timer.Handle.{Handle}
-use Rattle.timer_links.specs.declared.node.Node.{Node}
-use Rattle.timer_links.specs.Lists.{with_row, without_key}
+use Rattle.timer_links.specs.Lists.{with_row, without_key, KeyedLists}
 use Rattle.timer_wheels.specs.Hashed.{AreInBuckets, IsInBucket, rounds_of}
 use Rattle.timer_wheels.proofs.RestartLemmas.{each_restarted}
 use Rattle.timer_wheels.proofs.HashedTicks.{same_frame}
 use Rattle.timer_wheels.proofs.hashed.HashedWheelWheel.restart.Goals as goal
 
-in_buckets : (n now bucket rounds key : ℕ) (t : Timer) (old new : List (List (ℕ × Node))) (result : Option (Handle × Timer))
+in_buckets : (n now bucket rounds key : ℕ) (t : Timer) (old new : KeyedLists) (result : Option (Handle × Timer))
     → MatchOption result (new ≡ old) (λ r. new ≡ with_row bucket (key, record { timer = t; rounds = rounds }) (map (without_key key) old))
     → bucket < length old → t.deadline % n ≡ bucket → rounds ≡ rounds_of n now t → AreInBuckets n now old → AreInBuckets n now new
 in_buckets n now bucket rounds key t old new None e b s r a = rw e a

@@ -1,15 +1,15 @@
-use Rattle.std.proofs.Common.{◌≡◌, ◌%◌, ℕ, List, sym}
+use Rattle.std.proofs.Common.{◌≡◌, ◌%◌, ℕ, sym}
 use Rattle.std.specs.Prelude.{Option, Some, None, MatchOption}
 use Rattle.timer_base.specs.declared.timer.Timer.{Timer}
 use Rattle.timer_base.specs.declared.timer.Handle.{Handle}
-use Rattle.timer_links.specs.declared.node.Node.{Node}
+use Rattle.timer_links.specs.Lists.{KeyedLists}
 use Rattle.timer_wheels.specs.Buckets.{AddsRow, row_at}
 use Rattle.timer_wheels.specs.Hashed.{AreInBuckets, IsInBucket, rounds_of}
 use Rattle.timer_wheels.proofs.BucketLemmas.{each-added}
 use Rattle.timer_wheels.proofs.HashedTicks.{same_frame}
 use Rattle.timer_wheels.proofs.hashed.HashedWheelWheel.revive.Goals as goal
 
-in_buckets : (n now bucket rounds key : ℕ) (t : Timer) (old new : List (List (ℕ × Node))) (result : Option (Handle × Timer))
+in_buckets : (n now bucket rounds key : ℕ) (t : Timer) (old new : KeyedLists) (result : Option (Handle × Timer))
     → MatchOption result (new ≡ old) (λ r. AddsRow n bucket (row_at key t rounds) old new)
     → t.deadline % n ≡ bucket → rounds ≡ rounds_of n now t → AreInBuckets n now old → AreInBuckets n now new
 in_buckets n now bucket rounds key t old new None e s r a = rw e a

@@ -1,16 +1,15 @@
-use Rattle.std.proofs.Common.{◌≡◌, ◌<◌, ◌+◌, ◌%◌, ℕ, List, length, sym, arith}
+use Rattle.std.proofs.Common.{◌≡◌, ◌<◌, ◌+◌, ◌%◌, ℕ, length, sym, arith}
 use Rattle.std.specs.Prelude.{Result, Ok, Err, IfOk, OnErr}
 use Rattle.timer_base.specs.declared.timer.Timer.{Timer}
 use Rattle.timer_base.specs.declared.timer.Handle.{Handle}
 use Rattle.timer_base.specs.declared.fault.OutOfMemory.{OutOfMemory}
-use Rattle.timer_links.specs.declared.node.Node.{Node}
-use Rattle.timer_links.specs.Lists.{with_row}
+use Rattle.timer_links.specs.Lists.{with_row, KeyedLists}
 use Rattle.timer_wheels.specs.Hashed.{AreInBuckets, IsInBucket, rounds_of}
 use Rattle.timer_wheels.proofs.BucketLemmas.{each-with_row}
 use Rattle.timer_wheels.proofs.HashedTicks.{same_frame}
 use Rattle.timer_wheels.proofs.hashed.HashedWheelWheel.start.Goals as goal
 
-in_buckets : (A : Type 0) (n now bucket rounds : ℕ) (t : Timer) (old new : List (List (ℕ × Node))) (result : Result Handle OutOfMemory)
+in_buckets : (A : Type 0) (n now bucket rounds : ℕ) (t : Timer) (old new : KeyedLists) (result : Result Handle OutOfMemory)
     → IfOk result (λ handle. new ≡ with_row bucket (handle.place, record { timer = t; rounds = rounds }) old)
     → OnErr result (A × (new ≡ old))
     → bucket < length old → t.deadline % n ≡ bucket → rounds ≡ rounds_of n now t → AreInBuckets n now old → AreInBuckets n now new

@@ -1,15 +1,14 @@
-use Rattle.std.proofs.Common.{◌≡◌, ℕ, List}
+use Rattle.std.proofs.Common.{◌≡◌, ℕ}
 use Rattle.std.specs.Prelude.{map, Option, Some, None, MatchOption}
 use Rattle.timer_base.specs.declared.timer.Timer.{Timer}
-use Rattle.timer_links.specs.declared.node.Node.{Node}
-use Rattle.timer_links.specs.Lists.{without_key}
+use Rattle.timer_links.specs.Lists.{without_key, KeyedLists}
 use Rattle.timer_wheels.specs.Hashed.{AreInBuckets, IsInBucket}
 use Rattle.timer_wheels.proofs.BucketLemmas.{each-without_key}
 use Rattle.timer_wheels.proofs.HashedTicks.{same_frame}
 use Rattle.timer_wheels.proofs.hashed.HashedWheelWheel.stop.Goals as goal
 
 -- each row that a stop leaves stays in its bucket
-in_buckets : (n now key : ℕ) (old new : List (List (ℕ × Node))) (result : Option Timer)
+in_buckets : (n now key : ℕ) (old new : KeyedLists) (result : Option Timer)
     → MatchOption result (new ≡ old) (λ timer. new ≡ map (without_key key) old) → AreInBuckets n now old → AreInBuckets n now new
 in_buckets n now key old new None e a = rw e a
 in_buckets n now key old new (Some t) e a = rw e (each-without_key (IsInBucket n now) n key old a)

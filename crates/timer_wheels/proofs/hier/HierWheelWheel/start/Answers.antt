@@ -1,5 +1,5 @@
-use Rattle.std.proofs.Common.{◌≡◌, ◌<◌, ◌≤◌, ◌+◌, ℕ, List, length, sym, subst, arith}
-use Rattle.timer_links.specs.declared.node.Node.{Node}
+use Rattle.std.proofs.Common.{◌≡◌, ◌<◌, ◌≤◌, ◌+◌, ℕ, length, sym, subst, arith}
+use Rattle.timer_links.specs.Lists.{KeyedLists}
 use Rattle.timer_wheels.specs.Digits.{slots, last_of}
 use Rattle.timer_wheels.specs.Occupied.{AreMarked}
 use Rattle.timer_wheels.specs.Tables.{radices}
@@ -31,7 +31,7 @@ invariant_of-self-2-clause-marked c =
     let b = w.buckets in
     let l = c.bucket_of-list.result in
     let h = below l (slots (radices w.table)) b.slots (sym w.has_slots) c.bucket_of-list.ensures.in_range in
-    let P : List (List (ℕ × Node)) → Type 0 = AreMarked b.slots c.insert.new.self in
+    let P : KeyedLists → Type 0 = AreMarked b.slots c.insert.new.self in
     let Q : ℕ → Type 0 = λ k. AreMarked k c.insert.new.self c.start.new.self.links.lists in
     subst Q (sym c.start.ensures.frame.slots) (subst P (sym c.in_ok-handle.ensures.lists)
     (marked_with_row b.slots w.occupied c.insert.new.self l (
