@@ -46,7 +46,8 @@ pub struct PlainWheel {
     ghost now_in_range: { now ≤ LAST },
     ghost serial_in_range: { last_serial ≤ LAST },
     ghost rising: { AreRising 0 timers.items } by { AreRising-prop 0 timers.items },
-    ghost kept: { AllByRecursion (IsKept now last_serial) timers.items } by { IsKept-prop now last_serial timers.items },
+    ghost kept: { AllByRecursion (IsKept now last_serial) timers.items } by { IsKept-prop
+        now last_serial timers.items },
     ghost has_room: { room ≤ vec_capacity timers },
     ghost counted: { due ≡ due_count now timers.items } by { ℕ_set _ _ },
 }

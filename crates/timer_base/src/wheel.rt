@@ -4,7 +4,8 @@
 //!
 //!     last_tick     the last tick of its clock, which never changes
 //!     now           the present tick
-//!     pending       the timers that wait for their deadline, by deadline and then serial, each with its place
+//!     pending       the timers that wait for their deadline, by deadline and then serial, each with its
+//!                   place
 //!     due           the timers whose deadline is now, by serial, each with its place, until they are taken,
 //!                   withdrawn or revived
 //!     last_serial   the serial of the last start, 0 if there was none

@@ -64,8 +64,8 @@ due_now tick t b h k = rw k (grind (arith, nat_tests))
 left_now : (tick : ℕ) (t : Timer) (b : Bool) → tick < t.deadline → b ≡ false → (nat_lt tick t.deadline && not b) ≡ true
 left_now tick t b h k = rw k (grind (arith, nat_tests))
 
-in_due : (s : FacilityState) (hs : List HistoryEntry) (tick : ℕ) (t : Timer) → IsIn t (started s hs) → is_among t.serial (stopped hs) ≡ false
-    → t.deadline ≡ tick → IsIn t (due s hs tick)
+in_due : (s : FacilityState) (hs : List HistoryEntry) (tick : ℕ) (t : Timer) → IsIn t (started s hs)
+    → is_among t.serial (stopped hs) ≡ false → t.deadline ≡ tick → IsIn t (due s hs tick)
 in_due s hs tick t a u h =
     let test : Timer → Bool = λ x. x.deadline == tick && not (is_among x.serial (stopped hs)) in
     in_order_too t (filter test (started s hs)) (in_filter test t (started s hs) (due_now tick t (is_among t.serial (stopped hs)) h u) a)

@@ -264,7 +264,8 @@ pub started-distinct : (s : FacilityState) (ps : List PlacedEvent) → IsSound s
 started-distinct s ps i = rw (started_is s (history s ps)) (keeps_run s nothing_read [] s ps (keeps_first s i)).distinct
 
 -- each of them has its deadline after the beginning
-pub started-later : (s : FacilityState) (ps : List PlacedEvent) → IsSound s → AllByRecursion (λ t. s.now < t.deadline) (started s (history s ps))
+pub started-later : (s : FacilityState) (ps : List PlacedEvent) → IsSound s
+    → AllByRecursion (λ t. s.now < t.deadline) (started s (history s ps))
 started-later s ps i = rw (started_is s (history s ps)) (keeps_run s nothing_read [] s ps (keeps_first s i)).later
 
 -- a prefix of a history is a history

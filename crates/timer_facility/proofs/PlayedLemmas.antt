@@ -36,8 +36,8 @@ outs_of-append : (xs ys : List HistoryEntry) → outs_of (xs ++ ys) ≡ outs_of 
 outs_of-append [] ys = refl
 outs_of-append (x ∷ xs) ys = ap (λ outs. x.outs ++ outs) (outs_of-append xs ys) ∙ sym (append_assoc x.outs (outs_of xs) (outs_of ys))
 
-ArePlaced-append : (s : FacilityState) (es fs : List Event) (xs ys : List PlacedEvent) → ArePlaced s es xs → ArePlaced (state_after s xs) fs ys
-    → ArePlaced s (es ++ fs) (xs ++ ys)
+ArePlaced-append : (s : FacilityState) (es fs : List Event) (xs ys : List PlacedEvent) → ArePlaced s es xs
+    → ArePlaced (state_after s xs) fs ys → ArePlaced s (es ++ fs) (xs ++ ys)
 ArePlaced-append s [] fs xs ys a b =
     let b' : ArePlaced s fs ys = subst (λ zs. ArePlaced (state_after s zs) fs ys) a b in
     subst (λ zs. ArePlaced s fs (zs ++ ys)) (sym a) b'

@@ -106,7 +106,8 @@ impl<W: Wheel + Drop> Facility<W> {
     /// The only error is out of memory, and then nothing changes. After it returned Ok, no `take` returns
     /// `OutOfMemory`: only an accepted start allocates, in the wheel alone, and one beyond the capacity is
     /// refused. `close` still allocates the list that it returns. Over a wheel of this project no start
-    /// allocates or copies a table later, so an owner who calls this right after `open` pays for memory there.
+    /// allocates or copies a table later. So an owner who calls this right after `open` pays for memory
+    /// there.
     pub fn reserve(&mut self) -> Result<(), OutOfMemory>
         ensures ok { OnOk result (self.new ≡ view_with_room self.old) }
         ensures err { OnErr result (self.new ≡ self.old) }

@@ -23,13 +23,15 @@ pub fn notices_are_owed()
 
 /// No timer is handed out twice, and a stopped one never is.
 pub fn each_timer_is_handed_out_once()
-    ensures { (s : FacilityState) (placed : List PlacedEvent) → IsSound s → AreHandedOutOnce (history s placed) }
+    ensures { (s : FacilityState) (placed : List PlacedEvent) → IsSound s
+        → AreHandedOutOnce (history s placed) }
 {}
 
 /// Each timer that was started and not stopped is handed out: it expires if its deadline is reached, and
 /// is returned if the facility was closed before that.
 pub fn each_timer_is_handed_out()
-    ensures { (s : FacilityState) (placed : List PlacedEvent) → IsSound s → AreAllHandedOut s (history s placed) }
+    ensures { (s : FacilityState) (placed : List PlacedEvent) → IsSound s
+        → AreAllHandedOut s (history s placed) }
 {}
 
 /// A close returns the others: of all timers that were started, those that no tick handed out and that

@@ -117,8 +117,8 @@ filled_behind [] row = refl
 filled_behind (x ∷ xs) row = refl
 
 -- the bits are those of the same lists
-pub marked_same : (n : ℕ) (words : List ℕ) (old new : KeyedLists) → ((s : ℕ) → s < n → list_at s new ≡ list_at s old) → AreMarked n words old
-    → AreMarked n words new
+pub marked_same : (n : ℕ) (words : List ℕ) (old new : KeyedLists) → ((s : ℕ) → s < n → list_at s new ≡ list_at s old)
+    → AreMarked n words old → AreMarked n words new
 marked_same n words old new e t = ((λ s h. t.0 s h ∙ sym (ap filled (e s h))), t.1)
 
 -- the bits from n on stay clear
@@ -151,8 +151,8 @@ marked_added n words words2 l row old new f d h o t = (
   clear_too n l words words2 f o t.1,
 )
 
-pub marked_all : (n : ℕ) (words : List ℕ) (l : ℕ) (lists : KeyedLists) → bit_of words l ≡ filled (list_at l lists) → AreMarkedBut n l words lists
-    → AreMarked n words lists
+pub marked_all : (n : ℕ) (words : List ℕ) (l : ℕ) (lists : KeyedLists) → bit_of words l ≡ filled (list_at l lists)
+    → AreMarkedBut n l words lists → AreMarked n words lists
 marked_all n words l lists e t = (
   (λ (s : ℕ) (h : s < n). elim (cases_eq s l) [
     | inl q ↦ ap (bit_of words) q ∙ (e ∙ sym (ap (λ (v : ℕ). filled (list_at v lists)) q))

@@ -49,7 +49,8 @@ pub struct HashedWheel {
     ghost has_slots: { 0 < buckets.slots },
     ghost slots_in_range: { buckets.slots ≤ 65536 },
     ghost at_tick: { slot ≡ buckets.tick % buckets.slots },
-    ghost in_buckets: { AreInBuckets buckets.slots buckets.tick buckets.links.lists } by { AreInBuckets-prop buckets.slots buckets.tick buckets.links.lists },
+    ghost in_buckets: { AreInBuckets buckets.slots buckets.tick buckets.links.lists } by { AreInBuckets-prop
+        buckets.slots buckets.tick buckets.links.lists },
 }
 
 impl HashedWheel {

@@ -117,7 +117,8 @@ pub struct HierWheel {
     ghost has_clock: { buckets.last_tick ≡ last_of (radices table) },
     // Each timer stands in its bucket.
     ghost placed: { ArePlaced table buckets } by { ArePlaced-prop table buckets },
-    ghost marked: { AreMarked buckets.slots occupied buckets.links.lists } by { AreMarked-prop buckets.slots occupied buckets.links.lists },
+    ghost marked: { AreMarked buckets.slots occupied buckets.links.lists } by { AreMarked-prop
+        buckets.slots occupied buckets.links.lists },
     ghost few_starts: { counts.starts ≤ buckets.last_serial },
     ghost few_skipped: { counts.skipped ≤ buckets.tick },
     // A start allows one move for each wheel but the highest, and each move lowers a level. So what is left

@@ -258,8 +258,8 @@ fn each_timer_stands_where_the_pictures_show_it(rt: HostRuntime) -> Result<(), F
     Ok(())
 }
 
-/// A first tick, the deadlines, the calls of `advance`, and then the moves and the visits. A call has the most
-/// ticks, those that were passed, and the serials that are due then.
+/// A first tick, the deadlines, the calls of `advance`, and then the moves and the visits. A call has the
+/// most ticks, those that were passed, and the serials that are due then.
 type Flight = (
     u64,
     &'static [u64],

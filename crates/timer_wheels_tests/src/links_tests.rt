@@ -1,5 +1,5 @@
-//! Lists of timers under keys: that each call succeeds while memory is available, and what the lists of worked
-//! examples hold after each call. No allocation fails here: `timer_hostile` refuses some, in `linked`.
+//! Lists of timers under keys: that each call succeeds while memory is available, and what the lists of
+//! worked examples hold after each call. No allocation fails here: `timer_hostile` refuses some, in `linked`.
 
 use std::alloc::Global;
 use std::fmt::Debug;
