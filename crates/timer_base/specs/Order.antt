@@ -17,7 +17,7 @@ abbrev pub in_order : {X : Type 0} → (X → Timer) → List X → List X
 in_order timer [] = []
 in_order timer (x ∷ xs) = insert_in_order timer x (in_order timer xs)
 
--- x is inserted before the first one with a later deadline, or last where there is none
+-- x is inserted before the first one with a later deadline, or last if there is none
 abbrev pub insert_by_deadline : {X : Type 0} → (X → Timer) → X → List X → List X
 insert_by_deadline timer x [] = x ∷ []
 insert_by_deadline timer x (y ∷ ys) = if nat_lt (timer x).deadline

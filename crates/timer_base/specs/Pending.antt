@@ -17,7 +17,7 @@ timer_of entry = entry.timer
 abbrev pub timers_of : List Entry → List Timer
 timers_of entries = map timer_of entries
 
--- the entry goes before the first one with a later deadline, or last where there is none
+-- the entry goes before the first one with a later deadline, or last if there is none
 abbrev pub put : Entry → List Entry → List Entry
 put entry entries = insert_by_deadline timer_of entry entries
 

@@ -163,7 +163,7 @@ after_ticks-add n (suc m) w =
     let e : n + suc m ≡ suc (n + m) = omega arith in
     ap (λ (k : ℕ). after_ticks k w) e ∙ ap after_tick (after_ticks-add n m w)
 
--- where nothing became due, every timer is still pending
+-- if nothing became due, every timer is still pending
 pub none_left_out : (tick : ℕ) (entries : List Entry) → entries_due tick entries ≡ []
     → entries_left tick entries ≡ entries
 none_left_out tick [] e = refl

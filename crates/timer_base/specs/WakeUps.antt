@@ -11,7 +11,7 @@ pub record IsWakeUp (tick : ℕ) (w : WheelState) : Type 0 where
   pub later : w.now < tick
   pub in_time : AllByRecursion (λ entry. tick ≤ entry.timer.deadline) w.pending
 
--- a tick to wake up at, and none exactly where nothing is pending
+-- a tick to wake up at, and none exactly if nothing is pending
 abbrev pub IsQuietUntil : Option ℕ → WheelState → Type 0
 IsQuietUntil None w = w.pending ≡ []
 IsQuietUntil (Some tick) w = IsWakeUp tick w

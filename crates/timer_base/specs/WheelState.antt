@@ -16,9 +16,9 @@ pub record WheelState : Type 0 where
   pub pending : List Entry
   -- by serial, each at the place where it was pending
   pub due : List Entry
-  -- 0 where none was started
+  -- 0 if none was started
   pub last_serial : ℕ
-  -- for so many timers at one time, pending and due, room was made; `reserve` alone changes it
+  -- for how many timers at one time, pending and due, room was made; `reserve` alone changes it
   pub room : ℕ
 
 -- a new wheel
@@ -32,15 +32,15 @@ empty_wheel last_tick first_tick = record {
   room = 0;
 }
 
--- the same wheel with room for so many timers
+-- the same wheel with this room
 abbrev pub with_room : ℕ → WheelState → WheelState
 with_room room w = record w { room = room }
 
--- room is made for at least so many timers
+-- room is made for at least this many timers
 abbrev pub after_reserve : ℕ → WheelState → WheelState
 after_reserve most w = with_room (max w.room most) w
 
--- so many timers are held, pending and due
+-- how many timers are held, pending and due
 abbrev pub held_count : WheelState → ℕ
 held_count w = length w.pending + length w.due
 
@@ -78,7 +78,7 @@ pub record Advances (most passed : ℕ) (old new : WheelState) : Type 0 where
   pub at_most : passed ≤ most
   pub ticked : new ≡ after_ticks passed old
   pub quiet : (n : ℕ) → n < passed → (after_ticks n old).due ≡ []
-  -- it stops early only where something is due
+  -- it stops early only if something is due
   pub early : passed < most → 0 < length new.due
 
 abbrev pub first_due : WheelState → Option Timer
@@ -96,7 +96,7 @@ due_at handle w = first_timer (has_handle handle) w.due
 abbrev pub after_withdrawal : Handle → WheelState → WheelState
 after_withdrawal handle w = record w { due = without_found (due_at handle w) w.due }
 
--- the old timer, where a restart found one
+-- the old timer, if a restart found one
 abbrev pub old_timer : Option (Handle × Timer) → Option Timer
 old_timer None = None
 old_timer (Some r) = Some r.1

@@ -318,7 +318,7 @@ fn drop_serial(timers: &mut Vec<Timer>, serial: u64)
     timers.retain(|t| t.serial != serial);
 }
 
-/// Pushes a timer where a removed one left room.
+/// Pushes a timer, for which a removed one left room.
 fn push_in_room(timers: &mut Vec<Timer>, timer: Timer)
     requires { vec_len timers.old < vec_capacity timers.old }
     ensures items { timers.new.items ≡ timers.old.items ++ timer ∷ [] }

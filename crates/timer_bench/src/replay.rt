@@ -64,7 +64,7 @@ pub fn replay<W: Wheel + Drop>(
     Ok(sums.words(wheel.now(), wheel.len()))
 }
 
-/// Replays one operation: a start, a stop, a timer pushed back, so many ticks, or a way of so many ticks.
+/// Replays one operation: a start, a stop, a timer pushed back, or ticks passed, one by one or by jumps.
 ///
 /// Each call of the wheel stands here once, so that all of them can be inlined.
 #[inline]
@@ -134,7 +134,7 @@ fn next_timer<W: Wheel>(wheel: &W, owner: u64, interval: u64) -> Result<Timer, F
     })
 }
 
-/// Passes so many ticks one by one, and hands out what is due at each.
+/// Passes `count` ticks one by one, and hands out what is due at each.
 #[inline]
 fn pass_ticks<W: Wheel>(wheel: &mut W, sums: &mut Sums, count: u64) -> Result<(), Fault>
     requires { (W.state wheel.old).due ≡ [] }
@@ -152,7 +152,7 @@ fn pass_ticks<W: Wheel>(wheel: &mut W, sums: &mut Sums, count: u64) -> Result<()
     Ok(())
 }
 
-/// Passes so many ticks by jumps, and hands out what is due at each.
+/// Passes `count` ticks by jumps, and hands out what is due at each.
 #[inline]
 fn go_on<W: Wheel>(wheel: &mut W, sums: &mut Sums, count: u64) -> Result<(), Fault>
     requires { (W.state wheel.old).due ≡ [] }

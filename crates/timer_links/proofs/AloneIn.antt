@@ -16,7 +16,7 @@ use Rattle.timer_links.proofs.LinksCalls.{low}
 last_as : (n k y : ℕ) (rows : List (ℕ × Node)) → last (n + y) (places n rows) ≡ k → In k ((n + y) ∷ places n rows)
 last_as n k y rows e = let P : ℕ → Type 0 = λ x. In x ((n + y) ∷ places n rows) in subst P e (last_in (n + y) (places n rows))
 
--- the places on both sides of a row are the same only where they are the root's
+-- the places on both sides of a row are the same only if they are the root's
 sides_of : (n l : ℕ) (s : Sides) (front rest : List (ℕ × Node)) → l < n → s.before ≡ last l (places n front) → s.after ≡ first n rest l
     → ((k : ℕ) → Has k front → Has k rest → ⊥) → neighbour_on_both_sides s ≡ list_if_alone l front rest
 sides_of n l s [] [] b e f o = rw (e, f, eq-eqb l l refl) refl

@@ -307,7 +307,7 @@ rows_none : (n l : ℕ) (rows : List (ℕ × Node)) → l < n → first n rows l
 rows_none n l [] b e = refl
 rows_none n l (r ∷ rs) b e = let q : n + r.0 ≡ l = e in absurd (omega arith)
 
--- a list is empty where its root is its own neighbour
+-- a list is empty if its root is its own neighbour
 pub root_alone : (n : ℕ) (nodes : Slab Node) (s : List Sides) (v : KeyedLists) (l : ℕ) (x : Sides) → IsLinked n nodes s v
     → l < length v → x ≡ slice_index_or s l x → (x.after ≡ l → list_at l v ≡ []) × (list_at l v ≡ [] → x.after ≡ l)
 root_alone n nodes s v l x h d f =

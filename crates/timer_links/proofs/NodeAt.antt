@@ -51,8 +51,7 @@ push_this key node (x ∷ xs) zero b h = rw (in_push_this key node x (none_both 
 push_this key node (x ∷ xs) (suc l) b h = let z = none_both (node_in key x) (node_at key xs) h
     in rw z.0 (push_this key node xs l (omega arith) z.1)
 
-pub push_other : (key k : ℕ) (node : Node) (v : KeyedLists) (l : ℕ) → k ≢ key
-    → node_at k (with_row l (key, node) v) ≡ node_at k v
+pub push_other : (key k : ℕ) (node : Node) (v : KeyedLists) (l : ℕ) → k ≢ key → node_at k (with_row l (key, node) v) ≡ node_at k v
 push_other key k node [] l n = refl
 push_other key k node (x ∷ xs) zero n = rw (in_push_other key k node x n) refl
 push_other key k node (x ∷ xs) (suc l) n = rw (push_other key k node xs l n) refl

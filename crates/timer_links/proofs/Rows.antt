@@ -167,8 +167,7 @@ map_without key zero (y ∷ ys) h = ap (λ (z : KeyedLists). without_key key y �
 map_without key (suc l) (y ∷ ys) h = rw (h 0 (omega arith) (omega arith))
     (ap (λ (z : KeyedLists). y ∷ z) (map_without key l ys (λ m b n. h (suc m) (omega arith) (omega arith))))
 
-pub node_at-none : (k : ℕ) (lists : KeyedLists) → ((l : ℕ) → l < length lists → node_in k (list_at l lists) ≡ None)
-    → node_at k lists ≡ None
+pub node_at-none : (k : ℕ) (lists : KeyedLists) → ((l : ℕ) → l < length lists → node_in k (list_at l lists) ≡ None) → node_at k lists ≡ None
 node_at-none k [] h = refl
 node_at-none k (x ∷ xs) h = rw (h 0 (omega arith)) (node_at-none k xs (λ l b. h (suc l) (omega arith)))
 

@@ -59,8 +59,7 @@ module _ (n : ℕ) (nodes : Slab Node) (s : List Sides) (v : KeyedLists) (h : Is
       get_or-map-range_with_len f 0 n l l [] b (omega arith) ∙ walk_is (slab_len nodes) n nodes s l l (list_at l v) b (omega arith)
       (held_from l (list_at l v) [] b refl) (h.rings l b))
 
-pub closed : (n : ℕ) (nodes : Slab Node) (s : List Sides) (v : KeyedLists) → IsLinked n nodes s v
-    → IsLinked n nodes s (lists_of n nodes s)
+pub closed : (n : ℕ) (nodes : Slab Node) (s : List Sides) (v : KeyedLists) → IsLinked n nodes s v → IsLinked n nodes s (lists_of n nodes s)
 closed n nodes s v h = let P : KeyedLists → Type 0 = λ x. IsLinked n nodes s x in subst P (sym (lists_are n nodes s v h)) h
 
 -- the lists of a value, which is open
@@ -98,8 +97,7 @@ no_room n nodes s = record {
 }
 
 -- the value of these fields is the state with these lists and this room
-pub state_is : (w : LinksState) (x : KeyedLists) (room : ℕ) → x ≡ w.lists → room ≡ w.room
-    → record { lists = x; room = room } ≡ w
+pub state_is : (w : LinksState) (x : KeyedLists) (room : ℕ) → x ≡ w.lists → room ≡ w.room → record { lists = x; room = room } ≡ w
 state_is w x room e k =
     let f : KeyedLists → LinksState = λ y. record { lists = y; room = room } in
     let g : ℕ → LinksState = λ y. record { lists = w.lists; room = y } in

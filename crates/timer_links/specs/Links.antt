@@ -50,7 +50,7 @@ pub record IsLinked (lists : ℕ) (nodes : Slab Node) (sides : List Sides)
   pub reached : (key : ℕ) → ContainsKey nodes key → lists + key < length sides
   pub numbered : length sides ≤ PLACES
 
--- there is memory for so many nodes, and a place for each key that they can get
+-- there is memory for this many nodes, and a place for each key that they can get
 pub record HasRoom (room lists : ℕ) (nodes : Slab Node) (sides : List Sides) : Type 0 where
   pub fits : room ≤ nodes.capacity
   pub places : 0 < room → lists + nodes.capacity ≤ length sides

@@ -16,7 +16,7 @@ abbrev pub node_in : ℕ → List (ℕ × Node) → Option Node
 node_in key [] = None
 node_in key (row ∷ rest) = if row.0 == key then Some row.1 else node_in key rest
 
--- the first of two nodes, or the second where there is no first
+-- the first of two nodes, or the second if there is no first
 abbrev pub first_of : Option Node → Option Node → Option Node
 first_of (Some node) other = Some node
 first_of None other = other
@@ -48,7 +48,7 @@ abbrev pub row_count : KeyedLists → ℕ
 row_count [] = 0
 row_count (rows ∷ lists) = length rows + row_count lists
 
--- the first row of one list is removed, where there is one
+-- the first row of one list is removed, if there is one
 abbrev pub PopsFront : ℕ → KeyedLists → Option (ℕ × Node) → KeyedLists → Type 0
 PopsFront l old None new = (list_at l old ≡ []) × (new ≡ old)
 PopsFront l old (Some row) new = (rest : List (ℕ × Node)) × (list_at l old ≡ row ∷ rest)
@@ -62,12 +62,12 @@ moved_back key l node lists = with_row l (key, node) (map (without_key key) list
 abbrev pub MovesBack : ℕ → ℕ → KeyedLists → KeyedLists → Type 0
 MovesBack key l old new = (node : Node) → node_at key old ≡ Some node → new ≡ moved_back key l node old
 
--- the first of these rows of one list moves to the back of another, where there is one
+-- the first of these rows of one list moves to the back of another, if there is one
 abbrev pub first_row_moved : ℕ → ℕ → KeyedLists → List (ℕ × Node) → KeyedLists
 first_row_moved from to lists [] = lists
 first_row_moved from to lists (row ∷ rest) = with_row to row (slice_set lists from rest)
 
--- the first row of one list moves to the back of another, where there is one
+-- the first row of one list moves to the back of another, if there is one
 abbrev pub front_moved : ℕ → ℕ → KeyedLists → KeyedLists
 front_moved from to lists = first_row_moved from to lists (list_at from lists)
 
@@ -75,7 +75,7 @@ front_moved from to lists = first_row_moved from to lists (list_at from lists)
 abbrev pub appended : ℕ → ℕ → KeyedLists → KeyedLists
 appended from to lists = slice_set (slice_set lists from []) to (list_at to lists ++ list_at from lists)
 
--- wherever the key stands, this is the key after it, or none where it is the last one
+-- wherever the key stands, this is the key after it, or none if it is the last one
 abbrev pub IsNext : ℕ → KeyedLists → Option ℕ → Type 0
 IsNext key lists found =
     (l : ℕ) (front : List (ℕ × Node)) (node : Node) (rest : List (ℕ × Node))
@@ -95,13 +95,13 @@ SetsNode key node old new =
     → l < length old → list_at l old ≡ front ++ (key, was) ∷ rest
     → new ≡ slice_set old l (front ++ (key, node) ∷ rest)
 
--- the list, where no row stands before or after this one
+-- the list, if no row stands before or after this one
 abbrev pub list_if_alone : ℕ → List (ℕ × Node) → List (ℕ × Node) → Option ℕ
 list_if_alone l [] [] = Some l
 list_if_alone l [] (x ∷ xs) = None
 list_if_alone l (x ∷ xs) rest = None
 
--- wherever the key stands, this is its list where no other row is in it, and else none
+-- wherever the key stands, this is its list if no other row is in it, and else none
 abbrev pub IsAloneIn : ℕ → KeyedLists → Option ℕ → Type 0
 IsAloneIn key lists emptied =
     (l : ℕ) (front : List (ℕ × Node)) (node : Node) (rest : List (ℕ × Node))

@@ -10,7 +10,7 @@ sides_at sides place = slice_index_or sides place (record { before = 0; after = 
 abbrev pub key_of : ℕ → ℕ → Option ℕ
 key_of lists place = if nat_lt place lists then None else Some (place - lists)
 
--- the neighbour on both sides, where it is the same
+-- the neighbour on both sides, if it is the same
 abbrev pub neighbour_on_both_sides : Sides → Option ℕ
 neighbour_on_both_sides sides = if sides.before == sides.after then Some sides.before else None
 

@@ -26,19 +26,19 @@ use timer_base::OutOfMemory;
 
 /// What a walk along a list asks of each node.
 #[derive(Clone, Copy, Debug, PartialEq, Eq)]
-pub struct Step {
+pub struct WalkStep {
     /// The node's rounds.
     pub rounds: u64,
-    /// The key after it in its list, or None where it is the last one.
+    /// The key after it in its list, or None if it is the last one.
     pub next: Option<usize>,
 }
 
 /// A node that was removed.
 #[derive(Clone, Copy, Debug, PartialEq, Eq)]
-pub struct Taken {
+pub struct RemovedNode {
     /// The node.
     pub node: Node,
-    /// The list that it was in, where it was the only node there.
+    /// The list that it was in, if it was the only node there.
     pub emptied: Option<usize>,
 }
 
@@ -101,7 +101,7 @@ impl Links {
         let _nodes = &self.nodes;
     }
 
-    /// The node under this key, or None where the key is not in use. Does not allocate.
+    /// The node under this key, or None if the key is not in use. Does not allocate.
     #[inline]
     pub fn get(&self, key: usize) -> Option<Node>
         ensures { result ≡ node_at key self.now.lists }
@@ -112,7 +112,7 @@ impl Links {
         }
     }
 
-    /// The key of the first node of a list, or None where the list is empty. Does not allocate.
+    /// The key of the first node of a list, or None if the list is empty. Does not allocate.
     #[inline]
     pub fn front(&self, list: usize) -> Option<usize>
         requires { list < length self.now.lists }
@@ -142,7 +142,7 @@ impl Links {
         self.sides[list].after as usize == list
     }
 
-    /// The key after this one in its list, or None where it is the last one. Does not allocate.
+    /// The key after this one in its list, or None if it is the last one. Does not allocate.
     #[inline]
     pub fn next(&self, key: usize) -> Option<usize>
         requires { IsSome (node_at key self.now.lists) }
@@ -153,12 +153,12 @@ impl Links {
 
     /// The rounds of the node under this key, and the key after it: one look-up of each. Does not allocate.
     #[inline]
-    pub fn step(&self, key: usize) -> Step
+    pub fn step(&self, key: usize) -> WalkStep
         requires { IsSome (node_at key self.now.lists) }
         ensures rounds { HasRounds key self.now.lists result.rounds }
         ensures next { IsNext key self.now.lists result.next }
     {
-        Step {
+        WalkStep {
             rounds: self.nodes[key].rounds,
             next: self.next(key),
         }
@@ -223,7 +223,7 @@ impl Links {
         Ok(key)
     }
 
-    /// Removes the node under this key, wherever it stands, or returns None where the key is not in use.
+    /// Removes the node under this key, wherever it stands, or returns None if the key is not in use.
     ///
     /// The other nodes keep their lists, their order and their keys. Does not allocate.
     pub fn unlink(&mut self, key: usize) -> Option<Node>
@@ -241,7 +241,7 @@ impl Links {
     ///
     /// The other nodes keep their lists, their order and their keys. Does not allocate.
     #[inline]
-    pub fn take(&mut self, key: usize) -> Taken
+    pub fn take(&mut self, key: usize) -> RemovedNode
         requires { IsSome (node_at key self.old.lists) }
         ensures node { Some result.node ≡ node_at key self.old.lists }
         ensures taken { self.new.lists ≡ map (without_key key) self.old.lists }
@@ -251,13 +251,13 @@ impl Links {
         let sides = self.sides[self.lists + key];
         let node = self.nodes.remove(key);
         join(self.sides.as_mut_slice(), sides.before, sides.after);
-        Taken {
+        RemovedNode {
             node,
             emptied: only_neighbour(sides),
         }
     }
 
-    /// The list in which the node under a key that is in use stands alone, or None where another stands
+    /// The list in which the node under a key that is in use stands alone, or None if another stands
     /// beside it. Does not allocate.
     #[inline]
     pub fn alone_in(&self, key: usize) -> Option<usize>
@@ -267,7 +267,7 @@ impl Links {
         only_neighbour(self.sides[self.lists + key])
     }
 
-    /// Removes the first node of a list, with its key, or returns None where the list is empty.
+    /// Removes the first node of a list, with its key, or returns None if the list is empty.
     /// Does not allocate.
     pub fn pop_front(&mut self, list: usize) -> Option<(usize, Node)>
         requires { list < length self.old.lists }
@@ -413,7 +413,7 @@ fn make_way(
     Ok(())
 }
 
-/// Makes room for so many nodes more, and a place for each key that they can get: a key is below the
+/// Makes room for this many nodes more, and a place for each key that they can get: a key is below the
 /// capacity of the nodes. On an error no node and no link changes.
 ///
 /// The nodes are copied to grow, so that they are as they were if the places can't grow with them.
@@ -445,7 +445,7 @@ fn make_room(
     Ok(())
 }
 
-/// Makes the array long enough for the roots and so many keys. On an error no link in it changes.
+/// Makes the array long enough for the roots and this many keys. On an error no link in it changes.
 fn reserve_places(sides: &mut Vec<Sides>, lists: usize, keys: usize) -> Result<(), OutOfMemory>
     requires roots { lists ≤ length sides.old.items }
     requires few { length sides.old.items ≤ PLACES }

@@ -56,7 +56,7 @@ pub fn key_at(place: u32, lists: usize) -> Option<usize>
     }
 }
 
-/// The neighbour of a place, where it is the same on both sides. For a node this is the root of a list that
+/// The neighbour of a place, if it is the same on both sides. For a node this is the root of a list that
 /// has no other node.
 #[inline(always)]
 pub fn only_neighbour(sides: Sides) -> Option<usize>
@@ -80,7 +80,7 @@ pub fn join(sides: &mut [Sides], front: u32, back: u32)
     sides[back as usize].before = front;
 }
 
-/// Puts a place that stands in no ring last in the ring of this root.
+/// Appends a place that stands in no ring to the ring of this root.
 #[inline(always)]
 pub fn join_last(sides: &mut [Sides], root: u32, place: u32)
     requires root { root < length sides.old }

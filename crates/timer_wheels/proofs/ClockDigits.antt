@@ -36,7 +36,7 @@ in_clock t h = days_end t h
 
 -- Buckets of a table with one more wheel.
 
--- where the quotients are equal the bucket is in the lowest wheel, else in a wheel above
+-- if the quotients are equal, the bucket is in the lowest wheel, else in a wheel above
 pub bucket_near : (r : ℕ) (rs : List ℕ) (a d : ℕ) → a / r ≡ d / r → bucket (r ∷ rs) a d ≡ d % r
 bucket_near r rs a d e = ap (λ (v : ℕ). list_of_slot (r ∷ rs) v (digit (r ∷ rs) v d)) (level_near r rs a d e) ∙ omega arith
 

@@ -84,8 +84,7 @@ pub record IsSeeking (l step : ℕ) (lists : KeyedLists) (at least : Option ℕ)
   pub walk : IsWalking l step lists at past
   pub is_least : IsLeastDeadline least (timers_in past)
 
-pub seeking-begun : (l : ℕ) (lists : KeyedLists) (at : Option ℕ) → at ≡ first_key (list_at l lists)
-    → IsSeeking l 0 lists at None
+pub seeking-begun : (l : ℕ) (lists : KeyedLists) (at : Option ℕ) → at ≡ first_key (list_at l lists) → IsSeeking l 0 lists at None
 seeking-begun l lists at e = record { past = []; walk = begun l lists at e; is_least = refl }
 
 pub seeking-one : (l step : ℕ) (lists : KeyedLists) (b : l < length lists) (a : AreApart lists) (key : ℕ)
@@ -299,7 +298,7 @@ standing-rows table last_tick now last_serial s (r ∷ rs) p q = (
   standing-rows table last_tick now last_serial s rs p.1 q.1,
 )
 
--- nothing is pending where no bit is set
+-- nothing is pending if no bit is set
 pub none_is_next : (t : Table) (b : Buckets) (words : List ℕ) → IsHier t b words → IsFirstSet words None
     → None ≡ next_deadline (state_of b).pending
 none_is_next t b words h f =

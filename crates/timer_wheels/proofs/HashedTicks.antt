@@ -351,7 +351,6 @@ pub next_slot : (n now slot next : ℕ) → slot ≡ now % n → next ≡ (slot 
 next_slot n now slot next e f = f ∙ (ap (λ (y : ℕ). (y + 1) % n) e ∙ mod-add-mod now n 1)
 
 -- another name for the number of slots and the tick
-pub same_frame : (n now m tick : ℕ) (lists : KeyedLists) → m ≡ n → tick ≡ now → AreInBuckets n now lists
-    → AreInBuckets m tick lists
+pub same_frame : (n now m tick : ℕ) (lists : KeyedLists) → m ≡ n → tick ≡ now → AreInBuckets n now lists → AreInBuckets m tick lists
 same_frame n now m tick lists e f a = subst (λ (k : ℕ). AreInBuckets k tick lists) (sym e)
     (subst (λ (k : ℕ). AreInBuckets n k lists) (sym f) a)

@@ -124,7 +124,7 @@ filter_alike p q (x ∷ xs) e = elim (either (q x)) [
   | inr k ↦ rw (e.0, k) (filter_alike p q xs e.1)
 ]
 
--- where none is due
+-- if none is due
 none_due_rows : (tick : ℕ) (xs : List (ℕ × Node)) → AllByRecursion (λ row. (timer_in row).deadline ≢ tick) xs → due_rows tick xs ≡ []
 none_due_rows tick [] h = refl
 none_due_rows tick (x ∷ xs) h = rw (is_left tick (timer_in x) h.0) (none_due_rows tick xs h.1)

@@ -20,8 +20,7 @@ set_twice [] i a b = refl
 set_twice (x ∷ xs) zero a b = refl
 set_twice (x ∷ xs) (suc i) a b = ap (λ (y : KeyedLists). x ∷ y) (set_twice xs i a b)
 
-set_swapped : (v : KeyedLists) (i j : ℕ) (a b : List (ℕ × Node)) → i ≢ j
-    → slice_set (slice_set v i a) j b ≡ slice_set (slice_set v j b) i a
+set_swapped : (v : KeyedLists) (i j : ℕ) (a b : List (ℕ × Node)) → i ≢ j → slice_set (slice_set v i a) j b ≡ slice_set (slice_set v j b) i a
 set_swapped [] i j a b n = refl
 set_swapped (x ∷ xs) zero zero a b n = absurd (n refl)
 set_swapped (x ∷ xs) zero (suc j) a b n = refl
@@ -85,7 +84,7 @@ left_more : (tick : ℕ) (row : ℕ × Node) (rest : List (ℕ × Node)) → is_
     → length (left_rows tick (row ∷ rest)) ≡ suc (length (left_rows tick rest))
 left_more tick row rest k = rw k refl
 
--- the first row, where there is one
+-- the first row, if there is one
 pub record IsFirstRow (table : List ℕ) (l tick d : ℕ) (lists : KeyedLists) : Type 0 where
   pub row : ℕ × Node
   pub rest : List (ℕ × Node)

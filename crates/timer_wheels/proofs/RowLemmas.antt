@@ -128,8 +128,7 @@ rows_below-without_key (suc n) key [] = refl
 rows_below-without_key (suc n) key (x ∷ xs) = ap (λ (y : List (ℕ × Node)). without_key key x ++ y) (rows_below-without_key n key xs)
     ∙ sym (filter-append (λ r. not (r.0 == key)) x (rows_below n xs))
 
-pub list_at-without_key : (s key : ℕ) (lists : KeyedLists)
-    → list_at s (map (without_key key) lists) ≡ without_key key (list_at s lists)
+pub list_at-without_key : (s key : ℕ) (lists : KeyedLists) → list_at s (map (without_key key) lists) ≡ without_key key (list_at s lists)
 list_at-without_key s key [] = refl
 list_at-without_key zero key (x ∷ xs) = refl
 list_at-without_key (suc s) key (x ∷ xs) = list_at-without_key s key xs
@@ -202,8 +201,7 @@ IsNotAmong-others t [] ys d = d.0
 IsNotAmong-others t (x ∷ xs) ys d = ((λ e. (IsNotAmong-rest x.serial xs (t ∷ ys) d.0).0 (sym e)), IsNotAmong-others t xs ys d.1)
 
 -- one more list
-pub rows_below-more : (n : ℕ) (lists : KeyedLists) → n < length lists
-    → rows_below (suc n) lists ≡ rows_below n lists ++ list_at n lists
+pub rows_below-more : (n : ℕ) (lists : KeyedLists) → n < length lists → rows_below (suc n) lists ≡ rows_below n lists ++ list_at n lists
 rows_below-more zero [] h = absurd (omega arith)
 rows_below-more zero (x ∷ xs) h = append-nil x
 rows_below-more (suc n) [] h = absurd (omega arith)

@@ -1,4 +1,4 @@
--- Lemmas about `ShowsBuckets`: it holds where each row is in its timer's bucket.
+-- Lemmas about `ShowsBuckets`: it holds if each row is in its timer's bucket.
 use Rattle.std.proofs.Common.{◌≡◌, ◌≢◌, ◌<◌, ◌+◌, ℕ, zero, suc, ◌==◌, List, [], ◌∷◌, ◌++◌, length, refl, sym, ◌∙◌, ap, inl, inr, arith}
 use Rattle.std.specs.Prelude.{Bool, true, false, map, filter}
 use Rattle.std.specs.List.{AllByRecursion}

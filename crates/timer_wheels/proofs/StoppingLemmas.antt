@@ -26,7 +26,7 @@ use Rattle.timer_wheels.proofs.BucketLemmas.{IsSeparated, separated, look-has}
 
 -- A stop.
 
--- one row is removed from a bucket, and its bit is cleared where no other row is left in it
+-- one row is removed from a bucket, and its bit is cleared if no other row is left in it
 kept_filled : (n : ℕ) (words words2 : List ℕ) (l : ℕ) (rows : List (ℕ × Node)) (lists new : KeyedLists) → l < n
     → l < length lists → filled (list_at l lists) ≡ 1 → filled rows ≡ 1 → new ≡ slice_set lists l rows → words2 ≡ words
     → AreMarked n words lists → AreMarked n words2 new

@@ -9,8 +9,7 @@ use Rattle.timer_wheels.specs.Sweep.{due_now, due_later, half_swept, swept}
 use Rattle.timer_wheels.proofs.RowLemmas.{append-nil}
 use Rattle.timer_wheels.proofs.WalkLemmas.{some_none, same_key, length-list_at, set_twice}
 
-set_swapped : (v : KeyedLists) (i j : ℕ) (a b : List (ℕ × Node)) → i ≢ j
-    → slice_set (slice_set v i a) j b ≡ slice_set (slice_set v j b) i a
+set_swapped : (v : KeyedLists) (i j : ℕ) (a b : List (ℕ × Node)) → i ≢ j → slice_set (slice_set v i a) j b ≡ slice_set (slice_set v j b) i a
 set_swapped [] i j a b n = refl
 set_swapped (x ∷ xs) zero zero a b n = absurd (n refl)
 set_swapped (x ∷ xs) zero (suc j) a b n = refl

@@ -180,7 +180,7 @@ same_down r b z p n =
     let e : r * (b / r) + b % r ≡ b = omega arith in
     le-div (b / r) (b - 1) r z (omega arith)
 
--- and one more, where the last tick is not one of them
+-- and one more, if the last tick is not one of them
 pub fewer_multiples : (r a b : ℕ) → 0 < r → a < b → b % r ≢ 0 → b / r - a / r + 1 ≤ b - a
 fewer_multiples r a b z h n =
     let d : b / r ≤ (b - 1) / r = same_down r b z (omega arith) n in

@@ -28,8 +28,7 @@ none_left : (rows : List (ℕ × Node)) → AllByRecursion (λ row. ⊥) rows �
 none_left [] a h = omega arith
 none_left (r ∷ rs) a h = a.0
 
-some_pending : (n l : ℕ) (lists : KeyedLists) → l < n → 0 < length (list_at l lists)
-    → 0 < length (pending_in (rows_below n lists))
+some_pending : (n l : ℕ) (lists : KeyedLists) → l < n → 0 < length (list_at l lists) → 0 < length (pending_in (rows_below n lists))
 some_pending n l lists b h = elim (some_or_none (rows_below n lists)) [
   | inl e ↦ absurd (
       let P : List (ℕ × Node) → Type 0 = AllByRecursion (λ row. ⊥) in
@@ -68,9 +67,8 @@ no_length : {X : Type 0} (xs : List X) → length xs ≡ 0 → xs ≡ []
 no_length [] e = refl
 no_length (x ∷ xs) e = absurd (omega arith)
 
--- where the lists have no row nothing is pending
-pub none_at_all : (n : ℕ) (lists : KeyedLists) → length lists ≡ n + 1 → row_count lists ≡ 0
-    → pending_in (rows_below n lists) ≡ []
+-- if the lists have no row, nothing is pending
+pub none_at_all : (n : ℕ) (lists : KeyedLists) → length lists ≡ n + 1 → row_count lists ≡ 0 → pending_in (rows_below n lists) ≡ []
 none_at_all n lists e z =
     let parts : row_count lists ≡ length (rows_below n lists) + length (list_at n lists) = row_count-parts n lists e in
     let rows : length (pending_in (rows_below n lists)) ≡ length (rows_below n lists) = length-pending_in (rows_below n lists) in
@@ -100,8 +98,7 @@ ahead_of n slot s a b = elim (cases_lt slot s) [
 ]
 
 -- after a full turn no slot is left
-pub all_ahead : (n slot : ℕ) (lists : KeyedLists) → slot < n → AreEmptyAhead n slot n lists → (s : ℕ) → s < n
-    → list_at s lists ≡ []
+pub all_ahead : (n slot : ℕ) (lists : KeyedLists) → slot < n → AreEmptyAhead n slot n lists → (s : ℕ) → s < n → list_at s lists ≡ []
 all_ahead n slot lists a f s b = let j = ahead_of n slot s a b in ap (λ (x : ℕ). list_at x lists) (sym j.3) ∙ f j.0 j.1 j.2
 
 slot_of_deadline : (n now j d : ℕ) → d ≡ now + j → (now % n + j) % n ≡ d % n

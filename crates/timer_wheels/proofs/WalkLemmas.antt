@@ -36,7 +36,7 @@ length-list_at (x ∷ xs) (suc l) = let h : length (list_at l xs) ≤ row_count 
 pub begun : (l : ℕ) (lists : KeyedLists) (at : Option ℕ) → at ≡ first_key (list_at l lists) → IsWalking l 0 lists at []
 begun l lists at e = record { left = list_at l lists; rows = refl; next = e; count = refl }
 
--- the next row, where there is one
+-- the next row, if there is one
 pub record IsNextRow (l step : ℕ) (lists : KeyedLists) (key : ℕ) (past : List (ℕ × Node)) : Type 0 where
   pub node : Node
   pub rest : List (ℕ × Node)
@@ -58,8 +58,7 @@ empty_when : (left : List (ℕ × Node)) → length left ≤ 0 → left ≡ []
 empty_when [] h = refl
 empty_when (x ∷ xs) h = absurd (omega arith)
 
-all_past : (l : ℕ) (lists : KeyedLists) (past left : List (ℕ × Node)) → list_at l lists ≡ past ++ left → left ≡ []
-    → list_at l lists ≡ past
+all_past : (l : ℕ) (lists : KeyedLists) (past left : List (ℕ × Node)) → list_at l lists ≡ past ++ left → left ≡ [] → list_at l lists ≡ past
 all_past l lists past left r e = r ∙ (ap (λ (y : List (ℕ × Node)). past ++ y) e ∙ append-nil past)
 
 -- and after as many steps as there are rows
@@ -155,8 +154,7 @@ set_twice [] i a b = refl
 set_twice (x ∷ xs) zero a b = refl
 set_twice (x ∷ xs) (suc i) a b = ap (λ (y : KeyedLists). x ∷ y) (set_twice xs i a b)
 
-left_there : (l : ℕ) (old new : KeyedLists) (left : List (ℕ × Node)) → l < length old → new ≡ slice_set old l left
-    → list_at l new ≡ left
+left_there : (l : ℕ) (old new : KeyedLists) (left : List (ℕ × Node)) → l < length old → new ≡ slice_set old l left → list_at l new ≡ left
 left_there l old new left b e = ap (list_at l) e ∙ get_or-set_same old l left [] b
 
 pub emptied-one : (l step : ℕ) (old new more : KeyedLists) (row : ℕ × Node) → l < length old → IsEmptying l step old new
@@ -170,8 +168,7 @@ emptied-one l step old new more row b s p =
           in let d : length s.left ≡ suc (length p.0) = ap (λ (y : List (ℕ × Node)). length y) e in omega arith);
     }
 
-pub emptied-count : (l step : ℕ) (old new : KeyedLists) → IsEmptying l step old new → row_count old ≤ step
-    → new ≡ slice_set old l []
+pub emptied-count : (l step : ℕ) (old new : KeyedLists) → IsEmptying l step old new → row_count old ≤ step → new ≡ slice_set old l []
 emptied-count l step old new s h =
     let a : length (list_at l old) ≤ row_count old = length-list_at old l in
     let c : length s.left + step ≡ length (list_at l old) = s.count in

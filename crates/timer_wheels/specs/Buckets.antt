@@ -38,8 +38,7 @@ RemovesRow found key old new = MatchOption found (new ≡ old) (λ r. new ≡ ma
 
 -- where a timer was found, the row under its key is removed, and this row is pushed to the back of a list;
 -- else the lists are unchanged
-abbrev pub ReplacesRow : {X : Type 0} → Option X → ℕ → ℕ × Node → KeyedLists
-    → KeyedLists → Type 0
+abbrev pub ReplacesRow : {X : Type 0} → Option X → ℕ → ℕ × Node → KeyedLists → KeyedLists → Type 0
 ReplacesRow found l row old new = MatchOption found (new ≡ old) (λ r. new
     ≡ with_row l row (map (without_key row.0) old))
 

@@ -13,7 +13,7 @@ pub record IsLeast (deadline : ℕ) (timers : List Timer) : Type 0 where
   pub has : HasDeadline deadline timers
   pub none_earlier : AllByRecursion (λ t. deadline ≤ t.deadline) timers
 
--- the least deadline, and none exactly where there is no timer
+-- the least deadline, and none exactly if there is no timer
 abbrev pub IsLeastDeadline : Option ℕ → List Timer → Type 0
 IsLeastDeadline None timers = timers ≡ []
 IsLeastDeadline (Some deadline) timers = IsLeast deadline timers

@@ -17,12 +17,13 @@ slots_of wheel = wheel.buckets.slots
 
 -- why a hashed wheel can't be made, other than out of memory: the number of slots is tested before the first
 -- tick
-abbrev pub fault_of : ℕ → ℕ → Option MakeFault
-fault_of slots first_tick =
+abbrev pub argument_fault : ℕ → ℕ → Option MakeFault
+argument_fault slots first_tick =
     if slots == 0 || nat_lt 65536 slots then Some Slots
     else (if nat_lt LAST first_tick then Some FirstTick else None)
 
--- the error of `new`: that of its arguments where there is one, else out of memory
+-- the error of `new`: that of its arguments if there is one, else out of memory
 abbrev pub IsHashedFault : ℕ → ℕ → MakeFault → Type 0
 IsHashedFault slots first_tick fault =
-    (fault_of slots first_tick ≡ Some fault) ⊎ ((fault_of slots first_tick ≡ None) × (fault ≡ OutOfMemory))
+    (argument_fault slots first_tick ≡ Some fault)
+    ⊎ ((argument_fault slots first_tick ≡ None) × (fault ≡ OutOfMemory))

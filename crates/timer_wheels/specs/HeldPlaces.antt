@@ -17,7 +17,7 @@ AreBefore from entries = AllByRecursion (λ entry. entry.place < from) entries
 abbrev pub IsHeld : Handle → WheelState → Type 0
 IsHeld handle w = IsSome (timer_at handle w) ⊎ IsSome (due_at handle w)
 
--- the handle of the timer at the first place from this one on, and none exactly where no place from it on has
+-- the handle of the timer at the first place from this one on, and none exactly if no place from it on has
 -- a timer
 abbrev pub IsFirstHeld : ℕ → WheelState → Option Handle → Type 0
 IsFirstHeld from w None = AreBefore from w.pending × AreBefore from w.due

@@ -5,7 +5,7 @@ use Rattle.timer_links.specs.Lists.{KeyedLists}
 use Rattle.timer_wheels.specs.BucketLists.{timer_in, EachRow}
 use Rattle.timer_wheels.specs.Placement.{hops_of, levels_of}
 
--- now with s as its digit k, and zeros below: the next visit of slot s of wheel k, where that holds a pending
+-- now with s as its digit k, and zeros below: the next visit of slot s of wheel k, if that holds a pending
 -- timer
 abbrev pub slot_visit : List ℕ → ℕ → ℕ → ℕ → ℕ
 slot_visit [] k s now = now
@@ -18,7 +18,7 @@ timer_visit [] now deadline = deadline
 timer_visit (r ∷ rs) now deadline = if (now / r) == (deadline / r) then deadline else r * timer_visit rs
     (now / r) (deadline / r)
 
--- the same of a list: its next visit, where it holds a pending timer
+-- the same of a list: its next visit, if it holds a pending timer
 abbrev pub list_visit : List ℕ → ℕ → ℕ → ℕ
 list_visit [] l now = now
 list_visit (r ∷ rs) l now = if nat_lt l r then r * (now / r) + l else r * list_visit rs (l - r) (now / r)
@@ -28,7 +28,7 @@ abbrev pub AreNotVisitedBefore : List ℕ → ℕ → ℕ → ℕ → KeyedLists
 AreNotVisitedBefore table n now visit lists = EachRow (λ s row. visit
     ≤ timer_visit table now (timer_in row).deadline) n lists
 
--- the same of a tick that is found, and of every tick where none is
+-- the same of a tick that is found, and of every tick if none is
 abbrev pub IsVisitBound : List ℕ → ℕ → ℕ → Option ℕ → KeyedLists → Type 0
 IsVisitBound table n now found lists =
     MatchOption found ((visit : ℕ) → AreNotVisitedBefore table n now visit lists)
@@ -48,7 +48,7 @@ pub record Leaps (table : List ℕ) (moves : ℕ) (old new : WheelState) : Type 
   pub now_is : new.now ≡ old.now + passed
   pub ticked : new ≡ after_ticks passed old
   pub quiet : (n : ℕ) → n < passed → (after_ticks n old).due ≡ []
-  -- where nothing is due yet, the pending timers are the same
+  -- if nothing is due yet, the pending timers are the same
   pub kept : new.due ≡ [] → new.pending ≡ old.pending
   pub moves_are : moves ≡ hops_of table old.now passed old.pending
   pub pays : moves + levels_of table new.now new.pending ≤ levels_of table old.now old.pending

@@ -1,4 +1,4 @@
--- A bit for each bucket, set where it has rows.
+-- A bit for each bucket, set if it has rows.
 use Rattle.std.specs.Prelude.{◌≡◌, ◌≢◌, ℕ, ◌<◌, ◌≤◌, ◌/◌, ◌%◌, List, [], ◌∷◌, Option, Some, None, slice_index_or}
 use Rattle.std.specs.Int.{bit_at}
 use Rattle.std.specs.Coded.{Π_prop, ×_prop}
@@ -21,7 +21,7 @@ pub record IsLowestSet (word bit : ℕ) : Type 0 where
   pub is_set : bit_at word bit ≡ 1
   pub below : (i : ℕ) → i < bit → bit_at word i ≡ 0
 
--- 1 where there are rows
+-- 1 if there are rows
 abbrev pub filled : List (ℕ × Node) → ℕ
 filled [] = 0
 filled (row ∷ rows) = 1
@@ -30,7 +30,7 @@ filled (row ∷ rows) = 1
 abbrev pub IsClearFrom : ℕ → List ℕ → Type 0
 IsClearFrom n words = (s : ℕ) → n ≤ s → s < 640 → bit_of words s ≡ 0
 
--- each bit of the first n lists is set exactly where its list has rows, and no other is set
+-- each bit of the first n lists is set exactly if its list has rows, and no other is set
 abbrev pub AreMarked : ℕ → List ℕ → KeyedLists → Type 0
 AreMarked n words lists = ((s : ℕ) → s < n → bit_of words s ≡ filled (list_at s lists)) × IsClearFrom n words
 
@@ -44,8 +44,7 @@ abbrev pub Clears : Option ℕ → List ℕ → List ℕ → Type 0
 Clears None old new = new ≡ old
 Clears (Some l) old new = (bit_of new l ≡ 0) × ((s : ℕ) → s ≢ l → bit_of new s ≡ bit_of old s)
 
-pub AreMarked-prop : (n : ℕ) (words : List ℕ) (lists : KeyedLists)
-    → IsProp (AreMarked n words lists)
+pub AreMarked-prop : (n : ℕ) (words : List ℕ) (lists : KeyedLists) → IsProp (AreMarked n words lists)
 AreMarked-prop n words lists =
     ×_prop (Π_prop (λ s. Π_prop (λ b. ℕ_set (bit_of words s) (filled (list_at s lists)))))
     (Π_prop (λ s. Π_prop (λ a. Π_prop (λ b. ℕ_set (bit_of words s) 0))))

@@ -59,6 +59,6 @@ has_any [] = false
 has_any (entry ∷ entries) = true
 
 -- how many buckets are visited from tick a to b: one at each multiple of the lowest radix, and that of b
--- where something is due there
+-- if something is due there
 abbrev pub visited_between : ℕ → ℕ → ℕ → Bool → ℕ
 visited_between r a b due = b / r - a / r + (if due && not (b % r == 0) then 1 else 0)

@@ -2,7 +2,7 @@
 use Rattle.std.specs.Prelude.{ℕ, ◌-◌, ◌≤◌}
 use Rattle.timer_links.specs.declared.node.Node.{Node}
 
--- the row has at least so many rounds
+-- the row has at least this many rounds
 abbrev pub HasRoundsLeft : ℕ → ℕ × Node → Type 0
 HasRoundsLeft rounds row = rounds ≤ row.1.rounds
 

@@ -12,7 +12,7 @@ use Rattle.timer_wheels.specs.BucketLists.{entries_of}
 abbrev pub without_deadline : Entry → Timer
 without_deadline entry = record entry.timer { deadline = 0 }
 
--- the entries by serial: the order of timers where all have one deadline
+-- the entries by serial: the order of timers if all have one deadline
 abbrev pub by_serial : List Entry → List Entry
 by_serial entries = in_order without_deadline entries
 

@@ -19,9 +19,8 @@ due_later (row ∷ rows) = if row.1.rounds == 0 then due_later rows else (
   },
 ) ∷ due_later rows
 
--- the lists where these rows of one list were swept, and those not yet
-abbrev pub half_swept : ℕ → ℕ → List (ℕ × Node) → List (ℕ × Node) → KeyedLists
-    → KeyedLists
+-- the lists after these rows of one list were swept, and those were not yet
+abbrev pub half_swept : ℕ → ℕ → List (ℕ × Node) → List (ℕ × Node) → KeyedLists → KeyedLists
 half_swept l due past left lists = slice_set (slice_set lists l (due_later past ++ left)) due
     (list_at due lists ++ due_now past)
 

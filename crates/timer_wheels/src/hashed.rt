@@ -28,7 +28,7 @@ use crate::buckets::Buckets;
 use crate::deadlines::first_of_all;
 use crate::naming::names_one;
 use crate::revolutions::skip_revolutions;
-use crate::sweep::{first_visit, next_tick, slot_after};
+use crate::sweep::{next_sweep, slot_after, sweep_tick};
 use std::alloc::Global;
 use timer_base::{Handle, LAST, MakeFault, OutOfMemory, Timer, Wheel};
 use timer_links::Links;
@@ -54,16 +54,16 @@ pub struct HashedWheel {
 }
 
 impl HashedWheel {
-    ghost use Rattle.timer_wheels.specs.HashedWheel.{hashed_state, slots_of, fault_of, IsHashedFault};
+    ghost use Rattle.timer_wheels.specs.HashedWheel.{hashed_state, slots_of, argument_fault, IsHashedFault};
 
     /// A wheel with no timer, of 1 to 65,536 slots, at a first tick of at most `LAST`.
     ///
-    /// Errors, in this order: `Slots` where there are none or more than `MAX_SLOTS`; `FirstTick` above
+    /// Errors, in this order: `Slots` if there are none or more than `MAX_SLOTS`; `FirstTick` above
     /// `LAST`; `OutOfMemory`.
     pub fn new(alloc: Global, slots: usize, first_tick: u64) -> Result<HashedWheel, MakeFault>
         ensures ok { IfOk result (λ wheel. hashed_state wheel ≡ empty_wheel LAST first_tick) }
         ensures slots { IfOk result (λ wheel. slots_of wheel ≡ slots) }
-        ensures no_fault { IfOk result (λ wheel. fault_of slots first_tick ≡ None) }
+        ensures no_fault { IfOk result (λ wheel. argument_fault slots first_tick ≡ None) }
         ensures err { IfErr result (λ fault. IsHashedFault slots first_tick fault) }
     {
         if slots == 0 || slots > MAX_SLOTS {
@@ -222,7 +222,7 @@ impl Wheel for HashedWheel {
     {
         let buckets = &mut self.buckets;
         let slot = slot_after(self.slot, 1, buckets.slots);
-        next_tick(buckets, slot);
+        sweep_tick(buckets, slot);
         self.slot = slot;
     }
 
@@ -253,7 +253,7 @@ impl Wheel for HashedWheel {
         ensures next { IfSome result (λ tick. IsNextSweep (slots_of self.now) tick (hashed_state self.now)) }
         ensures quiet { IsQuietUntil result (hashed_state self.now) }
     {
-        first_visit(&self.buckets, self.slot)
+        next_sweep(&self.buckets, self.slot)
     }
 
     /// Found by a walk along every bucket: a bucket has timers of many revolutions.

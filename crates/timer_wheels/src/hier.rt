@@ -219,7 +219,7 @@ impl HierWheel {
     /// How many buckets were emptied since the wheel was made. Does not allocate.
     ///
     /// `per_tick` empties one. `advance` counts one at each multiple of the lowest wheel's slots that it
-    /// passes, and that of its last tick where something is due then: buckets emptied, and those known to
+    /// passes, and that of its last tick if something is due then: buckets emptied, and those known to
     /// be empty are counted without a look.
     pub fn visits(&self) -> u64
         ensures { result ≡ (counts_of self.now).visits }

@@ -52,7 +52,7 @@ pub fn advance_until_due(
     moves
 }
 
-/// Advances to the next visit of a bucket with a timer, or to the end where that comes first.
+/// Advances to the next visit of a bucket with a timer, or to the end if that comes first.
 fn leap_to_visit(table: Table, buckets: &mut Buckets, occupied: &mut Occupied, end: u64) -> u64
     requires hier { IsHier table buckets.old occupied.old }
     requires nothing_due { (state_of buckets.old).due ≡ [] }
@@ -73,7 +73,7 @@ fn leap_to_visit(table: Table, buckets: &mut Buckets, occupied: &mut Occupied, e
     }
 }
 
-/// The next visit of a bucket with a timer, or the tick after the end where no bucket has one.
+/// The next visit of a bucket with a timer, or the tick after the end if no bucket has one.
 fn next_visit(table: Table, buckets: &Buckets, occupied: &Occupied, end: u64) -> u64
     requires hier { IsHier table buckets.now occupied.now }
     requires before_end { buckets.now.tick < end }
@@ -88,7 +88,7 @@ fn next_visit(table: Table, buckets: &Buckets, occupied: &Occupied, end: u64) ->
     }
 }
 
-/// The next visit of a bucket with a timer, or None where no bucket has one.
+/// The next visit of a bucket with a timer, or None if no bucket has one.
 #[inline]
 pub fn first_visit(table: Table, buckets: &Buckets, occupied: &Occupied) -> Option<u64>
     requires { IsHier table buckets.now occupied.now }
@@ -103,7 +103,7 @@ pub fn first_visit(table: Table, buckets: &Buckets, occupied: &Occupied) -> Opti
     }
 }
 
-/// Sets the clock to a later tick, where no bucket with a timer is visited up to it.
+/// Sets the clock to a later tick, if no bucket with a timer is visited up to it.
 fn skip_to(table: Table, buckets: &mut Buckets, occupied: &Occupied, tick: u64)
     requires hier { IsHier table buckets.old occupied.now }
     requires nothing_due { (state_of buckets.old).due ≡ [] }
@@ -121,7 +121,7 @@ fn skip_to(table: Table, buckets: &mut Buckets, occupied: &Occupied, tick: u64)
 }
 
 /// How many visits the ticks after the first one up to the last count: one at each multiple of the lowest
-/// wheel's slots, and that of the last tick where something is due then.
+/// wheel's slots, and that of the last tick if something is due then.
 ///
 /// An empty bucket counts without a look at it, since emptying it changes nothing.
 pub fn visits_between(table: Table, first: u64, last: u64, due: bool) -> u64

@@ -98,7 +98,7 @@ fn migrate(table: Table, links: &mut Links, occupied: &mut Occupied, list: usize
 }
 
 /// Empties a bucket from its front, timer by timer, and returns how many went to a lower wheel.
-// Inlined where the table is a constant.
+// Inlined if the table is a constant.
 #[inline(always)]
 fn migrate_one_by_one(
     table: Table,

@@ -11,7 +11,7 @@ use crate::occupied::{Occupied, clear_emptied};
 use crate::table::Table;
 use timer_base::{Handle, Timer};
 
-/// Removes the pending timer with just this handle, and clears its bucket's bit where it was the
+/// Removes the pending timer with just this handle, and clears its bucket's bit if it was the
 /// last one there. Does not allocate.
 #[inline]
 pub fn stop_timer(

@@ -5,7 +5,7 @@ use std::alloc::Global;
 use std::fmt::Debug;
 use std::process::Abort;
 use timer_base::{OutOfMemory, Timer};
-use timer_links::{Links, Node, Step, Taken};
+use timer_links::{Links, Node, RemovedNode, WalkStep};
 
 /// One call on three lists. A node is named by its number: the first that was put is 1.
 #[derive(Clone, Copy, Drop)]
@@ -22,9 +22,9 @@ enum Call {
     Gone(u64),
     /// The node is the only one in this list.
     Alone(u64, Option<usize>),
-    /// The node waits for so many rounds.
+    /// The node waits for this many rounds.
     SetRounds(u64, u64),
-    /// The node waits for so many rounds, and this node comes after it.
+    /// The node waits for this many rounds, and this node comes after it.
     Step(u64, u64, Option<u64>),
     /// Puts a node with this serial in the place of this one, under its key.
     SetNode(u64, u64),
@@ -36,7 +36,7 @@ enum Call {
     MoveFront(usize, usize),
     /// Moves all nodes of one list to the back of another.
     Append(usize, usize),
-    /// Makes room for so many nodes.
+    /// Makes room for this many nodes.
     Reserve(usize),
     /// So many nodes are in all lists together.
     Count(usize),
@@ -245,7 +245,7 @@ fn call_on(rt: &impl Abort, name: &str, links: &mut Links, keys: &[usize], key: 
                 rt,
                 name,
                 taken,
-                Taken {
+                RemovedNode {
                     node: found,
                     emptied,
                 },
@@ -259,7 +259,7 @@ fn call_on(rt: &impl Abort, name: &str, links: &mut Links, keys: &[usize], key: 
                 Some(number) => Some(key_of(rt, keys, number)),
                 None => None,
             };
-            same(rt, name, links.step(key), Step { rounds, next });
+            same(rt, name, links.step(key), WalkStep { rounds, next });
         }
         Call::SetNode(_, serial) => links.set_node(key, node(serial, 0)),
         Call::MoveBack(_, list) => {

@@ -43,11 +43,11 @@ pub enum Call {
 pub enum Pace {
     /// By `per_tick`, one tick after the other.
     SingleTicks,
-    /// By `advance`, which stops where something is due.
+    /// By `advance`, which stops when something is due.
     ManyTicks,
 }
 
-/// Goes on only where nothing is due.
+/// Goes on only if nothing is due.
 pub fn settle<W: Wheel>(rt: &impl Abort, wheel: &W)
     ensures { (W.state wheel.now).due ≡ [] }
 {
@@ -132,7 +132,7 @@ pub fn tick_until<W: Wheel>(rt: &impl Abort, wheel: &mut W, tick: u64) {
     }
 }
 
-/// The serial of a timer, or 0 where there is none: no timer has it.
+/// The serial of a timer, or 0 if there is none: no timer has it.
 pub fn serial_of(timer: Option<Timer>) -> u64 {
     match timer {
         Some(timer) => timer.serial,

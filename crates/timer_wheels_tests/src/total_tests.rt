@@ -1,4 +1,4 @@
-//! Each call of timer_total where it is accepted and where it is refused, over the plain wheel.
+//! Each call of timer_total, accepted and refused, over the plain wheel.
 use std::fmt::Debug;
 use std::process::Abort;
 use std::test::Fail;
@@ -24,9 +24,9 @@ enum Call {
     Expire(Option<u64>),
     /// Passes one tick.
     Tick(Result<(), TickFault>),
-    /// Passes at most so many ticks.
+    /// Passes at most this many ticks.
     Advance(u64, Result<u64, TickFault>),
-    /// Makes room for so many timers, if memory is there.
+    /// Makes room for this many timers, if memory is there.
     Reserve(usize, bool),
     /// The present tick, how many timers are pending, whether one is due, and the first deadline.
     Shows(u64, usize, bool, Option<u64>),

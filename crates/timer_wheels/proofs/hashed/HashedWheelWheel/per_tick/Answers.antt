@@ -2,8 +2,8 @@ use Rattle.std.proofs.Common.{◌≡◌, ◌+◌, ◌%◌, ℕ, sym, ◌∙◌, 
 use Rattle.timer_wheels.proofs.HashedTicks.{next_slot}
 use Rattle.timer_wheels.proofs.hashed.HashedWheelWheel.per_tick.Goals as goal
 
-pub next_tick-requires-clause-slot : goal.next_tick-requires-clause-slot
-next_tick-requires-clause-slot c =
+pub sweep_tick-requires-clause-slot : goal.sweep_tick-requires-clause-slot
+sweep_tick-requires-clause-slot c =
     let w = c.args.self.now in
     next_slot w.buckets.slots w.buckets.tick w.slot c.slot_after-slot.result w.at_tick c.slot_after-slot.ensures
 
@@ -14,9 +14,9 @@ slot_at n tick m next slot e f s = s ∙ (ap (λ (k : ℕ). k % n) (sym f) ∙ a
 pub invariant_of-self-clause-at_tick : goal.invariant_of-self-clause-at_tick
 invariant_of-self-clause-at_tick c =
     let w = c.args.self.now in
-    slot_at w.buckets.slots w.buckets.tick c.next_tick.new.buckets.slots c.next_tick.new.buckets.tick c.slot_after-slot.result
-    c.next_tick.ensures.slots c.next_tick.ensures.tick (next_slot w.buckets.slots w.buckets.tick w.slot c.slot_after-slot.result
+    slot_at w.buckets.slots w.buckets.tick c.sweep_tick.new.buckets.slots c.sweep_tick.new.buckets.tick c.slot_after-slot.result
+    c.sweep_tick.ensures.slots c.sweep_tick.ensures.tick (next_slot w.buckets.slots w.buckets.tick w.slot c.slot_after-slot.result
     w.at_tick c.slot_after-slot.ensures)
 
 pub invariant_of-self-clause-in_buckets : goal.invariant_of-self-clause-in_buckets
-invariant_of-self-clause-in_buckets c = c.next_tick.ensures.in_buckets
+invariant_of-self-clause-in_buckets c = c.sweep_tick.ensures.in_buckets

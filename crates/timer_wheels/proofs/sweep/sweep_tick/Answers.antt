@@ -5,7 +5,7 @@ use Rattle.timer_wheels.specs.Buckets.{state_of}
 use Rattle.timer_wheels.specs.Sweep.{swept}
 use Rattle.timer_wheels.proofs.BucketLemmas.{no_rows, due_past}
 use Rattle.timer_wheels.proofs.HashedTicks.{length-swept, ticked, ticked-pending, ticked-distinct, ticked-in_order, ticked-in_buckets}
-use Rattle.timer_wheels.proofs.sweep.next_tick.Goals as goal
+use Rattle.timer_wheels.proofs.sweep.sweep_tick.Goals as goal
 
 gone_through : (n tick slot : ℕ) (old new : KeyedLists) → new ≡ swept slot n old → slot ≡ (tick + 1) % n
     → new ≡ swept ((tick + 1) % n) n old

@@ -2,7 +2,7 @@ use Rattle.timer_wheels.proofs.RoomLemmas.{wake_up-with_room, next_sweep-with_ro
 use Rattle.std.proofs.Common.{◌<◌, ◌≤◌, arith}
 use Rattle.timer_links.specs.Lists.{list_at}
 use Rattle.timer_wheels.proofs.WakeUpLemmas.{none_ahead, one_ahead, all_ahead, seen_filled, none_at_all, sleeps, wakes_at, sweeps_next}
-use Rattle.timer_wheels.proofs.sweep.first_visit.Goals as goal
+use Rattle.timer_wheels.proofs.sweep.next_sweep.Goals as goal
 
 pub returns-then-len-eq0-clause-quiet : goal.returns-then-len-eq0-clause-quiet
 returns-then-len-eq0-clause-quiet c =
