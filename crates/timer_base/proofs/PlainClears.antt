@@ -1,17 +1,13 @@
 -- Lemmas for `clear` of a `PlainWheel`: what it leaves is what is due.
-use Rattle.std.proofs.Common.{◌≡◌, ℕ, Bool, true, false, List, [], ◌∷◌, length, refl, ap, inl, inr, arith}
+use Rattle.std.proofs.Common.{◌≡◌, ℕ, Bool, List, [], ◌∷◌, length, refl, ap, inl, inr}
 use Rattle.std.specs.Prelude.{map, filter}
-use Rattle.std.proofs.lemmas.Bool.Decides.{nat_tests}
 use Rattle.timer_base.specs.declared.timer.Timer.{Timer}
 use Rattle.timer_base.specs.Order.{in_order, itself}
 use Rattle.timer_base.specs.OrderLaws.{either}
 use Rattle.timer_base.specs.Pending.{is_due_at}
 use Rattle.timer_base.specs.PlainState.{is_after, due_count, at_first_place, plain_state}
 use Rattle.timer_base.specs.WheelState.{after_clear}
-use Rattle.timer_base.proofs.PlainSteps.{state_is}
-
-due_not_after : (now : ℕ) (t : Timer) → is_due_at now t ≡ true → is_after now t ≡ false
-due_not_after now t h = grind (arith, nat_tests)
+use Rattle.timer_base.proofs.PlainSteps.{state_is, due_not_after}
 
 none_after : (now : ℕ) (ts : List Timer) → filter (is_after now) (filter (is_due_at now) ts) ≡ []
 none_after now [] = refl

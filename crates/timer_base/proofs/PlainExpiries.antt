@@ -8,7 +8,7 @@ use Rattle.timer_base.specs.OrderLaws.{either}
 use Rattle.timer_base.specs.Pending.{is_due_at, has_serial}
 use Rattle.timer_base.specs.WheelState.{first_due, after_expiry}
 use Rattle.timer_base.specs.PlainState.{is_after, due_count, at_first_place, plain_state, timers_of-at_first_place}
-use Rattle.timer_base.proofs.PlainSteps.{state_is}
+use Rattle.timer_base.proofs.PlainSteps.{state_is, due_not_after}
 
 pub find-filter : (p : Timer → Bool) (ts : List Timer) → find p ts ≡ slice_get (filter p ts) 0
 find-filter p [] = refl
@@ -101,9 +101,6 @@ pub others_stay : (p q : Timer → Bool) (low : ℕ) (f : Timer) (ts : List Time
     → find p ts ≡ Some f → AreRising low ts → filter q (filter (λ t. not (has_serial f.serial t)) ts) ≡ filter q ts
 others_stay p q low f [] x e r = refl
 others_stay p q low f (t ∷ ts) x e r = stay_step p q low t f ts x (others_stay p q t.serial f ts x) (either (p t)) e r
-
-due_not_after : (now : ℕ) (t : Timer) → is_due_at now t ≡ true → is_after now t ≡ false
-due_not_after now t h = grind (arith, nat_tests)
 
 drop-at_first_place : (ts : List Timer) → map at_first_place (drop 1 ts) ≡ drop 1 (map at_first_place ts)
 drop-at_first_place [] = refl

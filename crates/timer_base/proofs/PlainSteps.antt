@@ -196,7 +196,7 @@ length-map (t ∷ ts) = ap suc (length-map ts)
 length-pending : (now last : ℕ) (ts : List Timer) → length (plain_state now last ts).pending ≡ length (filter (is_after now) ts)
 length-pending now last ts = length-map (in_order itself (filter (is_after now) ts)) ∙ length-in_order itself (filter (is_after now) ts)
 
-due_not_after : (now : ℕ) (t : Timer) → is_due_at now t ≡ true → is_after now t ≡ false
+pub due_not_after : (now : ℕ) (t : Timer) → is_due_at now t ≡ true → is_after now t ≡ false
 due_not_after now t h = grind (arith, nat_tests)
 
 all_counted : (now last : ℕ) (ts : List Timer) → AllByRecursion (IsKept now last) ts

@@ -8,7 +8,7 @@ use Rattle.timer_base.specs.Order.{IsNotAmong, AreDistinct}
 use Rattle.timer_base.specs.Pending.{Entry, timers_of, put, has_serial, is_due_at, without_serial, entries_due, entries_left}
 use Rattle.timer_facility.specs.State.{one_of, count_of}
 use Rattle.timer_facility.specs.Facility.{Parts, kept, AreCounted}
-use Rattle.timer_facility.proofs.TimerLists.{either, Among, not_among}
+use Rattle.timer_facility.proofs.TimerLists.{either, Among, not_among, is_equal, is_same}
 
 pub count-append : (client : ℕ) (xs ys : List Timer) → count_of client (xs ++ ys) ≡ count_of client xs + count_of client ys
 count-append client [] ys = omega arith
@@ -118,14 +118,8 @@ pub counted-as : {clients : ℕ} {counts : List ℕ} {ts : List Timer} → AreCo
     → ((client : ℕ) → count_of client us ≡ count_of client ts) → AreCounted clients counts us
 counted-as a us h = record { all_counts = a.all_counts; each = λ client. a.each client ∙ sym (h client); no_others = a.no_others }
 
-is_same : (n k : ℕ) → (n == k) ≡ true → k ≡ n
-is_same n k h = grind (arith, nat_tests)
-
 is_other : (n k : ℕ) → (n == k) ≡ false → k ≢ n
 is_other n k h = grind (arith, nat_tests)
-
-same_is : (n : ℕ) → (n == n) ≡ true
-same_is n = grind (arith, nat_tests)
 
 -- one more timer
 pub counted-more : {clients : ℕ} {counts : List ℕ} {ts : List Timer} → AreCounted clients counts ts → (t : Timer) (us : List Timer)
@@ -138,7 +132,7 @@ counted-more {clients} {counts} {ts} a t us l few h =
       all_counts = length-set counts t.client (slice_index counts t.client + 1) ∙ a.all_counts;
       each = λ client. elim (either (t.client == client)) [
         | inl k ↦
-            let same : client ≡ t.client = is_same t.client client k in
+            let same : client ≡ t.client = sym (is_equal t.client client k) in
             let one : count_of client us ≡ 1 + count_of client ts = h client ∙ ap (λ b. (if b then 1 else 0) + count_of client ts) k in
             let was : slice_index counts client ≡ count_of client ts = a.each client in
             ap (slice_index (slice_set counts t.client (slice_index counts t.client + 1))) same
@@ -169,7 +163,7 @@ pub is_counted : {clients : ℕ} {counts : List ℕ} {ts : List Timer} → AreCo
     → ((client : ℕ) → count_of client ts ≡ one_of client t + count_of client us) → IsCounted clients counts t
 is_counted {clients} {counts} {ts} a t us h =
     let one : count_of t.client ts ≡ 1 + count_of t.client us =
-    h t.client ∙ ap (λ b. (if b then 1 else 0) + count_of t.client us) (same_is t.client) in
+    h t.client ∙ ap (λ b. (if b then 1 else 0) + count_of t.client us) (is_same t.client) in
     let each : slice_index counts t.client ≡ count_of t.client ts = a.each t.client in
     let all : length counts ≡ 64 = a.all_counts in
     let some : 0 < slice_index counts t.client = omega arith in
@@ -191,7 +185,7 @@ counted-less {clients} {counts} {ts} a t us h =
       all_counts = length-set counts t.client (slice_index counts t.client - 1) ∙ a.all_counts;
       each = λ client. elim (either (t.client == client)) [
         | inl k ↦
-            let same : client ≡ t.client = is_same t.client client k in
+            let same : client ≡ t.client = sym (is_equal t.client client k) in
             let one : count_of client ts ≡ 1 + count_of client us = h client ∙ ap (λ b. (if b then 1 else 0) + count_of client us) k in
             let was : slice_index counts client ≡ count_of client ts = a.each client in
             ap (slice_index (slice_set counts t.client (slice_index counts t.client - 1))) same

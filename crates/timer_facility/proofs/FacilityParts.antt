@@ -1,6 +1,6 @@
 -- The parts of a facility: their view, and the parts after each call.
 use Rattle.std.proofs.Common.{◌≡◌, ◌≢◌, ◌<◌, ◌≤◌, ◌+◌, ◌-◌, ℕ, zero, suc, Bool, true, false, ◌==◌, ◌⊎◌, not, List, [], ◌∷◌, ◌++◌, length, refl, sym, ◌∙◌, ap, subst, inl, inr, arith, append-nil, get_or, add-one}
-use Rattle.std.specs.Prelude.{map, filter, drop, take, replicate, nat_lt, if◌then◌else◌, Option, Some, None, slice_get, slice_index, slice_set}
+use Rattle.std.specs.Prelude.{map, filter, drop, take, replicate, if◌then◌else◌, Option, Some, None, slice_get, slice_index, slice_set}
 use Rattle.std.specs.List.{AllByRecursion}
 use Rattle.std.proofs.lemmas.Bool.Decides.{nat_tests}
 use Rattle.std.proofs.Math.Seq.{take-set-lt, drop-cons}
@@ -28,31 +28,17 @@ use Rattle.timer_facility.specs.Opened.{opened}
 use Rattle.timer_facility.specs.Config.{IsInRange}
 use Rattle.timer_facility.specs.Facility.{FacilityView, Parts, view_of, kept, AreCounted, AreParts, view_after, with_nothing_waiting}
 use Rattle.timer_facility.proofs.FacilityCounts.{count-kept, count-put, count-tick, count-without, count-front, counted-none, counted-as, counted-more, counted-less, IsCounted, is_counted, count_in_range}
-use Rattle.timer_facility.proofs.TimerLists.{Among, first_timer-among, either, timers_of-filter, All_timers-weaken, of_client_some}
+use Rattle.timer_facility.proofs.TimerLists.{Among, first_timer-among, either, timers_of-filter, All_timers-weaken, of_client_some, is_equal, length-put, length_timers}
 use Rattle.timer_facility.proofs.OwedLemmas.{notices_in-map}
 use Rattle.timer_facility.proofs.VerdictLemmas.{IsTimely, IsKnown, takable, tick_refusal-none}
 
 -- Lengths.
-
-length_timers : (es : List Entry) → length (timers_of es) ≡ length es
-length_timers [] = refl
-length_timers (e ∷ es) = ap suc (length_timers es)
-
-is_equal : (m n : ℕ) → (m == n) ≡ true → m ≡ n
-is_equal m n h = grind (arith, nat_tests)
 
 length-filter : {X : Type 0} (p : X → Bool) (xs : List X) → length (filter p xs) ≤ length xs
 length-filter p [] = omega arith
 length-filter p (x ∷ xs) = elim (either (p x)) [
   | inl h ↦ rw h (let n = length-filter p xs in omega arith)
   | inr h ↦ rw h (let n = length-filter p xs in omega arith)
-]
-
-length-put : (e : Entry) (es : List Entry) → length (put e es) ≡ length es + 1
-length-put e [] = refl
-length-put e (x ∷ xs) = elim (either (nat_lt e.timer.deadline x.timer.deadline)) [
-  | inl h ↦ rw h (omega arith)
-  | inr h ↦ rw h (let n = length-put e xs in omega arith)
 ]
 
 length-without : (found : Option Timer) (es : List Entry) → length (without_found found es) ≤ length es

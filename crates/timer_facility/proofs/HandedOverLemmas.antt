@@ -1,6 +1,6 @@
 -- How many timers of a client are pending after an event, and what the event hands out.
-use Rattle.std.proofs.Common.{◌≡◌, ◌≤◌, ◌+◌, ℕ, suc, Bool, true, false, not, ◌==◌, List, [], ◌∷◌, length, refl, ◌∙◌, ap, inl, inr, arith}
-use Rattle.std.specs.Prelude.{map, filter, nat_lt, if◌then◌else◌, Option, Some, None}
+use Rattle.std.proofs.Common.{◌≡◌, ◌≤◌, ◌+◌, ℕ, Bool, true, false, not, ◌==◌, List, [], ◌∷◌, length, refl, ◌∙◌, ap, inl, inr, arith}
+use Rattle.std.specs.Prelude.{map, filter, if◌then◌else◌, Option, Some, None}
 use Rattle.timer_base.specs.declared.timer.Timer.{Timer}
 use Rattle.timer_base.specs.Pending.{Entry, timers_of, put, is_due_at, has_serial, entries_due, entries_left}
 use Rattle.timer_facility.specs.declared.request.Reason.{Reason}
@@ -16,7 +16,7 @@ use Rattle.timer_facility.specs.Run.{notices_in}
 use Rattle.timer_facility.specs.Owed.{timer_handed}
 use Rattle.timer_facility.specs.HandedOver.{timers_handed, AddsAtMostOne, HandsOver}
 use Rattle.timer_facility.proofs.FacilityCounts.{count-put, count-tick}
-use Rattle.timer_facility.proofs.TimerLists.{either, timers_of-filter}
+use Rattle.timer_facility.proofs.TimerLists.{either, timers_of-filter, length-put, length_timers}
 use Rattle.timer_facility.proofs.OwedLemmas.{notices_in-map}
 
 -- Requests.
@@ -35,13 +35,6 @@ filter_shorter p (e ∷ es) = elim (either (p e)) [
   | inr h ↦ rw h (let n = filter_shorter p es in omega arith)
 ]
 
-length_put : (e : Entry) (es : List Entry) → length (put e es) ≡ length es + 1
-length_put e [] = refl
-length_put e (x ∷ xs) = elim (either (nat_lt e.timer.deadline x.timer.deadline)) [
-  | inl h ↦ rw h (omega arith)
-  | inr h ↦ rw h (let n = length_put e xs in omega arith)
-]
-
 adds_start : (s : FacilityState) (o : Option Reason) (place client number : ℕ) (t : Timer) → t.client ≡ client
     → AddsAtMostOne client s (with_number client number (after_start o place t s))
 adds_start s (Some reason) place client number t h = record { of_client = λ c. omega arith; all = omega arith }
@@ -51,7 +44,7 @@ adds_start s None place client number t h = record {
       count-put c (record { place = place; timer = t }) s.pending in
       let m : one_of c t ≡ (if client == c then 1 else 0) = ap (λ k. if k == c then 1 else 0) h in
       omega arith;
-  all = let n = length_put (record { place = place; timer = t }) s.pending in omega arith;
+  all = let n = length-put (record { place = place; timer = t }) s.pending in omega arith;
 }
 
 adds_stop : (s : FacilityState) (found : Option Timer) (client number : ℕ)
@@ -130,10 +123,6 @@ hands_tick s None =
           let n = length_tick (s.now + 1) s.pending in
           omega arith;
     }
-
-length_timers : (es : List Entry) → length (timers_of es) ≡ length es
-length_timers [] = refl
-length_timers (e ∷ es) = ap suc (length_timers es)
 
 hands_close : (s : FacilityState) (closed : Bool) → HandsOver s (step_of_close s closed)
 hands_close s true = record { of_client = λ c. omega arith; all = omega arith }

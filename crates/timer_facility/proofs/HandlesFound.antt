@@ -11,7 +11,8 @@ use Rattle.std.proofs.lemmas.List.Sorted.{IsNonDecreasingBy-from_default}
 use Rattle.timer_base.specs.declared.timer.Handle.{Handle}
 use Rattle.timer_base.specs.OrderLaws.{either}
 use Rattle.timer_facility.specs.Handles.{HandleList, place_at, AreSorted}
-use Rattle.timer_facility.proofs.HandlesLemmas.{is_same, is_less, is_equal}
+use Rattle.timer_facility.proofs.HandlesLemmas.{is_less}
+use Rattle.timer_facility.proofs.TimerLists.{is_equal, is_same}
 
 all_at : (P : Handle → Type 0) (hs : HandleList) (i : ℕ) → AllByRecursion P hs → i < length hs
     → P (get_or hs i (record { place = 0; serial = 0 }))

@@ -21,6 +21,7 @@ use Rattle.timer_facility.specs.Run.{notices_in, state_after}
 use Rattle.timer_facility.specs.Ticked.{ticks, AreTicked}
 use Rattle.timer_facility.specs.Facility.{FacilityView, place_in, IsTaken}
 use Rattle.timer_facility.specs.Handles.{HandleList, place_at, AreSorted, IsRecorded, with_answer, AreRecorded}
+use Rattle.timer_facility.proofs.TimerLists.{is_equal, is_same}
 
 recorded_tick : (handles : HandleList) (s : FacilityState) (refusal : Option TickFault) → AreRecorded handles s
     → AreRecorded handles (step_of_tick s refusal).state
@@ -60,9 +61,6 @@ place_at-more (x ∷ xs) h serial place e = elim (either (x.serial == serial)) [
   | inl k ↦ rw k (sym (ap (λ b. if b then Some x.place else place_at serial xs) k) ∙ e)
   | inr k ↦ rw k (place_at-more xs h serial place (sym (ap (λ b. if b then Some x.place else place_at serial xs) k) ∙ e))
 ]
-
-pub is_same : (n : ℕ) → (n == n) ≡ true
-is_same n = grind (arith, nat_tests)
 
 pub is_less : (m n : ℕ) → m < n → (m == n) ≡ false
 is_less m n l = grind (arith, nat_tests)
@@ -211,9 +209,6 @@ both_true p q r t h k = grind (arith, nat_tests)
 second_false : (b : Bool) → (b && false) ≡ false
 second_false true = refl
 second_false false = refl
-
-pub is_equal : (m n : ℕ) → (m == n) ≡ true → m ≡ n
-is_equal m n h = grind (arith, nat_tests)
 
 -- for a recorded entry, a test of the recorded handle is one of the serial alone
 same_test : (handles : HandleList) (serial : ℕ) (handle : Handle) (e : Entry) → IsHandleOf handles serial handle → IsRecorded handles e

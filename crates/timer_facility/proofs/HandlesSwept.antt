@@ -12,7 +12,8 @@ use Rattle.timer_base.specs.OrderLaws.{either, All-filter, All-weaken}
 use Rattle.timer_base.specs.Pending.{Entry, has_handle, first_timer}
 use Rattle.timer_facility.specs.State.{FacilityState}
 use Rattle.timer_facility.specs.Handles.{HandleList, place_at, AreSorted, is_pending, IsRecorded, AreRecorded, AreFew}
-use Rattle.timer_facility.proofs.HandlesLemmas.{both_true, is_equal}
+use Rattle.timer_facility.proofs.HandlesLemmas.{both_true}
+use Rattle.timer_facility.proofs.TimerLists.{is_equal}
 
 passes_too : (p : Handle → Bool) (x : Handle) (place serial : ℕ) → x.place ≡ place → x.serial ≡ serial
     → p (record { place = place; serial = serial }) ≡ true → p x ≡ true

@@ -10,7 +10,7 @@ use Rattle.timer_facility.specs.declared.request.Notice.{Notice}
 use Rattle.timer_facility.specs.declared.request.Notice.TheVariants.{Expired, Returned}
 use Rattle.timer_facility.specs.State.{FacilityState}
 use Rattle.timer_facility.specs.Owed.{timers_in_order, is_among}
-use Rattle.timer_facility.proofs.TimerLists.{either, or_false, insert_newest, timers_in_order-append, filter-timers_in_order, filter-append, filter_same, filter_ext, filter-filter, timers_of-put, timers_of-filter, Among, Among-in_order, Among-filter, AreBelow-among, IsOnly, AreDistinct-only, AreDistinct-append, AreBelow-append, AreBelow-filter, is_among-append, is_among_below, All-append, All_numbers-weaken, All_timers-weaken, All_timers-append}
+use Rattle.timer_facility.proofs.TimerLists.{either, or_false, insert_newest, timers_in_order-append, filter-timers_in_order, filter-append, filter_same, filter_ext, filter-filter, timers_of-put, timers_of-filter, Among, Among-in_order, Among-filter, AreBelow-among, IsOnly, AreDistinct-only, AreDistinct-append, AreBelow-append, AreBelow-filter, is_among-append, is_among_below, All-append, All_numbers-weaken, All_timers-weaken, All_timers-append, is_equal, lt_is}
 use Rattle.timer_facility.proofs.OwedReading.{Reading, all_started, is_owed_at, is_left_at, due_at, owed_at_ticks, owed_at_close, owed_for}
 
 -- between two events: from s the answers read are r and the notices are ns, and c is the state now
@@ -127,12 +127,6 @@ with_stopped r serial = record r { stopped = r.stopped ++ serial ∷ [] }
 eq_sym : (a b : ℕ) → (a == b) ≡ (b == a)
 eq_sym a b = grind (arith, nat_tests)
 
-eq_is : (a b : ℕ) → (a == b) ≡ true → a ≡ b
-eq_is a b h = grind (arith, nat_tests)
-
-lt_is : (a b : ℕ) → nat_lt a b ≡ true → a < b
-lt_is a b h = grind (arith, nat_tests)
-
 and_left : (a b : Bool) → (a && b) ≡ true → a ≡ true
 and_left true b h = refl
 and_left false b h = absurd (cc)
@@ -148,7 +142,7 @@ not_owed r d x h = owed_later r d x h
 owed_stopped : (r : Reading) (now d : ℕ) (t x : Timer) → IsOnly t x → now < t.deadline → d ≤ now
     → is_owed_at (with_stopped r t.serial) d x ≡ is_owed_at r d x
 owed_stopped r now d t x only l m = elim (either (t.serial == x.serial)) [
-  | inl h ↦ let same : x ≡ t = only (sym (eq_is t.serial x.serial h)) in
+  | inl h ↦ let same : x ≡ t = only (sym (is_equal t.serial x.serial h)) in
       let later : now < x.deadline = rw same l in
       not_owed (with_stopped r t.serial) d x (omega arith) ∙ sym (not_owed r d x (omega arith))
   | inr h ↦ ap (λ b. (x.deadline == d) && not b) (is_among-append x.serial t.serial r.stopped ∙ ap (λ b. is_among x.serial r.stopped || b) h
@@ -224,7 +218,7 @@ lt_when n d h = grind (arith, nat_tests)
 
 due_bits : (n d : ℕ) (a : Bool) → ((nat_lt n d && not a) && (d == n + 1)) ≡ ((d == n + 1) && not a)
 due_bits n d a = elim (either (d == n + 1)) [
-  | inl h ↦ rw (h, lt_when n d (eq_is d (n + 1) h)) (and_true (not a))
+  | inl h ↦ rw (h, lt_when n d (is_equal d (n + 1) h)) (and_true (not a))
   | inr h ↦ rw h (and_false (nat_lt n d && not a))
 ]
 

@@ -2,7 +2,6 @@
 use Rattle.std.proofs.Common.{◌≡◌, ◌≢◌, ◌<◌, ◌≤◌, ◌+◌, ℕ, zero, suc, Bool, true, false, not, ◌==◌, ◌&&◌, List, [], ◌∷◌, ◌++◌, refl, sym, ◌∙◌, ap, subst, inl, inr, arith, append-nil}
 use Rattle.std.specs.Prelude.{map, filter, nat_lt}
 use Rattle.std.specs.List.{AllByRecursion}
-use Rattle.std.proofs.lemmas.Bool.Decides.{nat_tests}
 use Rattle.std.proofs.lemmas.List.{map-append}
 use Rattle.timer_base.specs.declared.timer.Timer.{Timer}
 use Rattle.timer_base.specs.Order.{itself, IsNotAmong, AreDistinct}
@@ -13,7 +12,7 @@ use Rattle.timer_facility.specs.declared.request.Notice.TheVariants.{Expired, Re
 use Rattle.timer_facility.specs.State.{FacilityState, IsSound}
 use Rattle.timer_facility.specs.Run.{PlacedEvent, HistoryEntry, history}
 use Rattle.timer_facility.specs.Owed.{started, stopped, accepted_ticks, has_closed, is_among, timers_in_order, due, left_after, owed_by_ticks, owed_by_close, owed, timer_handed, handed_out, AreHandedOutOnce}
-use Rattle.timer_facility.proofs.TimerLists.{either, Among, IsOnly, AreDistinct-only}
+use Rattle.timer_facility.proofs.TimerLists.{either, Among, IsOnly, AreDistinct-only, is_equal, lt_is}
 use Rattle.timer_facility.proofs.OwedLemmas.{notices-history, started-distinct}
 
 -- Lists of distinct timers.
@@ -81,12 +80,6 @@ not_true : (b : Bool) → not b ≡ true → b ≡ false
 not_true true h = absurd (cc)
 not_true false h = refl
 
-eq_is : (a b : ℕ) → (a == b) ≡ true → a ≡ b
-eq_is a b h = grind (arith, nat_tests)
-
-lt_is : (a b : ℕ) → nat_lt a b ≡ true → a < b
-lt_is a b h = grind (arith, nat_tests)
-
 -- of two timers that were started, one with a later deadline has another serial
 other_serial : (all : List Timer) (tick : ℕ) (x y : Timer) → AreDistinct all → Among x all → Among y all → x.deadline ≤ tick
     → tick < y.deadline → y.serial ≢ x.serial
@@ -122,7 +115,7 @@ due-members s hs tick =
     All-in_order itself (IsBetween all (stopped hs) tick (tick + 1)) (filter test all)
     (All-filter (λ t. Among t all) (IsBetween all (stopped hs) tick (tick + 1)) test all
     (λ t h a. let parts = both_true (t.deadline == tick + 1) (not (is_among t.serial (stopped hs))) h in
-    let at : t.deadline ≡ tick + 1 = eq_is t.deadline (tick + 1) parts.0 in
+    let at : t.deadline ≡ tick + 1 = is_equal t.deadline (tick + 1) parts.0 in
     record { among = a; later = omega arith; up_to = omega arith; unstopped = not_true (is_among t.serial (stopped hs)) parts.1 })
     (all_among all))
 

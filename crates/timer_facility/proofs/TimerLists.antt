@@ -1,5 +1,5 @@
 -- Lists of timers, for what is owed.
-use Rattle.std.proofs.Common.{◌≡◌, ◌≢◌, ◌<◌, ◌+◌, ℕ, Bool, true, false, ◌==◌, ◌&&◌, ◌||◌, ◌⊎◌, List, [], ◌∷◌, ◌++◌, refl, sym, ◌∙◌, ap, subst, inl, inr, arith, append-nil}
+use Rattle.std.proofs.Common.{◌≡◌, ◌≢◌, ◌<◌, ◌+◌, ℕ, suc, Bool, true, false, ◌==◌, ◌&&◌, ◌||◌, ◌⊎◌, List, [], ◌∷◌, ◌++◌, length, refl, sym, ◌∙◌, ap, subst, inl, inr, arith, append-nil}
 use Rattle.std.specs.Prelude.{map, filter, nat_lt, if◌then◌else◌, Option, Some, None}
 use Rattle.std.specs.List.{AllByRecursion}
 use Rattle.std.proofs.lemmas.Bool.Decides.{nat_tests}
@@ -218,3 +218,23 @@ of_client_step client x t (inr k) h = let e = rw k at h in absurd (cc)
 pub of_client_some : (client : ℕ) (o : Option Timer) (t : Timer) → of_client client o ≡ Some t → o ≡ Some t
 of_client_some client None t h = h
 of_client_some client (Some x) t h = of_client_step client x t (either (x.client == client)) h
+
+pub is_equal : (m n : ℕ) → (m == n) ≡ true → m ≡ n
+is_equal m n h = grind (arith, nat_tests)
+
+pub is_same : (n : ℕ) → (n == n) ≡ true
+is_same n = grind (arith, nat_tests)
+
+pub length-put : (e : Entry) (es : List Entry) → length (put e es) ≡ length es + 1
+length-put e [] = refl
+length-put e (x ∷ xs) = elim (either (nat_lt e.timer.deadline x.timer.deadline)) [
+  | inl h ↦ rw h (omega arith)
+  | inr h ↦ rw h (let n = length-put e xs in omega arith)
+]
+
+pub length_timers : (es : List Entry) → length (timers_of es) ≡ length es
+length_timers [] = refl
+length_timers (e ∷ es) = ap suc (length_timers es)
+
+pub lt_is : (a b : ℕ) → nat_lt a b ≡ true → a < b
+lt_is a b h = grind (arith, nat_tests)

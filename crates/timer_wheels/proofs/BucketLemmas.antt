@@ -374,7 +374,7 @@ this_handle handle e p s = rw (eq-eqb e.place handle.place p, eq-eqb e.timer.ser
 some_is : (a b : Node) → Some a ≡ Some b → a ≡ b
 some_is a b e = cc
 
-some_none : (a : Node) → Some a ≡ None → ⊥
+pub some_none : (a : Node) → Some a ≡ None → ⊥
 some_none a e = cc
 
 -- the node that the look finds is not the timer that the handle names, or it is due
@@ -542,10 +542,10 @@ pub record HasTimer (now key : ℕ) (t : Timer) (lists : KeyedLists) : Type 0 wh
   pub timer : node.timer ≡ t
   pub later : now < node.timer.deadline
 
-no_timer : (t : Timer) → Some t ≡ None → ⊥
+pub no_timer : (t : Timer) → Some t ≡ None → ⊥
 no_timer t e = cc
 
-same_timer : (a b : Timer) → Some a ≡ Some b → a ≡ b
+pub same_timer : (a b : Timer) → Some a ≡ Some b → a ≡ b
 same_timer a b e = cc
 
 module _ (now n : ℕ) (handle : Handle) (lists : KeyedLists) (len : length lists

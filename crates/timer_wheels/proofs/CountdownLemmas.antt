@@ -8,8 +8,8 @@ use Rattle.timer_base.specs.OrderLaws.{All-weaken}
 use Rattle.timer_links.specs.declared.node.Node.{Node}
 use Rattle.timer_links.specs.Lists.{node_at, first_key, list_at, row_count, AreApart, IsNext, HasRounds, SetsRounds, KeyedLists}
 use Rattle.timer_wheels.specs.Revolutions.{HasRoundsLeft, with_fewer_rounds}
-use Rattle.timer_wheels.proofs.RowLemmas.{all-append, all-rest, append-nil}
-use Rattle.timer_wheels.proofs.WalkLemmas.{IsWalking, IsNextRow, begun, next_row, found, in_use, walked, ended_count, set_twice, length-list_at, some_none, same_key}
+use Rattle.timer_wheels.proofs.RowLemmas.{all-append, all-rest, append-nil, set_twice}
+use Rattle.timer_wheels.proofs.WalkLemmas.{IsWalking, IsNextRow, begun, next_row, found, in_use, walked, ended_count, length-list_at, some_none, same_key, empty_when}
 
 -- The fewest rounds.
 
@@ -133,10 +133,6 @@ pub next_left : (l step k : ℕ) (old lists : KeyedLists) (at : Option ℕ) (key
     → IsNextLeft l step k old lists key
 next_left l step k old lists at key s e = left_of l step k old lists key s.past s.left s.rows s.is (sym e ∙ s.next) s.steps
 
-none_counted : (left : List (ℕ × Node)) → length left ≤ 0 → left ≡ []
-none_counted [] h = refl
-none_counted (x ∷ xs) h = absurd (omega arith)
-
 counting-end : (l k : ℕ) (old lists : KeyedLists) (past left : List (ℕ × Node)) → list_at l old ≡ past ++ left
     → lists ≡ slice_set old l (fewer k past ++ left)
     → left ≡ [] → lists ≡ slice_set old l (fewer k (list_at l old))
@@ -153,7 +149,7 @@ counting-enough l step k old lists at s h =
     let b : length (list_at l old) ≡ length s.past + length s.left =
     ap (λ (y : List (ℕ × Node)). length y) s.rows ∙ length-append s.past s.left in
     let c : length s.past ≡ step = s.steps in
-    counting-end l k old lists s.past s.left s.rows s.is (none_counted s.left (omega arith))
+    counting-end l k old lists s.past s.left s.rows s.is (empty_when s.left (omega arith))
 
 module _ (l step k : ℕ) (old lists : KeyedLists) (b : l < length old) (key : ℕ) (w : IsNextLeft l step k old lists key) where
   pub counting-in_range : l < length lists

@@ -43,7 +43,7 @@ same_quotient r a z h = elim (next r a z) [ inl y ↦ y.1 | inr y ↦ absurd (h 
 next_quotient : (r a : ℕ) → 0 < r → (a + 1) % r ≡ 0 → (a + 1) / r ≡ a / r + 1
 next_quotient r a z h = elim (next r a z) [ inl y ↦ absurd (y.0 h) | inr y ↦ y.1 ]
 
-quotient_mono : (r a d : ℕ) → 0 < r → a ≤ d → a / r ≤ d / r
+pub quotient_mono : (r a d : ℕ) → 0 < r → a ≤ d → a / r ≤ d / r
 quotient_mono r a d z h =
     let e : r * (a / r) + a % r ≡ a = omega arith in
     le-div (a / r) d r z (omega arith)

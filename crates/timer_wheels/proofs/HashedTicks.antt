@@ -1,6 +1,6 @@
 -- One tick of a hashed wheel: rounds, the invariant and the state after `swept`.
 use Rattle.std.proofs.Common.{◌≡◌, ◌≢◌, ◌<◌, ◌+◌, ◌-◌, ◌*◌, ◌/◌, ◌%◌, ℕ, zero, suc, List, [], ◌∷◌, ◌++◌, length, refl, sym, ◌∙◌, ap, subst, inl, inr, arith, length-set, get_or-set_same, get_or-set_other}
-use Rattle.std.specs.Prelude.{Bool, true, false, not, map, filter, slice_set}
+use Rattle.std.specs.Prelude.{Bool, false, not, map, filter, slice_set}
 use Rattle.std.specs.List.{AllByRecursion}
 use Rattle.std.proofs.lemmas.Bool.{cases_eq, cases_lt, eq-eqb, ne_eqb}
 use Rattle.std.proofs.lemmas.Nat.{div-mul-add, mod-mul-add}
@@ -16,7 +16,7 @@ use Rattle.timer_wheels.specs.BucketLaws.{timers_of-entries}
 use Rattle.timer_wheels.specs.BucketLists.{timer_in, timers_in, entry_of, entries_of, rows_below, pending_in, wheel_state, ArePending, AreInOrder}
 use Rattle.timer_wheels.specs.Hashed.{IsInBucket, AreInBuckets, rounds_of}
 use Rattle.timer_wheels.specs.Sweep.{due_now, due_later, swept}
-use Rattle.timer_wheels.proofs.RowLemmas.{all-rows_below, all-list_at, append-nil, entries-append, filter-entries, filter-append}
+use Rattle.timer_wheels.proofs.RowLemmas.{all-rows_below, all-list_at, append-nil, entries-append, filter-entries, filter-append, is_due}
 use Rattle.timer_wheels.proofs.BucketLemmas.{filter-pending_in, AreDistinct-part}
 use Rattle.timer_wheels.proofs.ShownLemmas.{filter-one_list}
 
@@ -119,9 +119,6 @@ off_slot n now s row z e h b =
     let some : r ≢ 0 = other_slot_remainder n now d q r far (λ (k : d % n ≡ (now + 1) % n). e (sym b.0 ∙ k)) in
     let f = same_round n now d q r (r - 1) far (pred_of r some) in
     (f.0, (b.0, b.1 ∙ sym f.1))
-
-is_due : (tick : ℕ) (t : Timer) → t.deadline ≡ tick → is_due_at tick t ≡ true
-is_due tick t e = eq-eqb t.deadline tick e
 
 is_not_due : (tick : ℕ) (t : Timer) → tick < t.deadline → is_due_at tick t ≡ false
 is_not_due tick t h = ne_eqb t.deadline tick (omega arith)

@@ -16,9 +16,9 @@ use Rattle.timer_wheels.proofs.DigitLaws.{bucket_at_tick, digits_down, emptied_i
 use Rattle.timer_wheels.specs.BucketLists.{timer_in, timers_in, entry_of, entries_of, rows_below, pending_in, ArePending, AreInOrder, EachRow, wheel_state}
 use Rattle.timer_wheels.specs.Placement.{IsPlaced, hops_of, levels_of}
 use Rattle.timer_wheels.specs.Migration.{target, migrated, due_rows, left_rows, MayMigrate, IsOfTick}
-use Rattle.timer_wheels.proofs.RowLemmas.{all-append, all-front, all-rest, all-rows_below, all-list_at, IsAround, around, append-nil}
+use Rattle.timer_wheels.proofs.RowLemmas.{all-append, all-front, all-rest, all-rows_below, all-list_at, IsAround, around, append-nil, all-entries, is_due}
 use Rattle.std.proofs.lemmas.List.Elements.{filter-append}
-use Rattle.timer_wheels.proofs.BucketLemmas.{filter-pending_in, AreRising-part}
+use Rattle.timer_wheels.proofs.BucketLemmas.{filter-pending_in, AreRising-part, no_rows}
 use Rattle.timer_wheels.proofs.MigrationLemmas.{target_due, target_left, migrate_rows-length, to_list, list_at-migrate_rows, Distinct, distinct-filter, in_order-pulled, distinct-pulled, GoesDown, AreMigrated, migrate_rows_keeps}
 
 -- the invariant of a hierarchical wheel before a tick
@@ -56,9 +56,6 @@ due_means tick t h = eqb-true t.deadline tick h
 
 left_means : (tick : ℕ) (t : Timer) → is_due_at tick t ≡ false → t.deadline ≢ tick
 left_means tick t h = eqb-false t.deadline tick h
-
-is_due : (tick : ℕ) (t : Timer) → t.deadline ≡ tick → is_due_at tick t ≡ true
-is_due tick t h = eq-eqb t.deadline tick h
 
 is_left : (tick : ℕ) (t : Timer) → t.deadline ≢ tick → is_due_at tick t ≡ false
 is_left tick t h = ne_eqb t.deadline tick h
@@ -572,11 +569,6 @@ falls_at : (table : List ℕ) (last_tick a last_serial : ℕ) (row : ℕ × Node
 falls_at table last_tick a last_serial row i h p = (bucket_at_tick table a (timer_in row).deadline i
     (digits_down table (timer_in row).deadline last_tick i p.in_range h) p.later).falls
 
-all-entries : (P : Entry → Type 0) (rows : List (ℕ × Node)) → AllByRecursion (λ row. P (entry_of row)) rows
-    → AllByRecursion P (entries_of rows)
-all-entries P [] a = tt
-all-entries P (x ∷ xs) a = (a.0, all-entries P xs a.1)
-
 all_fall : (table : List ℕ) (last_tick a last_serial : ℕ) (rows : List (ℕ × Node)) → IsTable table → HasDigits table last_tick
     → ArePending last_tick a last_serial rows → AllByRecursion (FallsAt table a) (pending_in rows)
 all_fall table last_tick a last_serial rows i h p =
@@ -655,10 +647,6 @@ pub next_of : (table : List ℕ) (n last_tick a last_serial moves : ℕ) (lists 
 next_of table n last_tick a last_serial moves lists new s b e g =
     let P : ℕ → Type 0 = λ k. IsNext table k last_tick a last_serial moves lists new in
     subst P (sym s) (next_here table last_tick a last_serial moves lists new b e g)
-
-no_rows : (rows : List (ℕ × Node)) → entries_of rows ≡ [] → rows ≡ []
-no_rows [] e = refl
-no_rows (x ∷ xs) e = cc
 
 pub before_of : (table : List ℕ) (n last_tick a last_serial : ℕ) (lists : KeyedLists) → n ≡ slots table → IsTable table
     → HasDigits table last_tick → a < last_tick

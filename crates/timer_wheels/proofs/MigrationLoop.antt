@@ -11,22 +11,9 @@ use Rattle.timer_wheels.specs.Digits.{slots, bucket, last_of}
 use Rattle.timer_wheels.specs.BucketLists.{timer_in}
 use Rattle.timer_wheels.specs.Migration.{target, migrate_rows, migrated, left_rows, first_deadline, second_deadline, MayMigrate, IsOfTick}
 use Rattle.timer_wheels.proofs.MigrationLemmas.{target_due, target_left}
-use Rattle.timer_wheels.proofs.RowLemmas.{append-nil}
+use Rattle.timer_wheels.proofs.RowLemmas.{append-nil, set_twice, set_swapped}
 
 -- Lists that are updated twice.
-
-pub set_twice : (v : KeyedLists) (i : ℕ) (a b : List (ℕ × Node)) → slice_set (slice_set v i a) i b ≡ slice_set v i b
-set_twice [] i a b = refl
-set_twice (x ∷ xs) zero a b = refl
-set_twice (x ∷ xs) (suc i) a b = ap (λ (y : KeyedLists). x ∷ y) (set_twice xs i a b)
-
-set_swapped : (v : KeyedLists) (i j : ℕ) (a b : List (ℕ × Node)) → i ≢ j → slice_set (slice_set v i a) j b ≡ slice_set (slice_set v j b) i a
-set_swapped [] i j a b n = refl
-set_swapped (x ∷ xs) zero zero a b n = absurd (n refl)
-set_swapped (x ∷ xs) zero (suc j) a b n = refl
-set_swapped (x ∷ xs) (suc i) zero a b n = refl
-set_swapped (x ∷ xs) (suc i) (suc j) a b n = ap (λ (y : KeyedLists). x ∷ y)
-    (set_swapped xs i j a b (λ (e : i ≡ j). n (ap (λ (k : ℕ). suc k) e)))
 
 pub length_list_at : (lists : KeyedLists) (l : ℕ) → length (list_at l lists) ≤ row_count lists
 length_list_at [] l = omega arith

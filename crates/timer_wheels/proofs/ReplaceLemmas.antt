@@ -5,7 +5,7 @@ use Rattle.std.proofs.lemmas.Bool.{eqb-true}
 use Rattle.timer_base.specs.OrderLaws.{either}
 use Rattle.timer_links.specs.declared.node.Node.{Node}
 use Rattle.timer_links.specs.Lists.{list_at, node_in, node_at, first_of, with_row, without_key, AreApart, SetsNode, MovesBack, KeyedLists}
-use Rattle.timer_wheels.proofs.MigrationLoop.{set_twice}
+use Rattle.timer_wheels.proofs.RowLemmas.{set_twice}
 
 -- Where a node stands.
 

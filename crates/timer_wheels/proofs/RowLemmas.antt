@@ -1,11 +1,12 @@
--- The rows of the first n lists, after one list or each list was changed.
-use Rattle.std.proofs.Common.{◌≡◌, ◌<◌, ◌≤◌, ◌+◌, ℕ, zero, suc, ◌==◌, List, [], ◌∷◌, ◌++◌, length, refl, sym, ◌∙◌, ap, inl, inr, arith, append_assoc}
+-- Rows and lists of rows, and the rows of the first n lists after a change.
+use Rattle.std.proofs.Common.{◌≡◌, ◌≢◌, ◌<◌, ◌≤◌, ◌+◌, ℕ, zero, suc, true, ◌==◌, List, [], ◌∷◌, ◌++◌, length, refl, sym, ◌∙◌, ap, inl, inr, arith, append_assoc}
 use Rattle.std.specs.Prelude.{Bool, map, filter, not, slice_set}
 use Rattle.std.specs.List.{AllByRecursion}
+use Rattle.std.proofs.lemmas.Bool.{eq-eqb}
 use Rattle.timer_base.specs.declared.timer.Timer.{Timer}
 use Rattle.timer_base.specs.Order.{AreBelow, AreDistinct, IsNotAmong}
 use Rattle.timer_base.specs.OrderLaws.{either}
-use Rattle.timer_base.specs.Pending.{Entry}
+use Rattle.timer_base.specs.Pending.{Entry, is_due_at}
 use Rattle.timer_links.specs.declared.node.Node.{Node}
 use Rattle.timer_links.specs.Lists.{list_at, with_row, without_key, KeyedLists}
 use Rattle.timer_wheels.specs.BucketLists.{timer_in, timers_in, entry_of, entries_of, rows_below}
@@ -216,3 +217,24 @@ timers_below-more n lists old new h a b =
     b ∙ (ap (λ (y : List Timer). y ++ timers_in (list_at n lists)) a
     ∙ (sym (timers-append (rows_below n lists) (list_at n lists))
     ∙ ap timers_in (sym (ap (λ (y : ℕ). rows_below y lists) e ∙ rows_below-more n lists h))))
+
+pub set_twice : (v : KeyedLists) (i : ℕ) (a b : List (ℕ × Node)) → slice_set (slice_set v i a) i b ≡ slice_set v i b
+set_twice [] i a b = refl
+set_twice (x ∷ xs) zero a b = refl
+set_twice (x ∷ xs) (suc i) a b = ap (λ (y : KeyedLists). x ∷ y) (set_twice xs i a b)
+
+pub set_swapped : (v : KeyedLists) (i j : ℕ) (a b : List (ℕ × Node)) → i ≢ j → slice_set (slice_set v i a) j b ≡ slice_set (slice_set v j b) i a
+set_swapped [] i j a b n = refl
+set_swapped (x ∷ xs) zero zero a b n = absurd (n refl)
+set_swapped (x ∷ xs) zero (suc j) a b n = refl
+set_swapped (x ∷ xs) (suc i) zero a b n = refl
+set_swapped (x ∷ xs) (suc i) (suc j) a b n = ap (λ (y : KeyedLists). x ∷ y)
+    (set_swapped xs i j a b (λ (e : i ≡ j). n (ap (λ (k : ℕ). suc k) e)))
+
+pub all-entries : (P : Entry → Type 0) (rows : List (ℕ × Node)) → AllByRecursion (λ row. P (entry_of row)) rows
+    → AllByRecursion P (entries_of rows)
+all-entries P [] a = tt
+all-entries P (x ∷ xs) a = (a.0, all-entries P xs a.1)
+
+pub is_due : (tick : ℕ) (t : Timer) → t.deadline ≡ tick → is_due_at tick t ≡ true
+is_due tick t h = eq-eqb t.deadline tick h

@@ -1,21 +1,13 @@
 -- Lemmas for `sweep_bucket`: its loop invariant.
-use Rattle.std.proofs.Common.{◌≡◌, ◌≢◌, ◌<◌, ◌≤◌, ◌+◌, ◌-◌, ℕ, zero, suc, List, [], ◌∷◌, ◌++◌, length, refl, sym, ◌∙◌, ap, subst, inl, inr, arith, length-set, length-append, append_assoc, get_or-set_same, get_or-set_other}
+use Rattle.std.proofs.Common.{◌≡◌, ◌≢◌, ◌<◌, ◌≤◌, ◌+◌, ◌-◌, ℕ, List, [], ◌∷◌, ◌++◌, length, refl, sym, ◌∙◌, ap, subst, inl, inr, arith, length-set, length-append, append_assoc, get_or-set_same, get_or-set_other}
 use Rattle.std.specs.Prelude.{map, IsSome, Option, Some, slice_set}
 use Rattle.std.proofs.lemmas.List.{set-get_or}
 use Rattle.std.proofs.lemmas.Bool.{cases_eq, eq-eqb, ne_eqb}
 use Rattle.timer_links.specs.declared.node.Node.{Node}
 use Rattle.timer_links.specs.Lists.{node_at, first_key, list_at, row_count, without_key, with_row, moved_back, AreApart, SetsRounds, KeyedLists}
 use Rattle.timer_wheels.specs.Sweep.{due_now, due_later, half_swept, swept}
-use Rattle.timer_wheels.proofs.RowLemmas.{append-nil}
-use Rattle.timer_wheels.proofs.WalkLemmas.{some_none, same_key, length-list_at, set_twice}
-
-set_swapped : (v : KeyedLists) (i j : ℕ) (a b : List (ℕ × Node)) → i ≢ j → slice_set (slice_set v i a) j b ≡ slice_set (slice_set v j b) i a
-set_swapped [] i j a b n = refl
-set_swapped (x ∷ xs) zero zero a b n = absurd (n refl)
-set_swapped (x ∷ xs) zero (suc j) a b n = refl
-set_swapped (x ∷ xs) (suc i) zero a b n = refl
-set_swapped (x ∷ xs) (suc i) (suc j) a b n = ap (λ (y : KeyedLists). x ∷ y)
-    (set_swapped xs i j a b (λ (e : i ≡ j). n (ap (λ (k : ℕ). suc k) e)))
+use Rattle.timer_wheels.proofs.RowLemmas.{append-nil, set_twice, set_swapped}
+use Rattle.timer_wheels.proofs.WalkLemmas.{some_none, same_key, length-list_at, empty_when}
 
 -- both lists are replaced
 rewritten : (v : KeyedLists) (i j : ℕ) (a b c : List (ℕ × Node)) → i ≢ j
@@ -155,10 +147,6 @@ ended l due old lists past left r i e =
       is = i ∙ (ap (λ (y : List (ℕ × Node)). half_swept l due past y old) e
           ∙ ap (λ (y : List (ℕ × Node)). half_swept l due y [] old) (sym q));
     }
-
-empty_when : (left : List (ℕ × Node)) → length left ≤ 0 → left ≡ []
-empty_when [] h = refl
-empty_when (x ∷ xs) h = absurd (omega arith)
 
 pub ended_count : (l due step : ℕ) (old lists : KeyedLists) (at : Option ℕ) → IsSweeping l due step old lists at
     → row_count old ≤ step → IsSwept l due old lists

@@ -4,13 +4,8 @@ use Rattle.std.proofs.lemmas.Bool.{cases_eq, cases_lt, eq-eqb, ne_eqb}
 use Rattle.std.proofs.lemmas.Nat.{le-div}
 use Rattle.timer_wheels.specs.Digits.{IsTable, HasDigits, digit, level, lowest, slots_below, list_of_slot, bucket, emptied, lowest_radix}
 use Rattle.timer_wheels.proofs.ClockDigits.{bucket_near, bucket_far, emptied_above, visit_here, visit_above}
-use Rattle.timer_wheels.proofs.DigitLaws.{level_near, level_far, lowest_here}
+use Rattle.timer_wheels.proofs.DigitLaws.{level_near, level_far, lowest_here, quotient_mono}
 use Rattle.timer_wheels.specs.Leap.{list_visit, timer_visit}
-
-quotient_mono : (r a d : ℕ) → 0 < r → a ≤ d → a / r ≤ d / r
-quotient_mono r a d z h =
-    let e : r * (a / r) + a % r ≡ a = omega arith in
-    le-div (a / r) d r z (omega arith)
 
 pub less_quotient : (r a d : ℕ) → a < d → 0 < r → a / r ≢ d / r → a / r < d / r
 less_quotient r a d h z n = let x : a / r ≤ d / r = quotient_mono r a d z (omega arith) in omega arith

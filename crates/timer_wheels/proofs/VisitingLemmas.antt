@@ -16,7 +16,7 @@ use Rattle.timer_wheels.specs.Buckets.{state_of}
 use Rattle.timer_wheels.specs.HeldPlaces.{IsHeld, IsFirstHeld}
 use Rattle.timer_wheels.specs.declared.buckets.Buckets.{Buckets}
 use Rattle.timer_wheels.proofs.BucketLemmas.{separated, look-some}
-use Rattle.timer_wheels.proofs.RowLemmas.{all-rows_below}
+use Rattle.timer_wheels.proofs.RowLemmas.{all-rows_below, all-entries}
 use Rattle.timer_wheels.proofs.WithdrawLemmas.{all_later, due-some}
 
 -- each row stands under its key
@@ -47,11 +47,6 @@ before from lists u row e = elim (cases_lt row.0 from) [
   | inl h ↦ h
   | inr h ↦ absurd (none_some row.1 (sym (u row.0 h) ∙ e))
 ]
-
-all-entries : (P : Entry → Type 0) (rows : List (ℕ × Node)) → AllByRecursion (λ row. P (entry_of row)) rows
-    → AllByRecursion P (entries_of rows)
-all-entries P [] a = tt
-all-entries P (r ∷ rs) a = (a.0, all-entries P rs a.1)
 
 some_timer : (t : Timer) (o : Option Timer) → Some t ≡ o → IsSome o
 some_timer t o e = subst IsSome e refl

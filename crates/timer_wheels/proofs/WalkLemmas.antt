@@ -7,7 +7,7 @@ use Rattle.timer_base.specs.declared.timer.Timer.{Timer}
 use Rattle.timer_links.specs.declared.node.Node.{Node}
 use Rattle.timer_links.specs.Lists.{node_at, first_key, list_at, row_count, AreApart, IsNext, PopsFront, KeyedLists}
 use Rattle.timer_wheels.specs.BucketLists.{timers_in}
-use Rattle.timer_wheels.proofs.RowLemmas.{append-nil, timers-append}
+use Rattle.timer_wheels.proofs.RowLemmas.{append-nil, timers-append, set_twice}
 
 -- after some steps these rows of the list are behind, those are left, and the key is that of the next one
 pub record IsWalking (l step : ℕ) (lists : KeyedLists) (at : Option ℕ) (past : List (ℕ × Node)) : Type 0 where
@@ -54,7 +54,7 @@ pub next_row : (l step : ℕ) (lists : KeyedLists) (at : Option ℕ) (key : ℕ)
     → IsWalking l step lists at past → at ≡ Some key → IsNextRow l step lists key past
 next_row l step lists at key past w e = next_of l step lists key past w.left w.rows (sym e ∙ w.next) w.count
 
-empty_when : (left : List (ℕ × Node)) → length left ≤ 0 → left ≡ []
+pub empty_when : (left : List (ℕ × Node)) → length left ≤ 0 → left ≡ []
 empty_when [] h = refl
 empty_when (x ∷ xs) h = absurd (omega arith)
 
@@ -148,11 +148,6 @@ pub record IsEmptying (l step : ℕ) (old new : KeyedLists) : Type 0 where
 
 pub emptying-begun : (l : ℕ) (lists : KeyedLists) → IsEmptying l 0 lists lists
 emptying-begun l lists = record { left = list_at l lists; is = sym (set-get_or lists l []); count = omega arith }
-
-pub set_twice : (v : KeyedLists) (i : ℕ) (a b : List (ℕ × Node)) → slice_set (slice_set v i a) i b ≡ slice_set v i b
-set_twice [] i a b = refl
-set_twice (x ∷ xs) zero a b = refl
-set_twice (x ∷ xs) (suc i) a b = ap (λ (y : KeyedLists). x ∷ y) (set_twice xs i a b)
 
 left_there : (l : ℕ) (old new : KeyedLists) (left : List (ℕ × Node)) → l < length old → new ≡ slice_set old l left → list_at l new ≡ left
 left_there l old new left b e = ap (list_at l) e ∙ get_or-set_same old l left [] b

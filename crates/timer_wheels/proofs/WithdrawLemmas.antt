@@ -15,15 +15,12 @@ use Rattle.timer_wheels.specs.declared.buckets.Buckets.{Buckets}
 use Rattle.timer_wheels.specs.Buckets.{roomless_state, state_of, AddsRow}
 use Rattle.timer_wheels.specs.BucketLists.{timer_in, timers_in, entry_of, entries_of, rows_below, wheel_state, ArePending, AreDue, AreInOrder}
 use Rattle.timer_wheels.proofs.RowLemmas.{all-append, all-front, all-rest, all-list_at, rows_below-above, timers-append, IsNotAmong-front, IsNotAmong-rest, IsNotAmong-others}
-use Rattle.timer_wheels.proofs.BucketLemmas.{HasNode, AreLater, node_at-parts, apart_from, other_place, other_serial, this_handle, node_in-here, node_in-there, started, started-pending, started-distinct, past-with_row, in_order-with_row, AreBelow-pending}
+use Rattle.timer_wheels.proofs.BucketLemmas.{HasNode, AreLater, node_at-parts, apart_from, other_place, other_serial, this_handle, node_in-here, node_in-there, started, started-pending, started-distinct, past-with_row, in_order-with_row, AreBelow-pending, no_timer, same_timer, some_none}
 use Rattle.timer_wheels.proofs.ReplaceLemmas.{is_used}
 use Rattle.timer_wheels.proofs.RestartLemmas.{MayRestart}
 
 some_is : (a b : Node) → Some a ≡ Some b → a ≡ b
 some_is a b e = cc
-
-some_none : (a : Node) → Some a ≡ None → ⊥
-some_none a e = cc
 
 -- Where a row stands.
 
@@ -158,12 +155,6 @@ cases_le x y = elim (cases_lt y x) [ inl h ↦ inr h | inr h ↦ inl (omega arit
 later_rows : (last_tick now last : ℕ) (rows : List (ℕ × Node)) → ArePending last_tick now last rows → AreLater now rows
 later_rows last_tick now last [] p = tt
 later_rows last_tick now last (x ∷ xs) p = (p.0.later, later_rows last_tick now last xs p.1)
-
-no_timer : (t : Timer) → Some t ≡ None → ⊥
-no_timer t e = cc
-
-same_timer : (a b : Timer) → Some a ≡ Some b → a ≡ b
-same_timer a b e = cc
 
 pub all_later : (b : Buckets) → AreLater b.tick (rows_below b.slots b.links.lists)
 all_later b = later_rows b.last_tick b.tick b.last_serial (rows_below b.slots b.links.lists) b.pending
