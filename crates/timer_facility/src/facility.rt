@@ -2,7 +2,7 @@
 //!
 //! A tick or a close leaves timers that wait to be handed out; the owner takes them by `next_out` until
 //! none waits, and only then makes the next call. Expired timers stay in the wheel, which hands them out
-//! by serial. What a close returns is a list of its own, and the wheel is empty then.
+//! by serial. A close moves the timers to a list of their own, and the wheel is empty then.
 ghost use Rattle.std.specs.Prelude.{◌≡◌, false, ℕ, ◌+◌, ◌<◌, ◌≤◌, ◌↔◌, [], length, drop, slice_get, slice_index, IsTrue, IfSome, IfOk, IfErr, OnErr, OnOk, MatchResult, if◌then◌else◌, nat_lt};
 ghost use Rattle.timer_base.specs.Pending.{timers_of};
 ghost use Rattle.timer_base.specs.WheelState.{after_clear};

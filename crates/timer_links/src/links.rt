@@ -356,7 +356,7 @@ impl Links {
         let sides = self.sides.as_mut_slice();
         join(sides, back, first);
         join(sides, last, to as u32);
-        // A ring of no nodes is a root between itself and itself.
+        // An empty ring: the root links to itself.
         join(sides, from as u32, from as u32);
     }
 

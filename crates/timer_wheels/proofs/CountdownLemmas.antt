@@ -13,7 +13,7 @@ use Rattle.timer_wheels.proofs.WalkLemmas.{IsWalking, IsNextRow, begun, next_row
 
 -- The fewest rounds.
 
--- the rows so far have at least so many rounds
+-- the rows so far have at least this many rounds
 pub record IsMeasuring (l step : ℕ) (lists : KeyedLists) (at : Option ℕ) (most fewest : ℕ) : Type 0 where
   pub past : List (ℕ × Node)
   pub walk : IsWalking l step lists at past
@@ -62,7 +62,7 @@ pub measured-enough : (l step : ℕ) (lists : KeyedLists) (at : Option ℕ) (mos
     → AllByRecursion (HasRoundsLeft fewest) (list_at l lists)
 measured-enough l step lists at most fewest m h = measured-end l step lists at most fewest m (ended_count l step lists at m.past m.walk h)
 
--- the rows of the lists so far have at least so many rounds
+-- the rows of the lists so far have at least this many rounds
 pub record AreMeasured (count : ℕ) (lists : KeyedLists) (most fewest : ℕ) : Type 0 where
   pub at_most : fewest ≤ most
   pub each : (s : ℕ) → s < count → AllByRecursion (HasRoundsLeft fewest) (list_at s lists)

@@ -1,8 +1,8 @@
 //! Lists of timers under keys: that each call succeeds while memory is available, and what the lists of
 //! worked examples hold after each call. No allocation fails here: `timer_hostile` refuses some, in `linked`.
 
+use crate::testing::same;
 use std::alloc::Global;
-use std::fmt::Debug;
 use std::process::Abort;
 use timer_base::{OutOfMemory, Timer};
 use timer_links::{Links, Node, RemovedNode, WalkStep};
@@ -179,11 +179,6 @@ fn node(serial: u64, rounds: u64) -> Node {
         },
         rounds,
     }
-}
-
-/// Compares in a function of its own, so that its caller has no branch more.
-fn same<T: PartialEq + Debug + Drop>(rt: &impl Abort, name: &str, found: T, expected: T) {
-    assert_eq!(rt; found, expected, "{name}");
 }
 
 /// The key of a node, by its number.

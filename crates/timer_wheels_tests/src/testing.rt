@@ -3,6 +3,7 @@
 ghost use Rattle.std.specs.Prelude.{◌≡◌, []};
 
 use std::alloc::Global;
+use std::fmt::Debug;
 use std::process::Abort;
 use timer_base::{Handle, LAST, OutOfMemory, Timer, Wheel};
 use timer_links::Links;
@@ -45,6 +46,11 @@ pub enum Pace {
     SingleTicks,
     /// By `advance`, which stops when something is due.
     ManyTicks,
+}
+
+/// Compares two values. It is a function so that its callers have no branch.
+pub fn same<T: PartialEq + Debug + Drop>(rt: &impl Abort, name: &str, found: T, expected: T) {
+    assert_eq!(rt; found, expected, "{name}");
 }
 
 /// Goes on only if nothing is due.

@@ -1,5 +1,5 @@
 //! Each call of timer_total, accepted and refused, over the plain wheel.
-use std::fmt::Debug;
+use crate::testing::same;
 use std::process::Abort;
 use std::test::Fail;
 use timer_base::{Handle, LAST, PlainWheel, Wheel};
@@ -150,11 +150,6 @@ const ROWS: [Row; 7] = [
         ],
     ),
 ];
-
-/// Compares in a function of its own, so that its caller has no branch more.
-fn same<T: PartialEq + Debug + Drop>(rt: &impl Abort, name: &str, found: T, expected: T) {
-    assert_eq!(rt; found, expected, "{name}");
-}
 
 /// The handle of a timer of the plain wheel.
 fn handle_of(serial: u64) -> Handle {
