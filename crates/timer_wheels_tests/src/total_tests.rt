@@ -1,5 +1,5 @@
-//! Each call of timer_total, accepted and refused, over the plain wheel.
-use crate::testing::same;
+//! Each call of timer_total where it is accepted and where it is refused, over the plain wheel.
+use std::fmt::Debug;
 use std::process::Abort;
 use std::test::Fail;
 use timer_base::{Handle, LAST, PlainWheel, Wheel};
@@ -24,9 +24,9 @@ enum Call {
     Expire(Option<u64>),
     /// Passes one tick.
     Tick(Result<(), TickFault>),
-    /// Passes at most this many ticks.
+    /// Passes at most so many ticks.
     Advance(u64, Result<u64, TickFault>),
-    /// Makes room for this many timers, if memory is there.
+    /// Makes room for so many timers, if memory is there.
     Reserve(usize, bool),
     /// The present tick, how many timers are pending, whether one is due, and the first deadline.
     Shows(u64, usize, bool, Option<u64>),
@@ -150,6 +150,11 @@ const ROWS: [Row; 7] = [
         ],
     ),
 ];
+
+/// Compares in a function of its own, so that its caller has no branch more.
+fn same<T: PartialEq + Debug + Drop>(rt: &impl Abort, name: &str, found: T, expected: T) {
+    assert_eq!(rt; found, expected, "{name}");
+}
 
 /// The handle of a timer of the plain wheel.
 fn handle_of(serial: u64) -> Handle {
