@@ -1,4 +1,4 @@
-use Rattle.std.proofs.Common.{◌≡◌, ◌<◌, ◌+◌, ◌∙◌, ap, arith, length}
+use Rattle.std.proofs.Common.{◌<◌, ◌+◌, ◌∙◌, ap, arith, length}
 use Rattle.timer_links.specs.Lists.{LinksState}
 use Rattle.timer_links.proofs.UniqueLists.{opened, closed, written, lists_are, room_written, state_is, has_place}
 use Rattle.timer_links.proofs.LinksCalls.{low, back_in, grown, refused, pushed, size_last, joins_last_read}

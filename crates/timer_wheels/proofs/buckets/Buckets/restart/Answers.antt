@@ -2,7 +2,7 @@ use Rattle.std.proofs.Common.{ap, ◌≡◌, ◌+◌, length, sym, ◌∙◌, su
 use Rattle.timer_base.specs.Order.{AreDistinct}
 use Rattle.timer_base.specs.WheelState.{with_room, after_start, after_stop}
 use Rattle.timer_links.specs.Lists.{list_at, KeyedLists}
-use Rattle.timer_wheels.specs.Buckets.{roomless_state, state_of}
+use Rattle.timer_wheels.specs.Buckets.{roomless_state}
 use Rattle.timer_wheels.specs.BucketLists.{timers_in, rows_below, wheel_state, ArePending, AreDue, AreInOrder}
 use Rattle.timer_wheels.proofs.RestartLemmas.{restart_used, restart_length, restart_pending, restart_distinct, restart_past, restart_in_order, restart_state}
 use Rattle.timer_wheels.proofs.buckets.Buckets.restart.Goals as goal

@@ -2,7 +2,7 @@ use Rattle.std.proofs.Common.{ap, ◌≡◌, ◌+◌, length, sym, ◌∙◌, su
 use Rattle.timer_base.specs.Order.{AreDistinct}
 use Rattle.timer_base.specs.WheelState.{with_room, after_start, after_withdrawal}
 use Rattle.timer_links.specs.Lists.{list_at, KeyedLists}
-use Rattle.timer_wheels.specs.Buckets.{roomless_state, state_of, AddsRow, row_at}
+use Rattle.timer_wheels.specs.Buckets.{roomless_state, AddsRow, row_at}
 use Rattle.timer_wheels.specs.BucketLists.{timers_in, rows_below, wheel_state, ArePending, AreDue, AreInOrder}
 use Rattle.timer_wheels.proofs.WithdrawLemmas.{withdrawn_used, revived_length, revived_pending, revived_distinct, revived_past, revived_in_order, revived_state, revived_lists}
 use Rattle.timer_wheels.proofs.buckets.Buckets.revive.Goals as goal
