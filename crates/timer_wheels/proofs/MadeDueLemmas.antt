@@ -10,7 +10,7 @@ use Rattle.timer_base.specs.OrderLaws.{either}
 use Rattle.timer_base.specs.Pending.{Entry, timers_of, has_handle, first_timer, without_found}
 use Rattle.timer_base.specs.WheelState.{WheelState, timer_at, after_stop, after_made_due, entry_made_due}
 use Rattle.timer_links.specs.declared.node.Node.{Node}
-use Rattle.timer_links.specs.Lists.{list_at, node_at, with_row, without_key, AreApart}
+use Rattle.timer_links.specs.Lists.{list_at, node_at, with_row, without_key, AreApart, KeyedLists}
 use Rattle.timer_wheels.specs.declared.buckets.Buckets.{Buckets}
 use Rattle.timer_wheels.specs.Buckets.{roomless_state, state_of, IsSameFrame, LeavesBuckets}
 use Rattle.timer_wheels.specs.BucketLaws.{timers_of-entries}
@@ -60,7 +60,7 @@ none_made_due w handle None e = ap (λ (r : List Entry). record w { due = r }) (
 none_made_due w handle (Some t) e = absurd (no_timer t (sym e))
 
 module _ (b : Buckets) (handle : Handle) (apart : AreApart b.links.lists) (old : Timer) (e : timer_at handle (state_of b) ≡ Some old) where
-  abbrev rest : List (List (ℕ × Node))
+  abbrev rest : KeyedLists
   rest = map (without_key handle.place) b.links.lists
 
   abbrev node : Node
@@ -69,7 +69,7 @@ module _ (b : Buckets) (handle : Handle) (apart : AreApart b.links.lists) (old :
   abbrev row : ℕ × Node
   row = (handle.place, node)
 
-  abbrev new : List (List (ℕ × Node))
+  abbrev new : KeyedLists
   new = with_row b.slots row rest
 
   parts : IsSeparated b.tick b.slots b.links.lists
@@ -158,7 +158,7 @@ module _ (b : Buckets) (handle : Handle) (apart : AreApart b.links.lists) (old :
       (stopped-in_order (b.slots + 1) handle.place b.links.lists b.in_order)
 
 -- each row that is left satisfies the wheel's own invariant
-pub each_left : {X : Type 0} (fact : ℕ → ℕ × Node → Type 0) (n key : ℕ) (old new : List (List (ℕ × Node))) (found : Option X)
+pub each_left : {X : Type 0} (fact : ℕ → ℕ × Node → Type 0) (n key : ℕ) (old new : KeyedLists) (found : Option X)
     → LeavesBuckets found key n old new → EachRow fact n old → EachRow fact n new
 each_left fact n key old new None m a = each-same fact n old new m a
 each_left fact n key old new (Some t) m a = each-same fact n (map (without_key key) old) new m (each-without_key fact n key old a)

@@ -37,7 +37,7 @@ abbrev pub RemovesRow : {X : Type 0} → Option X → ℕ → KeyedLists → Key
 RemovesRow found key old new = MatchOption found (new ≡ old) (λ r. new ≡ map (without_key key) old)
 
 -- where a timer was found, the row under its key is removed from the first n lists; else they are unchanged
-abbrev pub LeavesBuckets : {X : Type 0} → Option X → ℕ → ℕ → List (List (ℕ × Node)) → List (List (ℕ × Node))
+abbrev pub LeavesBuckets : {X : Type 0} → Option X → ℕ → ℕ → KeyedLists → KeyedLists
     → Type 0
 LeavesBuckets found key n old new = MatchOption found ((s : ℕ) → s < n → list_at s new ≡ list_at s old)
     (λ r. (s : ℕ) → s < n → list_at s new ≡ list_at s (map (without_key key) old))

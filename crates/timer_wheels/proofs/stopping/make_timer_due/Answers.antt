@@ -1,8 +1,7 @@
-use Rattle.std.proofs.Common.{◌≡◌, ℕ, List, sym, ◌∙◌, subst}
+use Rattle.std.proofs.Common.{◌≡◌, ℕ, sym, ◌∙◌, subst}
 use Rattle.std.specs.Prelude.{Some, map}
 use Rattle.timer_base.specs.WheelState.{timer_at}
-use Rattle.timer_links.specs.declared.node.Node.{Node}
-use Rattle.timer_links.specs.Lists.{without_key}
+use Rattle.timer_links.specs.Lists.{without_key, KeyedLists}
 use Rattle.timer_wheels.specs.Buckets.{state_of}
 use Rattle.timer_wheels.specs.BucketLists.{EachRow}
 use Rattle.timer_wheels.specs.Occupied.{AreMarked}
@@ -39,7 +38,7 @@ returns-clause-hier c =
     let t = radices c.args.table in
     let key = c.args.handle.place in
     let new = c.make_due.new.self in
-    let rest : List (List (ℕ × Node)) = map (without_key key) b.links.lists in
+    let rest : KeyedLists = map (without_key key) b.links.lists in
     let f = c.make_due.ensures.frame in
     let without : AreMarked b.slots c.clear_emptied.new.occupied rest =
     marked_after c.args.table b c.args.occupied.now h c.keys_are_apart.ensures c.args.handle c.in_ok-look.field-0
