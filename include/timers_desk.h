@@ -235,8 +235,9 @@ size_t timers_desk_flush(struct timers_desk *d, size_t client);
 enum timers_desk_status timers_desk_tick(struct timers_desk *d);
 
 /* Passes at most `most` ticks, up to the first at which a timer expires. At TIMERS_DESK_OK it writes to
- * `*passed` how many: 0 only if `most` is 0. They are fewer than `most` only if a timer has expired or the
- * clock is at its last tick. Jumps over stretches in which nothing happens. Does not allocate.
+ * `*passed` how many. They are 0 only if `most` is 0: that is no tick, and is not refused at a closed desk or
+ * at the last tick. They are fewer than `most` only if a timer has expired or the clock is at its last tick.
+ * Jumps over stretches in which nothing happens. Does not allocate.
  * TIMERS_DESK_NOT_OPEN, TIMERS_DESK_CLOSED, TIMERS_DESK_CLOCK_END. */
 enum timers_desk_status timers_desk_advance(struct timers_desk *d, uint64_t most, uint64_t *passed);
 

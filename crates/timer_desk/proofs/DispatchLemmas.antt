@@ -124,7 +124,7 @@ flushed-append : (c : ℕ) (r q : List Done) → flushed c (r ++ q) ≡ flushed 
 flushed-append c [] q = omega arith
 flushed-append c (d ∷ r) q = let n = flushed-append c r q in omega arith
 
--- a notice fits where there is room for all that are left
+-- a notice fits if there is room for all that are left
 right-notices : (refuses : Bool) (c : ℕ) (s : FacilityState) (a b : Side) (past : List Done) (ns : List Notice) → flushed c past ≡ 0
     → length a.backlog.outbox + length (words c past) + length (words c (map Dones.Noticed ns)) + pending_after c s past ≤ a.backlog.room
     → AtEach (RespectsRoom refuses c s a b) past (map Dones.Noticed ns)
