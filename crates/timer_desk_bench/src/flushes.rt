@@ -25,6 +25,7 @@ pub struct Flushes {
 }
 
 /// A desk, and the clients' ends of its lines.
+#[derive(Drop)]
 struct Clients {
     desk: Desk<HierWheel, RingInlet>,
     ends: Vec<ClientEnd>,
