@@ -2,7 +2,7 @@
 //!
 //! Each client has an outbox of `run` words, and a line with room for as many. A round fills each outbox with
 //! refusals of a closed facility, flushes each once, and empties the lines. Only the flushes are timed.
-ghost use Rattle.std.specs.Prelude.{◌≡◌, ◌×◌, ◌≤◌};
+ghost use Rattle.std.specs.Prelude.{◌≤◌};
 
 use crate::counts::Counts;
 use crate::requests::{new_facility, request};
@@ -31,13 +31,8 @@ struct Clients {
     ends: Vec<ClientEnd>,
 }
 
-/// So many rounds of flushes of `run` words each.
-pub fn of_full_outboxes(
-    rt: &impl Clock,
-    alloc: Global,
-    run: u64,
-    rounds: u64,
-) -> Option<Flushes> {
+/// Flushes outboxes of `run` words in `rounds` rounds. None if `run` is out of range or memory runs out.
+pub fn of_full_outboxes(rt: &impl Clock, alloc: Global, run: u64, rounds: u64) -> Option<Flushes> {
     if run == 0 || run > MAX_RUN {
         return None;
     }

@@ -17,7 +17,7 @@ use Rattle.timer_desk_c.specs.declared.status.TheConstants.{OK, LEFT}
 use Rattle.timer_desk_c.specs.DeskSlots.{DeskState}
 use Rattle.timer_desk_c.specs.Frames.{HasNoLine, with_line}
 use Rattle.timer_desk_c.specs.Lines.{submitted_on}
-use Rattle.timer_desk_c.specs.Shutdown.{IsLeft, IsTied, OnlySettles, WhyNotEnded}
+use Rattle.timer_desk_c.specs.Shutdown.{IsLeft, OnlySettles, WhyNotEnded}
 use Rattle.timer_desk_c.specs.ShutdownAll.{IsEndedAt, IsOverAt, IsLeftAt, IsTriedAt}
 
 either : (b : Bool) → (b ≡ true) ⊎ (b ≡ false)
