@@ -1,12 +1,12 @@
 #!/usr/bin/env python3
 """Measures the owner's desk, ring lines and `timers threads`, each against its peer, as processes.
 
-    lines.py --work PROGRAM --timers PROGRAM [--only desk,lines,rings,threads] [--repeats N] [--csv FILE]
+    lines.py --work PROGRAM --timers PROGRAM [--only desk,lines,rings,flush,threads] [--repeats N] [--csv FILE]
 
 PROGRAM of --work is that of crates/timer_desk_bench, that of --timers the product. The peers are build/lines_ref
 and build/threads_ref. `rings` has no product: it compares C++ rings that publish their indices in other ways with
-one that publishes each item with release (build/rings_ref). `threads` has a second peer, one wheel under a mutex
-(build/mutex_ref). --csv writes the ratios for plot_runs.py.
+one that publishes each item with release (build/rings_ref). `flush` has two peers, C++ rings with one store for all
+words and with one for each (build/flush_ref). `threads` has a second one, one wheel under a mutex (build/mutex_ref). --csv writes the ratios for plot_runs.py.
 
 Programs take turns: each repeat gives one ratio, and a row has their median, and in parentheses the least and the
 greatest; `of best` is the ratio of the two least times.
@@ -23,11 +23,14 @@ LINES_REF = os.path.join(HERE, "build", "lines_ref")
 THREADS_REF = os.path.join(HERE, "build", "threads_ref")
 MUTEX_REF = os.path.join(HERE, "build", "mutex_ref")
 RINGS_REF = os.path.join(HERE, "build", "rings_ref")
+FLUSH_REF = os.path.join(HERE, "build", "flush_ref")
 RINGS = ["seq_cst", "batch-8", "batch-16", "batch-64", "release-16"]  # against `release`
 ROUND = 65536  # requests in a round at a desk
 ROUNDS, FIRST_ROUNDS = 20, 5
 TRIPS = 1_000_000
 ONE_WAY = 20_000_000
+RUNS = [1, 8, 16, 64]  # words in an outbox that is flushed
+OUTBOXES, FLUSHED = 64, 20_000_000
 CLIENTS, TIMERS = 4, 10_000
 CORES = sorted(os.sched_getaffinity(0))
 # The allocator keeps what is freed, so that a round takes no pages from the system that the one before it gave back.
@@ -143,6 +146,28 @@ def rings(repeats):
               f"item {min(took['release']) / ONE_WAY * 1e9:.0f} ns, ratio {ratio}")
 
 
+def flush(work, repeats):
+    """Flushes of full outboxes over ring lines: the time of the flushes alone, by the program's own clock."""
+    for words in RUNS:
+        rounds = FLUSHED // (OUTBOXES * words)
+        count = OUTBOXES * words * rounds
+        took = {"flush": [], "batch": [], "item": []}
+        for _ in range(repeats):
+            for mode, times in took.items():
+                _, _, out = run([work if mode == "flush" else FLUSH_REF, mode, str(words), str(rounds)], CORES[:1])
+                text, ns = out.decode().rsplit(" ns ", 1)
+                if text != f"{mode} served {count} words {count}":
+                    fail(f"flush of {words}: {out!r}")
+                times.append(max(int(ns), 1))
+        name = f"flush, {words} word{'s' if words > 1 else ''}"
+        ratio, item_ratio = spread(name, took["flush"], took["batch"]), spread(f"{name}, against a store a word", took["flush"], took["item"])
+        best = {mode: min(times) / count for mode, times in took.items()}
+        TIMES.append((name, best["flush"], best["batch"]))
+        TIMES.append((f"{name}, against a store a word", best["flush"], best["item"]))
+        print(f"{name}: {best['flush']:.1f} ns each, the C++ ring with one store for all {best['batch']:.1f} ns, ratio {ratio}; "
+              f"with one for each {best['item']:.1f} ns, ratio {item_ratio}")
+
+
 def threads(timers, repeats):
     """`timers threads` as a process, on one core, two and four: time by the clock."""
     for cores in (1, 2, 4):
@@ -187,15 +212,15 @@ def main():
     parser = argparse.ArgumentParser()
     parser.add_argument("--work")
     parser.add_argument("--timers")
-    parser.add_argument("--only", default="desk,lines,rings,threads")
+    parser.add_argument("--only", default="desk,lines,rings,flush,threads")
     parser.add_argument("--csv")
     parser.add_argument("--repeats", type=int, default=5)
     options = parser.parse_args()
     parts = options.only.split(",")
-    if not set(parts) <= {"desk", "lines", "rings", "threads"} or options.repeats < 1:
-        parser.error("--only takes desk, lines, rings and threads, --repeats a number from 1 on")
+    if not set(parts) <= {"desk", "lines", "rings", "flush", "threads"} or options.repeats < 1:
+        parser.error("--only takes desk, lines, rings, flush and threads, --repeats a number from 1 on")
     needed = {"desk": [options.work], "lines": [options.work, LINES_REF], "rings": [RINGS_REF],
-              "threads": [options.timers, THREADS_REF, MUTEX_REF]}
+              "flush": [options.work, FLUSH_REF], "threads": [options.timers, THREADS_REF, MUTEX_REF]}
     for part in parts:
         for program in needed[part]:
             if not program or not os.path.exists(program):
@@ -207,6 +232,8 @@ def main():
         lines(options.work, options.repeats)
     if "rings" in parts:
         rings(options.repeats)
+    if "flush" in parts:
+        flush(options.work, options.repeats)
     if "threads" in parts:
         threads(options.timers, options.repeats)
     if options.csv:

@@ -21,6 +21,15 @@ struct RingRef {
     tail.store(t + 1, std::memory_order_release);
     return true;
   }
+  // Called by the producer alone: as many of the items as there is room for, shown to the consumer by one store.
+  size_t push_all(const T *items, size_t count) {
+    size_t t = tail.load(std::memory_order_relaxed);
+    if (capacity - (t - head_seen) < count) head_seen = head.load(std::memory_order_acquire);
+    size_t room = capacity - (t - head_seen), some = room < count ? room : count;
+    for (size_t i = 0; i < some; ++i) slots[(t + i) & mask] = items[i];
+    tail.store(t + some, std::memory_order_release);
+    return some;
+  }
   // Called by the consumer alone.
   bool pop(T &item) {
     size_t h = head.load(std::memory_order_relaxed);

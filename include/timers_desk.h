@@ -7,7 +7,8 @@
  *     timers_desk_tick, timers_desk_advance - pass ticks
  *     timers_desk_close, timers_desk_settle - close, settle a finished line
  *     timers_desk_end, timers_desk_end_all - end the words of finished lines
- *     timers_desk_now, timers_desk_len, timers_desk_wakeup, timers_desk_next, timers_desk_outbox - read the state
+ *     timers_desk_now, timers_desk_len, timers_desk_outbox - read the state
+ *     timers_desk_wakeup, timers_desk_next - learn until when the owner may sleep
  *     timers_desk_line_freed - learn that a client's line was freed
  *     timers_line_start, timers_line_stop, timers_line_restart - send a request
  *     timers_line_receive - receive a word
@@ -20,35 +21,36 @@
  *     cc -pthread prog.c $(pkg-config --cflags --libs timers)
  *
  * DESCRIPTION
- *     A `struct timers_desk` owns the timers of up to 64 clients, numbered from 0, and a clock of ticks. One thread, the
- *     owner, calls the timers_desk functions on it. Each client has a `struct timers_line`, its end of a line to the
- *     owner, and calls the timers_line functions on it from its own thread. A line carries requests to the owner and
- *     words back, each first in, first out.
+ *     A `struct timers_desk` owns the timers of up to 64 clients, numbered from 0, and a clock of ticks.
+ *     One thread, the owner, calls the timers_desk functions on it. Each client has a `struct timers_line`,
+ *     its end of a line to the owner, and calls the timers_line functions on it from its own thread. A line
+ *     carries requests to the owner and words back, each first in, first out.
  *
- *     No call waits for another thread. There is no lock: the two ends of a line share nothing but two rings. A
- *     client's calls take constant time and do not allocate. If its line is full, a request is refused with
- *     TIMERS_DESK_LINE_FULL. Nothing has changed then, and it may be sent again.
+ *     No call waits for another thread. There is no lock: the two ends of a line share nothing but two
+ *     rings. A client's calls take constant time and do not allocate. If its line is full, a request is
+ *     refused with TIMERS_DESK_LINE_FULL. Nothing has changed then, and it may be sent again.
  *
- *     Each request has a number, one above that of the client's request before it, from 1 on. The owner takes requests
- *     by timers_desk_serve or timers_desk_serve_all, and each gets one word as its answer, in the order in which they
- *     were sent. Each timer that was started and neither stopped nor restarted gets one more word, at the tick of its
- *     deadline or at the close. So a client knows by counting that it has all its words: one for each request, and one
- *     for each such timer.
+ *     Each request has a number, one above that of the client's request before it, from 1 on. The owner
+ *     takes requests by timers_desk_serve or timers_desk_serve_all, and each gets one word as its answer,
+ *     in the order in which they were sent. Each timer that was started and neither stopped nor restarted
+ *     gets one more word, at the tick of its deadline or at the close. So a client knows by counting that
+ *     it has all its words: one for each request, and one for each such timer.
  *
- *     A client that does not count learns it from the owner. The client finishes and hands its line over; the owner
- *     calls timers_desk_end and hands the line back. The call is refused while something of the client is left at the
- *     desk. After it, what stands in the line is all that is still to be received. timers_line_receive then returns false
- *     only if there is nothing more, and timers_line_ended returns true. timers_desk_end_all does the same for all
- *     clients at once.
+ *     A client that does not count learns it from the owner. The client finishes and hands its line over;
+ *     the owner calls timers_desk_end and hands the line back. The call is refused while something of the
+ *     client is left at the desk. After it, what stands in the line is all that is still to be received.
+ *     timers_line_receive then returns false only if there is nothing more, and timers_line_ended returns
+ *     true. timers_desk_end_all does the same for all clients at once.
  *
- *     Either end may be freed while the other goes on. The owner learns by timers_desk_line_freed that a client's line
- *     was freed. A client learns by timers_line_abandoned that the desk was freed, once it has received all words that
- *     came before. So a client's loop ends if timers_line_ended or timers_line_abandoned returns true.
+ *     Either end may be freed while the other goes on. The owner learns by timers_desk_line_freed that a
+ *     client's line was freed. A client learns by timers_line_abandoned that the desk was freed, once it
+ *     has received all words that came before. So a client's loop ends if timers_line_ended or
+ *     timers_line_abandoned returns true.
  *
- *     Words wait in the client's outbox at the owner until a flush moves them into the line. A request is taken only if
- *     the outbox has room for its answer, a word of each pending timer of the client, and one word more. So no word is
- *     ever lost. A client that does not read stops only its own requests. If memory runs out for a request, it is held,
- *     and retried first when its client is served the next time.
+ *     Words wait in the client's outbox at the owner until a flush moves them into the line. A request is
+ *     taken only if the outbox has room for its answer, a word of each pending timer of the client, and one
+ *     word more. So no word is ever lost. A client that does not read stops only its own requests. If
+ *     memory runs out for a request, it is held, and retried first when its client is served the next time.
  *
  *     The owner's loop:
  *
@@ -58,44 +60,47 @@
  *             enum timers_desk_status s = timers_desk_serve_all(&desk, 64);
  *             flush each client, and wake those that got words
  *             if (s != TIMERS_DESK_OK and no word was moved)
- *                 sleep until the signal or tick timers_desk_wakeup(&desk); after TIMERS_DESK_NO_MEMORY only briefly
+ *                 sleep until the signal or tick timers_desk_wakeup(&desk),
+ *                     and only briefly after TIMERS_DESK_NO_MEMORY
  *         }
  *
- *     Ticks come first, since an interval counts from the tick at which its request is taken. If requests were taken
- *     before the clock has caught up, their timers would expire too early, by the time that the owner slept.
+ *     Ticks come first, since an interval counts from the tick at which its request is taken. If requests
+ *     were taken before the clock has caught up, their timers would expire too early, by the time that the
+ *     owner slept.
  *
- *     How threads wake each other is left to the program: an eventfd, a pipe, a condition variable with a flag. The
- *     order matters. The owner clears the signal before it looks at the lines, never between looking and sleeping. A
- *     client first sends its requests and then signals. So a request that the owner did not see is followed by a signal
- *     that ends its sleep, and no request waits forever. A client also signals after it has received words, since its
- *     line has room again. In the other direction the same holds: the client clears its signal, receives until there is
- *     no word, and then sleeps. examples/c/desk_server.c does this with eventfds.
+ *     How threads wake each other is left to the program: an eventfd, a pipe, a condition variable with a
+ *     flag. The order matters. The owner clears the signal before it looks at the lines, never between
+ *     looking and sleeping. A client first sends its requests and then signals. So a request that the owner
+ *     did not see is followed by a signal that ends its sleep, and no request waits forever. A client also
+ *     signals after it has received words, since its line has room again. In the other direction the same
+ *     holds: the client clears its signal, receives until there is no word, and then sleeps.
+ *     examples/c/desk_server.c does this with eventfds.
  *
- *     The library is proved: each function meets the contract stated in crates/timer_desk_c/src/desk_exports.rt or
- *     line_exports.rt, for every call that keeps the rules below. Nothing checks that a caller keeps them. Nothing is
- *     proved about time: when a thread runs, and when a word arrives. Nor is what timers_desk_line_freed and
- *     timers_line_abandoned say of the other end. It is proved that they change nothing, and that no word stands in a
- *     line that is abandoned.
+ *     The library is proved: each function meets the contract stated in
+ *     crates/timer_desk_c/src/desk_exports.rt or line_exports.rt, for every call that keeps the rules
+ *     below. Nothing checks that a caller keeps them. Nothing is proved about time: when a thread runs, and
+ *     when a word arrives. Nor is what timers_desk_line_freed and timers_line_abandoned say of the other
+ *     end. It is proved that they change nothing, and that no word stands in a line that is abandoned.
  *
  * RULES
- *     1. A `struct timers_desk` begins as TIMERS_DESK_INIT and a `struct timers_line` as TIMERS_LINE_INIT, or with all
- *        bytes 0. Only these functions write them. They must not be copied, since they own memory; they may be moved
- *        by a memcpy after which the old one is not used.
- *     2. A pointer argument is not NULL and points to an object of its type, or for `lines` to as many as are
- *        passed, that this call alone uses; no two arguments of one call overlap.
- *     3. An object that a call only writes (number, word, passed, returned, standing, unread, client) may be
- *        uninitialised.
- *     4. Calls on one struct come one at a time. A struct may be handed from thread to thread, by a lock, by a
- *        thread's start or join, or by a sequentially consistent atomic. Calls on two structs are independent:
- *        those of the owner and of its clients may overlap in every way.
- *     5. timers_desk_settle, timers_desk_end and timers_desk_end_all are given lines of the same desk. A line of another
- *        client is refused, and so is one of another desk whose client has another number. A line of another desk
- *        whose client has the same number is not detected.
+ *     1. A `struct timers_desk` begins as TIMERS_DESK_INIT and a `struct timers_line` as TIMERS_LINE_INIT,
+ *        or with all bytes 0. Only these functions write them. They must not be copied, since they own
+ *        memory; they may be moved by a memcpy after which the old one is not used.
+ *     2. A pointer argument is not NULL and points to an object of its type, or for `lines` to as many as
+ *        are passed, that this call alone uses; no two arguments of one call overlap.
+ *     3. An object that a call only writes (number, word, passed, returned, standing, unread, client) may
+ *        be uninitialised.
+ *     4. Calls on one struct come one at a time. A struct may be handed from thread to thread, by a lock,
+ *        by a thread's start or join, or by a sequentially consistent atomic. Calls on two structs are
+ *        independent: those of the owner and of its clients may overlap in every way.
+ *     5. timers_desk_settle, timers_desk_end and timers_desk_end_all are given lines of the same desk. A
+ *        line of another client is refused, and so is one of another desk whose client has another number.
+ *        A line of another desk whose client has the same number is not detected.
  *     6. malloc, realloc and free are one allocator that threads may share, and align as C requires.
  *     7. No call comes from a signal handler, or from the forked child of a process with threads.
  *
- *     Nothing else is required. A call before timers_desk_new, after a free, or in the wrong order returns a status or
- *     nothing and changes nothing. Either end may be freed before the other, at any time.
+ *     Nothing else is required. A call before timers_desk_new, after a free, or in the wrong order returns
+ *     a status or nothing and changes nothing. Either end may be freed before the other, at any time.
  */
 /* SPDX-License-Identifier: MIT OR Apache-2.0 */
 #ifndef TIMERS_DESK_H
@@ -105,6 +110,13 @@
 #include <stddef.h>
 #include <stdint.h>
 #include "timers.h"
+
+/* Marks calls whose status or result matters: the compiler warns if it is not read. */
+#if defined(__GNUC__) || defined(__clang__)
+#define TIMERS_CHECKED __attribute__((warn_unused_result))
+#else
+#define TIMERS_CHECKED
+#endif
 
 #ifdef __cplusplus
 extern "C" {
@@ -125,14 +137,14 @@ enum timers_desk_status {
 	TIMERS_DESK_CAPACITY = 12,       /* as many timers are pending as may be */
 	TIMERS_DESK_NO_CLIENT = 13,      /* there is no client with this number */
 	TIMERS_DESK_NUMBERS_SPENT = 14,  /* the client has sent 2^60 - 1 requests */
-	TIMERS_DESK_REPEATED = 15,       /* of a word: the number was taken before; never with one line for each client */
-	TIMERS_DESK_AHEAD = 16,          /* of a word: an earlier number is missing; never with one line for each client */
+	TIMERS_DESK_REPEATED = 15,       /* of a word: the number was taken before; lines never cause it */
+	TIMERS_DESK_AHEAD = 16,          /* of a word: an earlier number is missing; lines never cause it */
 	TIMERS_DESK_LINE_FULL = 17,      /* the line has no room for another request now */
 	TIMERS_DESK_FINISHED = 18,       /* the line has finished */
-	TIMERS_DESK_OUT_OF_RANGE = 19,   /* a number of the configuration is out of its range, or the number of lines is wrong */
+	TIMERS_DESK_OUT_OF_RANGE = 19,   /* a number of the configuration, or the number of lines */
 	TIMERS_DESK_IDLE = 20,           /* no request was known to be in the line */
-	TIMERS_DESK_NO_ROOM = 21,        /* the client's outbox has no room for one more answer and one more notice */
-	TIMERS_DESK_OTHER_LINE = 22,     /* the line is another client's, or its desk was freed before it finished */
+	TIMERS_DESK_NO_ROOM = 21,        /* the outbox has no room for an answer and one word more */
+	TIMERS_DESK_OTHER_LINE = 22,     /* another client's line, or its desk was freed before it finished */
 	TIMERS_DESK_NOT_FINISHED = 23,   /* the line has not finished */
 	TIMERS_DESK_LEFT = 24            /* something of the client is left at the desk */
 };
@@ -153,20 +165,20 @@ struct timers_line {
 #define TIMERS_DESK_CLIENTS 64   /* the most clients */
 
 struct timers_desk_config {
-	uint64_t first_tick;   /* the tick at which the clock begins: 0 to TIMERS_LAST, of TIMERS_CLOCK to TIMERS_CLOCK_LAST */
+	uint64_t first_tick;   /* where the clock begins: up to TIMERS_LAST, of TIMERS_CLOCK TIMERS_CLOCK_LAST */
 	uint64_t capacity;     /* the most timers that may be pending at a time: 1 to 1,048,576 */
 	size_t room;           /* how many words each client's outbox has room for: 2 to 65,536 */
-	size_t line;           /* how many requests, and how many words, each line has room for: 1 to 65,536 */
-	uint32_t table;        /* the slots of the wheels, enum timers_table: TIMERS_WIDE, which is 0, or TIMERS_CLOCK */
+	size_t line;           /* how many requests, and how many words, a line has room for: 1 to 65,536 */
+	uint32_t table;        /* the slots of the wheels: TIMERS_WIDE, which is 0, or TIMERS_CLOCK */
 };
 
 enum timers_word_kind {
 	TIMERS_WORD_STARTED = 1,     /* number, handle, deadline */
-	TIMERS_WORD_RESTARTED = 2,   /* number, handle and deadline of the new timer, serial of the old one in `other` */
+	TIMERS_WORD_RESTARTED = 2,   /* number, handle and deadline of the new timer, the old serial in `other` */
 	TIMERS_WORD_STOPPED = 3,     /* number, handle.serial of the stopped timer */
-	TIMERS_WORD_REFUSED = 4,     /* number, reason: the request used up its number, and nothing else changed */
+	TIMERS_WORD_REFUSED = 4,     /* number, reason: its number is used up, and nothing else changed */
 	TIMERS_WORD_NOT_TAKEN = 5,   /* number, reason: nothing changed */
-	TIMERS_WORD_EXPIRED = 6,     /* number of the request that started it, handle.serial, deadline, action */
+	TIMERS_WORD_EXPIRED = 6,     /* number of its start or restart, handle.serial, deadline, action */
 	TIMERS_WORD_RETURNED = 7     /* the same: the desk was closed before its deadline */
 };
 
@@ -183,78 +195,94 @@ struct timers_word {
 
 /* The owner's calls. */
 
-/* Makes a desk with `clients` clients, 1 to 64, over wheels with the slots of a table. From then on lines[0] to
- * lines[clients - 1] hold the clients' ends. `lines` must not be NULL, even if `clients` is 0.
- * TIMERS_DESK_OPEN, TIMERS_DESK_OUT_OF_RANGE (also: no such table, or the first tick is after the table's last tick),
- * TIMERS_DESK_NO_MEMORY: nothing has changed then. */
+/* Makes a desk with `clients` clients, 1 to 64, over wheels with the slots of a table. From then on
+ * lines[0] to lines[clients - 1] hold the clients' ends. `lines` must not be NULL, even if `clients` is 0.
+ * TIMERS_DESK_OPEN, TIMERS_DESK_OUT_OF_RANGE (also: no such table, or the first tick is after the table's
+ * last tick), TIMERS_DESK_NO_MEMORY: nothing has changed then. */
+TIMERS_CHECKED
 enum timers_desk_status timers_desk_new(struct timers_desk *d, struct timers_line *lines, size_t clients,
                                         const struct timers_desk_config *config);
 
-/* Frees the desk, if it holds one: pending timers, and words that no client's line has yet, are dropped. Clients
- * may continue to call: their requests are never taken, and what stands in the line is still received. After that
- * timers_line_abandoned returns true. */
+/* Frees the desk, if it holds one: pending timers, and words that no client's line has yet, are dropped.
+ * Clients may continue to call: their requests are never taken, and what stands in the line is still
+ * received. Once it is, timers_line_abandoned returns true. */
 void timers_desk_free(struct timers_desk *d);
 
-/* Serves a client once: takes its held request, or else the next one of its line. At TIMERS_DESK_OK the answer is in
- * the outbox. Allocates only for a start.
+/* Serves a client once: takes its held request, or else the next one of its line. At TIMERS_DESK_OK the
+ * answer is in the outbox. Allocates only for a start.
  * TIMERS_DESK_NOT_OPEN, TIMERS_DESK_NO_CLIENT, TIMERS_DESK_NO_ROOM, TIMERS_DESK_IDLE: nothing was taken.
  * TIMERS_DESK_NO_MEMORY: the request is held, and is retried first. */
 enum timers_desk_status timers_desk_serve(struct timers_desk *d, size_t client);
 
-/* Serves each client in turn, until `most` of its requests were done or a serve did none.
+/* Serves each client in turn, until `most` of its requests were done or a serve did none. Allocates only for
+ * starts.
  * TIMERS_DESK_NOT_OPEN.
- * TIMERS_DESK_NO_MEMORY: memory ran out for at least one client, whose request is held; others may have been done.
+ * TIMERS_DESK_NO_MEMORY: memory ran out for at least one client, whose request is held; others may have
+ * been done.
  * TIMERS_DESK_OK: at least one request was done. TIMERS_DESK_IDLE: none was. */
 enum timers_desk_status timers_desk_serve_all(struct timers_desk *d, uint64_t most);
 
-/* Moves words from each client's outbox into its line, in order, until the outbox is empty or the line full. Returns
- * whether a word was moved. Nothing else changes. Does not allocate. */
+/* Moves words from each client's outbox into its line, in order, until the outbox is empty or the line
+ * full. Returns whether a word was moved. Nothing else changes. Does not allocate. */
 bool timers_desk_flush_all(struct timers_desk *d);
 
-/* The same for one client, and returns how many words were moved. 0 if there is no such client. */
+/* Does the same for one client, and returns how many words were moved. 0 if there is no such client. */
 size_t timers_desk_flush(struct timers_desk *d, size_t client);
 
-/* Advances the clock by one tick. A word for each timer with that deadline goes to the outbox of its client. Does not
- * allocate.
+/* Advances the clock by one tick. A word for each timer with that deadline goes to the outbox of its
+ * client. Does not allocate.
  * TIMERS_DESK_NOT_OPEN, TIMERS_DESK_CLOSED, TIMERS_DESK_CLOCK_END. */
 enum timers_desk_status timers_desk_tick(struct timers_desk *d);
 
-/* Passes at most `most` ticks, up to the first at which a timer expires. At TIMERS_DESK_OK it writes to `*passed` how
- * many: 0 only if `most` is 0. They are fewer than `most` only if a timer has expired or the clock is at its last tick.
+/* Passes at most `most` ticks, up to the first at which a timer expires. At TIMERS_DESK_OK it writes to
+ * `*passed` how many. They are 0 only if `most` is 0: that is no tick, and is not refused at a closed desk or
+ * at the last tick. They are fewer than `most` only if a timer has expired or the clock is at its last tick.
  * Jumps over stretches in which nothing happens. Does not allocate.
  * TIMERS_DESK_NOT_OPEN, TIMERS_DESK_CLOSED, TIMERS_DESK_CLOCK_END. */
 enum timers_desk_status timers_desk_advance(struct timers_desk *d, uint64_t most, uint64_t *passed);
 
-/* Closes the desk: each pending timer is returned by a word to its client. From then on each request is answered by
- * TIMERS_WORD_NOT_TAKEN. At TIMERS_DESK_OK it writes to `*returned` how many timers were returned.
+/* Closes the desk: each pending timer is returned by a word to its client. From then on each request is
+ * answered by TIMERS_WORD_NOT_TAKEN. At TIMERS_DESK_OK it writes to `*returned` how many timers were
+ * returned.
  * TIMERS_DESK_NOT_OPEN, TIMERS_DESK_CLOSED.
  * TIMERS_DESK_NO_MEMORY: nothing has changed, and it may be repeated. */
+TIMERS_CHECKED
 enum timers_desk_status timers_desk_close(struct timers_desk *d, uint64_t *returned);
 
-/* Settles the line of a client that has finished, once its thread has handed the line over (rule 4). At TIMERS_DESK_OK it
- * writes to `*standing` how many of the client's requests still stand in the line. Suppose it is 0, the last serve did not
- * return TIMERS_DESK_NO_MEMORY, and the outbox is empty. Then only pending timers of this client are left at the desk.
- * TIMERS_DESK_NOT_OPEN (either struct), TIMERS_DESK_NO_CLIENT, TIMERS_DESK_OTHER_LINE (it is another client's),
- * TIMERS_DESK_NOT_FINISHED, TIMERS_DESK_OTHER_LINE (the desk was freed before it finished). */
-enum timers_desk_status timers_desk_settle(struct timers_desk *d, size_t client, struct timers_line *line, size_t *standing);
+/* Settles the line of a client that has finished, once its thread has handed the line over (rule 4). At
+ * TIMERS_DESK_OK it writes to `*standing` how many of the client's requests still stand in the line.
+ * Suppose it is 0, the last serve did not return TIMERS_DESK_NO_MEMORY, and the outbox is empty. Then only
+ * pending timers of this client are left at the desk. Does not allocate.
+ * TIMERS_DESK_NOT_OPEN (either struct), TIMERS_DESK_NO_CLIENT, TIMERS_DESK_OTHER_LINE (it is another
+ * client's), TIMERS_DESK_NOT_FINISHED, TIMERS_DESK_OTHER_LINE (the desk was freed before it finished). */
+TIMERS_CHECKED
+enum timers_desk_status timers_desk_settle(struct timers_desk *d, size_t client,
+                                           const struct timers_line *line, size_t *standing);
 
-/* Ends the words of a client that has finished, once its thread has handed the line over (rule 4). At TIMERS_DESK_OK it
- * writes to `*unread` how many words stand in the line. With those that were received they are all that the client was
- * given. The line may then be handed back and read to its end. Does not allocate.
- * TIMERS_DESK_NOT_OPEN (either struct), TIMERS_DESK_NO_CLIENT, TIMERS_DESK_OTHER_LINE (it is another client's),
- * TIMERS_DESK_NOT_FINISHED, TIMERS_DESK_OTHER_LINE (the desk was freed before it finished).
- * TIMERS_DESK_LEFT: a request is held or stands in the line, a word waits in the outbox, or a timer is pending. */
-enum timers_desk_status timers_desk_end(struct timers_desk *d, size_t client, struct timers_line *line, size_t *unread);
+/* Ends the words of a client that has finished, once its thread has handed the line over (rule 4). At
+ * TIMERS_DESK_OK it writes to `*unread` how many words stand in the line. With those that were received
+ * they are all that the client was given. The line may then be handed back and read to its end. Does not
+ * allocate.
+ * TIMERS_DESK_NOT_OPEN (either struct), TIMERS_DESK_NO_CLIENT, TIMERS_DESK_OTHER_LINE (it is another
+ * client's), TIMERS_DESK_NOT_FINISHED, TIMERS_DESK_OTHER_LINE (the desk was freed before it finished).
+ * TIMERS_DESK_LEFT: a request is held or stands in the line, a word waits in the outbox, or a timer is
+ * pending. */
+TIMERS_CHECKED
+enum timers_desk_status timers_desk_end(struct timers_desk *d, size_t client, struct timers_line *line,
+                                        size_t *unread);
 
-/* Ends the words of every client, each as timers_desk_end does: lines[0] to lines[clients - 1] are the clients' lines, all of
- * them handed over. Those that can be ended are ended, whatever is left of the others, and the call may be repeated. A line
- * that was freed is skipped, since no one reads its words. Does not allocate. TIMERS_DESK_OK: the words of all whose line
- * was not freed have ended.
- * TIMERS_DESK_NOT_OPEN (the desk), TIMERS_DESK_OUT_OF_RANGE (`clients` is not the number of clients): nothing has changed.
- * Otherwise it writes to `*client` the first client whose words have not ended, and returns why. That client's line is as
- * it was. TIMERS_DESK_OTHER_LINE (it is another client's), TIMERS_DESK_NOT_FINISHED, TIMERS_DESK_OTHER_LINE (the desk was
- * freed before it finished), TIMERS_DESK_LEFT. */
-enum timers_desk_status timers_desk_end_all(struct timers_desk *d, struct timers_line *lines, size_t clients, size_t *client);
+/* Ends the words of every client, each as timers_desk_end does: lines[0] to lines[clients - 1] are the
+ * clients' lines, all of them handed over. Those that can be ended are ended, whatever is left of the
+ * others, and the call may be repeated. A line that was freed is skipped, since no one reads its words.
+ * Does not allocate. TIMERS_DESK_OK: the words of all whose line was not freed have ended.
+ * TIMERS_DESK_NOT_OPEN (the desk), TIMERS_DESK_OUT_OF_RANGE (`clients` is not the number of clients):
+ * nothing has changed.
+ * Otherwise it writes to `*client` the first client whose words have not ended, and returns why. That
+ * client's line is as it was. TIMERS_DESK_OTHER_LINE (it is another client's), TIMERS_DESK_NOT_FINISHED,
+ * TIMERS_DESK_OTHER_LINE (the desk was freed before it finished), TIMERS_DESK_LEFT. */
+TIMERS_CHECKED
+enum timers_desk_status timers_desk_end_all(struct timers_desk *d, struct timers_line *lines, size_t clients,
+                                            size_t *client);
 
 /* The present tick. 0 if it holds no desk. */
 uint64_t timers_desk_now(const struct timers_desk *d);
@@ -262,52 +290,62 @@ uint64_t timers_desk_now(const struct timers_desk *d);
 /* How many timers are pending, of all clients. 0 if it holds no desk. */
 size_t timers_desk_len(const struct timers_desk *d);
 
-/* A tick after the present one and at most the first deadline, before which nothing expires. TIMERS_NEVER if
- * nothing is pending, or it holds no desk. */
+/* A tick after the present one and at most the first deadline, before which nothing expires. TIMERS_NEVER
+ * if nothing is pending, or it holds no desk. */
 uint64_t timers_desk_wakeup(const struct timers_desk *d);
 
-/* The first deadline of all pending timers, exactly. TIMERS_NEVER if nothing is pending, or it holds no desk. Takes
- * constant time if that deadline comes before the next multiple of 64 ticks (of TIMERS_CLOCK, 60), and otherwise walks
- * the timers of one bucket. A loop that only sleeps can use timers_desk_wakeup. Does not allocate. */
+/* The first deadline of all pending timers, exactly. TIMERS_NEVER if nothing is pending, or it holds no
+ * desk. Takes constant time if that deadline comes before the next multiple of 64 ticks (of TIMERS_CLOCK,
+ * 60), and otherwise walks the timers of one bucket. A loop that only sleeps can use timers_desk_wakeup.
+ * Does not allocate. */
 uint64_t timers_desk_next(const struct timers_desk *d);
 
-/* Whether a client's line was freed. False if there is no such client, or it holds no desk. Once true it stays true.
- * Nothing changes: what the client sent before is still taken, its timers stay pending, and words to it are lost once
- * they are in the line. Constant time. Does not allocate. */
-bool timers_desk_line_freed(struct timers_desk *d, size_t client);
+/* Whether a client's line was freed. False if there is no such client, or it holds no desk. Once true it
+ * stays true. Nothing changes: what the client sent before is still taken, its timers stay pending, and
+ * words to it are lost once they are in the line. Constant time. Does not allocate. */
+bool timers_desk_line_freed(const struct timers_desk *d, size_t client);
 
 /* How many words wait in a client's outbox. 0 if there is no such client, or it holds no desk. */
 size_t timers_desk_outbox(const struct timers_desk *d, size_t client);
 
 /* A client's calls. None of them allocates or waits. */
 
-/* Sends the request to start a timer that expires `interval` ticks after it is taken, and hands `action` back then.
- * Writes `*number`, the request's number, at TIMERS_DESK_OK.
+/* Sends the request to start a timer that expires `interval` ticks after it is taken, and hands `action`
+ * back then. Writes `*number`, the request's number, at TIMERS_DESK_OK.
  * TIMERS_DESK_NOT_OPEN, TIMERS_DESK_FINISHED, TIMERS_DESK_NUMBERS_SPENT, TIMERS_DESK_LINE_FULL. */
-enum timers_desk_status timers_line_start(struct timers_line *line, uint64_t interval, uint64_t action, uint64_t *number);
+TIMERS_CHECKED
+enum timers_desk_status timers_line_start(struct timers_line *line, uint64_t interval, uint64_t action,
+                                          uint64_t *number);
 
-/* Sends the request to stop the timer with this handle, that of the word that answered its start. The same statuses. */
-enum timers_desk_status timers_line_stop(struct timers_line *line, struct timer_handle handle, uint64_t *number);
+/* Sends the request to stop the timer with this handle, that of the word that answered its start. The same
+ * statuses. */
+TIMERS_CHECKED
+enum timers_desk_status timers_line_stop(struct timers_line *line, struct timer_handle handle,
+                                         uint64_t *number);
 
 /* Sends the request to stop the timer with this handle and start another in its place. The same statuses. */
-enum timers_desk_status timers_line_restart(struct timers_line *line, struct timer_handle handle, uint64_t interval,
-                                            uint64_t action, uint64_t *number);
+TIMERS_CHECKED
+enum timers_desk_status timers_line_restart(struct timers_line *line, struct timer_handle handle,
+                                            uint64_t interval, uint64_t action, uint64_t *number);
 
-/* Receives the next word. Returns whether there was one, and writes `*word` exactly then. Without one more may come,
- * unless timers_line_ended says otherwise. */
+/* Receives the next word. Returns whether there was one, and writes `*word` exactly then. After false more
+ * may come, unless timers_line_ended or timers_line_abandoned returns true. */
+TIMERS_CHECKED
 bool timers_line_receive(struct timers_line *line, struct timers_word *word);
 
 /* Ends the requests of this line. Words are still received.
  * TIMERS_DESK_NOT_OPEN, TIMERS_DESK_FINISHED. */
 enum timers_desk_status timers_line_finish(struct timers_line *line);
 
-/* Whether no word comes any more: the owner has ended them by timers_desk_end, and all were received. */
+/* Whether the owner has ended the words, by timers_desk_end or timers_desk_end_all, and all were received:
+ * then no word comes any more. False if it holds no line. */
 bool timers_line_ended(const struct timers_line *line);
 
-/* Whether no word comes any more, since the desk was freed, and all that it had put into the line were received. Words that
- * waited at the desk were dropped with it. Once true it stays true. False if it holds no line, or if its words were ended
- * by timers_desk_end: then timers_line_ended says that no word comes. Nothing changes. Constant time. */
-bool timers_line_abandoned(struct timers_line *line);
+/* Whether the desk was freed, and all words that it had put into the line were received: then no word comes
+ * any more. Words that waited at the desk were dropped with it. Once true it stays true. False if it holds
+ * no line, or if its words were ended by timers_desk_end: then timers_line_ended says that no word comes.
+ * Nothing changes. Constant time. */
+bool timers_line_abandoned(const struct timers_line *line);
 
 /* Frees the client's end, if it holds one. What it sent is still taken, and words to it are lost. */
 void timers_line_free(struct timers_line *line);
@@ -318,16 +356,22 @@ void timers_line_free(struct timers_line *line);
 #else
 #define TIMERS_DESK_ASSERT(fact, says) _Static_assert(fact, says)
 #endif
-TIMERS_DESK_ASSERT(sizeof(struct timers_desk) == 16 && offsetof(struct timers_desk, mark) == 8, "struct timers_desk");
+TIMERS_DESK_ASSERT(sizeof(struct timers_desk) == 16 && offsetof(struct timers_desk, mark) == 8,
+                   "struct timers_desk");
 TIMERS_DESK_ASSERT(sizeof(struct timers_line) == 24 && offsetof(struct timers_line, mark) == 8
                    && offsetof(struct timers_line, client) == 16, "struct timers_line");
 TIMERS_DESK_ASSERT(sizeof(struct timers_word) == 56 && offsetof(struct timers_word, number) == 8
-                   && offsetof(struct timers_word, handle) == 16 && offsetof(struct timers_word, deadline) == 32
-                   && offsetof(struct timers_word, action) == 40 && offsetof(struct timers_word, other) == 48, "struct timers_word");
-TIMERS_DESK_ASSERT(sizeof(struct timers_desk_config) == 40 && offsetof(struct timers_desk_config, capacity) == 8
-                   && offsetof(struct timers_desk_config, room) == 16 && offsetof(struct timers_desk_config, line) == 24
+                   && offsetof(struct timers_word, handle) == 16
+                   && offsetof(struct timers_word, deadline) == 32
+                   && offsetof(struct timers_word, action) == 40
+                   && offsetof(struct timers_word, other) == 48, "struct timers_word");
+TIMERS_DESK_ASSERT(sizeof(struct timers_desk_config) == 40
+                   && offsetof(struct timers_desk_config, capacity) == 8
+                   && offsetof(struct timers_desk_config, room) == 16
+                   && offsetof(struct timers_desk_config, line) == 24
                    && offsetof(struct timers_desk_config, table) == 32, "struct timers_desk_config");
 #undef TIMERS_DESK_ASSERT
+#undef TIMERS_CHECKED
 
 #ifdef __cplusplus
 }

@@ -99,6 +99,7 @@ static void tables(void)
 	CHECK(timers_desk_next(&d) == TIMERS_CLOCK_LAST);
 	CHECK(timers_desk_advance(&d, 100, &n) == TIMERS_DESK_OK && n == 5 && timers_desk_now(&d) == TIMERS_CLOCK_LAST);
 	CHECK(timers_desk_next(&d) == TIMERS_NEVER && timers_desk_tick(&d) == TIMERS_DESK_CLOCK_END);
+	CHECK(timers_desk_advance(&d, 1, &n) == TIMERS_DESK_CLOCK_END && n == 5 && timers_desk_advance(&d, 0, &n) == TIMERS_DESK_OK && n == 0);
 	timers_desk_flush_all(&d);
 	CHECK(timers_line_receive(&l, &w) && w.kind == TIMERS_WORD_EXPIRED && w.action == 2);
 	timers_desk_free(&d), timers_line_free(&l);
@@ -286,7 +287,7 @@ static bool story(void)
 	CHECK(n == 5);
 	CHECK(timers_desk_close(&d, &n) == TIMERS_DESK_CLOSED && n == 5 && timers_desk_tick(&d) == TIMERS_DESK_CLOSED && timers_desk_len(&d) == 0);
 	CHECK(timers_desk_next(&d) == TIMERS_NEVER && timers_desk_wakeup(&d) == TIMERS_NEVER);
-	CHECK(timers_desk_advance(&d, 3, &n) == TIMERS_DESK_CLOSED);
+	CHECK(timers_desk_advance(&d, 3, &n) == TIMERS_DESK_CLOSED && n == 5 && timers_desk_advance(&d, 0, &n) == TIMERS_DESK_OK && n == 0);
 	CHECK(timers_line_start(&l[0], 9, 9, &n) == TIMERS_DESK_OK);
 	owner_turn(&d);
 	int returned = 0, closed = 0;

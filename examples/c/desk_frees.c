@@ -83,8 +83,10 @@ int main(int argc, char **argv)
 				timers_desk_tick(&d);
 			else
 				timers_desk_advance(&d, draw(&seed) % 5, &passed);
-			if (draw(&seed) % 64 == 0)
-				timers_desk_close(&d, &returned);
+			if (draw(&seed) % 64 == 0) {
+				enum timers_desk_status closed = timers_desk_close(&d, &returned);
+				CHECK(closed == TIMERS_DESK_OK || closed == TIMERS_DESK_CLOSED);
+			}
 			if (draw(&seed) % 16 == 0)
 				sched_yield();
 			unsigned long c = draw(&seed) % clients;

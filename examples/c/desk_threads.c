@@ -1,4 +1,5 @@
-/* Client threads beside one owner: each starts its timers, and checks its answers and its expiries in order.
+/* Client threads beside one owner: each starts its timers, and checks its answers by number, its expiries by deadline,
+ * serial and action, and their sums.
  *
  *     desk_threads CLIENTS TIMERS [mixed | deaf]
  *
@@ -48,8 +49,9 @@ static atomic_size_t at_work;
 
 struct client {
 	size_t c;
-	uint64_t *deadline;      /* of the timer that request n started */
-	unsigned char *state;    /* 0 not answered, 1 pending, 2 gone */
+	uint64_t *deadline, *serial;    /* of the timer that request n started */
+	uint64_t *target;               /* the request whose timer request n stops or restarts */
+	unsigned char *state;           /* 0 not answered, 1 pending, 2 gone */
 	uint64_t words, started, expired, stopped, restarted, refused, sum;
 	struct timers_line *line;
 	char apart[64];
@@ -61,6 +63,16 @@ static inline size_t size(const char *name, size_t otherwise) { return getenv(na
 static uint64_t interval_of(size_t c, uint64_t n) { return 1 + (n * 7 + c) % 50; }
 static uint64_t action_of(size_t c, uint64_t n) { return (uint64_t)c << 32 | n; }
 
+/* Request n was to stop the timer of an earlier one, which had this serial, and did. */
+static void note_stop(struct client *me, uint64_t n, uint64_t serial)
+{
+	uint64_t target = me->target[n];
+	CHECK(me->state[target] == 1 && serial == me->serial[target]);
+	me->state[target] = 2;
+	me->sum -= action_of(me->c, target);
+	me->stopped++;
+}
+
 /* requests are numbered from 1 on; request n's timer has action_of(c, n) */
 static void *work(void *at)
 {
@@ -68,6 +80,7 @@ static void *work(void *at)
 	uint64_t sent = 0, answered = 0, last_deadline = 0, last_serial = 0, wanted = 0, idle = 0;
 	struct timers_word w;
 	struct timer_handle again = { 0, 0 };
+	uint64_t target = 0;                    /* the request that started `again` */
 	int ask = 0;                            /* 1 stop `again`, 2 restart it */
 	begin_client();
 	while (wanted < timers || ask || answered < sent || me->expired + me->stopped + me->refused < me->started) {
@@ -83,7 +96,9 @@ static void *work(void *at)
 		if (s == TIMERS_DESK_OK) {
 			CHECK(number == sent + 1);
 			sent++;
-			if (!ask)
+			if (ask)
+				me->target[number] = target;
+			else
 				wanted++;
 			ask = 0;
 			did = true;
@@ -106,29 +121,33 @@ static void *work(void *at)
 				CHECK(me->state[w.number] == 0);
 				me->state[w.number] = 1;
 				me->deadline[w.number] = w.deadline;
+				me->serial[w.number] = w.handle.serial;
 				me->sum += action_of(me->c, w.number);
 				me->started++;
-				if (w.kind == TIMERS_WORD_RESTARTED)
-					me->restarted++, me->stopped++;
+				if (w.kind == TIMERS_WORD_RESTARTED) {
+					me->restarted++;
+					note_stop(me, w.number, w.other);
+				}
 				if (mixed && w.kind == TIMERS_WORD_STARTED && !ask && w.number % 4 == 0) {
 					ask = w.number % 8 ? 1 : 2;
 					again = w.handle;
+					target = w.number;
 				}
 				break;
 			case TIMERS_WORD_STOPPED:
 				CHECK(w.number == answered + 1);
 				answered = w.number;
-				me->stopped++;
+				note_stop(me, w.number, w.handle.serial);
 				break;
 			case TIMERS_WORD_REFUSED:
 				CHECK(w.number == answered + 1);
 				answered = w.number;
-				CHECK(w.reason == TIMERS_DESK_NOT_PENDING);     /* it had expired meanwhile */
+				CHECK(w.reason == TIMERS_DESK_NOT_PENDING && me->state[me->target[w.number]] == 2);     /* it had expired */
 				break;
 			case TIMERS_WORD_EXPIRED:
 				CHECK(me->state[w.number] == 1);
 				me->state[w.number] = 2;
-				CHECK(w.deadline == me->deadline[w.number]);
+				CHECK(w.deadline == me->deadline[w.number] && w.handle.serial == me->serial[w.number]);
 				CHECK(w.action == action_of(me->c, w.number));
 				CHECK(w.deadline > last_deadline || (w.deadline == last_deadline && w.handle.serial > last_serial));
 				last_deadline = w.deadline;
@@ -143,6 +162,7 @@ static void *work(void *at)
 		if (!did && ++idle % 64 == 0)
 			sched_yield();
 	}
+	CHECK(me->sum == 0);
 	CHECK(timers_line_finish(me->line) == TIMERS_DESK_OK);
 	atomic_fetch_sub(&at_work, 1);
 	return NULL;
@@ -202,6 +222,8 @@ int main(int argc, char **argv)
 	for (size_t c = 0; c < clients; c++) {
 		all[c].c = c;
 		all[c].deadline = calloc(2 * timers + 2, sizeof(uint64_t));
+		all[c].serial = calloc(2 * timers + 2, sizeof(uint64_t));
+		all[c].target = calloc(2 * timers + 2, sizeof(uint64_t));
 		all[c].state = calloc(2 * timers + 2, 1);
 	}
 	atomic_store(&at_work, clients);
@@ -217,9 +239,11 @@ int main(int argc, char **argv)
 		words += all[c].words, started += all[c].started, expired += all[c].expired;
 		stopped += all[c].stopped, restarted += all[c].restarted;
 		if (!mixed)
-			CHECK(all[c].sum == 0 && all[c].expired == timers && all[c].started == timers);
+			CHECK(all[c].expired == timers && all[c].started == timers);
 		CHECK(all[c].started == all[c].expired + all[c].stopped);
 		free(all[c].deadline);
+		free(all[c].serial);
+		free(all[c].target);
 		free(all[c].state);
 	}
 	free(all);

@@ -1,5 +1,5 @@
 -- The outboxes and the report after the notices of a tick or a close.
-use Rattle.std.proofs.Common.{◌≡◌, ◌≢◌, ℕ, suc, ◌+◌, ◌<◌, ◌≤◌, ◌==◌, Bool, true, false, ◌⊎◌, List, [], ◌∷◌, ◌++◌, length, get_or, map, refl, sym, ◌∙◌, ap, subst, inl, inr, arith, append-nil, append_assoc, length-append}
+use Rattle.std.proofs.Common.{◌≡◌, ◌≢◌, ℕ, ◌+◌, ◌<◌, ◌≤◌, ◌==◌, Bool, true, false, ◌⊎◌, List, [], ◌∷◌, ◌++◌, length, get_or, map, refl, sym, ◌∙◌, ap, subst, inl, inr, arith, append-nil, append_assoc, length-append}
 use Rattle.std.specs.Prelude.{if◌then◌else◌, Option, Some, None, Ok, Err, Result, MatchResult, IfOk, OnOk, IfErr, OnErr, IsTrue, ◌↔◌}
 use Rattle.std.proofs.lemmas.Bool.Decides.{nat_tests}
 use Rattle.std.proofs.lemmas.Grind.{flat_map-append}
@@ -19,7 +19,6 @@ use Rattle.timer_facility.specs.Step.{Step, step, step_of_tick, step_of_close, e
 use Rattle.timer_facility.specs.Run.{run, notices_in}
 use Rattle.timer_facility.specs.Facility.{FacilityView, view_after, with_nothing_waiting}
 use Rattle.timer_facility.specs.HandedOver.{HandsOver, timers_handed}
-use Rattle.timer_facility.specs.Owed.{timer_handed}
 use Rattle.timer_desk.specs.declared.word.Numbered.{Numbered}
 use Rattle.timer_desk.specs.declared.word.Word.{Word}
 use Rattle.timer_desk.specs.declared.word.Word.TheVariants as Words
@@ -124,7 +123,7 @@ flushed-append : (c : ℕ) (r q : List Done) → flushed c (r ++ q) ≡ flushed 
 flushed-append c [] q = omega arith
 flushed-append c (d ∷ r) q = let n = flushed-append c r q in omega arith
 
--- a notice fits where there is room for all that are left
+-- a notice fits if there is room for all that are left
 right-notices : (refuses : Bool) (c : ℕ) (s : FacilityState) (a b : Side) (past : List Done) (ns : List Notice) → flushed c past ≡ 0
     → length a.backlog.outbox + length (words c past) + length (words c (map Dones.Noticed ns)) + pending_after c s past ≤ a.backlog.room
     → AtEach (RespectsRoom refuses c s a b) past (map Dones.Noticed ns)

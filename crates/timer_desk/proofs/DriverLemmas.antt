@@ -16,7 +16,7 @@ use Rattle.timer_desk.specs.declared.driver.DriveEnd.TheVariants as DriveEnds
 use Rattle.timer_desk.specs.Inlet.{LineKind}
 use Rattle.timer_desk.specs.Backlog.{BacklogState}
 use Rattle.timer_desk.specs.Report.{HeldIsLast, asked, asked_in, flushed}
-use Rattle.timer_desk.specs.Desk.{DeskState, clients_of, side_at, steps_of, step_in, AreBehind, ReportHolds, InRange}
+use Rattle.timer_desk.specs.Desk.{DeskState, clients_of, side_at, steps_of, step_in, AreBehind, ReportHolds}
 use Rattle.timer_desk.specs.Driver.{left_for, all_left, PassesTicks, IsFit, IsOfClient, IsDone, IsShort, HasCounted, NoneRanOut, tick_in, ticks_in, turns_in, EndsIdle, Turns, TurnsOnce, Drives}
 use Rattle.timer_desk.proofs.ReportJoining.{ReportHolds-joined, ReportHolds-nothing, AreBehind-joined, IsLaw, AreOwed-in_time}
 

@@ -25,7 +25,7 @@ no_want s client number h =
     first_of s.is_closed (not (nat_lt client (length s.numbers))) (nat_lt number (number_of s client)) (nat_lt LAST (number_of s client))
     (nat_lt (number_of s client) number) (number_of s client) h
 
--- where an allocation failed, the request allocates
+-- if an allocation failed, the request allocates
 pub needs_memory : (s : FacilityState) (client number : ℕ) (request : Request) (reason : NotTaken) → reason ≡ OutOfMemory
     → IsNotTaken s client number request reason → NeedsMemory s client number request
 needs_memory s client number request reason e n = elim n [

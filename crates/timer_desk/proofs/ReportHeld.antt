@@ -19,7 +19,7 @@ without_end xs ys =
     let n : length (xs ++ ys) - length ys ≡ length xs = let l = length-append xs ys in omega arith in
     ap (λ k. take k (xs ++ ys)) n ∙ take_front xs ys
 
--- where what was got ends in what is held, the rest is what was got without it
+-- if what was got ends in what is held, the rest is what was got without it
 pub got_but_held_is : (a : Side) (xs : List Numbered) → xs ++ held_list a.backlog.held ≡ a.got → got_but_held a ≡ xs
 got_but_held_is a xs h =
     ap (λ got. take (length got - length (held_list a.backlog.held)) got) (sym h) ∙ without_end xs (held_list a.backlog.held)

@@ -88,7 +88,7 @@ member_keeps c (Dones.Closed result) = inr (refl, refl)
 member_keeps c (Dones.Noticed notice) = inr (refl, refl)
 member_keeps c (Dones.Flushed client count) = inr (refl, refl)
 
--- where none may be held after a report though one was held before it, none may be held after it where none was before
+-- if none may be held after a report though one was held before it, none may be held after it if none was before
 may_hold-false : (c : ℕ) (q : List Done) → may_hold c true q ≡ false → may_hold c false q ≡ false
 may_hold-false c [] h = refl
 may_hold-false c (d ∷ q) h = elim (member_keeps c d) [

@@ -21,7 +21,7 @@ use Rattle.timer_desk.specs.Ticks.{ticks_done, ticks_report, last_notices, HasPa
 use Rattle.timer_desk.proofs.ReportJoining.{ReportHolds-joined, ReportHolds-nothing}
 use Rattle.timer_desk.proofs.DispatchLemmas.{desk_of, ReportHolds-tick, IsDesk-tick, HasRoom-ticked, numbers_tick, steps-notices}
 
--- the notices of one more tick, where nothing was handed out before it
+-- the notices of one more tick, if nothing was handed out before it
 one_more : (s : FacilityState) (n : ℕ) → notices (history s (ticks n)) ≡ []
     → notices (history s (ticks (suc n))) ≡ tick_notices (state_after s (ticks n))
 one_more s n h =

@@ -101,13 +101,13 @@ InRange clients (Steps.Flush c) = c < clients
 abbrev pub tick_notices : FacilityState → List Notice
 tick_notices s = notices_in (step s Tick 0).outs
 
--- the notices of a close, none where it was refused
+-- the notices of a close, none if it was refused
 abbrev pub close_notices : FacilityState → Result ℕ CloseFault → List Notice
 close_notices s (Ok count) = notices_in (step s Close 0).outs
 close_notices s (Err fault) = []
 
 module _ {I : Type 0} (kind : LineKind I) where
-  -- the side of client c; i and b are the defaults where there is no such client
+  -- the side of client c; i and b are the defaults if there is no such client
   abbrev pub side_at : DeskState I → ℕ → I → BacklogState → Side
   side_at d c i b = side_of kind (get_or d.inlets c i) (get_or d.backlogs c b)
 

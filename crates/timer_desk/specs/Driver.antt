@@ -81,7 +81,7 @@ pub record IsShort (goal clients : ℕ) (report : List Done) : Type 0 where
   pub among : client < clients
   pub fewer : (length (asked client report) < goal) ⊎ (flushed client report < 2 * goal)
 
--- 1 where the step passes ticks, however many
+-- 1 if the step passes ticks, however many
 abbrev pub tick_in : Step → ℕ
 tick_in (Steps.Serve c) = 0
 tick_in Steps.Tick = 1
@@ -131,7 +131,7 @@ module _ {I : Type 0} (kind : LineKind I) (last : Step) where
 
   -- There is a report without a close that leads from the one desk to the other, of turns that end in the
   -- step `last`. Where the drive is done, each client had `goal` requests served and twice as many words
-  -- flushed; where a limit above 0 ended it, some client had not, and the last `limit` turns passed nothing
+  -- flushed; if a limit above 0 ended it, some client had not, and the last `limit` turns passed nothing
   -- on. Only a drive that ended out of memory has a serve that ran out of memory.
   pub record Drives (goal limit : ℕ) (old new : DeskState I) (outcome : DriveEnd) : Type 0 where
     pub report : List Done

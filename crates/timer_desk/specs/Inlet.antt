@@ -42,7 +42,7 @@ put_of Done w = w ∷ []
 put_of (Full v) w = []
 put_of (PutNoMemory v) w = []
 
--- a result other than `Done` hands the word back; `NoMemory` only where the line may run out of memory
+-- a result other than `Done` hands the word back; `NoMemory` only if the line may run out of memory
 abbrev pub HandsBack : Bool → Put → Word → Type 0
 HandsBack may_refuse Done w = Unit {0}
 HandsBack may_refuse (Full v) w = v ≡ w

@@ -5,7 +5,7 @@ use Rattle.timer_desk.specs.declared.opening.OpenFault.{OpenFault}
 use Rattle.timer_desk.specs.declared.opening.OpenFault.TheVariants.{Room, OutOfMemory}
 use Rattle.timer_desk.specs.declared.opening.TheConstants.{MIN_ROOM, MAX_ROOM}
 
--- the facility and the lines are handed back unchanged; `Room` exactly where the room is out of range
+-- the facility and the lines are handed back unchanged; `Room` exactly if the room is out of range
 abbrev pub HandsBackBoth : {W I : Type 0} → ℕ → FacilityView → List I → OpenFault W I → Type 0
 HandsBackBoth room facility inlets (Room f is) = (f ≡ facility) × (is.items ≡ inlets)
     × ((room < MIN_ROOM) ⊎ (MAX_ROOM < room))

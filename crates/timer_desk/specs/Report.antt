@@ -60,7 +60,7 @@ flushed_in c (Dones.Noticed notice) = 0
 flushed_in c (Dones.Flushed client count) = if client == c then count else 0
 
 -- Whether a request of the client may be held after a serve of it; `before` is whether one was held before. A
--- held request is retried first, so after a serve one is held only where memory ran out; without room nothing
+-- held request is retried first, so after a serve one is held only if memory ran out; without room nothing
 -- is tried.
 abbrev pub held_after_serve : Bool → Served → Bool
 held_after_serve before Idle = false
@@ -78,7 +78,7 @@ held_after c before (Dones.Closed result) = before
 held_after c before (Dones.Noticed notice) = before
 held_after c before (Dones.Flushed client count) = before
 
--- the place in a word, where it is the answer to an accepted start or restart
+-- the place in a word, if it is the answer to an accepted start or restart
 abbrev pub place_told : Word → ℕ
 place_told (Words.Answered number answer) = place_in answer
 place_told (Words.NotTaken number reason) = 0

@@ -41,7 +41,7 @@ IsNeeded may_refuse c s [] = may_refuse ≡ true
 IsNeeded may_refuse c s (numbered ∷ later) = (may_refuse ≡ true)
     ⊎ NeedsMemory s c numbered.number numbered.request
 
--- the length of a client's outbox after a report, where its side was a: the words before and those since,
+-- the length of a client's outbox after a report, if its side was a: the words before and those since,
 -- less those flushed
 abbrev pub outbox_after : ℕ → Side → List Done → ℕ
 outbox_after c a past = length a.backlog.outbox + length (words c past) - flushed c past
@@ -51,7 +51,7 @@ abbrev pub pending_after : ℕ → FacilityState → List Done → ℕ
 pending_after c s past = pending_of (run s (events past)).state c
 
 -- When a member is right for client c, whose side was a before the report and is b after it. A serve's result
--- accords with the room. It runs out of memory only where the request that is then held (the next one done,
+-- accords with the room. It runs out of memory only if the request that is then held (the next one done,
 -- or the one held at the end) allocates. After the member the outbox has room for a notice of each pending
 -- timer.
 pub record RespectsRoom (may_refuse : Bool) (c : ℕ) (s : FacilityState) (a b : Side) (past : List Done)
@@ -68,7 +68,7 @@ IsRightClose s past done later = done ≡ Dones.Closed (Err OutOfMemory)
     → (run s (events past)).state.is_closed ≡ false
 
 -- Many ticks at once are accepted one by one. Only the last hands out anything, and fewer than were asked for
--- are passed only where it does or the clock is at its end.
+-- are passed only if it does or the clock is at its end.
 abbrev pub IsRightPass : FacilityState → List Done → Done → List Done → Type 0
 IsRightPass s past done later = (limit passed : ℕ) → done ≡ Dones.Passed limit (Ok passed)
     → AreTicked limit passed (run s (events past)).state

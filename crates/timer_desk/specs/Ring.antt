@@ -69,7 +69,7 @@ next_of e = e.next
 abbrev pub numbered : ℕ → Request → Numbered
 numbered n r = record { number = n; request = r }
 
--- the request is handed back: `Spent` where no number is left for it, else `Full`
+-- the request is handed back: `Spent` if no number is left for it, else `Full`
 abbrev pub IsUnsent : Unsent → Request → ℕ → Type 0
 IsUnsent (Spent r) request next = (r ≡ request) × (LAST < next)
 IsUnsent (Full r) request next = (r ≡ request) × (next ≤ LAST)

@@ -22,7 +22,7 @@ abbrev pub ticks_report : ℕ → FacilityState → List Done
 ticks_report passed s = ticks_done (passed - 1) ++ Dones.Ticked (Ok tt) ∷ map Dones.Noticed
     (last_notices passed s)
 
--- at most `limit` ticks were asked for and `passed` were passed: fewer only where the last hands out
+-- at most `limit` ticks were asked for and `passed` were passed: fewer only if the last hands out
 -- something or the clock is at its end
 pub record HasPassed (limit passed : ℕ) (s : FacilityState) : Type 0 where
   pub some : 1 ≤ passed

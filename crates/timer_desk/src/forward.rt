@@ -9,7 +9,7 @@ use timer_facility::{Facility, NotTaken};
 
 /// Makes a client's request at the facility, and returns the word for its answer or its refusal.
 ///
-/// None where the facility is out of memory, and then nothing changes.
+/// None if the facility is out of memory, and then nothing changes.
 pub fn ask<W: Wheel + Drop>(
     facility: &mut Facility<W>,
     client: u64,

@@ -32,7 +32,7 @@ impl Queues {
         })
     }
 
-    /// Pushes a request, or hands it back where its queue is full.
+    /// Pushes a request, or hands it back if its queue is full.
     pub fn push_request(&mut self, numbered: Numbered) -> Result<(), Numbered>
         ensures ok { OnOk result (requests_in self.new ≡ requests_in self.old ++ numbered ∷ []) }
         ensures err { IfErr result (λ n. (n ≡ numbered) × (requests_in self.new ≡ requests_in self.old)) }
@@ -102,7 +102,7 @@ impl Queues {
         }
     }
 
-    /// Pushes a word, or hands it back where its queue is full.
+    /// Pushes a word, or hands it back if its queue is full.
     pub fn push_word(&mut self, word: Word) -> Result<(), Word>
         ensures ok { OnOk result (words_in self.new ≡ words_in self.old ++ word ∷ []) }
         ensures err { IfErr result (λ w. (w ≡ word) × (words_in self.new ≡ words_in self.old)) }

@@ -70,7 +70,7 @@ impl ClientEnd {
 
     /// Sends a request, and returns its number, one above that of the last.
     ///
-    /// Fails with `Spent` where the number would be above `LAST`, else with `Full` where the ring has no
+    /// Fails with `Spent` if the number would be above `LAST`, else with `Full` if the ring has no
     /// room. Either hands the request back and changes nothing.
     pub fn submit(&mut self, request: Request) -> Result<u64, Unsent>
         ensures line { line_of_end self.new ≡ line_of_end self.old }
@@ -81,7 +81,7 @@ impl ClientEnd {
         ensures received { (received_by_end self.new ≡ received_by_end self.old)
             × (seen_by_end self.new ≡ seen_by_end self.old) }
 
-        // `Full` only where the end knows of no free slot; with one known to be free the call succeeds.
+        // `Full` only if the end knows of no free slot; with one known to be free the call succeeds.
         ensures full { result ≡ Err (Unsent.Full request) → free_of self.new ≡ 0 }
         ensures succeeds { (next_of self.old ≤ LAST) × (0 < free_of self.old) → IsOk result }
         ensures free { OnOk result (free_of self.old ≤ free_of self.new + 1) }
@@ -128,7 +128,7 @@ impl ClientEnd {
         self.words.is_abandoned() && self.words.slots() == 0
     }
 
-    /// Ends the client's requests. The first result is None only where the owner's end was dropped.
+    /// Ends the client's requests. The first result is None only if the owner's end was dropped.
     pub fn finish(self) -> (Option<RequestsEnded>, ClientReader)
         ensures ended { IfSome result.0 (λ e. (requests_ring_of e ≡ (line_of_end self).0)
             × (all_submitted e ≡ submitted self)) }
@@ -171,7 +171,7 @@ impl Inlet for RingInlet {
         ensures given { (given_of self.new ≡ given_of self.old)
             × (free_of_inlet self.new ≡ free_of_inlet self.old) }
 
-        // `Empty` only where no request is known to stand; and only `settle` settles the line.
+        // `Empty` only if no request is known to stand; and only `settle` settles the line.
         ensures none_seen { result ≡ Taken.Empty → seen_by_inlet self.old ≡ [] }
         ensures settled { is_settled self.new ≡ is_settled self.old }
     {
@@ -254,7 +254,7 @@ impl RingInlet {
         self.words.is_abandoned()
     }
 
-    /// Ends the owner's words. None only where the client's end was dropped.
+    /// Ends the owner's words. None only if the client's end was dropped.
     pub fn finish(self) -> Option<WordsEnded>
         ensures { IfSome result (λ e. (words_ring_of e ≡ (line_of_inlet self).1)
             × (all_given e ≡ given_of self)) }
@@ -316,8 +316,8 @@ impl ClientReader {
 
     /// Whether the owner's end was dropped before the line was settled, and no word stands in the line.
     ///
-    /// As of `ClientEnd::is_abandoned`, no contract speaks of the ring's answer. Of a settled line the ring is
-    /// not asked.
+    /// No contract speaks of the ring's answer, as in `ClientEnd::is_abandoned`. If the line is settled, the
+    /// ring is not asked.
     pub fn is_abandoned(&mut self) -> bool
         ensures line { words_ring_of_reader self.new ≡ words_ring_of_reader self.old }
         ensures yes { result ≡ true → (is_settled_reader self.old ≡ false)

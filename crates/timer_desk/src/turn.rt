@@ -17,7 +17,7 @@ use timer_facility::laws::{notices_are_owed, what_is_handed_out_was_pending};
 
 impl<W: Wheel + Drop, I: Inlet + Drop> Desk<W, I> {
     /// Takes the steps in order, and returns the report of their results. The report is allocated first:
-    /// where that fails, nothing has changed.
+    /// if that fails, nothing has changed.
     pub fn turn(&mut self, steps: &[Step]) -> Result<Vec<Done>, OutOfMemory>
         requires { All (InRange (clients_of self.old)) steps.now }
         ensures told { IfOk result (λ report. ReportHolds I.kind report.items self.old self.new) }

@@ -6,14 +6,16 @@
 //!     facility CLIENTS ROUNDS   the same requests at a facility without a desk
 //!     trips COUNT               so many requests over a ring line, each answered before the next
 //!     one_way COUNT             so many requests over a ring line, one after the other
+//!     flush RUN ROUNDS          64 flushes a round of an outbox of RUN words each, over ring lines
 //!
-//! It prints how many requests were served and how many words were given. Without arguments it does a
-//! little of each.
+//! It prints how many requests were served and how many words were given, and of `flush` how many nanoseconds
+//! the flushes took. Without arguments it does a little of each, and prints no times.
 #![tactic(auto)]
 
 mod counts;
 mod desk_rounds;
 mod facility_rounds;
+mod flushes;
 mod lines;
 mod requests;
 
@@ -22,6 +24,7 @@ use std::alloc::Global;
 use std::env;
 use std::process::ExitCode;
 use std::thread::Threads;
+use std::time::Clock;
 
 /// Does the work of this name.
 fn work(rt: &impl Threads, alloc: Global, name: &str, first: u64, second: u64) -> Option<Counts> {
@@ -54,14 +57,37 @@ fn report(
     }
 }
 
+/// Flushes full outboxes and prints the counts, and the time if it is wanted. Returns whether it came to its
+/// end.
+fn report_flushes(
+    rt: &(impl AllocGlobal + Clock + Print + Eprint),
+    run: u64,
+    rounds: u64,
+    is_timed: bool,
+) -> bool {
+    let Some(flushes) = flushes::of_full_outboxes(rt, rt.alloc(), run, rounds) else {
+        let _ = eprintln!(rt; "flush failed");
+        return false;
+    };
+    let Counts { served, words } = flushes.counts;
+    let nanos = flushes.time.as_nanos();
+    if is_timed {
+        let _ = println!(rt; "flush served {served} words {words} ns {nanos}");
+    } else {
+        let _ = println!(rt; "flush served {served} words {words}");
+    }
+    true
+}
+
 /// A little of each.
-fn report_all(rt: &(impl AllocGlobal + Threads + Print + Eprint)) -> bool {
+fn report_all(rt: &(impl AllocGlobal + Threads + Clock + Print + Eprint)) -> bool {
     let desk = report(rt, "desk", 8, 1);
     let calls = report(rt, "calls", 8, 1);
     let facility = report(rt, "facility", 8, 1);
     let trips = report(rt, "trips", 100, 0);
     let one_way = report(rt, "one_way", 100, 0);
-    desk && calls && facility && trips && one_way
+    let flush = report_flushes(rt, 8, 10, false);
+    desk && calls && facility && trips && one_way && flush
 }
 
 fn main(rt: HostRuntime) -> ExitCode {
@@ -74,6 +100,11 @@ fn main(rt: HostRuntime) -> ExitCode {
     };
     let first = args.next().and_then(|word| word.parse::<u64>().ok());
     let second = args.next().and_then(|word| word.parse::<u64>().ok());
-    let is_done = report(&rt, &name, first.unwrap_or(0), second.unwrap_or(0));
+    let (first, second) = (first.unwrap_or(0), second.unwrap_or(0));
+    let is_done = if name.as_str() == "flush" {
+        report_flushes(&rt, first, second, true)
+    } else {
+        report(&rt, &name, first, second)
+    };
     ExitCode::from(if is_done { 0 } else { 1 })
 }

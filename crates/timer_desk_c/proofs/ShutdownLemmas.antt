@@ -15,10 +15,10 @@ use Rattle.timer_desk_c.specs.declared.shutdown_all.Left.{Left}
 use Rattle.timer_desk_c.specs.declared.line.Line.{Line}
 use Rattle.timer_desk_c.specs.declared.status.TheConstants.{OK, LEFT}
 use Rattle.timer_desk_c.specs.DeskSlots.{DeskState}
-use Rattle.timer_desk_c.specs.Frames.{with_line}
+use Rattle.timer_desk_c.specs.Frames.{HasNoLine, with_line}
 use Rattle.timer_desk_c.specs.Lines.{submitted_on}
-use Rattle.timer_desk_c.specs.Shutdown.{IsLeft, IsTied, OnlySettles, WhyNotEnded}
-use Rattle.timer_desk_c.specs.ShutdownAll.{IsEndedAt, IsOverAt, IsLeftAt, IsKeptAt}
+use Rattle.timer_desk_c.specs.Shutdown.{IsLeft, OnlySettles, WhyNotEnded}
+use Rattle.timer_desk_c.specs.ShutdownAll.{IsEndedAt, IsOverAt, IsLeftAt, IsTriedAt}
 
 either : (b : Bool) → (b ≡ true) ⊎ (b ≡ false)
 either b = elim b as (λ v. (v ≡ true) ⊎ (v ≡ false)) [ true ↦ inl refl | false ↦ inr refl ]
@@ -136,8 +136,7 @@ IsFirst (Some l) k d old now =
 pub record IsEnding (k : ℕ) (left : Option Left) (d y : DeskState) (old now : List CLine) : Type 0 where
   pub keeps : KeepsLines d y
   pub as_many : length now ≡ length old
-  pub tried : (c : ℕ) (x : CLine) → c < k
-      → IsOverAt c d (get_or old c x) (get_or now c x) ⊎ IsKeptAt c d y (get_or old c x) (get_or now c x)
+  pub tried : (c : ℕ) (x : CLine) → c < k → IsTriedAt c d y (get_or old c x) (get_or now c x)
   pub only : (c : ℕ) (x : CLine) → c < k → get_or now c x ≡ with_line (get_or old c x) (get_or now c x).slot.state
   pub later : (c : ℕ) (x : CLine) → k ≤ c → get_or now c x ≡ get_or old c x
   pub later_inlets : (c : ℕ) (i : RingInlet) → k ≤ c → get_or y.inlets c i ≡ get_or d.inlets c i
@@ -160,6 +159,7 @@ pub record IsTried (k status : ℕ) (d z : DeskState) (old now : List CLine) (li
   pub ended : status ≡ OK → (x : CLine) → IsOverAt k d (get_or old k x) line
   pub left : 0 < status → (x : CLine) → IsLeftAt k status d (get_or old k x) line
   pub same_inlet : 0 < status → status ≢ LEFT → (i : RingInlet) → get_or z.inlets k i ≡ get_or d.inlets k i
+  pub skipped : (x : CLine) → HasNoLine (get_or old k x) → (i : RingInlet) → get_or z.inlets k i ≡ get_or d.inlets k i
 
 at_other : (k c : ℕ) (x line : CLine) (now : List CLine) → c ≢ k → get_or (slice_set now k line) c x ≡ get_or now c x
 at_other k c x line now other = get_or-set_other now k c line x other
@@ -208,33 +208,42 @@ first_more k status (Some l) result d z old now line t was before ended refused 
       (λ x. earlier (IsLeftAt l.client l.status d (get_or old l.client x)) k l.client x line now under (was.3 x)),
     )
 
+tried_at : (k status : ℕ) (d z : DeskState) (old now : List CLine) (line x : CLine) → IsTried k status d z old now line
+    → IsOverAt k d (get_or old k x) line → IsTriedAt k d z (get_or old k x) line
+tried_at k status d z old now line x t (inl none) = inl (record { none_held = none; same_inlet = t.skipped x none })
+tried_at k status d z old now line x t (inr ended) = inr (inl ended)
+
 kept_at : (k status : ℕ) (d z : DeskState) (old now : List CLine) (line x : CLine) → IsTried k status d z old now line
-    → IsOverAt k d (get_or old k x) line ⊎ IsKeptAt k d z (get_or old k x) line
+    → IsTriedAt k d z (get_or old k x) line
 kept_at k status d z old now line x t = elim (zero_or_more status) [
-  | inl ok ↦ inl (t.ended ok x)
-  | inr more ↦ inr (record { status = status; refused = more; left = t.left more x; same_inlet = t.same_inlet more })
+  | inl ok ↦ tried_at k status d z old now line x t (t.ended ok x)
+  | inr more ↦ inr (inr (record { status = status; refused = more; left = t.left more x; same_inlet = t.same_inlet more }))
 ]
 
 -- what was found of a client stays, once a later one was settled
-still_tried : (k c : ℕ) (d y z : DeskState) (u v : CLine) → c < k → OnlySettles k y z → IsOverAt c d u v ⊎ IsKeptAt c d y u v
-    → IsOverAt c d u v ⊎ IsKeptAt c d z u v
-still_tried k c d y z u v under s (inl over) = inl over
-still_tried k c d y z u v under s (inr kept) = inr (record {
+still_tried : (k c : ℕ) (d y z : DeskState) (u v : CLine) → c < k → OnlySettles k y z → IsTriedAt c d y u v → IsTriedAt c d z u v
+still_tried k c d y z u v under s (inl skipped) = inl (record {
+  none_held = skipped.none_held;
+  same_inlet = λ i. s.others c i (less_is_other c k under) ∙ skipped.same_inlet i;
+})
+still_tried k c d y z u v under s (inr (inl ended)) = inr (inl ended)
+still_tried k c d y z u v under s (inr (inr kept)) = inr (inr (record {
   status = kept.status;
   refused = kept.refused;
   left = kept.left;
   same_inlet = λ other i. s.others c i (less_is_other c k under) ∙ kept.same_inlet other i;
-})
+}))
 
 pub ending_more : (k status : ℕ) (left result : Option Left) (d y z : DeskState) (old now : List CLine) (line new : CLine)
     → IsEnding k left d y old now → k < length now → length old ≡ clients_of d
     → ((x : CLine) → line ≡ get_or now k x)
-    → (status ≡ OK → IsOverAt k y line new) → (0 < status → IsLeftAt k status y line new) → (0 < status → status ≢ LEFT → z ≡ y)
+    → (status ≡ OK → IsOverAt k y line new) → (HasNoLine line → z ≡ y)
+    → (0 < status → IsLeftAt k status y line new) → (0 < status → status ≢ LEFT → z ≡ y)
     → OnlySettles k y z → new ≡ with_line line new.slot.state
     → (left ≢ None → result ≡ left) → (left ≡ None → status ≡ OK → result ≡ None)
     → (left ≡ None → 0 < status → result ≡ Some (record { client = k; status = status }))
     → IsEnding (k + 1) result d z old (slice_set now k new)
-ending_more k status left result d y z old now line new was low clients is ended refused same_desk settles only before ok more =
+ending_more k status left result d y z old now line new was low clients is ended skipped refused same_desk settles only before ok more =
     let many = was.as_many in
     let client : k < clients_of d = omega (arith, low, clients, many) in
     let same : (x : CLine) → line ≡ get_or old k x = λ x. is x ∙ was.later k x (omega arith) in
@@ -243,11 +252,13 @@ ending_more k status left result d y z old now line new was low clients is ended
       ended = λ e x. subst (λ v. IsOverAt k d v new) (same x) (over_before k d y line new was.keeps client (ended e));
       left = λ e x. subst (λ v. IsLeftAt k status d v new) (same x) (left_before k status d y line new was.keeps client (refused e));
       same_inlet = λ e other i. ap (λ (w : DeskState). get_or w.inlets k i) (same_desk e other) ∙ was.later_inlets k i (omega arith);
+      skipped = λ x none i. ap (λ (w : DeskState). get_or w.inlets k i) (skipped (subst HasNoLine (sym (same x)) none))
+          ∙ was.later_inlets k i (omega arith);
     } in record {
       keeps = keeps_more k d y z was.keeps settles;
       as_many = length-set now k new ∙ was.as_many;
       tried = λ c x below.
-          up_to (λ n u v. IsOverAt n d u v ⊎ IsKeptAt n d z u v) k c x new old now low below
+          up_to (λ n u v. IsTriedAt n d z u v) k c x new old now low below
           (λ under. still_tried k c d y z (get_or old c x) (get_or now c x) under settles (was.tried c x under))
           (kept_at k status d z old now new x t);
       only = λ c x below. up_to (λ n u v. v ≡ with_line u v.slot.state) k c x new old now low below (was.only c x)

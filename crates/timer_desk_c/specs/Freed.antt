@@ -1,5 +1,5 @@
--- What a look for a freed line or desk leaves as it was. Whether the other end was freed is the ring's answer, of
--- which no clause speaks.
+-- What a look for a freed line or desk leaves as it was. Whether the other end was freed is the ring's
+-- answer, of which no clause speaks.
 use Rattle.std.specs.Prelude.{ℕ, ◌≡◌, ◌≢◌, false, [], get_or}
 use Rattle.timer_desk.specs.declared.ring.RingInlet.{RingInlet}
 use Rattle.timer_desk.specs.Desk.{clients_of}

@@ -37,6 +37,11 @@ pub record IsLeftAt (c status : ℕ) (d : DeskState) (old new : CLine) : Type 0 
   pub why : WhyNotEnded c old.client d old.slot.state status
   pub as_before : IsAsBefore old.slot.state new.slot.state
 
+-- C's line holds none, and the owner's end of it in the desk d' is as it was
+pub record IsSkippedAt (c : ℕ) (d d' : DeskState) (old : CLine) : Type 0 where
+  pub none_held : HasNoLine old
+  pub same_inlet : (i : RingInlet) → get_or d'.inlets c i ≡ get_or d.inlets c i
+
 -- for some reason its words were not ended, and the line is as it was; so is the owner's end of it in the
 -- desk d', unless something of the client is left
 pub record IsKeptAt (c : ℕ) (d d' : DeskState) (old new : CLine) : Type 0 where
@@ -45,11 +50,15 @@ pub record IsKeptAt (c : ℕ) (d d' : DeskState) (old new : CLine) : Type 0 wher
   pub left : IsLeftAt c status d old new
   pub same_inlet : status ≢ LEFT → (i : RingInlet) → get_or d'.inlets c i ≡ get_or d.inlets c i
 
--- each client has no line, or its words have ended, or else there is a reason and its line is as it was; the
--- desk is d before and d' after
+-- the client was skipped, since it has no line, or its words have ended, or else there is a reason and its
+-- line is as it was; the desk is d before and d' after
+abbrev pub IsTriedAt : ℕ → DeskState → DeskState → CLine → CLine → Type 0
+IsTriedAt c d d' old new = IsSkippedAt c d d' old ⊎ IsEndedAt c d old new ⊎ IsKeptAt c d d' old new
+
+-- so for each client
 abbrev pub AllTried : DeskState → DeskState → List CLine → List CLine → Type 0
 AllTried d d' old new = (c : ℕ) (x : CLine) → c < clients_of d
-    → IsOverAt c d (get_or old c x) (get_or new c x) ⊎ IsKeptAt c d d' (get_or old c x) (get_or new c x)
+    → IsTriedAt c d d' (get_or old c x) (get_or new c x)
 
 -- there is one of C's lines for each client, and the words of all that hold a line have ended
 pub record AllEnded (d : DeskState) (old new : List CLine) : Type 0 where

@@ -1,5 +1,5 @@
 -- Many ticks of the owner's desk, and the flush of one client.
-use Rattle.std.specs.Prelude.{ℕ, ◌≡◌, ◌⊎◌, [], ◌∷◌, Some, get_or}
+use Rattle.std.specs.Prelude.{ℕ, ◌≡◌, ◌<◌, ◌⊎◌, [], ◌∷◌, Some, get_or}
 use Rattle.timer_facility.specs.declared.request.TickFault.TheVariants as TickFaults
 use Rattle.timer_facility.specs.State.{FacilityState}
 use Rattle.timer_facility.specs.Verdict.{tick_refusal}
@@ -19,11 +19,11 @@ HasAdvanced most passed old new =
     ((most ≡ 0) × (passed ≡ 0) × (new ≡ old)) ⊎ (HasPassed most passed old.facility
     × Says (ticks_report passed old.facility) old new)
 
--- why the clock does not advance
-abbrev pub WhyNotAdvanced : FacilityState → ℕ → Type 0
-WhyNotAdvanced s status =
-    ((status ≡ CLOSED) × (tick_refusal s ≡ Some TickFaults.Closed))
-    ⊎ ((status ≡ CLOCK_END) × (tick_refusal s ≡ Some TickFaults.ClockEnd))
+-- why the clock does not advance, if a tick was asked for
+abbrev pub WhyNotAdvanced : ℕ → FacilityState → ℕ → Type 0
+WhyNotAdvanced most s status =
+    (0 < most) × (((status ≡ CLOSED) × (tick_refusal s ≡ Some TickFaults.Closed))
+    ⊎ ((status ≡ CLOCK_END) × (tick_refusal s ≡ Some TickFaults.ClockEnd)))
 
 -- the first `count` words of a client's outbox were put into its line, and nothing else has changed: all of
 -- its outbox, or no slot of the line is known to be free

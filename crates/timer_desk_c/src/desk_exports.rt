@@ -137,7 +137,7 @@ pub extern "C" fn timers_desk_advance(d: &mut CDesk, most: u64, passed: &mut u64
     ensures advanced { result ≡ OK → IsOpen d.old × HasAdvanced most passed.new d.old.slot.state
         d.new.slot.state }
     ensures refused { 0 < result → ((result ≡ NOT_OPEN) × IsShut d.old)
-        ⊎ (IsOpen d.old × WhyNotAdvanced d.old.slot.state.facility result) }
+        ⊎ (IsOpen d.old × WhyNotAdvanced most d.old.slot.state.facility result) }
     ensures kept { 0 < result → (d.new ≡ d.old) × (passed.new ≡ passed.old) }
     ensures only { d.new ≡ with_desk d.old d.new.slot.state }
 {

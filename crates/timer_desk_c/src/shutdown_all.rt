@@ -2,7 +2,7 @@
 ghost use Rattle.std.specs.Prelude.{◌≡◌, ◌≢◌, ◌<◌, length, Some, None, IsNone, IfSome};
 ghost use Rattle.timer_desk.specs.Desk.{clients_of};
 ghost use Rattle.timer_desk.specs.Shutdown.{KeepsLines};
-ghost use Rattle.timer_desk_c.specs.Frames.{HasLine, with_line};
+ghost use Rattle.timer_desk_c.specs.Frames.{HasLine, HasNoLine, with_line};
 ghost use Rattle.timer_desk_c.specs.Shutdown.{IsTied, OnlySettles};
 ghost use Rattle.timer_desk_c.specs.ShutdownAll.{AreTied, OnlyStates, IsOverAt, IsLeftAt, AllTried, AllEnded, IsFirstLeft, WhyNotAllEnded};
 ghost use Rattle.timer_desk_c.specs.declared.status.TheConstants.{OK, LEFT};
@@ -74,6 +74,7 @@ fn end_held<W: Wheel + Drop>(desk: &mut Desk<W, RingInlet>, client: usize, line:
     requires line { HasLine line.old → client < clients_of desk.old → line.old.client ≡ client
         → IsTied client desk.old line.old.slot.state }
     ensures ended { result ≡ OK → IsOverAt client desk.old line.old line.new }
+    ensures skipped { HasNoLine line.old → desk.new ≡ desk.old }
     ensures left { 0 < result → IsLeftAt client result desk.old line.old line.new }
     ensures same { 0 < result → result ≢ LEFT → desk.new ≡ desk.old }
     ensures desk { OnlySettles client desk.old desk.new }

@@ -16,7 +16,7 @@ pub(crate) fn advance<W: Wheel + Drop>(
     passed: &mut u64,
 ) -> u32
     ensures advanced { result ≡ OK → HasAdvanced most passed.new desk.old desk.new }
-    ensures refused { 0 < result → WhyNotAdvanced desk.old.facility result }
+    ensures refused { 0 < result → WhyNotAdvanced most desk.old.facility result }
     ensures kept { 0 < result → (desk.new ≡ desk.old) × (passed.new ≡ passed.old) }
 {
     if most == 0 {

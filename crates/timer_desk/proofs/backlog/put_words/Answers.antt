@@ -3,7 +3,7 @@ use Rattle.std.proofs.Math.Seq.{take-append-add}
 use Rattle.std.proofs.lemmas.List.{take_all, append_assoc}
 use Rattle.timer_desk.proofs.backlog.put_words.Goals as goal
 
--- where all of the first run was put, what was put is that run and the front of the other one
+-- if all of the first run was put, what was put is that run and the front of the other one
 both_runs : {X : Type 0} (old one both first rest items : List X) (n m : ℕ) → first ++ rest ≡ items → n ≤ length first → length first ≤ n
     → one ≡ old ++ take n first → both ≡ one ++ take m rest → both ≡ old ++ take (n + m) items
 both_runs old one both first rest items n m i up down a b =
