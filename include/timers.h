@@ -10,6 +10,7 @@
  *     timers_look, timers_each - read one timer, iterate over all of them
  *     timers_now, timers_len, timers_has_due, timers_wakeup, timers_next - read the state
  *     timers_counts - read what the wheels have done so far
+ *     timers_message - return the text of a status
  *
  * SYNOPSIS
  *     #include <timers.h>
@@ -38,12 +39,15 @@
  *     more than n - 1 and at most n: add 1 if it must last no less than n.
  *
  *     timers_start_at and timers_restart_at take any tick. If it is not after the present one, the timer is
- *     due at once. It has expired, with the present tick as its deadline, and is taken after those that
- *     expired before it. So a loop that takes what expires until nothing is left may never end: it does not
- *     if the work of each timer starts one that is due at once.
+ *     due at once: it has expired, with the present tick as its deadline, and is taken after those that
+ *     expired before it. If the work of each timer starts one that is due at once, a loop that takes what
+ *     expires until nothing is left never ends.
  *
  *     An interval of 0 is refused (TIMERS_ZERO_INTERVAL). An interval ends at a later tick, and 0 is mostly
  *     a mistake of a calculation. For work that is due at once give timers_start_at the present tick.
+ *
+ *     The clock of TIMERS_CLOCK ends after 100 days. Before that, free the timers, make them again at tick
+ *     0 and start what is left. That of TIMERS_WIDE has ticks for 36 million years of milliseconds.
  *
  *     The library is proved: each function meets the contract stated in crates/timer_c/src/exports.rt, for
  *     every call that keeps the rules below. Nothing checks that a caller keeps them.
