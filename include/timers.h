@@ -69,7 +69,7 @@
  *         len                     each expired timer that waits
  *         each                    each place up to the next timer
  *         reserve                 each timer that there is room for
- *         new, free               constant: the buckets, some blocks of memory
+ *         new, free               constant: the buckets, three blocks of memory
  *
  *     A move takes a timer to a lower wheel. A tick moves the timers of its bucket, unless they expire.
  *
