@@ -17,12 +17,12 @@
  *     cc prog.c $(pkg-config --cflags --libs timers)
  *
  * DESCRIPTION
- *     A `struct timers` owns timers and a clock of ticks. It is open from a timers_new that returned TIMERS_OK
- *     to timers_free. The length of a tick is the caller's choice: a millisecond, a frame, a retransmission
- *     unit. A timer is started with an interval in ticks and a value, its action. Only timers_tick and
- *     timers_advance advance the clock. A timer whose deadline is the present tick has expired: it is no
- *     longer pending, and waits until timers_expire takes it. Timers expire in the order of their deadlines,
- *     and those of one deadline in the order of their starts.
+ *     A `struct timers` owns timers and a clock of ticks. It is open from a timers_new that returned
+ *     TIMERS_OK to timers_free. The length of a tick is the caller's choice: a millisecond, a frame, a
+ *     retransmission unit. A timer is started for an interval in ticks, or for a tick, with a value, its
+ *     action. Only timers_tick and timers_advance advance the clock. A timer whose deadline is the present
+ *     tick has expired: it is no longer pending, and waits until timers_expire takes it. Timers expire in the
+ *     order of their deadlines, and those of one deadline in the order of their starts.
  *
  *     While expired timers wait, others may be started, restarted and stopped, for instance by the work that
  *     the first of them triggers. Only the clock can't advance until all of them are taken (TIMERS_DUE). An
@@ -89,9 +89,9 @@
  *         the same, if it is active    timers_restart_at(t, handle, now + timeout, action, &handle)
  *         uv_timer_stop, remove        timers_stop(t, handle, &action)
  *         uv_timer_again, repeat       timers_start_at(t, now + repeat, ..), once it is taken
- *         uv_timer_get_due_in          timers_look(t, handle, &timer); timer.deadline - now
+ *         uv_timer_get_due_in          timers_look(t, handle, &timer); timer.deadline - now, or 0
  *         uv_is_active                 timers_look(t, handle, &timer) == TIMERS_OK
- *         uv_backend_timeout           timers_next(t) - now, or TIMERS_NEVER
+ *         uv_backend_timeout           timers_next(t) - now, or 0; TIMERS_NEVER if none is held
  *         run what is due by now       timers_expire(t, &timer) until it returns false, then
  *                                      timers_advance(t, now - timers_now(t), &passed), and
  *                                      so on until timers_now(t) is now and none expired
