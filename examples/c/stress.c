@@ -27,9 +27,11 @@ void *__wrap_malloc(size_t size) { return refuse() ? NULL : __real_malloc(size);
 void *__wrap_realloc(void *block, size_t size) { return refuse() ? NULL : __real_realloc(block, size); }
 #define WITH_REFUSALS(call) (refuses = true, refused_before = refused, result = (call), refuses = false, result)
 #define OWN_REALLOC __real_realloc
+enum { REFUSES = 1 };
 #else
 #define WITH_REFUSALS(call) (refused_before = refused, result = (call), result)
 #define OWN_REALLOC realloc
+enum { REFUSES = 0 };
 #endif
 static enum timers_status result;
 
@@ -186,12 +188,13 @@ static size_t random_handle(struct timer_handle *handle)
 
 static uint64_t statuses[11], starts, restarts, stops, expiries, ticks, refused_while_due, most_pending, most_moves;
 
-/* Cases that should occur in each run. */
+/* Cases that should occur in each run; the last two if allocations are refused. */
 enum {
 	REVIVALS, WITHDRAWALS, VISITS, EARLY_WAKEUPS, MOVES, PASSED_STARTS, PASSED_RESTARTS, PASSED_REVIVALS,
-	PASSED_AT_THE_END, RESERVES, STARTS_IN_RESERVE, CASES
+	PASSED_AT_THE_END, RESERVES, STARTS_IN_RESERVE, REFUSED_STARTS, REFUSED_RESERVES,
+	CASES = REFUSES ? REFUSED_RESERVES + 1 : REFUSED_STARTS
 };
-static const char *const names[CASES] = {
+static const char *const names[] = {
 	[REVIVALS] = "restarts of expired timers",
 	[WITHDRAWALS] = "stops of expired timers",
 	[VISITS] = "visits of all timers",
@@ -203,8 +206,10 @@ static const char *const names[CASES] = {
 	[PASSED_AT_THE_END] = "such ticks at the last one",
 	[RESERVES] = "reserves",
 	[STARTS_IN_RESERVE] = "starts with room by reserve alone",
+	[REFUSED_STARTS] = "starts without memory",
+	[REFUSED_RESERVES] = "reserves without memory",
 };
-static uint64_t cases[CASES];
+static uint64_t cases[sizeof names / sizeof *names];
 
 static void occurs(int which, bool so) { cases[which] += so; }
 
@@ -256,6 +261,7 @@ static void do_start(struct timers *t)
 	} else {
 		WANT("handle kept", handle.place == 11 && handle.serial == 12, 1);
 	}
+	occurs(REFUSED_STARTS, status == TIMERS_NO_MEMORY);
 }
 
 /* Makes room: nothing else changes, which `look` and the calls after it show. */
@@ -268,6 +274,7 @@ static void do_reserve(struct timers *t)
 	if (status == TIMERS_OK)
 		reserved = most > reserved ? most : reserved;
 	occurs(RESERVES, status == TIMERS_OK);
+	occurs(REFUSED_RESERVES, status == TIMERS_NO_MEMORY);
 }
 
 static void do_restart(struct timers *t)
@@ -537,9 +544,6 @@ static const char *missing(void)
 {
 	static const enum timers_status wanted[] = {
 		TIMERS_OK, TIMERS_DUE, TIMERS_NOT_PENDING, TIMERS_ZERO_INTERVAL, TIMERS_TOO_LATE, TIMERS_CLOCK_END,
-#ifdef REFUSE
-		TIMERS_NO_MEMORY,
-#endif
 	};
 	for (size_t i = 0; i < sizeof wanted / sizeof *wanted; i++)
 		if (statuses[wanted[i]] == 0)
