@@ -10,18 +10,19 @@
  *     timers_look, timers_each - read one timer, iterate over all of them
  *     timers_now, timers_len, timers_has_due, timers_wakeup, timers_next - read the state
  *     timers_counts - read what the wheels have done so far
+ *     timers_message - return the text of a status
  *
  * SYNOPSIS
  *     #include <timers.h>
  *     cc prog.c $(pkg-config --cflags --libs timers)
  *
  * DESCRIPTION
- *     A `struct timers` owns timers and a clock of ticks. It is open from a timers_new that returned TIMERS_OK
- *     to timers_free. The length of a tick is the caller's choice: a millisecond, a frame, a retransmission
- *     unit. A timer is started with an interval in ticks and a value, its action. Only timers_tick and
- *     timers_advance advance the clock. A timer whose deadline is the present tick has expired: it is no
- *     longer pending, and waits until timers_expire takes it. Timers expire in the order of their deadlines,
- *     and those of one deadline in the order of their starts.
+ *     A `struct timers` owns timers and a clock of ticks. It is open from a timers_new that returned
+ *     TIMERS_OK to timers_free. The length of a tick is the caller's choice: a millisecond, a frame, a
+ *     retransmission unit. A timer is started for an interval in ticks, or for a tick, with a value, its
+ *     action. Only timers_tick and timers_advance advance the clock. A timer whose deadline is the present
+ *     tick has expired: it is no longer pending, and waits until timers_expire takes it. Timers expire in the
+ *     order of their deadlines, and those of one deadline in the order of their starts.
  *
  *     While expired timers wait, others may be started, restarted and stopped, for instance by the work that
  *     the first of them triggers. Only the clock can't advance until all of them are taken (TIMERS_DUE). An
@@ -35,29 +36,65 @@
  *     clock is behind the real time, as it is while input is handled, a timer expires that much too early.
  *     So advance the clock first, or give timers_start_at the tick that is meant. A caller that rounds the
  *     real time down to a tick starts a timer somewhere within that tick. So an interval of n ticks lasts
- *     more than n - 1 and at most n: add 1 if it must last no less than n. An interval of 0 is refused,
- *     since its timer would belong to a tick that has already begun. For work that is due at once, call it, or
- *     start a timer of 1 tick.
+ *     more than n - 1 and at most n: add 1 if it must last no less than n.
  *
- *     The tick that timers_start_at is given may have passed, or be the present one: then the timer has expired.
- *     It waits behind those that have expired before, and its deadline is the present tick. So a caller that
- *     takes what expires until nothing is left might never finish, if its work starts such a timer each time.
+ *     timers_start_at and timers_restart_at take any tick. If it is not after the present one, the timer is
+ *     due at once: it has expired, with the present tick as its deadline, and is taken after those that
+ *     expired before it. If the work of each timer starts one that is due at once, a loop that takes what
+ *     expires until nothing is left never ends.
  *
- *     Restart, stop, look and expire take constant time. So does a start, amortised: the timers are in
- *     arrays that grow, and a start that finds them full moves all timers to larger ones. A tick takes time
- *     for the timers that expire at it and those that move to a lower wheel. timers_advance skips stretches
- *     in which nothing happens. timers_next may walk one bucket.
+ *     An interval of 0 is refused (TIMERS_ZERO_INTERVAL). An interval ends at a later tick, and 0 is mostly
+ *     a mistake of a calculation. For work that is due at once give timers_start_at the present tick.
  *
- *     Only timers_new, timers_reserve, timers_start and timers_start_at allocate. A restart never does.
- *     Memory is kept for later starts until timers_free. So a start allocates only if more timers are held
- *     than ever before, and more than timers_reserve made room for. A start that re-arms a timer which was
- *     just taken does not allocate either.
+ *     The clock of TIMERS_CLOCK ends after 100 days. Before that, free the timers, make them again at tick
+ *     0 and start what is left. That of TIMERS_WIDE has ticks for 36 million years of milliseconds.
  *
  *     The library is proved: each function meets the contract stated in crates/timer_c/src/exports.rt, for
- *     every call that keeps the rules below. Nothing checks that a caller keeps them. Proved, too, is that no
- *     start returns TIMERS_NO_MEMORY while fewer timers are held than timers_reserve made room for. Which
- *     calls allocate, and how long a call takes, is in no contract: it follows from the code. Tests look for
- *     allocations.
+ *     every call that keeps the rules below. Nothing checks that a caller keeps them.
+ *
+ * COSTS
+ *     The timers are in arrays, and each is in the bucket of a wheel. A bucket of the lowest wheel has one
+ *     tick, one of the next wheel 64 ticks (of TIMERS_CLOCK, 60), and so on. The calls, without their
+ *     timers_, and what they take time for:
+ *
+ *         start, start_at         constant; if the arrays are full, moves them
+ *         restart, restart_at     constant
+ *         stop, look, expire      constant
+ *         expire_batch            each timer that it takes
+ *         tick                    constant; at a multiple of 64 (60), one bucket
+ *         advance                 each bucket with timers on the way, each move
+ *         wakeup, has_due, now    constant
+ *         counts                  constant
+ *         next                    constant, or each timer of one bucket
+ *         len                     each expired timer that waits
+ *         each                    each place up to the next timer
+ *         reserve                 each timer that there is room for
+ *         new, free               constant: the buckets, three blocks of memory
+ *
+ *     A move takes a timer to a lower wheel. A tick moves the timers of its bucket, unless they expire.
+ *
+ *     Only timers_new, timers_reserve, timers_start and timers_start_at allocate. Memory is kept for later
+ *     starts until timers_free. So a start allocates only if more timers are held than ever before, and more
+ *     than timers_reserve made room for. A start that re-arms a timer which was just taken does not.
+ *
+ *     Two of these are proved. No start returns TIMERS_NO_MEMORY while fewer timers are held than
+ *     timers_reserve made room for. And there are at most 9 moves for each start and restart (of
+ *     TIMERS_CLOCK, 3). The other costs are in no contract: they follow from the code. Tests count the
+ *     allocations of each call.
+ *
+ * PORTING
+ *     What stands for the calls of a heap or of libuv's timers, if `now` is the real time in ticks:
+ *
+ *         uv_timer_start, insert       timers_start_at(t, now + timeout, action, &handle)
+ *         the same, if it is active    timers_restart_at(t, handle, now + timeout, action, &handle)
+ *         uv_timer_stop, remove        timers_stop(t, handle, &action)
+ *         uv_timer_again, repeat       timers_start_at(t, now + repeat, ..), once it is taken
+ *         uv_timer_get_due_in          timers_look(t, handle, &timer); timer.deadline - now, or 0
+ *         uv_is_active                 timers_look(t, handle, &timer) == TIMERS_OK
+ *         uv_backend_timeout           timers_next(t) - now, or 0; TIMERS_NEVER if none is held
+ *         run what is due by now       timers_expire(t, &timer) until it returns false, then
+ *                                      timers_advance(t, now - timers_now(t), &passed), and
+ *                                      so on until timers_now(t) is now and none expired
  *
  * RULES
  *     1. A `struct timers` begins as TIMERS_INIT, or with all its bytes 0: static storage, calloc and
@@ -113,7 +150,8 @@
 /* The version of this header. */
 #define TIMERS_VERSION "1.0.0"
 
-/* Marks calls whose result is there only at TIMERS_OK: the compiler warns if their status is not read. */
+/* Marks calls whose status has to be read, and the compiler warns if it is not. Without TIMERS_OK nothing was
+ * made or started, or there is no answer. The status of a stop, a tick or an advance may be ignored. */
 #if defined(__GNUC__) || defined(__clang__)
 #define TIMERS_CHECKED __attribute__((warn_unused_result))
 #else
@@ -189,7 +227,8 @@ void timers_free(struct timers *t);
  * already among them. While fewer are held, a start then allocates nothing and does not return
  * TIMERS_NO_MEMORY, whatever was started, stopped and taken before. The timers and the clock don't change.
  * Takes about 64 bytes for each timer, and time for each: it may move those that are held. The memory is
- * kept until timers_free, also what was allocated before a failure. Room that is there already costs nothing.
+ * kept until timers_free, also what was allocated before a failure. Room that an earlier call made costs
+ * nothing.
  * TIMERS_NO_MEMORY is also returned if `most` is above some 4.29 billion.
  * TIMERS_NOT_OPEN, TIMERS_NO_MEMORY. */
 TIMERS_CHECKED
@@ -241,7 +280,7 @@ enum timers_status timers_look(const struct timers *t, struct timer_handle handl
  * `*cursor` past it and returns true. At the end, or if `t` is not open, it returns false and writes nothing.
  * Between two calls timers may be started, stopped, restarted and taken, and ticks may pass: one that is
  * held all the time, under one handle, is found exactly once. A whole iteration takes time for the most
- * timers that were ever held at once. */
+ * timers that were ever held at once, or that timers_reserve made room for. */
 bool timers_each(const struct timers *t, size_t *cursor, struct timer_handle *handle,
                  struct timer_expired *out);
 
@@ -306,7 +345,7 @@ static inline const char *timers_message(enum timers_status status)
 	case TIMERS_NO_MEMORY: return "out of memory";
 	case TIMERS_DUE: return "an expired timer was not yet taken";
 	case TIMERS_NOT_PENDING: return "no timer has this handle";
-	case TIMERS_ZERO_INTERVAL: return "nothing is left of the interval";
+	case TIMERS_ZERO_INTERVAL: return "the interval is 0";
 	case TIMERS_TOO_LATE: return "after the last tick";
 	case TIMERS_SERIALS_SPENT: return "every serial was used";
 	case TIMERS_CLOCK_END: return "the clock is at its last tick";

@@ -131,7 +131,8 @@ public:
 		return whole == ticks::max() ? whole : whole + ticks(1);
 	}
 
-	/* timers_reserve: room for `most` timers at once. Throws error: TIMERS_NOT_OPEN; std::bad_alloc. */
+	/* timers_reserve: room for `most` timers at once. While fewer are held, no start throws std::bad_alloc.
+	 * Throws error: TIMERS_NOT_OPEN; std::bad_alloc. */
 	void reserve(std::size_t most) { check(timers_reserve(&raw_, most)); }
 
 	/* timers_start. Throws error: TIMERS_NOT_OPEN, TIMERS_ZERO_INTERVAL (of 0 or less), TIMERS_TOO_LATE,
@@ -144,7 +145,8 @@ public:
 		return handle(started);
 	}
 
-	/* timers_start_at: the deadline is a tick after now(). Throws as start. */
+	/* timers_start_at. If the deadline is not after now(), the timer is due at once: it is taken after those
+	 * that have expired already. Throws as start, except TIMERS_ZERO_INTERVAL. */
 	handle start_at(ticks deadline, Action action)
 	{
 		timer_handle started;
@@ -163,7 +165,7 @@ public:
 		});
 	}
 
-	/* timers_restart_at, as restart. */
+	/* timers_restart_at, as restart. The deadline is one of start_at. */
 	[[nodiscard]] bool restart_at(handle &of, ticks deadline, Action action)
 	{
 		return restarted(of, [&](timer_handle *to) {
@@ -223,9 +225,10 @@ public:
 	}
 
 	/* Passes the ticks up to `real_time`, and calls run(expired) for each timer that expires on the way. It
-	 * takes them one at a time, so `run` may start, stop and restart any. Throws as tick (TIMERS_CLOCK_END
-	 * once the last tick is before `real_time`), and what `run` throws: that timer is taken, and a further
-	 * call continues. */
+	 * takes them one at a time, so `run` may start, stop and restart any. It returns only once nothing is due:
+	 * a `run` that always starts a timer which is due at once keeps it from returning. Throws as tick
+	 * (TIMERS_CLOCK_END once the last tick is before `real_time`), and what `run` throws: that timer is taken,
+	 * and a further call continues. */
 	template <class Run>
 	void catch_up(ticks real_time, Run &&run)
 	{

@@ -20,7 +20,7 @@ WIDE, CLOCK = 0, 1
 NEVER = 2**64 - 1
 MESSAGES = [
     "done", "no timers are held", "timers are held already", "no such table", "out of memory",
-    "an expired timer was not yet taken", "no timer has this handle", "nothing is left of the interval",
+    "an expired timer was not yet taken", "no timer has this handle", "the interval is 0",
     "after the last tick", "every serial was used", "the clock is at its last tick",
 ]
 
@@ -124,7 +124,7 @@ class Timers:
         self.close()
 
     def reserve(self, most):
-        """Makes room for this many timers at once: starts then need no memory while fewer are held."""
+        """Makes room for this many timers at once: no start fails for memory while fewer are held."""
         self._do("reserve", word(most))
 
     def start(self, interval, action):
@@ -134,7 +134,10 @@ class Timers:
         return handle
 
     def start_at(self, deadline, action):
-        """Starts a timer that expires at this tick, and returns its handle."""
+        """Starts a timer that expires at this tick, and returns its handle.
+
+        One that is not after now is due at once: it is taken after those that have expired already.
+        """
         handle = Handle()
         self._do("start_at", word(deadline), word(action), byref(handle))
         return handle
@@ -152,7 +155,7 @@ class Timers:
         return restarted
 
     def restart_at(self, handle, deadline, action):
-        """The same, for a timer that expires at this tick."""
+        """The same, for a timer that expires at this tick, or at once, as `start_at`."""
         restarted = Handle()
         self._do("restart_at", handle, word(deadline), word(action), byref(restarted))
         return restarted
@@ -173,7 +176,8 @@ class Timers:
     def catch_up(self, now, run):
         """Passes the ticks up to `now`, and calls run(deadline, serial, action) for each timer on the way.
 
-        They are taken one at a time: what `run` stops does not come out.
+        They are taken one at a time: what `run` stops does not come out. It returns only once nothing is due:
+        a `run` that always starts a timer which is due at once keeps it from returning.
         """
         now, passed = word(now), c_uint64()
         while True:
@@ -206,6 +210,14 @@ class Timers:
             most -= passed.value
             out.extend(self.expired())
         return out
+
+    def tick(self):
+        """Passes one tick. What expires then waits to be taken."""
+        self._do("tick")
+
+    def has_due(self):
+        """Whether an expired timer was not yet taken."""
+        return self._call["has_due"](self._held)
 
     def now(self):
         """The present tick."""

@@ -6,7 +6,8 @@ import copy
 import random
 import sys
 
-from timers import CLOCK, CLOCK_END, NOT_OPEN, NOT_PENDING, OK, TOO_LATE, ZERO_INTERVAL, Timers, TimersError
+from timers import (CLOCK, CLOCK_END, DUE, NO_MEMORY, NOT_OPEN, NOT_PENDING, OK, TOO_LATE, ZERO_INTERVAL, Timers,
+                    TimersError)
 
 
 def refused(call, *arguments):
@@ -19,27 +20,31 @@ def refused(call, *arguments):
 
 def compare(library, calls=20000):
     rng = random.Random(5)
-    pending, now = {}, 1000
+    held, now = {}, 1000
     with Timers(library, first_tick=now) as timers:
         for _ in range(calls):
-            which = rng.randrange(5)
-            if which < 2 or (which < 4 and not pending):
-                interval, action = 1 + rng.randrange(3000), rng.getrandbits(64)
-                handle = timers.start_at(now + interval, action) if which else timers.start(interval, action)
-                assert timers.look(handle) == (now + interval, handle.serial, action)
-                pending[handle.serial] = (now + interval, action, handle)
+            which, interval = rng.randrange(5), 1 + rng.randrange(3000)
+            tick = now + interval if rng.randrange(4) else rng.randrange(now + 1)
+            tick_due = max(tick, now)  # at once, if it is not after now
+            if rng.randrange(64) == 0:
+                timers.reserve(rng.randrange(1000))
+            if which < 2 or (which < 4 and not held):
+                action = rng.getrandbits(64)
+                handle = timers.start_at(tick, action) if which else timers.start(interval, action)
+                deadline = tick_due if which else now + interval
+                assert timers.look(handle) == (deadline, handle.serial, action)
+                held[handle.serial] = (deadline, action, handle)
             elif which < 4:
-                serial = rng.choice(list(pending)[:50])
-                _, action, handle = pending.pop(serial)
+                serial = rng.choice(list(held)[:50])
+                _, action, handle = held.pop(serial)
                 if which == 2:
                     assert timers.stop(handle) == action
+                elif rng.randrange(2):
+                    restarted = timers.restart_at(handle, tick, action)
+                    held[restarted.serial] = (tick_due, action, restarted)
                 else:
-                    interval = 1 + rng.randrange(3000)
-                    if rng.randrange(2):
-                        restarted = timers.restart_at(handle, now + interval, action)
-                    else:
-                        restarted = timers.restart(handle, interval, action)
-                    pending[restarted.serial] = (now + interval, action, restarted)
+                    restarted = timers.restart(handle, interval, action)
+                    held[restarted.serial] = (now + interval, action, restarted)
                 assert refused(timers.stop, handle) == NOT_PENDING
             else:
                 most = rng.randrange(200)
@@ -49,17 +54,21 @@ def compare(library, calls=20000):
                 else:
                     timers.catch_up(now + most, lambda *timer: got.append(timer))
                 now += most
-                want = sorted((d, s, a) for s, (d, a, _) in pending.items() if d <= now)
+                want = sorted((d, s, a) for s, (d, a, _) in held.items() if d <= now)
                 assert got == want, (got, want)
                 for _, serial, _ in got:
-                    del pending[serial]
-            first = min((d for d, _, _ in pending.values()), default=None)
+                    del held[serial]
+            due = sum(d == now for d, _, _ in held.values())
+            first = min((d for d, _, _ in held.values()), default=None)
             wakeup = timers.wakeup()
-            assert wakeup is None if first is None else now < wakeup <= first
-            assert timers.next() == first and timers
-            assert timers.now() == now and len(timers) == len(pending)
+            if due:
+                assert wakeup == now and refused(timers.tick) == DUE
+            else:
+                assert wakeup is None if first is None else now < wakeup <= first
+            assert timers.next() == first and timers.has_due() == (due > 0) and timers
+            assert timers.now() == now and len(timers) == len(held) - due
         visited = {handle.serial: (deadline, action) for handle, (deadline, _, action) in timers}
-        assert visited == {serial: (deadline, action) for serial, (deadline, action, _) in pending.items()}
+        assert visited == {serial: (deadline, action) for serial, (deadline, action, _) in held.items()}
     print(f"{calls} calls from Python agree; tick {now}")
 
 
@@ -86,7 +95,9 @@ def meet_the_edges(library):
             assert raises(OverflowError, timers.catch_up, value, print)
             assert raises(OverflowError, lambda value=value: Timers(library, first_tick=value))
         assert raises(OverflowError, lambda: Timers(library, table=2**32))
-        assert refused(timers.start, 0, 1) == refused(timers.start_at, timers.now(), 1) == ZERO_INTERVAL
+        assert raises(OverflowError, timers.reserve, 2**64) and raises(TypeError, timers.reserve, 1.0)
+        assert refused(timers.reserve, 2**64 - 1) == NO_MEMORY
+        assert refused(timers.start, 0, 1) == refused(timers.restart, handle, 0, 1) == ZERO_INTERVAL
         assert refused(timers.start, 2, 1) == TOO_LATE
         assert raises(TypeError, copy.copy, timers) and raises(TypeError, copy.deepcopy, timers)
         assert timers.look(handle) == (2**60 - 1, 1, 2**64 - 1) and len(timers) == 1
@@ -111,6 +122,16 @@ def stop_what_expired(library):
         assert ran == [(5, 0), (5, 2)] and timers.now() == 9 and timers.expire() is None
 
 
+def start_what_is_due_at_once(library):
+    """A tick that is not after now is due at once, behind what has expired already."""
+    with Timers(library, first_tick=7) as timers:
+        first, second = timers.start_at(7, 1), timers.start_at(0, 2)
+        assert timers.look(second) == (7, 2, 2) and timers.has_due() and len(timers) == 0
+        last = timers.restart_at(first, 3, 3)
+        assert timers.expire() == (7, 2, 2) and timers.expire() == (7, last.serial, 3)
+        assert timers.expire() is None and not timers.has_due() and timers.now() == 7
+
+
 def come_to_the_last_tick(library):
     """Nothing that expired is lost at the end of the clock, and what is refused there has taken nothing."""
     last = 8639999
@@ -120,12 +141,13 @@ def come_to_the_last_tick(library):
         assert timers.advance(100) == [(last - 4, first.serial, 7), (last, second.serial, 8)]
         assert timers.now() == last and refused(timers.advance, 1) == CLOCK_END
         assert timers.advance(0) == [] and timers.now() == last
+        assert refused(timers.start_at, last, 1) == refused(timers.start_at, 0, 1) == TOO_LATE
     with Timers(library, CLOCK, last - 9) as timers:
         assert timers.advance(100) == [] and timers.now() == last
         assert refused(timers.advance, 100) == CLOCK_END
     with Timers(library, CLOCK, last - 1) as timers:
         handle = timers.start(1, 6)
-        assert timers._call["tick"](timers._held) == OK
+        timers.tick()
         assert timers.advance(1) == [(last, handle.serial, 6)]
         assert refused(timers.advance, 1) == CLOCK_END
 
@@ -151,5 +173,6 @@ if __name__ == "__main__":
     compare(library)
     meet_the_edges(library)
     stop_what_expired(library)
+    start_what_is_due_at_once(library)
     come_to_the_last_tick(library)
     count_the_moves(library)

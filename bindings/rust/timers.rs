@@ -49,7 +49,7 @@ pub enum Error {
     Due,
     /// No timer has this handle: it was stopped, restarted or taken.
     NotPending,
-    /// The interval is 0, or the tick is not after the present one.
+    /// The interval is 0.
     ZeroInterval,
     /// The deadline, or the first tick, is after the last tick.
     TooLate,
@@ -83,7 +83,7 @@ impl fmt::Display for Error {
             Error::NoMemory => "out of memory",
             Error::Due => "an expired timer was not yet taken",
             Error::NotPending => "no timer has this handle",
-            Error::ZeroInterval => "nothing is left of the interval",
+            Error::ZeroInterval => "the interval is 0",
             Error::TooLate => "after the last tick",
             Error::SerialsSpent => "every serial was used",
             Error::ClockEnd => "the clock is at its last tick",
@@ -217,7 +217,7 @@ impl Timers {
         Ok(Timers { held })
     }
 
-    /// Makes room for `most` timers at once: starts then need no memory while fewer are held. `NoMemory`.
+    /// Makes room for `most` timers at once: no start fails for memory while fewer are held. `NoMemory`.
     pub fn reserve(&mut self, most: usize) -> Result<(), Error> {
         Error::of(unsafe { timers_reserve(&mut self.held, most) })
     }
@@ -228,7 +228,8 @@ impl Timers {
         written(|handle| unsafe { timers_start(&mut self.held, interval, action, handle) })
     }
 
-    /// Starts a timer that expires at the tick `deadline`, which is after now. As `start`.
+    /// Starts a timer that expires at the tick `deadline`. If that is not after now, the timer is due at once: it
+    /// is taken after those that have expired already. `TooLate`, `SerialsSpent`, `NoMemory`.
     pub fn start_at(&mut self, deadline: u64, action: u64) -> Result<Handle, Error> {
         written(|handle| unsafe { timers_start_at(&mut self.held, deadline, action, handle) })
     }
@@ -239,7 +240,8 @@ impl Timers {
         written(|restarted| unsafe { timers_restart(&mut self.held, handle, interval, action, restarted) })
     }
 
-    /// `restart`, for a timer that expires at the tick `deadline`.
+    /// `restart`, for a timer that expires at the tick `deadline`, or at once, as `start_at`. `NotPending`,
+    /// `TooLate`, `SerialsSpent`.
     pub fn restart_at(&mut self, handle: Handle, deadline: u64, action: u64) -> Result<Handle, Error> {
         written(|restarted| unsafe { timers_restart_at(&mut self.held, handle, deadline, action, restarted) })
     }
@@ -295,7 +297,9 @@ impl Timers {
     }
 
     /// Passes the ticks up to `now`, and calls `run` for each timer that expires on the way. It takes them one at
-    /// a time: what `run` stops does not come out. `ClockEnd` once the last tick is before `now`.
+    /// a time: what `run` stops does not come out. It returns only once nothing is due: a `run` that always
+    /// starts a timer which is due at once keeps it from returning. `ClockEnd` once the last tick is before
+    /// `now`.
     pub fn catch_up(&mut self, now: u64, mut run: impl FnMut(&mut Timers, Timer)) -> Result<(), Error> {
         loop {
             while let Some(timer) = self.expire() {

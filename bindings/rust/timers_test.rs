@@ -18,39 +18,44 @@ impl Random {
 
 fn compare(calls: u32) {
     let mut random = Random(11);
-    let mut pending: BTreeMap<(u64, u64), u64> = BTreeMap::new();
+    let mut held: BTreeMap<(u64, u64), u64> = BTreeMap::new();
     let mut handles: Vec<(Handle, u64)> = Vec::new(); // dead ones too, with their deadlines
     let mut timers = Timers::new(Table::Wide, 1000).unwrap();
     for _ in 0..calls {
         let (now, interval, action) = (timers.now(), 1 + random.below(3000), random.below(1 << 31));
+        let tick = if random.below(4) > 0 { now + interval } else { random.below(now + 1) };
+        let tick_due = tick.max(now); // at once, if it is not after now
+        if random.below(64) == 0 {
+            timers.reserve(random.below(1000) as usize).unwrap();
+        }
         match random.below(5) {
             which @ 0..2 => {
-                let handle = match which {
-                    0 => timers.start(interval, action),
-                    _ => timers.start_at(now + interval, action),
+                let (handle, deadline) = match which {
+                    0 => (timers.start(interval, action), now + interval),
+                    _ => (timers.start_at(tick, action), tick_due),
                 };
                 let handle = handle.unwrap();
-                pending.insert((now + interval, handle.serial()), action);
-                handles.push((handle, now + interval));
+                held.insert((deadline, handle.serial()), action);
+                handles.push((handle, deadline));
             }
             which @ 2..4 if !handles.is_empty() => {
                 let at = random.below(handles.len() as u64) as usize;
                 let (handle, deadline) = handles[at];
                 let serial = handle.serial();
-                let there = pending.remove(&(deadline, serial));
+                let there = held.remove(&(deadline, serial));
                 assert_eq!(timers.look(handle), there.map(|action| Timer { deadline, serial, action }));
                 if which == 2 {
                     assert_eq!(timers.stop(handle), there);
                 } else {
-                    let restarted = match random.below(2) {
-                        0 => timers.restart(handle, interval, action),
-                        _ => timers.restart_at(handle, now + interval, action),
+                    let (restarted, deadline) = match random.below(2) {
+                        0 => (timers.restart(handle, interval, action), now + interval),
+                        _ => (timers.restart_at(handle, tick, action), tick_due),
                     };
                     assert_eq!(restarted.is_ok(), there.is_some());
                     match restarted {
                         Ok(restarted) => {
-                            pending.insert((now + interval, restarted.serial()), action);
-                            handles[at] = (restarted, now + interval);
+                            held.insert((deadline, restarted.serial()), action);
+                            handles[at] = (restarted, deadline);
                         }
                         Err(error) => assert_eq!(error, Error::NotPending),
                     }
@@ -59,23 +64,26 @@ fn compare(calls: u32) {
             _ => {
                 let until = now + random.below(200);
                 let run = |timers: &mut Timers, timer: Timer| {
-                    let (key, action) = pending.pop_first().unwrap();
+                    let (key, action) = held.pop_first().unwrap();
                     assert_eq!((key, action), ((timer.deadline, timer.serial), timer.action));
                     assert_eq!(timer.deadline, timers.now());
                 };
                 timers.catch_up(until, run).unwrap();
                 assert_eq!(timers.now(), until);
-                assert!(pending.keys().all(|&(deadline, _)| deadline > until));
+                assert!(held.keys().all(|&(deadline, _)| deadline > until));
             }
         }
-        let first = pending.keys().next().map(|&(deadline, _)| deadline);
-        assert_eq!((timers.pending(), timers.next_deadline()), (pending.len(), first));
+        let now = timers.now();
+        let first = held.keys().next().map(|&(deadline, _)| deadline);
+        let due = held.range(..(now + 1, 0)).count();
+        assert_eq!((timers.pending(), timers.next_deadline()), (held.len() - due, first));
+        assert_eq!(timers.has_due(), due > 0);
         let wakeup = timers.wakeup();
         assert_eq!(wakeup.is_some(), first.is_some());
-        assert!(wakeup <= first && wakeup.is_none_or(|tick| timers.now() < tick));
+        assert!(wakeup <= first && wakeup.is_none_or(|tick| if due > 0 { tick == now } else { tick > now }));
     }
     let visited: BTreeMap<_, _> = timers.iter().map(|(h, t)| ((t.deadline, h.serial()), t.action)).collect();
-    assert_eq!((timers.iter().count(), visited), (pending.len(), pending));
+    assert_eq!((timers.iter().count(), visited), (held.len(), held));
     println!("{calls} calls from Rust agree");
 }
 
@@ -86,8 +94,17 @@ fn meet_the_edges() {
     let mut timers = Timers::new(Table::Clock, LAST_OF_CLOCK - 9).unwrap();
     assert_eq!(timers.start(0, 1), Err(Error::ZeroInterval));
     assert_eq!(timers.start(10, 1), Err(Error::TooLate));
-    assert_eq!(timers.start_at(timers.now(), 1), Err(Error::ZeroInterval));
+    assert_eq!(timers.reserve(usize::MAX), Err(Error::NoMemory));
     assert_eq!((timers.wakeup(), timers.next_deadline(), timers.expire()), (None, None, None));
+
+    // What is due at once goes to the back: the first is restarted, so that the second comes out before it.
+    let (first, second) = (timers.start_at(timers.now(), 1).unwrap(), timers.start_at(0, 2).unwrap());
+    let first = timers.restart_at(first, 3, 1).unwrap();
+    assert_eq!((timers.pending(), timers.has_due(), timers.next_deadline()), (0, true, Some(timers.now())));
+    for handle in [second, first] {
+        assert_eq!(timers.expire().map(|t| (t.deadline, t.serial)), Some((timers.now(), handle.serial())));
+    }
+    assert!(!timers.has_due());
 
     let handles: Vec<Handle> = (0..4).map(|action| timers.start(3, action).unwrap()).collect();
     assert_eq!(timers.advance(100), Ok(3));
@@ -115,6 +132,8 @@ fn meet_the_edges() {
             (end, timers.now(), timers.tick()),
             (Err(Error::ClockEnd), LAST_OF_CLOCK, Err(Error::ClockEnd))
         );
+        assert_eq!(timers.start_at(LAST_OF_CLOCK, 1), Err(Error::TooLate));
+        assert_eq!(timers.start_at(0, 1), Err(Error::TooLate));
         (ran, first.serial())
     });
     let (ran, first) = ran.join().unwrap();

@@ -1,5 +1,6 @@
-/* Random calls of timers.hpp against a sorted map, of deadline and serial to action. Then its edges.
+/* Random calls of timers.hpp against a sorted map, of deadline and serial to action. Then its edges and its memory.
  * It is linked with --wrap=malloc,--wrap=realloc, so that it can refuse memory. */
+#include <algorithm>
 #include <chrono>
 #include <cstdint>
 #include <cstdlib>
@@ -63,13 +64,17 @@ static void compare(unsigned calls)
 	Timers timers(TIMERS_WIDE, 1000ms);
 	for (unsigned i = 0; i < calls; i++) {
 		const ticks now = timers.now(), interval(1 + random() % 3000);
+		const ticks tick = random() % 4 ? now + interval : ticks(random() % (now.count() + 1));
+		const ticks tick_due = std::max(tick, now);          /* at once, if it is not after now */
 		const int *action = &numbers[random() % 100];
 		const auto which = random() % 5;
+		if (random() % 64 == 0)
+			timers.reserve(random() % 1000);
 		if (which < 2 || handles.empty()) {
-			const timing::handle h =
-			    which ? timers.start(interval, action) : timers.start_at(now + interval, action);
-			pending[{ now + interval, h.serial() }] = action;
-			handles.push_back({ h, now + interval });
+			const timing::handle h = which ? timers.start(interval, action) : timers.start_at(tick, action);
+			const ticks deadline = which ? now + interval : tick_due;
+			pending[{ deadline, h.serial() }] = action;
+			handles.push_back({ h, deadline });
 		} else if (which < 4) {
 			auto &[h, deadline] = handles[random() % handles.size()];
 			const auto found = pending.find({ deadline, h.serial() });
@@ -82,11 +87,11 @@ static void compare(unsigned calls)
 				HOLDS(stopped.has_value() == there && (!there || *stopped == found->second));
 			} else {
 				const timing::handle old = h;
-				const bool restarted = random() % 2 ? timers.restart(h, interval, action)
-				                                    : timers.restart_at(h, now + interval, action);
+				const bool at_tick = random() % 2;
+				const bool restarted = at_tick ? timers.restart_at(h, tick, action) : timers.restart(h, interval, action);
 				HOLDS(restarted == there && (h == old) != there);
 				if (there) {
-					deadline = now + interval;
+					deadline = at_tick ? tick_due : now + interval;
 					pending[{ deadline, h.serial() }] = action;
 				}
 			}
@@ -103,10 +108,12 @@ static void compare(unsigned calls)
 			HOLDS(timers.now() == until && (pending.empty() || pending.begin()->first.first > until));
 		}
 		const auto next = timers.next(), wakeup = timers.wakeup();
-		HOLDS(timers.size() == pending.size());
+		const auto later = pending.lower_bound({ timers.now() + ticks(1), 0 });
+		HOLDS(timers.size() == static_cast<std::size_t>(std::distance(later, pending.end())));
+		HOLDS(timers.has_due() == (later != pending.begin()));
 		HOLDS(next.has_value() == !pending.empty() && wakeup.has_value() == !pending.empty());
 		HOLDS(!next || *next == pending.begin()->first.first);
-		HOLDS(!next || (timers.now() < *wakeup && *wakeup <= *next));
+		HOLDS(!next || (timers.has_due() ? *wakeup == timers.now() : timers.now() < *wakeup && *wakeup <= *next));
 	}
 	timers.each([&](timing::handle h, const Timers::expired &timer) {
 		HOLDS(h.serial() == timer.serial && pending.at({ timer.deadline, timer.serial }) == timer.action);
@@ -140,9 +147,16 @@ static void meet_the_edges()
 	HOLDS(refusal([&] { timers.start(0s, &number); }) == TIMERS_ZERO_INTERVAL);
 	HOLDS(refusal([&] { timers.start(-1s, &number); }) == TIMERS_ZERO_INTERVAL);
 	HOLDS(refusal([&] { timers.start(10ms, &number); }) == TIMERS_TOO_LATE);
-	HOLDS(refusal([&] { timers.start_at(timers.now(), &number); }) == TIMERS_ZERO_INTERVAL);
 	HOLDS(refusal([&] { Timers(TIMERS_CLOCK, ticks(8640000)); }) == TIMERS_TOO_LATE);
 	HOLDS(!timers.stop(timing::handle()) && !timers.look(timing::handle()) && !timers.next());
+
+	/* What is due at once goes to the back: the first is restarted, so that the second comes out before it. */
+	timing::handle once = timers.start_at(timers.now(), nullptr);
+	const timing::handle before = timers.start_at(ticks(3), &number);
+	HOLDS(timers.restart_at(once, ticks(0), nullptr));
+	HOLDS(timers.has_due() && timers.size() == 0 && timers.next() == timers.now());
+	HOLDS(timers.look(before)->deadline == timers.now() && timers.expire()->serial == before.serial());
+	HOLDS(timers.expire()->serial == once.serial() && !timers.has_due());
 
 	timing::handle first = timers.start(3ms, &number), second = timers.start(3ms, nullptr);
 	HOLDS(timers.advance(100ms) == 3ms && timers.has_due() && refusal([&] { timers.tick(); }) == TIMERS_DUE);
@@ -163,6 +177,8 @@ static void meet_the_edges()
 	HOLDS(timers.stop(first) == &number);
 	HOLDS(refusal([&] { timers.catch_up(ticks(8640000), [](const auto &) {}); }) == TIMERS_CLOCK_END);
 	HOLDS(timers.now().count() == 8639999);
+	HOLDS(refusal([&] { timers.start_at(timers.now(), &number); }) == TIMERS_TOO_LATE);
+	HOLDS(refusal([&] { timers.start_at(ticks(0), &number); }) == TIMERS_TOO_LATE);
 
 	/* A lambda with one pointer is an action. */
 	int runs = 0;
@@ -187,20 +203,29 @@ static void count_the_moves()
 	HOLDS(counts.starts == 2 && counts.moves == 1 && counts.visits == 3);
 }
 
+/* Whether this call is refused for memory, while none is given out. */
+template <class Call>
+static bool lacks_memory(Call call)
+{
+	bool thrown = false;
+	refusing = true;
+	try {
+		call();
+	} catch (const std::bad_alloc &) {
+		thrown = true;
+	}
+	refusing = false;
+	return thrown;
+}
+
 /* How many of 1,000 starts memory is refused to, while none is given out. */
 static unsigned refused_starts(Timers &timers)
 {
 	unsigned refused = 0;
-	refusing = true;
 	for (int i = 0; i < 1000; i++) {
 		const std::size_t before = timers.size();
-		try {
-			timers.start(1s, nullptr);
-		} catch (const std::bad_alloc &) {
-			refused += timers.size() == before;
-		}
+		refused += lacks_memory([&] { timers.start(1s, nullptr); }) && timers.size() == before;
 	}
-	refusing = false;
 	return refused;
 }
 
@@ -211,15 +236,20 @@ static void run_out_of_memory()
 	HOLDS(refused > 0 && timers.size() == 1000 - refused);
 	timers.start(1s, nullptr);
 	HOLDS(timers.size() == 1001 - refused);
-	bool thrown = false;
-	refusing = true;
-	try {
-		Timers others;
-	} catch (const std::bad_alloc &) {
-		thrown = true;
-	}
-	refusing = false;
-	HOLDS(thrown);
+	HOLDS(lacks_memory([] { Timers others; }));
+}
+
+/* While fewer timers are held than room was made for, no start is refused memory. */
+static void make_room()
+{
+	Timers timers;
+	timers.reserve(1000);
+	HOLDS(refused_starts(timers) == 0 && timers.size() == 1000);
+	HOLDS(lacks_memory([&] { timers.reserve(1000000); }) && timers.size() == 1000);
+	while (!timers.has_due())
+		timers.advance(ticks::max());
+	HOLDS(timers.expire());
+	HOLDS(!lacks_memory([&] { timers.start_at(timers.now(), nullptr); }));
 }
 
 int main()
@@ -229,4 +259,5 @@ int main()
 	meet_the_edges();
 	count_the_moves();
 	run_out_of_memory();
+	make_room();
 }

@@ -73,17 +73,19 @@ static void run(uint64_t job)
 		start(job);
 }
 
-/* Passes the ticks up to `now`, and runs what expired at each on the way. */
+/* Passes the ticks up to `now`, and runs what expires at each on the way: first what has expired already. */
 static void catch_up(uint64_t now)
 {
-	while (timers_now(&timers) < now) {
-		uint64_t passed;
-		check(timers_advance(&timers, now - timers_now(&timers), &passed), "timers_advance");
-		struct timer_expired expired;
+	struct timer_expired expired;
+	uint64_t passed;
+	for (;;) {
 		while (timers_expire(&timers, &expired)) {
 			printf("%3" PRIu64 " ms: %s\n", expired.deadline, jobs[expired.action].name);
 			run(expired.action);        /* it may start, restart and stop timers while others still wait */
 		}
+		if (timers_now(&timers) >= now)
+			return;
+		check(timers_advance(&timers, now - timers_now(&timers), &passed), "timers_advance");
 	}
 }
 

@@ -2,8 +2,7 @@
  *
  *     cc idle_server.c $(pkg-config --cflags --libs timers) && ./a.out
  *
- * The connections are socket pairs, whose other ends the program plays itself: each client has a timer too,
- * that says when it writes. A tick is a millisecond. The program ends when no connection is left. */
+ * The program plays the clients too, each with a timer that says when it writes. A tick is a millisecond. */
 #define _POSIX_C_SOURCE 200809L
 #include <errno.h>
 #include <limits.h>
@@ -136,14 +135,15 @@ static void catch_up(uint64_t now)
 {
 	struct timer_expired expired;
 	uint64_t passed;
-	while (timers_now(&timers) < now) {
-		check(timers_advance(&timers, now - timers_now(&timers), &passed), "advance");
-		while (timers_expire(&timers, &expired)) {
+	for (;;) {
+		while (timers_expire(&timers, &expired))
 			if (expired.action % 2)
 				play_client(&connections[expired.action / 2], expired.deadline);
 			else
 				time_out(&connections[expired.action / 2]);
-		}
+		if (timers_now(&timers) >= now)
+			return;
+		check(timers_advance(&timers, now - timers_now(&timers), &passed), "advance");
 	}
 }
 

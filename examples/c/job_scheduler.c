@@ -87,12 +87,14 @@ static void begin_anew(void)
 /* Passes the ticks up to `tick`, and runs what is due at each on the way. */
 static void catch_up(uint64_t tick)
 {
-	while (timers_now(&timers) < tick) {
-		uint64_t passed;
-		check(timers_advance(&timers, tick - timers_now(&timers), &passed), "timers_advance");
-		struct timer_expired expired;
+	struct timer_expired expired;
+	uint64_t passed;
+	for (;;) {
 		while (timers_expire(&timers, &expired))
 			run((struct job *)(uintptr_t)expired.action);
+		if (timers_now(&timers) >= tick)
+			return;
+		check(timers_advance(&timers, tick - timers_now(&timers), &passed), "timers_advance");
 	}
 }
 

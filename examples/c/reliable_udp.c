@@ -20,9 +20,7 @@
 static const char text[] = "Timers start, stop and expire in constant time.";
 enum { PACKETS = sizeof text - 1, WINDOW = 8, FIRST_WAIT = 4, LONGEST_WAIT = 32, MAX_ATTEMPTS = 40 };
 
-struct packet {
-	unsigned number, attempt, character;         /* an acknowledgement repeats all three */
-};
+struct packet { unsigned number, attempt, character; };    /* an acknowledgement repeats all three */
 static struct sent {
 	unsigned attempts, acknowledged;             /* which attempt was acknowledged, or 0 */
 	uint64_t first_at, wait, waited;             /* when it was first sent, its wait, the waits before */
@@ -145,10 +143,12 @@ static void catch_up(uint64_t now)
 {
 	struct timer_expired expired;
 	uint64_t passed;
-	while (timers_now(&timers) < now) {
-		check(timers_advance(&timers, now - timers_now(&timers), &passed), "timers_advance");
+	for (;;) {
 		while (timers_expire(&timers, &expired))
 			attempt_again((unsigned)expired.action);
+		if (timers_now(&timers) >= now)
+			return;
+		check(timers_advance(&timers, now - timers_now(&timers), &passed), "timers_advance");
 	}
 }
 
