@@ -1,9 +1,9 @@
 -- Text that grows by indented lines.
 use Rattle.std.proofs.Common.{◌≡◌, ℕ, ◌==◌, true, List, [], ◌∷◌, ◌++◌, decimal, refl, sym, ap, ◌∙◌, append_assoc, append-nil}
 use Rattle.std.specs.Prelude.{Result, Ok, Err, OnOk}
-use Rattle.timer_script.specs.Cutting.{HasNoFeed}
+use Rattle.timer_script.specs.Splitter.{HasNoFeed}
 use Rattle.timer_script.specs.Decorator.{HasGrown}
-use Rattle.timer_script.proofs.CuttingLemmas.{no_feed-append}
+use Rattle.timer_script.proofs.SplitterLemmas.{no_feed-append}
 use Rattle.timer_commands.specs.Indented.{AddsIndented, HasGrownByIndented, HasGrownByFront}
 use Rattle.timer_commands.specs.IndentedLaws.{is_bare, bare, decimal_bare, adds_nothing, adds_join}
 

@@ -10,7 +10,7 @@ use Rattle.timer_script.specs.declared.watched.Watched.{Watched}
 use Rattle.timer_commands.specs.Options.{config_of, scheme_last, IsPlayable, IsRefused}
 use Rattle.timer_commands.specs.Indented.{AddsIndented}
 use Rattle.timer_script.specs.Peer.{PeerState}
-use Rattle.timer_script.specs.Serving.{HasServedBy}
+use Rattle.timer_script.specs.Service.{HasServedBy}
 use Rattle.timer_script.specs.Streams.{streams_state}
 
 -- what showing did: what serving does, with indented lines added to the answers

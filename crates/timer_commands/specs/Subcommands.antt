@@ -4,10 +4,10 @@ use Rattle.timer_facility.specs.Opened.{opened}
 use Rattle.timer_script.specs.declared.fault.RunFault.{RunFault}
 use Rattle.timer_script.specs.declared.fault.ServeFault.{ServeFault}
 use Rattle.timer_script.specs.declared.watched.Watched.{Watched}
-use Rattle.timer_script.specs.Running.{HasRun}
-use Rattle.timer_script.specs.Checking.{HasChecked}
-use Rattle.timer_script.specs.Serving.{HasServed}
-use Rattle.timer_script.specs.Forgiving.{HasServedGood}
+use Rattle.timer_script.specs.ScriptRun.{HasRun}
+use Rattle.timer_script.specs.ScriptReport.{HasChecked}
+use Rattle.timer_script.specs.Service.{HasServed}
+use Rattle.timer_script.specs.GoodLines.{HasServedGood}
 use Rattle.timer_script.specs.Streams.{streams_state}
 use Rattle.timer_commands.specs.declared.options.RunOptions.{RunOptions}
 use Rattle.timer_commands.specs.declared.options.OptionsFault.{OptionsFault}
@@ -77,8 +77,8 @@ pub record HasServedGoodLines {R S F : Type 0} (options : RunOptions) (remaining
       × HasServedGoodStreams options remaining contents reports reader reader' writer writer' faults faults'
       (Ok true)
   -- 1: some line was bad, the bad ones were reported, and the whole text of the others was written; or
-  -- serving failed, and `told` is the writer of reports before the failure's own report, of which no clause
-  -- tells
+  -- serving failed, and `told` is the writer of reports before the failure's own report, which no clause
+  -- describes
   pub failed : status ≡ 1 → IsPlayable options
       × (HasServedGoodStreams options remaining contents reports reader reader' writer writer' faults faults'
       (Ok false)

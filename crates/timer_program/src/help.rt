@@ -21,7 +21,7 @@ pub static SHOW_USAGE: &str = "timers show [OPTIONS] < FILE";
 
 pub static PLAY_ABOUT: &str = "Plays the script on standard input and writes one line per result";
 
-/// What stands below the help of the program.
+/// The text below the help of the program.
 pub static SCRIPTS: &str = "\
 With no arguments, `timers` is `timers play`.
 
@@ -55,7 +55,7 @@ it was, 1 after an error, which is reported in one line on standard error, and 2
 the arguments are refused. `timers serve` answers each line as it comes instead.
 `man timers` and docs/formats.md list every line of scripts and output.";
 
-/// What stands below the help of `play`.
+/// The text below the help of `play`.
 pub static SCHEMES: &str = "\
 Schemes:
   plain   one list of timers, which each tick goes through
@@ -79,7 +79,7 @@ all of it.";
 pub static SERVE_ABOUT: &str =
     "Answers each line of standard input as soon as it is complete, until the input ends";
 
-/// What stands below the help of `serve`.
+/// The text below the help of `serve`.
 pub static STREAMS: &str = "\
 A stream has the lines of a script, which `timers help` describes, and they have the
 same answers. Each line is answered as soon as its line feed has come: before more is
@@ -108,7 +108,7 @@ written then.";
 pub static SHOW_ABOUT: &str =
     "Answers lines as `serve` does, and shows after each where the pending timers stand";
 
-/// What stands below the help of `show`.
+/// The text below the help of `show`.
 pub static PLACEMENTS: &str = "\
 A stream and its answers are those of `timers serve`. After the answers to each line stand
 indented lines: the tick, and one line for each bucket that has timers, with their serials
@@ -139,7 +139,7 @@ from bucket to bucket.";
 pub static THREADS_ABOUT: &str =
     "Runs clients in threads of their own, beside one facility, and writes a line for each";
 
-/// What stands below the help of `threads`.
+/// The text below the help of `threads`.
 pub static THREADS: &str = "\
 Each client starts its timers over a line of its own and reads its answers and notices;
 one thread owns the facility and serves all of them. For example, with two clients:
@@ -158,7 +158,7 @@ pub static CHECK_USAGE: &str = "timers check < FILE";
 pub static CHECK_ABOUT: &str =
     "Reports every bad line of the script on standard input, and plays nothing";
 
-/// What stands below the help of `check`.
+/// The text below the help of `check`.
 pub static CHECKS: &str = "\
 For each bad line the number of the line, the column, the field and the reason are
 written. The column is that of the first byte with which no line can begin, in bytes

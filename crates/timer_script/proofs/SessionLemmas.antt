@@ -9,7 +9,7 @@ use Rattle.timer_facility.specs.State.{FacilityState, IsSound}
 use Rattle.timer_facility.proofs.PlayedLemmas.{IsRun-none, IsRun-join, IsPlayed-run}
 use Rattle.timer_script.specs.Script.{IsInRange, IsScript, line, spelling, BeginsNoLine}
 use Rattle.timer_script.specs.Text.{out_line, end_line}
-use Rattle.timer_script.specs.Running.{IsAnswer}
+use Rattle.timer_script.specs.ScriptRun.{IsAnswer}
 use Rattle.std.proofs.lemmas.List.{take_rest}
 use Rattle.std.proofs.Math.Seq.{take-add}
 use Rattle.timer_script.specs.declared.fault.SessionFault.{SessionFault}
@@ -17,8 +17,8 @@ use Rattle.timer_script.specs.declared.fault.SessionFault.TheVariants as faults
 use Rattle.timer_script.specs.declared.stage.Stage.{Stage}
 use Rattle.timer_script.specs.declared.stage.Stage.TheVariants.{Going, Failed, Ended}
 use Rattle.timer_script.specs.Session.{SessionState, fresh, lines_of, next_line, IsStoppedAt, HasFed, IsKept, IsAnsweredSoFar, HasFailed, IsOver, HasStopped, WhyStopped, WhyNotEnded}
-use Rattle.timer_script.specs.Cutting.{IsPartial}
-use Rattle.timer_script.proofs.CuttingLemmas.{no_feed_no_line}
+use Rattle.timer_script.specs.Splitter.{IsPartial}
+use Rattle.timer_script.proofs.SplitterLemmas.{no_feed_no_line}
 
 failed_going : (stage : Stage) → stage ≡ Failed → stage ≡ Going → ⊥
 failed_going stage h k = cc
