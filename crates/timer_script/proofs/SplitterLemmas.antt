@@ -9,7 +9,7 @@ use Rattle.timer_facility.specs.declared.event.Event.{Event}
 use Rattle.timer_facility.specs.declared.event.Event.TheVariants.{Start, Stop, Restart, Ticks, Close}
 use Rattle.timer_script.specs.Script.{IsInRange, line, BeginsNoLine}
 use Rattle.timer_script.specs.declared.splitter.Ending.{Ending}
-use Rattle.timer_script.specs.declared.splitter.Ending.TheVariants.{Open, Bad}
+use Rattle.timer_script.specs.declared.splitter.Ending.TheVariants.{Bad}
 use Rattle.timer_script.specs.Splitter.{HasNoFeed, IsPartial, IsBadFront, EndsAsLine, HasHeld}
 use Rattle.std.proofs.lemmas.Option.{none-some}
 use Rattle.timer_script.specs.Lines.{line_at}
@@ -243,15 +243,4 @@ held_long old bytes new n a some within b not joined long = record {
   within = within;
   joined = joined;
   ending_is = too_long new (subst HasNoFeed (sym joined) (no_feed-take old bytes n some within a.no_feed b not)) long;
-}
-
--- bytes with no line feed
-pub held_open : (old bytes new : List ℕ) (n : ℕ) → IsPartial old → 0 < n → n ≤ length bytes → HasNoFeed (take (n - 1) bytes)
-    → (get_or bytes (n - 1) 0 ≡ 10 → ⊥)
-    → new ≡ old ++ take n bytes → length new < MAX_LINE → HasHeld old bytes n Open new
-held_open old bytes new n a some within b not joined short = record {
-  some = some;
-  within = within;
-  joined = joined;
-  ending_is = record { no_feed = subst HasNoFeed (sym joined) (no_feed-take old bytes n some within a.no_feed b not); short = short };
 }
