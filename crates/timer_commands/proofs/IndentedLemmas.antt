@@ -1,11 +1,10 @@
 -- Text that grows by indented lines.
 use Rattle.std.proofs.Common.{◌≡◌, ℕ, ◌==◌, true, List, [], ◌∷◌, ◌++◌, decimal, refl, sym, ap, ◌∙◌, append_assoc, append-nil}
 use Rattle.std.specs.Prelude.{Result, Ok, Err, OnOk}
-use Rattle.timer_script.specs.Cutting.{HasNoFeed}
-use Rattle.timer_script.specs.Decorator.{HasGrown}
-use Rattle.timer_script.proofs.CuttingLemmas.{no_feed-append}
+use Rattle.timer_script.specs.Splitter.{HasNoFeed}
+use Rattle.timer_script.proofs.SplitterLemmas.{no_feed-append}
 use Rattle.timer_commands.specs.Indented.{AddsIndented, HasGrownByIndented, HasGrownByFront}
-use Rattle.timer_commands.specs.IndentedLaws.{is_bare, bare, decimal_bare, adds_nothing, adds_join}
+use Rattle.timer_commands.specs.IndentedLaws.{is_bare, bare, decimal_bare, adds_join}
 
 adds_line : (front : List ℕ) → HasNoFeed front → AddsIndented [] (32 ∷ front ++ 10 ∷ [])
 adds_line front free = record {
@@ -14,9 +13,6 @@ adds_line front free = record {
   text_is = sym (append-nil (32 ∷ front ++ 10 ∷ []));
   answer_is = refl;
 }
-
-pub grown_none : (text : List ℕ) → HasGrownByIndented text text
-grown_none text = ([], sym (append-nil text), adds_nothing)
 
 pub grown_join : (a b c : List ℕ) → HasGrownByIndented a b → HasGrownByIndented b c → HasGrownByIndented a c
 grown_join a b c f g = (f.0 ++ g.0, g.1 ∙ ap (λ t. t ++ g.0) f.1 ∙ append_assoc a f.0 g.0, adds_join [] [] f.0 g.0 f.2 g.2)
@@ -51,12 +47,6 @@ pub front_numbered_ok : {A E : Type 0} (result : Result A E) (a b c word : List 
     → OnOk result (c ≡ b ++ word ++ decimal n) → OnOk result (HasGrownByFront a c)
 front_numbered_ok (Ok x) a b c word n free f h = front_numbered a b c word n free f h
 front_numbered_ok (Err e) a b c word n free f h = tt
-
-pub front_kept : (a b c : List ℕ) → HasGrownByFront a b → HasGrown b c → HasGrown a c
-front_kept a b c f g = (32 ∷ f.0 ++ g.0, g.1 ∙ ap (λ t. t ++ g.0) f.1 ∙ append_assoc a (32 ∷ f.0) g.0)
-
-pub indented_kept : (a b c : List ℕ) → HasGrownByIndented a b → HasGrown b c → HasGrown a c
-indented_kept a b c f g = (f.0 ++ g.0, g.1 ∙ ap (λ t. t ++ g.0) f.1 ∙ append_assoc a f.0 g.0)
 
 pub grown_ok : {A E : Type 0} (result : Result A E) (a b c : List ℕ) → HasGrownByIndented a b → OnOk result (HasGrownByIndented b c)
     → OnOk result (HasGrownByIndented a c)

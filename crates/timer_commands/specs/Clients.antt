@@ -15,7 +15,7 @@ pub record AreFew (options : ThreadsOptions) : Type 0 where
   pub some_timers : 1 ≤ options.timers
   pub few_timers : options.timers ≤ 10000
 
--- the clients ran to their end and their whole text was written, or not
+-- the clients finished and their whole text was written, or not
 pub record HasRunClients {S : Type 0} (options : ThreadsOptions) (contents : S
     → Option (List ℕ)) (writer writer' : Watched S) (status : ℕ) : Type 0 where
   pub in_range : status ≤ 2
@@ -45,7 +45,7 @@ WritesWhole contents writer writer' text =
     (has_failed writer' ≡ true)
     ⊎ ((has_failed writer' ≡ false) × Appends (contents (inner_of writer)) (contents (inner_of writer')) text)
 
--- what was written of a run of clients: its text; or nothing, and on the other writer the line of its error
+-- what was written for a run of clients: its text; or nothing, and on the other writer the line of its error
 abbrev pub HasEndedClients : {S F A : Type 0} → Result (Vec ℕ A) ThreadsFault → (S → Option (List ℕ))
     → (F → Option (List ℕ))
     → (writer writer' : Watched S) (faults faults' : Watched F) → ℕ → Type 0

@@ -1,11 +1,11 @@
 -- Text with indented lines between its own: lines that begin with a space.
 use Rattle.std.specs.Prelude.{◌≡◌, ℕ, ◌==◌, Bool, true, not, List, [], ◌∷◌, ◌++◌}
 use Rattle.std.specs.List.{filter, concat, AllByRecursion}
-use Rattle.timer_script.specs.Cutting.{HasNoFeed}
+use Rattle.timer_script.specs.Splitter.{HasNoFeed}
 use Rattle.timer_script.specs.Decorator.{HasGrownBy}
 
 -- some bytes without a line feed, and then one
-pub record IsLine (bytes : List ℕ) : Type 0 where
+pub record EndsWithFeed (bytes : List ℕ) : Type 0 where
   pub front : List ℕ
   pub is : bytes ≡ front ++ 10 ∷ []
   pub no_feed : HasNoFeed front
@@ -18,7 +18,7 @@ is_unindented (first ∷ rest) = not (first == 32)
 -- the text is lines, and the answer is those of them that are not indented
 pub record AddsIndented (answer text : List ℕ) : Type 0 where
   pub lines : List (List ℕ)
-  pub each : AllByRecursion IsLine lines
+  pub each : AllByRecursion EndsWithFeed lines
   pub text_is : text ≡ concat lines
   pub answer_is : answer ≡ concat (filter is_unindented lines)
 

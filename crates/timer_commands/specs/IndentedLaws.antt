@@ -15,12 +15,12 @@ use Rattle.timer_facility.specs.declared.request.Answer.TheVariants.{Started, St
 use Rattle.timer_facility.specs.declared.request.Notice.TheVariants.{Expired, Returned}
 use Rattle.timer_facility.specs.declared.event.Out.{Out}
 use Rattle.timer_facility.specs.declared.event.Out.TheVariants as out
-use Rattle.timer_script.specs.Cutting.{HasNoFeed}
+use Rattle.timer_script.specs.Splitter.{HasNoFeed}
 use Rattle.timer_script.specs.Decorator.{IsLawful}
 use Rattle.timer_script.specs.Session.{lines_of}
 use Rattle.timer_script.specs.Text.{numbers, reason_word, refusal_word, out_line, end_line}
-use Rattle.timer_script.proofs.CuttingLemmas.{no_feed-append}
-use Rattle.timer_commands.specs.Indented.{IsLine, is_unindented, AddsIndented}
+use Rattle.timer_script.proofs.SplitterLemmas.{no_feed-append}
+use Rattle.timer_commands.specs.Indented.{EndsWithFeed, is_unindented, AddsIndented}
 
 -- ---- bytes without a line feed
 
@@ -65,8 +65,8 @@ decimal_bare n = onto_bare 64 n [] tt
 pub adds_nothing : AddsIndented [] []
 adds_nothing = record { lines = []; each = tt; text_is = refl; answer_is = refl }
 
-lines_join : (xs ys : List (List ℕ)) → AllByRecursion IsLine xs → AllByRecursion IsLine ys
-    → AllByRecursion IsLine (xs ++ ys)
+lines_join : (xs ys : List (List ℕ)) → AllByRecursion EndsWithFeed xs → AllByRecursion EndsWithFeed ys
+    → AllByRecursion EndsWithFeed (xs ++ ys)
 lines_join [] ys a b = b
 lines_join (x ∷ xs) ys a b = (a.0, lines_join xs ys a.1 b)
 

@@ -4,10 +4,11 @@ use Rattle.timer_facility.specs.Opened.{opened}
 use Rattle.timer_script.specs.declared.fault.RunFault.{RunFault}
 use Rattle.timer_script.specs.declared.fault.ServeFault.{ServeFault}
 use Rattle.timer_script.specs.declared.watched.Watched.{Watched}
-use Rattle.timer_script.specs.Running.{HasRun}
-use Rattle.timer_script.specs.Checking.{HasChecked}
-use Rattle.timer_script.specs.Serving.{HasServed}
-use Rattle.timer_script.specs.Forgiving.{HasServedGood}
+use Rattle.timer_script.specs.ScriptRun.{HasRun}
+use Rattle.timer_script.specs.ScriptReport.{HasChecked}
+use Rattle.timer_script.specs.Decorator.{Decoration, AddsNothing}
+use Rattle.timer_script.specs.Service.{HasServedBy}
+use Rattle.timer_script.specs.GoodLines.{HasServedGood}
 use Rattle.timer_script.specs.Streams.{streams_state}
 use Rattle.timer_commands.specs.declared.options.RunOptions.{RunOptions}
 use Rattle.timer_commands.specs.declared.options.OptionsFault.{OptionsFault}
@@ -31,30 +32,40 @@ pub record HasPlayed {R S : Type 0} (options : RunOptions) (remaining : R → Op
   pub refused : status ≡ 2 → ((fault : OptionsFault) × IsRefused fault options) × (reader' ≡ reader)
       × (writer' ≡ writer)
 
--- what serving did with a reader and a writer, over the facility of the options
-abbrev pub HasServedStreams : {R S : Type 0} (options : RunOptions) (remaining : R → Option (List ℕ))
-    (contents : S → Option (List ℕ)) (reader reader' : Watched R) (writer writer' : Watched S)
-    → Result Unit ServeFault → Type 0
-HasServedStreams options remaining contents reader reader' writer writer' result =
-    HasServed (opened (config_of options) (scheme_last options.scheme))
+-- what serving did with a reader and a writer, over the facility of the options, if this is what is added to
+-- the answers
+abbrev pub HasServedStreamsBy : {R S : Type 0} (Adds : Decoration) (options : RunOptions)
+    (remaining : R → Option (List ℕ)) (contents : S → Option (List ℕ)) (reader reader' : Watched R)
+    (writer writer' : Watched S) → Result Unit ServeFault → Type 0
+HasServedStreamsBy Adds options remaining contents reader reader' writer writer' result =
+    HasServedBy Adds (opened (config_of options) (scheme_last options.scheme))
     (streams_state remaining contents reader writer)
     (streams_state remaining contents reader' writer') result
 
--- lines were answered as they came, or the options are refused and nothing was read
-pub record HasServedLines {R S : Type 0} (options : RunOptions) (remaining : R → Option (List ℕ))
-    (contents : S → Option (List ℕ)) (reader reader' : Watched R) (writer writer' : Watched S)
-    (status : ℕ) : Type 0 where
+-- lines were answered as they came, with what is added to the answers, or the options are refused and nothing
+-- was read
+pub record HasServedLinesBy {R S : Type 0} (Adds : Decoration) (options : RunOptions)
+    (remaining : R → Option (List ℕ)) (contents : S → Option (List ℕ)) (reader reader' : Watched R)
+    (writer writer' : Watched S) (status : ℕ) : Type 0 where
   pub in_range : status ≤ 2
   -- 0: the input came to its end, and the whole text was written
-  pub written : status ≡ 0 → IsPlayable options × HasServedStreams options remaining contents reader reader'
-      writer writer' (Ok tt)
+  pub written : status ≡ 0
+      → IsPlayable options × HasServedStreamsBy Adds options remaining contents reader reader' writer writer'
+      (Ok tt)
   -- 1: serving failed
   pub failed : status ≡ 1
-      → IsPlayable options × ((fault : ServeFault) × HasServedStreams options remaining contents reader
+      → IsPlayable options × ((fault : ServeFault) × HasServedStreamsBy Adds options remaining contents reader
       reader' writer writer' (Err fault))
   -- 2: the options are refused, and nothing was read or written
   pub refused : status ≡ 2 → ((fault : OptionsFault) × IsRefused fault options) × (reader' ≡ reader)
       × (writer' ≡ writer)
+
+-- lines were answered as they came, or the options are refused and nothing was read
+abbrev pub HasServedLines : {R S : Type 0} (options : RunOptions) (remaining : R → Option (List ℕ))
+    (contents : S → Option (List ℕ)) (reader reader' : Watched R) (writer writer' : Watched S)
+    → ℕ → Type 0
+HasServedLines options remaining contents reader reader' writer writer' status =
+    HasServedLinesBy AddsNothing options remaining contents reader reader' writer writer' status
 
 -- what serving past bad lines did with a reader, a writer, and the writer of reports, over the facility of
 -- the options
@@ -77,8 +88,8 @@ pub record HasServedGoodLines {R S F : Type 0} (options : RunOptions) (remaining
       × HasServedGoodStreams options remaining contents reports reader reader' writer writer' faults faults'
       (Ok true)
   -- 1: some line was bad, the bad ones were reported, and the whole text of the others was written; or
-  -- serving failed, and `told` is the writer of reports before the failure's own report, of which no clause
-  -- tells
+  -- serving failed, and `told` is the writer of reports before the failure's own report, which no clause
+  -- describes
   pub failed : status ≡ 1 → IsPlayable options
       × (HasServedGoodStreams options remaining contents reports reader reader' writer writer' faults faults'
       (Ok false)

@@ -3,7 +3,7 @@ ghost use Rattle.std.specs.Prelude.{◌≡◌, false};
 ghost use Rattle.timer_commands.specs.Subcommands.{HasCheckedScript};
 ghost use Rattle.timer_script.specs.Watched.{has_failed};
 
-use crate::reporting::report;
+use crate::error_report::report;
 use std::alloc::Global;
 use std::io::{Read, Write};
 use timer_script::{Streams, check};

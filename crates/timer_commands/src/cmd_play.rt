@@ -3,8 +3,8 @@ ghost use Rattle.std.specs.Prelude.{◌≡◌, false};
 ghost use Rattle.timer_commands.specs.Subcommands.{HasPlayed};
 ghost use Rattle.timer_script.specs.Watched.{has_failed};
 
+use crate::error_report::report;
 use crate::options::RunOptions;
-use crate::reporting::report;
 use crate::schemes::play_by_scheme;
 use std::alloc::Global;
 use std::io::{Read, Write};

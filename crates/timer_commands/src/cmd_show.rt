@@ -1,17 +1,17 @@
 //! The subcommand `show`: the lines of a stream are answered, and after each it is shown where the timers
-//! stand.
+//! are.
 ghost use Rattle.std.specs.Prelude.{◌≡◌, false};
 ghost use Rattle.timer_commands.specs.ShowStream.{HasShownLines};
 ghost use Rattle.timer_script.specs.Watched.{has_failed};
 
+use crate::error_report::report;
 use crate::options::RunOptions;
-use crate::reporting::report;
 use crate::schemes::show_by_scheme;
 use std::alloc::Global;
 use std::io::{Read, Write};
 use timer_script::Streams;
 
-/// Answers the lines of the reader as they come, shows where the timers stand after each, and returns the
+/// Answers the lines of the reader as they come, shows where the timers are after each, and returns the
 /// exit status.
 ///
 /// 0: the input came to its end, and no write failed. 1: an error, reported in one line on `faults`; the

@@ -4,7 +4,7 @@ ghost use Rattle.std.specs.Io.KnownBytes.{Appends};
 ghost use Rattle.timer_commands.specs.Clients.{AreFew, HasRunClients, HasEndedClients, fault_line, client_fault};
 ghost use Rattle.timer_script.specs.Watched.{inner_of, has_failed};
 
-use crate::reporting::report;
+use crate::error_report::report;
 use crate::threads_options::ThreadsOptions;
 use itoa::Buffer;
 use std::alloc::{AllocError, Global};
@@ -39,8 +39,8 @@ pub fn run_clients<W: Write, F: Write>(
     end_clients(ended, writer, &mut Watched::new(faults))
 }
 
-/// Writes the text of clients that came to their end, or reports in one line why they did not, and
-/// returns the exit status. An error in reporting is ignored.
+/// Writes the text of clients that finished, or reports in one line why they did not, and returns the exit
+/// status. An error in reporting is ignored.
 pub fn end_clients<W: Write, F: Write>(
     ended: Result<Vec<u8>, ThreadsFault>,
     writer: &mut Watched<W>,

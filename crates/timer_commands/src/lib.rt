@@ -3,7 +3,7 @@
 //!
 //! `options` and `threads_options` have the options and their ranges. `schemes` makes the wheel that they
 //! name, and `verbs` has what is done over it. Each subcommand is in a file of its own, `cmd_play` to
-//! `cmd_check`; `reporting` reports an error. `show` draws where the timers stand: `render` draws a wheel,
+//! `cmd_check`; `error_report` reports an error. `show` draws where the timers are: `render` draws a wheel,
 //! and `show_stream` adds the drawings to the answers.
 //!
 //! A module's definitions are in the file of its name in `specs/`; those of the subcommands are in
@@ -16,9 +16,9 @@ mod cmd_serve;
 mod cmd_serve_good;
 mod cmd_show;
 mod cmd_threads;
+mod error_report;
 mod options;
 mod render;
-mod reporting;
 mod schemes;
 mod show_stream;
 mod threads_options;
@@ -30,6 +30,6 @@ pub use cmd_serve::serve_lines;
 pub use cmd_serve_good::serve_good_lines;
 pub use cmd_show::show_lines;
 pub use cmd_threads::{end_clients, run_clients};
+pub use error_report::report;
 pub use options::{OptionsFault, RunOptions, Scheme};
-pub use reporting::report;
 pub use threads_options::ThreadsOptions;

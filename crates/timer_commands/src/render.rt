@@ -26,7 +26,7 @@ const FIRST_HOUR: u64 = 120;
 
 const FIRST_DAY: u64 = 144;
 
-/// A wheel that shows where its timers stand.
+/// A wheel that shows where its timers are.
 pub trait Placement {
     /// Appends a line for each bucket that has a timer, in the order of the buckets. The only error is out
     /// of memory.

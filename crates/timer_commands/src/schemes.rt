@@ -1,4 +1,4 @@
-//! Makes the wheel of a scheme, and plays a script, answers lines, or shows where their timers stand over it.
+//! Makes the wheel of a scheme, and plays a script, answers lines, or shows where their timers are over it.
 ghost use Rattle.std.specs.Prelude.{◌≡◌, ◌≤◌, false, IfOk};
 ghost use Rattle.timer_base.specs.declared.limits.TheConstants.{LAST};
 ghost use Rattle.timer_base.specs.WheelState.{empty_wheel};
@@ -8,9 +8,9 @@ ghost use Rattle.timer_wheels.specs.Tables.{last_of_table};
 ghost use Rattle.timer_facility.specs.Opened.{opened};
 ghost use Rattle.timer_commands.specs.Options.{scheme_last, config_of, IsPlayable};
 ghost use Rattle.timer_commands.specs.ShowStream.{HasShown};
-ghost use Rattle.timer_script.specs.Running.{HasRun};
-ghost use Rattle.timer_script.specs.Serving.{AreGood, HasServed};
-ghost use Rattle.timer_script.specs.Forgiving.{HasServedGood};
+ghost use Rattle.timer_script.specs.ScriptRun.{HasRun};
+ghost use Rattle.timer_script.specs.Service.{AreGood, HasServed};
+ghost use Rattle.timer_script.specs.GoodLines.{HasServedGood};
 ghost use Rattle.timer_script.specs.Watched.{has_failed};
 
 use crate::options::{RunOptions, Scheme};
@@ -210,7 +210,7 @@ pub fn serve_good_by_scheme<P: Peer, F: Write>(
     over_scheme(alloc, options, checked, &mut ServeGood { peer, faults })
 }
 
-/// Answers the peer's lines as they come and shows where the timers stand, over a new wheel of the scheme
+/// Answers the peer's lines as they come and shows where the timers are, over a new wheel of the scheme
 /// that the options name, as `show` does.
 ///
 /// Nothing is read before the wheel is made.

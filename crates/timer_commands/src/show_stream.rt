@@ -1,9 +1,9 @@
-//! A session with a peer that is shown, after each line, where the pending timers stand.
+//! A session with a peer that is shown, after each line, where the pending timers are.
 //!
 //! A line has the answer that `serve` gives it. After the answer come the clock and the placement, which
 //! `render` draws; all of it is written and flushed before the next line is played.
 ghost use Rattle.std.specs.Prelude.{◌≡◌, []};
-ghost use Rattle.timer_script.specs.Serving.{AreGood};
+ghost use Rattle.timer_script.specs.Service.{AreGood};
 ghost use Rattle.timer_commands.specs.ShowStream.{HasShown};
 
 use crate::render::{Placement, push_shown};
@@ -12,7 +12,7 @@ use timer_base::{OutOfMemory, Wheel};
 use timer_facility::Facility;
 use timer_script::{Decorator, Peer, ServeFault, serve_decorated};
 
-/// Shows where the timers stand.
+/// Shows where the timers are.
 struct Placements;
 
 impl<W: Wheel + Placement + Drop> Decorator<W> for Placements {
@@ -33,7 +33,7 @@ impl<W: Wheel + Placement + Drop> Decorator<W> for Placements {
     ghost is_lawful = { indented_is_lawful };
 }
 
-/// Answers each line as soon as it is whole and shows where the timers stand, until the peer's end, and
+/// Answers each line as soon as it is whole and shows where the timers are, until the peer's end, and
 /// then writes the end line.
 ///
 /// Before each read, every whole line that came has been answered and shown, and what was written flushed.

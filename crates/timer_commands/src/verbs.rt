@@ -1,4 +1,4 @@
-//! What is done with the facility of a run: play a script, answer lines, or show where their timers stand.
+//! What is done with the facility of a run: play a script, answer lines, or show where their timers are.
 //!
 //! A verb holds its streams. It knows no scheme: `schemes` makes the wheel, and hands the verb a facility.
 ghost use Rattle.std.specs.Prelude.{◌≡◌, []};
@@ -48,7 +48,7 @@ pub struct Play<'a, R, S> {
 
 impl<R: Read, S: Write> Verb for Play<'_, R, S> {
     ghost use Rattle.std.specs.Prelude.{false};
-    ghost use Rattle.timer_script.specs.Running.{HasRun};
+    ghost use Rattle.timer_script.specs.ScriptRun.{HasRun};
     ghost use Rattle.timer_script.specs.Watched.{has_failed};
 
     type Outcome = Result<(), RunFault>;
@@ -80,7 +80,7 @@ pub struct Serve<'a, P> {
 }
 
 impl<P: Peer> Verb for Serve<'_, P> {
-    ghost use Rattle.timer_script.specs.Serving.{AreGood, HasServed};
+    ghost use Rattle.timer_script.specs.Service.{AreGood, HasServed};
 
     type Outcome = Result<(), ServeFault>;
 
@@ -110,8 +110,8 @@ pub struct ServeGood<'a, P, F> {
 }
 
 impl<P: Peer, F: Write> Verb for ServeGood<'_, P, F> {
-    ghost use Rattle.timer_script.specs.Serving.{AreGood};
-    ghost use Rattle.timer_script.specs.Forgiving.{HasServedGood};
+    ghost use Rattle.timer_script.specs.Service.{AreGood};
+    ghost use Rattle.timer_script.specs.GoodLines.{HasServedGood};
 
     type Outcome = Result<bool, ServeFault>;
 
@@ -135,14 +135,14 @@ impl<P: Peer, F: Write> Verb for ServeGood<'_, P, F> {
     }
 }
 
-/// Answers lines as they come, and shows after each where the timers stand.
+/// Answers lines as they come, and shows after each where the timers are.
 #[derive(Drop)]
 pub struct Show<'a, P> {
     pub peer: &'a mut P,
 }
 
 impl<P: Peer> Verb for Show<'_, P> {
-    ghost use Rattle.timer_script.specs.Serving.{AreGood};
+    ghost use Rattle.timer_script.specs.Service.{AreGood};
     ghost use Rattle.timer_commands.specs.ShowStream.{HasShown};
 
     type Outcome = Result<(), ServeFault>;

@@ -1,4 +1,4 @@
-//! A handle whose timer is gone finds nothing, whichever wheel the facility stands on.
+//! A handle whose timer is gone finds nothing, whichever wheel the facility is over.
 ghost use Rattle.std.specs.Prelude.{◌≡◌, []};
 ghost use Rattle.timer_base.specs.declared.limits.TheConstants.{LAST};
 ghost use Rattle.timer_base.specs.WheelState.{empty_wheel};
@@ -22,7 +22,7 @@ const CONFIG: Config = Config {
 /// The hierarchies of wheels, with the names of their schemes.
 const HIERARCHIES: [(Table, &str); 2] = [(Table::Wide, "hier"), (Table::Clock, "clock")];
 
-/// A facility of one client over this wheel, which is empty and stands at tick 0.
+/// A facility of one client over this wheel, which is empty and at tick 0.
 fn facility<W: Wheel + Drop>(rt: &impl Abort, alloc: Global, wheel: W) -> Facility<W>
     requires pending { (W.state wheel).pending ≡ [] }
     requires due { (W.state wheel).due ≡ [] }
@@ -52,7 +52,7 @@ fn take<W: Wheel + Drop>(
     facility.take(0, number, request)
 }
 
-/// Passes so many ticks, each of which has to be free to begin.
+/// Passes `ticks` ticks, and fails if something waits before one of them.
 fn pass<W: Wheel + Drop>(rt: &impl Abort, facility: &mut Facility<W>, ticks: u64) {
     for tick in 0..ticks {
         settle(rt, facility);

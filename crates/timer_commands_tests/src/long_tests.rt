@@ -3,7 +3,7 @@ use crate::testing::{Reading, SCHEMES, Sink, Source, USUAL, call, has_left, same
 use std::process::Abort;
 use timer_commands::RunOptions;
 
-/// Adds a line so many times.
+/// Adds a line `times` times.
 fn add_times(rt: &impl Abort, bytes: &mut Vec<u8>, line: &[u8], times: u64) {
     for _ in 0..times {
         let Ok(()) = bytes.extend_from_slice(line) else {
@@ -30,7 +30,7 @@ fn longest_script_is_played(rt: HostRuntime) {
     same(&rt, left, (0, true, true));
 }
 
-/// Lines, or bytes that are none, and how often each stands in a script that is too long.
+/// Lines, or bytes that are none, and how often each is in a script that is too long.
 static TOO_LONG: [(&[u8], u64); 5] = [
     (b"close\n", 174763),
     (b"x", 1048577),

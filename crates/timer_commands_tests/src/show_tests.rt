@@ -60,7 +60,8 @@ static ROUNDS: Row = (
         slots: 8,
         ..USUAL
     },
-    "start 0 1 1 0\nstart 0 2 8 0\nstart 0 3 9 0\nstart 0 4 16 0\nstart 0 5 8 0\ntick 1\ntick 7\ntick 1\ntick 7\n",
+    "start 0 1 1 0\nstart 0 2 8 0\nstart 0 3 9 0\nstart 0 4 16 0\nstart 0 5 8 0\ntick 1\ntick 7\n\
+     tick 1\ntick 7\n",
     &[
         "started 0 1 1 1",
         "  now 0",
@@ -121,13 +122,14 @@ static PAPER: Row = (
     ],
 );
 
-/// Every hand of the clock, at its first and its last slot that a timer can stand in.
+/// Every hand of the clock, at its first and its last slot that a timer can be in.
 static HANDS: Row = (
     RunOptions {
         scheme: Scheme::Clock,
         ..USUAL
     },
-    "start 0 1 1 0\nstart 0 2 59 0\nstart 0 3 60 0\nstart 0 4 3599 0\nstart 0 5 3600 0\nstart 0 6 86399 0\nstart 0 7 86400 0\nstart 0 8 8639999 0\nclose\n",
+    "start 0 1 1 0\nstart 0 2 59 0\nstart 0 3 60 0\nstart 0 4 3599 0\nstart 0 5 3600 0\n\
+     start 0 6 86399 0\nstart 0 7 86400 0\nstart 0 8 8639999 0\nclose\n",
     &[
         "started 0 1 1 1",
         "  now 0",
@@ -201,7 +203,8 @@ static PLAIN: Row = (
         scheme: Scheme::Plain,
         ..USUAL
     },
-    "start 0 1 5 0\nstart 0 2 3 0\nstart 0 3 5 0\ntick 3\nstop 0 4 1\nrestart 0 5 3 9 0\nstop 0 6 3\nstop 0 7 4\n",
+    "start 0 1 5 0\nstart 0 2 3 0\nstart 0 3 5 0\ntick 3\nstop 0 4 1\nrestart 0 5 3 9 0\n\
+     stop 0 6 3\nstop 0 7 4\n",
     &[
         "started 0 1 1 5",
         "  now 0",

@@ -100,7 +100,7 @@ fn pieces_of_any_size_change_nothing(rt: HostRuntime) {
     }
 }
 
-/// Runs a subcommand with a reader that fails after so many bytes, and compares what it leaves.
+/// Runs a subcommand with a reader that fails after `room` bytes, and compares what it leaves.
 fn read_fails(
     rt: &impl Abort,
     alloc: Global,

@@ -115,7 +115,7 @@ pub struct Sink {
     size: usize,
     room: usize,
     fault: Fault,
-    /// The error of the first flush at which so many bytes are here.
+    /// The error of the first flush at which at least this many bytes are here.
     unflushed: Option<(usize, ErrorKind)>,
     pub flushes: u64,
 }

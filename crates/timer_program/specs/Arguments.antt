@@ -15,8 +15,8 @@ subcommand_name (Show options) = codes "show"
 subcommand_name (Threads options) = codes "threads"
 subcommand_name Check = codes "check"
 
--- the subcommand that the arguments after the program's name name: the first of them, or `play` where there
--- is none
+-- the subcommand that the arguments after the program's name name: the first of them, or `play` if there is
+-- none
 abbrev pub first_or_play : {S : Type 0} → (S → List ℕ) → List S → List ℕ
 first_or_play text [] = codes "play"
 first_or_play text (first ∷ rest) = text first

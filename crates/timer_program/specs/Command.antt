@@ -33,8 +33,7 @@ pub record HasNotPlayed {R S : Type 0} (kind : ErrorKind) (contents : S
 
 -- What was done for arguments that were read as this: a script was played, lines were answered as they came,
 -- or the good ones were and the others reported, or lines were answered and shown, or clients ran and nothing
--- was read, or a script was checked; or, where they are read as none of these, nothing but a text was
--- written.
+-- was read, or a script was checked. If they are read as none of these, nothing but a text was written.
 abbrev pub HasDone : {R S F : Type 0} → Result Subcommand Error → (remaining : R → Option (List ℕ))
     (contents : S → Option (List ℕ)) (reports : F → Option (List ℕ)) (reader reader' : Watched R)
     (writer writer' : Watched S) (faults faults' : Watched F) → ℕ → Type 0
@@ -59,8 +58,8 @@ HasDone (Err error) remaining contents reports reader reader' writer writer' fau
     HasNotPlayed (kind_of error) contents reader reader' writer writer' status
 
 -- the arguments were read as a call of the subcommand that they name, or as an error, which is help or the
--- version only where an argument asks for it; and that was done
-pub record HasEnded {A R S F : Type 0} (text : A → List ℕ) (arguments : List A) (remaining : R
+-- version only if an argument asks for it; and that was done
+pub record HasRunProgram {A R S F : Type 0} (text : A → List ℕ) (arguments : List A) (remaining : R
     → Option (List ℕ))
     (contents : S → Option (List ℕ)) (reports : F → Option (List ℕ)) (reader reader' : Watched R)
     (writer writer' : Watched S) (faults faults' : Watched F) (status : ℕ) : Type 0 where

@@ -22,7 +22,7 @@ const USUAL: RunOptions = RunOptions {
     first_tick: 0,
 };
 
-/// Options that are all other ones.
+/// Options that all differ from the usual ones.
 const OTHER: RunOptions = RunOptions {
     scheme: Scheme::Hashed,
     slots: 8,

@@ -3,7 +3,7 @@
 //!     timers                        the same as `timers play`
 //!     timers play [OPTIONS]         plays the script on standard input
 //!     timers serve [OPTIONS]        answers the lines of standard input as they come
-//!     timers show [OPTIONS]         does so, and shows after each line where the timers stand
+//!     timers show [OPTIONS]         does so, and shows after each line where the timers are
 //!     timers threads [OPTIONS]      runs clients in threads of their own
 //!     timers check                  reports each bad line of the script on standard input
 //!     timers help, timers --help    what the program is
@@ -35,7 +35,7 @@ pub enum Subcommand {
     Serve(RunOptions),
     /// `serve --keep-going`: answer the good ones as they come, and report the bad ones.
     ServeGood(RunOptions),
-    /// `show`: answer them, and show after each where the timers stand.
+    /// `show`: answer them, and show after each where the timers are.
     Show(RunOptions),
     /// `threads`: run clients in threads of their own.
     Threads(ThreadsOptions),
@@ -46,7 +46,7 @@ pub enum Subcommand {
 /// The names of the schemes.
 static SCHEME_NAMES: [&str; 4] = ["plain", "hashed", "hier", "clock"];
 
-/// What no arguments stand for.
+/// The subcommand if there are no arguments.
 static PLAY: [&str; 1] = ["play"];
 
 /// An option that takes a number in a range.

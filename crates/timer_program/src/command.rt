@@ -2,7 +2,7 @@
 ghost use Rattle.std.specs.Prelude.{◌≡◌, ◌≢◌, ◌≤◌, ◌⊎◌, ℕ, List, false, true};
 ghost use Rattle.std.specs.Io.KnownBytes.{Appends};
 ghost use Rattle.clap.specs.Values.{kind_of};
-ghost use Rattle.timer_program.specs.Command.{HasDone, HasEnded};
+ghost use Rattle.timer_program.specs.Command.{HasDone, HasRunProgram};
 ghost use Rattle.timer_script.specs.Watched.{inner_of, has_failed};
 
 use crate::arguments::{Subcommand, read_arguments};
@@ -19,13 +19,15 @@ use timer_script::{RunFault, Streams, Watched, write_text};
 
 /// Runs the program on the arguments after its name, and returns its exit status.
 ///
-/// 0: the script was played, or the stream served or shown to its end, or the clients ran to theirs, and the
-/// text was written, or help was asked for and written, or a checked script has no bad line. 1: an error,
-/// reported in one line on `faults`; or a checked script has a bad line, and each is reported on standard
-/// output; or a stream that is served past bad lines has one, and each is reported on `faults`. 2: the
-/// arguments are refused, for the reason that `faults` gets; nothing is read or written. An error in
-/// writing to `faults` is ignored. Neither the reader nor the writer may have failed before. Waits if
-/// clients run in threads.
+/// 0: the subcommand reached its end, and its text was written; or help was asked for, and was written.
+///
+/// 1: an error, reported in one line on `faults`. Or a checked script has a bad line, and each is reported on
+/// standard output. Or a stream that is served past bad lines has one, and each is reported on `faults`.
+///
+/// 2: the arguments are refused, and `faults` gets the reason. Nothing is read or written.
+///
+/// An error in writing to `faults` is ignored. Neither the reader nor the writer may have failed before.
+/// Waits if clients run in threads.
 pub fn command<T: AllocGlobal + Threads, S: AsStr, R: Read, W: Write, F: Write>(
     rt: &T,
     arguments: &[S],
@@ -34,7 +36,7 @@ pub fn command<T: AllocGlobal + Threads, S: AsStr, R: Read, W: Write, F: Write>(
 ) -> u8
     requires reader_good { has_failed streams.old.reader ≡ false }
     requires writer_good { has_failed streams.old.writer ≡ false }
-    ensures { HasEnded S.text arguments.now R.remaining W.contents F.contents
+    ensures { HasRunProgram S.text arguments.now R.remaining W.contents F.contents
         streams.old.reader streams.new.reader streams.old.writer streams.new.writer
         faults.old faults.new result }
 {

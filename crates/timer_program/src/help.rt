@@ -21,7 +21,7 @@ pub static SHOW_USAGE: &str = "timers show [OPTIONS] < FILE";
 
 pub static PLAY_ABOUT: &str = "Plays the script on standard input and writes one line per result";
 
-/// What stands below the help of the program.
+/// The text below the help of the program.
 pub static SCRIPTS: &str = "\
 With no arguments, `timers` is `timers play`.
 
@@ -36,7 +36,7 @@ A script has one line for each event:
 Each client numbers its requests 1, 2, 3, .. and timers get the serials 1, 2, 3, ..
 
 Fields are separated by exactly one space. Every line ends with LF, the last one
-included; there is no CR, no tab, no comment, no empty line, and no space at either
+included. There is no CR, no tab, no comment and no empty line, and no space at either
 end of a line. Words are in lower case. A number is decimal, 0 to 1152921504606846975,
 with no sign and no leading zero. A script has at most 1048576 bytes. The first line
 that breaks a rule is reported as `bad line L`, counted from 1, and nothing is played.
@@ -51,11 +51,11 @@ For example:
   end 3 0                              tick, pending timers
 
 Nothing is written before the whole script has been played. The exit status is 0 if
-it was, 1 after an error, which is reported in one line on standard error, and 2 if
-the arguments are refused. `timers serve` answers each line as it comes instead.
+it was. It is 1 after an error, which is reported in one line on standard error, and 2
+if the arguments are refused. `timers serve` answers each line as it comes instead.
 `man timers` and docs/formats.md list every line of scripts and output.";
 
-/// What stands below the help of `play`.
+/// The text below the help of `play`.
 pub static SCHEMES: &str = "\
 Schemes:
   plain   one list of timers, which each tick goes through
@@ -79,17 +79,17 @@ all of it.";
 pub static SERVE_ABOUT: &str =
     "Answers each line of standard input as soon as it is complete, until the input ends";
 
-/// What stands below the help of `serve`.
+/// The text below the help of `serve`.
 pub static STREAMS: &str = "\
 A stream has the lines of a script, which `timers help` describes, and they have the
-same answers. Each line is answered as soon as its line feed has come: before more is
+same answers. Each line is answered as soon as its line feed has come. Before more is
 read, the answers to all complete lines are written and flushed. At the end of the
 input the line `end` is written. The input may have any length. Read the answers while
 you write: when the pipe of the answers is full, no more lines are read.
 
 A bad line ends the stream: the lines before it have been answered, and `bad line L`
 is reported. A last line without its line feed is a bad line. With `--keep-going` the
-stream goes on after a bad line: each one is reported and skipped, the others are
+stream continues after a bad line. Each one is reported and skipped, the others are
 answered, and the exit status is 1 at the end.
 
 For example, another program writes to the input and reads the output of `timers serve`:
@@ -100,19 +100,19 @@ For example, another program writes to the input and reads the output of `timers
   (the input ends)       end 50 0
 
 The schemes are those of `timers play`. The exit status is 0 if the input came to its
-end and every line was answered, 1 after an error, which is reported in one line on
-standard error (`bad line L`, `read failed`, `write failed` or `out of memory`), and 2
-if the arguments are refused. `man timers` and docs/formats.md say what may have been
-written then.";
+end and every line was answered. It is 1 after an error, which is one line on
+standard error (`bad line L`, `read failed`, `write failed` or `out of memory`). It is
+2 if the arguments are refused. `man timers` and docs/formats.md say what may have
+been written then.";
 
 pub static SHOW_ABOUT: &str =
-    "Answers lines as `serve` does, and shows after each where the pending timers stand";
+    "Answers lines as `serve` does, and shows after each where the pending timers are";
 
-/// What stands below the help of `show`.
+/// The text below the help of `show`.
 pub static PLACEMENTS: &str = "\
-A stream and its answers are those of `timers serve`. After the answers to each line stand
-indented lines: the tick, and one line for each bucket that has timers, with their serials
-from the front.
+A stream and its answers are those of `timers serve`. After the answers to each line come
+indented lines. They are the tick, and one line for each bucket that has timers, with
+their serials from the front.
 
 For example:
   $ printf 'start 0 1 130 7\\ntick 128\\ntick 2\\n' | timers show
@@ -139,30 +139,30 @@ from bucket to bucket.";
 pub static THREADS_ABOUT: &str =
     "Runs clients in threads of their own, beside one facility, and writes a line for each";
 
-/// What stands below the help of `threads`.
+/// The text below the help of `threads`.
 pub static THREADS: &str = "\
-Each client starts its timers over a line of its own and reads its answers and notices;
-one thread owns the facility and serves all of them. For example, with two clients:
+Each client starts its timers over its own line, and reads its answers and notices. One
+thread owns the facility and serves all of them. For example, with two clients:
   $ timers threads --clients 2 --timers 100
   client 0 sent 100 started 100 expired 100
   client 1 sent 100 started 100 expired 100
   end
 
-The exit status is 0 if each client came to its end, 1 after an error, which is
-reported in one line on standard error (`client C failed`, `desk failed`,
-`out of memory` or `write failed`), and 2 if the arguments are refused. Nothing is read
-from standard input.";
+The exit status is 0 if each client finished. It is 1 after an error, which is one line
+on standard error (`client C failed`, `desk failed`, `out of memory` or
+`write failed`). It is 2 if the arguments are refused. Nothing is read from standard
+input.";
 
 pub static CHECK_USAGE: &str = "timers check < FILE";
 
 pub static CHECK_ABOUT: &str =
     "Reports every bad line of the script on standard input, and plays nothing";
 
-/// What stands below the help of `check`.
+/// The text below the help of `check`.
 pub static CHECKS: &str = "\
 For each bad line the number of the line, the column, the field and the reason are
-written. The column is that of the first byte with which no line can begin, in bytes
-and counted from 1. For example:
+written. The bytes before the column can begin a line, and with the byte at the column
+they no longer can. Columns are counted in bytes, from 1. For example:
   $ printf 'tick 1\\nstart 0 1 05 7\\nstart 0 2 5\\ntick 0\\n' | timers check
   line 2, column 12: interval: leading zero
   line 3, column 12: action: missing field
@@ -172,5 +172,5 @@ and counted from 1. For example:
 such as a start with interval 0, is good.
 
 The exit status is 0 if no line is bad, and then nothing is written. It is 1 if a line is
-bad, and after an error, which is reported in one line on standard error (`too long`,
+bad. It is 1 also after an error, which is one line on standard error (`too long`,
 `read failed`, `write failed` or `out of memory`). It is 2 if the arguments are refused.";

@@ -1,11 +1,15 @@
 //! The program `timers`: it reads a script of starts, stops, restarts, ticks and closes, plays it on a timer
 //! facility, and writes one line per result; or it answers such lines as they come.
 //!
-//! What a script is, the text that answers it, and the run between are in timer_script; each subcommand, over
-//! its options, its input and its outputs, is in timer_commands. Here is what the user types: `arguments`
-//! (subcommands and options, over `clap`), `help` (its texts), `argv` (arguments that cannot be read), and
-//! `command`, from the arguments to the exit status. A module's definitions are in the file of its name in
-//! `specs/`.
+//! Scripts, their texts, and the runs from one to the other are in timer_script. Each subcommand, over its
+//! options, its input and its outputs, is in timer_commands. This crate reads what the user types:
+//!
+//!     arguments   subcommands and options, over `clap`
+//!     help        the texts of the help
+//!     argv        arguments that cannot be read
+//!     command     from the arguments to the exit status
+//!
+//! A module's definitions are in the file of its name in `specs/`.
 #![tactic(auto)]
 
 #[cfg(test)]

@@ -47,7 +47,8 @@ fn expiring_rows() -> [Row; 8] {
         usual_row(
             "rollover",
             "start 0 1 4096 1\ntick 4090\nstart 1 1 6 2\ntick 5\nstart 0 2 1 3\ntick 1\n",
-            "started 0 1 1 4096\nstarted 1 1 2 4096\nstarted 0 2 3 4096\nexpired 4096 0 1 1\nexpired 4096 1 2 2\nexpired 4096 0 3 3\nend 4096 0\n",
+            "started 0 1 1 4096\nstarted 1 1 2 4096\nstarted 0 2 3 4096\nexpired 4096 0 1 1\n\
+             expired 4096 1 2 2\nexpired 4096 0 3 3\nend 4096 0\n",
         ),
         usual_row(
             "migration",
@@ -57,7 +58,9 @@ fn expiring_rows() -> [Row; 8] {
         usual_row(
             "rounds",
             "start 0 1 1 11\nstart 0 2 8 12\nstart 0 3 9 13\nstart 0 4 16 14\nstart 0 5 8 15\ntick 16\n",
-            "started 0 1 1 1\nstarted 0 2 2 8\nstarted 0 3 3 9\nstarted 0 4 4 16\nstarted 0 5 5 8\nexpired 1 0 1 11\nexpired 8 0 2 12\nexpired 8 0 5 15\nexpired 9 0 3 13\nexpired 16 0 4 14\nend 16 0\n",
+            "started 0 1 1 1\nstarted 0 2 2 8\nstarted 0 3 3 9\nstarted 0 4 4 16\nstarted 0 5 5 8\n\
+             expired 1 0 1 11\nexpired 8 0 2 12\nexpired 8 0 5 15\nexpired 9 0 3 13\n\
+             expired 16 0 4 14\nend 16 0\n",
         ),
         usual_row(
             "two_moves",
@@ -84,7 +87,8 @@ fn request_rows() -> [Row; 8] {
         usual_row(
             "stop_middle",
             "start 0 1 10 1\nstart 0 2 10 2\nstart 0 3 10 3\nstop 0 4 2\ntick 10\n",
-            "started 0 1 1 10\nstarted 0 2 2 10\nstarted 0 3 3 10\nstopped 0 4 2\nexpired 10 0 1 1\nexpired 10 0 3 3\nend 10 0\n",
+            "started 0 1 1 10\nstarted 0 2 2 10\nstarted 0 3 3 10\nstopped 0 4 2\nexpired 10 0 1 1\n\
+             expired 10 0 3 3\nend 10 0\n",
         ),
         usual_row(
             "stop_twice",
@@ -94,7 +98,8 @@ fn request_rows() -> [Row; 8] {
         usual_row(
             "numbering",
             "start 0 1 5 0\nstart 0 1 5 0\nstart 0 3 5 0\nstart 0 2 5 0\ntick 5\n",
-            "started 0 1 1 5\nrefused 0 1 repeated\nrefused 0 3 ahead\nstarted 0 2 2 5\nexpired 5 0 1 0\nexpired 5 0 2 0\nend 5 0\n",
+            "started 0 1 1 5\nrefused 0 1 repeated\nrefused 0 3 ahead\nstarted 0 2 2 5\n\
+             expired 5 0 1 0\nexpired 5 0 2 0\nend 5 0\n",
         ),
         usual_row(
             "zero_interval",
@@ -105,7 +110,9 @@ fn request_rows() -> [Row; 8] {
             name: "clock_end",
             options: LATE.as_slice(),
             script: "start 0 1 2 5\nstart 0 2 1 5\ntick 5\n",
-            text: "refused 0 1 too-late\nstarted 0 2 1 1152921504606846975\nexpired 1152921504606846975 0 1 5\ntick refused clock-end\nend 1152921504606846975 0\n",
+            text: "refused 0 1 too-late\nstarted 0 2 1 1152921504606846975\n\
+                 expired 1152921504606846975 0 1 5\ntick refused clock-end\n\
+                 end 1152921504606846975 0\n",
         },
         Row {
             name: "capacity",
@@ -132,7 +139,9 @@ fn restart_and_close_rows() -> [Row; 4] {
         usual_row(
             "close",
             "start 0 1 5 1\nstart 1 1 3 2\nstart 0 2 5 3\nclose\nstart 0 3 1 4\ntick 2\nclose\n",
-            "started 0 1 1 5\nstarted 1 1 2 3\nstarted 0 2 3 5\nclosed 3\nreturned 1 2 3 2\nreturned 0 1 5 1\nreturned 0 3 5 3\nrefused 0 3 closed\ntick refused closed\nclose refused closed\nend 0 0\n",
+            "started 0 1 1 5\nstarted 1 1 2 3\nstarted 0 2 3 5\nclosed 3\nreturned 1 2 3 2\n\
+             returned 0 1 5 1\nreturned 0 3 5 3\nrefused 0 3 closed\ntick refused closed\n\
+             close refused closed\nend 0 0\n",
         ),
         usual_row(
             "restart",
@@ -142,13 +151,16 @@ fn restart_and_close_rows() -> [Row; 4] {
         usual_row(
             "restart_order",
             "start 0 1 5 1\nstart 1 1 5 2\nrestart 0 2 1 5 3\ntick 5\n",
-            "started 0 1 1 5\nstarted 1 1 2 5\nrestarted 0 2 1 3 5\nexpired 5 1 2 2\nexpired 5 0 3 3\nend 5 0\n",
+            "started 0 1 1 5\nstarted 1 1 2 5\nrestarted 0 2 1 3 5\nexpired 5 1 2 2\n\
+             expired 5 0 3 3\nend 5 0\n",
         ),
         Row {
             name: "restart_full",
             options: ONE_TIMER.as_slice(),
-            script: "start 0 1 5 1\nrestart 0 2 1 2 9\nrestart 0 3 1 2 9\nrestart 0 4 2 0 9\nrestart 1 1 2 2 9\ntick 2\n",
-            text: "started 0 1 1 5\nrestarted 0 2 1 2 2\nrefused 0 3 no-such\nrefused 0 4 zero-interval\nrefused 1 1 no-such\nexpired 2 0 2 9\nend 2 0\n",
+            script: "start 0 1 5 1\nrestart 0 2 1 2 9\nrestart 0 3 1 2 9\nrestart 0 4 2 0 9\n\
+                 restart 1 1 2 2 9\ntick 2\n",
+            text: "started 0 1 1 5\nrestarted 0 2 1 2 2\nrefused 0 3 no-such\n\
+                 refused 0 4 zero-interval\nrefused 1 1 no-such\nexpired 2 0 2 9\nend 2 0\n",
         },
     ]
 }
@@ -160,7 +172,8 @@ fn clock_rows() -> [Row; 2] {
             name: "clock_too_late",
             options: LAST_DAY.as_slice(),
             script: "start 0 1 10 1\nstart 0 2 9 2\ntick 20\n",
-            text: "refused 0 1 too-late\nstarted 0 2 1 8639999\nexpired 8639999 0 1 2\ntick refused clock-end\nend 8639999 0\n",
+            text: "refused 0 1 too-late\nstarted 0 2 1 8639999\nexpired 8639999 0 1 2\n\
+                 tick refused clock-end\nend 8639999 0\n",
         },
         Row {
             name: "clock_day",

@@ -56,7 +56,7 @@ pub struct Ended {
     pub unread: usize,
 }
 
-/// Calls the program, with room for so many bytes of output.
+/// Calls the program, with room for `room` bytes of output.
 pub fn call<T: AllocGlobal + Threads>(
     rt: &T,
     arguments: &[&str],

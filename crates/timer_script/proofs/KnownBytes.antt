@@ -1,8 +1,8 @@
 -- Known bytes after one more piece.
-use Rattle.std.proofs.Common.{◌≡◌, ℕ, ◌+◌, ◌-◌, ◌≤◌, Bool, false, List, [], ◌++◌, length, take, drop, Option, sym, ap, subst, ◌∙◌, arith}
+use Rattle.std.proofs.Common.{ℕ, ◌+◌, ◌-◌, ◌≤◌, Bool, List, ◌++◌, length, take, drop, Option, sym, ap, subst, ◌∙◌, arith}
 use Rattle.std.proofs.lemmas.List.{take_rest, length-append}
 use Rattle.std.specs.Io.KnownBytes.{Consumes, Appends}
-use Rattle.std.proofs.KnownBytes.{Consumes-nil, Consumes-kept, Consumes-trans, Appends-trans}
+use Rattle.std.proofs.KnownBytes.{Consumes-kept, Consumes-trans, Appends-trans}
 use Rattle.std.proofs.Math.Seq.{take-add}
 use Rattle.timer_script.specs.declared.input.TheConstants.{MAX_BYTES}
 use Rattle.timer_script.specs.declared.fault.RunFault.{RunFault}
@@ -29,7 +29,3 @@ stops_reading (faults.Bad line) a b c failed old room got short fits h = absurd 
 stops_reading faults.OutOfMemory a b c failed old room got short fits h =
     ((old ++ h.0.0, Consumes-trans a b c old h.0.0 got h.0.1, omega (arith, h.0.2, length-append old h.0.0)), h.1)
 stops_reading (faults.Write written) a b c failed old room got short fits h = absurd h
-
--- if nothing was read yet, memory ran out
-pub stops_at_once : (a : Option (List ℕ)) (failed : Bool) → failed ≡ false → StopsReading faults.OutOfMemory a a failed
-stops_at_once a failed good = (([], Consumes-nil a, omega arith), good)

@@ -7,9 +7,9 @@ use Rattle.std.proofs.lemmas.List.{take_rest, length-drop, length-take-le}
 use Rattle.std.proofs.Math.Seq.{take-add}
 use Rattle.std.proofs.lemmas.Bool.Decides.{nat_tests}
 use Rattle.timer_base.specs.OrderLaws.{either}
-use Rattle.timer_script.specs.declared.serving.TheConstants.{PIECE}
+use Rattle.timer_script.specs.declared.service.TheConstants.{PIECE}
 use Rattle.timer_script.specs.Peer.{PeerState, Moment, Came, Went, Flush, Grows, Gives, Takes, Flushes}
-use Rattle.timer_script.specs.Serving.{came_of, gone_of, is_flushed, IsPromptBy, HasTalkedBy, AreWrites, HasWritten, HasSent}
+use Rattle.timer_script.specs.Service.{came_of, gone_of, is_flushed, IsPromptBy, HasTalkedBy, AreWrites, HasWritten, HasSent}
 
 -- ---- lists of calls
 

@@ -9,7 +9,7 @@ use Rattle.timer_facility.specs.State.{FacilityState, IsSound}
 use Rattle.timer_facility.proofs.PlayedLemmas.{IsRun-none, IsRun-join, IsPlayed-run}
 use Rattle.timer_script.specs.Script.{IsInRange, IsScript, line, spelling, BeginsNoLine}
 use Rattle.timer_script.specs.Text.{out_line, end_line}
-use Rattle.timer_script.specs.Running.{IsAnswer}
+use Rattle.timer_script.specs.ScriptRun.{IsAnswer}
 use Rattle.std.proofs.lemmas.List.{take_rest}
 use Rattle.std.proofs.Math.Seq.{take-add}
 use Rattle.timer_script.specs.declared.fault.SessionFault.{SessionFault}
@@ -17,14 +17,8 @@ use Rattle.timer_script.specs.declared.fault.SessionFault.TheVariants as faults
 use Rattle.timer_script.specs.declared.stage.Stage.{Stage}
 use Rattle.timer_script.specs.declared.stage.Stage.TheVariants.{Going, Failed, Ended}
 use Rattle.timer_script.specs.Session.{SessionState, fresh, lines_of, next_line, IsStoppedAt, HasFed, IsKept, IsAnsweredSoFar, HasFailed, IsOver, HasStopped, WhyStopped, WhyNotEnded}
-use Rattle.timer_script.specs.Cutting.{IsPartial}
-use Rattle.timer_script.proofs.CuttingLemmas.{no_feed_no_line}
-
-failed_going : (stage : Stage) → stage ≡ Failed → stage ≡ Going → ⊥
-failed_going stage h k = cc
-
-failed_ended : (stage : Stage) → stage ≡ Failed → stage ≡ Ended → ⊥
-failed_ended stage h k = cc
+use Rattle.timer_script.specs.Splitter.{IsPartial}
+use Rattle.timer_script.proofs.SplitterLemmas.{no_feed_no_line}
 
 pub ended_going : (stage : Stage) → stage ≡ Ended → stage ≡ Going → ⊥
 ended_going stage h k = cc
@@ -150,31 +144,6 @@ answered_written old new kept going is = subst IsAnsweredSoFar (sym is) (record 
   written = refl;
   partial = kept.partial going;
 })
-
--- a session that failed stays so
-pub failed_kept : (n : ℕ) (s : SessionState) → IsKept s → s.stage ≡ Failed → n ≡ next_line s → HasFailed n s
-failed_kept n s kept failed counted = record {
-  failed = failed;
-  written = kept.written (λ e. absurd (failed_going s.stage failed e));
-  bad = kept.bad failed;
-  counted = counted;
-}
-
--- a session that is over has only one error
-pub one_fault : (s : SessionState) (fault other : SessionFault) → IsOver fault s → IsOver other s → other ≡ fault
-one_fault s (faults.Bad n) (faults.Bad m) a b = ap faults.Bad (b.counted ∙ sym a.counted)
-one_fault s (faults.Bad n) faults.OutOfMemory a b = absurd b
-one_fault s (faults.Bad n) faults.Ended a b = absurd (failed_ended s.stage a.failed b)
-one_fault s faults.OutOfMemory other a b = absurd a
-one_fault s faults.Ended (faults.Bad m) a b = absurd (failed_ended s.stage b.failed a)
-one_fault s faults.Ended faults.OutOfMemory a b = absurd b
-one_fault s faults.Ended faults.Ended a b = refl
-
--- a session that is running is not over
-pub going_on : (s : SessionState) (fault : SessionFault) → s.stage ≡ Going → IsOver fault s → ⊥
-going_on s (faults.Bad n) going a = failed_going s.stage a.failed going
-going_on s faults.OutOfMemory going a = a
-going_on s faults.Ended going a = ended_going s.stage a going
 
 -- bytes that are held at the end are no line
 pub not_ended : (n : ℕ) (s new : SessionState) → IsPartial s.held → 1 ≤ length s.held → new ≡ record s { unwritten = [] }

@@ -7,13 +7,13 @@ use Rattle.std.proofs.lemmas.Option.{none-some}
 use Rattle.std.proofs.lemmas.List.{take_rest}
 use Rattle.std.proofs.Math.Seq.{take-add}
 use Rattle.timer_facility.specs.declared.event.Event.{Event}
-use Rattle.timer_script.specs.declared.cutting.TheConstants.{MAX_LINE}
-use Rattle.timer_script.specs.Cutting.{HasNoFeed}
+use Rattle.timer_script.specs.declared.splitter.TheConstants.{MAX_LINE}
+use Rattle.timer_script.specs.Splitter.{HasNoFeed}
 use Rattle.timer_script.specs.Script.{IsInRange, line, spelling, BeginsNoLine}
 use Rattle.timer_script.specs.Lines.{line_at}
-use Rattle.timer_script.specs.Sieve.{Line, Good, Bad, bytes_of, IsLine, events_of, number_after_line, number_after, bad_of, IsCut, complaint, complaints, IsHeld, HasEndedLine, HasSifted}
+use Rattle.timer_script.specs.Sieve.{Line, Good, Bad, bytes_of, IsGoodOrBad, events_of, number_after_line, number_after, bad_of, IsCut, complaint, complaints, IsHeld, HasEndedLine, HasSifted}
 use Rattle.timer_script.proofs.LineLemmas.{line_again, line_sound}
-use Rattle.timer_script.proofs.CuttingLemmas.{IsFed, line_fed, first_feed, no_feed-append, no_feed-take, feed-take}
+use Rattle.timer_script.proofs.SplitterLemmas.{IsFed, line_fed, first_feed, no_feed-append, no_feed-take, feed-take}
 
 -- ---- lists of lines
 
@@ -38,12 +38,12 @@ pub complaints-append : (n : ℕ) (xs ys : List Line) → complaints (bad_of n (
     ≡ complaints (bad_of n xs) ++ complaints (bad_of (number_after n xs) ys)
 complaints-append n xs ys = ap complaints (bad-append n xs ys) ∙ flat_map-append complaint (bad_of n xs) (bad_of (number_after n xs) ys)
 
-pub lines-join : (xs ys : List Line) → AllByRecursion IsLine xs → AllByRecursion IsLine ys → AllByRecursion IsLine (xs ++ ys)
+pub lines-join : (xs ys : List Line) → AllByRecursion IsGoodOrBad xs → AllByRecursion IsGoodOrBad ys → AllByRecursion IsGoodOrBad (xs ++ ys)
 lines-join [] ys a b = b
 lines-join (x ∷ xs) ys a b = (a.0, lines-join xs ys a.1 b)
 
 -- the good lines are a script
-pub good_script : (xs : List Line) → AllByRecursion IsLine xs → AllByRecursion IsInRange (events_of xs)
+pub good_script : (xs : List Line) → AllByRecursion IsGoodOrBad xs → AllByRecursion IsInRange (events_of xs)
 good_script [] a = tt
 good_script (Good event ∷ xs) a = (a.0, good_script xs a.1)
 good_script (Bad front ∷ xs) a = good_script xs a.1

@@ -10,7 +10,7 @@ use Rattle.timer_script.specs.declared.stage.Stage.TheVariants.{Going, Failed, E
 use Rattle.timer_script.specs.declared.fault.SessionFault.{SessionFault}
 use Rattle.timer_script.specs.declared.fault.SessionFault.TheVariants as faults
 use Rattle.timer_script.specs.Script.{IsInRange, spelling, BeginsNoLine}
-use Rattle.timer_script.specs.Cutting.{IsPartial, IsBadFront}
+use Rattle.timer_script.specs.Splitter.{IsPartial, IsBadFront}
 use Rattle.timer_script.specs.Text.{out_line}
 
 -- a session between two calls

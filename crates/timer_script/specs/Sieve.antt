@@ -2,8 +2,8 @@
 use Rattle.std.specs.Prelude.{◌≡◌, ℕ, ◌+◌, ◌-◌, ◌^◌, List, [], ◌∷◌, ◌++◌, take, min, codes, decimal}
 use Rattle.std.specs.List.{flat_map, AllByRecursion}
 use Rattle.timer_facility.specs.declared.event.Event.{Event}
-use Rattle.timer_script.specs.declared.cutting.TheConstants.{MAX_LINE}
-use Rattle.timer_script.specs.Cutting.{HasNoFeed}
+use Rattle.timer_script.specs.declared.splitter.TheConstants.{MAX_LINE}
+use Rattle.timer_script.specs.Splitter.{HasNoFeed}
 use Rattle.timer_script.specs.Script.{IsInRange, line, spelling, BeginsNoLine}
 
 -- a line of an input: that of an event, or a bad one, which is given without its line feed
@@ -17,9 +17,9 @@ bytes_of (Good event) = line event
 bytes_of (Bad front) = front ++ 10 ∷ []
 
 -- the numbers of a good line are in range, and a bad one is the line of no event
-abbrev pub IsLine : Line → Type 0
-IsLine (Good event) = IsInRange event
-IsLine (Bad front) = HasNoFeed front × BeginsNoLine (front ++ 10 ∷ [])
+abbrev pub IsGoodOrBad : Line → Type 0
+IsGoodOrBad (Good event) = IsInRange event
+IsGoodOrBad (Bad front) = HasNoFeed front × BeginsNoLine (front ++ 10 ∷ [])
 
 -- the events of the good lines, in order
 abbrev pub events_of : List Line → List Event
@@ -45,7 +45,7 @@ bad_of n (Bad front ∷ lines) = n ∷ bad_of (number_after_line n) lines
 -- the bytes are these lines and the front of one more
 pub record IsCut (bytes : List ℕ) (lines : List Line) (left : List ℕ) : Type 0 where
   pub parts : bytes ≡ flat_map bytes_of lines ++ left
-  pub each : AllByRecursion IsLine lines
+  pub each : AllByRecursion IsGoodOrBad lines
   pub unended : HasNoFeed left
 
 -- bytes after the last line feed are a bad line, the n-th
@@ -74,7 +74,7 @@ pub record IsHeld (held front : List ℕ) : Type 0 where
 pub record HasEndedLine (bytes : List ℕ) (n : ℕ) (good good' said said' : List ℕ) : Type 0 where
   pub line : Line
   pub bytes_is : bytes_of line ≡ bytes
-  pub is_line : IsLine line
+  pub is_line : IsGoodOrBad line
   pub good_is : good' ≡ good ++ spelling (events_of (line ∷ []))
   pub said_is : said' ≡ said ++ complaints (bad_of n (line ∷ []))
 
@@ -85,7 +85,7 @@ pub record HasSifted (front : List ℕ) (n : ℕ) (bytes good good' said said' h
   pub lines : List Line
   pub left : List ℕ
   pub parts : front ++ bytes ≡ flat_map bytes_of lines ++ left
-  pub each : AllByRecursion IsLine lines
+  pub each : AllByRecursion IsGoodOrBad lines
   pub held : IsHeld held' left
   pub good_is : good' ≡ good ++ spelling (events_of lines)
   pub said_is : said' ≡ said ++ complaints (bad_of n lines)

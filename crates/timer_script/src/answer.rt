@@ -3,11 +3,11 @@ ghost use Rattle.std.specs.Prelude.{◌≡◌, ◌≤◌, List, [], length, IfOk
 ghost use Rattle.timer_facility.specs.declared.event.Event.{Event};
 ghost use Rattle.timer_script.specs.declared.input.TheConstants.{MAX_BYTES};
 ghost use Rattle.timer_script.specs.Script.{IsScript};
-ghost use Rattle.timer_script.specs.Running.{IsAnswer, HasNoAnswer};
+ghost use Rattle.timer_script.specs.ScriptRun.{IsAnswer, HasNoAnswer};
 
 use crate::fault::RunFault;
 use crate::input::MAX_BYTES;
-use crate::running::answer_to;
+use crate::script_run::answer_to;
 use std::alloc::Global;
 use timer_base::Wheel;
 use timer_facility::Facility;

@@ -40,7 +40,7 @@ pub enum SessionFault {
     /// The first bad line, counted from 1.
     #[error("bad line {line}")]
     Bad { line: u64 },
-    /// An allocation failed. The session goes on.
+    /// An allocation failed. The session continues.
     #[error("out of memory")]
     OutOfMemory,
     /// The end line was written before.

@@ -7,11 +7,11 @@ ghost use Rattle.timer_facility.specs.Run.{bare_state};
 ghost use Rattle.timer_script.specs.declared.input.TheConstants.{MAX_BYTES};
 ghost use Rattle.timer_script.specs.declared.lines.TheConstants.{MAX_TICKS};
 ghost use Rattle.timer_script.specs.Script.{IsScript, IsBadLine};
-ghost use Rattle.timer_script.specs.Running.{IsAnswer};
+ghost use Rattle.timer_script.specs.ScriptRun.{IsAnswer};
 ghost use Rattle.timer_script.specs.declared.fault.SessionFault.TheVariants.{Bad};
 ghost use Rattle.timer_script.specs.declared.fault.ServeFault.{ServeFault};
 ghost use Rattle.timer_script.specs.Peer.{PeerState, Moment};
-ghost use Rattle.timer_script.specs.Serving.{IsPrompt, HasServed};
+ghost use Rattle.timer_script.specs.Service.{IsPrompt, HasServed};
 ghost use Rattle.timer_script.specs.Session.{SessionState, fresh, HasFed, HasFailed, WhyNotEnded, IsStoppedAt};
 ghost use Rattle.timer_script.specs.Text.{end_line};
 
@@ -24,19 +24,19 @@ pub fn limits()
     ensures bytes_of_a_script { MAX_BYTES ≡ 1048576 }
 {}
 
-/// Bytes spell one list of events at most.
+/// Bytes spell at most one list of events.
 pub fn one_spelling()
     ensures { (xs ys : List Event) (bytes : List ℕ) → IsScript xs bytes → IsScript ys bytes → xs ≡ ys }
 {}
 
-/// A script has no bad line, and other bytes have one first bad line at most.
+/// A script has no bad line, and other bytes have at most one first bad line.
 pub fn one_bad_line()
     ensures no_script { (xs : List Event) (bytes : List ℕ) (n : ℕ) → IsScript xs bytes → IsBadLine bytes n
         → ⊥ }
     ensures one { (bytes : List ℕ) (m n : ℕ) → IsBadLine bytes m → IsBadLine bytes n → m ≡ n }
 {}
 
-/// The answer to events is one text, whichever wheel the facility stands on: it contains no places.
+/// The answer to events is one text, whichever wheel the facility is over: it contains no places.
 pub fn each_wheel_gives_the_same_text()
     ensures { (s t : FacilityState) (events : List Event) (answer other : List ℕ)
         → bare_state s ≡ bare_state t
@@ -52,7 +52,7 @@ pub fn pieces_join()
 {}
 
 /// However a script is cut into pieces, what a session writes for them, and the end line, are the answer
-/// of a run to the whole, whichever wheel each stands on.
+/// of a run to the whole, whichever wheel each is over.
 pub fn a_session_answers_as_a_run()
     ensures { (s t : FacilityState) (bytes text answer : List ℕ) (end : SessionState) (events : List Event)
         → IsSound s → bare_state s ≡ bare_state t

@@ -1,55 +1,56 @@
 //! Scripts of events, the text that answers them, and the way from one to the other: a whole script at a
 //! time, or lines that are answered as they come. Over any wheel; no command line, and no threads.
 //!
-//! `running` has the whole run, from the bytes of the script to those of the text, and its contract is
-//! the promise of the program; `serving` has the same for lines that are answered as they come. Read
+//! `script_run` has the whole run, from the bytes of the script to those of the text, and its contract is
+//! the promise of the program; `service` has the same for lines that are answered as they come. Read
 //! `script` and `text` first, with `specs/Script.antt` and `specs/Text.antt`: which bytes are a script,
 //! and which text answers it.
 //!
 //! A module's definitions are in the file of its name in `specs/`, and their lemmas in `proofs/`:
 //!
-//!     bytes     digits and lines (`lines`), scripts (`script`), a stream cut into lines (`cutting`)
-//!     runs      input, output, `running`, `answer` (the same in memory), `text`
-//!     streams   `session`, `peer`, `streams`, `serving`; past bad lines `sieve`, `forgiving`
+//!     bytes       digits and lines (`lines`), scripts (`script`), a stream cut into lines (`splitter`)
+//!     runs        `input`, `output`, `script_run`, `answer` (the same in memory), `text`
+//!     streams     `session`, `peer`, `streams`, `service`, `decorator`; past bad lines `sieve`, `good_lines`
+//!     bad lines   `line_fault` and `diagnosis` (one line), `script_report` (those of a script)
 #![tactic(auto)]
 
 mod answer;
-mod checking;
-mod cutting;
 mod decorator;
-mod explaining;
+mod diagnosis;
 mod fault;
-mod forgiving;
+mod good_lines;
 mod input;
 pub mod laws;
 mod line_fault;
 mod lines;
 mod output;
 mod peer;
-mod running;
 mod script;
-mod serving;
+mod script_report;
+mod script_run;
+mod service;
 mod session;
 mod sieve;
+mod splitter;
 mod stage;
 mod streams;
 mod text;
 mod watched;
 
 pub use answer::answer_of;
-pub use checking::{check, scripts_have_no_bad_line};
 pub use decorator::Decorator;
-pub use explaining::fault_in_line;
+pub use diagnosis::fault_in_line;
 pub use fault::{RunFault, ScriptFault, ServeFault, SessionFault};
-pub use forgiving::serve_good;
+pub use good_lines::serve_good;
 pub use input::MAX_BYTES;
 pub use line_fault::{Field, LineFault, LineReason};
 pub use lines::MAX_TICKS;
 pub use output::write_text;
 pub use peer::Peer;
-pub use running::run;
 pub use script::parse_script;
-pub use serving::{serve, serve_decorated};
+pub use script_report::{check, scripts_have_no_bad_line};
+pub use script_run::run;
+pub use service::{serve, serve_decorated};
 pub use session::{FeedStop, Session};
 pub use stage::Stage;
 pub use streams::Streams;

@@ -1,6 +1,6 @@
 //! What is wrong with a line: at which column, in which field, and why.
 ghost use Rattle.std.specs.Prelude.{◌≡◌};
-ghost use Rattle.timer_script.specs.Explaining.{field_words, reason_words};
+ghost use Rattle.timer_script.specs.Diagnosis.{field_words, reason_words};
 
 use std::fmt;
 use std::fmt::Display;

@@ -21,7 +21,7 @@ use timer_facility::Event;
 pub const MAX_TICKS: u64 = 1000000;
 
 /// The value of the digits at the front and their number, if there is one and the value is at most LAST.
-/// A call would pass these through memory, here and in `read_number`.
+/// Inlined, as `read_number` is: a call would return its result through memory.
 #[inline(always)]
 fn read_digits(bytes: &[u8]) -> Option<(u64, usize)>
     ensures value { result ≡ digits_at bytes.now }
@@ -56,8 +56,8 @@ pub fn read_number(bytes: &[u8]) -> Option<(u64, &[u8])>
     Some((value, &bytes[len..]))
 }
 
-/// The bytes after a word that stands at the front. The first byte alone tells most words apart: so it is
-/// compared first, and the whole word only if that byte is the same.
+/// The bytes after this word, if they begin with it. The first byte alone distinguishes most words, so the
+/// whole word is compared only if that byte is the same.
 #[inline(always)]
 #[tactic(auto, unfolding(crate::specs::Lines::strip))]
 fn after_word<'a>(bytes: &'a [u8], word: &[u8]) -> Option<&'a [u8]>
@@ -140,7 +140,7 @@ fn read_tick(bytes: &[u8]) -> Option<(Event, &[u8])>
     Some((Event::Ticks { count }, rest))
 }
 
-/// The event whose line stands at the front, and the bytes after the line.
+/// The event whose line is at the front, and the bytes after the line.
 #[tactic(auto, unfolding(crate::specs::Lines::line_at))]
 pub fn read_line(bytes: &[u8]) -> Option<(Event, &[u8])>
     ensures { read_view (λ e. e) result ≡ line_at bytes.now }

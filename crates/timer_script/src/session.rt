@@ -12,12 +12,12 @@
 //!     " 3\n"        "expired 3 0 1 7\n"
 //!     end           "end 3 0\n"
 ghost use Rattle.std.specs.Prelude.{◌≡◌, ◌<◌, ◌≤◌, ◌++◌, ℕ, List, [], length, take, true, false, Err, IfOk, IfErr, IfSome, OnErr, OnOk, IsNone};
-ghost use Rattle.timer_script.specs.Cutting.{IsPartial};
+ghost use Rattle.timer_script.specs.Splitter.{IsPartial};
 ghost use Rattle.timer_script.specs.Session.{SessionState, fresh, lines_of, next_line, HasFed, IsKept, IsAnsweredSoFar, HasFailed, IsOver, HasStopped, WhyStopped, WhyNotEnded};
 ghost use Rattle.timer_script.specs.Text.{end_line};
 
-use crate::cutting::{Ending, hold};
 use crate::fault::SessionFault;
+use crate::splitter::{Ending, hold};
 use crate::stage::Stage;
 use crate::text::{push_end, push_outs};
 use std::alloc::Global;

@@ -1,24 +1,24 @@
 //! Cuts a stream of bytes, which arrives in pieces of any size, into lines, and keeps the good ones.
 //!
 //! A bad line is reported by its number, and its bytes are dropped. At most `MAX_LINE` bytes of a line that
-//! has not ended are held: of a longer one, which is bad, the others are skipped up to its line feed.
+//! has not ended are held. A longer line is bad: its other bytes are skipped, up to its line feed.
 //!
 //!     piece                 good             complaints       held
 //!     "start 0 1"                                             "start 0 1"
 //!     " 3 7\ntikc 3\ntick"  "start 0 1 3 7\n" "bad line 2\n"  "tick"
 //!     " 3\n"                "tick 3\n"
 ghost use Rattle.std.specs.Prelude.{◌≡◌, ◌<◌, ◌≤◌, ◌++◌, ◌∷◌, [], ℕ, List, length, take, IfOk, OnOk};
-ghost use Rattle.timer_script.specs.declared.cutting.TheConstants.{MAX_LINE};
-ghost use Rattle.timer_script.specs.Cutting.{HasNoFeed};
+ghost use Rattle.timer_script.specs.declared.splitter.TheConstants.{MAX_LINE};
+ghost use Rattle.timer_script.specs.Splitter.{HasNoFeed};
 ghost use Rattle.timer_script.specs.Sieve.{number_after_line, complaint, complaints, last_bad, IsHeld, HasEndedLine, HasSifted};
 
-use crate::cutting::{MAX_LINE, line_len};
 use crate::lines::read_line;
+use crate::splitter::{MAX_LINE, line_len};
 use itoa::Buffer;
 use std::alloc::Global;
 use timer_base::OutOfMemory;
 
-/// What came of the lines of the last piece, and the front of a line that has not ended.
+/// The lines of the last piece, sorted, and the front of a line that has not ended.
 #[derive(Drop)]
 pub struct Sieve {
     /// The good lines of the last piece.
@@ -42,7 +42,7 @@ fn push_complaint(complaints: &mut Vec<u8>, number: u64) -> Result<(), OutOfMemo
     Ok(())
 }
 
-/// Keeps a line if it is good, and else reports it. Of a line that is too long only the front is held.
+/// Keeps a line if it is good, and else reports it. If it is too long, only its front is held.
 fn sort_line(
     held: &[u8],
     number: u64,

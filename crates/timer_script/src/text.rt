@@ -51,7 +51,7 @@ fn refusal_of(reason: NotTaken) -> &'static [u8]
 }
 
 /// The word for a refused tick.
-fn fault_of(fault: TickFault) -> &'static [u8]
+fn tick_refusal_of(fault: TickFault) -> &'static [u8]
     ensures { result.now ≡ fault_word fault }
 {
     match fault {
@@ -132,8 +132,8 @@ fn push_refused(
 
 /// Writes the answer to a client's request as its line.
 ///
-/// Answers and outs are read where they stand, field by field. A copy is read in other pieces than the out
-/// was written in, and such a read waits for the writes.
+/// Answers and outs are read in place, field by field. A copy would be read in other pieces than the out was
+/// written in, and such a read waits for the writes.
 fn push_answer(
     text: &mut Vec<u8>,
     client: u64,
@@ -190,7 +190,12 @@ fn push_out(text: &mut Vec<u8>, out: &Out) -> Result<(), OutOfMemory>
             b"returned",
             &[t.client, t.serial, t.deadline, t.action],
         ),
-        Out::TickRefused(fault) => push_refused(text, b"tick refused", &[], fault_of(*fault)),
+        Out::TickRefused(fault) => push_refused(
+            text,
+            b"tick refused",
+            &[],
+            tick_refusal_of(*fault),
+        ),
         Out::Closed { count } => push_line(text, b"closed", &[*count]),
         Out::CloseRefused => {
             text.extend_from_slice(b"close refused closed\n")?;
@@ -219,7 +224,7 @@ pub fn push_end(text: &mut Vec<u8>, now: u64, pending: u64) -> Result<(), OutOfM
 /// The lines of the outs, in their order, and the end line with this tick and this number of pending
 /// timers. Each out has a text, also `NotTaken::OutOfMemory`, which a player never returns.
 ///
-/// Fails only when an allocation is refused. It allocates the text alone, which grows with the lines.
+/// Fails only if memory runs out. Only the text is allocated: it grows with the lines.
 pub fn text_of(alloc: Global, outs: &[Out], now: u64, pending: u64) -> Result<Vec<u8>, OutOfMemory>
     ensures { IfOk result (λ bytes. bytes.items ≡ text outs.now now pending) }
 {

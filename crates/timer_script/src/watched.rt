@@ -3,8 +3,7 @@
 //! An error that was returned once may be gone at the next call. This latches the first failure, so a
 //! contract can say that an error comes only if the reader or the writer itself failed. Each call makes one
 //! call of the reader or the writer, with the whole piece, and nothing is retried. No clause counts those
-//! calls, since what `std` knows of a reader or a writer is its bytes alone: a test over one that writes its
-//! calls down does.
+//! calls, since `std` models a reader or a writer by its bytes alone. A test counts them.
 ghost use Rattle.std.specs.Prelude.{◌≡◌, ◌||◌, ◌&&◌, ◌==◌, ◌<◌, not, false, length, is_ok, is_err};
 ghost use Rattle.std.specs.Io.{ReadsAtMost, WritesAtMost};
 ghost use Rattle.std.specs.Io.KnownBytes.{Keeps, ReadConsumes, WriteAppends};

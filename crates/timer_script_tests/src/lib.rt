@@ -2,17 +2,17 @@
 #![tactic(auto)]
 
 #[cfg(test)]
-mod checking_tests;
-#[cfg(test)]
-mod forgiving_tests;
+mod good_lines_tests;
 #[cfg(test)]
 mod prompt_tests;
 #[cfg(test)]
-mod recording;
+mod recorded_peer;
+#[cfg(test)]
+mod script_report_tests;
 #[cfg(test)]
 mod script_tests;
 #[cfg(test)]
-mod serving_tests;
+mod service_tests;
 #[cfg(test)]
 mod session_tests;
 #[cfg(test)]

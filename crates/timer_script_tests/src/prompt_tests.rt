@@ -3,7 +3,7 @@
 ghost use Rattle.std.specs.Prelude.{◌≡◌, ◌∷◌, ◌++◌, [], None, Some, false, true, map};
 ghost use Rattle.timer_script.specs.Peer.{moment_of};
 ghost use Rattle.timer_script.specs.Session.{fresh};
-ghost use Rattle.timer_script.specs.Serving.{IsPrompt};
+ghost use Rattle.timer_script.specs.Service.{IsPrompt};
 
 use crate::testing::{plain_facility, same};
 use std::alloc::Global;

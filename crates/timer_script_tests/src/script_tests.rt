@@ -98,7 +98,7 @@ fn a_script_in_memory_gives_its_text_or_its_bad_line(rt: HostRuntime) {
     }
 }
 
-/// Why so many zeros have no answer.
+/// The error for `len` zero bytes.
 fn fault_of_zeros(rt: &impl Abort, alloc: Global, len: usize) -> Option<RunFault> {
     let Ok(zeros) = vec![in alloc; 0u8; len] else {
         panic!(rt; "out of memory");

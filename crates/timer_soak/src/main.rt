@@ -3,8 +3,9 @@
 //!     timer_soak           3 runs of 4 clients with 100 timers each
 //!     timer_soak long      100 runs of 64 clients with 10,000 timers each
 //!
-//! A run that returns its text has accounted for each request and each word: what a client submitted
-//! was got, and what it was given was read. The first that fails ends the program with status 1.
+//! A run that returns its text has accounted for each request and each word: the owner took all that a
+//! client submitted, and the client read all that it was given. The first run that fails ends the program
+//! with status 1.
 #![tactic(auto)]
 
 ghost use Rattle.std.specs.Prelude.{◌≡◌, ◌≤◌, IfOk, vec_len};
@@ -35,7 +36,7 @@ impl Gate for Chance {
     }
 }
 
-/// A gate for each client, none of which begins as another does.
+/// A gate for each client, each with a seed of its own.
 fn gates(alloc: Global, clients: usize, run: u64) -> Result<Vec<Chance>, AllocError>
     ensures { IfOk result (λ gates. vec_len gates ≡ clients) }
 {

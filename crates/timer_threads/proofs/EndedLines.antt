@@ -13,7 +13,7 @@ use Rattle.timer_desk.specs.declared.driver.DriveEnd.TheVariants as DriveEnds
 use Rattle.timer_threads.specs.declared.fault.ThreadsFault.{ThreadsFault}
 use Rattle.timer_threads.specs.declared.outcome.Worked.{Worked}
 use Rattle.timer_threads.specs.Results.{has_failed, NoneFailed, AllEnded, IsFirstFailed, lower_of, AreUnzipped}
-use Rattle.timer_threads.specs.Threads.{AreOfLines, AllRead, NoneUnread, IsServed, AllServed, IsWoundUp, IsUnfinished, IsFirstClient, IsFirstFault, fault_of}
+use Rattle.timer_threads.specs.Threads.{AreOfLines, AllRead, NoneUnread, IsServed, AllServed, IsWoundUp, IsUnfinished, IsFirstClient, IsFirstFault, drive_fault}
 use Rattle.timer_threads.proofs.ResultsLemmas.{unzipped_lengths, unzipped_at, ended_at, reader_at, all_ended}
 
 pub ends_of : (inlets : List RingInlet) (ws : List Worked) (es : List RequestsEnded) (rs : List ClientReader) → AreUnzipped ws es rs
@@ -202,12 +202,12 @@ fault_or fault None = fault
 fault_or fault (Some other) = other
 
 pub first_fault_is : (desk : DeskState RingInlet) (outcome : DriveEnd) (all : List Worked) (failed held : Option ℕ) (fault : ThreadsFault)
-    → Some fault ≡ fault_of outcome (lower_of failed held) → ¬ (outcome ≡ DriveEnds.OutOfMemory)
+    → Some fault ≡ drive_fault outcome (lower_of failed held) → ¬ (outcome ≡ DriveEnds.OutOfMemory)
     → IfSome failed (λ k. IsFirstFailed all k) → (IsNone failed → NoneFailed all) → IfSome held (λ k. IsFirstHeld desk all k)
     → (IsNone held → AllEnded all → IsWoundUp desk all) → IsFirstFault desk outcome all fault
 first_fault_is desk outcome all failed held fault is memory some none low wound = go outcome (lower_of failed held) refl is memory
   where
-    go : (end : DriveEnd) (o : Option ℕ) → lower_of failed held ≡ o → Some fault ≡ fault_of end o → ¬ (end ≡ DriveEnds.OutOfMemory)
+    go : (end : DriveEnd) (o : Option ℕ) → lower_of failed held ≡ o → Some fault ≡ drive_fault end o → ¬ (end ≡ DriveEnds.OutOfMemory)
         → IsFirstFault desk end all fault
     go DriveEnds.Done (Some c) e h m = subst (λ f. IsFirstFault desk DriveEnds.Done all f) (sym (ap (λ o. fault_or fault o) h)) (
       m,
@@ -230,11 +230,11 @@ first_fault_is desk outcome all failed held fault is memory some none low wound 
     go DriveEnds.OutOfMemory None e h m = absurd (m refl)
 
 -- if there is no fault, no client failed or is held back, and the drive is done
-pub no_fault : (outcome : DriveEnd) (failed held : Option ℕ) → None ≡ fault_of outcome (lower_of failed held)
+pub no_fault : (outcome : DriveEnd) (failed held : Option ℕ) → None ≡ drive_fault outcome (lower_of failed held)
     → (failed ≡ None) × (held ≡ None) × (outcome ≡ DriveEnds.Done)
 no_fault outcome failed held is = go outcome (lower_of failed held) refl is
   where
-    go : (end : DriveEnd) (o : Option ℕ) → lower_of failed held ≡ o → None ≡ fault_of end o
+    go : (end : DriveEnd) (o : Option ℕ) → lower_of failed held ≡ o → None ≡ drive_fault end o
         → (failed ≡ None) × (held ≡ None) × (end ≡ DriveEnds.Done)
     go DriveEnds.Done (Some c) e h = absurd (cc)
     go DriveEnds.Limit (Some c) e h = absurd (cc)

@@ -54,7 +54,7 @@ AllRead inlets readers = (c : ℕ) (i : RingInlet) (r : ClientReader) → c < le
 abbrev pub NoneUnread : List ClientReader → Type 0
 NoneUnread readers = (c : ℕ) (r : ClientReader) → c < length readers → unread_by (get_or readers c r) ≡ []
 
--- no request of this client is held, all that it submitted was got, and its outbox is empty
+-- no request of this client is held, all that it submitted was taken from its line, and its outbox is empty
 pub record IsServed (desk : DeskState RingInlet) (all : List Worked) (c : ℕ) : Type 0 where
   pub idle : IsIdle (backlog_at desk c)
   pub got : (i : RingInlet) (w : Worked) (e : RequestsEnded) → (get_or all c w).ended ≡ Some e
@@ -71,7 +71,7 @@ pub record IsWoundUp (desk : DeskState RingInlet) (all : List Worked) : Type 0 w
       → read_by (get_or all c w).reader ≡ given_of (get_or desk.inlets c i)
 
 -- the desk reached its goal, no client failed, and the desk was wound up
-pub record HasEnded (desk : DeskState RingInlet) (outcome : DriveEnd) (all : List Worked) : Type 0 where
+pub record HasSucceeded (desk : DeskState RingInlet) (outcome : DriveEnd) (all : List Worked) : Type 0 where
   pub done : outcome ≡ DriveEnds.Done
   pub good : NoneFailed all
   pub wound : IsWoundUp desk all
@@ -83,7 +83,7 @@ IsUnfinished desk all c =
     → IsWaiting (backlog_at desk c) (got_of (get_or desk.inlets c i)) (all_submitted e))
     ⊎ AllServed desk all
 
--- this client failed or is held back. None before it failed; and if the requests of each client could be
+-- this client failed or is unfinished. None before it failed; and if the requests of each client could be
 -- ended, each before it is served.
 pub record IsFirstClient (desk : DeskState RingInlet) (all : List Worked) (c : ℕ) : Type 0 where
   pub client : c < length all
@@ -98,12 +98,12 @@ IsFirstFault desk outcome all (Faults.Client c) = ¬ (outcome ≡ DriveEnds.OutO
     × IsFirstClient desk all c
 IsFirstFault desk outcome all Faults.Desk = (outcome ≡ DriveEnds.Limit) × NoneFailed all × IsWoundUp desk all
 
--- the error of a drive with this end, after which this client failed or was held back, if one was
-abbrev pub fault_of : DriveEnd → Option ℕ → Option ThreadsFault
-fault_of outcome (Some c) = Some (Faults.Client c)
-fault_of DriveEnds.Done None = None
-fault_of DriveEnds.Limit None = Some Faults.Desk
-fault_of DriveEnds.OutOfMemory None = Some Faults.OutOfMemory
+-- the error of a drive with this end, after which this client failed or was unfinished, if there is one
+abbrev pub drive_fault : DriveEnd → Option ℕ → Option ThreadsFault
+drive_fault outcome (Some c) = Some (Faults.Client c)
+drive_fault DriveEnds.Done None = None
+drive_fault DriveEnds.Limit None = Some Faults.Desk
+drive_fault DriveEnds.OutOfMemory None = Some Faults.OutOfMemory
 
 -- a client that an error names is one of the clients
 abbrev pub IsAmong : ℕ → ThreadsFault → Type 0

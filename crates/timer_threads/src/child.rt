@@ -1,8 +1,8 @@
 //! A client's thread, which has to be joined.
 //!
-//! The handle of a thread may be dropped, and its thread then runs on. A `Child` has no `Drop`: a function
-//! that has one hands it on or joins it, or is not accepted. So no path lets go of a thread unjoined, not
-//! even one on which memory runs out.
+//! If the handle of a thread is dropped, the thread runs on. A `Child` is not `Drop`: the prover rejects a
+//! function that neither passes it on nor joins it. So no path leaves a thread unjoined, even if memory
+//! runs out.
 ghost use Rattle.std.specs.Prelude.{◌≡◌, ◌≤◌, IfOk};
 ghost use Rattle.timer_base.specs.declared.limits.TheConstants.{LAST};
 ghost use Rattle.timer_desk.specs.Ring.{line_of_end};

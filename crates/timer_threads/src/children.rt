@@ -1,7 +1,7 @@
 //! The threads that were started for the clients, which are joined together.
 //!
-//! The room for what the clients leave is made before the first thread is started: joining them can't
-//! run out of memory.
+//! Room for the clients' results is reserved before the first thread is started, so joining the threads
+//! can't run out of memory.
 ghost use Rattle.std.specs.Prelude.{◌≡◌, ◌<◌, ◌≤◌, [], ◌∷◌, ◌++◌, length, vec_len, vec_capacity, IfOk};
 
 use crate::child::Child;

@@ -3,7 +3,7 @@ ghost use Rattle.std.specs.Prelude.{◌≡◌, ◌<◌, [], length, IfOk, IfErr,
 ghost use Rattle.timer_desk.specs.Desk.{AllIdle};
 ghost use Rattle.timer_desk.specs.Ring.{unread_by};
 ghost use Rattle.timer_desk.specs.Shutdown.{AreEndsOf, AreReadersOf, AllGot, IsBlamed};
-ghost use Rattle.timer_threads.specs.Threads.{AreOfLines, AllWhole, AllRead, NoneUnread, HasEnded, IsFirstFault, fault_of, whole_text};
+ghost use Rattle.timer_threads.specs.Threads.{AreOfLines, AllWhole, AllRead, NoneUnread, HasSucceeded, IsFirstFault, drive_fault, whole_text};
 ghost use Rattle.timer_threads.specs.Results.{lower_of};
 
 use crate::fault::ThreadsFault;
@@ -17,11 +17,11 @@ use timer_wheels::HierWheel;
 /// Winds the desk up once its clients have finished, and returns the text or the first fault: the end of
 /// `threads_run`.
 ///
-/// Out of memory comes before a client, and the desk's limit last. The client failed, or something of it is
-/// left: a held request, a request in its line or a word in its outbox; or, if nothing is left of any
-/// client, its line could not be finished or its words were not all read. No client before it failed, and
+/// Errors in their order: out of memory, a client, and the desk's limit. The client failed, or something of
+/// it is left: a held request, a request in its line or a word in its outbox. If nothing is left of any
+/// client, its line could not be finished, or its words were not all read. No client before it failed, and
 /// nothing of one before it is left. If the requests of a client could not be ended, the desk is not
-/// wound up, and it is the first client that failed.
+/// wound up, and the error names the first client that failed.
 pub fn end_all(
     alloc: Global,
     desk: Desk<HierWheel, RingInlet>,
@@ -32,7 +32,7 @@ pub fn end_all(
     requires lines { AreOfLines desk.inlets all.items }
     requires counts { AllWhole timers all.items }
     ensures text { IfOk result (λ text. text.items ≡ whole_text (vec_len all) timers) }
-    ensures ended { IfOk result (λ _. HasEnded desk outcome all.items) }
+    ensures ended { IfOk result (λ _. HasSucceeded desk outcome all.items) }
     ensures fault { IfErr result (λ fault. IsFirstFault desk outcome all.items fault) }
 {
     if let DriveEnd::OutOfMemory = outcome {
@@ -52,13 +52,13 @@ pub fn end_all(
     }
 }
 
-/// The first fault of a client that failed, one that is held back, and the outcome of the drive.
+/// The first fault: of a client that failed, of one that is unfinished, or of the drive.
 fn first_fault(
     failed: Option<usize>,
     held: Option<usize>,
     outcome: DriveEnd,
 ) -> Option<ThreadsFault>
-    ensures { result ≡ fault_of outcome (lower_of failed held) }
+    ensures { result ≡ drive_fault outcome (lower_of failed held) }
 {
     match lower(failed, held) {
         Some(c) => Some(ThreadsFault::Client(c)),
@@ -70,9 +70,9 @@ fn first_fault(
     }
 }
 
-/// Winds the desk up if all that it takes is there, and returns the client that blocked it: the first of whom
-/// something is held, waits or stands; if there is none, the first whose line could not be finished; or the
-/// first with a word left to read.
+/// Winds the desk up if all its parts are there, and returns the client that blocked it. That is the first
+/// with a held request, or with a request or a word that waits. If there is none, it is the first whose line
+/// could not be finished, or the first with a word left to read.
 fn first_unfinished(
     desk: Desk<HierWheel, RingInlet>,
     parts: Option<(Vec<RequestsEnded>, Vec<ClientReader>)>,
@@ -93,7 +93,7 @@ fn first_unfinished(
     }
 }
 
-/// The first of settled readers for which a word is left.
+/// The first of the settled readers with an unread word.
 fn first_unread(readers: Vec<ClientReader>) -> Option<usize>
     ensures some { IfSome result (λ c. c < vec_len readers) }
     ensures none { IsNone result → NoneUnread readers.items }
@@ -107,7 +107,7 @@ fn first_unread(readers: Vec<ClientReader>) -> Option<usize>
     None
 }
 
-/// Whether no word is left for a settled reader.
+/// Whether a settled reader has read all its words.
 fn is_read_out(reader: &mut ClientReader) -> bool
     ensures { IsTrue result → unread_by reader.old ≡ [] }
 {

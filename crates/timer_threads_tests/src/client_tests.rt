@@ -43,7 +43,7 @@ fn say(rt: &impl Abort, inlet: &mut RingInlet, words: &[Word]) {
 }
 
 /// What is left of a client of `count` requests whose owner put these words before it began.
-fn told<G: Gate + Drop>(
+fn worked_after<G: Gate + Drop>(
     rt: &impl Abort,
     alloc: Global,
     words: &[Word],
@@ -72,7 +72,7 @@ impl Gate for UpTo {
 #[test]
 fn a_client_that_hears_what_it_has_to_is_complete(rt: HostRuntime) {
     let words = [started(1), started(2), expired(5, 1), expired(5, 2)];
-    let worked = told(&rt, rt.alloc(), &words, 2, Open);
+    let worked = worked_after(&rt, rt.alloc(), &words, 2, Open);
     assert!(rt; !worked.failed);
     same(
         &rt,
@@ -81,7 +81,7 @@ fn a_client_that_hears_what_it_has_to_is_complete(rt: HostRuntime) {
     );
 }
 
-/// Fails unless a client stops at the last of these words, counts so many, and reads no further.
+/// Fails unless a client stops at the last of these words, with these counts, and reads no further.
 fn stops(rt: &impl Abort, alloc: Global, words: &[Word], counts: (u64, u64)) {
     let (end, mut inlet) = line(rt, alloc, 16, 1);
     say(rt, &mut inlet, words);
@@ -210,7 +210,7 @@ fn a_gate_is_asked_with_the_next_number_and_the_timers_that_expired(rt: HostRunt
         started(3),
         expired(3, 3),
     ];
-    let worked = told(&rt, alloc, &words, 3, gate);
+    let worked = worked_after(&rt, alloc, &words, 3, gate);
     assert!(rt; !worked.failed);
     same(&rt, asks.load(Ordering::SeqCst), 10_20_31);
 }
@@ -284,7 +284,7 @@ fn a_client_that_sends_now_and_then_does_not_give_up(rt: HostRuntime) {
         every: 900,
     };
     let words = [started(1), started(2), expired(5, 1), expired(5, 2)];
-    let worked = told(&rt, alloc, &words, 2, gate);
+    let worked = worked_after(&rt, alloc, &words, 2, gate);
     assert!(rt; !worked.failed);
     same(&rt, asks.load(Ordering::SeqCst), 1800);
 }

@@ -237,8 +237,8 @@ fn paced<L: Line + Drop>(alloc: Global, line: L) -> Option<Vec<Word>> {
     None
 }
 
-/// What a word tells: a number or a serial, and a deadline.
-fn told(word: Word) -> (u64, u64, u64) {
+/// Which kind of word it is, its number or serial, and its deadline.
+fn parts_of(word: Word) -> (u64, u64, u64) {
     match word {
         Word::Answered {
             number,
@@ -289,12 +289,12 @@ fn turn_of_one<I: Inlet + Drop>(rt: &impl Abort, desk: &mut Desk<HierWheel, I>) 
 /// Goes on only if these are the answers to two starts, each before its timer, one after the other.
 fn are_paced(rt: &impl Abort, words: &[Word]) {
     assert!(rt; words.len() == 4);
-    let first = told(words[0]);
-    let second = told(words[2]);
+    let first = parts_of(words[0]);
+    let second = parts_of(words[2]);
     same(rt, (first.0, first.1), (1, 1));
-    same(rt, told(words[1]), (2, 1, first.2));
+    same(rt, parts_of(words[1]), (2, 1, first.2));
     same(rt, (second.0, second.1), (1, 2));
-    same(rt, told(words[3]), (2, 2, second.2));
+    same(rt, parts_of(words[3]), (2, 2, second.2));
     assert!(rt; first.2 < second.2);
 }
 

@@ -2,7 +2,7 @@
 complete -c timers -f
 complete -c timers -n __fish_use_subcommand -a play -d "Play the script on standard input"
 complete -c timers -n __fish_use_subcommand -a serve -d "Answer each line of standard input as it comes"
-complete -c timers -n __fish_use_subcommand -a show -d "Answer lines, and show where the timers stand"
+complete -c timers -n __fish_use_subcommand -a show -d "Answer lines, and show where the timers are"
 complete -c timers -n __fish_use_subcommand -a threads -d "Run clients in threads of their own"
 complete -c timers -n __fish_use_subcommand -a check -d "Report every bad line of the script on standard input"
 complete -c timers -n __fish_use_subcommand -a help -d "Print help, of the program or of a command"

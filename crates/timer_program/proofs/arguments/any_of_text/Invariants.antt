@@ -2,7 +2,7 @@ use Rattle.std.proofs.Common.{Any, length}
 use Rattle.timer_program.specs.Arguments.{AsksForText}
 use Rattle.timer_program.proofs.arguments.any_of_text.Given as goal
 
--- where an argument that is left asks, one of them asks
+-- if an argument that is left asks, one of them asks
 abbrev pub invariant-loop-first : goal.invariant-loop-first
 invariant-loop-first g l =
     Any (λ argument. AsksForText (g.S.AsStr.text argument)) l.rest → Any (λ argument. AsksForText (g.S.AsStr.text argument)) l.arguments

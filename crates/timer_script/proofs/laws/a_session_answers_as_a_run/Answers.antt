@@ -1,5 +1,5 @@
 use Rattle.std.proofs.Common.{subst, ◌≡◌, ◌++◌, length}
-use Rattle.timer_script.specs.Running.{IsAnswer}
+use Rattle.timer_script.specs.ScriptRun.{IsAnswer}
 use Rattle.timer_script.specs.Text.{end_line}
 use Rattle.timer_script.proofs.SessionLemmas.{session_answers}
 use Rattle.timer_script.proofs.laws.a_session_answers_as_a_run.Goals as goal

@@ -1,4 +1,4 @@
-use Rattle.timer_script.proofs.ServingLemmas.{served_prompt}
+use Rattle.timer_script.proofs.ServiceLemmas.{served_prompt}
 use Rattle.timer_script.proofs.laws.served_calls_are_prompt.Goals as goal
 
 pub returns : goal.returns

@@ -1,5 +1,5 @@
 use Rattle.std.proofs.Common.{refl}
-use Rattle.timer_script.proofs.ForgivingLemmas.{served_nothing}
+use Rattle.timer_script.proofs.GoodLinesLemmas.{served_nothing}
 use Rattle.timer_commands.proofs.verbs.ServeGoodVerb.out_of_memory.Goals as goal
 
 -- nothing was read, written or reported

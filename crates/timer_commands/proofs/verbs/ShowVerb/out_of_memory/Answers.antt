@@ -1,6 +1,6 @@
 use Rattle.std.proofs.Common.{[], refl}
 use Rattle.timer_script.specs.Session.{fresh}
-use Rattle.timer_script.proofs.ServingLemmas.{so_far_none}
+use Rattle.timer_script.proofs.ServiceLemmas.{so_far_none}
 use Rattle.timer_commands.specs.Indented.{AddsIndented}
 use Rattle.timer_commands.specs.IndentedLaws.{indented_is_lawful}
 use Rattle.timer_commands.proofs.verbs.ShowVerb.out_of_memory.Goals as goal

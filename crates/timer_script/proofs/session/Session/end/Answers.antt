@@ -1,5 +1,5 @@
 use Rattle.std.proofs.Common.{refl, ◌≡◌, ◌∙◌, ◌≤◌, [], sym, subst, rules, length}
-use Rattle.timer_script.specs.Cutting.{IsPartial}
+use Rattle.timer_script.specs.Splitter.{IsPartial}
 use Rattle.timer_script.specs.Session.{SessionState, next_line, WhyNotEnded}
 use Rattle.timer_script.proofs.SessionLemmas.{fed_nothing, fed_still, written_all, over_not_ended, not_ended}
 use Rattle.timer_script.proofs.session.Session.end.Goals as goal

@@ -1,5 +1,5 @@
 use Rattle.std.proofs.Common.{refl, subst, sym, ◌∙◌, take}
-use Rattle.timer_script.specs.Cutting.{IsEnding}
+use Rattle.timer_script.specs.Splitter.{IsEnding}
 use Rattle.timer_script.specs.Session.{SessionState}
 use Rattle.timer_script.proofs.SessionLemmas.{fed_held, fed_line}
 use Rattle.timer_script.proofs.session.Session.play_line.Goals as goal

@@ -1,0 +1,157 @@
+-- Bytes are cut into lines, and the report grows line by line.
+use Rattle.std.proofs.Common.{◌≡◌, ◌==◌, ◌+◌, ◌-◌, ◌<◌, ◌≤◌, ◌⊎◌, inl, inr, Bool, true, false, if◌then◌else◌, ℕ, List, [], ◌∷◌, ◌++◌, length, get_or, take, drop, Option, Some, None, refl, sym, ap, subst, ◌∙◌, arith, append_assoc, append-nil, take-append-drop, eqb-true, eq-eqb, ne_eqb}
+use Rattle.std.proofs.lemmas.Bool.{both_ways, cases_lt}
+use Rattle.std.proofs.lemmas.List.{nil_from_length, length-drop, take_rest}
+use Rattle.timer_script.specs.declared.line_fault.LineFault.{LineFault}
+use Rattle.timer_script.specs.Splitter.{HasNoFeed}
+use Rattle.timer_script.specs.Diagnosis.{IsVerdict}
+use Rattle.timer_script.specs.ScriptReport.{push_front, cut_lines, AreVerdicts, fault_line, report_from, bad_lines, IsReport}
+use Rattle.timer_script.proofs.SplitterLemmas.{no_feed-take, feed-take}
+
+-- ---- one line
+
+-- a byte that is no line feed goes before the first line
+cut_step : (b : ℕ) (rest : List ℕ) (lines : List (List ℕ)) → (b == 10) ≡ false → cut_lines rest ≡ lines
+    → cut_lines (b ∷ rest) ≡ push_front b lines
+cut_step b rest lines other is = ap (λ t. if t then (b ∷ []) ∷ cut_lines rest else push_front b (cut_lines rest)) other
+    ∙ ap (push_front b) is
+
+pub cut_line : (front rest : List ℕ) → HasNoFeed front → cut_lines (front ++ 10 ∷ rest) ≡ (front ++ 10 ∷ []) ∷ cut_lines rest
+cut_line [] rest free = refl
+cut_line (b ∷ front) rest free = cut_step b (front ++ 10 ∷ rest) ((front ++ 10 ∷ []) ∷ cut_lines rest) (ne_eqb b 10 free.0)
+    (cut_line front rest free.1)
+
+-- bytes with no line feed are one line
+cut_last : (front : List ℕ) → HasNoFeed front → 1 ≤ length front → cut_lines front ≡ front ∷ []
+cut_last [] free some = absurd (omega arith)
+cut_last (b ∷ []) free some = cut_step b [] [] (ne_eqb b 10 free.0) refl
+cut_last (b ∷ c ∷ front) free some = cut_step b (c ∷ front) ((c ∷ front) ∷ []) (ne_eqb b 10 free.0)
+    (cut_last (c ∷ front) free.1 (omega arith))
+
+either : (b : Bool) → (b ≡ true) ⊎ (b ≡ false)
+either true = inl refl
+either false = inr refl
+
+-- the bytes up to the first line feed, or all of them, are the first line
+pub cut_at : (bytes : List ℕ) (n : ℕ) → 0 < n → n ≤ length bytes → HasNoFeed (take (n - 1) bytes)
+    → (n < length bytes → get_or bytes (n - 1) 0 ≡ 10)
+    → cut_lines bytes ≡ take n bytes ∷ cut_lines (drop n bytes)
+cut_at bytes n some within free whole =
+    elim (either (get_or bytes (n - 1) 0 == 10)) [
+      | inl is ↦
+          let taken : take n bytes ≡ take (n - 1) bytes ++ 10 ∷ [] = feed-take [] bytes n some within (eqb-true _ 10 is) in
+          let split : bytes ≡ take (n - 1) bytes ++ 10 ∷ drop n bytes =
+          sym (take-append-drop n bytes) ∙ ap (λ t. t ++ drop n bytes) taken ∙ append_assoc (take (n - 1) bytes) (10 ∷ []) (drop n bytes) in
+          ap cut_lines split ∙ cut_line (take (n - 1) bytes) (drop n bytes) free ∙ ap (λ t. t ∷ cut_lines (drop n bytes)) (sym taken)
+      | inr not ↦
+          let other : get_or bytes (n - 1) 0 ≡ 10 → ⊥ = λ e. both_ways _ not (eq-eqb _ 10 e) in
+          elim (cases_lt n (length bytes)) [
+            | inl less ↦ absurd (other (whole less))
+            | inr all ↦
+                let none : drop n bytes ≡ [] = nil_from_length _ (omega (arith, length-drop n bytes)) in
+                let same : take n bytes ≡ bytes = sym (append-nil (take n bytes)) ∙ ap (λ t. take n bytes ++ t) (sym none)
+                ∙ take-append-drop n bytes in
+                cut_last bytes (subst HasNoFeed same (no_feed-take [] bytes n some within tt free other)) (omega arith)
+                ∙ ap (λ t. t ∷ []) (sym same) ∙ ap (λ t. take n bytes ∷ cut_lines t) (sym none)
+          ]
+    ]
+
+-- ---- the report
+
+-- the verdicts on all lines, if these are on those that are left
+pub record Leads (script : List ℕ) (others : List (Option LineFault)) (lines bad : ℕ) (text : List ℕ) : Type 0 where
+  pub all : List (Option LineFault)
+  pub right : AreVerdicts all (cut_lines script)
+  pub text_is : text ++ report_from (lines + 1) others ≡ report_from 1 all
+  pub counted : bad + bad_lines others ≡ bad_lines all
+
+-- the lines before the rest are reported in the text, which are this many, and so many are bad
+pub record HasReported (script rest : List ℕ) (lines bad : ℕ) (text : List ℕ) : Type 0 where
+  pub leads : (others : List (Option LineFault)) → AreVerdicts others (cut_lines rest) → Leads script others lines bad text
+  pub short : lines + length rest ≤ length script
+  pub few : bad ≤ lines
+
+pub reported_none : (script text : List ℕ) → text ≡ [] → HasReported script script 0 0 text
+reported_none script text empty = record {
+  leads = λ others right. record {
+    all = others;
+    right = right;
+    text_is = ap (λ t. t ++ report_from 1 others) empty;
+    counted = omega arith;
+  };
+  short = omega arith;
+  few = omega arith;
+}
+
+-- the line is good
+pub reported_good : (script rest line after : List ℕ) (lines bad : ℕ) (text : List ℕ) → HasReported script rest lines bad text
+    → cut_lines rest ≡ line ∷ cut_lines after → IsVerdict None line → length after + 1 ≤ length rest
+    → HasReported script after (lines + 1) bad text
+reported_good script rest line after lines bad text h cut verdict shorter = record {
+  leads = λ others right.
+      let l = h.leads (None ∷ others) (subst (AreVerdicts (None ∷ others)) (sym cut) (verdict, right)) in
+      record { all = l.all; right = l.right; text_is = l.text_is; counted = l.counted };
+  short = let s = h.short in omega arith;
+  few = let f = h.few in omega arith;
+}
+
+-- the line is bad, and its fault is in the text
+pub reported_bad : (script rest line after : List ℕ) (lines bad : ℕ) (text new : List ℕ) (fault : LineFault)
+    → HasReported script rest lines bad text
+    → cut_lines rest ≡ line ∷ cut_lines after → IsVerdict (Some fault) line → length after + 1 ≤ length rest
+    → new ≡ text ++ fault_line (lines + 1) fault
+    → HasReported script after (lines + 1) (bad + 1) new
+reported_bad script rest line after lines bad text new fault h cut verdict shorter joined = record {
+  leads = λ others right.
+      let l = h.leads (Some fault ∷ others) (subst (AreVerdicts (Some fault ∷ others)) (sym cut) (verdict, right)) in
+      record {
+        all = l.all;
+        right = l.right;
+        text_is = ap (λ t. t ++ report_from (lines + 1 + 1) others) joined
+            ∙ append_assoc text (fault_line (lines + 1) fault) (report_from (lines + 1 + 1) others) ∙ l.text_is;
+        counted = let k = l.counted in omega arith;
+      };
+  short = let s = h.short in omega arith;
+  few = let f = h.few in omega arith;
+}
+
+pub reported_all : (script rest : List ℕ) (lines bad : ℕ) (text : List ℕ) → HasReported script rest lines bad text → rest ≡ []
+    → IsReport script text bad
+reported_all script rest lines bad text h none =
+    let l = h.leads [] (subst (λ r. AreVerdicts [] (cut_lines r)) (sym none) tt) in
+    record {
+      verdicts = l.all;
+      right = l.right;
+      text_is = sym (append-nil text) ∙ l.text_is;
+      counted = let k = l.counted in omega arith;
+    }
+
+-- ---- one turn of the loop
+
+-- what is left is shorter
+left_short : (rest : List ℕ) (n : ℕ) → 0 < n → n ≤ length rest → length (drop n rest) + 1 ≤ length rest
+left_short rest n some within = omega (arith, length-drop n rest)
+
+pub line_good : (script rest : List ℕ) (n lines bad bad' : ℕ) (text new : List ℕ) → HasReported script rest lines bad text → 0 < n
+    → n ≤ length rest
+    → HasNoFeed (take (n - 1) rest) → (n < length rest → get_or rest (n - 1) 0 ≡ 10) → IsVerdict None (take n rest) → new ≡ text
+    → bad' ≡ bad
+    → HasReported script (take (length rest - n) (drop n rest)) (lines + 1) bad' new
+line_good script rest n lines bad bad' text new h some within free whole verdict same as_before =
+    let cut = cut_at rest n some within free whole in
+    let next = reported_good script rest (take n rest) (drop n rest) lines bad text h cut verdict (left_short rest n some within) in
+    subst (λ r. HasReported script r (lines + 1) bad' new) (sym (take_rest rest n))
+    (subst (λ b. HasReported script (drop n rest) (lines + 1) b new) (sym as_before)
+    (subst (HasReported script (drop n rest) (lines + 1) bad) (sym same) next))
+
+pub line_bad : (script rest : List ℕ) (n lines bad bad' : ℕ) (text new : List ℕ) (fault : LineFault)
+    → HasReported script rest lines bad text → 0 < n → n ≤ length rest
+    → HasNoFeed (take (n - 1) rest) → (n < length rest → get_or rest (n - 1) 0 ≡ 10) → IsVerdict (Some fault) (take n rest)
+    → new ≡ text ++ fault_line (lines + 1) fault → bad' ≡ bad + 1
+    → HasReported script (take (length rest - n) (drop n rest)) (lines + 1) bad' new
+line_bad script rest n lines bad bad' text new fault h some within free whole verdict joined one_more =
+    let cut = cut_at rest n some within free whole in
+    let next = reported_bad script rest (take n rest) (drop n rest) lines bad text new fault h cut verdict
+    (left_short rest n some within) joined in
+    subst (λ r. HasReported script r (lines + 1) bad' new) (sym (take_rest rest n))
+    (subst (λ b. HasReported script (drop n rest) (lines + 1) b new) (sym one_more) next)

@@ -1,0 +1,246 @@
+-- The positions of line feeds in lines.
+use Rattle.std.proofs.Common.{◌≡◌, ℕ, ◌+◌, ◌-◌, ◌^◌, ◌%◌, ◌<◌, ◌≤◌, List, [], ◌∷◌, ◌++◌, length, get_or, take, Some, None, decimal, codes, refl, sym, ap, subst, ◌∙◌, arith, append_assoc, append-nil, length-append, lit≤}
+use Rattle.std.proofs.lemmas.Fmt.{length-decimal-le, decimal_by_steps}
+use Rattle.std.proofs.lemmas.List.{take_more}
+use Rattle.timer_base.specs.declared.limits.TheConstants.{LAST}
+use Rattle.timer_script.specs.declared.splitter.TheConstants.{MAX_LINE}
+use Rattle.timer_script.specs.declared.lines.TheConstants.{MAX_TICKS}
+use Rattle.timer_facility.specs.declared.event.Event.{Event}
+use Rattle.timer_facility.specs.declared.event.Event.TheVariants.{Start, Stop, Restart, Ticks, Close}
+use Rattle.timer_script.specs.Script.{IsInRange, line, BeginsNoLine}
+use Rattle.timer_script.specs.declared.splitter.Ending.{Ending}
+use Rattle.timer_script.specs.declared.splitter.Ending.TheVariants.{Bad}
+use Rattle.timer_script.specs.Splitter.{HasNoFeed, IsPartial, IsBadFront, EndsAsLine, HasHeld}
+use Rattle.std.proofs.lemmas.Option.{none-some}
+use Rattle.timer_script.specs.Lines.{line_at}
+use Rattle.timer_script.proofs.LineLemmas.{line_again, line_sound}
+
+pub no_feed-append : (xs ys : List ℕ) → HasNoFeed xs → HasNoFeed ys → HasNoFeed (xs ++ ys)
+no_feed-append [] ys a b = b
+no_feed-append (x ∷ xs) ys a b = (a.0, no_feed-append xs ys a.1 b)
+
+-- a number has no line feed, and at most 19 digits
+decimal_no_feed : (n : ℕ) → n < 2 ^ 64 → HasNoFeed (decimal n)
+decimal_no_feed n small = decimal_by_steps (λ m ds. HasNoFeed ds) (λ m l. (λ e. omega arith, tt))
+    (λ m ds l h. no_feed-append ds ((48 + m % 10) ∷ []) h (λ e. omega arith, tt)) n small
+
+number_no_feed : (n : ℕ) → n ≤ LAST → HasNoFeed (decimal n)
+number_no_feed n fits = decimal_no_feed n (omega arith)
+
+number_short : (n : ℕ) → n ≤ LAST → length (decimal n) ≤ 19
+number_short n fits = length-decimal-le 19 n (lit≤ tt) (omega arith) (omega arith)
+
+-- a line is some bytes with no line feed, and then one
+pub record IsFed (bytes : List ℕ) : Type 0 where
+  pub front : List ℕ
+  pub is : bytes ≡ front ++ 10 ∷ []
+  pub no_feed : HasNoFeed front
+  pub short : length front < MAX_LINE
+
+-- a word or a number, as the beginning of a line
+record IsBare (most : ℕ) (bytes : List ℕ) : Type 0 where
+  pub no_feed : HasNoFeed bytes
+  pub short : length bytes ≤ most
+
+join : (m n : ℕ) (xs ys : List ℕ) → IsBare m xs → IsBare n ys → IsBare (m + n) (xs ++ ys)
+join m n xs ys a b = record {
+  no_feed = no_feed-append xs ys a.no_feed b.no_feed;
+  short = (let h = length-append xs ys in let k = a.short in let l = b.short in omega arith);
+}
+
+number : (n : ℕ) → n ≤ LAST → IsBare 19 (decimal n)
+number n fits = record { no_feed = number_no_feed n fits; short = number_short n fits }
+
+blank : IsBare 1 (codes " ")
+blank = record { no_feed = (λ e. absurd cc, tt); short = omega arith }
+
+word_start : IsBare 6 (codes "start ")
+word_start = record {
+  no_feed = (
+    λ e. absurd cc,
+    (
+      λ e. absurd cc,
+      (λ e. absurd cc, (λ e. absurd cc, (λ e. absurd cc, (λ e. absurd cc, tt)))),
+    ),
+  );
+  short = omega arith;
+}
+
+word_stop : IsBare 5 (codes "stop ")
+word_stop = record {
+  no_feed = (λ e. absurd cc, (λ e. absurd cc, (λ e. absurd cc, (λ e. absurd cc, (λ e. absurd cc, tt)))));
+  short = omega arith;
+}
+
+word_restart : IsBare 8 (codes "restart ")
+word_restart = record {
+  no_feed = (
+    λ e. absurd cc,
+    (
+      λ e. absurd cc,
+      (
+        λ e. absurd cc,
+        (
+          λ e. absurd cc,
+          (λ e. absurd cc, (λ e. absurd cc, (λ e. absurd cc, (λ e. absurd cc, tt)))),
+        ),
+      ),
+    ),
+  );
+  short = omega arith;
+}
+
+word_tick : IsBare 5 (codes "tick ")
+word_tick = record {
+  no_feed = (λ e. absurd cc, (λ e. absurd cc, (λ e. absurd cc, (λ e. absurd cc, (λ e. absurd cc, tt)))));
+  short = omega arith;
+}
+
+word_close : IsBare 5 (codes "close")
+word_close = record {
+  no_feed = (λ e. absurd cc, (λ e. absurd cc, (λ e. absurd cc, (λ e. absurd cc, (λ e. absurd cc, tt)))));
+  short = omega arith;
+}
+
+-- a number and a space
+spaced : (n : ℕ) → n ≤ LAST → IsBare 20 (decimal n ++ codes " ")
+spaced n fits = join 19 1 (decimal n) (codes " ") (number n fits) blank
+
+few_ticks : (k : ℕ) → k ≤ MAX_TICKS → k ≤ LAST
+few_ticks k few = omega arith
+
+fed : (most : ℕ) (bytes front : List ℕ) → most < MAX_LINE → IsBare most front → bytes ≡ front ++ 10 ∷ [] → IsFed bytes
+fed most bytes front small h is = record { front = front; is = is; no_feed = h.no_feed; short = (let k = h.short in omega arith) }
+
+pub line_fed : (event : Event) → IsInRange event → IsFed (line event)
+unfolding line
+line_fed (Start c n i a) fits =
+    fed 85 _ (codes "start " ++ ((decimal c ++ codes " ") ++ ((decimal n ++ codes " ") ++ ((decimal i ++ codes " ") ++ decimal a))))
+    (lit≤ tt)
+    (join 6 79 _ _ word_start (join 20 59 _ _ (spaced c fits.0)
+    (join 20 39 _ _ (spaced n fits.1) (join 20 19 _ _ (spaced i fits.2) (number a fits.3)))))
+    (simp append_assoc refl)
+line_fed (Stop c n s) fits =
+    fed 64 _ (codes "stop " ++ ((decimal c ++ codes " ") ++ ((decimal n ++ codes " ") ++ decimal s))) (lit≤ tt)
+    (join 5 59 _ _ word_stop (join 20 39 _ _ (spaced c fits.0) (join 20 19 _ _ (spaced n fits.1) (number s fits.2))))
+    (simp append_assoc refl)
+line_fed (Restart c n s i a) fits =
+    fed 107 _ (codes "restart " ++ ((decimal c ++ codes " ") ++ ((decimal n ++ codes " ")
+    ++ ((decimal s ++ codes " ") ++ ((decimal i ++ codes " ") ++ decimal a))))) (lit≤ tt)
+    (join 8 99 _ _ word_restart (join 20 79 _ _ (spaced c fits.0)
+    (join 20 59 _ _ (spaced n fits.1) (join 20 39 _ _ (spaced s fits.2) (join 20 19 _ _ (spaced i fits.3) (number a fits.4))))))
+    (simp append_assoc refl)
+line_fed (Ticks k) fits =
+    fed 24 _ (codes "tick " ++ decimal k) (lit≤ tt) (join 5 19 _ _ word_tick (number k (few_ticks k fits.1))) (simp append_assoc refl)
+line_fed Close fits = fed 5 _ (codes "close") (lit≤ tt) word_close refl
+
+-- bytes split at their first line feed in one way
+pub first_feed : (xs ys more other : List ℕ) → HasNoFeed xs → HasNoFeed ys → xs ++ 10 ∷ more ≡ ys ++ 10 ∷ other → (xs ≡ ys) × (more ≡ other)
+first_feed [] [] more other a b e = (refl, cc)
+first_feed [] (y ∷ ys) more other a b e = absurd (b.0 (sym (cc)))
+first_feed (x ∷ xs) [] more other a b e = absurd (a.0 cc)
+first_feed (x ∷ xs) (y ∷ ys) more other a b e =
+    let h = first_feed xs ys more other a.1 b.1 (cc) in
+    let first : x ≡ y = cc in
+    (rw (first, h.0) refl, h.1)
+
+-- bytes without a line feed are no longer than those before the first one
+pub no_feed_long : (xs ys more other : List ℕ) → HasNoFeed xs → xs ++ more ≡ ys ++ 10 ∷ other → length xs ≤ length ys
+no_feed_long [] ys more other a e = omega arith
+no_feed_long (x ∷ xs) [] more other a e = absurd (a.0 cc)
+no_feed_long (x ∷ xs) (y ∷ ys) more other a e = let h = no_feed_long xs ys more other a.1 (cc) in omega arith
+
+at_feed : (xs more : List ℕ) → (xs ++ 10 ∷ []) ++ more ≡ xs ++ 10 ∷ more
+at_feed xs more = append_assoc xs (10 ∷ []) more
+
+-- bytes with no line feed that are too many for a line begin no line
+pub too_long : (xs : List ℕ) → HasNoFeed xs → length xs ≡ MAX_LINE → IsBadFront xs
+too_long xs none long = record {
+  some = omega arith;
+  short = omega arith;
+  bad = λ more event rest fits e.
+      let f : IsFed (line event) = line_fed event fits in
+      let short = f.short in
+      let h = no_feed_long xs f.front more rest none (e ∙ ap (λ t. t ++ rest) f.is ∙ at_feed f.front rest) in
+      absurd (omega arith);
+}
+
+-- what has no line feed is no line
+pub no_feed_no_line : (xs : List ℕ) → HasNoFeed xs → BeginsNoLine xs
+no_feed_no_line xs none event rest fits e =
+    let f : IsFed (line event) = line_fed event fits in
+    let whole : xs ++ [] ≡ f.front ++ 10 ∷ rest = append-nil xs ∙ e ∙ ap (λ t. t ++ rest) f.is ∙ at_feed f.front rest in
+    no_feed_none xs f.front rest none (sym (append-nil xs) ∙ whole)
+  where
+    no_feed_none : (xs ys rest : List ℕ) → HasNoFeed xs → xs ≡ ys ++ 10 ∷ rest → ⊥
+    no_feed_none [] [] rest a e = absurd cc
+    no_feed_none [] (y ∷ ys) rest a e = absurd cc
+    no_feed_none (x ∷ xs) [] rest a e = a.0 cc
+    no_feed_none (x ∷ xs) (y ∷ ys) rest a e = no_feed_none xs ys rest a.1 cc
+
+-- a complete line that can't be read begins no line, whatever follows
+pub unread : (held front : List ℕ) → HasNoFeed front → held ≡ front ++ 10 ∷ [] → length held ≤ MAX_LINE → line_at held ≡ None
+    → IsBadFront held
+unread held front free is short unread_none = record {
+  some = (let h = ap length is in let l = length-append front (10 ∷ []) in omega arith);
+  short = short;
+  bad = λ more event rest fits e.
+      let f : IsFed (line event) = line_fed event fits in
+      let same = first_feed front f.front more rest free f.no_feed (sym (at_feed front more) ∙ ap (λ t. t ++ more) (sym is) ∙ e
+      ∙ ap (λ t. t ++ rest) f.is ∙ at_feed f.front rest) in
+      let whole : held ≡ line event ++ [] = is ∙ ap (λ t. t ++ 10 ∷ []) same.0 ∙ sym f.is ∙ sym (append-nil (line event)) in
+      none-some _ (sym unread_none ∙ ap line_at whole ∙ line_again event [] fits);
+}
+
+-- a complete line that can be read is the line of an event
+pub read_whole : (held front after : List ℕ) (event : Event) → HasNoFeed front → held ≡ front ++ 10 ∷ []
+    → line_at held ≡ Some (event, after) → IsInRange event × (held ≡ line event)
+read_whole held front after event none is some =
+    let (fits, parts) = line_sound held after event some in
+    let f : IsFed (line event) = line_fed event fits in
+    let same = first_feed front f.front [] after none f.no_feed (sym is ∙ parts ∙ ap (λ t. t ++ after) f.is ∙ at_feed f.front after) in
+    (fits, is ∙ ap (λ t. t ++ 10 ∷ []) same.0 ∙ sym f.is)
+
+-- one more byte, which is no line feed
+pub no_feed-take : (old bytes : List ℕ) (n : ℕ) → 0 < n → n ≤ length bytes → HasNoFeed old → HasNoFeed (take (n - 1) bytes)
+    → (get_or bytes (n - 1) 0 ≡ 10 → ⊥) → HasNoFeed (old ++ take n bytes)
+no_feed-take old bytes n some within a b c =
+    let less : n - 1 < length bytes = omega arith in
+    let same : n - 1 + 1 ≡ n = omega arith in
+    let cut : take (n - 1 + 1) bytes ≡ take (n - 1) bytes ++ get_or bytes (n - 1) 0 ∷ [] = take_more bytes (n - 1) 0 less in
+    let all : HasNoFeed (take (n - 1) bytes ++ get_or bytes (n - 1) 0 ∷ []) =
+    no_feed-append (take (n - 1) bytes) (get_or bytes (n - 1) 0 ∷ []) b (c, tt) in
+    no_feed-append old (take n bytes) a (subst HasNoFeed (sym cut ∙ ap (λ k. take k bytes) same) all)
+
+-- one more byte, which is one
+pub feed-take : (old bytes : List ℕ) (n : ℕ) → 0 < n → n ≤ length bytes → get_or bytes (n - 1) 0 ≡ 10
+    → old ++ take n bytes ≡ (old ++ take (n - 1) bytes) ++ 10 ∷ []
+feed-take old bytes n some within is =
+    let less : n - 1 < length bytes = omega arith in
+    let same : n - 1 + 1 ≡ n = omega arith in
+    let cut : take (n - 1 + 1) bytes ≡ take (n - 1) bytes ++ get_or bytes (n - 1) 0 ∷ [] = take_more bytes (n - 1) 0 less in
+    ap (λ k. old ++ take k bytes) (sym same) ∙ ap (λ t. old ++ t) (cut ∙ ap (λ b. take (n - 1) bytes ++ b ∷ []) is)
+    ∙ sym (append_assoc old (take (n - 1) bytes) (10 ∷ []))
+
+-- the bytes up to a line feed
+pub held_line : (old bytes new : List ℕ) (n : ℕ) (ending : Ending) → IsPartial old → 0 < n → n ≤ length bytes
+    → HasNoFeed (take (n - 1) bytes) → get_or bytes (n - 1) 0 ≡ 10
+    → new ≡ old ++ take n bytes → length new ≤ MAX_LINE → EndsAsLine ending new → HasHeld old bytes n ending new
+held_line old bytes new n ending a some within b is joined short ends = record {
+  some = some;
+  within = within;
+  joined = joined;
+  ending_is = ends (old ++ take (n - 1) bytes) (no_feed-append old (take (n - 1) bytes) a.no_feed b) (joined
+      ∙ feed-take old bytes n some within is) short;
+}
+
+-- bytes with no line feed, too many for a line
+pub held_long : (old bytes new : List ℕ) (n : ℕ) → IsPartial old → 0 < n → n ≤ length bytes → HasNoFeed (take (n - 1) bytes)
+    → (get_or bytes (n - 1) 0 ≡ 10 → ⊥)
+    → new ≡ old ++ take n bytes → length new ≡ MAX_LINE → HasHeld old bytes n Bad new
+held_long old bytes new n a some within b not joined long = record {
+  some = some;
+  within = within;
+  joined = joined;
+  ending_is = too_long new (subst HasNoFeed (sym joined) (no_feed-take old bytes n some within a.no_feed b not)) long;
+}

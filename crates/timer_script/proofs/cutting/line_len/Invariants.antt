@@ -1,6 +1,0 @@
-use Rattle.std.proofs.Common.{take}
-use Rattle.timer_script.specs.Cutting.{HasNoFeed}
-use Rattle.timer_script.proofs.cutting.line_len.Given as goal
-
-abbrev pub invariant-loop-i : goal.invariant-loop-i
-invariant-loop-i l = HasNoFeed (take l.i l.bytes)

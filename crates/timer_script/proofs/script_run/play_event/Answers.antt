@@ -1,0 +1,16 @@
+use Rattle.std.proofs.Common.{[], ◌∷◌, refl, subst}
+use Rattle.timer_facility.specs.Played.{AddsRun}
+use Rattle.timer_facility.proofs.PlayedLemmas.{IsRun-none, IsRun-more}
+use Rattle.timer_script.proofs.ScriptRunLemmas.{adds_chunk}
+use Rattle.timer_script.proofs.script_run.play_event.Goals as goal
+
+pub returns : goal.returns
+returns g c =
+    let event = c.args.event in
+    let ran : AddsRun c.args.player.now event [] c.play_one.new.outs.items c.play_one.new.self =
+    subst (λ os. AddsRun c.args.player.now event os c.play_one.new.outs.items c.play_one.new.self) c.clear.ensures.items
+    c.in_ok-play_one.ensures.ok in
+    adds_chunk c.push_outs.result c.args.player.now c.play_one.new.self (event ∷ [])
+    (event ∷ []) c.play_one.new.outs.items c.deref.result.now c.args.text.now.items c.push_outs.new.text.items
+    (IsRun-more c.args.player.now [] event [] c.play_one.new.outs.items c.args.player.now c.play_one.new.self
+    (IsRun-none c.args.player.now) ran) refl c.deref.ensures.value c.push_outs.ensures

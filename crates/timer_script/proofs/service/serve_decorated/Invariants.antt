@@ -1,0 +1,15 @@
+use Rattle.std.proofs.Common.{◌≡◌, vec_len}
+use Rattle.timer_script.specs.declared.service.TheConstants.{PIECE}
+use Rattle.timer_script.specs.Session.{IsAnsweredSoFar}
+use Rattle.timer_script.specs.Service.{AreGood}
+use Rattle.timer_script.proofs.ServiceLemmas.{HasServedOften}
+use Rattle.timer_script.proofs.service.serve_decorated.Given as goal
+
+-- each complete line that came is answered
+abbrev pub invariant-loop-turned : goal.invariant-loop-turned
+invariant-loop-turned g l = record {
+  often : HasServedOften g.D.Decorator.adds l.fn.facility.state (g.P.Peer.state l.fn.peer) (g.P.Peer.state l.peer) l.session l.turned;
+  good : AreGood (g.P.Peer.state l.peer);
+  answered : IsAnsweredSoFar l.session;
+  room : vec_len l.piece ≡ PIECE;
+}

@@ -1,0 +1,15 @@
+use Rattle.std.proofs.Common.{length}
+use Rattle.timer_script.specs.Session.{IsAnsweredSoFar}
+use Rattle.timer_script.specs.Service.{AreGood}
+use Rattle.timer_script.proofs.ServicePieces.{HasServedUpTo}
+use Rattle.timer_script.proofs.service.serve_piece.Given as goal
+
+abbrev pub invariant-loop-rest : goal.invariant-loop-rest
+invariant-loop-rest g l = record {
+  served : HasServedUpTo g.D.Decorator.adds l.fn.session l.fn.piece (g.P.Peer.state l.fn.peer) (g.P.Peer.state l.peer) l.session l.rest;
+  good : AreGood (g.P.Peer.state l.peer);
+  answered : IsAnsweredSoFar l.session;
+}
+
+abbrev pub decreases-loop-rest : goal.decreases-loop-rest
+decreases-loop-rest g l = length l.rest

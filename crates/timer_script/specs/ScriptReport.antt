@@ -1,0 +1,97 @@
+-- The report of a script: one line for each of its bad lines.
+use Rattle.std.specs.Prelude.{◌≡◌, ◌==◌, ℕ, ◌+◌, ◌<◌, ◌≤◌, true, false, if◌then◌else◌, List, [], ◌∷◌, ◌++◌, length, take, Option, None, Some, Result, Ok, Err, codes, decimal}
+use Rattle.std.specs.Io.KnownBytes.{Appends}
+use Rattle.timer_script.specs.declared.line_fault.Field.{Field}
+use Rattle.timer_script.specs.declared.line_fault.LineFault.{LineFault}
+use Rattle.timer_script.specs.declared.input.TheConstants.{MAX_BYTES}
+use Rattle.timer_script.specs.declared.fault.RunFault.{RunFault}
+use Rattle.timer_script.specs.declared.fault.RunFault.TheVariants as faults
+use Rattle.timer_script.specs.declared.watched.Watched.{Watched}
+use Rattle.timer_script.specs.Watched.{inner_of, has_failed}
+use Rattle.timer_script.specs.Input.{ReadsWhole, ReadsUpTo, ReadsTooMany}
+use Rattle.timer_script.specs.Diagnosis.{IsVerdict, field_words, reason_words}
+
+-- a byte at the front of the first line
+abbrev pub push_front : ℕ → List (List ℕ) → List (List ℕ)
+push_front byte [] = (byte ∷ []) ∷ []
+push_front byte (first ∷ rest) = (byte ∷ first) ∷ rest
+
+-- the bytes cut after each line feed
+abbrev pub cut_lines : List ℕ → List (List ℕ)
+cut_lines [] = []
+cut_lines (byte ∷ rest) = if byte == 10 then (byte ∷ []) ∷ cut_lines rest else push_front byte
+    (cut_lines rest)
+
+-- the verdict on each line
+abbrev pub AreVerdicts : List (Option LineFault) → List (List ℕ) → Type 0
+AreVerdicts [] [] = Unit {0}
+AreVerdicts [] (line ∷ lines) = ⊥
+AreVerdicts (verdict ∷ verdicts) [] = ⊥
+AreVerdicts (verdict ∷ verdicts) (line ∷ lines) = IsVerdict verdict line × AreVerdicts verdicts lines
+
+-- the field before its reason, if it is of one
+abbrev pub of_field : Option Field → List ℕ
+of_field None = []
+of_field (Some field) = field_words field ++ codes ": "
+
+-- the report of a fault in the n-th line
+abbrev pub fault_line : ℕ → LineFault → List ℕ
+fault_line n fault =
+    codes "line " ++ decimal n ++ codes ", column " ++ decimal fault.column ++ codes ": "
+    ++ of_field fault.field
+    ++ reason_words fault.reason ++ codes "\n"
+
+-- the report of the lines from the n-th on: one line for each fault, and nothing for a good line
+abbrev pub report_from : ℕ → List (Option LineFault) → List ℕ
+report_from n [] = []
+report_from n (None ∷ rest) = report_from (n + 1) rest
+report_from n (Some fault ∷ rest) = fault_line n fault ++ report_from (n + 1) rest
+
+-- how many lines are bad
+abbrev pub bad_lines : List (Option LineFault) → ℕ
+bad_lines [] = 0
+bad_lines (None ∷ rest) = bad_lines rest
+bad_lines (Some fault ∷ rest) = bad_lines rest + 1
+
+-- the text reports each bad line of the bytes, in order, and `bad` is their number
+pub record IsReport (bytes text : List ℕ) (bad : ℕ) : Type 0 where
+  pub verdicts : List (Option LineFault)
+  pub right : AreVerdicts verdicts (cut_lines bytes)
+  pub text_is : text ≡ report_from 1 verdicts
+  pub counted : bad ≡ bad_lines verdicts
+
+-- the reader was read to its end, its bytes are within the limit, and this reports their bad lines
+pub record IsReported (old new : Option (List ℕ)) (text : List ℕ) (bad : ℕ) : Type 0 where
+  pub bytes : List ℕ
+  pub whole : ReadsWhole old new bytes
+  pub short : length bytes ≤ MAX_BYTES
+  pub report : IsReport bytes text bad
+
+-- what a check did to its reader and its writer, by how it ended
+abbrev pub HasChecked : {R S : Type 0} (remaining : R → Option (List ℕ)) (contents : S → Option (List ℕ))
+    (reader reader' : Watched R) (writer writer' : Watched S) → Result ℕ RunFault → Type 0
+-- the whole report was written, and nothing else
+HasChecked remaining contents reader reader' writer writer' (Ok bad) =
+    (text : List ℕ) × IsReported (remaining (inner_of reader)) (remaining (inner_of reader')) text bad
+    × (has_failed reader' ≡ false)
+    × Appends (contents (inner_of writer)) (contents (inner_of writer')) text × (has_failed writer' ≡ false)
+-- the reader failed in this call, after at most `MAX_BYTES` bytes, and nothing was written
+HasChecked remaining contents reader reader' writer writer' (Err faults.Read) =
+    ReadsUpTo MAX_BYTES (remaining (inner_of reader)) (remaining (inner_of reader'))
+    × (has_failed reader' ≡ true) × (writer' ≡ writer)
+-- one byte more than `MAX_BYTES` was read, and nothing was written
+HasChecked remaining contents reader reader' writer writer' (Err faults.TooLong) =
+    ReadsTooMany (remaining (inner_of reader)) (remaining (inner_of reader')) × (has_failed reader' ≡ false)
+    × (writer' ≡ writer)
+HasChecked remaining contents reader reader' writer writer' (Err (faults.Bad line)) = ⊥
+-- nothing was written, and at most one byte more than `MAX_BYTES` was read
+HasChecked remaining contents reader reader' writer writer' (Err faults.OutOfMemory) =
+    ReadsUpTo (MAX_BYTES + 1) (remaining (inner_of reader)) (remaining (inner_of reader'))
+    × (has_failed reader' ≡ false) × (writer' ≡ writer)
+-- the writer failed in this call, and a prefix of the report was written, of this length, and nothing else
+HasChecked remaining contents reader reader' writer writer' (Err (faults.Write written)) =
+    (text : List ℕ) × (bad : ℕ) × IsReported (remaining (inner_of reader))
+    (remaining (inner_of reader')) text bad
+    × (has_failed reader' ≡ false) × (written < length text)
+    × Appends (contents (inner_of writer)) (contents (inner_of writer')) (take written text)
+    × (has_failed writer' ≡ true)

@@ -1,0 +1,106 @@
+//! Reports every bad line of a script, and plays nothing.
+//!
+//!     line 2, column 12: interval: leading zero
+//!     line 5, column 1: unknown word
+ghost use Rattle.std.specs.Prelude.{◌≡◌, ◌↔◌, ◌++◌, ℕ, List, [], false, IsTrue, IfOk, OnOk, IsErrOf, decimal};
+ghost use Rattle.timer_facility.specs.declared.event.Event.{Event};
+ghost use Rattle.timer_script.specs.Script.{IsScript};
+ghost use Rattle.timer_script.specs.ScriptReport.{fault_line, of_field, IsReport, HasChecked};
+ghost use Rattle.timer_script.specs.Watched.{has_failed};
+
+use crate::diagnosis::fault_in_line;
+use crate::fault::RunFault;
+use crate::input::read_script;
+use crate::line_fault::{Field, LineFault};
+use crate::output::write_text;
+use crate::splitter::line_len;
+use crate::watched::Watched;
+use itoa::Buffer;
+use std::alloc::Global;
+use std::io::{Read, Write};
+use timer_base::OutOfMemory;
+
+/// Adds a number in decimal.
+fn push_decimal(text: &mut Vec<u8>, n: u64) -> Result<(), OutOfMemory>
+    ensures { OnOk result (text.new.items ≡ text.old.items ++ decimal n) }
+{
+    let mut buffer = Buffer::new();
+    text.extend_from_slice(buffer.format(n).as_bytes())?;
+    Ok(())
+}
+
+/// Adds the name of the field, if there is one.
+fn push_field(text: &mut Vec<u8>, field: Option<Field>) -> Result<(), OutOfMemory>
+    ensures { OnOk result (text.new.items ≡ text.old.items ++ of_field field) }
+{
+    if let Some(field) = field {
+        text.extend_from_slice(field.words().as_bytes())?;
+        text.extend_from_slice(b": ")?;
+    }
+    Ok(())
+}
+
+/// Adds the report of a fault in the n-th line.
+fn push_fault(text: &mut Vec<u8>, n: u64, fault: LineFault) -> Result<(), OutOfMemory>
+    ensures { OnOk result (text.new.items ≡ text.old.items ++ fault_line n fault) }
+{
+    text.extend_from_slice(b"line ")?;
+    push_decimal(text, n)?;
+    text.extend_from_slice(b", column ")?;
+    push_decimal(text, fault.column as u64)?;
+    text.extend_from_slice(b": ")?;
+    push_field(text, fault.field)?;
+    text.extend_from_slice(fault.reason.words().as_bytes())?;
+    text.push(b'\n')?;
+    Ok(())
+}
+
+/// The report of a script, and how many of its lines are bad.
+fn report_of(alloc: Global, script: &[u8]) -> Result<(Vec<u8>, u64), OutOfMemory>
+    ensures { IfOk result (λ r. IsReport script.now r.0.items r.1) }
+{
+    let mut text = Vec::new(alloc);
+    let mut lines = 0u64;
+    let mut bad = 0u64;
+    let mut rest = script;
+    while !rest.is_empty() {
+        let len = line_len(rest, rest.len());
+        lines += 1;
+        if let Some(fault) = fault_in_line(&rest[..len]) {
+            push_fault(&mut text, lines, fault)?;
+            bad += 1;
+        }
+        rest = &rest[len..];
+    }
+    Ok((text, bad))
+}
+
+/// Reads a script to its end, and writes one line for each of its bad lines. Returns how many they are.
+///
+/// Errors are those of `run`, of which `Bad` never comes: after `Write` a prefix of the report was written,
+/// after any other error nothing was. Neither the reader nor the writer may have failed before.
+pub fn check<R: Read, S: Write>(
+    alloc: Global,
+    reader: &mut Watched<R>,
+    writer: &mut Watched<S>,
+) -> Result<u64, RunFault>
+    requires reader_good { has_failed reader.old ≡ false }
+    requires writer_good { has_failed writer.old ≡ false }
+    ensures checked { HasChecked R.remaining S.contents reader.old reader.new writer.old writer.new result }
+    ensures reader_failed { IsTrue (has_failed reader.new) ↔ IsErrOf result RunFault.Read }
+    ensures writer_failed { IsTrue (has_failed writer.new)
+        ↔ ((written : ℕ) × IsErrOf result (RunFault.Write written)) }
+{
+    let script = read_script(alloc, reader)?;
+    let (report, bad) = report_of(alloc, &script)?;
+    write_text(writer, &report)?;
+    Ok(bad)
+}
+
+/// Bytes with no bad line are the script of some events, and their report is empty; a script has no bad line.
+pub fn scripts_have_no_bad_line()
+    ensures script { (bytes text : List ℕ) → IsReport bytes text 0
+        → (text ≡ []) × ((events : List Event) × IsScript events bytes) }
+    ensures none { (events : List Event) (bytes text : List ℕ) (bad : ℕ) → IsScript events bytes
+        → IsReport bytes text bad → bad ≡ 0 }
+{}

@@ -1,0 +1,120 @@
+//! The whole run: a script is read to its end and played, and the text that answers it is written.
+//!
+//!     reader --read--> bytes --parse--> event --play--> outs --text--> bytes --write--> writer
+//!
+//! Each event is played as soon as its line is parsed, and its outs become text before the next line is read.
+//! An event and an out are much longer than their lines, so those of a whole script are never in memory
+//! together. Nothing is written before the last line was played. So a script with a bad line is rejected as
+//! a whole, and what is written is the whole answer or a prefix of it.
+ghost use Rattle.std.specs.Prelude.{◌≡◌, ◌↔◌, ◌∷◌, ℕ, List, [], false, IsTrue, IfOk, IfErr, OnOk, IsErrOf};
+ghost use Rattle.timer_facility.specs.declared.event.Event.{Event};
+ghost use Rattle.timer_script.specs.Script.{IsScript};
+ghost use Rattle.timer_script.specs.ScriptRun.{AddsLines, HasPlayedLines, IsAnswer, GivesNoAnswer, HasRun};
+ghost use Rattle.timer_script.specs.Watched.{has_failed};
+
+use crate::fault::RunFault;
+use crate::input::read_script;
+use crate::lines::read_line;
+use crate::output::write_text;
+use crate::text::{push_end, push_outs};
+use crate::watched::Watched;
+use std::alloc::Global;
+use std::io::{Read, Write};
+use timer_base::{OutOfMemory, Wheel};
+use timer_facility::{Event, Facility, Out, Player};
+
+/// An answer has room for this many times the bytes of its script at first. Most answers fit in that, and are
+/// never copied; a longer one grows. Unused room costs an address range, and no pages.
+const GROWTH: usize = 4;
+
+/// Plays an event, and adds the line of each of its outs to the text. `outs` is a scratch buffer,
+/// reused.
+fn play_event<W: Wheel + Drop>(
+    player: &mut Player<W>,
+    event: Event,
+    outs: &mut Vec<Out>,
+    text: &mut Vec<u8>,
+) -> Result<(), OutOfMemory>
+    ensures { OnOk result (AddsLines player.old (event ∷ []) text.old.items text.new.items player.new) }
+{
+    outs.clear();
+    player.play_one(event, outs)?;
+    push_outs(text, outs)
+}
+
+/// Plays each line of a script, and adds the line of each out to the text.
+fn play_lines<W: Wheel + Drop>(
+    alloc: Global,
+    player: &mut Player<W>,
+    script: &[u8],
+    text: &mut Vec<u8>,
+) -> Result<(), RunFault>
+    ensures ok { OnOk result (HasPlayedLines player.old script.now text.old.items text.new.items player.new) }
+    ensures fault { IfErr result (λ fault. GivesNoAnswer fault script.now) }
+{
+    let mut outs = Vec::new(alloc);
+    let mut lines = 0u64;
+    let mut rest = script;
+    while !rest.is_empty() {
+        let Some((event, after)) = read_line(rest) else {
+            return Err(RunFault::Bad { line: lines + 1 });
+        };
+        play_event(player, event, &mut outs, text)?;
+        lines += 1;
+        rest = after;
+    }
+    Ok(())
+}
+
+/// Plays a script on the facility, and returns the text that answers it.
+pub fn answer_to<W: Wheel + Drop>(
+    alloc: Global,
+    script: &[u8],
+    facility: Facility<W>,
+) -> Result<Vec<u8>, RunFault>
+    requires pending { facility.state.pending ≡ [] }
+    requires waiting { facility.waiting ≡ [] }
+    ensures ok { IfOk result (λ answer. (events : List Event) × IsScript events script.now
+        × IsAnswer facility.state events answer.items) }
+    ensures fault { IfErr result (λ fault. GivesNoAnswer fault script.now) }
+{
+    // Brings what `owed` rests on into scope for the prover.
+    let _now = facility.now();
+    let mut player = Player::open(alloc, facility);
+    let Ok(mut answer) = Vec::with_capacity(alloc, script.len().saturating_mul(GROWTH)) else {
+        return Err(RunFault::OutOfMemory);
+    };
+    play_lines(alloc, &mut player, script, &mut answer)?;
+    let now = player.facility().now();
+    let pending = player.facility().pending() as u64;
+    push_end(&mut answer, now, pending)?;
+    Ok(answer)
+}
+
+/// Reads a script to its end, plays it on the facility, and writes the text that answers it.
+///
+/// Fails with `Read` only if the reader failed in this call, and with `Write` only if the writer
+/// did. No error is retried. After `Write` a prefix of the text was written, of that many bytes; after
+/// any other fault nothing was. At most one byte more is read than a script may have, and if that
+/// many came the run fails with `TooLong`. Neither the reader nor the writer may have failed before,
+/// and nothing may be pending in the facility or wait in it.
+pub fn run<R: Read, S: Write, W: Wheel + Drop>(
+    alloc: Global,
+    reader: &mut Watched<R>,
+    writer: &mut Watched<S>,
+    facility: Facility<W>,
+) -> Result<(), RunFault>
+    requires reader_good { has_failed reader.old ≡ false }
+    requires writer_good { has_failed writer.old ≡ false }
+    requires pending { facility.state.pending ≡ [] }
+    requires waiting { facility.waiting ≡ [] }
+    ensures run { HasRun facility.state R.remaining S.contents reader.old reader.new writer.old writer.new
+        result }
+    ensures reader_failed { IsTrue (has_failed reader.new) ↔ IsErrOf result RunFault.Read }
+    ensures writer_failed { IsTrue (has_failed writer.new)
+        ↔ ((written : ℕ) × IsErrOf result (RunFault.Write written)) }
+{
+    let bytes = read_script(alloc, reader)?;
+    let answer = answer_to(alloc, &bytes, facility)?;
+    write_text(writer, &answer)
+}
