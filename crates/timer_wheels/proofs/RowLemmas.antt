@@ -223,7 +223,8 @@ set_twice [] i a b = refl
 set_twice (x ∷ xs) zero a b = refl
 set_twice (x ∷ xs) (suc i) a b = ap (λ (y : KeyedLists). x ∷ y) (set_twice xs i a b)
 
-pub set_swapped : (v : KeyedLists) (i j : ℕ) (a b : List (ℕ × Node)) → i ≢ j → slice_set (slice_set v i a) j b ≡ slice_set (slice_set v j b) i a
+pub set_swapped : (v : KeyedLists) (i j : ℕ) (a b : List (ℕ × Node)) → i ≢ j
+    → slice_set (slice_set v i a) j b ≡ slice_set (slice_set v j b) i a
 set_swapped [] i j a b n = refl
 set_swapped (x ∷ xs) zero zero a b n = absurd (n refl)
 set_swapped (x ∷ xs) zero (suc j) a b n = refl
