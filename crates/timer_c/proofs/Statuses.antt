@@ -1,5 +1,5 @@
 -- The status of a refusal has the reason that timer_total gives.
-use Rattle.std.proofs.Common.{◌≡◌, ℕ, ◌×◌, ◌⊎◌, inl, inr, ap, sym, subst}
+use Rattle.std.proofs.Common.{◌≡◌, ℕ, ◌⊎◌, inl, inr, ap, sym, subst}
 use Rattle.timer_base.specs.declared.timer.Handle as base
 use Rattle.timer_base.specs.WheelState.{WheelState}
 use Rattle.timer_total.specs.Refusals as total
