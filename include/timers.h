@@ -170,7 +170,7 @@ enum timers_status {
 	TIMERS_NO_MEMORY = 4,      /* malloc or realloc returned NULL, or about 4.29 billion timers are held */
 	TIMERS_DUE = 5,            /* an expired timer was not yet taken: call timers_expire */
 	TIMERS_NOT_PENDING = 6,    /* no timer has this handle: it was stopped, restarted or taken */
-	TIMERS_ZERO_INTERVAL = 7,  /* the interval is 0, or the tick is not after the present one */
+	TIMERS_ZERO_INTERVAL = 7,  /* the interval is 0 */
 	TIMERS_TOO_LATE = 8,       /* the deadline, or the first tick, is after the last tick */
 	TIMERS_SERIALS_SPENT = 9,  /* this struct has started 2^60 - 1 timers */
 	TIMERS_CLOCK_END = 10      /* the clock is at its last tick */
@@ -240,8 +240,10 @@ enum timers_status timers_reserve(struct timers *t, size_t most);
 TIMERS_CHECKED
 enum timers_status timers_start(struct timers *t, uint64_t interval, uint64_t action, struct timer_handle *handle);
 
-/* Starts a timer that expires at the tick `deadline`, which is after the present one, as timers_start.
- * Returns TIMERS_ZERO_INTERVAL if it isn't. The other statuses are those of timers_start. */
+/* Starts a timer that expires at the tick `deadline`, as timers_start. If that is not after the present tick,
+ * the timer has expired: it is the last of those that wait to be taken, and its deadline is the present tick.
+ * While the clock is at its last tick, TIMERS_TOO_LATE is returned for each deadline, also a passed one.
+ * TIMERS_NOT_OPEN, TIMERS_TOO_LATE, TIMERS_SERIALS_SPENT, TIMERS_NO_MEMORY. */
 TIMERS_CHECKED
 enum timers_status timers_start_at(struct timers *t, uint64_t deadline, uint64_t action, struct timer_handle *handle);
 
@@ -253,8 +255,10 @@ TIMERS_CHECKED
 enum timers_status timers_restart(struct timers *t, struct timer_handle handle, uint64_t interval, uint64_t action,
                                   struct timer_handle *restarted);
 
-/* Stops the timer with this handle and starts one that expires at the tick `deadline`: timers_restart, with a
- * tick as timers_start_at. The statuses are those of timers_restart. */
+/* Stops the timer with this handle, as timers_restart, and starts one that expires at the tick `deadline`, as
+ * timers_start_at. So a timer that waits to be taken goes behind the others if that tick is not after the
+ * present one.
+ * TIMERS_NOT_OPEN, TIMERS_NOT_PENDING, TIMERS_TOO_LATE, TIMERS_SERIALS_SPENT. */
 TIMERS_CHECKED
 enum timers_status timers_restart_at(struct timers *t, struct timer_handle handle, uint64_t deadline, uint64_t action,
                                      struct timer_handle *restarted);
