@@ -3,8 +3,8 @@
  *
  *     stress [CALLS] [SEED]
  *
- * With -DREFUSE -Wl,--wrap=malloc,--wrap=realloc every third allocation of the library is refused. Then it is also
- * tested which calls allocate, and that none does while there is room. */
+ * With -DREFUSE -Wl,--wrap=malloc,--wrap=realloc one in three allocations of the library is refused, at random. Then it
+ * is also tested which calls allocate, and that none does while there is room. */
 #include <inttypes.h>
 #include <stdio.h>
 #include <stdlib.h>
@@ -19,7 +19,10 @@ void *__real_malloc(size_t size);
 void *__real_realloc(void *block, size_t size);
 static bool refuse(void)
 {
-	bool no = ++allocations % 3 == 0 && refuses;
+	static uint64_t lots = 1;
+	lots = lots * UINT64_C(6364136223846793005) + UINT64_C(1442695040888963407);
+	bool no = (lots >> 33) % 3 == 0 && refuses;
+	allocations++;
 	refused += no;
 	return no;
 }
