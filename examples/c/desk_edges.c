@@ -171,13 +171,11 @@ static void clients_ask_for_nothing(void)
 	CHECK(timers_desk_new(&d, &l, 1, &config) == TIMERS_DESK_OK);
 	for (int round = 0; round < 100; round++) {
 		long before = asked, held = blocks;
-		for (int i = 0; i < 6; i++)         /* more than the line takes */
-			if (i % 3 == 0)
-				timers_line_start(&l, 3, 1, &n);
-			else if (i % 3 == 1)
-				timers_line_restart(&l, w.handle, 5, 2, &n);
-			else
-				timers_line_stop(&l, w.handle, &n);
+		for (int i = 0; i < 6; i++) {       /* more than the line takes */
+			enum timers_desk_status sent = i % 3 == 0 ? timers_line_start(&l, 3, 1, &n)
+				: i % 3 == 1 ? timers_line_restart(&l, w.handle, 5, 2, &n) : timers_line_stop(&l, w.handle, &n);
+			CHECK(sent == TIMERS_DESK_LINE_FULL || (sent == TIMERS_DESK_OK && i < 4));
+		}
 		CHECK(!timers_line_ended(&l) && !timers_line_abandoned(&l) && !timers_desk_line_freed(&d, 0));
 		CHECK(asked == before && blocks == held);
 		owner_turn(&d);

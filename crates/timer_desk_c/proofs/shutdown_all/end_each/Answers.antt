@@ -20,7 +20,7 @@ loop-client-preserved g c =
     let low : k < length now = omega (arith, test, all, many) in record {
       done = ending_more k c.end_held-status.result c.loop-client.left c.first_left-left.result c.args.desk.now c.loop-client.desk
           c.end_held-status.new.desk c.args.lines.now now line c.end_held-status.new.line was.done low c.requires.as_many
-          (λ x. get_or_default now k c.index-lines-client.result x low) tried.ended tried.skipped tried.left tried.same tried.desk tried.only
-          first.before first.ended first.refused;
+          (λ x. get_or_default now k c.index-lines-client.result x low) tried.ended tried.skipped tried.left tried.same tried.desk
+          tried.only first.before first.ended first.refused;
       all = refl;
     }
