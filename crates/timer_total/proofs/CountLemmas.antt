@@ -1,12 +1,12 @@
 -- Lemmas for the serials that are counted beside a wheel: each due timer's is at most the last one.
-use Rattle.std.proofs.Common.{◌≡◌, ◌<◌, ◌≤◌, ◌+◌, ℕ, zero, suc, Bool, true, false, not, List, [], ◌∷◌, ◌++◌, refl, sym, ◌∙◌, ap, subst, inl, inr, arith, drop}
+use Rattle.std.proofs.Common.{◌≡◌, ◌<◌, ◌≤◌, ◌+◌, ℕ, zero, suc, Bool, true, false, not, List, [], ◌∷◌, ◌++◌, refl, sym, ◌∙◌, ap, subst, inl, inr, arith}
 use Rattle.std.specs.Prelude.{filter, Option, Some, None}
 use Rattle.std.specs.List.{AllByRecursion}
 use Rattle.timer_base.specs.declared.timer.Timer.{Timer}
 use Rattle.timer_base.specs.declared.timer.Handle.{Handle}
 use Rattle.timer_base.specs.Order.{AreBelow}
 use Rattle.timer_base.specs.OrderLaws.{either}
-use Rattle.timer_base.specs.Pending.{Entry, timers_of, is_due_at, without_found, has_serial, entries_due, entries_left}
+use Rattle.timer_base.specs.Pending.{Entry, timers_of, is_due_at, without_found, has_serial}
 use Rattle.timer_base.specs.WheelState.{WheelState, IsPending, IsWellFormed, after_start, after_stop, after_withdrawal, after_tick, after_ticks, timer_at, due_at}
 use Rattle.timer_total.specs.Deadlines.{IsCounted}
 use Rattle.timer_total.specs.Refusals.{next_timer, removed_from, after_removal}
@@ -32,10 +32,6 @@ pub below-append : (high : ℕ) (es : List Entry) (e : Entry) → AreBelow high 
     → AreBelow high (timers_of (es ++ e ∷ []))
 below-append high [] e b h = (h, tt)
 below-append high (x ∷ xs) e b h = (b.0, below-append high xs e b.1 h)
-
-below-drop : (high : ℕ) (es : List Entry) → AreBelow high (timers_of es) → AreBelow high (timers_of (drop 1 es))
-below-drop high [] b = tt
-below-drop high (e ∷ es) b = b.1
 
 pub below-pending : (last_tick now last high : ℕ) (es : List Entry) → last < high
     → AllByRecursion (IsPending last_tick now last) (timers_of es) → AreBelow high (timers_of es)
