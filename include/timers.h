@@ -35,10 +35,14 @@
  *     clock is behind the real time, as it is while input is handled, a timer expires that much too early.
  *     So advance the clock first, or give timers_start_at the tick that is meant. A caller that rounds the
  *     real time down to a tick starts a timer somewhere within that tick. So an interval of n ticks lasts
- *     more than n - 1 and at most n: add 1 if it must last no less than n. An interval of 0 is refused,
- *     since its timer would belong to a tick that has already begun. With such timers, a caller that takes
- *     what expires until nothing is left might never finish. For work that is due at once, call it, or start a
- *     timer of 1 tick.
+ *     more than n - 1 and at most n: add 1 if it must last no less than n. An interval of 0 is refused: if
+ *     the work of a timer started such a timer each time, a caller that takes what expires until nothing is
+ *     left would never finish. For work that is due at once, call it, or start a timer of 1 tick.
+ *
+ *     The tick that timers_start_at is given may have passed, or be the present one. Then the timer has
+ *     expired: it waits behind those that expired before, and its deadline is the present tick. So a caller
+ *     that is late can add its period to the tick that was meant until it has caught up. Timers for the present
+ *     tick, one from the work of the other, never end, just as those of interval 0 would not.
  *
  *     Restart, stop, look and expire take constant time. So does a start, amortised: the timers are in
  *     arrays that grow, and a start that finds them full moves all timers to larger ones. A tick takes time
@@ -129,7 +133,7 @@ enum timers_status {
 	TIMERS_NO_MEMORY = 4,      /* malloc or realloc returned NULL, or about 4.29 billion timers are held */
 	TIMERS_DUE = 5,            /* an expired timer was not yet taken: call timers_expire */
 	TIMERS_NOT_PENDING = 6,    /* no timer has this handle: it was stopped, restarted or taken */
-	TIMERS_ZERO_INTERVAL = 7,  /* the interval is 0, or the tick is not after the present one */
+	TIMERS_ZERO_INTERVAL = 7,  /* the interval is 0 */
 	TIMERS_TOO_LATE = 8,       /* the deadline, or the first tick, is after the last tick */
 	TIMERS_SERIALS_SPENT = 9,  /* this struct has started 2^60 - 1 timers */
 	TIMERS_CLOCK_END = 10      /* the clock is at its last tick */
@@ -198,8 +202,10 @@ enum timers_status timers_reserve(struct timers *t, size_t most);
 TIMERS_CHECKED
 enum timers_status timers_start(struct timers *t, uint64_t interval, uint64_t action, struct timer_handle *handle);
 
-/* Starts a timer that expires at the tick `deadline`, which is after the present one, as timers_start.
- * Returns TIMERS_ZERO_INTERVAL if it isn't. The other statuses are those of timers_start. */
+/* Starts a timer that expires at the tick `deadline`, as timers_start. If that is not after the present tick,
+ * the timer has expired: it is the last of those that wait to be taken, and its deadline is the present tick.
+ * While the clock is at its last tick, TIMERS_TOO_LATE is returned for each deadline, also a passed one.
+ * TIMERS_NOT_OPEN, TIMERS_TOO_LATE, TIMERS_SERIALS_SPENT, TIMERS_NO_MEMORY. */
 TIMERS_CHECKED
 enum timers_status timers_start_at(struct timers *t, uint64_t deadline, uint64_t action, struct timer_handle *handle);
 
@@ -211,8 +217,10 @@ TIMERS_CHECKED
 enum timers_status timers_restart(struct timers *t, struct timer_handle handle, uint64_t interval, uint64_t action,
                                   struct timer_handle *restarted);
 
-/* Stops the timer with this handle and starts one that expires at the tick `deadline`: timers_restart, with a
- * tick as timers_start_at. The statuses are those of timers_restart. */
+/* Stops the timer with this handle, as timers_restart, and starts one that expires at the tick `deadline`, as
+ * timers_start_at. So a timer that waits to be taken goes behind the others if that tick is not after the
+ * present one.
+ * TIMERS_NOT_OPEN, TIMERS_NOT_PENDING, TIMERS_TOO_LATE, TIMERS_SERIALS_SPENT. */
 TIMERS_CHECKED
 enum timers_status timers_restart_at(struct timers *t, struct timer_handle handle, uint64_t deadline, uint64_t action,
                                      struct timer_handle *restarted);
