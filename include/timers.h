@@ -40,8 +40,9 @@
  *
  *     timers_start_at and timers_restart_at take any tick. If it is not after the present one, the timer is
  *     due at once: it has expired, with the present tick as its deadline, and is taken after those that
- *     expired before it. If the work of each timer starts one that is due at once, a loop that takes what
- *     expires until nothing is left never ends.
+ *     expired before it. So a caller that is late can add its period to the tick that was meant until it has
+ *     caught up. If the work of each timer starts one that is due at once, a loop that takes what expires
+ *     until nothing is left never ends.
  *
  *     An interval of 0 is refused (TIMERS_ZERO_INTERVAL). An interval ends at a later tick, and 0 is mostly
  *     a mistake of a calculation. For work that is due at once give timers_start_at the present tick.
