@@ -10,3 +10,4 @@ pub mod PlainRestarts
 pub mod PlainWakeUps
 pub mod PlainWithdrawals
 pub mod PlainNames
+pub mod PlainMadeDue

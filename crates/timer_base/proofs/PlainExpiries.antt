@@ -45,14 +45,14 @@ found_above_step p low t f ts ih (inl h) e r = let same : t ≡ f = same_some t 
 found_above_step p low t f ts ih (inr h) e r = let above : t.serial < f.serial = ih (rw h at e) r.1 in let r0 : low < t.serial = r.0
     in omega arith
 
-found_above : (p : Timer → Bool) (low : ℕ) (f : Timer) (ts : List Timer) → find p ts ≡ Some f → AreRising low ts → low < f.serial
+pub found_above : (p : Timer → Bool) (low : ℕ) (f : Timer) (ts : List Timer) → find p ts ≡ Some f → AreRising low ts → low < f.serial
 found_above p low f [] e r = absurd (cc)
 found_above p low f (t ∷ ts) e r = found_above_step p low t f ts (found_above p t.serial f ts) (either (p t)) e r
 
-other_serial : (t : Timer) (n : ℕ) → t.serial ≢ n → not (has_serial n t) ≡ true
+pub other_serial : (t : Timer) (n : ℕ) → t.serial ≢ n → not (has_serial n t) ≡ true
 other_serial t n h = grind (arith, nat_tests)
 
-own_serial : (t : Timer) (n : ℕ) → t.serial ≡ n → not (has_serial n t) ≡ false
+pub own_serial : (t : Timer) (n : ℕ) → t.serial ≡ n → not (has_serial n t) ≡ false
 own_serial t n h = grind (arith, nat_tests)
 
 none_left_out : (n low : ℕ) (ts : List Timer) → n ≤ low → AreRising low ts → filter (λ t. not (has_serial n t)) ts ≡ ts

@@ -99,7 +99,7 @@ pub no_timer : (t : Timer) → None ≡ Some t → ⊥
 no_timer t e = cc
 
 -- a timer that a look finds is also found by its own serial
-found_at : (now last : ℕ) (ts : List Timer) (h : Handle) (t : Timer) → AreRising 0 ts → timer_at h (plain_state now last ts) ≡ Some t
+pub found_at : (now last : ℕ) (ts : List Timer) (h : Handle) (t : Timer) → AreRising 0 ts → timer_at h (plain_state now last ts) ≡ Some t
     → find (is_pending_with now t.serial) ts ≡ Some t
 found_at now last ts h t r f = elim (cases_eq h.place 0) [
   | inl z ↦

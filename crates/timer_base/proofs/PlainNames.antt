@@ -1,5 +1,5 @@
 -- Lemmas for `names_one` of a `PlainWheel`: a serial stands once among its timers.
-use Rattle.std.proofs.Common.{◌≡◌, ℕ, true, false, not, List, [], ◌∷◌, refl, sym, ◌∙◌, ap, inl, inr}
+use Rattle.std.proofs.Common.{◌≡◌, ℕ, not, List, [], ◌∷◌, refl, sym, ◌∙◌, ap, inl, inr}
 use Rattle.std.specs.Prelude.{filter, find, Some, None}
 use Rattle.std.proofs.lemmas.Bool.{cases_eq}
 use Rattle.timer_base.specs.declared.timer.Timer.{Timer}
@@ -9,7 +9,7 @@ use Rattle.timer_base.specs.Order.{AreRising}
 use Rattle.timer_base.specs.OrderLaws.{either}
 use Rattle.timer_base.specs.Pending.{first_timer, has_handle, has_serial}
 use Rattle.timer_base.specs.PlainState.{is_after, is_due_with, is_pending_with, plain_state}
-use Rattle.timer_base.specs.WheelState.{WheelState, timer_at, due_at}
+use Rattle.timer_base.specs.WheelState.{WheelState, due_at}
 use Rattle.timer_base.proofs.PlainLooks.{eq_is, both_first, look_here, passes, plain_state-after_stop}
 use Rattle.timer_base.proofs.PlainWithdrawals.{due_here, due_nowhere}
 

@@ -114,14 +114,14 @@ below-filter p high (t ∷ ts) b = elim (either (p t)) [
   | inr h ↦ rw h (below-filter p high ts b.1)
 ]
 
-filter-append_yes : (p : Timer → Bool) (ts : List Timer) (t : Timer) → p t ≡ true → filter p (ts ++ t ∷ []) ≡ filter p ts ++ t ∷ []
+pub filter-append_yes : (p : Timer → Bool) (ts : List Timer) (t : Timer) → p t ≡ true → filter p (ts ++ t ∷ []) ≡ filter p ts ++ t ∷ []
 filter-append_yes p [] t h = rw h refl
 filter-append_yes p (x ∷ xs) t h = elim (either (p x)) [
   | inl k ↦ rw k (ap (λ r. x ∷ r) (filter-append_yes p xs t h))
   | inr k ↦ rw k (filter-append_yes p xs t h)
 ]
 
-filter-append_no : (p : Timer → Bool) (ts : List Timer) (t : Timer) → p t ≡ false → filter p (ts ++ t ∷ []) ≡ filter p ts
+pub filter-append_no : (p : Timer → Bool) (ts : List Timer) (t : Timer) → p t ≡ false → filter p (ts ++ t ∷ []) ≡ filter p ts
 filter-append_no p [] t h = rw h refl
 filter-append_no p (x ∷ xs) t h = elim (either (p x)) [
   | inl k ↦ rw k (ap (λ r. x ∷ r) (filter-append_no p xs t h))

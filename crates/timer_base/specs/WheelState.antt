@@ -1,5 +1,5 @@
 -- The abstract state of a wheel, and the state after each call.
-use Rattle.std.specs.Prelude.{◌≡◌, ℕ, ◌+◌, ◌<◌, ◌≤◌, zero, suc, max, List, [], Option, Some, None, drop, slice_get, length}
+use Rattle.std.specs.Prelude.{◌≡◌, ℕ, ◌+◌, ◌<◌, ◌≤◌, zero, suc, max, List, [], ◌∷◌, ◌++◌, Option, Some, None, drop, slice_get, length}
 use Rattle.std.specs.List.{AllByRecursion}
 use Rattle.timer_base.specs.declared.timer.Timer.{Timer}
 use Rattle.timer_base.specs.declared.timer.Handle.{Handle}
@@ -110,6 +110,19 @@ after_restart (Some r) handle timer w = after_start r.0.place timer (after_stop 
 abbrev pub after_revival : Option (Handle × Timer) → Handle → Timer → WheelState → WheelState
 after_revival None handle timer w = w
 after_revival (Some r) handle timer w = after_start r.0.place timer (after_withdrawal handle w)
+
+-- the entry of a timer that was made due at this tick, if one was found
+abbrev pub entry_made_due : Handle → ℕ → Option Timer → List Entry
+entry_made_due handle now None = []
+entry_made_due handle now (Some t) =
+    (record { place = handle.place; timer = record t { deadline = now } }) ∷ []
+
+-- the pending timer with this handle goes to the back of what is due, with the present tick as its deadline
+abbrev pub after_made_due : Handle → WheelState → WheelState
+after_made_due handle w = record w {
+  pending = without_found (timer_at handle w) w.pending;
+  due = w.due ++ entry_made_due handle w.now (timer_at handle w);
+}
 
 -- nothing is pending
 abbrev pub after_clear : WheelState → WheelState

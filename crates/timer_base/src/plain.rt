@@ -170,6 +170,20 @@ impl Wheel for PlainWheel {
         Some((handle, old))
     }
 
+    fn make_due(&mut self, handle: Handle) -> Option<Timer> {
+        let timer = self.look(handle)?;
+        drop_serial(&mut self.timers, timer.serial);
+        push_in_room(
+            &mut self.timers,
+            Timer {
+                deadline: self.now,
+                ..timer
+            },
+        );
+        self.due = count_due(self.timers.as_slice(), self.now);
+        Some(timer)
+    }
+
     fn per_tick(&mut self) {
         self.now += 1;
         self.due = count_due(self.timers.as_slice(), self.now);

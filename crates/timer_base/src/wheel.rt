@@ -17,9 +17,10 @@
 ghost use Rattle.std.specs.Prelude.{◌≡◌, ◌<◌, ◌≤◌, ◌-◌, ◌↔◌, [], length, IsTrue, IfOk, OnOk, OnErr, MatchOption};
 ghost use Rattle.timer_base.specs.declared.limits.TheConstants.{LAST};
 ghost use Rattle.timer_base.specs.Names.{NamesOne};
+ghost use Rattle.timer_base.specs.Order.{AreBelow};
 ghost use Rattle.timer_base.specs.Pending.{timers_of};
 ghost use Rattle.timer_base.specs.WakeUps.{IsQuietUntil, next_deadline};
-ghost use Rattle.timer_base.specs.WheelState.{WheelState, IsWellFormed, timer_at, first_due, after_start, after_reserve, held_count, after_stop, after_tick, after_expiry, after_clear, after_restart, old_timer, due_at, after_withdrawal, after_revival, Advances};
+ghost use Rattle.timer_base.specs.WheelState.{WheelState, IsWellFormed, timer_at, first_due, after_start, after_reserve, held_count, after_stop, after_tick, after_expiry, after_clear, after_restart, old_timer, after_made_due, due_at, after_withdrawal, after_revival, Advances};
 
 use crate::fault::OutOfMemory;
 use crate::timer::{Handle, Timer};
@@ -57,8 +58,8 @@ pub trait Wheel {
     /// The only error is out of memory, and then nothing changes. A wheel with a limited number of places
     /// returns it at its limit too, though no allocation failed. While fewer timers are held, pending and
     /// due, than `reserve` made room for, there is no error. The place is a free choice of the wheel.
-    /// Due timers may be waiting, here and in `look`, `stop`, `restart`, `withdraw`, `revive`, `list` and
-    /// `clear`.
+    /// Due timers may be waiting, here and in `look`, `stop`, `restart`, `make_due`, `withdraw`, `revive`,
+    /// `list` and `clear`.
     fn start(&mut self, timer: Timer) -> Result<Handle, OutOfMemory>
         requires later { (state self.old).now < timer.deadline }
         requires deadline { timer.deadline ≤ (state self.old).last_tick }
@@ -108,6 +109,16 @@ pub trait Wheel {
         ensures old { old_timer result ≡ timer_at handle (state self.old) }
         ensures named { MatchOption result (Unit {0}) (λ r. r.0.serial ≡ timer.serial) }
         ensures restarted { state self.new ≡ after_restart result handle timer (state self.old) };
+
+    /// Makes the newest timer due now, if it is pending with exactly this handle, and returns it as it was.
+    /// It goes to the back of the due timers, with the present tick as its deadline, and keeps its handle.
+    ///
+    /// If there is none, nothing changes. Does not allocate.
+    fn make_due(&mut self, handle: Handle) -> Option<Timer>
+        requires last { handle.serial ≡ (state self.old).last_serial }
+        requires newest { AreBelow handle.serial (timers_of (state self.old).due) }
+        ensures timer { result ≡ timer_at handle (state self.old) }
+        ensures made_due { state self.new ≡ after_made_due handle (state self.old) };
 
     /// Advances the clock by one tick (PER_TICK_BOOKKEEPING): the pending timers with that deadline
     /// become due, by serial. Does not allocate.

@@ -2,3 +2,4 @@ pub mod OwnedCellParts
 pub mod Batches
 pub mod FrameSteps
 pub mod FewMoves
+pub mod Statuses

@@ -10,7 +10,12 @@ use Rattle.timer_wheels.specs.HeldPlaces.{AreBefore, AreElsewhere}
 use Rattle.timer_wheels.specs.HierWheel.{WheelCounts, counts_of, hier_state}
 use Rattle.timer_wheels.specs.declared.hier.HierWheel.{HierWheel}
 use Rattle.timer_wheels.specs.declared.table.TheConstants.{LAST_OF_CLOCK}
-use Rattle.timer_total.specs.Refusals.{next_timer, timer_due, left_until, held_at, after_removal, IsStartable, IsRoomUsed, IsAt}
+use Rattle.timer_total.specs.Deadlines.{interval_until, after_start_at}
+use Rattle.timer_total.specs.Refusals.{next_timer, held_at, after_removal, IsStartable, IsRoomUsed, IsAt}
+use Rattle.timer_total.specs.declared.fault.StartFault.{StartFault}
+use Rattle.timer_total.specs.declared.fault.StartFault.TheVariants as start
+use Rattle.timer_total.specs.declared.fault.RestartFault.{RestartFault}
+use Rattle.timer_total.specs.declared.fault.RestartFault.TheVariants as restart
 use Rattle.timer_total.specs.Ticks.{Passes, numbered}
 use Rattle.timer_c.specs.declared.layout.Counts.{Counts}
 use Rattle.timer_c.specs.declared.layout.Handle.{Handle}
@@ -55,11 +60,15 @@ WhyNotStarted interval old status =
 abbrev pub named : Handle → base.Handle
 named handle = record { place = handle.place; serial = handle.serial }
 
--- a start for this tick was done
+-- a start for this tick was done: the timer is pending until then, or expired if the tick is not after now
 abbrev pub IsStartedAt : ℕ → ℕ → WheelState → WheelState → Handle → Type 0
 IsStartedAt deadline action old new handle =
-    IsStartable (left_until deadline old) old × (handle.serial ≡ old.last_serial + 1)
-    × (new ≡ after_start handle.place (timer_due deadline action old) old)
+    IsStartable (interval_until deadline old) old × (handle.serial ≡ old.last_serial + 1)
+    × (new ≡ after_start_at handle.place deadline action old)
+
+-- why it was not: an interval until a tick is never 0
+abbrev pub WhyNotStartedAt : ℕ → WheelState → ℕ → Type 0
+WhyNotStartedAt deadline old status = WhyNotStarted (interval_until deadline old) old status
 
 -- a restart was done: the old timer is removed, and the new one started under the next serial
 abbrev pub IsRestarted : Handle → ℕ → ℕ → WheelState → WheelState → Handle → Type 0
@@ -67,12 +76,12 @@ IsRestarted handle interval action old new restarted =
     IsAt (named handle) old × IsStartable interval old × (restarted.serial ≡ old.last_serial + 1)
     × (new ≡ after_start restarted.place (next_timer interval action old) (after_removal (named handle) old))
 
--- a restart for this tick was done
+-- a restart for this tick was done, as a start for it
 abbrev pub IsRestartedAt : Handle → ℕ → ℕ → WheelState → WheelState → Handle → Type 0
 IsRestartedAt handle deadline action old new restarted =
-    IsAt (named handle) old × IsStartable (left_until deadline old) old
+    IsAt (named handle) old × IsStartable (interval_until deadline old) old
     × (restarted.serial ≡ old.last_serial + 1)
-    × (new ≡ after_start restarted.place (timer_due deadline action old) (after_removal (named handle) old))
+    × (new ≡ after_start_at restarted.place deadline action (after_removal (named handle) old))
 
 abbrev pub WhyNotRestarted : Handle → ℕ → WheelState → ℕ → Type 0
 WhyNotRestarted handle interval old status =
@@ -81,6 +90,25 @@ WhyNotRestarted handle interval old status =
     ⊎ ((status ≡ TOO_LATE) × IsAt (named handle) old × (0 < interval) × (old.last_tick < old.now + interval))
     ⊎ ((status ≡ SERIALS_SPENT) × IsAt (named handle) old × (0 < interval)
     × (old.now + interval ≤ old.last_tick) × (LAST ≤ old.last_serial))
+
+-- why it was not: an interval until a tick is never 0
+abbrev pub WhyNotRestartedAt : Handle → ℕ → WheelState → ℕ → Type 0
+WhyNotRestartedAt handle deadline old status =
+    WhyNotRestarted handle (interval_until deadline old) old status
+
+-- the status of a start that was refused
+abbrev pub start_status : StartFault → ℕ
+start_status start.ZeroInterval = ZERO_INTERVAL
+start_status start.TooLate = TOO_LATE
+start_status start.SerialsSpent = SERIALS_SPENT
+start_status start.OutOfMemory = NO_MEMORY
+
+-- the status of a restart that was refused
+abbrev pub restart_status : RestartFault → ℕ
+restart_status restart.NotPending = NOT_PENDING
+restart_status restart.ZeroInterval = ZERO_INTERVAL
+restart_status restart.TooLate = TOO_LATE
+restart_status restart.SerialsSpent = SERIALS_SPENT
 
 -- the action that a start was given
 abbrev pub action_of : Option Timer → Option ℕ

@@ -2,8 +2,7 @@
 ghost use Rattle.std.specs.Prelude.{◌≡◌, ◌*◌, ◌<◌, ◌≤◌, ◌++◌, ◌↔◌, true, false, Some, None, [], map, take, drop, length, min};
 ghost use Rattle.timer_base.specs.Pending.{timers_of};
 ghost use Rattle.timer_base.specs.WheelState.{first_due, after_reserve, after_tick, after_expiry};
-ghost use Rattle.timer_c.specs.Outcomes.{IsStarted, IsStartedAt, WhyNotStarted, IsRestarted, IsRestartedAt, WhyNotRestarted, IsSeen, IsStopped, WhyNotStopped, IsTicked, IsAdvanced, WhyNotTicked, IsNextCall, IsNextDeadline, IsVisited, IsAllVisited, AreCountsOf, told, tell, tell_counts, after_expiries};
-ghost use Rattle.timer_total.specs.Refusals.{left_until};
+ghost use Rattle.timer_c.specs.Outcomes.{IsStarted, IsStartedAt, WhyNotStarted, WhyNotStartedAt, IsRestarted, IsRestartedAt, WhyNotRestarted, WhyNotRestartedAt, start_status, restart_status, IsSeen, IsStopped, WhyNotStopped, IsTicked, IsAdvanced, WhyNotTicked, IsNextCall, IsNextDeadline, IsVisited, IsAllVisited, AreCountsOf, told, tell, tell_counts, after_expiries};
 ghost use Rattle.timer_wheels.specs.HierWheel.{counts_of};
 ghost use Rattle.timer_c.specs.declared.status.TheConstants.{OK, NO_MEMORY};
 
@@ -42,10 +41,7 @@ pub(crate) fn start<W: Wheel + Drop>(
             *handle = to_c_handle(made);
             OK
         }
-        Err(StartFault::ZeroInterval) => ZERO_INTERVAL,
-        Err(StartFault::TooLate) => TOO_LATE,
-        Err(StartFault::SerialsSpent) => SERIALS_SPENT,
-        Err(StartFault::OutOfMemory) => NO_MEMORY,
+        Err(fault) => start_status(fault),
     }
 }
 
@@ -56,11 +52,29 @@ pub(crate) fn start_at<W: Wheel + Drop>(
     handle: &mut Handle,
 ) -> u32
     ensures started { result ≡ OK → IsStartedAt deadline action timers.old timers.new handle.new }
-    ensures refused { 0 < result → WhyNotStarted (left_until deadline timers.old) timers.old result }
+    ensures refused { 0 < result → WhyNotStartedAt deadline timers.old result }
     ensures kept { 0 < result → (timers.new ≡ timers.old) × (handle.new ≡ handle.old) }
 {
-    let interval = timers.until(deadline);
-    start(timers, interval, action, handle)
+    match timers.start_at(deadline, action) {
+        Ok(started) => {
+            *handle = to_c_handle(started);
+            OK
+        }
+        Err(fault) => start_status(fault),
+    }
+}
+
+/// Why a start was refused, as C's status.
+fn start_status(fault: StartFault) -> u32
+    ensures status { result ≡ start_status fault }
+    ensures refused { 0 < result }
+{
+    match fault {
+        StartFault::ZeroInterval => ZERO_INTERVAL,
+        StartFault::TooLate => TOO_LATE,
+        StartFault::SerialsSpent => SERIALS_SPENT,
+        StartFault::OutOfMemory => NO_MEMORY,
+    }
 }
 
 pub(crate) fn restart<W: Wheel + Drop>(
@@ -79,10 +93,7 @@ pub(crate) fn restart<W: Wheel + Drop>(
             *restarted = to_c_handle(made);
             OK
         }
-        Err(RestartFault::NotPending) => NOT_PENDING,
-        Err(RestartFault::ZeroInterval) => ZERO_INTERVAL,
-        Err(RestartFault::TooLate) => TOO_LATE,
-        Err(RestartFault::SerialsSpent) => SERIALS_SPENT,
+        Err(fault) => restart_status(fault),
     }
 }
 
@@ -95,11 +106,29 @@ pub(crate) fn restart_at<W: Wheel + Drop>(
 ) -> u32
     ensures restarted { result ≡ OK
         → IsRestartedAt handle deadline action timers.old timers.new restarted.new }
-    ensures refused { 0 < result → WhyNotRestarted handle (left_until deadline timers.old) timers.old result }
+    ensures refused { 0 < result → WhyNotRestartedAt handle deadline timers.old result }
     ensures kept { 0 < result → (timers.new ≡ timers.old) × (restarted.new ≡ restarted.old) }
 {
-    let interval = timers.until(deadline);
-    restart(timers, handle, interval, action, restarted)
+    match timers.restart_at(from_c_handle(handle), deadline, action) {
+        Ok(started) => {
+            *restarted = to_c_handle(started);
+            OK
+        }
+        Err(fault) => restart_status(fault),
+    }
+}
+
+/// Why a restart was refused, as C's status.
+fn restart_status(fault: RestartFault) -> u32
+    ensures status { result ≡ restart_status fault }
+    ensures refused { 0 < result }
+{
+    match fault {
+        RestartFault::NotPending => NOT_PENDING,
+        RestartFault::ZeroInterval => ZERO_INTERVAL,
+        RestartFault::TooLate => TOO_LATE,
+        RestartFault::SerialsSpent => SERIALS_SPENT,
+    }
 }
 
 /// Writes the timer with this handle, pending or expired and not yet taken.

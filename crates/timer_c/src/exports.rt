@@ -7,9 +7,8 @@ ghost use Rattle.std.specs.Prelude.{◌≡◌, ◌*◌, ◌<◌, ◌≤◌, ◌�
 ghost use Rattle.timer_base.specs.Pending.{timers_of};
 ghost use Rattle.timer_base.specs.WheelState.{first_due, after_reserve, after_expiry};
 ghost use Rattle.timer_c.specs.Frames.{IsOpen, IsShut, with_timers};
-ghost use Rattle.timer_c.specs.Outcomes.{IsEmptyAt, IsOpenable, WhyNoWheel, IsStarted, IsStartedAt, WhyNotStarted, IsRestarted, IsRestartedAt, WhyNotRestarted, IsSeen, IsStopped, WhyNotStopped, IsTicked, IsAdvanced, WhyNotTicked, IsNextCall, IsNextDeadline, IsVisited, IsAllVisited, AreCountsOf, told, tell, after_expiries};
+ghost use Rattle.timer_c.specs.Outcomes.{IsEmptyAt, IsOpenable, WhyNoWheel, IsStarted, IsStartedAt, WhyNotStarted, WhyNotStartedAt, IsRestarted, IsRestartedAt, WhyNotRestarted, WhyNotRestartedAt, IsSeen, IsStopped, WhyNotStopped, IsTicked, IsAdvanced, WhyNotTicked, IsNextCall, IsNextDeadline, IsVisited, IsAllVisited, AreCountsOf, told, tell, after_expiries};
 ghost use Rattle.timer_c.specs.declared.status.TheConstants.{OK, NOT_OPEN, OPEN, NO_MEMORY, NEVER};
-ghost use Rattle.timer_total.specs.Refusals.{left_until};
 
 use crate::c_timers::CTimers;
 use crate::calls;
@@ -98,7 +97,9 @@ pub extern "C" fn timers_start(
     calls::start(t.slot.timers(), interval, action, handle)
 }
 
-/// Starts a timer that expires at this tick, and writes its handle.
+/// Starts a timer that expires at the tick `deadline`, and writes its handle. If that is not after the
+/// present tick, the timer has expired: it is the last of those that wait to be taken, and its deadline is
+/// the present tick.
 #[unsafe(no_mangle)]
 pub extern "C" fn timers_start_at(
     t: &mut CTimers,
@@ -109,7 +110,7 @@ pub extern "C" fn timers_start_at(
     ensures started { result ≡ OK → IsOpen t.old × IsStartedAt deadline action t.old.slot.state
         t.new.slot.state handle.new }
     ensures refused { 0 < result → ((result ≡ NOT_OPEN) × IsShut t.old)
-        ⊎ (IsOpen t.old × WhyNotStarted (left_until deadline t.old.slot.state) t.old.slot.state result) }
+        ⊎ (IsOpen t.old × WhyNotStartedAt deadline t.old.slot.state result) }
     ensures kept { 0 < result → (t.new ≡ t.old) × (handle.new ≡ handle.old) }
     ensures only { t.new ≡ with_timers t.old t.new.slot.state }
 {
@@ -142,7 +143,7 @@ pub extern "C" fn timers_restart(
     calls::restart(t.slot.timers(), handle, interval, action, restarted)
 }
 
-/// Stops the timer with exactly this handle as `timers_restart`, and starts one that expires at this tick.
+/// Stops the timer with exactly this handle as `timers_restart`, and starts one as `timers_start_at`.
 #[unsafe(no_mangle)]
 pub extern "C" fn timers_restart_at(
     t: &mut CTimers,
@@ -154,8 +155,7 @@ pub extern "C" fn timers_restart_at(
     ensures restarted { result ≡ OK → IsOpen t.old
         × IsRestartedAt handle deadline action t.old.slot.state t.new.slot.state restarted.new }
     ensures refused { 0 < result → ((result ≡ NOT_OPEN) × IsShut t.old)
-        ⊎ (IsOpen t.old × WhyNotRestarted handle (left_until deadline t.old.slot.state) t.old.slot.state
-        result) }
+        ⊎ (IsOpen t.old × WhyNotRestartedAt handle deadline t.old.slot.state result) }
     ensures kept { 0 < result → (t.new ≡ t.old) × (restarted.new ≡ restarted.old) }
     ensures only { t.new ≡ with_timers t.old t.new.slot.state }
 {

@@ -21,7 +21,7 @@ pub const DUE: u32 = 5;
 /// No timer has this handle.
 pub const NOT_PENDING: u32 = 6;
 
-/// The interval is 0, or the tick is not after the present one.
+/// The interval is 0.
 pub const ZERO_INTERVAL: u32 = 7;
 
 /// The deadline, or the first tick, is after the last tick.

@@ -66,6 +66,10 @@ impl<W: Wheel> Wheel for Refusing<W> {
         self.wheel.revive(handle, timer)
     }
 
+    fn make_due(&mut self, handle: Handle) -> Option<Timer> {
+        self.wheel.make_due(handle)
+    }
+
     fn quiet_until(&self) -> Option<u64> {
         self.wheel.quiet_until()
     }

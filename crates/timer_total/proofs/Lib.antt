@@ -1,2 +1,4 @@
 pub mod ClockEnds
 pub mod DeadHandles
+pub mod CountLemmas
+pub mod StartedDue

@@ -7,6 +7,7 @@
 #![tactic(auto)]
 
 mod fault;
+mod replacement;
 mod timers;
 
 pub use fault::{RestartFault, StartFault, TickFault};

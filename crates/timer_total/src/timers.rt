@@ -3,10 +3,12 @@ ghost use Rattle.std.specs.Prelude.{◌≡◌, ◌+◌, ◌<◌, ◌≤◌, ◌�
 ghost use Rattle.timer_base.specs.declared.limits.TheConstants.{LAST};
 ghost use Rattle.timer_base.specs.WakeUps.{IsQuietUntil, next_deadline};
 ghost use Rattle.timer_base.specs.WheelState.{WheelState, first_due, after_start, after_reserve, after_tick, after_expiry};
-ghost use Rattle.timer_total.specs.Refusals.{next_timer, timer_due, left_until, held_at, after_removal, IsStartable, IsRoomUsed, IsAt, WhyNotStarted, WhyNotRestarted, WhyNotTicked};
+ghost use Rattle.timer_total.specs.Deadlines.{interval_until, after_start_due, after_start_at, IsCounted};
+ghost use Rattle.timer_total.specs.Refusals.{next_timer, left_until, held_at, after_removal, IsStartable, IsRoomUsed, IsAt, WhyNotStarted, WhyNotRestarted, WhyNotTicked};
 ghost use Rattle.timer_total.specs.Ticks.{Passes, numbered};
 
 use crate::fault::{RestartFault, StartFault, TickFault};
+use crate::replacement::replace;
 use std::marker::Model;
 use timer_base::{Handle, LAST, OutOfMemory, Timer, Wheel};
 
@@ -14,26 +16,26 @@ use timer_base::{Handle, LAST, OutOfMemory, Timer, Wheel};
 #[derive(Drop)]
 pub struct Timers<W: Wheel + Drop> {
     wheel: W,
-    // At least the wheel's own, which begins at 0.
+    // At least the wheel's own, which begins at 0, and that of each timer that expired.
     last_serial: u64,
 }
 
 impl<W: Wheel + Drop> Model for Timers<W> {
     ghost use Rattle.timer_base.specs.WheelState.{WheelState};
+    ghost use Rattle.timer_total.specs.Deadlines.{IsCounted};
     ghost use Rattle.timer_total.specs.Ticks.{numbered};
-    ghost use Rattle.std.specs.Prelude.{◌≤◌};
 
     ghost Value = { WheelState };
 
     ghost view = { λ t. numbered t.last_serial (W.state t.wheel) };
 
-    ghost invariant = { λ t. (W.state t.wheel).last_serial ≤ t.last_serial };
+    ghost invariant = { λ t. IsCounted t.last_serial (W.state t.wheel) };
 }
 
 impl<W: Wheel + Drop> Timers<W> {
     /// Wraps a wheel. The next start gets the serial after `last_serial`.
     pub fn over(wheel: W, last_serial: u64) -> Timers<W>
-        requires { (W.state wheel).last_serial ≤ last_serial }
+        requires { IsCounted last_serial (W.state wheel) }
         ensures { result ≡ numbered last_serial (W.state wheel) }
     {
         Timers { wheel, last_serial }
@@ -153,24 +155,53 @@ impl<W: Wheel + Drop> Timers<W> {
         }
     }
 
-    /// Starts a timer that expires at the tick `deadline`, under the next serial. A tick that is not after
-    /// the present one is refused as `ZeroInterval`, and the other errors are those of `start`.
+    /// Starts a timer that expires at the tick `deadline`, under the next serial. If that is not after the
+    /// present tick, the timer expires at once: it goes to the back of those that wait to be taken, with the
+    /// present tick as its deadline.
+    ///
+    /// A passed deadline is accepted exactly if the next tick is. So the error is never `ZeroInterval`, and
+    /// at the last tick it is `TooLate` for each deadline. Otherwise the errors are those of `start`.
     pub fn start_at(&mut self, deadline: u64, action: u64) -> Result<Handle, StartFault>
         ensures started { IfOk result (λ handle. self.new
-            ≡ after_start handle.place (timer_due deadline action self.old) self.old) }
+            ≡ after_start_at handle.place deadline action self.old) }
         ensures named { IfOk result (λ handle. handle.serial ≡ self.old.last_serial + 1) }
-        ensures in_order { IfOk result (λ _. IsStartable (left_until deadline self.old) self.old) }
-        ensures fault { IfErr result (λ fault. WhyNotStarted (left_until deadline self.old) self.old fault
-            ⊎ ((fault ≡ StartFault.OutOfMemory) × IsStartable (left_until deadline self.old) self.old
+        ensures in_order { IfOk result (λ _. IsStartable (interval_until deadline self.old) self.old) }
+        ensures fault { IfErr result (λ fault. WhyNotStarted (interval_until deadline self.old) self.old fault
+            ⊎ ((fault ≡ StartFault.OutOfMemory) × IsStartable (interval_until deadline self.old) self.old
             × IsRoomUsed self.old)) }
         ensures err { OnErr result (self.new ≡ self.old) }
     {
         let interval = self.until(deadline);
+        if interval == 0 {
+            return self.start_due(action);
+        }
         self.start(interval, action)
     }
 
+    /// Starts a timer that expires at once, under the next serial: it is started for the next tick, and then
+    /// made due.
+    fn start_due(&mut self, action: u64) -> Result<Handle, StartFault>
+        ensures started { IfOk result (λ handle. self.new ≡ after_start_due handle.place action self.old) }
+        ensures named { IfOk result (λ handle. handle.serial ≡ self.old.last_serial + 1) }
+        ensures in_order { IfOk result (λ _. IsStartable 1 self.old) }
+        ensures fault { IfErr result (λ fault. WhyNotStarted 1 self.old fault
+            ⊎ ((fault ≡ StartFault.OutOfMemory) × IsStartable 1 self.old × IsRoomUsed self.old)) }
+        ensures err { OnErr result (self.new ≡ self.old) }
+    {
+        self.admit(1)?;
+        let timer = self.next(1, action);
+        match self.wheel.start(timer) {
+            Ok(handle) => {
+                self.wheel.make_due(handle);
+                self.last_serial = timer.serial;
+                Ok(handle)
+            }
+            Err(_) => Err(StartFault::OutOfMemory),
+        }
+    }
+
     /// How many ticks are left until this one, or 0 if it is not after the present one.
-    pub fn until(&self, deadline: u64) -> u64
+    fn until(&self, deadline: u64) -> u64
         ensures { result ≡ left_until deadline self.now }
     {
         deadline.saturating_sub(self.wheel.now())
@@ -219,12 +250,8 @@ impl<W: Wheel + Drop> Timers<W> {
     {
         self.admit_again(handle, interval)?;
         let timer = self.next(interval, action);
-        if let Some((made, _)) = self.wheel.restart(handle, timer) {
-            self.last_serial = timer.serial;
-            return Ok(made);
-        }
-        match self.wheel.revive(handle, timer) {
-            Some((made, _)) => {
+        match replace(&mut self.wheel, handle, timer) {
+            Some(made) => {
                 self.last_serial = timer.serial;
                 Ok(made)
             }
@@ -233,7 +260,8 @@ impl<W: Wheel + Drop> Timers<W> {
     }
 
     /// Removes the timer with exactly this handle, as `restart`, and starts one that expires at the tick
-    /// `deadline`. A tick that is not after the present one is refused as `ZeroInterval`. Does not allocate.
+    /// `deadline`, or at once, as `start_at`. The error is `NotPending` if there is no such timer, and
+    /// otherwise that of `start_at`, except that it is never out of memory. Does not allocate.
     pub fn restart_at(
         &mut self,
         handle: Handle,
@@ -241,16 +269,39 @@ impl<W: Wheel + Drop> Timers<W> {
         action: u64,
     ) -> Result<Handle, RestartFault>
         ensures restarted { IfOk result (λ made.
-            self.new ≡ after_start made.place (timer_due deadline action self.old)
-            (after_removal handle self.old)) }
+            self.new ≡ after_start_at made.place deadline action (after_removal handle self.old)) }
         ensures named { IfOk result (λ made. made.serial ≡ self.old.last_serial + 1) }
         ensures in_order { IfOk result (λ _. IsAt handle self.old
-            × IsStartable (left_until deadline self.old) self.old) }
-        ensures fault { IfErr result (WhyNotRestarted handle (left_until deadline self.old) self.old) }
+            × IsStartable (interval_until deadline self.old) self.old) }
+        ensures fault { IfErr result (WhyNotRestarted handle (interval_until deadline self.old) self.old) }
         ensures err { OnErr result (self.new ≡ self.old) }
     {
         let interval = self.until(deadline);
+        if interval == 0 {
+            return self.restart_due(handle, action);
+        }
         self.restart(handle, interval, action)
+    }
+
+    /// Removes the timer with exactly this handle, and starts one that expires at once.
+    fn restart_due(&mut self, handle: Handle, action: u64) -> Result<Handle, RestartFault>
+        ensures restarted { IfOk result (λ made.
+            self.new ≡ after_start_due made.place action (after_removal handle self.old)) }
+        ensures named { IfOk result (λ made. made.serial ≡ self.old.last_serial + 1) }
+        ensures in_order { IfOk result (λ _. IsAt handle self.old × IsStartable 1 self.old) }
+        ensures fault { IfErr result (WhyNotRestarted handle 1 self.old) }
+        ensures err { OnErr result (self.new ≡ self.old) }
+    {
+        self.admit_again(handle, 1)?;
+        let timer = self.next(1, action);
+        match replace(&mut self.wheel, handle, timer) {
+            Some(made) => {
+                self.wheel.make_due(made);
+                self.last_serial = timer.serial;
+                Ok(made)
+            }
+            None => Err(RestartFault::NotPending),
+        }
     }
 
     /// Whether a restart of the timer with this handle is accepted.

@@ -44,7 +44,7 @@ levels-filter table now p (e ∷ es) = let h : levels_of table now (filter p es)
       | inr k ↦ rw k (omega arith)
     ]
 
-levels-without : (table : List ℕ) (now : ℕ) (found : Option Timer) (es : List Entry)
+pub levels-without : (table : List ℕ) (now : ℕ) (found : Option Timer) (es : List Entry)
     → levels_of table now (without_found found es) ≤ levels_of table now es
 levels-without table now None es = omega arith
 levels-without table now (Some t) es = levels-filter table now _ es
@@ -62,7 +62,7 @@ paid_more : (moves new more old top starts : ℕ) → new ≡ more + old → mor
     → moves + new ≤ top * (starts + 1)
 paid_more moves new more old top starts e d p = let x : top * (starts + 1) ≡ top * starts + top = times_more top starts in omega arith
 
-paid_less : (moves new old paid : ℕ) → new ≤ old → moves + old ≤ paid → moves + new ≤ paid
+pub paid_less : (moves new old paid : ℕ) → new ≤ old → moves + old ≤ paid → moves + new ≤ paid
 paid_less moves new old paid e p = omega arith
 
 -- A new wheel.

@@ -31,3 +31,4 @@ pub mod SlotLaws
 pub mod WithdrawLemmas
 pub mod DeadlineLemmas
 pub mod VisitingLemmas
+pub mod MadeDueLemmas

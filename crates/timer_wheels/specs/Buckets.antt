@@ -36,6 +36,12 @@ row_at place timer rounds = (place, record { timer = timer; rounds = rounds })
 abbrev pub RemovesRow : {X : Type 0} → Option X → ℕ → List (List (ℕ × Node)) → List (List (ℕ × Node)) → Type 0
 RemovesRow found key old new = MatchOption found (new ≡ old) (λ r. new ≡ map (without_key key) old)
 
+-- where a timer was found, the row under its key is removed from the first n lists; else they are unchanged
+abbrev pub LeavesBuckets : {X : Type 0} → Option X → ℕ → ℕ → List (List (ℕ × Node)) → List (List (ℕ × Node))
+    → Type 0
+LeavesBuckets found key n old new = MatchOption found ((s : ℕ) → s < n → list_at s new ≡ list_at s old)
+    (λ r. (s : ℕ) → s < n → list_at s new ≡ list_at s (map (without_key key) old))
+
 -- where a timer was found, the row under its key is removed, and this row is pushed to the back of a list;
 -- else the lists are unchanged
 abbrev pub ReplacesRow : {X : Type 0} → Option X → ℕ → ℕ × Node → List (List (ℕ × Node))

@@ -20,8 +20,10 @@
 ghost use Rattle.std.specs.Prelude.{◌≡◌, ◌⊎◌, ◌<◌, ◌≤◌, ◌+◌, ◌-◌, ◌%◌, [], IfOk, IfErr, OnOk, OnErr, Some, None, MatchOption};
 ghost use Rattle.std.specs.Option.{IfSome};
 ghost use Rattle.timer_base.specs.declared.limits.TheConstants.{LAST};
+ghost use Rattle.timer_base.specs.Order.{AreBelow};
+ghost use Rattle.timer_base.specs.Pending.{timers_of};
 ghost use Rattle.timer_base.specs.WakeUps.{IsQuietUntil};
-ghost use Rattle.timer_base.specs.WheelState.{empty_wheel, first_due, timer_at, after_start, after_reserve, held_count, after_stop, after_tick, after_expiry, after_clear, after_restart, after_withdrawal, after_revival, due_at, old_timer, Advances};
+ghost use Rattle.timer_base.specs.WheelState.{empty_wheel, first_due, timer_at, after_start, after_reserve, held_count, after_stop, after_tick, after_expiry, after_clear, after_restart, after_made_due, after_withdrawal, after_revival, due_at, old_timer, Advances};
 ghost use Rattle.timer_wheels.specs.Hashed.{slot_of, rounds_of, IsHashed, AreInBuckets, AreInBuckets-prop, IsNextSweep};
 
 use crate::buckets::Buckets;
@@ -211,6 +213,16 @@ impl Wheel for HashedWheel {
     {
         let (bucket, rounds) = self.bucket_and_rounds(timer);
         self.buckets.restart(handle, bucket, timer, rounds)
+    }
+
+    fn make_due(&mut self, handle: Handle) -> Option<Timer>
+        requires last { handle.serial ≡ (hashed_state self.old).last_serial }
+        requires newest { AreBelow handle.serial (timers_of (hashed_state self.old).due) }
+        ensures timer { result ≡ timer_at handle (hashed_state self.old) }
+        ensures made_due { hashed_state self.new ≡ after_made_due handle (hashed_state self.old) }
+        ensures slots { slots_of self.new ≡ slots_of self.old }
+    {
+        self.buckets.make_due(handle)
     }
 
     fn per_tick(&mut self)

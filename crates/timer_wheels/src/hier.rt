@@ -50,8 +50,10 @@
 ghost use Rattle.std.specs.Prelude.{◌≡◌, ◌+◌, ◌-◌, ◌*◌, ◌<◌, ◌≤◌, ◌↔◌, ◌⊎◌, [], length, IsTrue, IfOk, IfErr, OnOk, OnErr, MatchOption};
 ghost use Rattle.std.specs.Option.{IfSome};
 ghost use Rattle.timer_base.specs.declared.limits.TheConstants.{LAST};
+ghost use Rattle.timer_base.specs.Order.{AreBelow};
+ghost use Rattle.timer_base.specs.Pending.{timers_of};
 ghost use Rattle.timer_base.specs.WakeUps.{IsQuietUntil};
-ghost use Rattle.timer_base.specs.WheelState.{empty_wheel, timer_at, first_due, after_start, after_reserve, held_count, after_stop, after_tick, after_expiry, after_clear, after_restart, after_withdrawal, after_revival, due_at, old_timer, Advances};
+ghost use Rattle.timer_base.specs.WheelState.{empty_wheel, timer_at, first_due, after_start, after_reserve, held_count, after_stop, after_tick, after_expiry, after_clear, after_restart, after_made_due, after_withdrawal, after_revival, due_at, old_timer, Advances};
 ghost use Rattle.timer_wheels.specs.Buckets.{state_of, state_of-well_formed};
 ghost use Rattle.timer_wheels.specs.Digits.{slots, last_of};
 ghost use Rattle.timer_wheels.specs.Leap.{IsNextVisit};
@@ -69,7 +71,7 @@ use crate::leap::{advance_until_due, first_visit, visits_between};
 use crate::migration::next_tick;
 use crate::naming::names_one;
 use crate::occupied::Occupied;
-use crate::stopping::{restart_timer, revive_timer, stop_timer};
+use crate::stopping::{make_timer_due, restart_timer, revive_timer, stop_timer};
 use crate::table::Table;
 use crate::visiting::held_from;
 use std::alloc::Global;
@@ -331,6 +333,17 @@ impl Wheel for HierWheel {
         let counts = &mut self.counts;
         counts.starts += 1;
         Some(restarted)
+    }
+
+    fn make_due(&mut self, handle: Handle) -> Option<Timer>
+        requires last { handle.serial ≡ (hier_state self.old).last_serial }
+        requires newest { AreBelow handle.serial (timers_of (hier_state self.old).due) }
+        ensures timer { result ≡ timer_at handle (hier_state self.old) }
+        ensures made_due { hier_state self.new ≡ after_made_due handle (hier_state self.old) }
+        ensures counts { counts_of self.new ≡ counts_of self.old }
+        ensures table { table_of self.new ≡ table_of self.old }
+    {
+        make_timer_due(self.table, &mut self.buckets, &mut self.occupied, handle)
     }
 
     fn per_tick(&mut self)

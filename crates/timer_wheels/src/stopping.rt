@@ -1,7 +1,9 @@
-//! A stop, a restart and a revival in a hierarchy of wheels.
+//! A stop, a restart, a revival, and a timer made due, in a hierarchy of wheels.
 ghost use Rattle.std.specs.Prelude.{◌≡◌, ◌<◌, ◌≤◌, [], MatchOption};
 ghost use Rattle.timer_base.specs.declared.limits.TheConstants.{LAST};
-ghost use Rattle.timer_base.specs.WheelState.{after_stop, after_restart, after_revival, old_timer, timer_at, due_at};
+ghost use Rattle.timer_base.specs.Order.{AreBelow};
+ghost use Rattle.timer_base.specs.Pending.{timers_of};
+ghost use Rattle.timer_base.specs.WheelState.{after_stop, after_restart, after_made_due, after_revival, old_timer, timer_at, due_at};
 ghost use Rattle.timer_wheels.specs.Buckets.{state_of, IsSameFrame};
 ghost use Rattle.timer_wheels.specs.Hier.{IsHier};
 
@@ -86,4 +88,27 @@ pub fn revive_timer(
     let revived = buckets.revive(handle, bucket, timer, 0)?;
     occupied.insert(bucket);
     Some(revived)
+}
+
+/// Moves the pending timer with just this handle to the back of the due ones. Clears the bit of the bucket
+/// that it left empty, if it left one. Does not allocate.
+pub fn make_timer_due(
+    table: Table,
+    buckets: &mut Buckets,
+    occupied: &mut Occupied,
+    handle: Handle,
+) -> Option<Timer>
+    requires hier { IsHier table buckets.old occupied.old }
+    requires newest { AreBelow handle.serial (timers_of (state_of buckets.old).due) }
+    ensures timer { result ≡ timer_at handle (state_of buckets.old) }
+    ensures made_due { state_of buckets.new ≡ after_made_due handle (state_of buckets.old) }
+    ensures hier { IsHier table buckets.new occupied.new }
+    ensures frame { IsSameFrame buckets.old buckets.new }
+{
+    buckets.links.keys_are_apart();
+    buckets.look(handle)?;
+    let emptied = buckets.links.alone_in(handle.place);
+    let timer = buckets.make_due(handle)?;
+    clear_emptied(occupied, emptied);
+    Some(timer)
 }
