@@ -129,9 +129,10 @@ WhyNotStopped handle old status =
 abbrev pub IsTicked : WheelState → WheelState → Type 0
 IsTicked old new = (old.due ≡ []) × (new ≡ after_tick old)
 
--- this many ticks were passed
+-- this many ticks were passed; at the clock's end not even 0 are
 abbrev pub IsAdvanced : ℕ → ℕ → WheelState → WheelState → Type 0
-IsAdvanced most passed old new = (old.due ≡ []) × Passes most passed old new
+IsAdvanced most passed old new =
+    (old.due ≡ []) × (old.now < old.last_tick) × Passes most passed old new
 
 -- why the clock does not advance; at its end nothing is left, neither due nor pending
 abbrev pub WhyNotTicked : WheelState → ℕ → Type 0

@@ -1,7 +1,6 @@
 -- Lemmas for `start_due` and `restart_due`: a timer that was just started is found under its handle, and made due.
 use Rattle.std.proofs.Common.{◌≡◌, ◌≢◌, ◌<◌, ◌≤◌, ◌+◌, ◌==◌, ℕ, Bool, true, false, not, ◌&&◌, List, [], ◌∷◌, ◌++◌, refl, sym, ◌∙◌, ap, subst, inl, inr, arith}
-use Rattle.std.specs.Prelude.{nat_lt, filter, Option, Some, None}
-use Rattle.std.specs.List.{AllByRecursion}
+use Rattle.std.specs.Prelude.{nat_lt, Option, Some, None}
 use Rattle.std.proofs.lemmas.Bool.{eq-eqb, ne_eqb}
 use Rattle.timer_base.specs.declared.timer.Timer.{Timer}
 use Rattle.timer_base.specs.declared.timer.Handle.{Handle}
@@ -10,7 +9,7 @@ use Rattle.timer_base.specs.OrderLaws.{either}
 use Rattle.timer_base.specs.Pending.{Entry, timers_of, put, has_handle, has_serial, first_timer, without_serial, without_found}
 use Rattle.timer_base.specs.WheelState.{WheelState, IsWellFormed, timer_at, due_at, after_start, after_made_due, entry_made_due}
 use Rattle.timer_total.specs.Deadlines.{IsCounted, after_start_due}
-use Rattle.timer_total.specs.Refusals.{next_timer, timer_due, removed_from, after_removal}
+use Rattle.timer_total.specs.Refusals.{next_timer, removed_from, after_removal}
 use Rattle.timer_total.specs.Ticks.{numbered}
 use Rattle.timer_total.proofs.CountLemmas.{below-append, below-pending, below-weaken, below-without}
 

@@ -1,5 +1,5 @@
 -- Starts for a tick, which may have passed, and the invariant of the serials that are counted beside a wheel.
-use Rattle.std.specs.Prelude.{ℕ, ◌≡◌, ◌≤◌, ◌+◌, ◌-◌, ◌++◌, max, nat_lt, if◌then◌else◌, [], ◌∷◌}
+use Rattle.std.specs.Prelude.{ℕ, ◌≤◌, ◌+◌, ◌-◌, ◌++◌, max, nat_lt, if◌then◌else◌, [], ◌∷◌}
 use Rattle.timer_base.specs.Order.{AreBelow}
 use Rattle.timer_base.specs.Pending.{timers_of}
 use Rattle.timer_base.specs.WheelState.{WheelState, after_start}

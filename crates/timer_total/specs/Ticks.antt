@@ -67,6 +67,11 @@ still_counted asked passed serial old new a h =
 pub none_due : (serial : ℕ) (w v : WheelState) → numbered serial w ≡ v → w.due ≡ [] → v.due ≡ []
 none_due serial w v e d = sym (ap (λ (u : WheelState). u.due) e) ∙ d
 
+-- the clock is not at its end, with another last serial too
+pub before_end : (serial : ℕ) (w v : WheelState) → numbered serial w ≡ v → w.now < w.last_tick
+    → v.now < v.last_tick
+before_end serial w v e b = subst (λ (u : WheelState). u.now < u.last_tick) e b
+
 -- at the last tick nothing is pending
 
 none_later : (last_tick now last_serial : ℕ) (entries : List Entry)

@@ -345,7 +345,8 @@ impl<W: Wheel + Drop> Timers<W> {
     ///
     /// Stretches in which nothing expires are skipped, as far as the wheel can skip them.
     pub fn advance(&mut self, most: u64) -> Result<u64, TickFault>
-        ensures passed { IfOk result (λ passed. (self.old.due ≡ []) × Passes most passed self.old self.new) }
+        ensures passed { IfOk result (λ passed. (self.old.due ≡ []) × (self.old.now < self.old.last_tick)
+            × Passes most passed self.old self.new) }
         ensures fault { IfErr result (WhyNotTicked self.old) }
         ensures err { OnErr result (self.new ≡ self.old) }
     {

@@ -2,7 +2,7 @@ use Rattle.timer_total.proofs.CountLemmas.{counted-ticks}
 use Rattle.std.proofs.Common.{◌≡◌, ◌-◌, ◌<◌, [], arith}
 use Rattle.std.specs.Prelude.{min}
 use Rattle.timer_base.specs.TickLaws.{not_due}
-use Rattle.timer_total.specs.Ticks.{advanced, still_counted, none_due}
+use Rattle.timer_total.specs.Ticks.{advanced, still_counted, none_due, before_end}
 use Rattle.timer_total.proofs.ClockEnds.{at_end}
 use Rattle.timer_total.proofs.timers.Timers.advance.Goals as goal
 
@@ -25,8 +25,10 @@ returns-clause-passed g c =
     let in_range = (g.met.W.Wheel.well_formed c.self.inside.wheel).now_in_range in
     let asked : c.min.result ≡ min c.args.most (w.last_tick - w.now) = omega arith in
     let some : 0 < c.min.result = omega arith in
+    let before : w.now < w.last_tick = omega arith in
     let none : w.due ≡ [] = not_due w.due c.has_due.result c.has_due.ensures c.if-has_due.false in (
       none_due serial w c.args.self.now c.self.view_is none,
+      before_end serial w c.args.self.now c.self.view_is before,
       advanced c.args.most c.min.result c.advance.result serial w w' c.args.self.now c.self.view_is asked some in_range c.advance.ensures,
     )
 

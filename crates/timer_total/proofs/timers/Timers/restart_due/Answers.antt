@@ -1,4 +1,4 @@
-use Rattle.std.proofs.Common.{◌≡◌, ◌+◌, ℕ, sym, ◌∙◌, ap, subst}
+use Rattle.std.proofs.Common.{◌+◌, ℕ, sym, ◌∙◌, subst}
 use Rattle.timer_base.specs.Order.{AreBelow}
 use Rattle.timer_base.specs.Pending.{timers_of}
 use Rattle.timer_base.specs.WheelState.{WheelState}

@@ -1,6 +1,3 @@
-use Rattle.std.proofs.Common.{◌≡◌, ◌+◌, ap, sym, ◌∙◌}
-use Rattle.timer_base.specs.WheelState.{WheelState}
-use Rattle.timer_base.specs.declared.timer.Timer.{Timer}
 use Rattle.timer_total.proofs.CountLemmas.{counted-start, next_serial}
 use Rattle.timer_total.proofs.timers.Timers.start.Goals as goal
 

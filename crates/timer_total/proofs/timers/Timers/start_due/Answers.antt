@@ -1,6 +1,5 @@
-use Rattle.std.proofs.Common.{◌≡◌, sym, ◌∙◌}
 use Rattle.timer_total.proofs.CountLemmas.{next_serial}
-use Rattle.timer_total.proofs.StartedDue.{due_after, made_due, counted_due, viewed_due, older}
+use Rattle.timer_total.proofs.StartedDue.{made_due, counted_due, viewed_due, older}
 use Rattle.timer_total.proofs.timers.Timers.start_due.Goals as goal
 
 pub invariant_of-self : goal.invariant_of-self
