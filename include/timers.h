@@ -291,7 +291,7 @@ enum timers_status timers_tick(struct timers *t);
 
 /* Passes at most `most` ticks, and stops at the first at which a timer expires. Writes `*passed`, how many
  * were passed, at TIMERS_OK. It is 0 only if `most` is 0. It is less than `most` only if a timer has expired
- * or the clock has come to its last tick.
+ * or the clock has come to its last tick. Once it is there, a call returns TIMERS_CLOCK_END, also for no tick.
  * TIMERS_NOT_OPEN, TIMERS_DUE, TIMERS_CLOCK_END. */
 enum timers_status timers_advance(struct timers *t, uint64_t most, uint64_t *passed);
 
