@@ -38,11 +38,11 @@
  *     real time down to a tick starts a timer somewhere within that tick. So an interval of n ticks lasts
  *     more than n - 1 and at most n: add 1 if it must last no less than n.
  *
- *     timers_start_at and timers_restart_at take any tick. If it is not after the present one, the timer is
- *     due at once: it has expired, with the present tick as its deadline, and is taken after those that
- *     expired before it. So a caller that is late can add its period to the tick that was meant until it has
- *     caught up. If the work of each timer starts one that is due at once, a loop that takes what expires
- *     until nothing is left never ends.
+ *     The tick of timers_start_at or timers_restart_at may have passed. Then the timer is due at once: it
+ *     has expired, with the present tick as its deadline. The same holds for the present tick. The timer is
+ *     taken after those that expired before it. So a caller that is late can add its period to the tick that
+ *     was meant until it has caught up. If the work of each timer starts one that is due at once, a loop that
+ *     takes what expires until nothing is left never ends.
  *
  *     An interval of 0 is refused (TIMERS_ZERO_INTERVAL). An interval ends at a later tick, and 0 is mostly
  *     a mistake of a calculation. For work that is due at once give timers_start_at the present tick.
@@ -239,30 +239,33 @@ enum timers_status timers_reserve(struct timers *t, size_t most);
  * Writes `*handle` at TIMERS_OK.
  * TIMERS_NOT_OPEN, TIMERS_ZERO_INTERVAL, TIMERS_TOO_LATE, TIMERS_SERIALS_SPENT, TIMERS_NO_MEMORY. */
 TIMERS_CHECKED
-enum timers_status timers_start(struct timers *t, uint64_t interval, uint64_t action, struct timer_handle *handle);
+enum timers_status timers_start(struct timers *t, uint64_t interval, uint64_t action,
+                                struct timer_handle *handle);
 
 /* Starts a timer that expires at the tick `deadline`, as timers_start. If that is not after the present tick,
- * the timer has expired: it is the last of those that wait to be taken, and its deadline is the present tick.
- * While the clock is at its last tick, TIMERS_TOO_LATE is returned for each deadline, also a passed one.
+ * the timer has expired, with the present tick as its deadline. It is the last of those that wait to be
+ * taken. While the clock is at its last tick, TIMERS_TOO_LATE is returned for each deadline, also for a
+ * passed one.
  * TIMERS_NOT_OPEN, TIMERS_TOO_LATE, TIMERS_SERIALS_SPENT, TIMERS_NO_MEMORY. */
 TIMERS_CHECKED
-enum timers_status timers_start_at(struct timers *t, uint64_t deadline, uint64_t action, struct timer_handle *handle);
+enum timers_status timers_start_at(struct timers *t, uint64_t deadline, uint64_t action,
+                                   struct timer_handle *handle);
 
 /* Stops the timer with this handle, as timers_stop, and starts another in its place, as timers_start. On
  * failure the old one stays as it is. Writes `*restarted`, the new handle, at TIMERS_OK: `handle` is dead
  * then. Does not allocate.
  * TIMERS_NOT_OPEN, TIMERS_NOT_PENDING, TIMERS_ZERO_INTERVAL, TIMERS_TOO_LATE, TIMERS_SERIALS_SPENT. */
 TIMERS_CHECKED
-enum timers_status timers_restart(struct timers *t, struct timer_handle handle, uint64_t interval, uint64_t action,
-                                  struct timer_handle *restarted);
+enum timers_status timers_restart(struct timers *t, struct timer_handle handle, uint64_t interval,
+                                  uint64_t action, struct timer_handle *restarted);
 
 /* Stops the timer with this handle, as timers_restart, and starts one that expires at the tick `deadline`, as
  * timers_start_at. So a timer that waits to be taken goes behind the others if that tick is not after the
  * present one.
  * TIMERS_NOT_OPEN, TIMERS_NOT_PENDING, TIMERS_TOO_LATE, TIMERS_SERIALS_SPENT. */
 TIMERS_CHECKED
-enum timers_status timers_restart_at(struct timers *t, struct timer_handle handle, uint64_t deadline, uint64_t action,
-                                     struct timer_handle *restarted);
+enum timers_status timers_restart_at(struct timers *t, struct timer_handle handle, uint64_t deadline,
+                                     uint64_t action, struct timer_handle *restarted);
 
 /* Stops the timer with this handle, which is pending, or has expired and was not yet taken: it is not
  * handed out any more. Writes `*action`, its action, at TIMERS_OK.
@@ -279,7 +282,7 @@ enum timers_status timers_look(const struct timers *t, struct timer_handle handl
 /* Iterates over every timer, pending or expired and not yet taken, in no particular order. `*cursor` is 0 at
  * the first call. Each call that finds a timer writes it to `*out` and its handle to `*handle`, moves
  * `*cursor` past it and returns true. At the end, or if `t` is not open, it returns false and writes nothing.
- * Between two calls timers may be started, stopped, restarted and taken, and ticks may pass: one that is
+ * Between two calls timers may be started, stopped, restarted and taken, and ticks may pass. One that is
  * held all the time, under one handle, is found exactly once. A whole iteration takes time for the most
  * timers that were ever held at once, or that timers_reserve made room for. */
 bool timers_each(const struct timers *t, size_t *cursor, struct timer_handle *handle,
@@ -291,7 +294,8 @@ enum timers_status timers_tick(struct timers *t);
 
 /* Passes at most `most` ticks, and stops at the first at which a timer expires. Writes `*passed`, how many
  * were passed, at TIMERS_OK. It is 0 only if `most` is 0. It is less than `most` only if a timer has expired
- * or the clock has come to its last tick. Once it is there, a call returns TIMERS_CLOCK_END, also for no tick.
+ * or the clock has come to its last tick. Once it is there, a call returns TIMERS_CLOCK_END, also for no
+ * tick.
  * TIMERS_NOT_OPEN, TIMERS_DUE, TIMERS_CLOCK_END. */
 enum timers_status timers_advance(struct timers *t, uint64_t most, uint64_t *passed);
 
@@ -326,11 +330,11 @@ uint64_t timers_wakeup(const struct timers *t);
  * otherwise walks the timers of one bucket. A loop that only sleeps can use timers_wakeup. */
 uint64_t timers_next(const struct timers *t);
 
-/* Writes `*counts`, what the wheels have done since timers_new, at TIMERS_OK. `starts` counts each start and restart
- * that returned TIMERS_OK. `moves` is at most 9 times `starts` (of TIMERS_CLOCK, 3 times). `visits` counts one
- * for each tick of timers_tick. Of timers_advance it counts one for each multiple of 64 ticks that is passed (of
- * TIMERS_CLOCK, 60). It also counts its last tick if that is no such multiple and a timer expires there. A stop
- * and taking expired timers count nothing. Constant time. Does not allocate.
+/* Writes `*counts`, what the wheels have done since timers_new, at TIMERS_OK. `starts` counts each start and
+ * restart that returned TIMERS_OK. `moves` is at most 9 times `starts` (of TIMERS_CLOCK, 3 times). `visits`
+ * counts one for each tick of timers_tick. Of timers_advance it counts one for each multiple of 64 ticks that
+ * is passed (of TIMERS_CLOCK, 60). It also counts its last tick if that is no such multiple and a timer
+ * expires there. A stop and taking expired timers count nothing. Constant time. Does not allocate.
  * TIMERS_NOT_OPEN. */
 TIMERS_CHECKED
 enum timers_status timers_counts(const struct timers *t, struct timer_counts *counts);
@@ -363,14 +367,17 @@ static inline const char *timers_message(enum timers_status status)
 TIMERS_ASSERT(sizeof(void *) == 8 && sizeof(size_t) == 8, "a 64-bit platform");
 TIMERS_ASSERT(sizeof(enum timers_status) == 4, "a status is 32 bits: no -fshort-enums");
 TIMERS_ASSERT(sizeof(bool) == 1, "a bool is one byte");
-TIMERS_ASSERT(sizeof(struct timers) == 24 && offsetof(struct timers, at) == 0 && offsetof(struct timers, mark) == 8
-              && offsetof(struct timers, last_serial) == 16, "struct timers");
+TIMERS_ASSERT(sizeof(struct timers) == 24 && offsetof(struct timers, at) == 0
+              && offsetof(struct timers, mark) == 8 && offsetof(struct timers, last_serial) == 16,
+              "struct timers");
 TIMERS_ASSERT(sizeof(struct timer_handle) == 16 && offsetof(struct timer_handle, place) == 0
               && offsetof(struct timer_handle, serial) == 8, "struct timer_handle");
 TIMERS_ASSERT(sizeof(struct timer_expired) == 24 && offsetof(struct timer_expired, deadline) == 0
-              && offsetof(struct timer_expired, serial) == 8 && offsetof(struct timer_expired, action) == 16, "struct timer_expired");
+              && offsetof(struct timer_expired, serial) == 8 && offsetof(struct timer_expired, action) == 16,
+              "struct timer_expired");
 TIMERS_ASSERT(sizeof(struct timer_counts) == 24 && offsetof(struct timer_counts, starts) == 0
-              && offsetof(struct timer_counts, moves) == 8 && offsetof(struct timer_counts, visits) == 16, "struct timer_counts");
+              && offsetof(struct timer_counts, moves) == 8 && offsetof(struct timer_counts, visits) == 16,
+              "struct timer_counts");
 #undef TIMERS_ASSERT
 #undef TIMERS_CHECKED
 

@@ -48,8 +48,8 @@
  *     timers_line_abandoned returns true.
  *
  *     Words wait in the client's outbox at the owner until a flush moves them into the line. A request is
- *     taken only if the outbox has room for its answer, a word of each pending timer of the client, and one
- *     word more. So no word is ever lost. A client that does not read stops only its own requests. If
+ *     taken only if the outbox has room for its answer, a word of each of the client's pending timers, and
+ *     one more. So no word is ever lost. A client that does not read stops only its own requests. If
  *     memory runs out for a request, it is held, and retried first when its client is served the next time.
  *
  *     The owner's loop:
@@ -87,7 +87,7 @@
  *        or with all bytes 0. Only these functions write them. They must not be copied, since they own
  *        memory; they may be moved by a memcpy after which the old one is not used.
  *     2. A pointer argument is not NULL and points to an object of its type, or for `lines` to as many as
- *        are passed, that this call alone uses; no two arguments of one call overlap.
+ *        are passed, that this call alone uses. No two arguments of one call overlap.
  *     3. An object that a call only writes (number, word, passed, returned, standing, unread, client) may
  *        be uninitialised.
  *     4. Calls on one struct come one at a time. A struct may be handed from thread to thread, by a lock,
@@ -301,8 +301,8 @@ uint64_t timers_desk_wakeup(const struct timers_desk *d);
 uint64_t timers_desk_next(const struct timers_desk *d);
 
 /* Whether a client's line was freed. False if there is no such client, or it holds no desk. Once true it
- * stays true. Nothing changes: what the client sent before is still taken, its timers stay pending, and
- * words to it are lost once they are in the line. Constant time. Does not allocate. */
+ * stays true. Nothing changes: what the client sent before is still taken, and its timers stay pending.
+ * Words to it are lost once they are in the line. Constant time. Does not allocate. */
 bool timers_desk_line_freed(const struct timers_desk *d, size_t client);
 
 /* How many words wait in a client's outbox. 0 if there is no such client, or it holds no desk. */
