@@ -10,7 +10,7 @@ use Rattle.timer_wheels.specs.HeldPlaces.{AreBefore, AreElsewhere}
 use Rattle.timer_wheels.specs.HierWheel.{WheelCounts, counts_of, hier_state}
 use Rattle.timer_wheels.specs.declared.hier.HierWheel.{HierWheel}
 use Rattle.timer_wheels.specs.declared.table.TheConstants.{LAST_OF_CLOCK}
-use Rattle.timer_total.specs.Deadlines.{interval_until, after_start_at}
+use Rattle.timer_total.specs.Deadlines.{interval_until, after_start_at, after_start_due}
 use Rattle.timer_total.specs.Refusals.{next_timer, held_at, after_removal, IsStartable, IsRoomUsed, IsAt}
 use Rattle.timer_total.specs.declared.fault.StartFault.{StartFault}
 use Rattle.timer_total.specs.declared.fault.StartFault.TheVariants as start
@@ -66,6 +66,11 @@ IsStartedAt deadline action old new handle =
     IsStartable (interval_until deadline old) old × (handle.serial ≡ old.last_serial + 1)
     × (new ≡ after_start_at handle.place deadline action old)
 
+-- a start was done of a timer that expires at once
+abbrev pub IsStartedDue : ℕ → WheelState → WheelState → Handle → Type 0
+IsStartedDue action old new handle =
+    IsStartable 1 old × (handle.serial ≡ old.last_serial + 1) × (new ≡ after_start_due handle.place action old)
+
 -- why it was not: an interval until a tick is never 0
 abbrev pub WhyNotStartedAt : ℕ → WheelState → ℕ → Type 0
 WhyNotStartedAt deadline old status = WhyNotStarted (interval_until deadline old) old status
@@ -82,6 +87,12 @@ IsRestartedAt handle deadline action old new restarted =
     IsAt (named handle) old × IsStartable (interval_until deadline old) old
     × (restarted.serial ≡ old.last_serial + 1)
     × (new ≡ after_start_at restarted.place deadline action (after_removal (named handle) old))
+
+-- a restart was done, with a timer that expires at once
+abbrev pub IsRestartedDue : Handle → ℕ → WheelState → WheelState → Handle → Type 0
+IsRestartedDue handle action old new restarted =
+    IsAt (named handle) old × IsStartable 1 old × (restarted.serial ≡ old.last_serial + 1)
+    × (new ≡ after_start_due restarted.place action (after_removal (named handle) old))
 
 abbrev pub WhyNotRestarted : Handle → ℕ → WheelState → ℕ → Type 0
 WhyNotRestarted handle interval old status =

@@ -2,7 +2,7 @@
 ghost use Rattle.std.specs.Prelude.{◌≡◌, ◌*◌, ◌<◌, ◌≤◌, ◌++◌, ◌↔◌, true, false, Some, None, [], map, take, drop, length, min};
 ghost use Rattle.timer_base.specs.Pending.{timers_of};
 ghost use Rattle.timer_base.specs.WheelState.{first_due, after_reserve, after_tick, after_expiry};
-ghost use Rattle.timer_c.specs.Outcomes.{IsStarted, IsStartedAt, WhyNotStarted, WhyNotStartedAt, IsRestarted, IsRestartedAt, WhyNotRestarted, WhyNotRestartedAt, start_status, restart_status, IsSeen, IsStopped, WhyNotStopped, IsTicked, IsAdvanced, WhyNotTicked, IsNextCall, IsNextDeadline, IsVisited, IsAllVisited, AreCountsOf, told, tell, tell_counts, after_expiries};
+ghost use Rattle.timer_c.specs.Outcomes.{IsStarted, IsStartedAt, IsStartedDue, IsRestartedDue, WhyNotStarted, WhyNotStartedAt, IsRestarted, IsRestartedAt, WhyNotRestarted, WhyNotRestartedAt, start_status, restart_status, IsSeen, IsStopped, WhyNotStopped, IsTicked, IsAdvanced, WhyNotTicked, IsNextCall, IsNextDeadline, IsVisited, IsAllVisited, AreCountsOf, told, tell, tell_counts, after_expiries};
 ghost use Rattle.timer_wheels.specs.HierWheel.{counts_of};
 ghost use Rattle.timer_c.specs.declared.status.TheConstants.{OK, NO_MEMORY};
 
@@ -55,7 +55,20 @@ pub(crate) fn start_at<W: Wheel + Drop>(
     ensures refused { 0 < result → WhyNotStartedAt deadline timers.old result }
     ensures kept { 0 < result → (timers.new ≡ timers.old) × (handle.new ≡ handle.old) }
 {
-    match timers.start_at(deadline, action) {
+    let interval = timers.until(deadline);
+    if interval == 0 {
+        return start_due(timers, action, handle);
+    }
+    start(timers, interval, action, handle)
+}
+
+// `Timers::start` has one caller here, so that it is inlined: else its result goes through memory.
+fn start_due<W: Wheel + Drop>(timers: &mut Timers<W>, action: u64, handle: &mut Handle) -> u32
+    ensures started { result ≡ OK → IsStartedDue action timers.old timers.new handle.new }
+    ensures refused { 0 < result → WhyNotStarted 1 timers.old result }
+    ensures kept { 0 < result → (timers.new ≡ timers.old) × (handle.new ≡ handle.old) }
+{
+    match timers.start_due(action) {
         Ok(started) => {
             *handle = to_c_handle(started);
             OK
@@ -109,7 +122,24 @@ pub(crate) fn restart_at<W: Wheel + Drop>(
     ensures refused { 0 < result → WhyNotRestartedAt handle deadline timers.old result }
     ensures kept { 0 < result → (timers.new ≡ timers.old) × (restarted.new ≡ restarted.old) }
 {
-    match timers.restart_at(from_c_handle(handle), deadline, action) {
+    let interval = timers.until(deadline);
+    if interval == 0 {
+        return restart_due(timers, handle, action, restarted);
+    }
+    restart(timers, handle, interval, action, restarted)
+}
+
+fn restart_due<W: Wheel + Drop>(
+    timers: &mut Timers<W>,
+    handle: Handle,
+    action: u64,
+    restarted: &mut Handle,
+) -> u32
+    ensures restarted { result ≡ OK → IsRestartedDue handle action timers.old timers.new restarted.new }
+    ensures refused { 0 < result → WhyNotRestarted handle 1 timers.old result }
+    ensures kept { 0 < result → (timers.new ≡ timers.old) × (restarted.new ≡ restarted.old) }
+{
+    match timers.restart_due(from_c_handle(handle), action) {
         Ok(started) => {
             *restarted = to_c_handle(started);
             OK

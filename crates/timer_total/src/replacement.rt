@@ -8,6 +8,7 @@ use timer_base::{Handle, Timer, Wheel};
 
 /// Removes the timer with exactly this handle, pending or due, and starts another in its place. Returns the
 /// handle of the new one, or None if there was no old one: then nothing changes. Does not allocate.
+#[inline(always)]
 pub fn replace<W: Wheel>(wheel: &mut W, handle: Handle, timer: Timer) -> Option<Handle>
     requires later { (W.state wheel.old).now < timer.deadline }
     requires deadline { timer.deadline ≤ (W.state wheel.old).last_tick }

@@ -179,8 +179,8 @@ impl<W: Wheel + Drop> Timers<W> {
     }
 
     /// Starts a timer that expires at once, under the next serial: it is started for the next tick, and then
-    /// made due.
-    fn start_due(&mut self, action: u64) -> Result<Handle, StartFault>
+    /// made due. Fails as a start for the next tick. It is `start_at` for a tick that is not after the present one.
+    pub fn start_due(&mut self, action: u64) -> Result<Handle, StartFault>
         ensures started { IfOk result (λ handle. self.new ≡ after_start_due handle.place action self.old) }
         ensures named { IfOk result (λ handle. handle.serial ≡ self.old.last_serial + 1) }
         ensures in_order { IfOk result (λ _. IsStartable 1 self.old) }
@@ -201,7 +201,7 @@ impl<W: Wheel + Drop> Timers<W> {
     }
 
     /// How many ticks are left until this one, or 0 if it is not after the present one.
-    fn until(&self, deadline: u64) -> u64
+    pub fn until(&self, deadline: u64) -> u64
         ensures { result ≡ left_until deadline self.now }
     {
         deadline.saturating_sub(self.wheel.now())
@@ -283,8 +283,9 @@ impl<W: Wheel + Drop> Timers<W> {
         self.restart(handle, interval, action)
     }
 
-    /// Removes the timer with exactly this handle, and starts one that expires at once.
-    fn restart_due(&mut self, handle: Handle, action: u64) -> Result<Handle, RestartFault>
+    /// Removes the timer with exactly this handle, as `restart`, and starts one that expires at once. It is
+    /// `restart_at` for a tick that is not after the present one. Does not allocate.
+    pub fn restart_due(&mut self, handle: Handle, action: u64) -> Result<Handle, RestartFault>
         ensures restarted { IfOk result (λ made.
             self.new ≡ after_start_due made.place action (after_removal handle self.old)) }
         ensures named { IfOk result (λ made. made.serial ≡ self.old.last_serial + 1) }

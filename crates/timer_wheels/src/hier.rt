@@ -268,6 +268,8 @@ impl Wheel for HierWheel {
         self.buckets.last_serial
     }
 
+    // Always inlined, as restart and revive are: the results of calls would go through memory.
+    #[inline(always)]
     fn start(&mut self, timer: Timer) -> Result<Handle, OutOfMemory>
         requires later { (hier_state self.old).now < timer.deadline }
         requires deadline { timer.deadline ≤ (hier_state self.old).last_tick }
@@ -312,6 +314,7 @@ impl Wheel for HierWheel {
         stop_timer(self.table, &mut self.buckets, &mut self.occupied, handle)
     }
 
+    #[inline(always)]
     fn restart(&mut self, handle: Handle, timer: Timer) -> Option<(Handle, Timer)>
         requires later { (hier_state self.old).now < timer.deadline }
         requires deadline { timer.deadline ≤ (hier_state self.old).last_tick }
@@ -417,6 +420,7 @@ impl Wheel for HierWheel {
         self.buckets.withdraw(handle)
     }
 
+    #[inline(always)]
     fn revive(&mut self, handle: Handle, timer: Timer) -> Option<(Handle, Timer)>
         requires later { (hier_state self.old).now < timer.deadline }
         requires deadline { timer.deadline ≤ (hier_state self.old).last_tick }

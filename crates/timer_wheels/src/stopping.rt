@@ -36,6 +36,7 @@ pub fn stop_timer(
 
 /// Removes the pending timer with just this handle, and starts another at its place. Clears the bit of
 /// the bucket that it left empty, if it left one, and sets that of its new bucket. Does not allocate.
+#[inline(always)]
 pub fn restart_timer(
     table: Table,
     buckets: &mut Buckets,
@@ -66,6 +67,7 @@ pub fn restart_timer(
 
 /// Removes the due timer with just this handle, and starts another at its place. Sets the bit of its
 /// bucket. Does not allocate.
+#[inline(always)]
 pub fn revive_timer(
     table: Table,
     buckets: &mut Buckets,
