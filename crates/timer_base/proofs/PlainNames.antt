@@ -1,4 +1,4 @@
--- Lemmas for `names_one` of a `PlainWheel`: a serial stands once among its timers.
+-- Lemmas for `lemma_names_one` of a `PlainWheel`: a serial stands once among its timers.
 use Rattle.std.proofs.Common.{◌≡◌, ℕ, not, List, [], ◌∷◌, refl, sym, ◌∙◌, ap, inl, inr}
 use Rattle.std.specs.Prelude.{filter, find, Some, None}
 use Rattle.std.proofs.lemmas.Bool.{cases_eq}
@@ -20,8 +20,8 @@ find-gone now serial (t ∷ ts) = elim (either (has_serial serial t)) [
   | inr h ↦ simp (h, h) (find-gone now serial ts)
 ]
 
-pub names_one : (now last : ℕ) (ts : List Timer) (h : Handle) → AreRising 0 ts → NamesOne h (plain_state now last ts)
-names_one now last ts h r t f = elim (cases_eq h.place 0) [
+pub lemma_names_one : (now last : ℕ) (ts : List Timer) (h : Handle) → AreRising 0 ts → NamesOne h (plain_state now last ts)
+lemma_names_one now last ts h r t f = elim (cases_eq h.place 0) [
   | inl z ↦
       let e : find (is_pending_with now h.serial) ts ≡ Some t = look_here now last ts h r z ∙ f in
       let s : t.serial ≡ h.serial = eq_is t.serial h.serial (both_first (has_serial h.serial t) (is_after now t)

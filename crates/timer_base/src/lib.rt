@@ -11,13 +11,13 @@ mod fault;
 pub mod laws;
 mod limits;
 mod plain;
-mod sorting;
+mod sort;
 mod timer;
 mod wheel;
 
 pub use fault::{MakeFault, OutOfMemory};
 pub use limits::LAST;
 pub use plain::PlainWheel;
-pub use sorting::sort_timers;
+pub use sort::sort_timers;
 pub use timer::{Handle, Timer};
 pub use wheel::Wheel;

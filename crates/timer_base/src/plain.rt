@@ -27,7 +27,7 @@ ghost use Rattle.timer_base.specs.WheelState.{empty_wheel, with_room, with_room-
 
 use crate::fault::{MakeFault, OutOfMemory};
 use crate::limits::LAST;
-use crate::sorting::sort_timers;
+use crate::sort::sort_timers;
 use crate::timer::{Handle, Timer};
 use crate::wheel::Wheel;
 use std::alloc::Global;
@@ -248,7 +248,7 @@ impl Wheel for PlainWheel {
         Some((handle, old))
     }
 
-    fn names_one(&self, _handle: Handle) {
+    fn lemma_names_one(&self, _handle: Handle) {
         // Read, so that the prover knows the invariant here.
         let _timers = &self.timers;
     }

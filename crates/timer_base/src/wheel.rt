@@ -194,7 +194,7 @@ pub trait Wheel {
         ensures revived { state self.new ≡ after_revival result handle timer (state self.old) };
 
     /// Does nothing at run time. Its contract is a lemma: no handle names a pending timer and a due one.
-    fn names_one(&self, handle: Handle)
+    fn lemma_names_one(&self, handle: Handle)
         ensures { NamesOne handle (state self.now) };
 
     /// The pending timers, by deadline and then serial. The only error is out of memory.

@@ -8,11 +8,11 @@ use Rattle.timer_total.specs.declared.fault.StartFault.{StartFault}
 use Rattle.timer_total.specs.declared.fault.StartFault.TheVariants as start
 use Rattle.timer_total.specs.declared.fault.RestartFault.{RestartFault}
 use Rattle.timer_c.specs.declared.layout.Handle.{Handle}
-use Rattle.timer_c.specs.Outcomes.{WhyNotStarted, WhyNotRestarted, named, start_status, restart_status}
+use Rattle.timer_c.specs.Outcomes.{IsStartRefusal, IsRestartRefusal, named, start_status, restart_status}
 
 start_reason : (interval : ℕ) (w : WheelState) (fault : StartFault)
     → total.WhyNotStarted interval w fault ⊎ ((fault ≡ start.OutOfMemory) × IsStartable interval w × IsRoomUsed w)
-    → WhyNotStarted interval w (start_status fault)
+    → IsStartRefusal interval w (start_status fault)
 start_reason interval w fault (inl (inl r)) = inl (ap start_status r.0, r.1)
 start_reason interval w fault (inl (inr (inl r))) = inr (inl (ap start_status r.0, r.1, r.2))
 start_reason interval w fault (inl (inr (inr r))) = inr (inr (inl (ap start_status r.0, r.1, r.2, r.3)))
@@ -20,11 +20,11 @@ start_reason interval w fault (inr r) = inr (inr (inr (ap start_status r.0, r.1,
 
 pub start_refused : (interval : ℕ) (w : WheelState) (fault : StartFault) (status : ℕ) → status ≡ start_status fault
     → total.WhyNotStarted interval w fault ⊎ ((fault ≡ start.OutOfMemory) × IsStartable interval w × IsRoomUsed w)
-    → WhyNotStarted interval w status
-start_refused interval w fault status e r = subst (WhyNotStarted interval w) (sym e) (start_reason interval w fault r)
+    → IsStartRefusal interval w status
+start_refused interval w fault status e r = subst (IsStartRefusal interval w) (sym e) (start_reason interval w fault r)
 
 restart_reason : (handle : Handle) (interval : ℕ) (w : WheelState) (fault : RestartFault)
-    → total.WhyNotRestarted (named handle) interval w fault → WhyNotRestarted handle interval w (restart_status fault)
+    → total.WhyNotRestarted (named handle) interval w fault → IsRestartRefusal handle interval w (restart_status fault)
 restart_reason handle interval w fault (inl r) = inl (ap restart_status r.0, r.1)
 restart_reason handle interval w fault (inr (inl r)) = inr (inl (ap restart_status r.0, r.1, r.2))
 restart_reason handle interval w fault (inr (inr (inl r))) = inr (inr (inl (ap restart_status r.0, r.1, r.2, r.3)))
@@ -32,7 +32,7 @@ restart_reason handle interval w fault (inr (inr (inr r))) = inr (inr (inr (ap r
 
 pub restart_refused : (handle : Handle) (name : base.Handle) (interval : ℕ) (w : WheelState) (fault : RestartFault)
     (status : ℕ) → name ≡ named handle → status ≡ restart_status fault → total.WhyNotRestarted name interval w fault
-    → WhyNotRestarted handle interval w status
+    → IsRestartRefusal handle interval w status
 restart_refused handle name interval w fault status n e r =
     let R : base.Handle → Type 0 = λ h. total.WhyNotRestarted h interval w fault in
-    subst (WhyNotRestarted handle interval w) (sym e) (restart_reason handle interval w fault (subst R n r))
+    subst (IsRestartRefusal handle interval w) (sym e) (restart_reason handle interval w fault (subst R n r))

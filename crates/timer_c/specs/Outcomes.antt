@@ -48,8 +48,8 @@ IsStarted interval action old new handle =
     IsStartable interval old × (handle.serial ≡ old.last_serial + 1)
     × (new ≡ after_start handle.place (next_timer interval action old) old)
 
-abbrev pub WhyNotStarted : ℕ → WheelState → ℕ → Type 0
-WhyNotStarted interval old status =
+abbrev pub IsStartRefusal : ℕ → WheelState → ℕ → Type 0
+IsStartRefusal interval old status =
     ((status ≡ ZERO_INTERVAL) × (interval ≡ 0))
     ⊎ ((status ≡ TOO_LATE) × (0 < interval) × (old.last_tick < old.now + interval))
     ⊎ ((status ≡ SERIALS_SPENT) × (0 < interval) × (old.now + interval ≤ old.last_tick)
@@ -72,8 +72,8 @@ IsStartedDue action old new handle =
     IsStartable 1 old × (handle.serial ≡ old.last_serial + 1) × (new ≡ after_start_due handle.place action old)
 
 -- why it was not: an interval until a tick is never 0
-abbrev pub WhyNotStartedAt : ℕ → WheelState → ℕ → Type 0
-WhyNotStartedAt deadline old status = WhyNotStarted (interval_until deadline old) old status
+abbrev pub IsStartAtRefusal : ℕ → WheelState → ℕ → Type 0
+IsStartAtRefusal deadline old status = IsStartRefusal (interval_until deadline old) old status
 
 -- a restart was done: the old timer is removed, and the new one started under the next serial
 abbrev pub IsRestarted : Handle → ℕ → ℕ → WheelState → WheelState → Handle → Type 0
@@ -94,8 +94,8 @@ IsRestartedDue handle action old new restarted =
     IsAt (named handle) old × IsStartable 1 old × (restarted.serial ≡ old.last_serial + 1)
     × (new ≡ after_start_due restarted.place action (after_removal (named handle) old))
 
-abbrev pub WhyNotRestarted : Handle → ℕ → WheelState → ℕ → Type 0
-WhyNotRestarted handle interval old status =
+abbrev pub IsRestartRefusal : Handle → ℕ → WheelState → ℕ → Type 0
+IsRestartRefusal handle interval old status =
     ((status ≡ NOT_PENDING) × (held_at (named handle) old ≡ None))
     ⊎ ((status ≡ ZERO_INTERVAL) × IsAt (named handle) old × (interval ≡ 0))
     ⊎ ((status ≡ TOO_LATE) × IsAt (named handle) old × (0 < interval) × (old.last_tick < old.now + interval))
@@ -103,9 +103,9 @@ WhyNotRestarted handle interval old status =
     × (old.now + interval ≤ old.last_tick) × (LAST ≤ old.last_serial))
 
 -- why it was not: an interval until a tick is never 0
-abbrev pub WhyNotRestartedAt : Handle → ℕ → WheelState → ℕ → Type 0
-WhyNotRestartedAt handle deadline old status =
-    WhyNotRestarted handle (interval_until deadline old) old status
+abbrev pub IsRestartAtRefusal : Handle → ℕ → WheelState → ℕ → Type 0
+IsRestartAtRefusal handle deadline old status =
+    IsRestartRefusal handle (interval_until deadline old) old status
 
 -- the status of a start that was refused
 abbrev pub start_status : StartFault → ℕ

@@ -2,7 +2,7 @@
 ghost use Rattle.std.specs.Prelude.{◌≡◌, ◌*◌, ◌<◌, ◌≤◌, ◌++◌, ◌↔◌, true, false, Some, None, [], map, take, drop, length, min};
 ghost use Rattle.timer_base.specs.Pending.{timers_of};
 ghost use Rattle.timer_base.specs.WheelState.{first_due, after_reserve, after_tick, after_expiry};
-ghost use Rattle.timer_c.specs.Outcomes.{IsStarted, IsStartedAt, IsStartedDue, IsRestartedDue, WhyNotStarted, WhyNotStartedAt, IsRestarted, IsRestartedAt, WhyNotRestarted, WhyNotRestartedAt, start_status, restart_status, IsSeen, IsStopped, WhyNotStopped, IsTicked, IsAdvanced, WhyNotTicked, IsNextCall, IsNextDeadline, IsVisited, IsAllVisited, AreCountsOf, told, tell, tell_counts, after_expiries};
+ghost use Rattle.timer_c.specs.Outcomes.{IsStarted, IsStartedAt, IsStartedDue, IsRestartedDue, IsStartRefusal, IsStartAtRefusal, IsRestarted, IsRestartedAt, IsRestartRefusal, IsRestartAtRefusal, start_status, restart_status, IsSeen, IsStopped, WhyNotStopped, IsTicked, IsAdvanced, WhyNotTicked, IsNextCall, IsNextDeadline, IsVisited, IsAllVisited, AreCountsOf, told, tell, tell_counts, after_expiries};
 ghost use Rattle.timer_wheels.specs.HierWheel.{counts_of};
 ghost use Rattle.timer_c.specs.declared.status.TheConstants.{OK, NO_MEMORY};
 
@@ -11,7 +11,7 @@ use crate::status::{
     CLOCK_END, DUE, NEVER, NO_MEMORY, NOT_PENDING, OK, SERIALS_SPENT, TOO_LATE, ZERO_INTERVAL,
 };
 use timer_base::{Timer, Wheel};
-use timer_total::{RestartFault, StartFault, TickFault, Timers};
+use timer_total::{RestartFault, StartFault, AdvanceFault, Timers};
 use timer_wheels::HierWheel;
 
 /// Makes room for `most` timers at one time, pending and expired ones together.
@@ -33,7 +33,7 @@ pub(crate) fn start<W: Wheel + Drop>(
     handle: &mut Handle,
 ) -> u32
     ensures started { result ≡ OK → IsStarted interval action timers.old timers.new handle.new }
-    ensures refused { 0 < result → WhyNotStarted interval timers.old result }
+    ensures refused { 0 < result → IsStartRefusal interval timers.old result }
     ensures kept { 0 < result → (timers.new ≡ timers.old) × (handle.new ≡ handle.old) }
 {
     match timers.start(interval, action) {
@@ -52,7 +52,7 @@ pub(crate) fn start_at<W: Wheel + Drop>(
     handle: &mut Handle,
 ) -> u32
     ensures started { result ≡ OK → IsStartedAt deadline action timers.old timers.new handle.new }
-    ensures refused { 0 < result → WhyNotStartedAt deadline timers.old result }
+    ensures refused { 0 < result → IsStartAtRefusal deadline timers.old result }
     ensures kept { 0 < result → (timers.new ≡ timers.old) × (handle.new ≡ handle.old) }
 {
     let interval = timers.until(deadline);
@@ -65,7 +65,7 @@ pub(crate) fn start_at<W: Wheel + Drop>(
 // `Timers::start` has one caller here, so that it is inlined: else its result goes through memory.
 fn start_due<W: Wheel + Drop>(timers: &mut Timers<W>, action: u64, handle: &mut Handle) -> u32
     ensures started { result ≡ OK → IsStartedDue action timers.old timers.new handle.new }
-    ensures refused { 0 < result → WhyNotStarted 1 timers.old result }
+    ensures refused { 0 < result → IsStartRefusal 1 timers.old result }
     ensures kept { 0 < result → (timers.new ≡ timers.old) × (handle.new ≡ handle.old) }
 {
     match timers.start_due(action) {
@@ -98,7 +98,7 @@ pub(crate) fn restart<W: Wheel + Drop>(
     restarted: &mut Handle,
 ) -> u32
     ensures restarted { result ≡ OK → IsRestarted handle interval action timers.old timers.new restarted.new }
-    ensures refused { 0 < result → WhyNotRestarted handle interval timers.old result }
+    ensures refused { 0 < result → IsRestartRefusal handle interval timers.old result }
     ensures kept { 0 < result → (timers.new ≡ timers.old) × (restarted.new ≡ restarted.old) }
 {
     match timers.restart(from_c_handle(handle), interval, action) {
@@ -119,7 +119,7 @@ pub(crate) fn restart_at<W: Wheel + Drop>(
 ) -> u32
     ensures restarted { result ≡ OK
         → IsRestartedAt handle deadline action timers.old timers.new restarted.new }
-    ensures refused { 0 < result → WhyNotRestartedAt handle deadline timers.old result }
+    ensures refused { 0 < result → IsRestartAtRefusal handle deadline timers.old result }
     ensures kept { 0 < result → (timers.new ≡ timers.old) × (restarted.new ≡ restarted.old) }
 {
     let interval = timers.until(deadline);
@@ -136,7 +136,7 @@ fn restart_due<W: Wheel + Drop>(
     restarted: &mut Handle,
 ) -> u32
     ensures restarted { result ≡ OK → IsRestartedDue handle action timers.old timers.new restarted.new }
-    ensures refused { 0 < result → WhyNotRestarted handle 1 timers.old result }
+    ensures refused { 0 < result → IsRestartRefusal handle 1 timers.old result }
     ensures kept { 0 < result → (timers.new ≡ timers.old) × (restarted.new ≡ restarted.old) }
 {
     match timers.restart_due(from_c_handle(handle), action) {
@@ -197,8 +197,8 @@ pub(crate) fn tick<W: Wheel + Drop>(timers: &mut Timers<W>) -> u32
 {
     match timers.tick() {
         Ok(()) => OK,
-        Err(TickFault::Due) => DUE,
-        Err(TickFault::ClockEnd) => CLOCK_END,
+        Err(AdvanceFault::Due) => DUE,
+        Err(AdvanceFault::ClockEnd) => CLOCK_END,
     }
 }
 
@@ -212,8 +212,8 @@ pub(crate) fn advance<W: Wheel + Drop>(timers: &mut Timers<W>, most: u64, passed
             *passed = ticks;
             OK
         }
-        Err(TickFault::Due) => DUE,
-        Err(TickFault::ClockEnd) => CLOCK_END,
+        Err(AdvanceFault::Due) => DUE,
+        Err(AdvanceFault::ClockEnd) => CLOCK_END,
     }
 }
 

@@ -7,13 +7,13 @@ ghost use Rattle.std.specs.Prelude.{◌≡◌, ◌*◌, ◌<◌, ◌≤◌, ◌�
 ghost use Rattle.timer_base.specs.Pending.{timers_of};
 ghost use Rattle.timer_base.specs.WheelState.{first_due, after_reserve, after_expiry};
 ghost use Rattle.timer_c.specs.Frames.{IsOpen, IsShut, with_timers};
-ghost use Rattle.timer_c.specs.Outcomes.{IsEmptyAt, IsOpenable, WhyNoWheel, IsStarted, IsStartedAt, WhyNotStarted, WhyNotStartedAt, IsRestarted, IsRestartedAt, WhyNotRestarted, WhyNotRestartedAt, IsSeen, IsStopped, WhyNotStopped, IsTicked, IsAdvanced, WhyNotTicked, IsNextCall, IsNextDeadline, IsVisited, IsAllVisited, AreCountsOf, told, tell, after_expiries};
+ghost use Rattle.timer_c.specs.Outcomes.{IsEmptyAt, IsOpenable, WhyNoWheel, IsStarted, IsStartedAt, IsStartRefusal, IsStartAtRefusal, IsRestarted, IsRestartedAt, IsRestartRefusal, IsRestartAtRefusal, IsSeen, IsStopped, WhyNotStopped, IsTicked, IsAdvanced, WhyNotTicked, IsNextCall, IsNextDeadline, IsVisited, IsAllVisited, AreCountsOf, told, tell, after_expiries};
 ghost use Rattle.timer_c.specs.declared.status.TheConstants.{OK, NOT_OPEN, OPEN, NO_MEMORY, NEVER};
 
 use crate::c_timers::CTimers;
 use crate::calls;
 use crate::layout::{Counts, Expired, Handle};
-use crate::opening::wheel_of;
+use crate::wheel_maker::wheel_of;
 use crate::status::{NEVER, NO_MEMORY, NOT_OPEN, OK, OPEN};
 use std::alloc::Global;
 use timer_ffi_base::RawBox;
@@ -37,7 +37,7 @@ pub extern "C" fn timers_new(alloc: Global, t: &mut CTimers, table: u32, first_t
         Ok(wheel) => wheel,
         Err(status) => return status,
     };
-    match Box::new(alloc, Timers::over(wheel, t.last_serial)) {
+    match Box::new(alloc, Timers::new(wheel, t.last_serial)) {
         Ok(timers) => {
             t.slot.put(RawBox::park(timers));
             OK
@@ -87,7 +87,7 @@ pub extern "C" fn timers_start(
     ensures started { result ≡ OK → IsOpen t.old × IsStarted interval action t.old.slot.state t.new.slot.state
         handle.new }
     ensures refused { 0 < result → ((result ≡ NOT_OPEN) × IsShut t.old)
-        ⊎ (IsOpen t.old × WhyNotStarted interval t.old.slot.state result) }
+        ⊎ (IsOpen t.old × IsStartRefusal interval t.old.slot.state result) }
     ensures kept { 0 < result → (t.new ≡ t.old) × (handle.new ≡ handle.old) }
     ensures only { t.new ≡ with_timers t.old t.new.slot.state }
 {
@@ -110,7 +110,7 @@ pub extern "C" fn timers_start_at(
     ensures started { result ≡ OK → IsOpen t.old × IsStartedAt deadline action t.old.slot.state
         t.new.slot.state handle.new }
     ensures refused { 0 < result → ((result ≡ NOT_OPEN) × IsShut t.old)
-        ⊎ (IsOpen t.old × WhyNotStartedAt deadline t.old.slot.state result) }
+        ⊎ (IsOpen t.old × IsStartAtRefusal deadline t.old.slot.state result) }
     ensures kept { 0 < result → (t.new ≡ t.old) × (handle.new ≡ handle.old) }
     ensures only { t.new ≡ with_timers t.old t.new.slot.state }
 {
@@ -133,7 +133,7 @@ pub extern "C" fn timers_restart(
     ensures restarted { result ≡ OK → IsOpen t.old
         × IsRestarted handle interval action t.old.slot.state t.new.slot.state restarted.new }
     ensures refused { 0 < result → ((result ≡ NOT_OPEN) × IsShut t.old)
-        ⊎ (IsOpen t.old × WhyNotRestarted handle interval t.old.slot.state result) }
+        ⊎ (IsOpen t.old × IsRestartRefusal handle interval t.old.slot.state result) }
     ensures kept { 0 < result → (t.new ≡ t.old) × (restarted.new ≡ restarted.old) }
     ensures only { t.new ≡ with_timers t.old t.new.slot.state }
 {
@@ -155,7 +155,7 @@ pub extern "C" fn timers_restart_at(
     ensures restarted { result ≡ OK → IsOpen t.old
         × IsRestartedAt handle deadline action t.old.slot.state t.new.slot.state restarted.new }
     ensures refused { 0 < result → ((result ≡ NOT_OPEN) × IsShut t.old)
-        ⊎ (IsOpen t.old × WhyNotRestartedAt handle deadline t.old.slot.state result) }
+        ⊎ (IsOpen t.old × IsRestartAtRefusal handle deadline t.old.slot.state result) }
     ensures kept { 0 < result → (t.new ≡ t.old) × (restarted.new ≡ restarted.old) }
     ensures only { t.new ≡ with_timers t.old t.new.slot.state }
 {

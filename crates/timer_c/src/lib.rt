@@ -17,7 +17,7 @@ mod c_timers;
 mod calls;
 mod exports;
 mod layout;
-mod opening;
+mod wheel_maker;
 mod owned_cell;
 mod status;
 

@@ -8,7 +8,7 @@ use Rattle.timer_facility.specs.Facility.{FacilityView}
 use Rattle.timer_desk.specs.declared.report.Done.{Done}
 use Rattle.timer_desk.specs.Inlet.{LineKind}
 use Rattle.timer_desk.specs.Backlog.{BacklogState, notices_for}
-use Rattle.timer_desk.specs.Report.{Side, side_of, got_but_held, HeldIsLast, ClientAccount, asked}
+use Rattle.timer_desk.specs.Report.{Account, account_of, got_but_held, HeldIsLast, ClientAccount, asked}
 use Rattle.timer_desk.specs.Desk.{IsDesk}
 use Rattle.timer_desk.proofs.ReportHeld.{held_last}
 
@@ -22,7 +22,7 @@ is_other : (m n : ℕ) → (m == n) ≡ false → n ≢ m
 is_other m n h = grind (arith, nat_tests)
 
 -- the side after a report ends in the held request
-pub ClientAccount-held : (c : ℕ) (report : List Done) (a b : Side) → ClientAccount c report a b → HeldIsLast b
+pub ClientAccount-held : (c : ℕ) (report : List Done) (a b : Account) → ClientAccount c report a b → HeldIsLast b
 ClientAccount-held c report a b t = held_last b (got_but_held a ++ asked c report) t.asked_are
 
 -- no notice waits, so nothing but the pending timers needs room
@@ -35,7 +35,7 @@ module _ {I : Type 0} (kind : LineKind I) where
       → f'.waiting ≡ [] → length f'.state.numbers ≡ length f.state.numbers
       → length b'.outbox + pending_of f'.state c ≤ b'.room
       → ((k : ℕ) → pending_of f'.state k ≤ pending_of f.state k + (if c == k then 1 else 0))
-      → HeldIsLast (side_of kind i' b')
+      → HeldIsLast (account_of kind i' b')
       → IsDesk kind f' (slice_set inlets c i') (slice_set backlogs c b')
   IsDesk-one f f' inlets backlogs c i' b' d low quiet numbers room adds held = record {
     nothing_waits = quiet;
@@ -76,18 +76,18 @@ module _ {I : Type 0} (kind : LineKind I) where
           ap_le p q = subst (λ (b : Bool). pending_of f'.state k ≤ pending_of f.state k + (if b then 1 else 0)) q p
 
       by_client_held : (k : ℕ) (i : I) (e : BacklogState) → k < length (slice_set inlets c i') → (c == k) ≡ true ⊎ (c == k) ≡ false
-          → HeldIsLast (side_of kind (get_or (slice_set inlets c i') k i) (get_or (slice_set backlogs c b') k e))
+          → HeldIsLast (account_of kind (get_or (slice_set inlets c i') k i) (get_or (slice_set backlogs c b') k e))
       by_client_held k i e l (inl h) =
           let is : k ≡ c = is_equal c k h in
           let inlet : get_or (slice_set inlets c i') k i ≡ i' =
           ap (λ n. get_or (slice_set inlets c i') n i) is ∙ get_or-set_same inlets c i' i low in
           let backlog : get_or (slice_set backlogs c b') k e ≡ b' =
           ap (λ n. get_or (slice_set backlogs c b') n e) is ∙ get_or-set_same backlogs c b' e (let m = as_many in omega arith) in
-          subst (λ j. HeldIsLast (side_of kind j (get_or (slice_set backlogs c b') k e))) (sym inlet)
-          (subst (λ b. HeldIsLast (side_of kind i' b)) (sym backlog) held)
+          subst (λ j. HeldIsLast (account_of kind j (get_or (slice_set backlogs c b') k e))) (sym inlet)
+          (subst (λ b. HeldIsLast (account_of kind i' b)) (sym backlog) held)
       by_client_held k i e l (inr h) =
           let inlet : get_or (slice_set inlets c i') k i ≡ get_or inlets k i = get_or-set_other inlets c k i' i (is_other c k h) in
           let backlog : get_or (slice_set backlogs c b') k e ≡ get_or backlogs k e = get_or-set_other backlogs c k b' e (is_other c k h) in
           let within : k < length inlets = let m : length (slice_set inlets c i') ≡ length inlets = length-set inlets c i' in omega arith in
-          subst (λ j. HeldIsLast (side_of kind j (get_or (slice_set backlogs c b') k e))) (sym inlet)
-          (subst (λ b. HeldIsLast (side_of kind (get_or inlets k i) b)) (sym backlog) (d.held k i e within))
+          subst (λ j. HeldIsLast (account_of kind j (get_or (slice_set backlogs c b') k e))) (sym inlet)
+          (subst (λ b. HeldIsLast (account_of kind (get_or inlets k i) b)) (sym backlog) (d.held k i e within))

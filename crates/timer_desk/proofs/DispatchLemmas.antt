@@ -29,11 +29,11 @@ use Rattle.timer_desk.specs.Inlet.{LineKind}
 use Rattle.timer_desk.specs.Backlog.{BacklogState, empty_backlog, with_word, with_words, client_of, with_notice, with_notices, notices_for, HasRoom}
 use Rattle.timer_desk.specs.declared.report.Served.TheVariants.{NoMemory}
 use Rattle.timer_desk.specs.Extends.{Extends, Extends-refl}
-use Rattle.timer_desk.specs.Report.{Side, side_of, HeldIsLast, got_but_held, held_list, is_held, held_after, may_hold, ClientAccount, Runs, asked, asked_in, words, words_in, flushed, flushed_in, events, events_in, outs, tick_outs, placed}
+use Rattle.timer_desk.specs.Report.{Account, account_of, HeldIsLast, got_but_held, held_list, is_held, held_after, may_hold, ClientAccount, Runs, asked, asked_in, words, words_in, flushed, flushed_in, events, events_in, outs, tick_outs, placed}
 use Rattle.timer_desk.specs.Right.{AtEach, RespectsRoom, MemberRespectsRoom, IsRightClose, IsRightPass, pending_after}
 use Rattle.timer_desk.specs.Held.{HoldsAfter, Holds}
 use Rattle.timer_desk.proofs.HeldLemmas.{holds-notices}
-use Rattle.timer_desk.proofs.ReportJoining.{not_held}
+use Rattle.timer_desk.proofs.ReportConcatenation.{not_held}
 use Rattle.timer_desk.specs.Desk.{DeskState, IsDesk, ReportHolds, AreInTime, AddsStep, tick_notices, close_notices, steps_of, AreBehind}
 
 either : (b : Bool) → (b ≡ true) ⊎ (b ≡ false)
@@ -124,7 +124,7 @@ flushed-append c [] q = omega arith
 flushed-append c (d ∷ r) q = let n = flushed-append c r q in omega arith
 
 -- a notice fits if there is room for all that are left
-right-notices : (refuses : Bool) (c : ℕ) (s : FacilityState) (a b : Side) (past : List Done) (ns : List Notice) → flushed c past ≡ 0
+right-notices : (refuses : Bool) (c : ℕ) (s : FacilityState) (a b : Account) (past : List Done) (ns : List Notice) → flushed c past ≡ 0
     → length a.backlog.outbox + length (words c past) + length (words c (map Dones.Noticed ns)) + pending_after c s past ≤ a.backlog.room
     → AtEach (RespectsRoom refuses c s a b) past (map Dones.Noticed ns)
 right-notices refuses c s a b past [] none fits = tt
@@ -205,7 +205,7 @@ of_close r = record {
   in_time = λ s report h. (refl, h);
 }
 
-ClientAccount-noted : (c : ℕ) (first : Done) (ns : List Notice) (a : Side) → IsOwners first → HeldIsLast a
+ClientAccount-noted : (c : ℕ) (first : Done) (ns : List Notice) (a : Account) → IsOwners first → HeldIsLast a
     → ClientAccount c (first ∷ map Dones.Noticed ns) a (record a { backlog = with_words (words c (map Dones.Noticed ns)) a.backlog })
 ClientAccount-noted c first ns a o last =
     let more : List Word = words c (map Dones.Noticed ns) in
@@ -238,7 +238,7 @@ module _ {I : Type 0} (kind : LineKind I) where
     clients = record {
       same_clients = refl;
       lines = λ c i l. kind.reflexive (get_or inlets c i);
-      sides = λ c i b l. told_side c i b l;
+      sides = λ c i b l. told_account c i b l;
     };
     facility = runs;
     in_time = o.in_time f.state (map Dones.Noticed ns) (in_time-notices f.state (first ∷ []) ns runs.outs_are);
@@ -255,11 +255,11 @@ module _ {I : Type 0} (kind : LineKind I) where
   }
     where
       right_side : (c : ℕ) (i : I) (b : BacklogState) → c < length inlets
-          → AtEach (RespectsRoom kind.take_may_refuse c f.state (side_of kind (get_or inlets c i) (get_or bs c b))
-          (side_of kind (get_or inlets c i) (get_or bs' c b))) [] (first ∷ map Dones.Noticed ns)
+          → AtEach (RespectsRoom kind.take_may_refuse c f.state (account_of kind (get_or inlets c i) (get_or bs c b))
+          (account_of kind (get_or inlets c i) (get_or bs' c b))) [] (first ∷ map Dones.Noticed ns)
       right_side c i b l =
-          let a : Side = side_of kind (get_or inlets c i) (get_or bs c b) in
-          let z : Side = side_of kind (get_or inlets c i) (get_or bs' c b) in
+          let a : Account = account_of kind (get_or inlets c i) (get_or bs c b) in
+          let z : Account = account_of kind (get_or inlets c i) (get_or bs' c b) in
           let within : c < length bs = let m = d.as_many in omega arith in
           let long : length bs' ≡ length bs = ap (λ xs. length xs) e ∙ length-notices ns bs in
           let there : get_or bs' c b ≡ with_words (words c (map Dones.Noticed ns)) (get_or bs c b) =
@@ -277,15 +277,15 @@ module _ {I : Type 0} (kind : LineKind I) where
             right-notices kind.take_may_refuse c f.state a z (first ∷ []) ns none (omega arith),
           )
 
-      told_side : (c : ℕ) (i : I) (b : BacklogState) → c < length inlets
-          → ClientAccount c (first ∷ map Dones.Noticed ns) (side_of kind (get_or inlets c i) (get_or bs c b))
-          (side_of kind (get_or inlets c i) (get_or bs' c b))
-      told_side c i b l =
-          let a : Side = side_of kind (get_or inlets c i) (get_or bs c b) in
+      told_account : (c : ℕ) (i : I) (b : BacklogState) → c < length inlets
+          → ClientAccount c (first ∷ map Dones.Noticed ns) (account_of kind (get_or inlets c i) (get_or bs c b))
+          (account_of kind (get_or inlets c i) (get_or bs' c b))
+      told_account c i b l =
+          let a : Account = account_of kind (get_or inlets c i) (get_or bs c b) in
           let within : c < length bs = let m = d.as_many in omega arith in
           let there : get_or bs' c b ≡ with_words (words c (map Dones.Noticed ns)) (get_or bs c b) =
           ap (λ xs. get_or xs c b) e ∙ with_notices-at ns bs c b within in
-          subst (λ x. ClientAccount c (first ∷ map Dones.Noticed ns) a (side_of kind (get_or inlets c i) x)) (sym there)
+          subst (λ x. ClientAccount c (first ∷ map Dones.Noticed ns) a (account_of kind (get_or inlets c i) x)) (sym there)
           (ClientAccount-noted c first ns a o (d.held c i b l))
 
   -- the invariant of a desk, after a tick or a close and its notices
@@ -302,7 +302,7 @@ module _ {I : Type 0} (kind : LineKind I) where
         let within : c < length bs = let m = d.as_many in omega arith in
         let there : get_or bs' c b ≡ with_words (words c (map Dones.Noticed ns)) (get_or bs c b) =
         ap (λ xs. get_or xs c b) e ∙ with_notices-at ns bs c b within in
-        subst (λ x. HeldIsLast (side_of kind (get_or inlets c i) x)) (sym there) (d.held c i b l);
+        subst (λ x. HeldIsLast (account_of kind (get_or inlets c i) x)) (sym there) (d.held c i b l);
   }
 
 -- The facility.

@@ -16,9 +16,9 @@ use Rattle.timer_desk.specs.declared.driver.DriveEnd.TheVariants as DriveEnds
 use Rattle.timer_desk.specs.Inlet.{LineKind}
 use Rattle.timer_desk.specs.Backlog.{BacklogState}
 use Rattle.timer_desk.specs.Report.{HeldIsLast, asked, asked_in, flushed}
-use Rattle.timer_desk.specs.Desk.{DeskState, clients_of, side_at, steps_of, step_in, AreBehind, ReportHolds}
+use Rattle.timer_desk.specs.Desk.{DeskState, clients_of, account_at, steps_of, step_in, AreBehind, ReportHolds}
 use Rattle.timer_desk.specs.Driver.{left_for, all_left, PassesTicks, IsFit, IsOfClient, IsDone, IsShort, HasCounted, NoneRanOut, tick_in, ticks_in, turns_in, EndsIdle, Turns, TurnsOnce, Drives}
-use Rattle.timer_desk.proofs.ReportJoining.{ReportHolds-joined, ReportHolds-nothing, AreBehind-joined, IsLaw, AreOwed-in_time}
+use Rattle.timer_desk.proofs.ReportConcatenation.{ReportHolds-joined, ReportHolds-nothing, AreBehind-joined, IsLaw, AreOwed-in_time}
 
 flushed_joined : (c : ℕ) (r q : List Done) → flushed c (r ++ q) ≡ flushed c r + flushed c q
 flushed_joined c [] q = omega arith
@@ -102,7 +102,7 @@ some_left goal ps h = ⊎_elim (λ a. a) (λ a. absurd (h (nothing_left goal ps 
 
 module _ {I : Type 0} (kind : LineKind I) (last : Step) where
   pub Turns-nothing : (goal : ℕ) (out_of_memory : Bool) (x : DeskState I) (ps : List Progress)
-      → ((c : ℕ) (i : I) (b : BacklogState) → c < clients_of x → HeldIsLast (side_at kind x c i b))
+      → ((c : ℕ) (i : I) (b : BacklogState) → c < clients_of x → HeldIsLast (account_at kind x c i b))
       → Turns kind last goal out_of_memory x x ps ps
   Turns-nothing goal out_of_memory x ps held = record {
     report = [];

@@ -12,7 +12,7 @@ use Rattle.timer_desk.specs.declared.report.Done.{Done}
 use Rattle.timer_desk.specs.declared.report.Done.TheVariants as Dones
 use Rattle.timer_desk.specs.Extends.{Extends}
 use Rattle.timer_desk.specs.Forward.{RanOutOfMemory}
-use Rattle.timer_desk.specs.Report.{Side, held_list, is_held, held_after_serve, request_in, ClientAccount, events}
+use Rattle.timer_desk.specs.Report.{Account, held_list, is_held, held_after_serve, request_in, ClientAccount, events}
 use Rattle.timer_desk.specs.Held.{HoldsAfterServe, HoldsAfter, Holds}
 
 none_of : (x : Option Numbered) → Extends (held_list x) [] → x ≡ None
@@ -39,7 +39,7 @@ is_same : (n : ℕ) → (n == n) ≡ true
 is_same n = grind (arith, nat_tests)
 
 -- what a report of one serve says of its client
-pub serve_holds : (may_refuse : Bool) (c : ℕ) (s : FacilityState) (served : Served) (a b : Side)
+pub serve_holds : (may_refuse : Bool) (c : ℕ) (s : FacilityState) (served : Served) (a b : Account)
     → ClientAccount c (Dones.Served c served ∷ []) a b → (served ≡ NoMemory → RanOutOfMemory may_refuse c s b.backlog.held)
     → HoldsAfterServe may_refuse c s a.backlog.held served b.backlog.held
 serve_holds may_refuse c s served a b t wants =

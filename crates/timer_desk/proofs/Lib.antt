@@ -1,7 +1,7 @@
 pub mod DeskLemmas
 pub mod DriverLemmas
 pub mod ReportHeld
-pub mod ReportJoining
+pub mod ReportConcatenation
 pub mod DispatchLemmas
 pub mod HeldLemmas
 pub mod ForwardLemmas

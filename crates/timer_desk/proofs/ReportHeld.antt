@@ -2,7 +2,7 @@
 use Rattle.std.proofs.Common.{◌≡◌, ◌-◌, List, [], ◌∷◌, ◌++◌, length, refl, sym, ◌∙◌, ap, arith, length-append}
 use Rattle.std.specs.Prelude.{take}
 use Rattle.timer_desk.specs.declared.word.Numbered.{Numbered}
-use Rattle.timer_desk.specs.Report.{held_list, Side, got_but_held, HeldIsLast}
+use Rattle.timer_desk.specs.Report.{held_list, Account, got_but_held, HeldIsLast}
 
 -- Dropping an appended list from the end gives the list before.
 
@@ -20,9 +20,9 @@ without_end xs ys =
     ap (λ k. take k (xs ++ ys)) n ∙ take_front xs ys
 
 -- if what was got ends in what is held, the rest is what was got without it
-pub got_but_held_is : (a : Side) (xs : List Numbered) → xs ++ held_list a.backlog.held ≡ a.got → got_but_held a ≡ xs
+pub got_but_held_is : (a : Account) (xs : List Numbered) → xs ++ held_list a.backlog.held ≡ a.got → got_but_held a ≡ xs
 got_but_held_is a xs h =
     ap (λ got. take (length got - length (held_list a.backlog.held)) got) (sym h) ∙ without_end xs (held_list a.backlog.held)
 
-pub held_last : (a : Side) (xs : List Numbered) → xs ++ held_list a.backlog.held ≡ a.got → HeldIsLast a
+pub held_last : (a : Account) (xs : List Numbered) → xs ++ held_list a.backlog.held ≡ a.got → HeldIsLast a
 held_last a xs h = ap (λ ys. ys ++ held_list a.backlog.held) (got_but_held_is a xs h) ∙ h

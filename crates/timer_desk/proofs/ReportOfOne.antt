@@ -14,10 +14,10 @@ use Rattle.timer_desk.specs.Inlet.{LineKind}
 use Rattle.timer_desk.specs.Backlog.{BacklogState, notices_for}
 use Rattle.timer_desk.specs.Forward.{RanOutOfMemory}
 use Rattle.timer_desk.specs.Extends.{Extends, Extends-refl}
-use Rattle.timer_desk.specs.Report.{Side, side_of, got_but_held, held_list, is_held, HeldIsLast, left_of, ClientAccount, Runs, asked, asked_in, request_in, words, words_in, word_in, flushed, flushed_in, held_after, held_after_serve}
+use Rattle.timer_desk.specs.Report.{Account, account_of, got_but_held, held_list, is_held, HeldIsLast, left_of, ClientAccount, Runs, asked, asked_in, request_in, words, words_in, word_in, flushed, flushed_in, held_after, held_after_serve}
 use Rattle.timer_desk.specs.Right.{RespectsRoom, MemberRespectsRoom, IsNeeded, IsRightClose, IsRightPass, outbox_after, pending_after}
 use Rattle.timer_desk.specs.Desk.{IsDesk, ReportHolds, AreInTime}
-use Rattle.timer_desk.proofs.ReportJoining.{not_held, moved}
+use Rattle.timer_desk.proofs.ReportConcatenation.{not_held, moved}
 use Rattle.timer_desk.proofs.DispatchLemmas.{desk_of}
 use Rattle.timer_desk.specs.Held.{HoldsAfter, Holds}
 use Rattle.timer_desk.proofs.HeldLemmas.{same_held, serve_holds}
@@ -42,7 +42,7 @@ pub record IsOf (c : ℕ) (done : Done) : Type 0 where
   pub same_held : (k : ℕ) (before : Bool) → k ≢ c → held_after k before done ≡ before
   pub is_right : (k room len left pending : ℕ) → k ≢ c → MemberRespectsRoom k room len left pending done
   pub no_serve : (k : ℕ) → k ≢ c → done ≡ Dones.Served k NoMemory → ⊥
-  pub holds_here : (may_refuse : Bool) (s : FacilityState) (a b : Side) → ClientAccount c (done ∷ []) a b
+  pub holds_here : (may_refuse : Bool) (s : FacilityState) (a b : Account) → ClientAccount c (done ∷ []) a b
       → (done ≡ Dones.Served c NoMemory → RanOutOfMemory may_refuse c s b.backlog.held)
       → HoldsAfter may_refuse c s a.backlog.held done b.backlog.held
   pub holds_there : (may_refuse : Bool) (k : ℕ) (s : FacilityState) (held : Option Numbered) → k ≢ c
@@ -76,7 +76,7 @@ of_serve c served = record {
     same_client k served is = cc
 
 -- a member of another client says nothing of a side
-ClientAccount-other : (c k : ℕ) (done : Done) (a : Side) → IsOf c done → k ≢ c → HeldIsLast a → ClientAccount k (done ∷ []) a a
+ClientAccount-other : (c k : ℕ) (done : Done) (a : Account) → IsOf c done → k ≢ c → HeldIsLast a → ClientAccount k (done ∷ []) a a
 ClientAccount-other c k done a o other last =
     let none : asked k (done ∷ []) ≡ [] = ap (λ xs. xs ++ []) (o.no_request k other) in
     let held : List Numbered = held_list a.backlog.held in record {
@@ -91,7 +91,7 @@ ClientAccount-other c k done a o other last =
     }
 
 -- the outbox after a report has the length that the report gives
-outbox-told : (c : ℕ) (report : List Done) (a b : Side) → ClientAccount c report a b → outbox_after c a report ≡ length b.backlog.outbox
+outbox-told : (c : ℕ) (report : List Done) (a b : Account) → ClientAccount c report a b → outbox_after c a report ≡ length b.backlog.outbox
 outbox-told c report a b t =
     let w = ap (λ xs. length xs) t.words_are in
     let wa = length-append (a.given ++ a.backlog.outbox) (words c report) in
@@ -114,8 +114,8 @@ module _ {I : Type 0} (kind : LineKind I) where
       (b b' : BacklogState)
       → IsOf c done → IsDesk kind f inlets backlogs → c < length inlets
       → i ≡ get_or inlets c i → b ≡ get_or backlogs c b
-      → kind.same i i' → ClientAccount c (done ∷ []) (side_of kind i b) (side_of kind i' b') → Runs (done ∷ []) f.state f'.state
-      → MemberRespectsRoom c b.room (length b.outbox) (left_of (side_of kind i b)) (pending_of f.state c) done
+      → kind.same i i' → ClientAccount c (done ∷ []) (account_of kind i b) (account_of kind i' b') → Runs (done ∷ []) f.state f'.state
+      → MemberRespectsRoom c b.room (length b.outbox) (left_of (account_of kind i b)) (pending_of f.state c) done
       → (done ≡ Dones.Served c NoMemory → RanOutOfMemory kind.take_may_refuse c f.state b'.held)
       → length b'.outbox + pending_of f'.state c ≤ b'.room
       → ((k : ℕ) → pending_of f'.state k ≤ pending_of f.state k + (if c == k then 1 else 0))
@@ -124,7 +124,7 @@ module _ {I : Type 0} (kind : LineKind I) where
     clients = record {
       same_clients = length-set inlets c i';
       lines = λ k j l. line_at k j l (either (c == k));
-      sides = λ k j e l. side_told k j e l (either (c == k));
+      sides = λ k j e l. account_told k j e l (either (c == k));
     };
     facility = runs;
     in_time = o.in_time f.state f'.state runs;
@@ -158,27 +158,27 @@ module _ {I : Type 0} (kind : LineKind I) where
       line_at k j l (inr h) = subst (kind.same (get_or inlets k j)) (sym (get_or-set_other inlets c k i' j (is_other c k h)))
           (kind.reflexive (get_or inlets k j))
 
-      side_told : (k : ℕ) (j : I) (e : BacklogState) → k < length inlets → (c == k) ≡ true ⊎ (c == k) ≡ false
-          → ClientAccount k (done ∷ []) (side_of kind (get_or inlets k j) (get_or backlogs k e))
-          (side_of kind (get_or (slice_set inlets c i') k j) (get_or (slice_set backlogs c b') k e))
-      side_told k j e l (inl h) =
+      account_told : (k : ℕ) (j : I) (e : BacklogState) → k < length inlets → (c == k) ≡ true ⊎ (c == k) ≡ false
+          → ClientAccount k (done ∷ []) (account_of kind (get_or inlets k j) (get_or backlogs k e))
+          (account_of kind (get_or (slice_set inlets c i') k j) (get_or (slice_set backlogs c b') k e))
+      account_told k j e l (inl h) =
           let is : k ≡ c = is_equal c k h in
-          subst (λ x. ClientAccount k (done ∷ []) (side_of kind x (get_or backlogs k e))
-          (side_of kind (get_or (slice_set inlets c i') k j) (get_or (slice_set backlogs c b') k e))) (sym (inlet_was k j is))
-          (subst (λ y. ClientAccount k (done ∷ []) (side_of kind i y) (side_of kind (get_or (slice_set inlets c i') k j)
+          subst (λ x. ClientAccount k (done ∷ []) (account_of kind x (get_or backlogs k e))
+          (account_of kind (get_or (slice_set inlets c i') k j) (get_or (slice_set backlogs c b') k e))) (sym (inlet_was k j is))
+          (subst (λ y. ClientAccount k (done ∷ []) (account_of kind i y) (account_of kind (get_or (slice_set inlets c i') k j)
           (get_or (slice_set backlogs c b') k e))) (sym (backlog_was k e is))
-          (subst (λ x. ClientAccount k (done ∷ []) (side_of kind i b) (side_of kind x (get_or (slice_set backlogs c b') k e)))
+          (subst (λ x. ClientAccount k (done ∷ []) (account_of kind i b) (account_of kind x (get_or (slice_set backlogs c b') k e)))
           (sym (inlet_here k j is))
-          (subst (λ y. ClientAccount k (done ∷ []) (side_of kind i b) (side_of kind i' y)) (sym (backlog_here k e is))
-          (subst (λ n. ClientAccount n (done ∷ []) (side_of kind i b) (side_of kind i' b')) (sym is) tells))))
-      side_told k j e l (inr h) =
+          (subst (λ y. ClientAccount k (done ∷ []) (account_of kind i b) (account_of kind i' y)) (sym (backlog_here k e is))
+          (subst (λ n. ClientAccount n (done ∷ []) (account_of kind i b) (account_of kind i' b')) (sym is) tells))))
+      account_told k j e l (inr h) =
           let other : k ≢ c = is_other c k h in
-          subst (λ x. ClientAccount k (done ∷ []) (side_of kind (get_or inlets k j) (get_or backlogs k e))
-          (side_of kind x (get_or (slice_set backlogs c b') k e))) (sym (get_or-set_other inlets c k i' j other))
-          (subst (λ y. ClientAccount k (done ∷ []) (side_of kind (get_or inlets k j) (get_or backlogs k e))
-          (side_of kind (get_or inlets k j) y))
+          subst (λ x. ClientAccount k (done ∷ []) (account_of kind (get_or inlets k j) (get_or backlogs k e))
+          (account_of kind x (get_or (slice_set backlogs c b') k e))) (sym (get_or-set_other inlets c k i' j other))
+          (subst (λ y. ClientAccount k (done ∷ []) (account_of kind (get_or inlets k j) (get_or backlogs k e))
+          (account_of kind (get_or inlets k j) y))
           (sym (get_or-set_other backlogs c k b' e other))
-          (ClientAccount-other c k done (side_of kind (get_or inlets k j) (get_or backlogs k e)) o other (d.held k j e l)))
+          (ClientAccount-other c k done (account_of kind (get_or inlets k j) (get_or backlogs k e)) o other (d.held k j e l)))
 
       holds_at : (k : ℕ) (e : BacklogState) → k < length inlets → (c == k) ≡ true ⊎ (c == k) ≡ false
           → Holds kind.take_may_refuse k f.state (get_or backlogs k e).held [] (done ∷ []) (get_or (slice_set backlogs c b') k e).held
@@ -188,7 +188,7 @@ module _ {I : Type 0} (kind : LineKind I) where
           (get_or (slice_set backlogs c b') k e).held) (sym (backlog_was k e is))
           (subst (λ (x : BacklogState). Holds kind.take_may_refuse k f.state b.held [] (done ∷ []) x.held) (sym (backlog_here k e is))
           (subst (λ n. Holds kind.take_may_refuse n f.state b.held [] (done ∷ []) b'.held) (sym is)
-          (b'.held, o.holds_here kind.take_may_refuse f.state (side_of kind i b) (side_of kind i' b') tells wants, refl)))
+          (b'.held, o.holds_here kind.take_may_refuse f.state (account_of kind i b) (account_of kind i' b') tells wants, refl)))
       holds_at k e l (inr h) =
           let other : k ≢ c = is_other c k h in
           let held : Option Numbered = (get_or backlogs k e).held in
@@ -200,29 +200,29 @@ module _ {I : Type 0} (kind : LineKind I) where
       state_after k = ap (λ v. pending_of v k) (sym runs.state_is)
 
       right_at : (k : ℕ) (j : I) (e : BacklogState) → k < length inlets → (c == k) ≡ true ⊎ (c == k) ≡ false
-          → RespectsRoom kind.take_may_refuse k f.state (side_of kind (get_or inlets k j) (get_or backlogs k e))
-          (side_of kind (get_or (slice_set inlets c i') k j) (get_or (slice_set backlogs c b') k e)) [] done []
+          → RespectsRoom kind.take_may_refuse k f.state (account_of kind (get_or inlets k j) (get_or backlogs k e))
+          (account_of kind (get_or (slice_set inlets c i') k j) (get_or (slice_set backlogs c b') k e)) [] done []
       right_at k j e l (inl h) =
           let is : k ≡ c = is_equal c k h in
-          subst (λ x. RespectsRoom kind.take_may_refuse k f.state (side_of kind x (get_or backlogs k e))
-          (side_of kind (get_or (slice_set inlets c i') k j) (get_or (slice_set backlogs c b') k e)) [] done [])
+          subst (λ x. RespectsRoom kind.take_may_refuse k f.state (account_of kind x (get_or backlogs k e))
+          (account_of kind (get_or (slice_set inlets c i') k j) (get_or (slice_set backlogs c b') k e)) [] done [])
           (sym (inlet_was k j is))
-          (subst (λ y. RespectsRoom kind.take_may_refuse k f.state (side_of kind i y)
-          (side_of kind (get_or (slice_set inlets c i') k j) (get_or (slice_set backlogs c b') k e)) [] done [])
+          (subst (λ y. RespectsRoom kind.take_may_refuse k f.state (account_of kind i y)
+          (account_of kind (get_or (slice_set inlets c i') k j) (get_or (slice_set backlogs c b') k e)) [] done [])
           (sym (backlog_was k e is))
-          (subst (λ x. RespectsRoom kind.take_may_refuse k f.state (side_of kind i b)
-          (side_of kind x (get_or (slice_set backlogs c b') k e)) [] done []) (sym (inlet_here k j is))
-          (subst (λ y. RespectsRoom kind.take_may_refuse k f.state (side_of kind i b) (side_of kind i' y) [] done [])
+          (subst (λ x. RespectsRoom kind.take_may_refuse k f.state (account_of kind i b)
+          (account_of kind x (get_or (slice_set backlogs c b') k e)) [] done []) (sym (inlet_here k j is))
+          (subst (λ y. RespectsRoom kind.take_may_refuse k f.state (account_of kind i b) (account_of kind i' y) [] done [])
           (sym (backlog_here k e is))
-          (subst (λ n. RespectsRoom kind.take_may_refuse n f.state (side_of kind i b) (side_of kind i' b') [] done []) (sym is)
+          (subst (λ n. RespectsRoom kind.take_may_refuse n f.state (account_of kind i b) (account_of kind i' b') [] done []) (sym is)
           right_here))))
         where
-          right_here : RespectsRoom kind.take_may_refuse c f.state (side_of kind i b) (side_of kind i' b') [] done []
+          right_here : RespectsRoom kind.take_may_refuse c f.state (account_of kind i b) (account_of kind i' b') [] done []
           right_here = record {
             served = moved c b.room b.room _ _ _ _ _ _ done refl (omega arith) (omega arith) refl right;
             needed = λ is. needed_first kind.take_may_refuse c f.state b'.held (wants is);
             room =
-                let told = outbox-told c (done ∷ []) (side_of kind i b) (side_of kind i' b') tells in
+                let told = outbox-told c (done ∷ []) (account_of kind i b) (account_of kind i' b') tells in
                 let n = state_after c in
                 let r = tells.same_room in
                 let p = fits in

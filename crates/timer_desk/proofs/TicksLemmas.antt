@@ -18,7 +18,7 @@ use Rattle.timer_desk.specs.Backlog.{BacklogState, with_notices, HasRoom}
 use Rattle.timer_desk.specs.declared.report.Step.TheVariants as Steps
 use Rattle.timer_desk.specs.Desk.{IsDesk, ReportHolds, tick_notices, step_in, steps_of}
 use Rattle.timer_desk.specs.Ticks.{ticks_done, ticks_report, last_notices, HasPassed}
-use Rattle.timer_desk.proofs.ReportJoining.{ReportHolds-joined, ReportHolds-nothing}
+use Rattle.timer_desk.proofs.ReportConcatenation.{ReportHolds-joined, ReportHolds-nothing}
 use Rattle.timer_desk.proofs.DispatchLemmas.{desk_of, ReportHolds-tick, IsDesk-tick, HasRoom-ticked, numbers_tick, steps-notices}
 
 -- the notices of one more tick, if nothing was handed out before it

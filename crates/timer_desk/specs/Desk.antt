@@ -14,7 +14,7 @@ use Rattle.timer_desk.specs.declared.report.Step.{Step}
 use Rattle.timer_desk.specs.declared.report.Step.TheVariants as Steps
 use Rattle.timer_desk.specs.Inlet.{LineKind}
 use Rattle.timer_desk.specs.Backlog.{BacklogState, empty_backlog, HasRoom}
-use Rattle.timer_desk.specs.Report.{Side, side_of, HeldIsLast, ClientAccount, Runs, events, outs}
+use Rattle.timer_desk.specs.Report.{Account, account_of, HeldIsLast, ClientAccount, Runs, events, outs}
 use Rattle.timer_desk.specs.Right.{AtEach, RespectsRoom, IsRightClose, IsRightPass}
 use Rattle.timer_desk.specs.Held.{Holds}
 
@@ -108,8 +108,8 @@ close_notices s (Err fault) = []
 
 module _ {I : Type 0} (kind : LineKind I) where
   -- the side of client c; i and b are the defaults if there is no such client
-  abbrev pub side_at : DeskState I → ℕ → I → BacklogState → Side
-  side_at d c i b = side_of kind (get_or d.inlets c i) (get_or d.backlogs c b)
+  abbrev pub account_at : DeskState I → ℕ → I → BacklogState → Account
+  account_at d c i b = account_of kind (get_or d.inlets c i) (get_or d.backlogs c b)
 
   -- the invariant of a desk: of the facility with its waiting notices, the lines, and the backlogs
   pub record IsDesk (f : FacilityView) (inlets : List I) (backlogs : List BacklogState) : Type 0 where
@@ -118,7 +118,7 @@ module _ {I : Type 0} (kind : LineKind I) where
     pub clients : length inlets ≡ length f.state.numbers
     pub room : HasRoom backlogs f
     pub held : (c : ℕ) (i : I) (b : BacklogState) → c < length inlets
-        → HeldIsLast (side_of kind (get_or inlets c i) (get_or backlogs c b))
+        → HeldIsLast (account_of kind (get_or inlets c i) (get_or backlogs c b))
 
 -- nothing was taken from a line, and all else is unchanged
 pub record TakesNothing {I : Type 0} (kind : LineKind I) (old new : DeskState I) : Type 0 where
@@ -134,7 +134,7 @@ module _ {I : Type 0} (kind : LineKind I) where
     pub lines : (c : ℕ) (i : I) → c < clients_of old
         → kind.same (get_or old.inlets c i) (get_or new.inlets c i)
     pub sides : (c : ℕ) (i : I) (b : BacklogState) → c < clients_of old
-        → ClientAccount c report (side_at kind old c i b) (side_at kind new c i b)
+        → ClientAccount c report (account_at kind old c i b) (account_at kind new c i b)
 
   -- the desk before and after the report
   pub record ReportHolds (report : List Done) (old new : DeskState I) : Type 0 where
@@ -142,8 +142,8 @@ module _ {I : Type 0} (kind : LineKind I) where
     pub facility : Runs report old.facility new.facility
     pub in_time : AreInTime old.facility [] report
     pub right : (c : ℕ) (i : I) (b : BacklogState) → c < clients_of old
-        → AtEach (RespectsRoom kind.take_may_refuse c old.facility (side_at kind old c i b)
-        (side_at kind new c i b)) [] report
+        → AtEach (RespectsRoom kind.take_may_refuse c old.facility (account_at kind old c i b)
+        (account_at kind new c i b)) [] report
     pub holds : (c : ℕ) (b : BacklogState) → c < clients_of old
         → Holds kind.take_may_refuse c old.facility (get_or old.backlogs c b).held [] report
         (get_or new.backlogs c b).held

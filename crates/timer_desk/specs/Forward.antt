@@ -2,7 +2,7 @@
 use Rattle.std.specs.Prelude.{◌≡◌, ℕ, Bool, true, [], ◌∷◌, Option, Some, None}
 use Rattle.timer_facility.specs.declared.request.NotTaken.TheVariants as NotTakens
 use Rattle.timer_facility.specs.State.{FacilityState}
-use Rattle.timer_facility.specs.Step.{Step, step}
+use Rattle.timer_facility.specs.Step.{StepResult, step}
 use Rattle.timer_facility.specs.Facility.{FacilityView, asked as event_asked, with_nothing_waiting, NeedsMemory}
 use Rattle.timer_desk.specs.declared.word.Numbered.{Numbered}
 use Rattle.timer_desk.specs.declared.word.Word.{Word}
@@ -10,7 +10,7 @@ use Rattle.timer_desk.specs.declared.word.Word.TheVariants as Words
 use Rattle.timer_desk.specs.Report.{out_of, place_told}
 
 -- the step of a client's request, with the place in its word
-abbrev pub asked_step : FacilityState → ℕ → Numbered → Word → Step
+abbrev pub asked_step : FacilityState → ℕ → Numbered → Word → StepResult
 asked_step s client numbered word = step s (event_asked client numbered.number numbered.request)
     (place_told word)
 

@@ -7,7 +7,7 @@ pub mod Inlet
 pub mod Memory
 pub mod Report
 pub mod Right
-pub mod Opening
+pub mod Constructor
 pub mod Ring
 pub mod Settlement
 pub mod Locked

@@ -188,15 +188,15 @@ is_held (Some numbered) = true
 is_held None = false
 
 -- one client's side of the desk, as lists
-pub record Side : Type 0 where
+pub record Account : Type 0 where
   pub got : List Numbered
   pub standing : List Numbered
   pub given : List Word
   pub backlog : BacklogState
 
 -- the side of a client with line i and backlog b
-abbrev pub side_of : {I : Type 0} → LineKind I → I → BacklogState → Side
-side_of kind i b = record {
+abbrev pub account_of : {I : Type 0} → LineKind I → I → BacklogState → Account
+account_of kind i b = record {
   got = (kind.state i).got;
   standing = (kind.state i).standing;
   given = (kind.state i).given;
@@ -204,19 +204,19 @@ side_of kind i b = record {
 }
 
 -- the requests that were got, without the held one
-abbrev pub got_but_held : Side → List Numbered
+abbrev pub got_but_held : Account → List Numbered
 got_but_held a = take (length a.got - length (held_list a.backlog.held)) a.got
 
 -- a request that is held is the last that was got
-abbrev pub HeldIsLast : Side → Type 0
+abbrev pub HeldIsLast : Account → Type 0
 HeldIsLast a = got_but_held a ++ held_list a.backlog.held ≡ a.got
 
 -- how many requests are held or known to stand
-abbrev pub left_of : Side → ℕ
+abbrev pub left_of : Account → ℕ
 left_of a = length (held_list a.backlog.held) + length a.standing
 
 -- what a report says of client c, whose side was a and is b
-pub record ClientAccount (c : ℕ) (report : List Done) (a b : Side) : Type 0 where
+pub record ClientAccount (c : ℕ) (report : List Done) (a b : Account) : Type 0 where
   -- a request held before is the first one asked since, or is still held
   pub held_first : Extends (held_list a.backlog.held) (asked c report ++ held_list b.backlog.held)
   pub none_held : may_hold c (is_held a.backlog.held) report ≡ false → b.backlog.held ≡ None

@@ -11,7 +11,7 @@ use Rattle.timer_desk.specs.declared.report.Served.TheVariants.{Idle, NoRoom, No
 use Rattle.timer_desk.specs.declared.report.Done.{Done}
 use Rattle.timer_desk.specs.declared.report.Done.TheVariants as Dones
 use Rattle.timer_desk.specs.Forward.{IsNoWant}
-use Rattle.timer_desk.specs.Report.{Side, left_of, held_list, asked, words, flushed, events}
+use Rattle.timer_desk.specs.Report.{Account, left_of, held_list, asked, words, flushed, events}
 
 -- the fact holds of each member of a report, with the members before it (`past` and on) and those after it
 abbrev pub AtEach : (List Done → Done → List Done → Type 0) → List Done → List Done → Type 0
@@ -43,7 +43,7 @@ IsNeeded may_refuse c s (numbered ∷ later) = (may_refuse ≡ true)
 
 -- the length of a client's outbox after a report, if its side was a: the words before and those since,
 -- less those flushed
-abbrev pub outbox_after : ℕ → Side → List Done → ℕ
+abbrev pub outbox_after : ℕ → Account → List Done → ℕ
 outbox_after c a past = length a.backlog.outbox + length (words c past) - flushed c past
 
 -- how many timers of the client are pending after a report from the state s
@@ -54,7 +54,7 @@ pending_after c s past = pending_of (run s (events past)).state c
 -- accords with the room. It runs out of memory only if the request that is then held (the next one done,
 -- or the one held at the end) allocates. After the member the outbox has room for a notice of each pending
 -- timer.
-pub record RespectsRoom (may_refuse : Bool) (c : ℕ) (s : FacilityState) (a b : Side) (past : List Done)
+pub record RespectsRoom (may_refuse : Bool) (c : ℕ) (s : FacilityState) (a b : Account) (past : List Done)
     (done : Done) (later : List Done) : Type 0 where
   pub served : MemberRespectsRoom c a.backlog.room (outbox_after c a past) (left_of a - length (asked c past))
       (pending_after c s past) done

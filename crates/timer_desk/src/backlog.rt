@@ -34,7 +34,7 @@ impl Backlog {
     ghost use Rattle.timer_facility.specs.HandedOver.{AddsAtMostOne};
     ghost use Rattle.timer_desk.specs.Forward.{RanOutOfMemory};
     ghost use Rattle.timer_desk.specs.Inlet.{taken_of};
-    ghost use Rattle.timer_desk.specs.Report.{held_list, side_of, HeldIsLast, left_of, ClientAccount, Runs};
+    ghost use Rattle.timer_desk.specs.Report.{held_list, account_of, HeldIsLast, left_of, ClientAccount, Runs};
     ghost use Rattle.timer_desk.specs.Right.{ServeRespectsRoom};
     ghost use Rattle.timer_desk.specs.Flush.{IsGiven, without_words};
     ghost use Rattle.timer_desk.specs.declared.word.Numbered.{Numbered};
@@ -143,13 +143,13 @@ impl Backlog {
     ) -> Served
         requires quiet { facility.old.waiting ≡ [] }
         requires room { length self.old.outbox + pending_of facility.old.state client ≤ self.old.room }
-        requires held { HeldIsLast (side_of I.kind inlet.old self.old) }
+        requires held { HeldIsLast (account_of I.kind inlet.old self.old) }
         ensures line { I.kind.same inlet.old inlet.new }
         ensures tells { ClientAccount client (Done.Served client result ∷ [])
-            (side_of I.kind inlet.old self.old) (side_of I.kind inlet.new self.new) }
+            (account_of I.kind inlet.old self.old) (account_of I.kind inlet.new self.new) }
         ensures runs { Runs (Done.Served client result ∷ []) facility.old.state facility.new.state }
         ensures right { ServeRespectsRoom self.old.room (length self.old.outbox)
-            (left_of (side_of I.kind inlet.old self.old)) (pending_of facility.old.state client) result }
+            (left_of (account_of I.kind inlet.old self.old)) (pending_of facility.old.state client) result }
         ensures memory { result ≡ Served.NoMemory → RanOutOfMemory I.kind.take_may_refuse client
             facility.old.state self.new.held }
         ensures no_room { result ≡ Served.NoRoom → (inlet.new ≡ inlet.old) × (self.new ≡ self.old)

@@ -6,7 +6,7 @@ ghost use Rattle.timer_desk.specs.Forward.{RanOutOfMemory};
 ghost use Rattle.timer_desk.specs.Backlog.{BacklogState, empty_backlog, HasRoom};
 ghost use Rattle.timer_desk.specs.Report.{HeldIsLast};
 ghost use Rattle.timer_desk.specs.Flush.{Flushes};
-ghost use Rattle.timer_desk.specs.Desk.{DeskState, opened_desk, clients_of, backlog_at, AllIdle, side_at, TakesNothing, ReportHolds, tick_notices, close_notices};
+ghost use Rattle.timer_desk.specs.Desk.{DeskState, opened_desk, clients_of, backlog_at, AllIdle, account_at, TakesNothing, ReportHolds, tick_notices, close_notices};
 
 use crate::backlog::Backlog;
 use crate::dispatch::hand_out;
@@ -53,10 +53,10 @@ impl<W: Wheel + Drop, I: Inlet + Drop> Desk<W, I> {
 
     /// The invariant of every desk: each client has its backlog, whose outbox has room for a notice of each
     /// of its pending timers; and a held request is the last one that was taken. The call does nothing.
-    pub fn keeps(&self)
+    pub fn lemma_invariant(&self)
         ensures room { HasRoom self.now.backlogs (with_nothing_waiting self.now.facility) }
         ensures held { (c : ℕ) (i : I) (b : BacklogState) → c < clients_of self.now
-            → HeldIsLast (side_at I.kind self.now c i b) }
+            → HeldIsLast (account_at I.kind self.now c i b) }
         ensures sound { IsSound self.now.facility }
         ensures as_many { length self.now.backlogs ≡ clients_of self.now }
     {

@@ -6,7 +6,7 @@ ghost use Rattle.timer_desk.specs.Driver.{PassesTicks, IsFit, NoneRanOut, is_out
 
 use crate::desk::Desk;
 use crate::inlet::Inlet;
-use crate::progress::{Progress, all_done, count_report, no_progress};
+use crate::progress::{Progress, all_done, count_report, zeroed_progress};
 use crate::report::{Done, Served, Step};
 use std::alloc::{AllocError, Global};
 use std::thread;
@@ -94,8 +94,8 @@ fn run_turns<W: Wheel + Drop, I: Inlet + Drop>(
 {
     let mut desk = desk;
     notices_are_owed();
-    desk.keeps();
-    let Ok(mut progress) = no_progress(alloc, desk.clients()) else {
+    desk.lemma_invariant();
+    let Ok(mut progress) = zeroed_progress(alloc, desk.clients()) else {
         return Driven {
             desk,
             outcome: DriveEnd::OutOfMemory,
@@ -145,7 +145,7 @@ fn one_turn<W: Wheel + Drop, I: Inlet + Drop>(
     ensures turned { IsTurned goal progress.old.items progress.new.items result }
     ensures clients { vec_len progress.new ≡ clients_of desk.new }
 {
-    desk.keeps();
+    desk.lemma_invariant();
     let Ok(steps) = steps_of_turn(alloc, progress, goal, last) else {
         return Turned::OutOfMemory;
     };

@@ -62,7 +62,7 @@ impl Progress {
 }
 
 /// No progress yet, for each of `clients` clients.
-pub fn no_progress(alloc: Global, clients: usize) -> Result<Vec<Progress>, AllocError>
+pub fn zeroed_progress(alloc: Global, clients: usize) -> Result<Vec<Progress>, AllocError>
     ensures { IfOk result (λ all. all.items ≡ replicate clients (record { served = 0; flushed = 0 })) }
 {
     let mut all = Vec::with_capacity(alloc, clients)?;

@@ -39,7 +39,7 @@ impl<W: Wheel + Drop, I: Inlet + Drop> Desk<W, I> {
         for step in steps {
             self.step(*step, &mut report);
         }
-        self.keeps();
+        self.lemma_invariant();
         Ok(report)
     }
 

@@ -16,13 +16,13 @@ use Rattle.timer_desk.specs.declared.ring.RingInlet.{RingInlet}
 use Rattle.timer_desk.specs.Backlog.{BacklogState, empty_backlog}
 use Rattle.timer_desk.specs.Report.{HeldIsLast, asked, asked_in, flushed}
 use Rattle.timer_desk.specs.Ring.{ring_lines, free_of_inlet}
-use Rattle.timer_desk.specs.Desk.{clients_of, side_at, backlog_at}
+use Rattle.timer_desk.specs.Desk.{clients_of, account_at, backlog_at}
 use Rattle.timer_desk.specs.Flush.{IsGiven, Flushes, without_words}
-use Rattle.timer_desk.proofs.ReportJoining.{ReportHolds-joined, ReportHolds-nothing}
+use Rattle.timer_desk.proofs.ReportConcatenation.{ReportHolds-joined, ReportHolds-nothing}
 use Rattle.timer_desk_c.specs.DeskSlots.{DeskState}
 use Rattle.timer_desk_c.specs.Desks.{Says}
 use Rattle.timer_desk_c.specs.Rounds.{did, starved, did_request, ran_out, served_none, flushed_one, moved_a_word, IsServe, IsFlush, IsServedOut, IsEmptied, round_status, HasServedAll, HasFlushedAll}
-use Rattle.timer_desk_c.specs.Serving.{HasServedClient}
+use Rattle.timer_desk_c.specs.ClientServes.{HasServedClient}
 
 either : (b : Bool) → (b ≡ true) ⊎ (b ≡ false)
 either b = elim b as (λ v. (v ≡ true) ⊎ (v ≡ false)) [ true ↦ inl refl | false ↦ inr refl ]
@@ -83,7 +83,7 @@ pub record IsServing (c n : ℕ) (busy : Bool) (old now : DeskState) : Type 0 wh
   pub fed_all : list_any ran_out report ≡ false
 
 abbrev pub IsHeldRight : DeskState → Type 0
-IsHeldRight x = (c : ℕ) (i : RingInlet) (b : BacklogState) → c < clients_of x → HeldIsLast (side_at ring_lines x c i b)
+IsHeldRight x = (c : ℕ) (i : RingInlet) (b : BacklogState) → c < clients_of x → HeldIsLast (account_at ring_lines x c i b)
 
 pub serving_nothing : (c : ℕ) (x : DeskState) → IsHeldRight x → IsServing c 0 false x x
 serving_nothing c x last = record {

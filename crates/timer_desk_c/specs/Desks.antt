@@ -12,7 +12,7 @@ use Rattle.timer_facility.specs.Config.{config_fault}
 use Rattle.timer_facility.specs.Opened.{opened}
 use Rattle.timer_facility.specs.State.{FacilityState}
 use Rattle.timer_facility.specs.WakeUps.{IsWakeUp}
-use Rattle.timer_desk.specs.declared.opening.TheConstants.{MIN_ROOM, MAX_ROOM}
+use Rattle.timer_desk.specs.declared.constructor.TheConstants.{MIN_ROOM, MAX_ROOM}
 use Rattle.timer_desk.specs.declared.report.Served.{Served}
 use Rattle.timer_desk.specs.declared.report.Served.TheVariants as Serveds
 use Rattle.timer_desk.specs.declared.report.Done.{Done}

@@ -8,7 +8,7 @@ pub mod Frames
 pub mod Desks
 pub mod Ticks
 pub mod Rounds
-pub mod Serving
+pub mod ClientServes
 pub mod Shutdown
 pub mod ShutdownAll
 pub mod Freed

@@ -2,7 +2,7 @@
 ghost use Rattle.std.specs.Prelude.{◌≡◌, ◌<◌, ◌||◌, nat_lt};
 ghost use Rattle.timer_desk.specs.Desk.{clients_of};
 ghost use Rattle.timer_desk_c.specs.Rounds.{did, starved, round_status, HasServedAll, HasFlushedAll};
-ghost use Rattle.timer_desk_c.specs.Serving.{HasServedClient};
+ghost use Rattle.timer_desk_c.specs.ClientServes.{HasServedClient};
 
 use crate::status::{IDLE, NO_MEMORY, OK};
 use timer_base::Wheel;
@@ -21,7 +21,7 @@ struct Round {
 pub(crate) fn serve_all<W: Wheel + Drop>(desk: &mut Desk<W, RingInlet>, most: u64) -> u32
     ensures { HasServedAll most result desk.old desk.new }
 {
-    desk.keeps();
+    desk.lemma_invariant();
     let mut busy = false;
     let mut starved = false;
     for client in 0..desk.clients() {
@@ -37,7 +37,7 @@ fn serve_up_to<W: Wheel + Drop>(desk: &mut Desk<W, RingInlet>, client: usize, mo
     requires { client < clients_of desk.old }
     ensures { HasServedClient client most result.busy result.starved desk.old desk.new }
 {
-    desk.keeps();
+    desk.lemma_invariant();
     let mut busy = false;
     for _ in 0..most {
         let served = desk.serve(client);
@@ -57,7 +57,7 @@ fn serve_up_to<W: Wheel + Drop>(desk: &mut Desk<W, RingInlet>, client: usize, mo
 pub(crate) fn flush_all<W: Wheel + Drop>(desk: &mut Desk<W, RingInlet>) -> bool
     ensures { HasFlushedAll result desk.old desk.new }
 {
-    desk.keeps();
+    desk.lemma_invariant();
     let mut busy = false;
     for client in 0..desk.clients() {
         busy = either(busy, is_some(desk.flush(client)));

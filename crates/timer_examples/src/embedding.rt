@@ -6,7 +6,7 @@ use timer_total::Timers;
 use timer_wheels::HierWheel;
 
 fn run_all<R: AllocGlobal + Wait>(rt: &R) -> anyhow::Result<()> {
-    let mut timers = Timers::over(HierWheel::new(rt.alloc(), 0)?, 0);
+    let mut timers = Timers::new(HierWheel::new(rt.alloc(), 0)?, 0);
     let tea = timers.start(300, 7)?;
     for _ in rt.forever() {
         let Some(tick) = timers.quiet_until() else {

@@ -16,7 +16,7 @@ use Rattle.timer_facility.specs.declared.request.Answer.{Answer}
 use Rattle.timer_facility.specs.declared.event.Out.TheVariants as Outs
 use Rattle.timer_facility.specs.State.{FacilityState, Asked, Tick, Start, Stop, StopSerial, Restart, RestartSerial}
 use Rattle.timer_facility.specs.Verdict.{not_taken, start_refusal, interval_refusal, tick_refusal, of_client, named}
-use Rattle.timer_facility.specs.Step.{Step, step, step_of_request, step_of_tick, after_start, after_stop, after_restart, answer_to_start, answer_to_stop, answer_to_restart, with_number, new_timer}
+use Rattle.timer_facility.specs.Step.{StepResult, step, step_of_request, step_of_tick, after_start, after_stop, after_restart, answer_to_start, answer_to_stop, answer_to_restart, with_number, new_timer}
 use Rattle.timer_facility.specs.Run.{notices_in, state_after}
 use Rattle.timer_facility.specs.Ticked.{ticks, AreTicked}
 use Rattle.timer_facility.specs.Facility.{FacilityView, place_in, IsTaken}
@@ -241,7 +241,7 @@ step_by_serial : (s : FacilityState) (client number serial place : ℕ) (handle 
     → step_of_request s client number (Stop handle) place refusal ≡ step_of_request s client number (StopSerial serial) place refusal
 step_by_serial s client number serial place handle (Some reason) h = refl
 step_by_serial s client number serial place handle None h =
-    let of_found : Option Timer → Step = λ found. record {
+    let of_found : Option Timer → StepResult = λ found. record {
       outs = Outs.Answered client number (answer_to_stop found) ∷ [];
       state = with_number client number (after_stop found s);
     } in
@@ -261,7 +261,7 @@ restart_by_serial s client number serial interval action place handle (Some reas
 restart_by_serial s client number serial interval action place handle None h =
     let t : Timer = new_timer s client number interval action in
     let v : Option Reason = interval_refusal s interval in
-    let of_found : Option Timer → Step = λ found. record {
+    let of_found : Option Timer → StepResult = λ found. record {
       outs = Outs.Answered client number (answer_to_restart found v place t) ∷ [];
       state = with_number client number (after_restart found v place t s);
     } in

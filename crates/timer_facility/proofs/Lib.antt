@@ -10,7 +10,7 @@ pub mod HandedOverLemmas
 pub mod ClockLemmas
 pub mod TimerLists
 pub mod VerdictLemmas
-pub mod OwedReading
+pub mod OwedFold
 pub mod OwedKeeps
 pub mod OwedLemmas
 pub mod RunBare

@@ -11,7 +11,7 @@ use Rattle.timer_facility.specs.declared.request.Notice.TheVariants.{Expired, Re
 use Rattle.timer_facility.specs.State.{FacilityState}
 use Rattle.timer_facility.specs.Owed.{timers_in_order, is_among}
 use Rattle.timer_facility.proofs.TimerLists.{either, or_false, insert_newest, timers_in_order-append, filter-timers_in_order, filter-append, filter_same, filter_ext, filter-filter, timers_of-put, timers_of-filter, Among, Among-in_order, Among-filter, AreBelow-among, IsOnly, AreDistinct-only, AreDistinct-append, AreBelow-append, AreBelow-filter, is_among-append, is_among_below, All-append, All_numbers-weaken, All_timers-weaken, All_timers-append, is_equal, lt_is}
-use Rattle.timer_facility.proofs.OwedReading.{Reading, all_started, is_owed_at, is_left_at, due_at, owed_at_ticks, owed_at_close, owed_for}
+use Rattle.timer_facility.proofs.OwedFold.{Reading, all_started, is_owed_at, is_left_at, due_at, owed_at_ticks, owed_at_close, owed_for}
 
 -- between two events: from s the answers read are r and the notices are ns, and c is the state now
 pub record Keeps (s : FacilityState) (r : Reading) (ns : List Notice) (c : FacilityState) : Type 0 where

@@ -15,16 +15,16 @@ use Rattle.timer_facility.specs.declared.event.Out.{Out}
 use Rattle.timer_facility.specs.declared.event.Out.TheVariants as Outs
 use Rattle.timer_facility.specs.State.{FacilityState, IsSound, SingleEvent, Asked, Tick, Close, Wanted, Start, Stop, StopSerial, Restart, RestartSerial}
 use Rattle.timer_facility.specs.Verdict.{not_taken, start_refusal, interval_refusal, named, of_client, tick_refusal}
-use Rattle.timer_facility.specs.Step.{Step, step, step_of_request, step_of_tick, step_of_close, new_timer, with_number, after_start, after_stop, after_restart, answer_to_start, answer_to_stop, answer_to_restart}
+use Rattle.timer_facility.specs.Step.{StepResult, step, step_of_request, step_of_tick, step_of_close, new_timer, with_number, after_start, after_stop, after_restart, answer_to_start, answer_to_stop, answer_to_restart}
 use Rattle.timer_facility.specs.Run.{PlacedEvent, history, state_after, notices, notice_in, notices_in, outs_of}
 use Rattle.timer_facility.specs.Owed.{owed, started, timers_in_order, serials_told, timers_restarted, any_out, is_closing, is_tick_refusal}
 use Rattle.timer_facility.proofs.TimerLists.{or_false, filter_all, Among, All_timers-weaken, timers_in_order-ordered, first_timer-among, of_client_some}
 use Rattle.timer_facility.proofs.VerdictLemmas.{open_when, open_at_tick, startable, timely}
-use Rattle.timer_facility.proofs.OwedReading.{Reading, nothing_read, read_more, read_on, reading_is, all_started, is_left_at, owed_is, started_is}
+use Rattle.timer_facility.proofs.OwedFold.{Reading, nothing_read, read_more, read_on, reading_is, all_started, is_left_at, owed_is, started_is}
 use Rattle.timer_facility.proofs.OwedKeeps.{Keeps, not_closed, keeps-start, keeps-stop, keeps-tick, keeps-close, keeps-same}
 
 -- the invariant between two events, after one with these outs
-abbrev KeepsStep : FacilityState → Reading → List Notice → SingleEvent → Step → Type 0
+abbrev KeepsStep : FacilityState → Reading → List Notice → SingleEvent → StepResult → Type 0
 KeepsStep s r ns event st = Keeps s (read_more r (record { event = event; outs = st.outs })) (ns ++ notices_in st.outs) st.state
 
 keeps_read : (s : FacilityState) (r r' : Reading) (ns ns' : List Notice) (c : FacilityState) → r' ≡ r → ns' ≡ ns → Keeps s r ns c
@@ -225,7 +225,7 @@ keeps_run : (s : FacilityState) (r : Reading) (ns : List Notice) (c : FacilitySt
     → Keeps s (read_on r (history c ps)) (ns ++ notices (history c ps)) (state_after c ps)
 keeps_run s r ns c [] k = keeps_read s r r ns (ns ++ []) c refl (append-nil ns) k
 keeps_run s r ns c (p ∷ ps) k =
-    let st : Step = step c p.event p.place in
+    let st : StepResult = step c p.event p.place in
     let rest : List Notice = notices (history st.state ps) in
     let r' : Reading = read_more r (record { event = p.event; outs = st.outs }) in
     keeps_read s (read_on r' (history st.state ps)) (read_on r' (history st.state ps)) ((ns ++ notices_in st.outs) ++ rest) (ns

@@ -5,7 +5,7 @@ use Rattle.timer_base.specs.Pending.{timers_of, timer_of}
 use Rattle.timer_facility.specs.declared.request.Notice.TheVariants.{Returned}
 use Rattle.timer_facility.specs.declared.event.Out.TheVariants as Outs
 use Rattle.timer_facility.specs.State.{FacilityState, Close}
-use Rattle.timer_facility.specs.Step.{Step, step, step_of_close}
+use Rattle.timer_facility.specs.Step.{StepResult, step, step_of_close}
 use Rattle.timer_facility.specs.Facility.{FacilityView, view_after}
 use Rattle.timer_facility.proofs.PlayedNotices.{outs-notices, length-notices}
 use Rattle.std.proofs.lemmas.List.{length-map}
@@ -26,7 +26,7 @@ outs-closed s v e h =
     ap (λ (u : FacilityView). Outs.Closed (length s.pending) ∷ map (λ notice. Outs.Notice notice) u.waiting) (e
     ∙ ap view_after (step-closing s h))
     ∙ ap (λ outs. Outs.Closed (length s.pending) ∷ outs) (outs-notices (λ t. Returned t) (timers_of s.pending))
-    ∙ ap (λ (st : Step). st.outs) (sym (step-closing s h))
+    ∙ ap (λ (st : StepResult). st.outs) (sym (step-closing s h))
 
 -- a second close has one out, and changes nothing
 pub outs-close_refused : (s : FacilityState) → s.is_closed ≡ true → (step s Close 0).outs ≡ Outs.CloseRefused ∷ []

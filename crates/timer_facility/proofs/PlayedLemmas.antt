@@ -16,7 +16,7 @@ use Rattle.timer_facility.specs.declared.event.Out.{Out}
 use Rattle.timer_facility.specs.declared.event.Out.TheVariants as Outs
 use Rattle.timer_facility.specs.State.{FacilityState, IsSound, SingleEvent, Wanted, Asked, Stop, StopSerial, Restart, RestartSerial}
 use Rattle.timer_facility.specs.Verdict.{not_taken}
-use Rattle.timer_facility.specs.Step.{Step, step, step_of_request}
+use Rattle.timer_facility.specs.Step.{StepResult, step, step_of_request}
 use Rattle.timer_facility.specs.Run.{PlacedEvent, HistoryEntry, history, state_after, outs_of}
 use Rattle.timer_facility.specs.Facility.{FacilityView, place_in, asked, IsTaken, IsNotTaken}
 use Rattle.timer_facility.specs.Played.{singles_of, ArePlaced, IsRun, IsPlayed, AddsRun}
@@ -127,7 +127,7 @@ AddsRun-not_taken s event client number wanted reason before outs after h r o e 
     let refused : step s (Asked client number wanted) 0 ≡ step_of_request s client number wanted 0 (Some reason) =
     ap (step_of_request s client number wanted 0) r in
     AddsRun-one s event (Asked client number wanted) 0 before outs after h
-    (o ∙ ap (λ (st : Step). before ++ st.outs) (sym refused)) (e ∙ ap (λ (st : Step). st.state) (sym refused))
+    (o ∙ ap (λ (st : StepResult). before ++ st.outs) (sym refused)) (e ∙ ap (λ (st : StepResult). st.state) (sym refused))
 
 -- a request that is not taken for another reason than memory is not taken for the reason of the verdict
 pub reason-verdict : (s : FacilityState) (client number : ℕ) (request : Request) (reason : NotTaken)
@@ -153,8 +153,8 @@ AddsRun-stopped handles s client number serial handle answer before outs new a h
     ≡ step s (Asked client number (StopSerial serial)) (place_in answer) =
     step-recorded handles s client number serial (place_in answer) handle a h in
     AddsRun-one s (Events.Stop client number serial) (Asked client number (StopSerial serial)) (place_in answer) before outs new.state refl
-    (o ∙ ap (λ os. before ++ os) (sym t.answered ∙ ap (λ (st : Step). st.outs) same))
-    (ap (λ (v : FacilityView). v.state) t.left ∙ ap (λ (st : Step). st.state) same)
+    (o ∙ ap (λ os. before ++ os) (sym t.answered ∙ ap (λ (st : StepResult). st.outs) same))
+    (ap (λ (v : FacilityView). v.state) t.left ∙ ap (λ (st : StepResult). st.state) same)
 
 -- a restart doesn't allocate
 pub reason-restart : (s : FacilityState) (client number : ℕ) (handle : Handle) (interval action : ℕ) (reason : NotTaken)
@@ -175,8 +175,8 @@ AddsRun-restarted handles s client number serial interval action handle answer b
     restart-recorded handles s client number serial interval action (place_in answer) handle a h in
     AddsRun-one s (Events.Restart client number serial interval action) (Asked client number (RestartSerial serial interval action))
     (place_in answer) before outs new.state refl
-    (o ∙ ap (λ os. before ++ os) (sym t.answered ∙ ap (λ (st : Step). st.outs) same))
-    (ap (λ (v : FacilityView). v.state) t.left ∙ ap (λ (st : Step). st.state) same)
+    (o ∙ ap (λ os. before ++ os) (sym t.answered ∙ ap (λ (st : StepResult). st.outs) same))
+    (ap (λ (v : FacilityView). v.state) t.left ∙ ap (λ (st : StepResult). st.state) same)
 
 -- the notices of every run are what is owed
 pub IsPlayed-run : (s : FacilityState) (es : List Event) (outs : List Out) (c : FacilityState) → IsSound s → IsRun s es outs c

@@ -14,7 +14,7 @@ use Rattle.timer_facility.specs.declared.event.Out.{Out}
 use Rattle.timer_facility.specs.declared.event.Out.TheVariants as Outs
 use Rattle.timer_facility.specs.State.{FacilityState, Tick}
 use Rattle.timer_facility.specs.Verdict.{tick_refusal}
-use Rattle.timer_facility.specs.Step.{Step, step, step_of_tick, after_tick, expired_next}
+use Rattle.timer_facility.specs.Step.{StepResult, step, step_of_tick, after_tick, expired_next}
 use Rattle.timer_facility.specs.Run.{PlacedEvent, history, state_after, outs_of, notices, notices_in}
 use Rattle.timer_facility.specs.Facility.{FacilityView}
 use Rattle.timer_facility.proofs.PlayedNotices.{outs-notices, length-notices}
@@ -111,7 +111,7 @@ pub HasTicked-more : (s : FacilityState) (n : ℕ) (before outs outs' : List Out
     → HasTicked s n before outs after → tick_refusal after ≡ None
     → after' ≡ (step after Tick 0).state → outs' ≡ outs ++ (step after Tick 0).outs → HasTicked s (n + 1) before outs' after'
 HasTicked-more s n before outs outs' after after' h a e o =
-    let there : after' ≡ after_tick after = e ∙ ap (λ (st : Step). st.state) (step-accepted after a) in
+    let there : after' ≡ after_tick after = e ∙ ap (λ (st : StepResult). st.state) (step-accepted after a) in
     let l = ticks_left-accepted after h.in_range a in
     let one : ticks_left after ≡ 1 + ticks_left after' = l.0 ∙ ap (λ c. 1 + ticks_left c) (sym there) in
     let all : n + ticks_left after ≡ ticks_left s = h.left in
@@ -161,7 +161,7 @@ AddsRun-cut s count n before outs outs' after after' fault h lt r e o =
 -- the outs of an accepted tick are its notices
 pub outs-accepted : (s : FacilityState) → tick_refusal s ≡ None
     → map (λ notice. Outs.Notice notice) (notices_in (step s Tick 0).outs) ≡ (step s Tick 0).outs
-outs-accepted s h = subst (λ (st : Step). map (λ notice. Outs.Notice notice) (notices_in st.outs)
+outs-accepted s h = subst (λ (st : StepResult). map (λ notice. Outs.Notice notice) (notices_in st.outs)
     ≡ st.outs) (sym (step-accepted s h)) (outs-notices (λ t. Expired t) (expired_next s))
 
 count_step : (p : Timer → Bool) (e : Entry) (es : List Entry) → length (filter p (timers_of es)) + length (filter (λ e. not (p e.timer)) es)
@@ -181,7 +181,7 @@ length-parts p (e ∷ es) = count_step p e es (length-parts p es) (either (p e.t
 pub length-accepted : (s : FacilityState) → tick_refusal s ≡ None
     → length (notices_in (step s Tick 0).outs) + length (step s Tick 0).state.pending ≡ length s.pending
 length-accepted s h =
-    subst (λ (st : Step). length (notices_in st.outs) + length st.state.pending ≡ length s.pending) (sym (step-accepted s h))
+    subst (λ (st : StepResult). length (notices_in st.outs) + length st.state.pending ≡ length s.pending) (sym (step-accepted s h))
     (ap (λ n. n + length (entries_left (s.now + 1) s.pending)) (length-notices (λ t. Expired t) (expired_next s))
     ∙ length-parts (is_due_at (s.now + 1)) s.pending)
 
@@ -196,7 +196,7 @@ are_accepted s (suc n) a =
     let i : AreAccepted s n = are_accepted s n (λ k h. a k (omega arith)) in
     let before : List Out = outs_of (history s (ticks n)) in
     let c : FacilityState = state_after s (ticks n) in
-    let last : Step = step c Tick 0 in
+    let last : StepResult = step c Tick 0 in
     let accepted : tick_refusal c ≡ None = a n (omega arith) in
     let parts : notices (history s (ticks (suc n))) ≡ notices_in before ++ notices_in last.outs =
     ap notices_in (outs_of-ticks n s) ∙ notices_in-append before last.outs in
@@ -256,5 +256,5 @@ pub AddsRun-refused : (s : FacilityState) (count n : ℕ) (before outs outs' : L
     → tick_refusal c ≡ Some fault → c' ≡ c → outs' ≡ outs ++ Outs.TickRefused fault ∷ [] → AddsRun s (Events.Ticks count) before outs' c'
 AddsRun-refused s count n before outs outs' c c' fault h l r e o =
     let refused : step c Tick 0 ≡ step_of_tick c (Some fault) = ap (step_of_tick c) r in
-    AddsRun-cut s count n before outs outs' c c' fault h l r (e ∙ ap (λ (st : Step). st.state) (sym refused)) (o
-    ∙ ap (λ (st : Step). outs ++ st.outs) (sym refused))
+    AddsRun-cut s count n before outs outs' c c' fault h l r (e ∙ ap (λ (st : StepResult). st.state) (sym refused)) (o
+    ∙ ap (λ (st : StepResult). outs ++ st.outs) (sym refused))

@@ -15,7 +15,7 @@ use Rattle.timer_facility.specs.declared.event.Out.{Out}
 use Rattle.timer_facility.specs.declared.event.Out.TheVariants as Outs
 use Rattle.timer_facility.specs.State.{FacilityState, Wanted, Start, Stop, StopSerial, Restart, RestartSerial, SingleEvent, Asked, Tick, Close}
 use Rattle.timer_facility.specs.Verdict.{not_taken, named, of_client, start_refusal, interval_refusal, tick_refusal}
-use Rattle.timer_facility.specs.Step.{Step, step, step_of_request, step_of_tick, step_of_close, with_number, new_timer, after_start, after_stop, after_restart, answer_to_start, answer_to_stop, answer_to_restart}
+use Rattle.timer_facility.specs.Step.{StepResult, step, step_of_request, step_of_tick, step_of_close, with_number, new_timer, after_start, after_stop, after_restart, answer_to_start, answer_to_stop, answer_to_restart}
 use Rattle.timer_facility.specs.Run.{PlacedEvent, state_after, run, bare_answer, bare, bare_outs, bare_entry, bare_state, NamesBySerial, AreSameButForPlaces}
 use Rattle.timer_facility.specs.Played.{ticks_left, singles_of, ArePlaced, IsRun}
 use Rattle.timer_facility.proofs.TimerLists.{either}
@@ -79,7 +79,7 @@ named-bare s client serial = ap (of_client client) (first_timer-bare (has_serial
 -- Nor does a step, except for the place in its answer.
 
 -- a step over the same state without places gives the same without places
-abbrev IsBareStep : Step → Step → Type 0
+abbrev IsBareStep : StepResult → StepResult → Type 0
 IsBareStep st bare_st = (bare_outs st.outs ≡ bare_st.outs) × (bare_state st.state ≡ bare_st.state)
 
 answer_to_start-bare : (v : Option Reason) (place : ℕ) (t : Timer) → bare_answer (answer_to_start v place t) ≡ answer_to_start v 0 t
@@ -196,8 +196,8 @@ run-bare : (s : FacilityState) (ps : List PlacedEvent) → AllByRecursion NamesB
     → IsBareStep (run s ps) (run (bare_state s) (at_none (events_of ps)))
 run-bare s [] n = (refl, refl)
 run-bare s (p ∷ ps) n =
-    let st : Step = step s p.event p.place in
-    let bare_st : Step = step (bare_state s) p.event 0 in
+    let st : StepResult = step s p.event p.place in
+    let bare_st : StepResult = step (bare_state s) p.event 0 in
     let one : IsBareStep st bare_st = step-bare s p.event p.place n.0 in
     let rest : IsBareStep (run st.state ps) (run (bare_state st.state) (at_none (events_of ps))) = run-bare st.state ps n.1 in
     let rest' : IsBareStep (run st.state ps) (run bare_st.state (at_none (events_of ps))) =
@@ -217,8 +217,8 @@ runs-bare s t ps qs e f n =
     let same : run (bare_state s) (at_none (events_of ps)) ≡ run (bare_state t) (at_none (events_of qs)) =
     ap (λ c. run c (at_none (events_of ps))) e ∙ ap (λ es. run (bare_state t) (at_none es)) f in
     record {
-      outs_are = a.0 ∙ ap (λ (st : Step). st.outs) same ∙ sym b.0;
-      states_are = a.1 ∙ ap (λ (st : Step). st.state) same ∙ sym b.1;
+      outs_are = a.0 ∙ ap (λ (st : StepResult). st.outs) same ∙ sym b.0;
+      states_are = a.1 ∙ ap (λ (st : StepResult). st.state) same ∙ sym b.1;
     }
 
 -- The events of a list that is played.

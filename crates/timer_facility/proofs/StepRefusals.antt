@@ -8,7 +8,7 @@ use Rattle.timer_facility.specs.declared.request.TickFault.{TickFault}
 use Rattle.timer_facility.specs.declared.event.Out.TheVariants as Outs
 use Rattle.timer_facility.specs.State.{FacilityState, Wanted, Start, Stop, StopSerial, Restart, RestartSerial, SingleEvent, Asked, Tick, Close}
 use Rattle.timer_facility.specs.Verdict.{not_taken, named, start_refusal, interval_refusal, stop_refusal, restart_refusal, refusal, tick_refusal, Refusal, RequestNotTaken, RequestRefused, TickRefused, CloseRefused, verdict_on_request, verdict_on_tick, verdict}
-use Rattle.timer_facility.specs.Step.{Step, step, step_of_request, step_of_tick, step_of_close, new_timer, with_number, after_start, after_stop, after_restart, answer_to_start, answer_to_stop, answer_to_restart, refused}
+use Rattle.timer_facility.specs.Step.{StepResult, step, step_of_request, step_of_tick, step_of_close, new_timer, with_number, after_start, after_stop, after_restart, answer_to_start, answer_to_stop, answer_to_restart, refused}
 
 the_same : (x y : Refusal) → Some x ≡ Some y → x ≡ y
 the_same x y h = cc
@@ -16,7 +16,7 @@ the_same x y h = cc
 -- the step of a start that is taken, by why it is refused
 start-refused : (s : FacilityState) (client number interval action place : ℕ) (r : Refusal) (v : Option Reason)
     → verdict_on_request None v ≡ Some r
-    → let st : Step = record {
+    → let st : StepResult = record {
       outs = Outs.Answered client number (answer_to_start v place (new_timer s client number interval action)) ∷ [];
       state = with_number client number (after_start v place (new_timer s client number interval action) s);
     } in
@@ -28,7 +28,7 @@ start-refused s client number interval action place r None h = absurd (cc)
 -- the step of a stop that is taken, by the timer that it names
 stop-refused : (s : FacilityState) (client number : ℕ) (wanted : Wanted) (r : Refusal) (found : Option Timer)
     → verdict_on_request None (stop_refusal found) ≡ Some r
-    → let st : Step = record {
+    → let st : StepResult = record {
       outs = Outs.Answered client number (answer_to_stop found) ∷ [];
       state = with_number client number (after_stop found s);
     } in
@@ -39,7 +39,7 @@ stop-refused s client number wanted r (Some t) h = absurd (cc)
 -- the step of a restart that is taken, by the timer that it names and why the new one can't be started
 restart-refused : (s : FacilityState) (client number place : ℕ) (t : Timer) (wanted : Wanted) (r : Refusal) (found : Option Timer)
     (v : Option Reason) → verdict_on_request None (restart_refusal found v) ≡ Some r
-    → let st : Step = record {
+    → let st : StepResult = record {
       outs = Outs.Answered client number (answer_to_restart found v place t) ∷ [];
       state = with_number client number (after_restart found v place t s);
     } in

@@ -8,7 +8,7 @@ use Rattle.timer_facility.specs.declared.request.Notice.{Notice}
 use Rattle.timer_facility.specs.declared.request.Notice.TheVariants.{Expired, Returned}
 use Rattle.timer_facility.specs.State.{FacilityState, Tick}
 use Rattle.timer_facility.specs.Verdict.{tick_refusal}
-use Rattle.timer_facility.specs.Step.{Step, step}
+use Rattle.timer_facility.specs.Step.{StepResult, step}
 use Rattle.timer_facility.specs.Run.{history, state_after, run, notices, notices_in, outs_of}
 use Rattle.timer_facility.specs.Facility.{FacilityView, Parts, view_of, AreParts, view_after}
 use Rattle.timer_facility.specs.Ticked.{ticks, AreTicked}
@@ -25,7 +25,7 @@ both_are s t xs ys e f = cc
 view-more : (s : FacilityState) (n : ℕ) → notices (history s (ticks n)) ≡ []
     → view_after (step (state_after s (ticks n)) Tick 0) ≡ view_after (run s (ticks (suc n)))
 view-more s n h =
-    let last : Step = step (state_after s (ticks n)) Tick 0 in
+    let last : StepResult = step (state_after s (ticks n)) Tick 0 in
     let outs : notices (history s (ticks (suc n))) ≡ notices_in last.outs =
     ap notices_in (outs_of-ticks n s) ∙ notices_in-append (outs_of (history s (ticks n))) last.outs
     ∙ ap (λ ns. ns ++ notices_in last.outs) h in

@@ -10,7 +10,7 @@ use Rattle.timer_facility.specs.declared.request.TickFault.{TickFault}
 use Rattle.timer_facility.specs.declared.event.Out.TheVariants as Outs
 use Rattle.timer_facility.specs.State.{FacilityState}
 use Rattle.timer_facility.specs.Verdict.{tick_refusal}
-use Rattle.timer_facility.specs.Step.{Step, step_of_tick}
+use Rattle.timer_facility.specs.Step.{StepResult, step_of_tick}
 use Rattle.timer_facility.specs.Run.{history, notices, notices_in, outs_of}
 use Rattle.timer_facility.specs.Facility.{FacilityView, Parts, view_of, AreParts}
 use Rattle.timer_facility.specs.Ticked.{ticks}
@@ -38,7 +38,7 @@ still_from tick p (e ∷ es) a = elim (either (p e)) [
 ]
 
 -- a tick that hands nothing out, and leaves nothing to hand out before the tick
-record IsQuiet (tick n : ℕ) (st : Step) : Type 0 where
+record IsQuiet (tick n : ℕ) (st : StepResult) : Type 0 where
   none : notices_in st.outs ≡ []
   from : AreFrom tick st.state.pending
   before : st.state.now + n < tick
@@ -55,7 +55,7 @@ quiet_tick tick n s None a h = record {
 pub quiet_ticks : (tick n : ℕ) (s : FacilityState) → AreFrom tick s.pending → s.now + n < tick → notices (history s (ticks n)) ≡ []
 quiet_ticks tick zero s a h = refl
 quiet_ticks tick (suc n) s a h =
-    let st : Step = step_of_tick s (tick_refusal s) in
+    let st : StepResult = step_of_tick s (tick_refusal s) in
     let q : IsQuiet tick n st = quiet_tick tick n s (tick_refusal s) a h in
     let rest : notices (history st.state (ticks n)) ≡ [] = quiet_ticks tick n st.state q.from q.before in
     notices_in-append st.outs (outs_of (history st.state (ticks n))) ∙ ap (λ ns. ns ++ notices (history st.state (ticks n))) q.none ∙ rest

@@ -18,7 +18,7 @@ use Rattle.timer_facility.specs.declared.request.Notice.TheVariants.{Expired, Re
 use Rattle.timer_facility.specs.declared.event.Out.TheVariants as Outs
 use Rattle.timer_facility.specs.State.{FacilityState, with_room, count_of, Wanted, Start, Stop, Restart, SingleEvent, Asked}
 use Rattle.timer_facility.specs.Verdict.{not_taken, refusal}
-use Rattle.timer_facility.specs.Step.{Step, step}
+use Rattle.timer_facility.specs.Step.{StepResult, step}
 use Rattle.timer_facility.specs.Run.{notices_in}
 
 pub record FacilityView : Type 0 where
@@ -27,7 +27,7 @@ pub record FacilityView : Type 0 where
   pub waiting : List Notice
 
 -- the view after a step: its notices wait
-abbrev pub view_after : Step → FacilityView
+abbrev pub view_after : StepResult → FacilityView
 view_after st = record { state = st.state; waiting = notices_in st.outs }
 
 -- a state in which no notice waits

@@ -2,12 +2,12 @@
 use Rattle.std.specs.Prelude.{◌≡◌, ◌≤◌, ◌==◌, ℕ, ◌+◌, if◌then◌else◌, List, length, map}
 use Rattle.timer_base.specs.declared.timer.Timer.{Timer}
 use Rattle.timer_facility.specs.State.{FacilityState, count_of, pending_of}
-use Rattle.timer_facility.specs.Step.{Step}
+use Rattle.timer_facility.specs.Step.{StepResult}
 use Rattle.timer_facility.specs.Run.{notices_in}
 use Rattle.timer_facility.specs.Owed.{timer_handed}
 
 -- the timers that an event hands out, in their order
-abbrev pub timers_handed : Step → List Timer
+abbrev pub timers_handed : StepResult → List Timer
 timers_handed st = map timer_handed (notices_in st.outs)
 
 -- at most one more timer of this client is pending, and none more of another
@@ -16,6 +16,6 @@ pub record AddsAtMostOne (client : ℕ) (s t : FacilityState) : Type 0 where
   pub all : length t.pending ≤ length s.pending + 1
 
 -- what is handed out was pending, and is no longer pending
-pub record HandsOver (s : FacilityState) (st : Step) : Type 0 where
+pub record HandsOver (s : FacilityState) (st : StepResult) : Type 0 where
   pub of_client : (c : ℕ) → pending_of st.state c + count_of c (timers_handed st) ≡ pending_of s c
   pub all : length st.state.pending + length (timers_handed st) ≡ length s.pending

@@ -7,7 +7,7 @@ use Rattle.timer_facility.specs.declared.request.Notice.{Notice}
 use Rattle.timer_facility.specs.declared.event.Out.{Out}
 use Rattle.timer_facility.specs.declared.event.Out.TheVariants as Outs
 use Rattle.timer_facility.specs.State.{FacilityState, SingleEvent, Asked, Stop, Restart}
-use Rattle.timer_facility.specs.Step.{Step, step}
+use Rattle.timer_facility.specs.Step.{StepResult, step}
 
 -- an event, and the place that the wheel gives if it is an accepted start or restart
 pub record PlacedEvent : Type 0 where
@@ -39,7 +39,7 @@ outs_of [] = []
 outs_of (h ∷ hs) = h.outs ++ outs_of hs
 
 -- the steps of the events one after another, their outs joined
-abbrev pub run : FacilityState → List PlacedEvent → Step
+abbrev pub run : FacilityState → List PlacedEvent → StepResult
 run s placed = record { outs = outs_of (history s placed); state = state_after s placed }
 
 -- the notice that an out is, if it is one
@@ -86,6 +86,6 @@ NamesBySerial (Asked client number (Restart handle interval action)) = ⊥
 NamesBySerial _ = Unit {0}
 
 -- two runs have the same outs and the same final state, except for places
-pub record AreSameButForPlaces (one other : Step) : Type 0 where
+pub record AreSameButForPlaces (one other : StepResult) : Type 0 where
   pub outs_are : bare_outs one.outs ≡ bare_outs other.outs
   pub states_are : bare_state one.state ≡ bare_state other.state

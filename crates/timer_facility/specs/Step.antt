@@ -15,7 +15,7 @@ use Rattle.timer_facility.specs.State.{FacilityState, Wanted, Start, Stop, StopS
 use Rattle.timer_facility.specs.Verdict.{not_taken, named, start_refusal, interval_refusal, tick_refusal, Refusal, RequestNotTaken, RequestRefused, TickRefused}
 
 -- the outs of an event, and the state after it
-pub record Step : Type 0 where
+pub record StepResult : Type 0 where
   pub outs : List Out
   pub state : FacilityState
 
@@ -116,7 +116,7 @@ abbrev pub after_close : FacilityState → FacilityState
 after_close s = record s { pending = []; is_closed = true }
 
 -- a request, by why it is not taken
-abbrev pub step_of_request : FacilityState → ℕ → ℕ → Wanted → ℕ → Option NotTaken → Step
+abbrev pub step_of_request : FacilityState → ℕ → ℕ → Wanted → ℕ → Option NotTaken → StepResult
 step_of_request s client number wanted place (Some reason) =
     record { outs = Outs.NotTaken client number reason ∷ []; state = s }
 step_of_request s client number wanted place None = record {
@@ -125,7 +125,7 @@ step_of_request s client number wanted place None = record {
 }
 
 -- a tick, by why it is refused
-abbrev pub step_of_tick : FacilityState → Option TickFault → Step
+abbrev pub step_of_tick : FacilityState → Option TickFault → StepResult
 step_of_tick s (Some fault) = record { outs = Outs.TickRefused fault ∷ []; state = s }
 step_of_tick s None = record {
   outs = map (λ t. Outs.Notice (Expired t)) (expired_next s);
@@ -133,7 +133,7 @@ step_of_tick s None = record {
 }
 
 -- a close, by whether the facility was closed already
-abbrev pub step_of_close : FacilityState → Bool → Step
+abbrev pub step_of_close : FacilityState → Bool → StepResult
 step_of_close s true = record { outs = Outs.CloseRefused ∷ []; state = s }
 step_of_close s false = record {
   outs = Outs.Closed (length s.pending) ∷ map (λ t. Outs.Notice (Returned t)) (timers_of s.pending);
@@ -142,7 +142,7 @@ step_of_close s false = record {
 
 -- one event, by the verdict on it; an accepted start or restart gets the place, which is a free choice of the
 -- wheel
-abbrev pub step : FacilityState → SingleEvent → ℕ → Step
+abbrev pub step : FacilityState → SingleEvent → ℕ → StepResult
 step s (Asked client number wanted) place = step_of_request s client number wanted place
     (not_taken s client number)
 step s Tick place = step_of_tick s (tick_refusal s)
@@ -150,7 +150,7 @@ step s Close place = step_of_close s s.is_closed
 
 -- a refused event: its only out is the refusal, and it changes nothing but the number of a request that was
 -- taken
-abbrev pub refused : FacilityState → SingleEvent → Refusal → Step
+abbrev pub refused : FacilityState → SingleEvent → Refusal → StepResult
 refused s (Asked client number wanted) (RequestNotTaken reason) =
     record { outs = Outs.NotTaken client number reason ∷ []; state = s }
 refused s (Asked client number wanted) (RequestRefused reason) =

@@ -94,7 +94,7 @@ impl Links {
 
     /// Does nothing at run time. Its contract is a lemma: no key is in two places.
     #[inline]
-    pub fn keys_are_apart(&self)
+    pub fn lemma_keys_unique(&self)
         ensures { AreApart self.now.lists }
     {
         // Read, so that the prover knows the invariant here.

@@ -78,8 +78,8 @@ impl<W: Wheel> Wheel for Refusing<W> {
         self.wheel.next_deadline()
     }
 
-    fn names_one(&self, handle: Handle) {
-        self.wheel.names_one(handle)
+    fn lemma_names_one(&self, handle: Handle) {
+        self.wheel.lemma_names_one(handle)
     }
 
     fn per_tick(&mut self) {

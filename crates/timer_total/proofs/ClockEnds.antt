@@ -1,7 +1,7 @@
 -- Why the clock does not advance, if it is at its end.
 use Rattle.std.proofs.Common.{ℕ, ◌≡◌, [], refl, sym, ◌∙◌, ap, inr}
 use Rattle.timer_base.specs.WheelState.{WheelState, IsWellFormed}
-use Rattle.timer_total.specs.declared.fault.TickFault.TheVariants as tick
+use Rattle.timer_total.specs.declared.fault.AdvanceFault.TheVariants as tick
 use Rattle.timer_total.specs.Refusals.{WhyNotTicked}
 use Rattle.timer_total.specs.Ticks.{numbered, none_due, none_pending}
 

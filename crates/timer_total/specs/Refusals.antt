@@ -8,8 +8,8 @@ use Rattle.timer_total.specs.declared.fault.StartFault.{StartFault}
 use Rattle.timer_total.specs.declared.fault.StartFault.TheVariants as start
 use Rattle.timer_total.specs.declared.fault.RestartFault.{RestartFault}
 use Rattle.timer_total.specs.declared.fault.RestartFault.TheVariants as restart
-use Rattle.timer_total.specs.declared.fault.TickFault.{TickFault}
-use Rattle.timer_total.specs.declared.fault.TickFault.TheVariants as tick
+use Rattle.timer_total.specs.declared.fault.AdvanceFault.{AdvanceFault}
+use Rattle.timer_total.specs.declared.fault.AdvanceFault.TheVariants as tick
 
 -- the timer that a start adds: the next serial, and the action under the client 0 and the number 0
 abbrev pub next_timer : ℕ → ℕ → WheelState → Timer
@@ -82,7 +82,7 @@ WhyNotRestarted handle interval w fault =
     × (LAST ≤ w.last_serial))
 
 -- why the clock does not advance; at its end nothing is left, neither due nor pending
-abbrev pub WhyNotTicked : WheelState → TickFault → Type 0
+abbrev pub WhyNotTicked : WheelState → AdvanceFault → Type 0
 WhyNotTicked w fault =
     ((fault ≡ tick.Due) × (0 < length w.due))
     ⊎ ((fault ≡ tick.ClockEnd) × (w.due ≡ []) × (w.now ≡ w.last_tick) × (w.pending ≡ []))

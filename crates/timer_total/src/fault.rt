@@ -29,7 +29,7 @@ pub enum RestartFault {
 
 /// Why the clock did not advance.
 #[derive(Clone, Copy, Debug, PartialEq, Eq, Error)]
-pub enum TickFault {
+pub enum AdvanceFault {
     #[error("a timer that expired was not yet taken")]
     Due,
     #[error("the clock is at its last tick")]

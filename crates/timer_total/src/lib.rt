@@ -10,5 +10,5 @@ mod fault;
 mod replacement;
 mod timers;
 
-pub use fault::{RestartFault, StartFault, TickFault};
+pub use fault::{RestartFault, StartFault, AdvanceFault};
 pub use timers::Timers;

@@ -7,7 +7,7 @@ ghost use Rattle.timer_total.specs.Deadlines.{interval_until, after_start_due, a
 ghost use Rattle.timer_total.specs.Refusals.{next_timer, left_until, held_at, after_removal, IsStartable, IsRoomUsed, IsAt, WhyNotStarted, WhyNotRestarted, WhyNotTicked};
 ghost use Rattle.timer_total.specs.Ticks.{Passes, numbered};
 
-use crate::fault::{RestartFault, StartFault, TickFault};
+use crate::fault::{RestartFault, StartFault, AdvanceFault};
 use crate::replacement::replace;
 use std::marker::Model;
 use timer_base::{Handle, LAST, OutOfMemory, Timer, Wheel};
@@ -34,7 +34,7 @@ impl<W: Wheel + Drop> Model for Timers<W> {
 
 impl<W: Wheel + Drop> Timers<W> {
     /// Wraps a wheel. The next start gets the serial after `last_serial`.
-    pub fn over(wheel: W, last_serial: u64) -> Timers<W>
+    pub fn new(wheel: W, last_serial: u64) -> Timers<W>
         requires { IsCounted last_serial (W.state wheel) }
         ensures { result ≡ numbered last_serial (W.state wheel) }
     {
@@ -225,7 +225,7 @@ impl<W: Wheel + Drop> Timers<W> {
         ensures stopped { self.new ≡ after_removal handle self.old }
         ensures dead { held_at handle self.new ≡ None }
     {
-        self.wheel.names_one(handle);
+        self.wheel.lemma_names_one(handle);
         match self.wheel.stop(handle) {
             Some(timer) => Some(timer),
             None => self.wheel.withdraw(handle),
@@ -248,7 +248,7 @@ impl<W: Wheel + Drop> Timers<W> {
         ensures fault { IfErr result (WhyNotRestarted handle interval self.old) }
         ensures err { OnErr result (self.new ≡ self.old) }
     {
-        self.admit_again(handle, interval)?;
+        self.check_restart(handle, interval)?;
         let timer = self.next(interval, action);
         match replace(&mut self.wheel, handle, timer) {
             Some(made) => {
@@ -293,7 +293,7 @@ impl<W: Wheel + Drop> Timers<W> {
         ensures fault { IfErr result (WhyNotRestarted handle 1 self.old) }
         ensures err { OnErr result (self.new ≡ self.old) }
     {
-        self.admit_again(handle, 1)?;
+        self.check_restart(handle, 1)?;
         let timer = self.next(1, action);
         match replace(&mut self.wheel, handle, timer) {
             Some(made) => {
@@ -306,7 +306,7 @@ impl<W: Wheel + Drop> Timers<W> {
     }
 
     /// Whether a restart of the timer with this handle is accepted.
-    fn admit_again(&self, handle: Handle, interval: u64) -> Result<(), RestartFault>
+    fn check_restart(&self, handle: Handle, interval: u64) -> Result<(), RestartFault>
         ensures in_order { IfOk result (λ _. IsAt handle self.now × IsStartable interval self.now) }
         ensures fault { IfErr result (WhyNotRestarted handle interval self.now) }
     {
@@ -326,16 +326,16 @@ impl<W: Wheel + Drop> Timers<W> {
     }
 
     /// Advances the clock by one tick: the pending timers with that deadline expire, and wait to be taken.
-    pub fn tick(&mut self) -> Result<(), TickFault>
+    pub fn tick(&mut self) -> Result<(), AdvanceFault>
         ensures ticked { IfOk result (λ _. (self.old.due ≡ []) × (self.new ≡ after_tick self.old)) }
         ensures fault { IfErr result (WhyNotTicked self.old) }
         ensures err { OnErr result (self.new ≡ self.old) }
     {
         if self.wheel.has_due() {
-            return Err(TickFault::Due);
+            return Err(AdvanceFault::Due);
         }
         if self.wheel.now() == self.wheel.last_tick() {
-            return Err(TickFault::ClockEnd);
+            return Err(AdvanceFault::ClockEnd);
         }
         self.wheel.per_tick();
         Ok(())
@@ -345,18 +345,18 @@ impl<W: Wheel + Drop> Timers<W> {
     /// were passed: 0 only if `most` is 0.
     ///
     /// Stretches in which nothing expires are skipped, as far as the wheel can skip them.
-    pub fn advance(&mut self, most: u64) -> Result<u64, TickFault>
+    pub fn advance(&mut self, most: u64) -> Result<u64, AdvanceFault>
         ensures passed { IfOk result (λ passed. (self.old.due ≡ []) × (self.old.now < self.old.last_tick)
             × Passes most passed self.old self.new) }
         ensures fault { IfErr result (WhyNotTicked self.old) }
         ensures err { OnErr result (self.new ≡ self.old) }
     {
         if self.wheel.has_due() {
-            return Err(TickFault::Due);
+            return Err(AdvanceFault::Due);
         }
         let left = self.wheel.last_tick() - self.wheel.now();
         if left == 0 {
-            return Err(TickFault::ClockEnd);
+            return Err(AdvanceFault::ClockEnd);
         }
         if most == 0 {
             return Ok(0);

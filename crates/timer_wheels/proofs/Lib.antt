@@ -21,7 +21,7 @@ pub mod LeapLemmas
 pub mod WideVisits
 pub mod NextVisitLemmas
 pub mod HierLeaps
-pub mod StoppingLemmas
+pub mod HierUpdateLemmas
 pub mod ClockDigits
 pub mod TableLaws
 pub mod ReplaceLemmas
@@ -30,5 +30,5 @@ pub mod WakeUpLemmas
 pub mod SlotLaws
 pub mod WithdrawLemmas
 pub mod DeadlineLemmas
-pub mod VisitingLemmas
+pub mod IterationLemmas
 pub mod MadeDueLemmas

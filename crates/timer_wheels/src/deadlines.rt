@@ -59,7 +59,7 @@ fn least_in(links: &Links, list: usize) -> Option<u64>
     requires { list < length links.now.lists }
     ensures { IsLeastDeadline result (timers_in (list_at list links.now.lists)) }
 {
-    links.keys_are_apart();
+    links.lemma_keys_unique();
     let mut least = None;
     let mut at = links.front(list);
     for step in 0..links.len() {

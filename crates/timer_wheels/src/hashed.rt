@@ -28,7 +28,7 @@ ghost use Rattle.timer_wheels.specs.Hashed.{slot_of, rounds_of, IsHashed, AreInB
 
 use crate::buckets::Buckets;
 use crate::deadlines::first_of_all;
-use crate::naming::names_one;
+use crate::names::lemma_names_one;
 use crate::revolutions::skip_revolutions;
 use crate::sweep::{next_sweep, slot_after, sweep_tick};
 use std::alloc::Global;
@@ -307,8 +307,8 @@ impl Wheel for HashedWheel {
         self.buckets.revive(handle, bucket, timer, rounds)
     }
 
-    fn names_one(&self, handle: Handle) {
-        names_one(&self.buckets, handle)
+    fn lemma_names_one(&self, handle: Handle) {
+        lemma_names_one(&self.buckets, handle)
     }
 
     fn list(&self) -> Result<Vec<Timer>, OutOfMemory> {

@@ -69,11 +69,11 @@ use crate::deadlines::first_of_wheels;
 use crate::digits::{bucket_of, buckets_of, last_tick_of};
 use crate::leap::{advance_until_due, first_visit, visits_between};
 use crate::migration::next_tick;
-use crate::naming::names_one;
+use crate::names::lemma_names_one;
 use crate::occupied::Occupied;
-use crate::stopping::{make_timer_due, restart_timer, revive_timer, stop_timer};
+use crate::hier_updates::{make_timer_due, restart_timer, revive_timer, stop_timer};
 use crate::table::Table;
-use crate::visiting::held_from;
+use crate::iteration::held_from;
 use std::alloc::Global;
 use timer_base::{Handle, LAST, MakeFault, OutOfMemory, Timer, Wheel};
 use timer_links::Links;
@@ -445,8 +445,8 @@ impl Wheel for HierWheel {
         Some(revived)
     }
 
-    fn names_one(&self, handle: Handle) {
-        names_one(&self.buckets, handle)
+    fn lemma_names_one(&self, handle: Handle) {
+        lemma_names_one(&self.buckets, handle)
     }
 
     fn list(&self) -> Result<Vec<Timer>, OutOfMemory> {

@@ -143,7 +143,7 @@ fn front_deadline(links: &Links, list: usize) -> Option<u64>
     requires { list < length links.now.lists }
     ensures { result ≡ first_deadline (list_at list links.now.lists) }
 {
-    links.keys_are_apart();
+    links.lemma_keys_unique();
     let key = links.front(list)?;
     let node = links.get(key)?;
     Some(node.timer.deadline)
@@ -155,7 +155,7 @@ fn next_deadline(links: &Links, list: usize) -> Option<u64>
     requires { list < length links.now.lists }
     ensures { result ≡ second_deadline (list_at list links.now.lists) }
 {
-    links.keys_are_apart();
+    links.lemma_keys_unique();
     let first = links.front(list)?;
     let key = links.next(first)?;
     let node = links.get(key)?;

@@ -83,7 +83,7 @@ fn fewest_in_list(links: &Links, list: usize, most: u64) -> u64
         let Some(key) = at else {
             break;
         };
-        links.keys_are_apart();
+        links.lemma_keys_unique();
         let here = links.step(key);
         fewest = fewest.min(here.rounds);
         at = here.next;
@@ -120,7 +120,7 @@ fn count_down_list(links: &mut Links, list: usize, rounds: u64)
         let Some(key) = at else {
             break;
         };
-        links.keys_are_apart();
+        links.lemma_keys_unique();
         let here = links.step(key);
         links.set_rounds(key, here.rounds - rounds);
         at = here.next;

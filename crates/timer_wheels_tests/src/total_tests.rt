@@ -374,7 +374,7 @@ fn play<W: Wheel + Drop>(
 fn play_on_table(rt: &impl Abort, alloc: Global, row: Row, table: Table) -> Result<(), Fail> {
     let (name, first_tick, last_serial, calls) = row;
     let wheel = HierWheel::with_table(alloc, table, first_tick)?;
-    let mut timers = Timers::over(wheel, last_serial);
+    let mut timers = Timers::new(wheel, last_serial);
     play(rt, alloc, &mut timers, name, calls)?;
     Ok(())
 }
@@ -382,11 +382,11 @@ fn play_on_table(rt: &impl Abort, alloc: Global, row: Row, table: Table) -> Resu
 /// Makes the calls on each wheel whose last tick is `LAST`.
 fn play_on_long_clocks(rt: &impl Abort, alloc: Global, row: Row) -> Result<(), Fail> {
     let (name, first_tick, last_serial, calls) = row;
-    let mut timers = Timers::over(PlainWheel::new(alloc, first_tick)?, last_serial);
+    let mut timers = Timers::new(PlainWheel::new(alloc, first_tick)?, last_serial);
     play(rt, alloc, &mut timers, name, calls)?;
     for slots in [1, 8] {
         let wheel = HashedWheel::new(alloc, slots, first_tick)?;
-        let mut timers = Timers::over(wheel, last_serial);
+        let mut timers = Timers::new(wheel, last_serial);
         play(rt, alloc, &mut timers, name, calls)?;
     }
     play_on_table(rt, alloc, row, Table::Wide)

@@ -14,15 +14,15 @@ returns-in_default g c =
     let none : List Progress = replicate c.clients.result (record { served = 0; flushed = 0 }) in
     Drives-turns g.I.Inlet.kind c.args.last c.args.goal c.args.limit false c.args.desk c.args.desk none DriveEnds.OutOfMemory
     c.clients.result
-    (λ placed k. c.notices_are_owed.ensures c.args.desk.facility placed k c.keeps.ensures.sound) c.clients.ensures
+    (λ placed k. c.notices_are_owed.ensures c.args.desk.facility placed k c.lemma_invariant.ensures.sound) c.clients.ensures
     (length-replicate c.clients.result (record { served = 0; flushed = 0 }))
-    (Turns-nothing g.I.Inlet.kind c.args.last c.args.goal false c.args.desk none c.keeps.ensures.held)
+    (Turns-nothing g.I.Inlet.kind c.args.last c.args.goal false c.args.desk none c.lemma_invariant.ensures.held)
     (λ is. absurd (cc)) (λ is. absurd (cc))
     (λ _. refl) (λ is. absurd (cc))
 
 pub loop-idle-init : goal.loop-idle-init
 loop-idle-init g c = record {
-  turns = Turns-nothing g.I.Inlet.kind c.args.last c.args.goal false c.args.desk c.in-Ok.progress.items c.keeps.ensures.held;
+  turns = Turns-nothing g.I.Inlet.kind c.args.last c.args.goal false c.args.desk c.in-Ok.progress.items c.lemma_invariant.ensures.held;
   clients = let n = ap (λ ps. length ps) c.in-Ok.ensures ∙ length-replicate c.clients.result (record { served = 0; flushed = 0 })
       in omega (arith, n, c.clients.ensures, c.in-Ok.progress.ok);
   within = omega arith;
@@ -39,7 +39,7 @@ returns-then-all_done g c =
     omega (arith, was.clients, was.turns.told.clients.same_clients, c.clients.ensures, c.loop-idle.progress.ok) in
     Drives-turns g.I.Inlet.kind c.args.last c.args.goal c.args.limit false c.args.desk c.loop-idle.desk c.loop-idle.progress.items
     DriveEnds.Done
-    c.clients.result (λ placed k. c.notices_are_owed.ensures c.args.desk.facility placed k c.keeps.ensures.sound) c.clients.ensures len
+    c.clients.result (λ placed k. c.notices_are_owed.ensures c.args.desk.facility placed k c.lemma_invariant.ensures.sound) c.clients.ensures len
     turns
     (λ is k p l.
     let done = subst (λ (ps : List Progress). (n : ℕ) (q : Progress) → n < length ps
@@ -69,7 +69,7 @@ returns g c =
     (subst (λ ps. IdleSince g.I.Inlet.kind c.args.last c.args.goal c.loop-idle.idle c.args.desk c.loop-idle.desk ps qs) c.in-Ok.ensures
     (was.since (omega (arith, a, at_limit)))) in
     Drives-turns g.I.Inlet.kind c.args.last c.args.goal c.args.limit false c.args.desk c.loop-idle.desk qs DriveEnds.Limit c.clients.result
-    (λ placed k. c.notices_are_owed.ensures c.args.desk.facility placed k c.keeps.ensures.sound) c.clients.ensures len
+    (λ placed k. c.notices_are_owed.ensures c.args.desk.facility placed k c.lemma_invariant.ensures.sound) c.clients.ensures len
     (idle_whole g.I.Inlet.kind c.args.last c.args.goal c.args.limit c.args.desk c.loop-idle.desk none qs long since)
     (λ is. absurd (cc)) (λ is some. was.left (omega (arith, some, at_limit))) (λ _. refl)
     (λ _. ends_idle g.I.Inlet.kind c.args.last c.args.goal c.args.limit c.args.desk c.loop-idle.desk qs c.clients.result
@@ -77,7 +77,7 @@ returns g c =
     (λ (a : c.args.limit ≤ 0).
     let zero : 0 ≡ c.args.limit = omega (arith, a) in
     Drives-turns g.I.Inlet.kind c.args.last c.args.goal c.args.limit false c.args.desk c.loop-idle.desk qs DriveEnds.Limit c.clients.result
-    (λ placed k. c.notices_are_owed.ensures c.args.desk.facility placed k c.keeps.ensures.sound) c.clients.ensures len turns
+    (λ placed k. c.notices_are_owed.ensures c.args.desk.facility placed k c.lemma_invariant.ensures.sound) c.clients.ensures len turns
     (λ is. absurd (cc)) (λ is some. was.left (omega (arith, some, at_limit))) (λ _. refl)
     (λ _. subst (λ n. EndsIdle c.args.goal n (clients_of c.args.desk) turns.report) zero
     (ends_at_once g.I.Inlet.kind c.args.last c.args.goal (clients_of c.args.desk) turns.report)))
@@ -141,7 +141,7 @@ returns-in-OutOfMemory g c =
     c.in-Ok.progress.items
     c.loop-idle.progress.items c.one_turn.new.progress.items len was.turns c.in-OutOfMemory.ensures.turns.turns in
     Drives-turns g.I.Inlet.kind c.args.last c.args.goal c.args.limit true c.args.desk c.one_turn.new.desk c.one_turn.new.progress.items
-    DriveEnds.OutOfMemory c.clients.result (λ placed k. c.notices_are_owed.ensures c.args.desk.facility placed k c.keeps.ensures.sound)
+    DriveEnds.OutOfMemory c.clients.result (λ placed k. c.notices_are_owed.ensures c.args.desk.facility placed k c.lemma_invariant.ensures.sound)
     c.clients.ensures (omega (
       arith,
       c.in-OutOfMemory.ensures.clients,

@@ -5,7 +5,7 @@ use Rattle.timer_desk_c.proofs.rounds.flush_all.Goals as goal
 
 pub loop-client-init : goal.loop-client-init
 loop-client-init g c = record {
-  done = flushing_nothing c.args.desk.now c.keeps.ensures.held;
+  done = flushing_nothing c.args.desk.now c.lemma_invariant.ensures.held;
   clients = refl;
   all = c.clients-client-end.ensures;
 }
@@ -19,7 +19,7 @@ loop-client-preserved g c =
     let all = was.all in
     let clients = was.clients in
     let same = was.done.as_many_backlogs in
-    let many = c.keeps.ensures.as_many in
+    let many = c.lemma_invariant.ensures.as_many in
     let low : k < clients_of c.loop-client.desk = omega (arith, test, all, clients) in
     let few : k < length c.loop-client.desk.backlogs = omega (arith, test, all, same, many) in record {
       done = subst (λ (b : Bool). IsFlushing (k + 1) b c.args.desk.now c.flush.new.self) (sym c.either-busy.ensures)

@@ -4,7 +4,7 @@ use Rattle.timer_desk_c.proofs.rounds.serve_all.Goals as goal
 
 pub loop-client-init : goal.loop-client-init
 loop-client-init g c = record {
-  done = round_nothing c.args.most c.args.desk.now c.keeps.ensures.held;
+  done = round_nothing c.args.most c.args.desk.now c.lemma_invariant.ensures.held;
   clients = refl;
   all = c.clients-client-end.ensures;
 }

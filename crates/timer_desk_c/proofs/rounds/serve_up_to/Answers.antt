@@ -3,7 +3,7 @@ use Rattle.timer_desk_c.proofs.RoundLemmas.{IsServing, serving_nothing, serving_
 use Rattle.timer_desk_c.proofs.rounds.serve_up_to.Goals as goal
 
 pub loop-init : goal.loop-init
-loop-init g c = record { serving = serving_nothing c.args.client c.args.desk.now c.keeps.ensures.held; clients = refl }
+loop-init g c = record { serving = serving_nothing c.args.client c.args.desk.now c.lemma_invariant.ensures.held; clients = refl }
 
 pub loop-preserved : goal.loop-preserved
 loop-preserved g c =

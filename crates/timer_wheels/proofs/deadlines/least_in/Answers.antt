@@ -9,7 +9,7 @@ loop-step-init c = seeking-begun c.args.list c.args.links.now.lists c.front-at.r
 
 pub loop-step-preserved : goal.loop-step-preserved
 loop-step-preserved c =
-    seeking-one c.args.list c.loop-step.step c.args.links.now.lists c.requires c.keys_are_apart.ensures c.in-Some.key c.loop-step.at
+    seeking-one c.args.list c.loop-step.step c.args.links.now.lists c.requires c.lemma_keys_unique.ensures c.in-Some.key c.loop-step.at
     c.next-at.result c.loop-step.least c.earlier-least.result c.in-Some-get.node c.loop-step.invariant c.in-Some.is
     c.in-Some-get.ensures c.earlier-least.ensures
     (λ w. c.next-at.ensures c.args.list c.loop-step.invariant.past w.node w.rest c.requires w.rows)
@@ -27,5 +27,5 @@ returns-in_default-get c =
     let links = c.args.links.now.lists in
     let i = c.loop-step.invariant in
     let w = next_row c.args.list c.loop-step.step links c.loop-step.at c.in-Some.key i.past i.walk c.in-Some.is in
-    absurd (node_none w.node (sym (found c.args.list c.loop-step.step links c.requires c.keys_are_apart.ensures c.in-Some.key i.past w)
+    absurd (node_none w.node (sym (found c.args.list c.loop-step.step links c.requires c.lemma_keys_unique.ensures c.in-Some.key i.past w)
     ∙ sym c.in_default-get.ensures))

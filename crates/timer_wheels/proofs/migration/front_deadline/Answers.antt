@@ -4,12 +4,12 @@ use Rattle.timer_wheels.proofs.migration.front_deadline.Goals as goal
 
 pub returns-in_err-node : goal.returns-in_err-node
 returns-in_err-node c = absurd (never_none c.args.list c.in_ok-key.key c.args.links.now.lists
-    (front_of c.args.list c.in_ok-key.key c.args.links.now.lists c.keys_are_apart.ensures c.requires (sym c.in_ok-key.was ∙
+    (front_of c.args.list c.in_ok-key.key c.args.links.now.lists c.lemma_keys_unique.ensures c.requires (sym c.in_ok-key.was ∙
     c.front.ensures))
     (sym c.in_err-node.was ∙ c.get.ensures))
 
 pub returns : goal.returns
 returns c = front_deadline_is c.args.list c.in_ok-key.key c.in_ok-node.node c.args.links.now.lists
-    (front_of c.args.list c.in_ok-key.key c.args.links.now.lists c.keys_are_apart.ensures c.requires (sym c.in_ok-key.was ∙
+    (front_of c.args.list c.in_ok-key.key c.args.links.now.lists c.lemma_keys_unique.ensures c.requires (sym c.in_ok-key.was ∙
     c.front.ensures))
     (sym c.in_ok-node.was ∙ c.get.ensures)

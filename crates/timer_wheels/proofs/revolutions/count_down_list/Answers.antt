@@ -15,7 +15,7 @@ step-here-requires c =
     let w = next_left c.args.list s.step c.args.rounds c.args.links.now.lists s.links.lists s.at c.in-Some.key s.invariant.rows
     c.in-Some.is in
     counting-in_use c.args.list s.step c.args.rounds c.args.links.now.lists s.links.lists c.requires.list c.in-Some.key w
-    c.keys_are_apart.ensures
+    c.lemma_keys_unique.ensures
 
 pub overflow_sub-here : goal.overflow_sub-here
 overflow_sub-here c =
@@ -24,7 +24,7 @@ overflow_sub-here c =
     c.in-Some.is in
     counting-enough_left c.args.list s.step c.args.rounds c.args.links.now.lists s.links.lists c.requires.list c.in-Some.key w
     c.step-here.result.rounds
-    c.keys_are_apart.ensures c.step-here.ensures.rounds c.requires.enough
+    c.lemma_keys_unique.ensures c.step-here.ensures.rounds c.requires.enough
 
 pub set_rounds-requires : goal.set_rounds-requires
 set_rounds-requires c =
@@ -32,7 +32,7 @@ set_rounds-requires c =
     let w = next_left c.args.list s.step c.args.rounds c.args.links.now.lists s.links.lists s.at c.in-Some.key s.invariant.rows
     c.in-Some.is in
     counting-in_use c.args.list s.step c.args.rounds c.args.links.now.lists s.links.lists c.requires.list c.in-Some.key w
-    c.keys_are_apart.ensures
+    c.lemma_keys_unique.ensures
 
 pub loop-step-preserved : goal.loop-step-preserved
 loop-step-preserved c =
@@ -44,7 +44,7 @@ loop-step-preserved c =
       rows = counting-one c.args.list s.step c.args.rounds c.args.links.now.lists s.links.lists c.requires.list c.in-Some.key w
           c.step-here.result.rounds
           (c.step-here.result.rounds - c.args.rounds) c.set_rounds.new.self.lists c.step-here.result.next
-          c.keys_are_apart.ensures c.step-here.ensures.rounds refl c.set_rounds.ensures.set c.step-here.ensures.next;
+          c.lemma_keys_unique.ensures c.step-here.ensures.rounds refl c.set_rounds.ensures.set c.step-here.ensures.next;
     }
 
 pub returns-after-loop-step-clause-counted : goal.returns-after-loop-step-clause-counted

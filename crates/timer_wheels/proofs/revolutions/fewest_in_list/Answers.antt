@@ -9,13 +9,13 @@ loop-step-init c = measured-none c.args.list c.args.links.now.lists c.front-at.r
 pub step-here-requires : goal.step-here-requires
 step-here-requires c =
     let s = c.loop-step in
-    measured-in_use c.args.list s.step c.args.links.now.lists c.requires c.keys_are_apart.ensures c.in-Some.key s.at c.args.most s.fewest
+    measured-in_use c.args.list s.step c.args.links.now.lists c.requires c.lemma_keys_unique.ensures c.in-Some.key s.at c.args.most s.fewest
     s.invariant c.in-Some.is
 
 pub loop-step-preserved : goal.loop-step-preserved
 loop-step-preserved c =
     let s = c.loop-step in
-    measured-one c.args.list s.step c.args.links.now.lists c.requires c.keys_are_apart.ensures c.in-Some.key s.at c.step-here.result.next
+    measured-one c.args.list s.step c.args.links.now.lists c.requires c.lemma_keys_unique.ensures c.in-Some.key s.at c.step-here.result.next
     c.args.most s.fewest c.step-here.result.rounds c.min-fewest.result s.invariant c.in-Some.is c.step-here.ensures.rounds
     c.step-here.ensures.next c.min-fewest.ensures
 

@@ -6,7 +6,7 @@ use Rattle.timer_wheels.proofs.walks.copy_list.Goals as goal
 pub loop-step-preserved : goal.loop-step-preserved
 loop-step-preserved c =
     let links = c.args.links.now.lists in
-    copied c.args.list c.loop-step.step links c.requires c.keys_are_apart.ensures c.in-Some.key c.loop-step.at c.next-at.result
+    copied c.args.list c.loop-step.step links c.requires c.lemma_keys_unique.ensures c.in-Some.key c.loop-step.at c.next-at.result
     c.in-Some-get.node c.args.timers.now.items c.loop-step.timers.items c.push.new.self.items c.loop-step.invariant c.in-Some.is
     c.in-Some-get.ensures c.in_ok-push.ensures.items
     (λ w. c.next-at.ensures c.args.list c.loop-step.invariant.past w.node w.rest c.requires w.rows)
@@ -24,5 +24,5 @@ returns-in_default-get c =
     let links = c.args.links.now.lists in
     let i = c.loop-step.invariant in
     let w = next_row c.args.list c.loop-step.step links c.loop-step.at c.in-Some.key i.past i.walk c.in-Some.is in
-    absurd (node_none w.node (sym (found c.args.list c.loop-step.step links c.requires c.keys_are_apart.ensures c.in-Some.key i.past w)
+    absurd (node_none w.node (sym (found c.args.list c.loop-step.step links c.requires c.lemma_keys_unique.ensures c.in-Some.key i.past w)
     ∙ sym c.in_default-get.ensures))

@@ -7,11 +7,11 @@ pub loop-step-init : goal.loop-step-init
 loop-step-init c = counted-none c.args.list c.args.links.now.lists c.front-at.result c.front-at.ensures
 
 pub next-at-requires : goal.next-at-requires
-next-at-requires c = counted-in_use c.args.list c.loop-step.step c.args.links.now.lists c.requires c.keys_are_apart.ensures c.in-Some.key
+next-at-requires c = counted-in_use c.args.list c.loop-step.step c.args.links.now.lists c.requires c.lemma_keys_unique.ensures c.in-Some.key
     c.loop-step.at c.loop-step.invariant c.in-Some.is
 
 pub loop-step-preserved : goal.loop-step-preserved
-loop-step-preserved c = counted-one c.args.list c.loop-step.step c.args.links.now.lists c.requires c.keys_are_apart.ensures c.in-Some.key
+loop-step-preserved c = counted-one c.args.list c.loop-step.step c.args.links.now.lists c.requires c.lemma_keys_unique.ensures c.in-Some.key
     c.loop-step.at c.next-at.result c.loop-step.invariant c.in-Some.is c.next-at.ensures
 
 pub returns : goal.returns

@@ -2,7 +2,7 @@ use Rattle.std.proofs.Common.{[], false, ap, subst, sym, arith}
 use Rattle.std.proofs.lemmas.Grind.{flat_map-append, common_steps}
 use Rattle.timer_facility.specs.State.{IsSound}
 use Rattle.timer_desk.specs.Desk.{DeskState, ReportHolds, AreBehind, step_in}
-use Rattle.timer_desk.proofs.ReportJoining.{ReportHolds-joined, AreBehind-joined, AreOwed-in_time}
+use Rattle.timer_desk.proofs.ReportConcatenation.{ReportHolds-joined, AreBehind-joined, AreOwed-in_time}
 use Rattle.timer_desk.proofs.desk.Desk.turn.Goals as goal
 
 pub loop-step-preserved : goal.loop-step-preserved

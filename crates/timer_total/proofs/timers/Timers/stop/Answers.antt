@@ -6,7 +6,7 @@ pub returns-in-Some-clause-dead : goal.returns-in-Some-clause-dead
 returns-in-Some-clause-dead g c =
     let w = g.W.Wheel.state c.self.inside.wheel in
     stopped_is_dead c.args.handle c.in-Some.timer c.self.inside.last_serial w
-    (g.W.Wheel.state c.stop.new.self) c.names_one.ensures c.in-Some.ensures.timer c.in-Some.ensures.stopped
+    (g.W.Wheel.state c.stop.new.self) c.lemma_names_one.ensures c.in-Some.ensures.timer c.in-Some.ensures.stopped
 
 pub returns-in-None-clause-dead : goal.returns-in-None-clause-dead
 returns-in-None-clause-dead g c =

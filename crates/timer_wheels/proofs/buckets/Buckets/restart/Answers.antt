@@ -14,7 +14,7 @@ replace_node-requires-clause-used c = restart_used c.args.self.now c.args.handle
       later = c.requires.later;
       in_range = c.requires.deadline;
       fresh = c.requires.fresh;
-    }) c.keys_are_apart.ensures c.in_ok-old.old (sym c.look.ensures ∙ c.in_ok-old.was)
+    }) c.lemma_keys_unique.ensures c.in_ok-old.old (sym c.look.ensures ∙ c.in_ok-old.was)
 
 pub invariant_of-self-clause-has_lists : goal.invariant_of-self-clause-has_lists
 invariant_of-self-clause-has_lists c =
@@ -26,7 +26,7 @@ invariant_of-self-clause-has_lists c =
       later = c.requires.later;
       in_range = c.requires.deadline;
       fresh = c.requires.fresh;
-    }) c.keys_are_apart.ensures c.in_ok-old.old (sym c.look.ensures ∙ c.in_ok-old.was))
+    }) c.lemma_keys_unique.ensures c.in_ok-old.old (sym c.look.ensures ∙ c.in_ok-old.was))
 
 pub invariant_of-self-clause-pending : goal.invariant_of-self-clause-pending
 invariant_of-self-clause-pending c =
@@ -38,7 +38,7 @@ invariant_of-self-clause-pending c =
       later = c.requires.later;
       in_range = c.requires.deadline;
       fresh = c.requires.fresh;
-    }) c.keys_are_apart.ensures c.in_ok-old.old (sym c.look.ensures ∙ c.in_ok-old.was))
+    }) c.lemma_keys_unique.ensures c.in_ok-old.old (sym c.look.ensures ∙ c.in_ok-old.was))
 
 pub invariant_of-self-clause-distinct : goal.invariant_of-self-clause-distinct
 invariant_of-self-clause-distinct c =
@@ -50,7 +50,7 @@ invariant_of-self-clause-distinct c =
       later = c.requires.later;
       in_range = c.requires.deadline;
       fresh = c.requires.fresh;
-    }) c.keys_are_apart.ensures c.in_ok-old.old (sym c.look.ensures ∙ c.in_ok-old.was))
+    }) c.lemma_keys_unique.ensures c.in_ok-old.old (sym c.look.ensures ∙ c.in_ok-old.was))
 
 pub invariant_of-self-clause-due : goal.invariant_of-self-clause-due
 invariant_of-self-clause-due c =
@@ -62,7 +62,7 @@ invariant_of-self-clause-due c =
       later = c.requires.later;
       in_range = c.requires.deadline;
       fresh = c.requires.fresh;
-    }) c.keys_are_apart.ensures c.in_ok-old.old (sym c.look.ensures ∙ c.in_ok-old.was))
+    }) c.lemma_keys_unique.ensures c.in_ok-old.old (sym c.look.ensures ∙ c.in_ok-old.was))
 
 pub invariant_of-self-clause-in_order : goal.invariant_of-self-clause-in_order
 invariant_of-self-clause-in_order c =
@@ -74,7 +74,7 @@ invariant_of-self-clause-in_order c =
       later = c.requires.later;
       in_range = c.requires.deadline;
       fresh = c.requires.fresh;
-    }) c.keys_are_apart.ensures c.in_ok-old.old (sym c.look.ensures ∙ c.in_ok-old.was))
+    }) c.lemma_keys_unique.ensures c.in_ok-old.old (sym c.look.ensures ∙ c.in_ok-old.was))
 
 pub returns-clause-restarted : goal.returns-clause-restarted
 returns-clause-restarted c =
@@ -88,4 +88,4 @@ returns-clause-restarted c =
       later = c.requires.later;
       in_range = c.requires.deadline;
       fresh = c.requires.fresh;
-    }) c.keys_are_apart.ensures c.in_ok-old.old (sym c.look.ensures ∙ c.in_ok-old.was))))
+    }) c.lemma_keys_unique.ensures c.in_ok-old.old (sym c.look.ensures ∙ c.in_ok-old.was))))

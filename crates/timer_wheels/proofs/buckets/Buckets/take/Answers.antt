@@ -36,14 +36,14 @@ pub returns-clause-stopped : goal.returns-clause-stopped
 returns-clause-stopped c =
     let b = c.args.self.now in
     rw c.take-taken.ensures.room (ap (with_room b.links.room) (stop-found b.tick b.slots c.args.handle b.links.lists b.has_lists
-    (separated b.last_tick b.tick b.last_serial b.slots b.links.lists b.pending b.due) c.keys_are_apart.ensures b.last_tick b.last_serial
+    (separated b.last_tick b.tick b.last_serial b.slots b.links.lists b.pending b.due) c.lemma_keys_unique.ensures b.last_tick b.last_serial
     c.in_ok-timer.timer c.take-taken.new.self.lists b.distinct (sym c.look.ensures ∙ c.in_ok-timer.was) c.take-taken.ensures.taken))
 
 pub take-taken-requires : goal.take-taken-requires
 take-taken-requires c =
     let b = c.args.self.now in
     let f = look-has b.tick b.slots c.args.handle b.links.lists b.has_lists
-    (separated b.last_tick b.tick b.last_serial b.slots b.links.lists b.pending b.due) c.keys_are_apart.ensures c.in_ok-timer.timer
+    (separated b.last_tick b.tick b.last_serial b.slots b.links.lists b.pending b.due) c.lemma_keys_unique.ensures c.in_ok-timer.timer
     b.distinct
     (sym c.look.ensures ∙ c.in_ok-timer.was) in
     is_used c.args.handle.place f.node b.links.lists f.at

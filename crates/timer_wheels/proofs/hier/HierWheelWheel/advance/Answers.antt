@@ -6,7 +6,7 @@ use Rattle.timer_wheels.specs.Tables.{radices}
 use Rattle.timer_wheels.specs.Placement.{visited_between, hops_of, levels_of}
 use Rattle.timer_wheels.proofs.HierLemmas.{paid_bound, moves_fit}
 use Rattle.timer_wheels.proofs.TableLaws.{of_table}
-use Rattle.timer_wheels.proofs.StoppingLemmas.{any_of, advanced_serial, leapt_paid, leapt_moves}
+use Rattle.timer_wheels.proofs.HierUpdateLemmas.{any_of, advanced_serial, leapt_paid, leapt_moves}
 use Rattle.timer_wheels.proofs.hier.HierWheelWheel.advance.Goals as goal
 
 pub invariant_of-self-clause-few_starts : goal.invariant_of-self-clause-few_starts
