@@ -69,7 +69,8 @@ IsStartedAt deadline action old new handle =
 -- a start was done of a timer that expires at once
 abbrev pub IsStartedDue : ℕ → WheelState → WheelState → Handle → Type 0
 IsStartedDue action old new handle =
-    IsStartable 1 old × (handle.serial ≡ old.last_serial + 1) × (new ≡ after_start_due handle.place action old)
+    IsStartable 1 old × (handle.serial ≡ old.last_serial + 1)
+    × (new ≡ after_start_due handle.place action old)
 
 -- why it was not: an interval until a tick is never 0
 abbrev pub IsStartAtRefusal : ℕ → WheelState → ℕ → Type 0

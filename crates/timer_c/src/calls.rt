@@ -11,7 +11,7 @@ use crate::status::{
     CLOCK_END, DUE, NEVER, NO_MEMORY, NOT_PENDING, OK, SERIALS_SPENT, TOO_LATE, ZERO_INTERVAL,
 };
 use timer_base::{Timer, Wheel};
-use timer_total::{RestartFault, StartFault, AdvanceFault, Timers};
+use timer_total::{AdvanceFault, RestartFault, StartFault, Timers};
 use timer_wheels::HierWheel;
 
 /// Makes room for `most` timers at one time, pending and expired ones together.

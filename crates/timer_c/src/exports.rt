@@ -13,8 +13,8 @@ ghost use Rattle.timer_c.specs.declared.status.TheConstants.{OK, NOT_OPEN, OPEN,
 use crate::c_timers::CTimers;
 use crate::calls;
 use crate::layout::{Counts, Expired, Handle};
-use crate::wheel_maker::wheel_of;
 use crate::status::{NEVER, NO_MEMORY, NOT_OPEN, OK, OPEN};
+use crate::wheel_maker::wheel_of;
 use std::alloc::Global;
 use timer_ffi_base::RawBox;
 use timer_total::Timers;

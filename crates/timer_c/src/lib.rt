@@ -17,9 +17,9 @@ mod c_timers;
 mod calls;
 mod exports;
 mod layout;
-mod wheel_maker;
 mod owned_cell;
 mod status;
+mod wheel_maker;
 
 pub use c_timers::CTimers;
 pub use layout::{Counts, Expired, Handle};

@@ -352,7 +352,8 @@ module _ {I : Type 0} (kind : LineKind I) where
     in_time = in_time-joined x.facility y.facility r q f.facility f.in_time g.in_time;
     right = λ c i b low.
         let within : c < clients_of y = let e = f.clients.same_clients in omega arith in
-        Right-joined kind.take_may_refuse c r q (account_at kind x c i b) (account_at kind y c i b) (account_at kind z c i b) x.facility y.facility
+        Right-joined kind.take_may_refuse c r q (account_at kind x c i b) (account_at kind y c i b) (account_at kind z c i b)
+        x.facility y.facility
         (f.clients.sides c i b low) (g.clients.sides c i b within) f.facility.state_is (f.right c i b low) (g.right c i b within);
     holds = λ c b low.
         Holds-joined kind.take_may_refuse c x.facility y.facility r q (get_or x.backlogs c b).held (get_or y.backlogs c b).held

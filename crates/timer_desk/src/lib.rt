@@ -9,6 +9,7 @@
 #![tactic(auto)]
 
 mod backlog;
+mod constructor;
 mod desk;
 mod dispatch;
 mod driver;
@@ -18,7 +19,6 @@ pub mod laws;
 mod locked;
 mod locked_maker;
 mod memory;
-mod constructor;
 mod progress;
 mod queues;
 mod report;
@@ -30,13 +30,13 @@ mod ticks;
 mod turn;
 mod word;
 
+pub use constructor::{MAX_ROOM, MIN_ROOM, OpenFault};
 pub use desk::Desk;
 pub use driver::{DriveEnd, Driven, drive, drive_by};
 pub use inlet::{Inlet, Put, Taken};
 pub use locked::{LockedEnd, LockedInlet};
 pub use locked_maker::locked_line;
 pub use memory::MemoryInlet;
-pub use constructor::{MAX_ROOM, MIN_ROOM, OpenFault};
 pub use report::{Done, Served, Step};
 pub use ring::{ClientEnd, ClientReader, RequestsEnded, RingInlet, Unsent, WordsEnded};
 pub use ring_maker::ring_line;

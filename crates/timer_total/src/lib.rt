@@ -10,5 +10,5 @@ mod fault;
 mod replacement;
 mod timers;
 
-pub use fault::{RestartFault, StartFault, AdvanceFault};
+pub use fault::{AdvanceFault, RestartFault, StartFault};
 pub use timers::Timers;

@@ -7,7 +7,7 @@ ghost use Rattle.timer_total.specs.Deadlines.{interval_until, after_start_due, a
 ghost use Rattle.timer_total.specs.Refusals.{next_timer, left_until, held_at, after_removal, IsStartable, IsRoomUsed, IsAt, WhyNotStarted, WhyNotRestarted, WhyNotTicked};
 ghost use Rattle.timer_total.specs.Ticks.{Passes, numbered};
 
-use crate::fault::{RestartFault, StartFault, AdvanceFault};
+use crate::fault::{AdvanceFault, RestartFault, StartFault};
 use crate::replacement::replace;
 use std::marker::Model;
 use timer_base::{Handle, LAST, OutOfMemory, Timer, Wheel};
@@ -179,7 +179,7 @@ impl<W: Wheel + Drop> Timers<W> {
     }
 
     /// Starts a timer that expires at once, under the next serial: it is started for the next tick, and then
-    /// made due. Fails as a start for the next tick. It is `start_at` for a tick that is not after the present one.
+    /// made due. Fails as a start for the next tick. `start_at` calls it for a tick that is not after now.
     pub fn start_due(&mut self, action: u64) -> Result<Handle, StartFault>
         ensures started { IfOk result (λ handle. self.new ≡ after_start_due handle.place action self.old) }
         ensures named { IfOk result (λ handle. handle.serial ≡ self.old.last_serial + 1) }

@@ -7,7 +7,8 @@ use Rattle.timer_desk.proofs.driver.one_turn.Goals as goal
 
 pub returns-in_default-clause-turns : goal.returns-in_default-clause-turns
 returns-in_default-clause-turns g c = record {
-  turns = Turns-nothing g.I.Inlet.kind c.args.last c.args.goal true c.args.desk.now c.args.progress.now.items c.lemma_invariant.ensures.held;
+  turns = Turns-nothing g.I.Inlet.kind c.args.last c.args.goal true c.args.desk.now c.args.progress.now.items
+      c.lemma_invariant.ensures.held;
   once = λ is. absurd (cc);
 }
 

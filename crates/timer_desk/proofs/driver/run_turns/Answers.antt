@@ -39,7 +39,8 @@ returns-then-all_done g c =
     omega (arith, was.clients, was.turns.told.clients.same_clients, c.clients.ensures, c.loop-idle.progress.ok) in
     Drives-turns g.I.Inlet.kind c.args.last c.args.goal c.args.limit false c.args.desk c.loop-idle.desk c.loop-idle.progress.items
     DriveEnds.Done
-    c.clients.result (λ placed k. c.notices_are_owed.ensures c.args.desk.facility placed k c.lemma_invariant.ensures.sound) c.clients.ensures len
+    c.clients.result (λ placed k. c.notices_are_owed.ensures c.args.desk.facility placed k c.lemma_invariant.ensures.sound)
+    c.clients.ensures len
     turns
     (λ is k p l.
     let done = subst (λ (ps : List Progress). (n : ℕ) (q : Progress) → n < length ps
@@ -141,7 +142,8 @@ returns-in-OutOfMemory g c =
     c.in-Ok.progress.items
     c.loop-idle.progress.items c.one_turn.new.progress.items len was.turns c.in-OutOfMemory.ensures.turns.turns in
     Drives-turns g.I.Inlet.kind c.args.last c.args.goal c.args.limit true c.args.desk c.one_turn.new.desk c.one_turn.new.progress.items
-    DriveEnds.OutOfMemory c.clients.result (λ placed k. c.notices_are_owed.ensures c.args.desk.facility placed k c.lemma_invariant.ensures.sound)
+    DriveEnds.OutOfMemory c.clients.result (λ placed k. c.notices_are_owed.ensures c.args.desk.facility placed k
+    c.lemma_invariant.ensures.sound)
     c.clients.ensures (omega (
       arith,
       c.in-OutOfMemory.ensures.clients,

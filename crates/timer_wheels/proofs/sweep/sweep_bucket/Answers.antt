@@ -37,7 +37,8 @@ loop-step-preserved c =
       room = c.sweep_node.ensures.room ∙ s.invariant.room;
       rows = passed c.args.bucket c.args.due s.step c.args.links.now.lists s.links.lists c.requires.other c.requires.bucket c.requires.due
           c.in-Some.key w
-          c.sweep_node.new.links.lists c.step-here.result.next c.lemma_keys_unique.ensures c.sweep_node.ensures.due c.sweep_node.ensures.later
+          c.sweep_node.new.links.lists c.step-here.result.next c.lemma_keys_unique.ensures c.sweep_node.ensures.due
+          c.sweep_node.ensures.later
           (c.step-here.ensures.next c.args.bucket (due_later w.past) w.node w.rest
           (in_range c.args.bucket c.args.due s.step c.args.links.now.lists s.links.lists c.requires.other c.requires.bucket c.requires.due
           c.in-Some.key

@@ -6,7 +6,8 @@ pub returns-in_err-node : goal.returns-in_err-node
 returns-in_err-node c =
     let b = c.args.self.now in
     c.from_residual.ensures ∙ look-none b.tick b.slots c.args.handle b.links.lists b.has_lists
-    (separated b.last_tick b.tick b.last_serial b.slots b.links.lists b.pending b.due) c.lemma_keys_unique.ensures None (sym c.in_err-node.was
+    (separated b.last_tick b.tick b.last_serial b.slots b.links.lists b.pending b.due) c.lemma_keys_unique.ensures None (sym
+    c.in_err-node.was
     ∙ c.get.ensures) tt
 
 pub returns-then-node-handle : goal.returns-then-node-handle

@@ -5,7 +5,8 @@ use Rattle.timer_wheels.proofs.buckets.Buckets.look_due.Goals as goal
 pub returns-in_err-node : goal.returns-in_err-node
 returns-in_err-node c =
     let b = c.args.self.now in
-    c.from_residual.ensures ∙ due-none b.tick b.slots c.args.handle b.links.lists b.has_lists (all_later b) b.due c.lemma_keys_unique.ensures
+    c.from_residual.ensures ∙ due-none b.tick b.slots c.args.handle b.links.lists b.has_lists (all_later b) b.due
+    c.lemma_keys_unique.ensures
     None
     (sym c.in_err-node.was ∙ c.get.ensures) tt
 

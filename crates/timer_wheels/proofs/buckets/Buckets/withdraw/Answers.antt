@@ -42,7 +42,8 @@ pub invariant_of-self-clause-due : goal.invariant_of-self-clause-due
 invariant_of-self-clause-due c =
     let b = c.args.self.now in
     let P : KeyedLists → Type 0 = λ lists. AreDue b.tick (list_at b.slots lists) in
-    subst P (sym c.take.ensures.taken) (withdrawn_past b c.args.handle c.lemma_keys_unique.ensures c.in_ok-timer.timer (sym c.look_due.ensures
+    subst P (sym c.take.ensures.taken) (withdrawn_past b c.args.handle c.lemma_keys_unique.ensures c.in_ok-timer.timer (sym
+    c.look_due.ensures
     ∙ c.in_ok-timer.was))
 
 pub invariant_of-self-clause-in_order : goal.invariant_of-self-clause-in_order
@@ -65,5 +66,6 @@ pub returns-clause-lists : goal.returns-clause-lists
 returns-clause-lists c =
     let b = c.args.self.now in
     let P : KeyedLists → Type 0 = λ lists. (s : ℕ) → s < b.slots → list_at s lists ≡ list_at s b.links.lists in
-    subst P (sym c.take.ensures.taken) (withdrawn_other b c.args.handle c.lemma_keys_unique.ensures c.in_ok-timer.timer (sym c.look_due.ensures
+    subst P (sym c.take.ensures.taken) (withdrawn_other b c.args.handle c.lemma_keys_unique.ensures c.in_ok-timer.timer (sym
+    c.look_due.ensures
     ∙ c.in_ok-timer.was))
