@@ -5,10 +5,10 @@ use Rattle.std.proofs.lemmas.Bool.{cases_eq}
 use Rattle.std.proofs.lemmas.List.{append_assoc}
 use Rattle.slab.specs.Slab.{Slab}
 use Rattle.timer_links.specs.declared.node.Node.{Node}
-use Rattle.timer_links.specs.declared.ring.Sides.{Sides}
+use Rattle.timer_links.specs.declared.ring.Neighbours.{Neighbours}
 use Rattle.timer_links.specs.Lists.{first_key, node_at, list_at, row_count, appended, KeyedLists}
-use Rattle.timer_links.specs.Ring.{sides_at, Joins}
-use Rattle.timer_links.specs.Links.{places, AreRings, IsLinked}
+use Rattle.timer_links.specs.Ring.{neighbours_at, Joins}
+use Rattle.timer_links.specs.Links.{indexes, AreRings, IsLinked}
 use Rattle.timer_links.proofs.Chains.{last}
 use Rattle.timer_links.proofs.Rows.{Has, has_either, Found, found, some_none, split_at, node_in-absent, node_at-none, row_count-set}
 use Rattle.timer_links.proofs.Rings.{node_at-here}
@@ -83,7 +83,7 @@ module _ (v : KeyedLists) (from to : ℕ) (o : to ≢ from) (bf : from < length 
       omega arith
 
   -- each key has the same node as before
-  module _ (n : ℕ) (s u : List Sides) (h : AreRings n s v) (g : AreRings n u (appended from to v)) (many : length v ≡ n) where
+  module _ (n : ℕ) (s u : List Neighbours) (h : AreRings n s v) (g : AreRings n u (appended from to v)) (many : length v ≡ n) where
     by_old : (k : ℕ) (a : Option Node) → node_at k v ≡ a → node_at k (appended from to v) ≡ a
     by_old k (Some node) e =
         let f = found_now k node (found k node v e) in
@@ -99,9 +99,9 @@ module _ (v : KeyedLists) (from to : ℕ) (o : to ≢ from) (bf : from < length 
     pub node_now : (k : ℕ) → node_at k (appended from to v) ≡ node_at k v
     node_now k = by_old k (node_at k v) refl
 
-pub appended_linked : (n : ℕ) (nodes : Slab Node) (s t a u : List Sides) (v : KeyedLists) (from to key : ℕ)
+pub appended_linked : (n : ℕ) (nodes : Slab Node) (s t a u : List Neighbours) (v : KeyedLists) (from to key : ℕ)
     → IsLinked n nodes s v → (bf : from < length v) → (bt : to < length v) → (o : to ≢ from) → first_key (list_at from v) ≡ Some key
-    → Joins (sides_at s to).before (sides_at s from).after s t → Joins (sides_at s from).before to t a → Joins from from a u
+    → Joins (neighbours_at s to).before (neighbours_at s from).after s t → Joins (neighbours_at s from).before to t a → Joins from from a u
     → IsLinked n nodes u (appended from to v)
 appended_linked n nodes s t a u v from to key h bf bt o e i j k =
     let f = front_of n nodes s v from key h bf e in
@@ -109,8 +109,8 @@ appended_linked n nodes s t a u v from to key h bf bt o e i j k =
     let ct : to < n = low n nodes s v h to bt in
     let z = ends_are n s v h.rings from to (key, f.node) f.rest cf ct o f.is in
     let g : AreRings n u (appended from to v) = rings_appended n s v h.rings from to (key, f.node) f.rest cf ct o f.is t a u h.many
-    (joins_as s t (sides_at s to).before (sides_at s from).after (last to (places n (list_at to v))) (n + key) z.2 z.0 i)
-    (joins_as t a (sides_at s from).before to (last (n + key) (places n f.rest)) to z.1 refl j) k in
+    (joins_as s t (neighbours_at s to).before (neighbours_at s from).after (last to (indexes n (list_at to v))) (n + key) z.2 z.0 i)
+    (joins_as t a (neighbours_at s from).before to (last (n + key) (indexes n f.rest)) to z.1 refl j) k in
     let size : length u ≡ length s = k.size ∙ (j.size ∙ i.size) in
     record {
       many = many_now v from to o bf bt ∙ h.many;
@@ -123,14 +123,15 @@ appended_linked n nodes s t a u v from to key h bf bt o e i j k =
       numbered = rw size h.numbered;
     }
 
--- the joins, of the sides that were read
-pub joins_between : (s t u : List Sides) (p q : ℕ) (x y : Sides) → t ≡ s → x ≡ sides_at s p → y ≡ sides_at s q → Joins y.before x.after t u
-    → Joins (sides_at s q).before (sides_at s p).after s u
+-- the joins, of the neighbours that were read
+pub joins_between : (s t u : List Neighbours) (p q : ℕ) (x y : Neighbours) → t ≡ s → x ≡ neighbours_at s p → y ≡ neighbours_at s q →
+    Joins y.before x.after t u
+    → Joins (neighbours_at s q).before (neighbours_at s p).after s u
 joins_between s t u p q x y e f g j =
-    let P : List Sides → Type 0 = λ a. Joins y.before x.after a u in
-    joins_as s u y.before x.after (sides_at s q).before (sides_at s p).after (ap (λ (z : Sides). z.before) g)
-    (ap (λ (z : Sides). z.after) f) (subst P e j)
+    let P : List Neighbours → Type 0 = λ a. Joins y.before x.after a u in
+    joins_as s u y.before x.after (neighbours_at s q).before (neighbours_at s p).after (ap (λ (z : Neighbours). z.before) g)
+    (ap (λ (z : Neighbours). z.after) f) (subst P e j)
 
-pub joins_behind : (s t u : List Sides) (p to : ℕ) (x : Sides) → x ≡ sides_at s p → Joins x.before to t u
-    → Joins (sides_at s p).before to t u
-joins_behind s t u p to x f j = joins_as t u x.before to (sides_at s p).before to (ap (λ (z : Sides). z.before) f) refl j
+pub joins_behind : (s t u : List Neighbours) (p to : ℕ) (x : Neighbours) → x ≡ neighbours_at s p → Joins x.before to t u
+    → Joins (neighbours_at s p).before to t u
+joins_behind s t u p to x f j = joins_as t u x.before to (neighbours_at s p).before to (ap (λ (z : Neighbours). z.before) f) refl j

@@ -1,24 +1,24 @@
--- Lemmas about chains of places, and what a join does to them. Nothing here knows of keys or nodes.
+-- Lemmas about chains of indexes, and what a join does to them. Nothing here knows of keys or nodes.
 use Rattle.std.proofs.Common.{◌≡◌, ℕ, ◌⊎◌, List, [], ◌∷◌, ◌++◌, refl, sym, ◌∙◌, ap, subst, inl, inr}
-use Rattle.timer_links.specs.declared.ring.Sides.{Sides}
-use Rattle.timer_links.specs.Ring.{sides_at, AreJoined, IsChain, Joins}
+use Rattle.timer_links.specs.declared.ring.Neighbours.{Neighbours}
+use Rattle.timer_links.specs.Ring.{neighbours_at, AreJoined, IsChain, Joins}
 
--- the place is one of these
+-- the index is one of these
 abbrev pub In : ℕ → List ℕ → Type 0
 In p [] = ⊥
 In p (q ∷ qs) = (q ≡ p) ⊎ In p qs
 
--- no place occurs twice
+-- no index occurs twice
 abbrev pub IsApart : List ℕ → Type 0
 IsApart [] = Unit {0}
 IsApart (p ∷ ps) = (In p ps → ⊥) × IsApart ps
 
--- the last place of a chain
+-- the last index of a chain
 abbrev pub last : ℕ → List ℕ → ℕ
 last p [] = p
 last p (q ∷ qs) = last q qs
 
--- all of a chain but its last place
+-- all of a chain but its last index
 abbrev pub starts : ℕ → List ℕ → List ℕ
 starts p [] = []
 starts p (q ∷ qs) = p ∷ starts q qs
@@ -49,7 +49,7 @@ in_either x [] qs i = inr i
 in_either x (p ∷ ps) qs (inl e) = inl (inl e)
 in_either x (p ∷ ps) qs (inr i) = elim (in_either x ps qs i) [ inl a ↦ inl (inr a) | inr b ↦ inr b ]
 
--- and facts of each of its places
+-- and facts of each of its indexes
 pub in_ring : (x l : ℕ) (ps : List ℕ) → In x (ps ++ l ∷ []) → In x (l ∷ ps)
 in_ring x l ps i = elim (in_either x ps (l ∷ []) i) [
   | inl a ↦ inr a
@@ -79,30 +79,31 @@ apart_both (p ∷ ps) qs a b n = (
 )
 
 -- two chains and the step between them
-pub glue : (s : List Sides) (p : ℕ) (ps : List ℕ) (q : ℕ) (qs : List ℕ) → IsChain s p ps → AreJoined s (last p ps) q → IsChain s q qs
+pub glue : (s : List Neighbours) (p : ℕ) (ps : List ℕ) (q : ℕ) (qs : List ℕ) → IsChain s p ps → AreJoined s (last p ps) q → IsChain s q qs
     → IsChain s p (ps ++ q ∷ qs)
 glue s p [] q qs c m d = (m, d)
 glue s p (r ∷ rs) q qs c m d = (c.0, glue s r rs q qs c.1 m d)
 
-pub record Halves (s : List Sides) (p : ℕ) (ps : List ℕ) (q : ℕ) (qs : List ℕ) : Type 0 where
+pub record Halves (s : List Neighbours) (p : ℕ) (ps : List ℕ) (q : ℕ) (qs : List ℕ) : Type 0 where
   pub front : IsChain s p ps
   pub seam : AreJoined s (last p ps) q
   pub back : IsChain s q qs
 
-pub halves : (s : List Sides) (p : ℕ) (ps : List ℕ) (q : ℕ) (qs : List ℕ) → IsChain s p (ps ++ q ∷ qs) → Halves s p ps q qs
+pub halves : (s : List Neighbours) (p : ℕ) (ps : List ℕ) (q : ℕ) (qs : List ℕ) → IsChain s p (ps ++ q ∷ qs) → Halves s p ps q qs
 halves s p [] q qs c = record { front = tt; seam = c.0; back = c.1 }
 halves s p (r ∷ rs) q qs c = let h = halves s r rs q qs c.1 in record { front = (c.0, h.front); seam = h.seam; back = h.back }
 
--- unchanged sides keep each chain
-pub chain_same : (s u : List Sides) (p : ℕ) (ps : List ℕ) → ((x : ℕ) → sides_at u x ≡ sides_at s x) → IsChain s p ps → IsChain u p ps
+-- unchanged neighbours keep each chain
+pub chain_same : (s u : List Neighbours) (p : ℕ) (ps : List ℕ) → ((x : ℕ) → neighbours_at u x ≡ neighbours_at s x) → IsChain s p ps →
+    IsChain u p ps
 chain_same s u p [] h c = tt
 chain_same s u p (q ∷ qs) h c = (
-  record { forth = ap (λ (x : Sides). x.after) (h p) ∙ c.0.forth; back_to = ap (λ (x : Sides). x.before) (h q) ∙ c.0.back_to },
+  record { forth = ap (λ (x : Neighbours). x.after) (h p) ∙ c.0.forth; back_to = ap (λ (x : Neighbours). x.before) (h q) ∙ c.0.back_to },
   chain_same s u q qs h c.1,
 )
 
 -- a join keeps each chain that contains neither a step from its front nor one to its back
-pub kept : (s u : List Sides) (f b p : ℕ) (ps : List ℕ) → Joins f b s u → (In f (starts p ps) → ⊥) → (In b ps → ⊥) → IsChain s p ps
+pub kept : (s u : List Neighbours) (f b p : ℕ) (ps : List ℕ) → Joins f b s u → (In f (starts p ps) → ⊥) → (In b ps → ⊥) → IsChain s p ps
     → IsChain u p ps
 kept s u f b p [] j nf nb c = tt
 kept s u f b p (q ∷ qs) j nf nb c = (
@@ -110,13 +111,13 @@ kept s u f b p (q ∷ qs) j nf nb c = (
   kept s u f b q qs j (λ i. nf (inr i)) (λ i. nb (inr i)) c.1,
 )
 
--- so it keeps a ring with neither place
-pub ring_kept : (s u : List Sides) (f b l : ℕ) (ps : List ℕ) → Joins f b s u → (In f (l ∷ ps) → ⊥) → (In b (l ∷ ps) → ⊥)
+-- so it keeps a ring with neither index
+pub ring_kept : (s u : List Neighbours) (f b l : ℕ) (ps : List ℕ) → Joins f b s u → (In f (l ∷ ps) → ⊥) → (In b (l ∷ ps) → ⊥)
     → IsChain s l (ps ++ l ∷ []) → IsChain u l (ps ++ l ∷ [])
 ring_kept s u f b l ps j nf nb c = kept s u f b l (ps ++ l ∷ []) j (λ i. nf (starts_ring f l l ps i)) (λ i. nb (in_ring b l ps i)) c
 
 -- a join at the end of a chain goes on from it
-pub extended : (s u : List Sides) (q p : ℕ) (ps : List ℕ) → Joins (last p ps) q s u → IsApart (p ∷ ps) → (In q ps → ⊥) → IsChain s p ps
+pub extended : (s u : List Neighbours) (q p : ℕ) (ps : List ℕ) → Joins (last p ps) q s u → IsApart (p ∷ ps) → (In q ps → ⊥) → IsChain s p ps
     → IsChain u p (ps ++ q ∷ [])
 extended s u q p ps j a n c = glue u p ps q [] (kept s u (last p ps) q p ps j (last_not_start p ps a) n c) (record {
   forth = j.forth;

@@ -5,32 +5,33 @@ use Rattle.std.proofs.lemmas.Bool.{cases_eq}
 use Rattle.std.proofs.lemmas.List.{get_or_append_left, get_or_push, length-replicate}
 use Rattle.slab.specs.Slab.{Slab, get}
 use Rattle.timer_links.specs.declared.node.Node.{Node}
-use Rattle.timer_links.specs.declared.ring.Sides.{Sides}
+use Rattle.timer_links.specs.declared.ring.Neighbours.{Neighbours}
 use Rattle.timer_links.specs.Lists.{list_at, row_count, KeyedLists}
-use Rattle.timer_links.specs.Ring.{sides_at}
+use Rattle.timer_links.specs.Ring.{neighbours_at}
 use Rattle.timer_links.specs.Links.{IsLinked}
 use Rattle.timer_links.proofs.Rows.{none_is, node_at-none}
 
 -- these are the roots of that many empty lists
-pub record AreRoots (n : ℕ) (sides : List Sides) : Type 0 where
-  pub many : length sides ≡ n
-  pub each : (l : ℕ) → l < n → sides_at sides l ≡ record { before = l; after = l }
+pub record AreRoots (n : ℕ) (neighbours : List Neighbours) : Type 0 where
+  pub many : length neighbours ≡ n
+  pub each : (l : ℕ) → l < n → neighbours_at neighbours l ≡ record { before = l; after = l }
 
-pub no_roots : (sides : List Sides) → sides ≡ [] → AreRoots 0 sides
-no_roots sides e = record { many = rw e refl; each = λ l b. absurd (omega arith) }
+pub no_roots : (neighbours : List Neighbours) → neighbours ≡ [] → AreRoots 0 neighbours
+no_roots neighbours e = record { many = rw e refl; each = λ l b. absurd (omega arith) }
 
-pub one_more : (n : ℕ) (sides more : List Sides) → AreRoots n sides → more ≡ sides ++ record { before = n; after = n } ∷ []
+pub one_more : (n : ℕ) (neighbours more : List Neighbours) → AreRoots n neighbours → more ≡ neighbours ++ record { before = n; after =
+    n } ∷ []
     → AreRoots (n + 1) more
-one_more n sides more h e =
-    let len : length (sides ++ record { before = n; after = n } ∷ []) ≡ length sides + 1 =
-    length-append sides (record { before = n; after = n } ∷ []) in
-    let m : length sides ≡ n = h.many in
-    let P : List Sides → Type 0 = λ x. AreRoots (n + 1) x in
+one_more n neighbours more h e =
+    let len : length (neighbours ++ record { before = n; after = n } ∷ []) ≡ length neighbours + 1 =
+    length-append neighbours (record { before = n; after = n } ∷ []) in
+    let m : length neighbours ≡ n = h.many in
+    let P : List Neighbours → Type 0 = λ x. AreRoots (n + 1) x in
     subst P (sym e) (record {
       many = omega arith;
       each = λ l b. elim (cases_eq l n) [
-        | inl q ↦ rw q (get_or_push sides (record { before = n; after = n }) (record { before = 0; after = 0 }) n h.many)
-        | inr o ↦ get_or_append_left sides (record { before = n; after = n } ∷ []) (record { before = 0; after = 0 }) l (omega arith)
+        | inl q ↦ rw q (get_or_push neighbours (record { before = n; after = n }) (record { before = 0; after = 0 }) n h.many)
+        | inr o ↦ get_or_append_left neighbours (record { before = n; after = n } ∷ []) (record { before = 0; after = 0 }) l (omega arith)
             ∙ h.each l (omega arith)
       ];
     })
@@ -47,11 +48,12 @@ none_counted : (n : ℕ) → row_count (no_rows n) ≡ 0
 none_counted zero = refl
 none_counted (suc n) = let h : row_count (no_rows n) ≡ 0 = none_counted n in omega arith
 
-pub empty_linked : (n m : ℕ) (nodes : Slab Node) (sides : List Sides) → nodes.slots ≡ [] → AreRoots m sides → m ≤ n → n ≤ m → n ≤ 65537
-    → IsLinked n nodes sides (no_rows n)
-empty_linked n m nodes sides e h a b few =
+pub empty_linked : (n m : ℕ) (nodes : Slab Node) (neighbours : List Neighbours) → nodes.slots ≡ [] → AreRoots m neighbours → m ≤ n → n
+    ≤ m → n ≤ 65537
+    → IsLinked n nodes neighbours (no_rows n)
+empty_linked n m nodes neighbours e h a b few =
     let same : m ≡ n = omega arith in
-    let len : length sides ≡ m = h.many in
+    let len : length neighbours ≡ m = h.many in
     let none : (k : ℕ) → get nodes k ≡ None = λ k. rw e refl in
     record {
       many = length-replicate n [];
@@ -60,8 +62,8 @@ empty_linked n m nodes sides e h a b few =
           let inside : l < m = omega arith in
           rw (list_is_empty n l) (
             record {
-              forth = ap (λ (x : Sides). x.after) (h.each l inside);
-              back_to = ap (λ (x : Sides). x.before) (h.each l inside);
+              forth = ap (λ (x : Neighbours). x.after) (h.each l inside);
+              back_to = ap (λ (x : Neighbours). x.before) (h.each l inside);
             },
             tt,
           );
@@ -69,5 +71,5 @@ empty_linked n m nodes sides e h a b few =
       total = rw (e, none_counted n) refl;
       roots = omega arith;
       reached = λ k i. absurd (none_is (rw (none k) at i));
-      numbered = let z : length sides ≤ 65537 = omega arith in omega arith;
+      numbered = let z : length neighbours ≤ 65537 = omega arith in omega arith;
     }

@@ -6,9 +6,9 @@ use Rattle.std.proofs.Common.{cond}
 use Rattle.std.proofs.lemmas.Bool.{cases_eq, ne_eqb}
 use Rattle.slab.specs.Slab.{Slab, get, slab_len, with_value, ContainsKey}
 use Rattle.timer_links.specs.declared.node.Node.{Node}
-use Rattle.timer_links.specs.declared.ring.Sides.{Sides}
+use Rattle.timer_links.specs.declared.ring.Neighbours.{Neighbours}
 use Rattle.timer_links.specs.Lists.{node_in, node_at, list_at, row_count, KeyedLists}
-use Rattle.timer_links.specs.Links.{places, IsLinked}
+use Rattle.timer_links.specs.Links.{indexes, IsLinked}
 use Rattle.timer_links.proofs.Rows.{none_is, length_split, row_count-set, same_node}
 use Rattle.timer_links.proofs.Rings.{rings_set, chain_as, node_at-here}
 use Rattle.timer_links.proofs.LinksCalls.{low, some_is}
@@ -31,9 +31,9 @@ same_count : (slots : List (Option Node)) (key : ℕ) (node : Node) → IsSome (
 same_count slots key node i = same_fold slots key node 0 i
 
 module _ (key : ℕ) (was node : Node) (rest : List (ℕ × Node)) where
-  same_places : (n : ℕ) (front : List (ℕ × Node)) → places n (front ++ (key, was) ∷ rest) ≡ places n (front ++ (key, node) ∷ rest)
-  same_places n [] = refl
-  same_places n (x ∷ xs) = ap (λ (z : List ℕ). (n + x.0) ∷ z) (same_places n xs)
+  same_indexes : (n : ℕ) (front : List (ℕ × Node)) → indexes n (front ++ (key, was) ∷ rest) ≡ indexes n (front ++ (key, node) ∷ rest)
+  same_indexes n [] = refl
+  same_indexes n (x ∷ xs) = ap (λ (z : List ℕ). (n + x.0) ∷ z) (same_indexes n xs)
 
   other_in : (k : ℕ) (front : List (ℕ × Node)) → k ≢ key → node_in k (front ++ (key, node) ∷ rest) ≡ node_in k (front ++ (key, was) ∷ rest)
   other_in k [] n = rw (ne_eqb key k (λ (q : key ≡ k). n (sym q))) refl
@@ -45,7 +45,7 @@ other_at k l rows [] e = refl
 other_at k zero rows (x ∷ xs) e = rw e refl
 other_at k (suc l) rows (x ∷ xs) e = rw (other_at k l rows xs e) refl
 
-pub node_set : (n : ℕ) (nodes : Slab Node) (s : List Sides) (v : KeyedLists) (key l : ℕ) (front : List (ℕ × Node))
+pub node_set : (n : ℕ) (nodes : Slab Node) (s : List Neighbours) (v : KeyedLists) (key l : ℕ) (front : List (ℕ × Node))
     (was node : Node) (rest : List (ℕ × Node)) → IsLinked n nodes s v → l < length v → list_at l v ≡ front ++ (key, was) ∷ rest
     → IsLinked n (with_value nodes key node) s (slice_set v l (front ++ (key, node) ∷ rest))
 node_set n nodes s v key l front was node rest h d e =
@@ -54,8 +54,8 @@ node_set n nodes s v key l front was node rest h d e =
     let len : length (slice_set v l (front ++ (key, node) ∷ rest)) ≡ length v = length-set v l (front ++ (key, node) ∷ rest) in
     let i : ContainsKey nodes key = some_is (get nodes key) was (h.held key ∙ node_at-here n s v h.rings key l front was rest b e h.many) in
     let rings = rings_set n s v l (front ++ (key, node) ∷ rest) h.many
-    (chain_as s l (places n (list_at l v) ++ l ∷ []) (places n (front ++ (key, node) ∷ rest) ++ l ∷ [])
-    (ap (λ (x : List (ℕ × Node)). places n x ++ l ∷ []) e ∙ ap (λ (x : List ℕ). x ++ l ∷ []) (same_places key was node rest n front))
+    (chain_as s l (indexes n (list_at l v) ++ l ∷ []) (indexes n (front ++ (key, node) ∷ rest) ++ l ∷ [])
+    (ap (λ (x : List (ℕ × Node)). indexes n x ++ l ∷ []) e ∙ ap (λ (x : List ℕ). x ++ l ∷ []) (same_indexes key was node rest n front))
     (h.rings l b))
     (λ m c o. h.rings m c) in
     let here : list_at l (slice_set v l (front ++ (key, node) ∷ rest)) ≡ front ++ (key, node) ∷ rest =
@@ -88,7 +88,7 @@ node_set n nodes s v key l front was node rest h d e =
     }
 
 -- which node stood there
-pub node_was : (n : ℕ) (nodes : Slab Node) (s : List Sides) (v : KeyedLists) (key l : ℕ) (front : List (ℕ × Node))
+pub node_was : (n : ℕ) (nodes : Slab Node) (s : List Neighbours) (v : KeyedLists) (key l : ℕ) (front : List (ℕ × Node))
     (was x : Node) (rest : List (ℕ × Node)) → IsLinked n nodes s v → l < length v → list_at l v ≡ front ++ (key, was) ∷ rest
     → get nodes key ≡ Some x → x ≡ was
 node_was n nodes s v key l front was x rest h d e g = same_node x was (sym g

@@ -7,11 +7,11 @@ use Rattle.std.specs.Vec.{with_items}
 use Rattle.std.proofs.lemmas.List.FromFn.{length-map-range_with_len, get_or-map-range_with_len}
 use Rattle.slab.specs.Slab.{Slab, get, slab_len}
 use Rattle.timer_links.specs.declared.node.Node.{Node}
-use Rattle.timer_links.specs.declared.ring.Sides.{Sides}
+use Rattle.timer_links.specs.declared.ring.Neighbours.{Neighbours}
 use Rattle.timer_links.specs.declared.links.Links.TheInside.{Inside}
 use Rattle.timer_links.specs.Lists.{LinksState, list_at, row_count, KeyedLists}
-use Rattle.timer_links.specs.Ring.{sides_at, key_of, IsChain}
-use Rattle.timer_links.specs.Links.{places, walk, lists_of, IsLinked, HasRoom}
+use Rattle.timer_links.specs.Ring.{neighbours_at, key_of, IsChain}
+use Rattle.timer_links.specs.Links.{indexes, walk, lists_of, IsLinked, HasRoom}
 use Rattle.timer_links.proofs.Rows.{length_list_at}
 use Rattle.timer_links.proofs.Rings.{node_at-here}
 
@@ -30,15 +30,16 @@ AreHeld nodes [] = Unit {0}
 AreHeld nodes (row ∷ rest) = (get nodes row.0 ≡ Some row.1) × AreHeld nodes rest
 
 -- the walk goes along the chain
-walk_is : (m n : ℕ) (nodes : Slab Node) (s : List Sides) (l p : ℕ) (rows : List (ℕ × Node)) → l < n → length rows ≤ m → AreHeld nodes rows
-    → IsChain s p (places n rows ++ l ∷ []) → walk m n nodes s (sides_at s p).after ≡ rows
+walk_is : (m n : ℕ) (nodes : Slab Node) (s : List Neighbours) (l p : ℕ) (rows : List (ℕ × Node)) → l < n → length rows ≤ m → AreHeld
+    nodes rows
+    → IsChain s p (indexes n rows ++ l ∷ []) → walk m n nodes s (neighbours_at s p).after ≡ rows
 walk_is zero n nodes s l p [] b f a c = refl
 walk_is zero n nodes s l p (r ∷ rs) b f a c = absurd (omega arith)
 walk_is (suc m) n nodes s l p [] b f a c = rw (c.0.forth, root_low n l b) refl
 walk_is (suc m) n nodes s l p (r ∷ rs) b f a c = rw (c.0.forth, key_high n r.0, a.0)
     (ap (λ (x : List (ℕ × Node)). r ∷ x) (walk_is m n nodes s l (n + r.0) rs b (omega arith) a.1 c.1))
 
-module _ (n : ℕ) (nodes : Slab Node) (s : List Sides) (v : KeyedLists) (h : IsLinked n nodes s v) where
+module _ (n : ℕ) (nodes : Slab Node) (s : List Neighbours) (v : KeyedLists) (h : IsLinked n nodes s v) where
   held_from : (l : ℕ) (rows front : List (ℕ × Node)) → l < n → list_at l v ≡ front ++ rows → AreHeld nodes rows
   held_from l [] front b e = tt
   held_from l (r ∷ rs) front b e = (
@@ -48,7 +49,7 @@ module _ (n : ℕ) (nodes : Slab Node) (s : List Sides) (v : KeyedLists) (h : Is
 
   pub lists_are : lists_of n nodes s ≡ v
   lists_are =
-      let f : ℕ → List (ℕ × Node) = λ root. walk (slab_len nodes) n nodes s (sides_at s root).after in
+      let f : ℕ → List (ℕ × Node) = λ root. walk (slab_len nodes) n nodes s (neighbours_at s root).after in
       let many : length v ≡ n = h.many in
       let same : length (lists_of n nodes s) ≡ n = length-map-range_with_len f 0 n in
       let total : slab_len nodes ≡ row_count v = h.total in
@@ -59,41 +60,44 @@ module _ (n : ℕ) (nodes : Slab Node) (s : List Sides) (v : KeyedLists) (h : Is
       get_or-map-range_with_len f 0 n l l [] b (omega arith) ∙ walk_is (slab_len nodes) n nodes s l l (list_at l v) b (omega arith)
       (held_from l (list_at l v) [] b refl) (h.rings l b))
 
-pub closed : (n : ℕ) (nodes : Slab Node) (s : List Sides) (v : KeyedLists) → IsLinked n nodes s v → IsLinked n nodes s (lists_of n nodes s)
+pub closed : (n : ℕ) (nodes : Slab Node) (s : List Neighbours) (v : KeyedLists) → IsLinked n nodes s v → IsLinked n nodes s (lists_of n
+    nodes s)
 closed n nodes s v h = let P : KeyedLists → Type 0 = λ x. IsLinked n nodes s x in subst P (sym (lists_are n nodes s v h)) h
 
 -- the lists of a value, which is open
-pub opened : (s : Inside) (v : LinksState) → record { lists = lists_of s.lists s.nodes s.sides.items; room = s.room } ≡ v
-    → IsLinked s.lists s.nodes s.sides.items (lists_of s.lists s.nodes s.sides.items) × HasRoom s.room s.lists s.nodes s.sides.items
-    → IsLinked s.lists s.nodes s.sides.items v.lists
-opened s v e h = let P : KeyedLists → Type 0 = λ x. IsLinked s.lists s.nodes s.sides.items x in
+pub opened : (s : Inside) (v : LinksState) → record { lists = lists_of s.lists s.nodes s.neighbours.items; room = s.room } ≡ v
+    → IsLinked s.lists s.nodes s.neighbours.items (lists_of s.lists s.nodes s.neighbours.items) × HasRoom s.room s.lists s.nodes
+    s.neighbours.items
+    → IsLinked s.lists s.nodes s.neighbours.items v.lists
+opened s v e h = let P : KeyedLists → Type 0 = λ x. IsLinked s.lists s.nodes s.neighbours.items x in
     subst P (ap (λ (r : LinksState). r.lists) e) h.0
 
 -- what was written to the slice of a vector is the vector's
-pub written : {Z : Type 0} (n : ℕ) (nodes : Slab Node) (sides : Vec Sides Z) (ws : List Sides) (v : KeyedLists)
-    → length ws ≡ sides.len → IsLinked n nodes ws v → IsLinked n nodes (with_items sides ws).items v
-written n nodes sides ws v e h = let P : List Sides → Type 0 = λ x. IsLinked n nodes x v in subst P (sym (with_items_is sides ws e)) h
+pub written : {Z : Type 0} (n : ℕ) (nodes : Slab Node) (neighbours : Vec Neighbours Z) (ws : List Neighbours) (v : KeyedLists)
+    → length ws ≡ neighbours.len → IsLinked n nodes ws v → IsLinked n nodes (with_items neighbours ws).items v
+written n nodes neighbours ws v e h = let P : List Neighbours → Type 0 = λ x. IsLinked n nodes x v in subst P (sym (with_items_is
+    neighbours ws e)) h
 
--- room that was made stays: the nodes' memory is as large, and no place is gone
-pub room_stays : (room n : ℕ) (old new : Slab Node) (s t : List Sides) → HasRoom room n old s → new.capacity ≡ old.capacity
+-- room that was made stays: the nodes' memory is as large, and no index is gone
+pub room_stays : (room n : ℕ) (old new : Slab Node) (s t : List Neighbours) → HasRoom room n old s → new.capacity ≡ old.capacity
     → length s ≤ length t → HasRoom room n new t
 room_stays room n old new s t h e l = record {
   fits = let k : room ≤ old.capacity = h.fits in omega arith;
-  places = λ p. let k : n + old.capacity ≤ length s = h.places p in omega arith;
+  indexes = λ p. let k : n + old.capacity ≤ length s = h.indexes p in omega arith;
 }
 
-pub room_written : {Z : Type 0} (room n : ℕ) (old new : Slab Node) (sides : Vec Sides Z) (ws : List Sides)
-    → HasRoom room n old sides.items → new.capacity ≡ old.capacity → length ws ≡ sides.len
-    → HasRoom room n new (with_items sides ws).items
-room_written room n old new sides ws h e k = let P : List Sides → Type 0 = λ x. HasRoom room n new x in
-    let m = sides.ok in
-    subst P (sym (with_items_is sides ws k)) (room_stays room n old new sides.items ws h e (omega arith))
+pub room_written : {Z : Type 0} (room n : ℕ) (old new : Slab Node) (neighbours : Vec Neighbours Z) (ws : List Neighbours)
+    → HasRoom room n old neighbours.items → new.capacity ≡ old.capacity → length ws ≡ neighbours.len
+    → HasRoom room n new (with_items neighbours ws).items
+room_written room n old new neighbours ws h e k = let P : List Neighbours → Type 0 = λ x. HasRoom room n new x in
+    let m = neighbours.ok in
+    subst P (sym (with_items_is neighbours ws k)) (room_stays room n old new neighbours.items ws h e (omega arith))
 
 -- no room was made yet
-pub no_room : (n : ℕ) (nodes : Slab Node) (s : List Sides) → HasRoom 0 n nodes s
+pub no_room : (n : ℕ) (nodes : Slab Node) (s : List Neighbours) → HasRoom 0 n nodes s
 no_room n nodes s = record {
   fits = omega arith;
-  places = λ p. absurd (omega arith);
+  indexes = λ p. absurd (omega arith);
 }
 
 -- the value of these fields is the state with these lists and this room
@@ -103,9 +107,9 @@ state_is w x room e k =
     let g : ℕ → LinksState = λ y. record { lists = w.lists; room = y } in
     ap f e ∙ ap g k
 
--- a key that was given out in this room has its place
-pub has_place : (room n key : ℕ) (nodes : Slab Node) (s : List Sides) → HasRoom room n nodes s → key < nodes.capacity → key ≡
+-- a key that was given out in this room has its index
+pub has_index : (room n key : ℕ) (nodes : Slab Node) (s : List Neighbours) → HasRoom room n nodes s → key < nodes.capacity → key ≡
     nodes.vacant_key
     → (0 < room) ⊎ (n + nodes.vacant_key < length s) → n + key < length s
-has_place room n key nodes s h b e (inl p) = let k : n + nodes.capacity ≤ length s = h.places p in omega arith
-has_place room n key nodes s h b e (inr l) = rw e l
+has_index room n key nodes s h b e (inl p) = let k : n + nodes.capacity ≤ length s = h.indexes p in omega arith
+has_index room n key nodes s h b e (inr l) = rw e l

@@ -3,10 +3,10 @@ use Rattle.std.specs.Prelude.{◌≡◌, ℕ, ◌+◌, ◌<◌, ◌≤◌, zero,
 use Rattle.std.specs.List.{range_with_len}
 use Rattle.slab.specs.Slab.{Slab, get, slab_len, ContainsKey}
 use Rattle.timer_links.specs.declared.node.Node.{Node}
-use Rattle.timer_links.specs.declared.ring.Sides.{Sides}
-use Rattle.timer_links.specs.declared.ring.TheConstants.{PLACES}
+use Rattle.timer_links.specs.declared.ring.Neighbours.{Neighbours}
+use Rattle.timer_links.specs.declared.ring.TheConstants.{INDEXES}
 use Rattle.timer_links.specs.Lists.{list_at, node_at, row_count, KeyedLists}
-use Rattle.timer_links.specs.Ring.{sides_at, key_of, IsChain}
+use Rattle.timer_links.specs.Ring.{neighbours_at, key_of, IsChain}
 
 -- the row of a key and its node, before these rows
 abbrev pub row_of : ℕ → Option Node → List (ℕ × Node) → List (ℕ × Node)
@@ -17,40 +17,40 @@ abbrev pub rows_of : Slab Node → Option ℕ → List (ℕ × Node) → List (�
 rows_of nodes None rest = []
 rows_of nodes (Some key) rest = row_of key (get nodes key) rest
 
--- the rows from a place on to the root, at most that many
-abbrev pub walk : ℕ → ℕ → Slab Node → List Sides → ℕ → List (ℕ × Node)
-walk zero lists nodes sides place = []
-walk (suc n) lists nodes sides place = rows_of nodes (key_of lists place)
-    (walk n lists nodes sides (sides_at sides place).after)
+-- the rows from an index on to the root, at most that many
+abbrev pub walk : ℕ → ℕ → Slab Node → List Neighbours → ℕ → List (ℕ × Node)
+walk zero lists nodes neighbours index = []
+walk (suc n) lists nodes neighbours index = rows_of nodes (key_of lists index)
+    (walk n lists nodes neighbours (neighbours_at neighbours index).after)
 
--- the lists, each walked from the place after its root
-abbrev pub lists_of : ℕ → Slab Node → List Sides → KeyedLists
-lists_of lists nodes sides = map (λ root. walk (slab_len nodes) lists nodes sides (sides_at sides root).after)
+-- the lists, each walked from the index after its root
+abbrev pub lists_of : ℕ → Slab Node → List Neighbours → KeyedLists
+lists_of lists nodes neighbours = map (λ root. walk (slab_len nodes) lists nodes neighbours (neighbours_at neighbours root).after)
     (range_with_len 0 lists)
 
--- the places of these rows
-abbrev pub places : ℕ → List (ℕ × Node) → List ℕ
-places lists [] = []
-places lists (row ∷ rest) = (lists + row.0) ∷ places lists rest
+-- the indexes of these rows
+abbrev pub indexes : ℕ → List (ℕ × Node) → List ℕ
+indexes lists [] = []
+indexes lists (row ∷ rest) = (lists + row.0) ∷ indexes lists rest
 
 -- each list is a ring: its root, its nodes in their order, and back to the root
-abbrev pub AreRings : ℕ → List Sides → KeyedLists → Type 0
-AreRings lists sides v = (l : ℕ) → l < lists → IsChain sides l (places lists (list_at l v) ++ l ∷ [])
+abbrev pub AreRings : ℕ → List Neighbours → KeyedLists → Type 0
+AreRings lists neighbours v = (l : ℕ) → l < lists → IsChain neighbours l (indexes lists (list_at l v) ++ l ∷ [])
 
 -- the nodes under these keys stand in these lists, and each list is a ring
-pub record IsLinked (lists : ℕ) (nodes : Slab Node) (sides : List Sides)
+pub record IsLinked (lists : ℕ) (nodes : Slab Node) (neighbours : List Neighbours)
     (v : KeyedLists) : Type 0 where
   pub many : length v ≡ lists
   pub few : lists ≤ 65537
-  pub rings : AreRings lists sides v
+  pub rings : AreRings lists neighbours v
   pub held : (key : ℕ) → get nodes key ≡ node_at key v
   pub total : slab_len nodes ≡ row_count v
-  -- each root has a place, each key in use has one, and each place has a number
-  pub roots : lists ≤ length sides
-  pub reached : (key : ℕ) → ContainsKey nodes key → lists + key < length sides
-  pub numbered : length sides ≤ PLACES
+  -- each root has an index, each key in use has one, and each index has a number
+  pub roots : lists ≤ length neighbours
+  pub reached : (key : ℕ) → ContainsKey nodes key → lists + key < length neighbours
+  pub numbered : length neighbours ≤ INDEXES
 
--- there is memory for this many nodes, and a place for each key that they can get
-pub record HasRoom (room lists : ℕ) (nodes : Slab Node) (sides : List Sides) : Type 0 where
+-- there is memory for this many nodes, and an index for each key that they can get
+pub record HasRoom (room lists : ℕ) (nodes : Slab Node) (neighbours : List Neighbours) : Type 0 where
   pub fits : room ≤ nodes.capacity
-  pub places : 0 < room → lists + nodes.capacity ≤ length sides
+  pub indexes : 0 < room → lists + nodes.capacity ≤ length neighbours

@@ -15,10 +15,10 @@ ghost use Rattle.timer_links.specs.Keys.{IsFirstUsed};
 ghost use Rattle.slab.specs.Slab.{HasRoomFor, slab_len};
 ghost use Rattle.timer_links.specs.Links.{HasRoom};
 ghost use Rattle.timer_links.specs.Ring.{IsGrown};
-ghost use Rattle.timer_links.specs.declared.ring.TheConstants.{PLACES};
+ghost use Rattle.timer_links.specs.declared.ring.TheConstants.{INDEXES};
 
 use crate::node::Node;
-use crate::ring::{PLACES, Sides, join, join_last, key_at, only_neighbour, reserve_place};
+use crate::ring::{INDEXES, Neighbours, join, join_last, key_at, only_neighbour, reserve_index};
 use slab::Slab;
 use std::alloc::Global;
 use std::marker::Model;
@@ -46,7 +46,7 @@ pub struct RemovedNode {
 #[derive(Drop)]
 pub struct Links {
     nodes: Slab<Node>,
-    sides: Vec<Sides>,
+    neighbours: Vec<Neighbours>,
     lists: usize,
     // For how many nodes `reserve` made room. It stays when the nodes grow beyond it.
     room: usize,
@@ -59,12 +59,12 @@ impl Model for Links {
     ghost Value = { LinksState };
 
     ghost view = { λ s. record {
-      lists = lists_of s.lists s.nodes s.sides.items;
+      lists = lists_of s.lists s.nodes s.neighbours.items;
       room = s.room;
     } };
 
-    ghost invariant = { λ s. IsLinked s.lists s.nodes s.sides.items (lists_of s.lists s.nodes s.sides.items)
-        × HasRoom s.room s.lists s.nodes s.sides.items };
+    ghost invariant = { λ s. IsLinked s.lists s.nodes s.neighbours.items (lists_of s.lists s.nodes s.neighbours.items)
+        × HasRoom s.room s.lists s.nodes s.neighbours.items };
 }
 
 impl Links {
@@ -76,23 +76,23 @@ impl Links {
           room = 0;
         }) }
     {
-        let mut sides = Vec::with_capacity(alloc, lists)?;
+        let mut neighbours = Vec::with_capacity(alloc, lists)?;
         for list in 0..lists {
             let root = list as u32;
-            sides.push(Sides {
+            neighbours.push(Neighbours {
                 before: root,
                 after: root,
             })?;
         }
         Ok(Links {
             nodes: Slab::new(alloc),
-            sides,
+            neighbours,
             lists,
             room: 0,
         })
     }
 
-    /// Does nothing at run time. Its contract is a lemma: no key is in two places.
+    /// Does nothing at run time. Its contract is a lemma: no key occurs twice in the lists.
     #[inline]
     pub fn lemma_keys_unique(&self)
         ensures { AreApart self.now.lists }
@@ -118,7 +118,7 @@ impl Links {
         requires { list < length self.now.lists }
         ensures { result ≡ first_key (list_at list self.now.lists) }
     {
-        key_at(self.sides[list].after, self.lists)
+        key_at(self.neighbours[list].after, self.lists)
     }
 
     /// The same as `front`, with a proof that the key is in use.
@@ -139,7 +139,7 @@ impl Links {
         requires { list < length self.now.lists }
         ensures { IsTrue result ↔ (list_at list self.now.lists ≡ []) }
     {
-        self.sides[list].after as usize == list
+        self.neighbours[list].after as usize == list
     }
 
     /// The key after this one in its list, or None if it is the last one. Does not allocate.
@@ -148,7 +148,7 @@ impl Links {
         requires { IsSome (node_at key self.now.lists) }
         ensures { IsNext key self.now.lists result }
     {
-        key_at(self.sides[self.lists + key].after, self.lists)
+        key_at(self.neighbours[self.lists + key].after, self.lists)
     }
 
     /// The rounds of the node under this key, and the key after it: one look-up of each. Does not allocate.
@@ -189,7 +189,7 @@ impl Links {
         ensures err { OnErr result (self.new ≡ self.old) }
     {
         let more = most.saturating_sub(self.nodes.len());
-        let Ok(()) = make_room(&mut self.nodes, &mut self.sides, self.lists, more) else {
+        let Ok(()) = make_room(&mut self.nodes, &mut self.neighbours, self.lists, more) else {
             return Err(OutOfMemory);
         };
         self.room = self.room.max(most);
@@ -214,12 +214,12 @@ impl Links {
         ensures handed_back { IfErr result (λ failed. failed.0 ≡ node) }
     {
         // All that can fail comes before the first change that a caller could see.
-        let Ok(()) = make_way(&mut self.nodes, &mut self.sides, self.lists, self.room) else {
+        let Ok(()) = make_way(&mut self.nodes, &mut self.neighbours, self.lists, self.room) else {
             return Err((node, OutOfMemory));
         };
         let key = self.nodes.insert_reserved(node);
-        let place = (self.lists + key) as u32;
-        join_last(self.sides.as_mut_slice(), list as u32, place);
+        let index = (self.lists + key) as u32;
+        join_last(self.neighbours.as_mut_slice(), list as u32, index);
         Ok(key)
     }
 
@@ -248,12 +248,16 @@ impl Links {
         ensures room { self.new.room ≡ self.old.room }
         ensures emptied { IsAloneIn key self.old.lists result.emptied }
     {
-        let sides = self.sides[self.lists + key];
+        let neighbours = self.neighbours[self.lists + key];
         let node = self.nodes.remove(key);
-        join(self.sides.as_mut_slice(), sides.before, sides.after);
+        join(
+            self.neighbours.as_mut_slice(),
+            neighbours.before,
+            neighbours.after,
+        );
         RemovedNode {
             node,
-            emptied: only_neighbour(sides),
+            emptied: only_neighbour(neighbours),
         }
     }
 
@@ -264,7 +268,7 @@ impl Links {
         requires { IsSome (node_at key self.now.lists) }
         ensures { IsAloneIn key self.now.lists result }
     {
-        only_neighbour(self.sides[self.lists + key])
+        only_neighbour(self.neighbours[self.lists + key])
     }
 
     /// Removes the first node of a list, with its key, or returns None if the list is empty.
@@ -275,9 +279,9 @@ impl Links {
         ensures room { self.new.room ≡ self.old.room }
     {
         let key = self.used_front(list)?;
-        let after = self.sides[self.lists + key].after;
+        let after = self.neighbours[self.lists + key].after;
         let node = self.nodes.remove(key);
-        join(self.sides.as_mut_slice(), list as u32, after);
+        join(self.neighbours.as_mut_slice(), list as u32, after);
         Some((key, node))
     }
 
@@ -291,7 +295,7 @@ impl Links {
         self.nodes[key].rounds = rounds;
     }
 
-    /// Replaces the node under a key by another, which keeps the key, the list and the place in it.
+    /// Replaces the node under a key by another, which keeps the key, the list and its position there.
     /// Does not allocate.
     #[inline]
     pub fn set_node(&mut self, key: usize, node: Node)
@@ -309,11 +313,11 @@ impl Links {
         ensures moved { MovesBack key list self.old.lists self.new.lists }
         ensures room { self.new.room ≡ self.old.room }
     {
-        let place = self.lists + key;
-        let Sides { before, after } = self.sides[place];
-        let sides = self.sides.as_mut_slice();
-        join(sides, before, after);
-        join_last(sides, list as u32, place as u32);
+        let index = self.lists + key;
+        let Neighbours { before, after } = self.neighbours[index];
+        let neighbours = self.neighbours.as_mut_slice();
+        join(neighbours, before, after);
+        join_last(neighbours, list as u32, index as u32);
     }
 
     /// Moves the first node of one list to the back of another, or of the same one.
@@ -328,11 +332,11 @@ impl Links {
         let Some(key) = self.used_front(from) else {
             return;
         };
-        let place = self.lists + key;
-        let after = self.sides[place].after;
-        let sides = self.sides.as_mut_slice();
-        join(sides, from as u32, after);
-        join_last(sides, to as u32, place as u32);
+        let index = self.lists + key;
+        let after = self.neighbours[index].after;
+        let neighbours = self.neighbours.as_mut_slice();
+        join(neighbours, from as u32, after);
+        join_last(neighbours, to as u32, index as u32);
     }
 
     /// Moves all nodes of one list to the back of another, in their order and under their keys.
@@ -348,16 +352,16 @@ impl Links {
         let Some(_) = self.front(from) else {
             return;
         };
-        let Sides {
+        let Neighbours {
             before: last,
             after: first,
-        } = self.sides[from];
-        let back = self.sides[to].before;
-        let sides = self.sides.as_mut_slice();
-        join(sides, back, first);
-        join(sides, last, to as u32);
+        } = self.neighbours[from];
+        let back = self.neighbours[to].before;
+        let neighbours = self.neighbours.as_mut_slice();
+        join(neighbours, back, first);
+        join(neighbours, last, to as u32);
         // An empty ring: the root links to itself.
-        join(sides, from as u32, from as u32);
+        join(neighbours, from as u32, from as u32);
     }
 
     /// The first key in use from this one on, or None when no such key is in use. Does not allocate.
@@ -365,9 +369,9 @@ impl Links {
     /// It looks at each key on the way: there are no more keys than there ever were nodes at one time.
     pub fn used_from(&self, from: usize) -> Option<usize>
         ensures found { IsFirstUsed from self.now.lists result }
-        ensures in_range { IfSome result (λ key. key < PLACES) }
+        ensures in_range { IfSome result (λ key. key < INDEXES) }
     {
-        for key in from..self.sides.len() - self.lists {
+        for key in from..self.neighbours.len() - self.lists {
             if self.nodes.contains(key) {
                 return Some(key);
             }
@@ -376,88 +380,92 @@ impl Links {
     }
 }
 
-/// Makes room for one more node and its place. On an error no node and no link changes.
+/// Makes room for one more node and its index. On an error no node and no link changes.
 ///
 /// Where room was promised, there is none only if all that is there is in use, and then it grows at once
 /// for all the nodes that fit.
 #[inline(always)]
 fn make_way(
     nodes: &mut Slab<Node>,
-    sides: &mut Vec<Sides>,
+    neighbours: &mut Vec<Neighbours>,
     lists: usize,
     room: usize,
 ) -> Result<(), OutOfMemory>
-    requires roots { lists ≤ length sides.old.items }
-    requires few { length sides.old.items ≤ PLACES }
-    requires room { HasRoom room lists nodes.old sides.old.items }
+    requires roots { lists ≤ length neighbours.old.items }
+    requires few { length neighbours.old.items ≤ INDEXES }
+    requires room { HasRoom room lists nodes.old neighbours.old.items }
     ensures nodes { nodes.new ≡ record nodes.old { capacity = nodes.new.capacity } }
-    ensures kept { IsGrown sides.old.items sides.new.items }
-    ensures few { length sides.new.items ≤ PLACES }
-    ensures room { HasRoom room lists nodes.new sides.new.items }
+    ensures kept { IsGrown neighbours.old.items neighbours.new.items }
+    ensures few { length neighbours.new.items ≤ INDEXES }
+    ensures room { HasRoom room lists nodes.new neighbours.new.items }
     ensures fits { OnOk result (HasRoomFor nodes.new 1) }
-    ensures place { OnOk result ((0 < room) ⊎ (lists + nodes.new.vacant_key < length sides.new.items)) }
+    ensures index { OnOk result ((0 < room) ⊎ (lists + nodes.new.vacant_key < length neighbours.new.items)) }
     ensures full { OnErr result (room ≤ slab_len nodes.old) }
 {
     if room > 0 {
         if nodes.len() < nodes.capacity() {
             return Ok(());
         }
-        return make_room(nodes, sides, lists, 1);
+        return make_room(nodes, neighbours, lists, 1);
     }
     let key = nodes.vacant_key();
-    if key >= PLACES - lists {
+    if key >= INDEXES - lists {
         return Err(OutOfMemory);
     }
-    reserve_place(sides, lists + key)?;
+    reserve_index(neighbours, lists + key)?;
     nodes.reserve(1)?;
     Ok(())
 }
 
-/// Makes room for this many nodes more, and a place for each key that they can get: a key is below the
+/// Makes room for this many nodes more, and an index for each key that they can get: a key is below the
 /// capacity of the nodes. On an error no node and no link changes.
 ///
-/// The nodes are copied to grow, so that they are as they were if the places can't grow with them.
+/// The nodes are copied to grow, so that they are as they were if the indexes can't grow with them.
 #[cold]
 #[inline(never)]
 fn make_room(
     nodes: &mut Slab<Node>,
-    sides: &mut Vec<Sides>,
+    neighbours: &mut Vec<Neighbours>,
     lists: usize,
     more: usize,
 ) -> Result<(), OutOfMemory>
-    requires roots { lists ≤ length sides.old.items }
-    requires few { length sides.old.items ≤ PLACES }
+    requires roots { lists ≤ length neighbours.old.items }
+    requires few { length neighbours.old.items ≤ INDEXES }
     ensures nodes { nodes.new ≡ record nodes.old { capacity = nodes.new.capacity } }
     ensures larger { nodes.old.capacity ≤ nodes.new.capacity }
-    ensures kept { IsGrown sides.old.items sides.new.items }
-    ensures few { length sides.new.items ≤ PLACES }
+    ensures kept { IsGrown neighbours.old.items neighbours.new.items }
+    ensures few { length neighbours.new.items ≤ INDEXES }
     ensures fits { OnOk result (HasRoomFor nodes.new more) }
-    ensures places { OnOk result (lists + nodes.new.capacity ≤ length sides.new.items) }
+    ensures indexes { OnOk result (lists + nodes.new.capacity ≤ length neighbours.new.items) }
     ensures err { OnErr result (nodes.new ≡ nodes.old) }
 {
     if nodes.capacity() - nodes.len() >= more {
-        return reserve_places(sides, lists, nodes.capacity());
+        return reserve_indexes(neighbours, lists, nodes.capacity());
     }
     let mut larger = nodes.clone()?;
     larger.reserve(more)?;
-    reserve_places(sides, lists, larger.capacity())?;
+    reserve_indexes(neighbours, lists, larger.capacity())?;
     *nodes = larger;
     Ok(())
 }
 
 /// Makes the array long enough for the roots and this many keys. On an error no link in it changes.
-fn reserve_places(sides: &mut Vec<Sides>, lists: usize, keys: usize) -> Result<(), OutOfMemory>
-    requires roots { lists ≤ length sides.old.items }
-    requires few { length sides.old.items ≤ PLACES }
-    ensures kept { IsGrown sides.old.items sides.new.items }
-    ensures few { length sides.new.items ≤ PLACES }
-    ensures places { OnOk result (lists + keys ≤ length sides.new.items) }
+fn reserve_indexes(
+    neighbours: &mut Vec<Neighbours>,
+    lists: usize,
+    keys: usize,
+) -> Result<(), OutOfMemory>
+    requires roots { lists ≤ length neighbours.old.items }
+    requires few { length neighbours.old.items ≤ INDEXES }
+    ensures kept { IsGrown neighbours.old.items neighbours.new.items }
+    ensures few { length neighbours.new.items ≤ INDEXES }
+    ensures indexes { OnOk result (lists + keys ≤ length neighbours.new.items) }
 {
-    if keys > PLACES - lists {
+    if keys > INDEXES - lists {
         return Err(OutOfMemory);
     }
     if keys == 0 {
         return Ok(());
     }
-    reserve_place(sides, lists + keys - 1)
+    reserve_index(neighbours, lists + keys - 1)
 }

@@ -1,8 +1,8 @@
-//! Rings of places: the order of the nodes in their lists.
+//! Rings: the order of the nodes in their lists.
 //!
-//! There is one array of two links a place. With n lists, place l below n is the root of list l, and
-//! place n + key is that of the node under the key. A list is a ring: from its root over its nodes in
-//! their order back to the root. So every place has two neighbours, and no step has to ask whether a
+//! There is one array, with two links at each index. With n lists, index l below n is the root of list l, and
+//! index n + key is that of the node under the key. A list is a ring: from its root over its nodes in
+//! their order back to the root. So every index has two neighbours, and no step has to ask whether a
 //! neighbour is a node or a root.
 //!
 //! 641 lists; list 66 holds the keys 5 and 9, and list 2 the key 4. These are the buckets of wheel 1,
@@ -12,10 +12,10 @@
 //!     +-> 66 <-> 646 <-> 650 <-+      +-> 2 <-> 645 <-+
 //!     +------------------------+      +---------------+
 //!
-//! Key 5, whose place is 646, moves to the back of list 2 by three joins. The first closes the gap
+//! Key 5, whose index is 646, moves to the back of list 2 by three joins. The first closes the gap
 //! that it leaves, the other two are `join_last`. Written are the links `before, after` that change:
 //!
-//!     place                 2          66         645        646        650
+//!     index                 2          66         645        646        650
 //!     at first              645, 645   650, 646   2, 2       66, 650    646, 66
 //!     join(66, 650)                    650, 650                         66, 66
 //!     join(645, 646)                              2, 646     645, 650
@@ -24,108 +24,108 @@
 //!     +-> 66 <-> 650 <-+      +-> 2 <-> 645 <-> 646 <-+
 //!     +----------------+      +-----------------------+
 //!
-//! In a ring of no nodes the root is its own neighbour on both sides. The links at the place of a key
+//! In a ring of no nodes the root is its own neighbour on both sides. The links at the index of a key
 //! that is not in use mean nothing.
 ghost use Rattle.std.specs.Prelude.{◌<◌, ◌≤◌, ◌≡◌, IsOk, OnOk, length};
-ghost use Rattle.timer_links.specs.declared.ring.TheConstants.{PLACES};
+ghost use Rattle.timer_links.specs.declared.ring.TheConstants.{INDEXES};
 
 use timer_base::OutOfMemory;
 
-/// How many places a link can name.
-pub const PLACES: usize = 4294967296;
+/// How many indexes a link can name.
+pub const INDEXES: usize = 4294967296;
 
-/// The two neighbours of a place. Those of a root are the back and the front of its list.
+/// The two neighbours of an index. Those of a root are the back and the front of its list.
 #[derive(Clone, Copy)]
-pub struct Sides {
+pub struct Neighbours {
     pub before: u32,
     pub after: u32,
 }
 
-ghost use Rattle.timer_links.specs.Ring.{sides_at, key_of, neighbour_on_both_sides, IsGrown, Joins, JoinsLast};
+ghost use Rattle.timer_links.specs.Ring.{neighbours_at, key_of, neighbour_on_both_sides, IsGrown, Joins, JoinsLast};
 
-/// The key of the node at a place, or None for a root.
+/// The key of the node at an index, or None for a root.
 #[inline(always)]
-pub fn key_at(place: u32, lists: usize) -> Option<usize>
-    ensures { result ≡ key_of lists place }
+pub fn key_at(index: u32, lists: usize) -> Option<usize>
+    ensures { result ≡ key_of lists index }
 {
-    let place = place as usize;
-    if place < lists {
+    let index = index as usize;
+    if index < lists {
         None
     } else {
-        Some(place - lists)
+        Some(index - lists)
     }
 }
 
-/// The neighbour of a place, if it is the same on both sides. For a node this is the root of a list that
+/// The neighbour of an index, if it is the same on both sides. For a node this is the root of a list that
 /// has no other node.
 #[inline(always)]
-pub fn only_neighbour(sides: Sides) -> Option<usize>
-    ensures { result ≡ neighbour_on_both_sides sides }
+pub fn only_neighbour(neighbours: Neighbours) -> Option<usize>
+    ensures { result ≡ neighbour_on_both_sides neighbours }
 {
-    if sides.before == sides.after {
-        Some(sides.before as usize)
+    if neighbours.before == neighbours.after {
+        Some(neighbours.before as usize)
     } else {
         None
     }
 }
 
-/// Puts one place right after another.
+/// Puts one index right after another.
 #[inline(always)]
-pub fn join(sides: &mut [Sides], front: u32, back: u32)
-    requires front { front < length sides.old }
-    requires back { back < length sides.old }
-    ensures { Joins front back sides.old sides.new }
+pub fn join(neighbours: &mut [Neighbours], front: u32, back: u32)
+    requires front { front < length neighbours.old }
+    requires back { back < length neighbours.old }
+    ensures { Joins front back neighbours.old neighbours.new }
 {
-    sides[front as usize].after = back;
-    sides[back as usize].before = front;
+    neighbours[front as usize].after = back;
+    neighbours[back as usize].before = front;
 }
 
-/// Appends a place that stands in no ring to the ring of this root.
+/// Appends an index that stands in no ring to the ring of this root.
 #[inline(always)]
-pub fn join_last(sides: &mut [Sides], root: u32, place: u32)
-    requires root { root < length sides.old }
-    requires place { place < length sides.old }
-    requires last { (sides_at sides.old root).before < length sides.old }
-    ensures { JoinsLast root place sides.old sides.new }
+pub fn join_last(neighbours: &mut [Neighbours], root: u32, index: u32)
+    requires root { root < length neighbours.old }
+    requires index { index < length neighbours.old }
+    requires last { (neighbours_at neighbours.old root).before < length neighbours.old }
+    ensures { JoinsLast root index neighbours.old neighbours.new }
 {
-    let last = sides[root as usize].before;
-    join(sides, last, place);
-    join(sides, place, root);
+    let last = neighbours[root as usize].before;
+    join(neighbours, last, index);
+    join(neighbours, index, root);
 }
 
-/// Makes the array long enough for a place. On an error no link in it changes; the error is out of memory.
-/// If the place is there already, nothing changes, and there is no error.
+/// Makes the array long enough for an index. On an error no link in it changes; the error is out of memory.
+/// If the index is there already, nothing changes, and there is no error.
 #[inline(always)]
-pub fn reserve_place(sides: &mut Vec<Sides>, place: usize) -> Result<(), OutOfMemory>
-    requires place { place < PLACES }
-    requires few { length sides.old.items ≤ PLACES }
-    ensures had_place { place < length sides.old.items → IsOk result × (sides.new ≡ sides.old) }
-    ensures kept { IsGrown sides.old.items sides.new.items }
-    ensures few { length sides.new.items ≤ PLACES }
-    ensures reached { OnOk result (place < length sides.new.items) }
+pub fn reserve_index(neighbours: &mut Vec<Neighbours>, index: usize) -> Result<(), OutOfMemory>
+    requires index { index < INDEXES }
+    requires few { length neighbours.old.items ≤ INDEXES }
+    ensures had_index { index < length neighbours.old.items → IsOk result × (neighbours.new ≡ neighbours.old) }
+    ensures kept { IsGrown neighbours.old.items neighbours.new.items }
+    ensures few { length neighbours.new.items ≤ INDEXES }
+    ensures reached { OnOk result (index < length neighbours.new.items) }
 {
-    if place < sides.len() {
+    if index < neighbours.len() {
         Ok(())
     } else {
-        grow(sides, place)
+        grow(neighbours, index)
     }
 }
 
-/// Adds up to 64 places at a time. So it is rarely called, and kept out of line, which keeps its callers
+/// Adds up to 64 indexes at a time. So it is rarely called, and kept out of line, which keeps its callers
 /// small.
 #[cold]
 #[inline(never)]
-fn grow(sides: &mut Vec<Sides>, place: usize) -> Result<(), OutOfMemory>
-    requires place { place < PLACES }
-    requires past { length sides.old.items ≤ place }
-    ensures kept { IsGrown sides.old.items sides.new.items }
-    ensures few { length sides.new.items ≤ PLACES }
-    ensures reached { OnOk result (place < length sides.new.items) }
+fn grow(neighbours: &mut Vec<Neighbours>, index: usize) -> Result<(), OutOfMemory>
+    requires index { index < INDEXES }
+    requires past { length neighbours.old.items ≤ index }
+    ensures kept { IsGrown neighbours.old.items neighbours.new.items }
+    ensures few { length neighbours.new.items ≤ INDEXES }
+    ensures reached { OnOk result (index < length neighbours.new.items) }
 {
-    let none = Sides {
+    let none = Neighbours {
         before: 0,
         after: 0,
     };
-    sides.resize(place / 64 * 64 + 64, none)?;
+    neighbours.resize(index / 64 * 64 + 64, none)?;
     Ok(())
 }

@@ -9,6 +9,6 @@ use Rattle.timer_links.proofs.links.Links.alone_in.Goals as goal
 pub returns : goal.returns
 returns c =
     let h = opened c.self.inside c.args.self.now c.self.view_is c.self.invariant in
-    let r = read_node _ _ _ _ c.args.key c.self.inside.sides.items _ h (used _ _ _ _ h c.args.key c.requires) refl c.index.ensures in
+    let r = read_node _ _ _ _ c.args.key c.self.inside.neighbours.items _ h (used _ _ _ _ h c.args.key c.requires) refl c.index.ensures in
     let P : Option ℕ → Type 0 = IsAloneIn c.args.key c.args.self.now.lists in
     subst P (sym c.only_neighbour.ensures) (is_alone_in _ _ _ _ c.args.key _ h r.is)

@@ -6,43 +6,43 @@ use Rattle.timer_links.proofs.links.Links.move_back.Goals as goal
 pub join-requires-clause-front : goal.join-requires-clause-front
 join-requires-clause-front c =
     let h = opened c.self.inside c.args.self.now c.self.view_is c.self.invariant in
-    (read_node _ _ _ _ c.args.key _ _ h (used _ _ _ _ h c.args.key c.requires.used) c.as_mut_slice-sides.ensures.value
+    (read_node _ _ _ _ c.args.key _ _ h (used _ _ _ _ h c.args.key c.requires.used) c.as_mut_slice-neighbours.ensures.value
     c.index.ensures).before
 
 pub join-requires-clause-back : goal.join-requires-clause-back
 join-requires-clause-back c =
     let h = opened c.self.inside c.args.self.now c.self.view_is c.self.invariant in
-    (read_node _ _ _ _ c.args.key _ _ h (used _ _ _ _ h c.args.key c.requires.used) c.as_mut_slice-sides.ensures.value
+    (read_node _ _ _ _ c.args.key _ _ h (used _ _ _ _ h c.args.key c.requires.used) c.as_mut_slice-neighbours.ensures.value
     c.index.ensures).after
 
 pub join_last-requires-clause-last : goal.join_last-requires-clause-last
 join_last-requires-clause-last c =
     let h = opened c.self.inside c.args.self.now c.self.view_is c.self.invariant in
-    let r = read_node _ _ _ _ c.args.key _ _ h (used _ _ _ _ h c.args.key c.requires.used) c.as_mut_slice-sides.ensures.value
+    let r = read_node _ _ _ _ c.args.key _ _ h (used _ _ _ _ h c.args.key c.requires.used) c.as_mut_slice-neighbours.ensures.value
     c.index.ensures in
     back_after _ _ _ _ _ _ _ c.args.list h c.requires.list r.low
-    (joins_read _ _ _ _ _ c.as_mut_slice-sides.ensures.value r.is c.join.ensures)
+    (joins_read _ _ _ _ _ c.as_mut_slice-neighbours.ensures.value r.is c.join.ensures)
 
 pub invariant_of-self : goal.invariant_of-self
 invariant_of-self c =
     let h = opened c.self.inside c.args.self.now c.self.view_is c.self.invariant in
     let i = used _ _ _ _ h c.args.key c.requires.used in
     let x = held _ i in
-    let r = read_node _ _ _ _ c.args.key _ _ h i c.as_mut_slice-sides.ensures.value c.index.ensures in (
-      closed _ _ _ _ (written _ _ c.self.inside.sides _ _ (size_last _ _ _ _ c.join_last.ensures
-          ∙ (c.join.ensures.size ∙ c.as_mut_slice-sides.ensures.len))
+    let r = read_node _ _ _ _ c.args.key _ _ h i c.as_mut_slice-neighbours.ensures.value c.index.ensures in (
+      closed _ _ _ _ (written _ _ c.self.inside.neighbours _ _ (size_last _ _ _ _ c.join_last.ensures
+          ∙ (c.join.ensures.size ∙ c.as_mut_slice-neighbours.ensures.len))
           (moved _ _ _ _ _ _ c.args.key c.args.list x.node h x.is c.requires.list
-          (joins_read _ _ _ _ _ c.as_mut_slice-sides.ensures.value r.is c.join.ensures) c.join_last.ensures)),
-      room_written _ _ _ _ c.self.inside.sides _ c.self.invariant.1 refl (size_last _ _ _ _ c.join_last.ensures
-          ∙ (c.join.ensures.size ∙ c.as_mut_slice-sides.ensures.len)),
+          (joins_read _ _ _ _ _ c.as_mut_slice-neighbours.ensures.value r.is c.join.ensures) c.join_last.ensures)),
+      room_written _ _ _ _ c.self.inside.neighbours _ c.self.invariant.1 refl (size_last _ _ _ _ c.join_last.ensures
+          ∙ (c.join.ensures.size ∙ c.as_mut_slice-neighbours.ensures.len)),
     )
 
 pub returns-clause-moved : goal.returns-clause-moved
 returns-clause-moved c node e =
     let h = opened c.self.inside c.args.self.now c.self.view_is c.self.invariant in
     let i = used _ _ _ _ h c.args.key c.requires.used in
-    let r = read_node _ _ _ _ c.args.key _ _ h i c.as_mut_slice-sides.ensures.value c.index.ensures in
-    lists_are _ _ _ _ (written _ _ c.self.inside.sides _ _ (size_last _ _ _ _ c.join_last.ensures
-    ∙ (c.join.ensures.size ∙ c.as_mut_slice-sides.ensures.len))
+    let r = read_node _ _ _ _ c.args.key _ _ h i c.as_mut_slice-neighbours.ensures.value c.index.ensures in
+    lists_are _ _ _ _ (written _ _ c.self.inside.neighbours _ _ (size_last _ _ _ _ c.join_last.ensures
+    ∙ (c.join.ensures.size ∙ c.as_mut_slice-neighbours.ensures.len))
     (moved _ _ _ _ _ _ c.args.key c.args.list node h (h.held c.args.key
-    ∙ e) c.requires.list (joins_read _ _ _ _ _ c.as_mut_slice-sides.ensures.value r.is c.join.ensures) c.join_last.ensures))
+    ∙ e) c.requires.list (joins_read _ _ _ _ _ c.as_mut_slice-neighbours.ensures.value r.is c.join.ensures) c.join_last.ensures))

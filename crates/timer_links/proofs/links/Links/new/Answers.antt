@@ -5,15 +5,15 @@ use Rattle.timer_links.proofs.NewLinks.{no_roots, one_more, empty_linked}
 use Rattle.timer_links.proofs.links.Links.new.Goals as goal
 
 pub loop-list-init : goal.loop-list-init
-loop-list-init c = no_roots c.in_ok-sides.sides.items c.in_ok-sides.ensures.items
+loop-list-init c = no_roots c.in_ok-neighbours.neighbours.items c.in_ok-neighbours.ensures.items
 
 pub loop-list-preserved : goal.loop-list-preserved
-loop-list-preserved c = one_more c.loop-list.list c.loop-list.sides.items c.push.new.self.items c.loop-list.invariant
+loop-list-preserved c = one_more c.loop-list.list c.loop-list.neighbours.items c.push.new.self.items c.loop-list.invariant
     c.in_ok-push.ensures.items
 
 pub invariant_of-result : goal.invariant_of-result
 invariant_of-result c = (
-  closed _ _ _ _ (empty_linked c.args.lists c.loop-list.list c.new.result c.loop-list.sides.items c.new.ensures.empty
+  closed _ _ _ _ (empty_linked c.args.lists c.loop-list.list c.new.result c.loop-list.neighbours.items c.new.ensures.empty
       c.loop-list.invariant c.loop-list.auto.list-end c.loop-list-test.false c.requires),
   no_room _ _ _,
 )
@@ -21,5 +21,5 @@ invariant_of-result c = (
 pub returns : goal.returns
 returns c =
     let f : KeyedLists → LinksState = λ x. record { lists = x; room = 0 } in
-    ap f (lists_are _ _ _ _ (empty_linked c.args.lists c.loop-list.list c.new.result c.loop-list.sides.items c.new.ensures.empty
+    ap f (lists_are _ _ _ _ (empty_linked c.args.lists c.loop-list.list c.new.result c.loop-list.neighbours.items c.new.ensures.empty
     c.loop-list.invariant c.loop-list.auto.list-end c.loop-list-test.false c.requires))

@@ -15,10 +15,10 @@ invariant_of-self c =
     let h = opened c.self.inside c.args.self.now c.self.view_is c.self.invariant in
     let f = front_of _ _ _ _ c.args.list c.in_ok-key.key h c.requires (sym c.in_ok-key.ensures.key) in
     let r = read_node _ _ _ _ c.in_ok-key.key _ _ h f.used c.as_mut_slice.ensures.value c.index.ensures in (
-      closed _ _ _ _ (written _ _ c.self.inside.sides _ _ (c.join.ensures.size ∙ c.as_mut_slice.ensures.len)
+      closed _ _ _ _ (written _ _ c.self.inside.neighbours _ _ (c.join.ensures.size ∙ c.as_mut_slice.ensures.len)
           (unlinked _ _ _ _ _ _ c.in_ok-key.key h f.used c.remove-node.ensures.updates c.remove-node.ensures.len
           (joins_front _ _ _ _ _ _ c.as_mut_slice.ensures.value r.is f.before c.join.ensures))),
-      room_written _ _ _ _ c.self.inside.sides _ c.self.invariant.1 c.remove-node.ensures.capacity
+      room_written _ _ _ _ c.self.inside.neighbours _ c.self.invariant.1 c.remove-node.ensures.capacity
           (c.join.ensures.size ∙ c.as_mut_slice.ensures.len),
     )
 
@@ -29,7 +29,7 @@ returns-clause-popped c =
     let r = read_node _ _ _ _ c.in_ok-key.key _ _ h f.used c.as_mut_slice.ensures.value c.index.ensures in (
       f.rest,
       node_popped _ _ _ _ _ _ _ f c.remove-node.ensures.value,
-      lists_are _ _ _ _ (written _ _ c.self.inside.sides _ _ (c.join.ensures.size ∙ c.as_mut_slice.ensures.len)
+      lists_are _ _ _ _ (written _ _ c.self.inside.neighbours _ _ (c.join.ensures.size ∙ c.as_mut_slice.ensures.len)
           (unlinked _ _ _ _ _ _ c.in_ok-key.key h f.used c.remove-node.ensures.updates c.remove-node.ensures.len
           (joins_front _ _ _ _ _ _ c.as_mut_slice.ensures.value r.is f.before c.join.ensures))) ∙ f.without,
     )

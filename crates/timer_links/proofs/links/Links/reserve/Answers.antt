@@ -40,7 +40,7 @@ invariant_of-self-2 c =
             let some : slab_len c.make_room.new.nodes + c.saturating_sub-more.result ≤
             c.make_room.new.nodes.capacity = c.in-Ok.ensures.fits in
             rw c.max-self-inside.ensures (max-le (omega arith) (omega arith));
-        places = λ p. c.in-Ok.ensures.places;
+        indexes = λ p. c.in-Ok.ensures.indexes;
       },
     )
 

@@ -9,22 +9,24 @@ use Rattle.timer_links.proofs.links.Links.take.Goals as goal
 pub join-requires-clause-front : goal.join-requires-clause-front
 join-requires-clause-front c =
     let h = opened c.self.inside c.args.self.now c.self.view_is c.self.invariant in
-    (read_node _ _ _ _ c.args.key _ _ h (some_is _ _ c.remove-node.ensures.value) c.as_mut_slice.ensures.value c.index-sides.ensures).before
+    (read_node _ _ _ _ c.args.key _ _ h (some_is _ _ c.remove-node.ensures.value) c.as_mut_slice.ensures.value
+    c.index-neighbours.ensures).before
 
 pub join-requires-clause-back : goal.join-requires-clause-back
 join-requires-clause-back c =
     let h = opened c.self.inside c.args.self.now c.self.view_is c.self.invariant in
-    (read_node _ _ _ _ c.args.key _ _ h (some_is _ _ c.remove-node.ensures.value) c.as_mut_slice.ensures.value c.index-sides.ensures).after
+    (read_node _ _ _ _ c.args.key _ _ h (some_is _ _ c.remove-node.ensures.value) c.as_mut_slice.ensures.value
+    c.index-neighbours.ensures).after
 
 pub invariant_of-self : goal.invariant_of-self
 invariant_of-self c =
     let h = opened c.self.inside c.args.self.now c.self.view_is c.self.invariant in
     let i = some_is _ _ c.remove-node.ensures.value in
-    let r = read_node _ _ _ _ c.args.key _ _ h i c.as_mut_slice.ensures.value c.index-sides.ensures in (
-      closed _ _ _ _ (written _ _ c.self.inside.sides _ _ (c.join.ensures.size ∙ c.as_mut_slice.ensures.len)
+    let r = read_node _ _ _ _ c.args.key _ _ h i c.as_mut_slice.ensures.value c.index-neighbours.ensures in (
+      closed _ _ _ _ (written _ _ c.self.inside.neighbours _ _ (c.join.ensures.size ∙ c.as_mut_slice.ensures.len)
           (unlinked _ _ _ _ _ _ c.args.key h i c.remove-node.ensures.updates c.remove-node.ensures.len
           (joins_read _ _ _ _ _ c.as_mut_slice.ensures.value r.is c.join.ensures))),
-      room_written _ _ _ _ c.self.inside.sides _ c.self.invariant.1 c.remove-node.ensures.capacity
+      room_written _ _ _ _ c.self.inside.neighbours _ c.self.invariant.1 c.remove-node.ensures.capacity
           (c.join.ensures.size ∙ c.as_mut_slice.ensures.len),
     )
 
@@ -32,15 +34,16 @@ pub returns-clause-taken : goal.returns-clause-taken
 returns-clause-taken c =
     let h = opened c.self.inside c.args.self.now c.self.view_is c.self.invariant in
     let i = some_is _ _ c.remove-node.ensures.value in
-    let r = read_node _ _ _ _ c.args.key _ _ h i c.as_mut_slice.ensures.value c.index-sides.ensures in
-    lists_are _ _ _ _ (written _ _ c.self.inside.sides _ _ (c.join.ensures.size ∙ c.as_mut_slice.ensures.len)
+    let r = read_node _ _ _ _ c.args.key _ _ h i c.as_mut_slice.ensures.value c.index-neighbours.ensures in
+    lists_are _ _ _ _ (written _ _ c.self.inside.neighbours _ _ (c.join.ensures.size ∙ c.as_mut_slice.ensures.len)
     (unlinked _ _ _ _ _ _ c.args.key h i c.remove-node.ensures.updates c.remove-node.ensures.len
     (joins_read _ _ _ _ _ c.as_mut_slice.ensures.value r.is c.join.ensures)))
 
 pub returns-clause-emptied : goal.returns-clause-emptied
 returns-clause-emptied c =
     let h = opened c.self.inside c.args.self.now c.self.view_is c.self.invariant in
-    let r = read_node _ _ _ _ c.args.key _ _ h (some_is _ _ c.remove-node.ensures.value) c.as_mut_slice.ensures.value c.index-sides.ensures
+    let r = read_node _ _ _ _ c.args.key _ _ h (some_is _ _ c.remove-node.ensures.value) c.as_mut_slice.ensures.value
+    c.index-neighbours.ensures
     in
     let P : Option ℕ → Type 0 = IsAloneIn c.args.key c.args.self.now.lists in
     subst P (sym c.only_neighbour.ensures) (is_alone_in _ _ _ _ c.args.key _ h r.is)
