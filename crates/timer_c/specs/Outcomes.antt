@@ -57,8 +57,8 @@ IsStartRefusal interval old status =
     ⊎ ((status ≡ NO_MEMORY) × IsStartable interval old × IsRoomUsed old)
 
 -- the handle as the wheel's type
-abbrev pub named : Handle → base.Handle
-named handle = record { place = handle.place; serial = handle.serial }
+abbrev pub base_handle : Handle → base.Handle
+base_handle handle = record { place = handle.place; serial = handle.serial }
 
 -- a start for this tick was done: the timer is pending until then, or expired if the tick is not after now
 abbrev pub IsStartedAt : ℕ → ℕ → WheelState → WheelState → Handle → Type 0
@@ -79,28 +79,30 @@ IsStartAtRefusal deadline old status = IsStartRefusal (interval_until deadline o
 -- a restart was done: the old timer is removed, and the new one started under the next serial
 abbrev pub IsRestarted : Handle → ℕ → ℕ → WheelState → WheelState → Handle → Type 0
 IsRestarted handle interval action old new restarted =
-    IsAt (named handle) old × IsStartable interval old × (restarted.serial ≡ old.last_serial + 1)
-    × (new ≡ after_start restarted.place (next_timer interval action old) (after_removal (named handle) old))
+    IsAt (base_handle handle) old × IsStartable interval old × (restarted.serial ≡ old.last_serial + 1)
+    × (new ≡ after_start restarted.place (next_timer interval action old)
+    (after_removal (base_handle handle) old))
 
 -- a restart for this tick was done, as a start for it
 abbrev pub IsRestartedAt : Handle → ℕ → ℕ → WheelState → WheelState → Handle → Type 0
 IsRestartedAt handle deadline action old new restarted =
-    IsAt (named handle) old × IsStartable (interval_until deadline old) old
+    IsAt (base_handle handle) old × IsStartable (interval_until deadline old) old
     × (restarted.serial ≡ old.last_serial + 1)
-    × (new ≡ after_start_at restarted.place deadline action (after_removal (named handle) old))
+    × (new ≡ after_start_at restarted.place deadline action (after_removal (base_handle handle) old))
 
 -- a restart was done, with a timer that expires at once
 abbrev pub IsRestartedDue : Handle → ℕ → WheelState → WheelState → Handle → Type 0
 IsRestartedDue handle action old new restarted =
-    IsAt (named handle) old × IsStartable 1 old × (restarted.serial ≡ old.last_serial + 1)
-    × (new ≡ after_start_due restarted.place action (after_removal (named handle) old))
+    IsAt (base_handle handle) old × IsStartable 1 old × (restarted.serial ≡ old.last_serial + 1)
+    × (new ≡ after_start_due restarted.place action (after_removal (base_handle handle) old))
 
 abbrev pub IsRestartRefusal : Handle → ℕ → WheelState → ℕ → Type 0
 IsRestartRefusal handle interval old status =
-    ((status ≡ NOT_PENDING) × (held_at (named handle) old ≡ None))
-    ⊎ ((status ≡ ZERO_INTERVAL) × IsAt (named handle) old × (interval ≡ 0))
-    ⊎ ((status ≡ TOO_LATE) × IsAt (named handle) old × (0 < interval) × (old.last_tick < old.now + interval))
-    ⊎ ((status ≡ SERIALS_SPENT) × IsAt (named handle) old × (0 < interval)
+    ((status ≡ NOT_PENDING) × (held_at (base_handle handle) old ≡ None))
+    ⊎ ((status ≡ ZERO_INTERVAL) × IsAt (base_handle handle) old × (interval ≡ 0))
+    ⊎ ((status ≡ TOO_LATE) × IsAt (base_handle handle) old × (0 < interval)
+    × (old.last_tick < old.now + interval))
+    ⊎ ((status ≡ SERIALS_SPENT) × IsAt (base_handle handle) old × (0 < interval)
     × (old.now + interval ≤ old.last_tick) × (LAST ≤ old.last_serial))
 
 -- why it was not: an interval until a tick is never 0
@@ -130,12 +132,13 @@ action_of (Some t) = Some t.action
 -- a stop was done: the timer is removed, and no timer has its handle
 abbrev pub IsStopped : Handle → WheelState → WheelState → ℕ → Type 0
 IsStopped handle old new action =
-    (new ≡ after_removal (named handle) old) × (action_of (held_at (named handle) old) ≡ Some action)
-    × (held_at (named handle) new ≡ None)
+    (new ≡ after_removal (base_handle handle) old)
+    × (action_of (held_at (base_handle handle) old) ≡ Some action)
+    × (held_at (base_handle handle) new ≡ None)
 
 abbrev pub WhyNotStopped : Handle → WheelState → ℕ → Type 0
 WhyNotStopped handle old status =
-    (status ≡ NOT_PENDING) × (held_at (named handle) old ≡ None)
+    (status ≡ NOT_PENDING) × (held_at (base_handle handle) old ≡ None)
 
 -- a tick was done
 abbrev pub IsTicked : WheelState → WheelState → Type 0
@@ -162,7 +165,7 @@ told (Some t) = Some (tell t)
 
 -- the timer with this handle, pending or expired and not yet taken
 abbrev pub IsSeen : Handle → WheelState → Expired → Type 0
-IsSeen handle w out = told (held_at (named handle) w) ≡ Some out
+IsSeen handle w out = told (held_at (base_handle handle) w) ≡ Some out
 
 -- this many of the due timers were taken
 abbrev pub after_expiries : ℕ → WheelState → WheelState

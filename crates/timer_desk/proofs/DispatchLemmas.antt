@@ -15,7 +15,7 @@ use Rattle.timer_facility.specs.declared.event.Out.{Out}
 use Rattle.timer_facility.specs.declared.event.Out.TheVariants as Outs
 use Rattle.timer_facility.specs.State.{FacilityState, SingleEvent, Tick, Close, count_of, pending_of}
 use Rattle.timer_facility.specs.Verdict.{tick_refusal}
-use Rattle.timer_facility.specs.Step.{Step, step, step_of_tick, step_of_close, expired_next}
+use Rattle.timer_facility.specs.Step.{StepResult, step, step_of_tick, step_of_close, expired_next}
 use Rattle.timer_facility.specs.Run.{run, notices_in}
 use Rattle.timer_facility.specs.Facility.{FacilityView, view_after, with_nothing_waiting}
 use Rattle.timer_facility.specs.HandedOver.{HandsOver, timers_handed}
@@ -379,8 +379,8 @@ Runs-closed f f' (Ok count) h = record {
 Runs-closed f f' (Err CloseFaults.Closed) h =
     let closed : f.state.is_closed ≡ true = closed_true f.state.is_closed (h.fault.0 refl) in
     let stays : step f.state Close 0 ≡ step_of_close f.state true = ap (step_of_close f.state) closed in record {
-      outs_are = ap (λ (st : Step). st.outs ++ []) (sym stays);
-      state_is = ap (λ (v : FacilityView). v.state) h.unchanged ∙ ap (λ (st : Step). st.state) (sym stays);
+      outs_are = ap (λ (st : StepResult). st.outs ++ []) (sym stays);
+      state_is = ap (λ (v : FacilityView). v.state) h.unchanged ∙ ap (λ (st : StepResult). st.state) (sym stays);
     }
 Runs-closed f f' (Err CloseFaults.OutOfMemory) h = record { outs_are = refl; state_is = ap (λ (v : FacilityView). v.state) h.unchanged }
 
@@ -406,7 +406,7 @@ waiting_close f f' (Err fault) h quiet = ap (λ (v : FacilityView). v.waiting) h
 
 -- Room for the notices of an event.
 
-HasRoom-handed : (bs : List BacklogState) (f f' : FacilityView) (st : Step) → HasRoom bs f → f.waiting ≡ [] → HandsOver f.state st
+HasRoom-handed : (bs : List BacklogState) (f f' : FacilityView) (st : StepResult) → HasRoom bs f → f.waiting ≡ [] → HandsOver f.state st
     → f' ≡ view_after st → HasRoom bs f'
 HasRoom-handed bs f f' st room quiet hands e = λ c d l.
     let none : notices_for c f.waiting ≡ 0 = ap (notices_for c) quiet in

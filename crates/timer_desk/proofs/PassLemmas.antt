@@ -6,7 +6,7 @@ use Rattle.timer_facility.specs.declared.request.TickFault.{TickFault}
 use Rattle.timer_facility.specs.declared.event.Out.TheVariants as Outs
 use Rattle.timer_facility.specs.State.{FacilityState, Tick}
 use Rattle.timer_facility.specs.Verdict.{tick_refusal}
-use Rattle.timer_facility.specs.Step.{Step, step, step_of_tick}
+use Rattle.timer_facility.specs.Step.{StepResult, step, step_of_tick}
 use Rattle.timer_facility.specs.Run.{PlacedEvent, run}
 use Rattle.timer_facility.specs.Facility.{FacilityView, view_after, with_nothing_waiting}
 use Rattle.timer_facility.specs.HandedOver.{HandsOver}
@@ -45,15 +45,15 @@ Runs-passed limit f g (Ok passed) h quiet =
     let all = events_then f.state (ticks passed) g.waiting in record {
       outs_are =
           outs-notices g.waiting ∙ ap (λ (v : FacilityView). map (λ n. Outs.Notice n) v.waiting) a.ticked
-          ∙ (are_accepted f.state passed a.accepted).outs ∙ ap (λ (st : Step). st.outs) all;
-      state_is = ap (λ (v : FacilityView). v.state) a.ticked ∙ ap (λ (st : Step). st.state) all;
+          ∙ (are_accepted f.state passed a.accepted).outs ∙ ap (λ (st : StepResult). st.outs) all;
+      state_is = ap (λ (v : FacilityView). v.state) a.ticked ∙ ap (λ (st : StepResult). st.state) all;
     }
 Runs-passed limit f g (Err fault) h quiet =
     let refused : step f.state Tick 0 ≡ step_of_tick f.state (Some fault) = ap (step_of_tick f.state) h.fault in
     subst (λ (ns : List Notice). Runs (Dones.Passed limit (Err fault) ∷ map Dones.Noticed ns) f.state g.state)
     (sym (none_wait limit f g fault h quiet)) (record {
-      outs_are = ap (λ (st : Step). st.outs ++ []) (sym refused);
-      state_is = ap (λ (v : FacilityView). v.state) h.unchanged ∙ ap (λ (st : Step). st.state) (sym refused);
+      outs_are = ap (λ (st : StepResult). st.outs ++ []) (sym refused);
+      state_is = ap (λ (v : FacilityView). v.state) h.unchanged ∙ ap (λ (st : StepResult). st.state) (sym refused);
     })
 
 pub right_pass : (limit : ℕ) (f g : FacilityView) (r : Result ℕ TickFault) → HasTicked limit f g r

@@ -5,7 +5,7 @@ use Rattle.std.proofs.lemmas.Grind.{flat_map-append}
 use Rattle.timer_facility.specs.declared.request.Notice.{Notice}
 use Rattle.timer_facility.specs.State.{FacilityState, Tick}
 use Rattle.timer_facility.specs.Verdict.{tick_refusal}
-use Rattle.timer_facility.specs.Step.{Step, step}
+use Rattle.timer_facility.specs.Step.{StepResult, step}
 use Rattle.timer_facility.specs.Run.{history, state_after, run, notices, notices_in, outs_of}
 use Rattle.timer_facility.specs.Facility.{FacilityView, view_after, with_nothing_waiting}
 use Rattle.timer_facility.specs.HandedOver.{HandsOver}
@@ -25,7 +25,7 @@ use Rattle.timer_desk.proofs.DispatchLemmas.{desk_of, ReportHolds-tick, IsDesk-t
 one_more : (s : FacilityState) (n : ℕ) → notices (history s (ticks n)) ≡ []
     → notices (history s (ticks (suc n))) ≡ tick_notices (state_after s (ticks n))
 one_more s n h =
-    let last : Step = step (state_after s (ticks n)) Tick 0 in
+    let last : StepResult = step (state_after s (ticks n)) Tick 0 in
     ap notices_in (outs_of-ticks n s) ∙ notices_in-append (outs_of (history s (ticks n))) last.outs
     ∙ ap (λ ns. ns ++ notices_in last.outs) h
 

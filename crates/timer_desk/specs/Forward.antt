@@ -3,7 +3,7 @@ use Rattle.std.specs.Prelude.{◌≡◌, ℕ, Bool, true, [], ◌∷◌, Option,
 use Rattle.timer_facility.specs.declared.request.NotTaken.TheVariants as NotTakens
 use Rattle.timer_facility.specs.State.{FacilityState}
 use Rattle.timer_facility.specs.Step.{StepResult, step}
-use Rattle.timer_facility.specs.Facility.{FacilityView, asked as event_asked, with_nothing_waiting, NeedsMemory}
+use Rattle.timer_facility.specs.Facility.{FacilityView, event_of_request, with_nothing_waiting, NeedsMemory}
 use Rattle.timer_desk.specs.declared.word.Numbered.{Numbered}
 use Rattle.timer_desk.specs.declared.word.Word.{Word}
 use Rattle.timer_desk.specs.declared.word.Word.TheVariants as Words
@@ -11,7 +11,7 @@ use Rattle.timer_desk.specs.Report.{out_of, place_told}
 
 -- the step of a client's request, with the place in its word
 abbrev pub asked_step : FacilityState → ℕ → Numbered → Word → StepResult
-asked_step s client numbered word = step s (event_asked client numbered.number numbered.request)
+asked_step s client numbered word = step s (event_of_request client numbered.number numbered.request)
     (place_told word)
 
 -- the word is not a refusal for memory

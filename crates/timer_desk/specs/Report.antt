@@ -7,7 +7,7 @@ use Rattle.timer_facility.specs.declared.request.TickFault.{TickFault}
 use Rattle.timer_facility.specs.declared.event.Out.{Out}
 use Rattle.timer_facility.specs.declared.event.Out.TheVariants as Outs
 use Rattle.timer_facility.specs.State.{FacilityState, SingleEvent, Tick, Close}
-use Rattle.timer_facility.specs.Facility.{asked as event_asked, place_in}
+use Rattle.timer_facility.specs.Facility.{event_of_request, place_in}
 use Rattle.timer_facility.specs.Run.{PlacedEvent, run}
 use Rattle.timer_facility.specs.Ticked.{ticks}
 use Rattle.timer_desk.specs.declared.word.Numbered.{Numbered}
@@ -95,7 +95,7 @@ placed event place = record { event = event; place = place }
 
 -- a request that was tried and didn't run out of memory
 abbrev pub request_event : ℕ → Numbered → Word → PlacedEvent
-request_event client numbered word = placed (event_asked client numbered.number numbered.request)
+request_event client numbered word = placed (event_of_request client numbered.number numbered.request)
     (place_told word)
 
 abbrev pub served_events : ℕ → Served → List PlacedEvent

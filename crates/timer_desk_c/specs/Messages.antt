@@ -32,8 +32,8 @@ abbrev pub given : base.Handle → Handle
 given handle = record { place = handle.place; serial = handle.serial }
 
 -- and as the wheel's type
-abbrev pub named : Handle → base.Handle
-named handle = record { place = handle.place; serial = handle.serial }
+abbrev pub base_handle : Handle → base.Handle
+base_handle handle = record { place = handle.place; serial = handle.serial }
 
 abbrev pub reason_of : Reason → ℕ
 reason_of Reasons.ZeroInterval = ZERO_INTERVAL

@@ -9,12 +9,12 @@ ghost use Rattle.timer_facility.specs.declared.request.Request.TheVariants.{Star
 ghost use Rattle.timer_desk_c.specs.Frames.{HasLine, HasNoLine, with_line};
 ghost use Rattle.timer_desk_c.specs.Lines.{HasSent, WhyNotSent, SameTraffic, SameSent, HasReceived, HasFinished, IsReadToEnd, MayReceive, IsSameLine, is_open_line, is_ended_line, seen_on, unread_on, received_on};
 ghost use Rattle.timer_desk_c.specs.Freed.{HasNoWord};
-ghost use Rattle.timer_desk_c.specs.Messages.{named};
+ghost use Rattle.timer_desk_c.specs.Messages.{base_handle};
 ghost use Rattle.timer_desk_c.specs.declared.status.TheConstants.{OK, NOT_OPEN, FINISHED};
 
 use crate::c_structs::CLine;
 use crate::layout::{Handle, Message};
-use crate::messages::named;
+use crate::messages::from_c_handle;
 use crate::status::NOT_OPEN;
 use std::alloc::Global;
 use timer_facility::Request;
@@ -49,7 +49,7 @@ pub extern "C" fn timers_line_start(
 #[unsafe(no_mangle)]
 pub extern "C" fn timers_line_stop(line: &mut CLine, handle: Handle, number: &mut u64) -> u32
     ensures sent { result ≡ OK → HasLine line.old × HasSent
-        (Stop (named handle)) line.old.slot.state line.new.slot.state number.new }
+        (Stop (base_handle handle)) line.old.slot.state line.new.slot.state number.new }
     ensures refused { 0 < result → ((result ≡ NOT_OPEN) × HasNoLine line.old)
         ⊎ (HasLine line.old × WhyNotSent line.old.slot.state line.new.slot.state result) }
     ensures kept { 0 < result → SameTraffic line.old.slot.state line.new.slot.state
@@ -61,7 +61,9 @@ pub extern "C" fn timers_line_stop(line: &mut CLine, handle: Handle, number: &mu
     if !line.slot.holds() {
         return NOT_OPEN;
     }
-    line.slot.line().send(Request::Stop(named(handle)), number)
+    line.slot
+        .line()
+        .send(Request::Stop(from_c_handle(handle)), number)
 }
 
 /// Sends the request to stop the timer with this handle and start another in its place, and writes the
@@ -75,7 +77,7 @@ pub extern "C" fn timers_line_restart(
     number: &mut u64,
 ) -> u32
     ensures sent { result ≡ OK → HasLine line.old
-        × HasSent (Restart (named handle) interval action)
+        × HasSent (Restart (base_handle handle) interval action)
         line.old.slot.state line.new.slot.state number.new }
     ensures refused { 0 < result → ((result ≡ NOT_OPEN) × HasNoLine line.old)
         ⊎ (HasLine line.old × WhyNotSent line.old.slot.state line.new.slot.state result) }
@@ -90,7 +92,7 @@ pub extern "C" fn timers_line_restart(
     }
     line.slot.line().send(
         Request::Restart {
-            handle: named(handle),
+            handle: from_c_handle(handle),
             interval,
             action,
         },

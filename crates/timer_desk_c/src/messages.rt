@@ -1,6 +1,6 @@
 //! Words to a client as C's struct.
 ghost use Rattle.std.specs.Prelude.{◌≡◌};
-ghost use Rattle.timer_desk_c.specs.Messages.{blank, given, named, reason_of, message_of_answer, message_of_not_taken, message_of_timer, message_of};
+ghost use Rattle.timer_desk_c.specs.Messages.{blank, given, base_handle, reason_of, message_of_answer, message_of_not_taken, message_of_timer, message_of};
 
 use crate::layout::{Handle, Message};
 use crate::status::{
@@ -121,8 +121,8 @@ fn given(handle: timer_base::Handle) -> Handle
 }
 
 /// A handle as the wheel's type.
-pub(crate) fn named(handle: Handle) -> timer_base::Handle
-    ensures { result ≡ named handle }
+pub(crate) fn from_c_handle(handle: Handle) -> timer_base::Handle
+    ensures { result ≡ base_handle handle }
 {
     timer_base::Handle {
         place: handle.place,

@@ -18,7 +18,7 @@ use Rattle.timer_facility.specs.State.{FacilityState, IsSound, SingleEvent, Want
 use Rattle.timer_facility.specs.Verdict.{not_taken}
 use Rattle.timer_facility.specs.Step.{StepResult, step, step_of_request}
 use Rattle.timer_facility.specs.Run.{PlacedEvent, HistoryEntry, history, state_after, outs_of}
-use Rattle.timer_facility.specs.Facility.{FacilityView, place_in, asked, IsTaken, IsNotTaken}
+use Rattle.timer_facility.specs.Facility.{FacilityView, place_in, event_of_request, IsTaken, IsNotTaken}
 use Rattle.timer_facility.specs.Played.{singles_of, ArePlaced, IsRun, IsPlayed, AddsRun}
 
 state_after-append : (s : FacilityState) (xs ys : List PlacedEvent) → state_after s (xs ++ ys) ≡ state_after (state_after s xs) ys
@@ -110,11 +110,11 @@ AddsRun-one s event single place before outs after h o e =
 -- a request that is taken
 pub AddsRun-taken : (s : FacilityState) (event : Event) (client number : ℕ) (request : Request) (answer : Answer) (before outs : List Out)
     (new : FacilityView)
-    → singles_of s event ≡ asked client number request ∷ [] → IsTaken s client number request answer new
+    → singles_of s event ≡ event_of_request client number request ∷ [] → IsTaken s client number request answer new
     → outs ≡ before ++ Outs.Answered client number answer ∷ []
     → AddsRun s event before outs new.state
 AddsRun-taken s event client number request answer before outs new h t o =
-    AddsRun-one s event (asked client number request) (place_in answer) before outs new.state h
+    AddsRun-one s event (event_of_request client number request) (place_in answer) before outs new.state h
     (o ∙ ap (λ os. before ++ os) (sym t.answered)) (ap (λ (v : FacilityView). v.state) t.left)
 
 -- a request that is not taken

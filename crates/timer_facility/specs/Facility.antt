@@ -45,8 +45,8 @@ wanted_of (Requests.Stop handle) = Stop handle
 wanted_of (Requests.Restart handle interval action) = Restart handle interval action
 
 -- a client's request under a number
-abbrev pub asked : ℕ → ℕ → Request → SingleEvent
-asked client number request = Asked client number (wanted_of request)
+abbrev pub event_of_request : ℕ → ℕ → Request → SingleEvent
+event_of_request client number request = Asked client number (wanted_of request)
 
 -- the place in an answer
 abbrev pub place_in : Answer → ℕ
@@ -58,9 +58,9 @@ place_in (Refused reason) = 0
 -- the request is taken, with this answer and this view after it
 pub record IsTaken (s : FacilityState) (client number : ℕ) (request : Request) (answer : Answer)
     (new : FacilityView) : Type 0 where
-  pub answered : (step s (asked client number request) (place_in answer)).outs
+  pub answered : (step s (event_of_request client number request) (place_in answer)).outs
       ≡ Outs.Answered client number answer ∷ []
-  pub left : new ≡ view_after (step s (asked client number request) (place_in answer))
+  pub left : new ≡ view_after (step s (event_of_request client number request) (place_in answer))
 
 -- the request would be taken, and is a start that would be accepted
 abbrev pub NeedsMemory : FacilityState → ℕ → ℕ → Request → Type 0

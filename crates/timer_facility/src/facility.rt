@@ -16,7 +16,7 @@ ghost use Rattle.timer_facility.specs.Opened.{opened};
 ghost use Rattle.timer_facility.specs.Handles.{is_pending};
 ghost use Rattle.timer_facility.specs.Ticked.{AreTicked};
 ghost use Rattle.timer_facility.specs.WakeUps.{IsQuietUntil};
-ghost use Rattle.timer_facility.specs.Facility.{FacilityView, Parts, view_of, AreParts, view_after, view_with_room, with_nothing_waiting, IsShort, asked, place_in, IsTaken, IsNotTaken};
+ghost use Rattle.timer_facility.specs.Facility.{FacilityView, Parts, view_of, AreParts, view_after, view_with_room, with_nothing_waiting, IsShort, event_of_request, place_in, IsTaken, IsNotTaken};
 
 use crate::config::Checked;
 use crate::limits::CLIENTS;
@@ -213,8 +213,9 @@ impl<W: Wheel + Drop> Facility<W> {
         ensures taken { IfOk result (λ answer. IsTaken self.old.state client number request answer self.new) }
         ensures not_taken { IfErr result (IsNotTaken self.old.state client number request) }
         ensures verdict { MatchResult result
-            (λ answer. verdict self.old.state (asked client number request) ≡ verdict_in answer)
-            (λ reason. verdict self.old.state (asked client number request) ≡ verdict_on_not_taken reason) }
+            (λ answer. verdict self.old.state (event_of_request client number request) ≡ verdict_in answer)
+            (λ reason. verdict self.old.state (event_of_request client number request)
+            ≡ verdict_on_not_taken reason) }
         ensures room { IfErr result (IsShort self.old.state) }
         ensures err { OnErr result (self.new ≡ self.old) }
     {

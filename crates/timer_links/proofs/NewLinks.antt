@@ -19,8 +19,11 @@ pub record AreRoots (n : ℕ) (neighbours : List Neighbours) : Type 0 where
 pub no_roots : (neighbours : List Neighbours) → neighbours ≡ [] → AreRoots 0 neighbours
 no_roots neighbours e = record { many = rw e refl; each = λ l b. absurd (omega arith) }
 
-pub one_more : (n : ℕ) (neighbours more : List Neighbours) → AreRoots n neighbours → more ≡ neighbours ++ record { before = n; after =
-    n } ∷ []
+pub one_more : (n : ℕ) (neighbours more : List Neighbours) → AreRoots n neighbours → more ≡ neighbours ++ record {
+  before = n;
+  after =
+      n;
+} ∷ []
     → AreRoots (n + 1) more
 one_more n neighbours more h e =
     let len : length (neighbours ++ record { before = n; after = n } ∷ []) ≡ length neighbours + 1 =

@@ -25,7 +25,8 @@ walk (suc n) lists nodes neighbours index = rows_of nodes (key_of lists index)
 
 -- the lists, each walked from the index after its root
 abbrev pub lists_of : ℕ → Slab Node → List Neighbours → KeyedLists
-lists_of lists nodes neighbours = map (λ root. walk (slab_len nodes) lists nodes neighbours (neighbours_at neighbours root).after)
+lists_of lists nodes neighbours =
+    map (λ root. walk (slab_len nodes) lists nodes neighbours (neighbours_at neighbours root).after)
     (range_with_len 0 lists)
 
 -- the indexes of these rows
@@ -35,7 +36,8 @@ indexes lists (row ∷ rest) = (lists + row.0) ∷ indexes lists rest
 
 -- each list is a ring: its root, its nodes in their order, and back to the root
 abbrev pub AreRings : ℕ → List Neighbours → KeyedLists → Type 0
-AreRings lists neighbours v = (l : ℕ) → l < lists → IsChain neighbours l (indexes lists (list_at l v) ++ l ∷ [])
+AreRings lists neighbours v =
+    (l : ℕ) → l < lists → IsChain neighbours l (indexes lists (list_at l v) ++ l ∷ [])
 
 -- the nodes under these keys stand in these lists, and each list is a ring
 pub record IsLinked (lists : ℕ) (nodes : Slab Node) (neighbours : List Neighbours)

@@ -12,7 +12,8 @@ key_of lists index = if nat_lt index lists then None else Some (index - lists)
 
 -- the neighbour on both sides, if it is the same
 abbrev pub neighbour_on_both_sides : Neighbours → Option ℕ
-neighbour_on_both_sides neighbours = if neighbours.before == neighbours.after then Some neighbours.before else None
+neighbour_on_both_sides neighbours =
+    if neighbours.before == neighbours.after then Some neighbours.before else None
 
 -- the two indexes are neighbours: the second comes right after the first
 pub record AreJoined (neighbours : List Neighbours) (front back : ℕ) : Type 0 where
@@ -29,7 +30,8 @@ pub record Joins (front back : ℕ) (old new : List Neighbours) : Type 0 where
   pub forth : (neighbours_at new front).after ≡ back
   pub back_to : (neighbours_at new back).before ≡ front
   pub afters : (index : ℕ) → index ≢ front → (neighbours_at new index).after ≡ (neighbours_at old index).after
-  pub befores : (index : ℕ) → index ≢ back → (neighbours_at new index).before ≡ (neighbours_at old index).before
+  pub befores : (index : ℕ) → index ≢ back
+      → (neighbours_at new index).before ≡ (neighbours_at old index).before
   pub size : length new ≡ length old
 
 -- the index was put after the last one of the root's ring, and before the root

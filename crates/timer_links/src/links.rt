@@ -63,7 +63,8 @@ impl Model for Links {
       room = s.room;
     } };
 
-    ghost invariant = { λ s. IsLinked s.lists s.nodes s.neighbours.items (lists_of s.lists s.nodes s.neighbours.items)
+    ghost invariant = { λ s. IsLinked s.lists s.nodes s.neighbours.items
+        (lists_of s.lists s.nodes s.neighbours.items)
         × HasRoom s.room s.lists s.nodes s.neighbours.items };
 }
 

@@ -99,7 +99,8 @@ pub fn join_last(neighbours: &mut [Neighbours], root: u32, index: u32)
 pub fn reserve_index(neighbours: &mut Vec<Neighbours>, index: usize) -> Result<(), OutOfMemory>
     requires index { index < INDEXES }
     requires few { length neighbours.old.items ≤ INDEXES }
-    ensures had_index { index < length neighbours.old.items → IsOk result × (neighbours.new ≡ neighbours.old) }
+    ensures had_index { index < length neighbours.old.items
+        → IsOk result × (neighbours.new ≡ neighbours.old) }
     ensures kept { IsGrown neighbours.old.items neighbours.new.items }
     ensures few { length neighbours.new.items ≤ INDEXES }
     ensures reached { OnOk result (index < length neighbours.new.items) }
