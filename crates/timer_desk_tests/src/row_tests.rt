@@ -13,7 +13,7 @@ use timer_desk::{
     ClientEnd, Desk, Done, Inlet, MemoryInlet, Numbered, RingInlet, Served, Step, Word,
 };
 use timer_facility::{Answer, NotTaken, Notice, Request};
-use timer_refusing::Refusing;
+use timer_fixtures::Refusing;
 use timer_wheels::{HashedWheel, HierWheel, Table};
 
 /// How the steps of a row are taken.

@@ -12,7 +12,7 @@ use std::process::Abort;
 use timer_base::{Handle, PlainWheel, Timer, Wheel};
 use timer_desk::{ClientEnd, Desk, Done, Inlet, Numbered, RingInlet, Served, Word, ring_line};
 use timer_facility::{Answer, Config, Facility, Notice, Request};
-use timer_refusing::Refusing;
+use timer_fixtures::Refusing;
 use timer_wheels::{HierWheel, Table};
 
 /// Compares in a function of its own, so that a test is a list of calls without branches.

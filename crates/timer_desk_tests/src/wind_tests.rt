@@ -9,7 +9,7 @@ use crate::testing::*;
 use std::alloc::Global;
 use std::process::Abort;
 use timer_desk::{ClientEnd, ClientReader, Desk, DriveEnd, RingInlet, drive, wind_up};
-use timer_refusing::Refusing;
+use timer_fixtures::Refusing;
 use timer_wheels::{HierWheel, Table};
 
 #[test]

@@ -4,10 +4,8 @@ use std::alloc::Global;
 use std::process::Abort;
 use std::test::Fail;
 use timer_base::{Handle, PlainWheel, Timer, Wheel};
-use timer_facility::{
-    Answer, Config, Event, Facility, NotTaken, Notice, Out, Player, Reason, TickFault,
-};
-use timer_refusing::Refusing;
+use timer_facility::{Answer, Config, Event, Facility, Notice, Out, Player, Reason};
+use timer_fixtures::{CLOSE, MIGRATION, Refusing, Row, STOP_MIDDLE};
 
 const CONFIG: Config = Config {
     clients: 64,
@@ -22,213 +20,112 @@ fn player(alloc: Global) -> Result<Player<PlainWheel>, Fail> {
     Ok(Player::open(alloc, facility(alloc, CONFIG)?))
 }
 
-/// Events, and their outs. The plain wheel has one place, which is 0.
-#[derive(Clone, Copy)]
-struct Row {
-    name: &'static str,
-    events: &'static [Event],
-    outs: &'static [Out],
-}
+/// A timer is pushed back and stopped, beside one that expires.
+const PUSHED_BACK: Row = Row {
+    name: "a timer that is pushed back and stopped",
+    events: &[
+        Event::Start {
+            client: 0,
+            number: 1,
+            interval: 5,
+            action: 1,
+        },
+        Event::Start {
+            client: 1,
+            number: 1,
+            interval: 5,
+            action: 2,
+        },
+        Event::Ticks { count: 3 },
+        Event::Restart {
+            client: 0,
+            number: 2,
+            serial: 1,
+            interval: 5,
+            action: 3,
+        },
+        Event::Restart {
+            client: 1,
+            number: 2,
+            serial: 3,
+            interval: 5,
+            action: 5,
+        },
+        Event::Stop {
+            client: 0,
+            number: 3,
+            serial: 1,
+        },
+        Event::Stop {
+            client: 0,
+            number: 4,
+            serial: 3,
+        },
+        Event::Ticks { count: 2 },
+    ],
+    outs: &[
+        Out::Answered {
+            client: 0,
+            number: 1,
+            answer: Answer::Started {
+                handle: Handle {
+                    place: 0,
+                    serial: 1,
+                },
+                deadline: 5,
+            },
+        },
+        Out::Answered {
+            client: 1,
+            number: 1,
+            answer: Answer::Started {
+                handle: Handle {
+                    place: 0,
+                    serial: 2,
+                },
+                deadline: 5,
+            },
+        },
+        Out::Answered {
+            client: 0,
+            number: 2,
+            answer: Answer::Restarted {
+                handle: Handle {
+                    place: 0,
+                    serial: 3,
+                },
+                deadline: 8,
+                old: 1,
+            },
+        },
+        Out::Answered {
+            client: 1,
+            number: 2,
+            answer: Answer::Refused(Reason::NoSuch),
+        },
+        Out::Answered {
+            client: 0,
+            number: 3,
+            answer: Answer::Refused(Reason::NoSuch),
+        },
+        Out::Answered {
+            client: 0,
+            number: 4,
+            answer: Answer::Stopped { serial: 3 },
+        },
+        Out::Notice(Notice::Expired(Timer {
+            serial: 2,
+            client: 1,
+            number: 1,
+            deadline: 5,
+            action: 2,
+        })),
+    ],
+    end: 5,
+};
 
-static ROWS: [Row; 2] = [
-    Row {
-        name: "close",
-        events: &[
-            Event::Start {
-                client: 0,
-                number: 1,
-                interval: 5,
-                action: 1,
-            },
-            Event::Start {
-                client: 1,
-                number: 1,
-                interval: 3,
-                action: 2,
-            },
-            Event::Start {
-                client: 0,
-                number: 2,
-                interval: 5,
-                action: 3,
-            },
-            Event::Close,
-            Event::Start {
-                client: 0,
-                number: 3,
-                interval: 1,
-                action: 4,
-            },
-            Event::Ticks { count: 2 },
-            Event::Close,
-        ],
-        outs: &[
-            Out::Answered {
-                client: 0,
-                number: 1,
-                answer: Answer::Started {
-                    handle: Handle {
-                        place: 0,
-                        serial: 1,
-                    },
-                    deadline: 5,
-                },
-            },
-            Out::Answered {
-                client: 1,
-                number: 1,
-                answer: Answer::Started {
-                    handle: Handle {
-                        place: 0,
-                        serial: 2,
-                    },
-                    deadline: 3,
-                },
-            },
-            Out::Answered {
-                client: 0,
-                number: 2,
-                answer: Answer::Started {
-                    handle: Handle {
-                        place: 0,
-                        serial: 3,
-                    },
-                    deadline: 5,
-                },
-            },
-            Out::Closed { count: 3 },
-            Out::Notice(Notice::Returned(Timer {
-                serial: 2,
-                client: 1,
-                number: 1,
-                deadline: 3,
-                action: 2,
-            })),
-            Out::Notice(Notice::Returned(Timer {
-                serial: 1,
-                client: 0,
-                number: 1,
-                deadline: 5,
-                action: 1,
-            })),
-            Out::Notice(Notice::Returned(Timer {
-                serial: 3,
-                client: 0,
-                number: 2,
-                deadline: 5,
-                action: 3,
-            })),
-            Out::NotTaken {
-                client: 0,
-                number: 3,
-                reason: NotTaken::Closed,
-            },
-            Out::TickRefused(TickFault::Closed),
-            Out::CloseRefused,
-        ],
-    },
-    Row {
-        name: "a timer that is pushed back and stopped",
-        events: &[
-            Event::Start {
-                client: 0,
-                number: 1,
-                interval: 5,
-                action: 1,
-            },
-            Event::Start {
-                client: 1,
-                number: 1,
-                interval: 5,
-                action: 2,
-            },
-            Event::Ticks { count: 3 },
-            Event::Restart {
-                client: 0,
-                number: 2,
-                serial: 1,
-                interval: 5,
-                action: 3,
-            },
-            Event::Restart {
-                client: 1,
-                number: 2,
-                serial: 3,
-                interval: 5,
-                action: 5,
-            },
-            Event::Stop {
-                client: 0,
-                number: 3,
-                serial: 1,
-            },
-            Event::Stop {
-                client: 0,
-                number: 4,
-                serial: 3,
-            },
-            Event::Ticks { count: 2 },
-        ],
-        outs: &[
-            Out::Answered {
-                client: 0,
-                number: 1,
-                answer: Answer::Started {
-                    handle: Handle {
-                        place: 0,
-                        serial: 1,
-                    },
-                    deadline: 5,
-                },
-            },
-            Out::Answered {
-                client: 1,
-                number: 1,
-                answer: Answer::Started {
-                    handle: Handle {
-                        place: 0,
-                        serial: 2,
-                    },
-                    deadline: 5,
-                },
-            },
-            Out::Answered {
-                client: 0,
-                number: 2,
-                answer: Answer::Restarted {
-                    handle: Handle {
-                        place: 0,
-                        serial: 3,
-                    },
-                    deadline: 8,
-                    old: 1,
-                },
-            },
-            Out::Answered {
-                client: 1,
-                number: 2,
-                answer: Answer::Refused(Reason::NoSuch),
-            },
-            Out::Answered {
-                client: 0,
-                number: 3,
-                answer: Answer::Refused(Reason::NoSuch),
-            },
-            Out::Answered {
-                client: 0,
-                number: 4,
-                answer: Answer::Stopped { serial: 3 },
-            },
-            Out::Notice(Notice::Expired(Timer {
-                serial: 2,
-                client: 1,
-                number: 1,
-                deadline: 5,
-                action: 2,
-            })),
-        ],
-    },
-];
+/// Handles are compared with their places: the plain wheel has one place, which is 0.
+static ROWS: [Row; 4] = [MIGRATION, STOP_MIDDLE, CLOSE, PUSHED_BACK];
 
 #[test]
 fn the_outs_of_each_row_are_right_and_its_events_may_be_cut(rt: HostRuntime) -> Result<(), Fail> {
@@ -238,6 +135,10 @@ fn the_outs_of_each_row_are_right_and_its_events_may_be_cut(rt: HostRuntime) -> 
             let mut outs = player.play(&row.events[..cut])?;
             outs.extend_from_slice(player.play(&row.events[cut..])?.as_slice())?;
             assert_eq!(rt; outs.as_slice(), row.outs, "{} cut at {cut}", row.name);
+            assert_eq!(rt;
+                (player.facility().now(), player.facility().pending()),
+                (row.end, 0)
+            );
         }
     }
     Ok(())
