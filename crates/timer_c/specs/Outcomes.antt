@@ -18,7 +18,7 @@ use Rattle.timer_total.specs.declared.fault.RestartFault.{RestartFault}
 use Rattle.timer_total.specs.declared.fault.RestartFault.TheVariants as restart
 use Rattle.timer_total.specs.Ticks.{Passes, numbered}
 use Rattle.timer_c.specs.declared.layout.Counts.{Counts}
-use Rattle.timer_c.specs.declared.layout.Handle.{Handle}
+use Rattle.timer_c.specs.declared.layout.CHandle.{CHandle}
 use Rattle.timer_c.specs.declared.layout.Expired.{Expired}
 use Rattle.timer_c.specs.declared.status.TheConstants.{NO_TABLE, NO_MEMORY, DUE, NOT_PENDING, ZERO_INTERVAL, TOO_LATE, SERIALS_SPENT, CLOCK_END, WIDE, CLOCK, NEVER}
 
@@ -43,7 +43,7 @@ WhyNoWheel table first_tick status =
     ⊎ ((status ≡ NO_MEMORY) × IsOpenable table first_tick)
 
 -- a start was done: the state is that after the start, at a place that is a free choice
-abbrev pub IsStarted : ℕ → ℕ → WheelState → WheelState → Handle → Type 0
+abbrev pub IsStarted : ℕ → ℕ → WheelState → WheelState → CHandle → Type 0
 IsStarted interval action old new handle =
     IsStartable interval old × (handle.serial ≡ old.last_serial + 1)
     × (new ≡ after_start handle.place (next_timer interval action old) old)
@@ -57,17 +57,17 @@ IsStartRefusal interval old status =
     ⊎ ((status ≡ NO_MEMORY) × IsStartable interval old × IsRoomUsed old)
 
 -- the handle as the wheel's type
-abbrev pub base_handle : Handle → base.Handle
+abbrev pub base_handle : CHandle → base.Handle
 base_handle handle = record { place = handle.place; serial = handle.serial }
 
 -- a start for this tick was done: the timer is pending until then, or expired if the tick is not after now
-abbrev pub IsStartedAt : ℕ → ℕ → WheelState → WheelState → Handle → Type 0
+abbrev pub IsStartedAt : ℕ → ℕ → WheelState → WheelState → CHandle → Type 0
 IsStartedAt deadline action old new handle =
     IsStartable (interval_until deadline old) old × (handle.serial ≡ old.last_serial + 1)
     × (new ≡ after_start_at handle.place deadline action old)
 
 -- a start was done of a timer that expires at once
-abbrev pub IsStartedDue : ℕ → WheelState → WheelState → Handle → Type 0
+abbrev pub IsStartedDue : ℕ → WheelState → WheelState → CHandle → Type 0
 IsStartedDue action old new handle =
     IsStartable 1 old × (handle.serial ≡ old.last_serial + 1)
     × (new ≡ after_start_due handle.place action old)
@@ -77,26 +77,26 @@ abbrev pub IsStartAtRefusal : ℕ → WheelState → ℕ → Type 0
 IsStartAtRefusal deadline old status = IsStartRefusal (interval_until deadline old) old status
 
 -- a restart was done: the old timer is removed, and the new one started under the next serial
-abbrev pub IsRestarted : Handle → ℕ → ℕ → WheelState → WheelState → Handle → Type 0
+abbrev pub IsRestarted : CHandle → ℕ → ℕ → WheelState → WheelState → CHandle → Type 0
 IsRestarted handle interval action old new restarted =
     IsAt (base_handle handle) old × IsStartable interval old × (restarted.serial ≡ old.last_serial + 1)
     × (new ≡ after_start restarted.place (next_timer interval action old)
     (after_removal (base_handle handle) old))
 
 -- a restart for this tick was done, as a start for it
-abbrev pub IsRestartedAt : Handle → ℕ → ℕ → WheelState → WheelState → Handle → Type 0
+abbrev pub IsRestartedAt : CHandle → ℕ → ℕ → WheelState → WheelState → CHandle → Type 0
 IsRestartedAt handle deadline action old new restarted =
     IsAt (base_handle handle) old × IsStartable (interval_until deadline old) old
     × (restarted.serial ≡ old.last_serial + 1)
     × (new ≡ after_start_at restarted.place deadline action (after_removal (base_handle handle) old))
 
 -- a restart was done, with a timer that expires at once
-abbrev pub IsRestartedDue : Handle → ℕ → WheelState → WheelState → Handle → Type 0
+abbrev pub IsRestartedDue : CHandle → ℕ → WheelState → WheelState → CHandle → Type 0
 IsRestartedDue handle action old new restarted =
     IsAt (base_handle handle) old × IsStartable 1 old × (restarted.serial ≡ old.last_serial + 1)
     × (new ≡ after_start_due restarted.place action (after_removal (base_handle handle) old))
 
-abbrev pub IsRestartRefusal : Handle → ℕ → WheelState → ℕ → Type 0
+abbrev pub IsRestartRefusal : CHandle → ℕ → WheelState → ℕ → Type 0
 IsRestartRefusal handle interval old status =
     ((status ≡ NOT_PENDING) × (held_at (base_handle handle) old ≡ None))
     ⊎ ((status ≡ ZERO_INTERVAL) × IsAt (base_handle handle) old × (interval ≡ 0))
@@ -106,7 +106,7 @@ IsRestartRefusal handle interval old status =
     × (old.now + interval ≤ old.last_tick) × (LAST ≤ old.last_serial))
 
 -- why it was not: an interval until a tick is never 0
-abbrev pub IsRestartAtRefusal : Handle → ℕ → WheelState → ℕ → Type 0
+abbrev pub IsRestartAtRefusal : CHandle → ℕ → WheelState → ℕ → Type 0
 IsRestartAtRefusal handle deadline old status =
     IsRestartRefusal handle (interval_until deadline old) old status
 
@@ -130,13 +130,13 @@ action_of None = None
 action_of (Some t) = Some t.action
 
 -- a stop was done: the timer is removed, and no timer has its handle
-abbrev pub IsStopped : Handle → WheelState → WheelState → ℕ → Type 0
+abbrev pub IsStopped : CHandle → WheelState → WheelState → ℕ → Type 0
 IsStopped handle old new action =
     (new ≡ after_removal (base_handle handle) old)
     × (action_of (held_at (base_handle handle) old) ≡ Some action)
     × (held_at (base_handle handle) new ≡ None)
 
-abbrev pub WhyNotStopped : Handle → WheelState → ℕ → Type 0
+abbrev pub WhyNotStopped : CHandle → WheelState → ℕ → Type 0
 WhyNotStopped handle old status =
     (status ≡ NOT_PENDING) × (held_at (base_handle handle) old ≡ None)
 
@@ -164,7 +164,7 @@ told None = None
 told (Some t) = Some (tell t)
 
 -- the timer with this handle, pending or expired and not yet taken
-abbrev pub IsSeen : Handle → WheelState → Expired → Type 0
+abbrev pub IsSeen : CHandle → WheelState → Expired → Type 0
 IsSeen handle w out = told (held_at (base_handle handle) w) ≡ Some out
 
 -- this many of the due timers were taken
@@ -187,7 +187,7 @@ IsNextDeadline tick w =
     ⊎ ((w.due ≡ []) × (next_deadline w.pending ≡ Some tick))
 
 -- a visit from a place on came to this timer, which is the first one there, and goes on after it
-abbrev pub IsVisited : ℕ → WheelState → ℕ → Handle → Expired → Type 0
+abbrev pub IsVisited : ℕ → WheelState → ℕ → CHandle → Expired → Type 0
 IsVisited from w next handle out =
     (from ≤ handle.place) × (next ≡ handle.place + 1) × IsSeen handle w out
     × AreElsewhere from handle.place w.pending × AreElsewhere from handle.place w.due

@@ -6,7 +6,7 @@ ghost use Rattle.timer_c.specs.Outcomes.{IsStarted, IsStartedAt, IsStartedDue, I
 ghost use Rattle.timer_wheels.specs.HierWheel.{counts_of};
 ghost use Rattle.timer_c.specs.declared.status.TheConstants.{OK, NO_MEMORY};
 
-use crate::layout::{Counts, Expired, Handle};
+use crate::layout::{CHandle, Counts, Expired};
 use crate::status::{
     CLOCK_END, DUE, NEVER, NO_MEMORY, NOT_PENDING, OK, SERIALS_SPENT, TOO_LATE, ZERO_INTERVAL,
 };
@@ -30,7 +30,7 @@ pub(crate) fn start<W: Wheel + Drop>(
     timers: &mut Timers<W>,
     interval: u64,
     action: u64,
-    handle: &mut Handle,
+    handle: &mut CHandle,
 ) -> u32
     ensures started { result ≡ OK → IsStarted interval action timers.old timers.new handle.new }
     ensures refused { 0 < result → IsStartRefusal interval timers.old result }
@@ -49,7 +49,7 @@ pub(crate) fn start_at<W: Wheel + Drop>(
     timers: &mut Timers<W>,
     deadline: u64,
     action: u64,
-    handle: &mut Handle,
+    handle: &mut CHandle,
 ) -> u32
     ensures started { result ≡ OK → IsStartedAt deadline action timers.old timers.new handle.new }
     ensures refused { 0 < result → IsStartAtRefusal deadline timers.old result }
@@ -63,7 +63,7 @@ pub(crate) fn start_at<W: Wheel + Drop>(
 }
 
 // `Timers::start` has one caller here, so that it is inlined: else its result goes through memory.
-fn start_due<W: Wheel + Drop>(timers: &mut Timers<W>, action: u64, handle: &mut Handle) -> u32
+fn start_due<W: Wheel + Drop>(timers: &mut Timers<W>, action: u64, handle: &mut CHandle) -> u32
     ensures started { result ≡ OK → IsStartedDue action timers.old timers.new handle.new }
     ensures refused { 0 < result → IsStartRefusal 1 timers.old result }
     ensures kept { 0 < result → (timers.new ≡ timers.old) × (handle.new ≡ handle.old) }
@@ -92,10 +92,10 @@ fn start_status(fault: StartFault) -> u32
 
 pub(crate) fn restart<W: Wheel + Drop>(
     timers: &mut Timers<W>,
-    handle: Handle,
+    handle: CHandle,
     interval: u64,
     action: u64,
-    restarted: &mut Handle,
+    restarted: &mut CHandle,
 ) -> u32
     ensures restarted { result ≡ OK → IsRestarted handle interval action timers.old timers.new restarted.new }
     ensures refused { 0 < result → IsRestartRefusal handle interval timers.old result }
@@ -112,10 +112,10 @@ pub(crate) fn restart<W: Wheel + Drop>(
 
 pub(crate) fn restart_at<W: Wheel + Drop>(
     timers: &mut Timers<W>,
-    handle: Handle,
+    handle: CHandle,
     deadline: u64,
     action: u64,
-    restarted: &mut Handle,
+    restarted: &mut CHandle,
 ) -> u32
     ensures restarted { result ≡ OK
         → IsRestartedAt handle deadline action timers.old timers.new restarted.new }
@@ -131,9 +131,9 @@ pub(crate) fn restart_at<W: Wheel + Drop>(
 
 fn restart_due<W: Wheel + Drop>(
     timers: &mut Timers<W>,
-    handle: Handle,
+    handle: CHandle,
     action: u64,
-    restarted: &mut Handle,
+    restarted: &mut CHandle,
 ) -> u32
     ensures restarted { result ≡ OK → IsRestartedDue handle action timers.old timers.new restarted.new }
     ensures refused { 0 < result → IsRestartRefusal handle 1 timers.old result }
@@ -162,7 +162,7 @@ fn restart_status(fault: RestartFault) -> u32
 }
 
 /// Writes the timer with this handle, pending or expired and not yet taken.
-pub(crate) fn look<W: Wheel + Drop>(timers: &Timers<W>, handle: Handle, out: &mut Expired) -> u32
+pub(crate) fn look<W: Wheel + Drop>(timers: &Timers<W>, handle: CHandle, out: &mut Expired) -> u32
     ensures seen { result ≡ OK → IsSeen handle timers.now out.new }
     ensures refused { 0 < result → WhyNotStopped handle timers.now result }
     ensures kept { 0 < result → out.new ≡ out.old }
@@ -176,7 +176,11 @@ pub(crate) fn look<W: Wheel + Drop>(timers: &Timers<W>, handle: Handle, out: &mu
     }
 }
 
-pub(crate) fn stop<W: Wheel + Drop>(timers: &mut Timers<W>, handle: Handle, action: &mut u64) -> u32
+pub(crate) fn stop<W: Wheel + Drop>(
+    timers: &mut Timers<W>,
+    handle: CHandle,
+    action: &mut u64,
+) -> u32
     ensures stopped { result ≡ OK → IsStopped handle timers.old timers.new action.new }
     ensures refused { 0 < result → WhyNotStopped handle timers.old result }
     ensures kept { 0 < result → (timers.new ≡ timers.old) × (action.new ≡ action.old) }
@@ -277,7 +281,7 @@ pub(crate) fn next<W: Wheel + Drop>(timers: &Timers<W>) -> u64
 pub(crate) fn each(
     timers: &Timers<HierWheel>,
     cursor: &mut usize,
-    handle: &mut Handle,
+    handle: &mut CHandle,
     out: &mut Expired,
 ) -> bool
     ensures visited { result ≡ true → IsVisited cursor.old timers.now cursor.new handle.new out.new }
@@ -319,17 +323,17 @@ fn to_c_counts(wheel: &HierWheel) -> Counts
 }
 
 /// A handle as C's struct.
-fn to_c_handle(handle: timer_base::Handle) -> Handle
+fn to_c_handle(handle: timer_base::Handle) -> CHandle
     ensures { result ≡ record { place = handle.place; serial = handle.serial } }
 {
-    Handle {
+    CHandle {
         place: handle.place,
         serial: handle.serial,
     }
 }
 
 /// A handle as the wheel's type.
-fn from_c_handle(handle: Handle) -> timer_base::Handle
+fn from_c_handle(handle: CHandle) -> timer_base::Handle
     ensures { result ≡ record { place = handle.place; serial = handle.serial } }
 {
     timer_base::Handle {

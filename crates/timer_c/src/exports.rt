@@ -12,7 +12,7 @@ ghost use Rattle.timer_c.specs.declared.status.TheConstants.{OK, NOT_OPEN, OPEN,
 
 use crate::c_timers::CTimers;
 use crate::calls;
-use crate::layout::{Counts, Expired, Handle};
+use crate::layout::{CHandle, Counts, Expired};
 use crate::status::{NEVER, NO_MEMORY, NOT_OPEN, OK, OPEN};
 use crate::wheel_maker::wheel_of;
 use std::alloc::Global;
@@ -82,7 +82,7 @@ pub extern "C" fn timers_start(
     t: &mut CTimers,
     interval: u64,
     action: u64,
-    handle: &mut Handle,
+    handle: &mut CHandle,
 ) -> u32
     ensures started { result ≡ OK → IsOpen t.old × IsStarted interval action t.old.slot.state t.new.slot.state
         handle.new }
@@ -105,7 +105,7 @@ pub extern "C" fn timers_start_at(
     t: &mut CTimers,
     deadline: u64,
     action: u64,
-    handle: &mut Handle,
+    handle: &mut CHandle,
 ) -> u32
     ensures started { result ≡ OK → IsOpen t.old × IsStartedAt deadline action t.old.slot.state
         t.new.slot.state handle.new }
@@ -125,10 +125,10 @@ pub extern "C" fn timers_start_at(
 #[unsafe(no_mangle)]
 pub extern "C" fn timers_restart(
     t: &mut CTimers,
-    handle: Handle,
+    handle: CHandle,
     interval: u64,
     action: u64,
-    restarted: &mut Handle,
+    restarted: &mut CHandle,
 ) -> u32
     ensures restarted { result ≡ OK → IsOpen t.old
         × IsRestarted handle interval action t.old.slot.state t.new.slot.state restarted.new }
@@ -147,10 +147,10 @@ pub extern "C" fn timers_restart(
 #[unsafe(no_mangle)]
 pub extern "C" fn timers_restart_at(
     t: &mut CTimers,
-    handle: Handle,
+    handle: CHandle,
     deadline: u64,
     action: u64,
-    restarted: &mut Handle,
+    restarted: &mut CHandle,
 ) -> u32
     ensures restarted { result ≡ OK → IsOpen t.old
         × IsRestartedAt handle deadline action t.old.slot.state t.new.slot.state restarted.new }
@@ -167,7 +167,7 @@ pub extern "C" fn timers_restart_at(
 
 /// Writes the timer with exactly this handle, pending or expired and not yet taken, and changes nothing.
 #[unsafe(no_mangle)]
-pub extern "C" fn timers_look(t: &mut CTimers, handle: Handle, out: &mut Expired) -> u32
+pub extern "C" fn timers_look(t: &mut CTimers, handle: CHandle, out: &mut Expired) -> u32
     ensures seen { result ≡ OK → IsOpen t.old × IsSeen handle t.old.slot.state out.new }
     ensures refused { 0 < result → ((result ≡ NOT_OPEN) × IsShut t.old)
         ⊎ (IsOpen t.old × WhyNotStopped handle t.old.slot.state result) }
@@ -182,7 +182,7 @@ pub extern "C" fn timers_look(t: &mut CTimers, handle: Handle, out: &mut Expired
 
 /// Stops the timer with exactly this handle, pending or expired and not yet taken, and writes its action.
 #[unsafe(no_mangle)]
-pub extern "C" fn timers_stop(t: &mut CTimers, handle: Handle, action: &mut u64) -> u32
+pub extern "C" fn timers_stop(t: &mut CTimers, handle: CHandle, action: &mut u64) -> u32
     ensures stopped { result ≡ OK → IsOpen t.old × IsStopped handle t.old.slot.state t.new.slot.state
         action.new }
     ensures refused { 0 < result → ((result ≡ NOT_OPEN) × IsShut t.old)
@@ -333,7 +333,7 @@ pub extern "C" fn timers_next(t: &mut CTimers) -> u64
 pub extern "C" fn timers_each(
     t: &mut CTimers,
     cursor: &mut usize,
-    handle: &mut Handle,
+    handle: &mut CHandle,
     out: &mut Expired,
 ) -> bool
     ensures visited { result ≡ true

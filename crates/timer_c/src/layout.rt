@@ -3,7 +3,7 @@
 /// How C refers to a timer: `struct timer_handle`.
 #[repr(C)]
 #[derive(Clone, Copy, Debug, PartialEq, Eq)]
-pub struct Handle {
+pub struct CHandle {
     /// Where the wheel keeps the timer: a free choice of the wheel.
     pub place: usize,
     /// Its serial, which no other timer of the same `struct timers` ever has.

@@ -22,5 +22,5 @@ mod status;
 mod wheel_maker;
 
 pub use c_timers::CTimers;
-pub use layout::{Counts, Expired, Handle};
+pub use layout::{CHandle, Counts, Expired};
 pub use owned_cell::OwnedCell;

@@ -11,7 +11,7 @@ use Rattle.timer_facility.specs.declared.request.NotTaken.TheVariants as NotTake
 use Rattle.timer_facility.specs.declared.request.Notice.TheVariants as Notices
 use Rattle.timer_desk.specs.declared.word.Word.{Word}
 use Rattle.timer_desk.specs.declared.word.Word.TheVariants as Words
-use Rattle.timer_desk_c.specs.declared.layout.Handle.{Handle}
+use Rattle.timer_desk_c.specs.declared.layout.CHandle.{CHandle}
 use Rattle.timer_desk_c.specs.declared.layout.Message.{Message}
 use Rattle.timer_desk_c.specs.declared.status.TheConstants.{NO_MEMORY, NOT_PENDING, ZERO_INTERVAL, TOO_LATE, SERIALS_SPENT, CLOSED, CAPACITY, NO_CLIENT, NUMBERS_SPENT, REPEATED, AHEAD, STARTED, RESTARTED, STOPPED, REFUSED, NOT_TAKEN, EXPIRED, RETURNED}
 
@@ -28,11 +28,11 @@ blank = record {
 }
 
 -- a handle as C's struct
-abbrev pub given : base.Handle → Handle
-given handle = record { place = handle.place; serial = handle.serial }
+abbrev pub c_handle : base.Handle → CHandle
+c_handle handle = record { place = handle.place; serial = handle.serial }
 
 -- and as the wheel's type
-abbrev pub base_handle : Handle → base.Handle
+abbrev pub base_handle : CHandle → base.Handle
 base_handle handle = record { place = handle.place; serial = handle.serial }
 
 abbrev pub reason_of : Reason → ℕ
@@ -44,14 +44,14 @@ reason_of Reasons.NoSuch = NOT_PENDING
 
 abbrev pub message_of_answer : ℕ → Answer → Message
 message_of_answer number (Answers.Started handle deadline) =
-    record blank { kind = STARTED; number = number; handle = given handle; deadline = deadline }
+    record blank { kind = STARTED; number = number; handle = c_handle handle; deadline = deadline }
 message_of_answer number (Answers.Stopped serial) =
     record blank { kind = STOPPED; number = number; handle = record { place = 0; serial = serial } }
 message_of_answer number (Answers.Restarted handle deadline old) =
     record blank {
       kind = RESTARTED;
       number = number;
-      handle = given handle;
+      handle = c_handle handle;
       deadline = deadline;
       other = old;
     }

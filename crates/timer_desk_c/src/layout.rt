@@ -4,7 +4,7 @@
 /// How C refers to a timer: `struct timer_handle`.
 #[repr(C)]
 #[derive(Clone, Copy, Debug, PartialEq, Eq)]
-pub struct Handle {
+pub struct CHandle {
     /// Where the wheel keeps the timer: a free choice of the wheel.
     pub place: usize,
     /// Its serial, which no other timer of the same desk ever has.
@@ -22,7 +22,7 @@ pub struct Message {
     /// The number of the request that is answered, or that started the timer.
     pub number: u64,
     /// The timer. A notice has no place.
-    pub handle: Handle,
+    pub handle: CHandle,
     /// The tick at which it expires, or would have expired.
     pub deadline: u64,
     /// The action that its start or restart was given.

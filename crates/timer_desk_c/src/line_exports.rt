@@ -13,7 +13,7 @@ ghost use Rattle.timer_desk_c.specs.Messages.{base_handle};
 ghost use Rattle.timer_desk_c.specs.declared.status.TheConstants.{OK, NOT_OPEN, FINISHED};
 
 use crate::c_structs::CLine;
-use crate::layout::{Handle, Message};
+use crate::layout::{CHandle, Message};
 use crate::messages::from_c_handle;
 use crate::status::NOT_OPEN;
 use std::alloc::Global;
@@ -47,7 +47,7 @@ pub extern "C" fn timers_line_start(
 
 /// Sends the request to stop the timer with this handle, and writes the request's number.
 #[unsafe(no_mangle)]
-pub extern "C" fn timers_line_stop(line: &mut CLine, handle: Handle, number: &mut u64) -> u32
+pub extern "C" fn timers_line_stop(line: &mut CLine, handle: CHandle, number: &mut u64) -> u32
     ensures sent { result ≡ OK → HasLine line.old × HasSent
         (Stop (base_handle handle)) line.old.slot.state line.new.slot.state number.new }
     ensures refused { 0 < result → ((result ≡ NOT_OPEN) × HasNoLine line.old)
@@ -71,7 +71,7 @@ pub extern "C" fn timers_line_stop(line: &mut CLine, handle: Handle, number: &mu
 #[unsafe(no_mangle)]
 pub extern "C" fn timers_line_restart(
     line: &mut CLine,
-    handle: Handle,
+    handle: CHandle,
     interval: u64,
     action: u64,
     number: &mut u64,

@@ -1,8 +1,8 @@
 //! Words to a client as C's struct.
 ghost use Rattle.std.specs.Prelude.{◌≡◌};
-ghost use Rattle.timer_desk_c.specs.Messages.{blank, given, base_handle, reason_of, message_of_answer, message_of_not_taken, message_of_timer, message_of};
+ghost use Rattle.timer_desk_c.specs.Messages.{blank, c_handle, base_handle, reason_of, message_of_answer, message_of_not_taken, message_of_timer, message_of};
 
-use crate::layout::{Handle, Message};
+use crate::layout::{CHandle, Message};
 use crate::status::{
     AHEAD, CAPACITY, CLOSED, EXPIRED, NO_CLIENT, NO_MEMORY, NOT_PENDING, NOT_TAKEN, NUMBERS_SPENT,
     REFUSED, REPEATED, RESTARTED, RETURNED, SERIALS_SPENT, STARTED, STOPPED, TOO_LATE,
@@ -31,14 +31,14 @@ fn message_of_answer(number: u64, answer: Answer) -> Message
         Answer::Started { handle, deadline } => Message {
             kind: STARTED,
             number,
-            handle: given(handle),
+            handle: to_c_handle(handle),
             deadline,
             ..nothing()
         },
         Answer::Stopped { serial } => Message {
             kind: STOPPED,
             number,
-            handle: Handle { place: 0, serial },
+            handle: CHandle { place: 0, serial },
             ..nothing()
         },
         Answer::Restarted {
@@ -48,7 +48,7 @@ fn message_of_answer(number: u64, answer: Answer) -> Message
         } => Message {
             kind: RESTARTED,
             number,
-            handle: given(handle),
+            handle: to_c_handle(handle),
             deadline,
             other: old,
             ..nothing()
@@ -88,7 +88,7 @@ fn message_of_timer(kind: u32, timer: Timer) -> Message
     Message {
         kind,
         number: timer.number,
-        handle: Handle {
+        handle: CHandle {
             place: 0,
             serial: timer.serial,
         },
@@ -111,17 +111,17 @@ fn number_of(reason: Reason) -> u32
 }
 
 /// A handle as C's struct.
-fn given(handle: timer_base::Handle) -> Handle
-    ensures { result ≡ given handle }
+fn to_c_handle(handle: timer_base::Handle) -> CHandle
+    ensures { result ≡ c_handle handle }
 {
-    Handle {
+    CHandle {
         place: handle.place,
         serial: handle.serial,
     }
 }
 
 /// A handle as the wheel's type.
-pub(crate) fn from_c_handle(handle: Handle) -> timer_base::Handle
+pub(crate) fn from_c_handle(handle: CHandle) -> timer_base::Handle
     ensures { result ≡ base_handle handle }
 {
     timer_base::Handle {
@@ -137,7 +137,7 @@ fn nothing() -> Message
         kind: 0,
         reason: 0,
         number: 0,
-        handle: Handle {
+        handle: CHandle {
             place: 0,
             serial: 0,
         },
