@@ -42,7 +42,10 @@ pub fn open<I: Inlet + Drop>(alloc: Global, inlets: Vec<I>) -> Result<Desk<HierW
         Err(OpenFault::OutOfMemory(facility, inlets)) => {
             let back = (inlets.len(), facility.now(), facility.pending());
             same(back, (clients, 0, 0), "what comes back")?;
-            Desk::open(alloc, facility, inlets, ROOM).map_err(|_| Fault::RefusedTwice)
+            match Desk::open(alloc, facility, inlets, ROOM) {
+                Ok(desk) => Ok(desk),
+                Err(_) => Err(Fault::RefusedTwice),
+            }
         }
     }
 }

@@ -6,11 +6,12 @@ use crate::fault::Fault;
 use crate::handles::use_strange_handles;
 use crate::lines::{use_locked_line, use_memory_line, use_ring_line};
 use crate::links::push_a_hundred;
-use crate::plays::{CLOSE, MIGRATION, Row, STOP_MIDDLE, play_row};
+use crate::plays::play_row;
 use crate::texts::write_text_of_outs;
 use crate::wheels::{hashed, hier, list_a_few, plain, start_a_hundred};
 use std::alloc::Global;
 use std::sync::Wait;
+use timer_fixtures::{CLOSE, MIGRATION, Row, STOP_MIDDLE};
 use timer_wheels::Table;
 
 /// The wheel of a scenario.

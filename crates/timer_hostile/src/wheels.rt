@@ -19,7 +19,10 @@ const STARTS: u64 = 100;
 pub fn plain(alloc: Global) -> Result<PlainWheel, Fault>
     ensures { IfOk result (λ wheel. ⟦<PlainWheel as Wheel>⟧.state wheel ≡ empty_wheel LAST 0) }
 {
-    PlainWheel::new(alloc, 0).map_err(|_| Fault::Wrong("the plain wheel"))
+    match PlainWheel::new(alloc, 0) {
+        Ok(wheel) => Ok(wheel),
+        Err(_) => Err(Fault::Wrong("the plain wheel")),
+    }
 }
 
 /// A hashed wheel, at the second try if the first is refused.
