@@ -4,7 +4,7 @@ ghost use Rattle.timer_base.specs.declared.limits.TheConstants.{LAST};
 ghost use Rattle.timer_base.specs.WheelState.{empty_wheel};
 ghost use Rattle.timer_wheels.specs.Tables.{last_of_table};
 
-use crate::testing::same_in;
+use crate::support::same_in;
 use std::alloc::Global;
 use std::process::Abort;
 use timer_base::{Handle, PlainWheel, Timer, Wheel};

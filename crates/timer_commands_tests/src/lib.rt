@@ -11,6 +11,6 @@ mod show_tests;
 #[cfg(test)]
 mod stream_tests;
 #[cfg(test)]
-mod testing;
+mod support;
 #[cfg(test)]
 mod threads_tests;

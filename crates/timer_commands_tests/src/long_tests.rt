@@ -1,5 +1,5 @@
 //! Scripts and streams of a million bytes.
-use crate::testing::{Reading, SCHEMES, Sink, Source, USUAL, call, has_left, same};
+use crate::support::{Reading, SCHEMES, Sink, Source, USUAL, call, has_left, same};
 use std::process::Abort;
 use timer_commands::RunOptions;
 

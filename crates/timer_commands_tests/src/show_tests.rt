@@ -1,5 +1,5 @@
 //! Calls of `show`. The placements are those of docs/walkthroughs.md.
-use crate::testing::{Reading, Sink, Source, USUAL, call, has_left};
+use crate::support::{Reading, Sink, Source, USUAL, call, has_left};
 use std::alloc::Global;
 use timer_commands::{RunOptions, Scheme};
 

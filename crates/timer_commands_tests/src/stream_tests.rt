@@ -1,6 +1,6 @@
 //! Readers and writers that pass bytes on in pieces of many sizes, and fail once: nothing is tried again, and
 //! what went out is the front of the text that the writer took.
-use crate::testing::{
+use crate::support::{
     Fault, MIGRATION, MIGRATION_TEXT, Reading, SCHEMES, SIZES, Sink, Source, USUAL, call, has_left,
     same, same_in,
 };

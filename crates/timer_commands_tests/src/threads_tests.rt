@@ -1,5 +1,5 @@
 //! Calls of `threads`.
-use crate::testing::{Fault, Sink, same_in};
+use crate::support::{Fault, Sink, same_in};
 use std::io::ErrorKind;
 use std::process::Abort;
 use std::thread::Threads;

@@ -1,7 +1,7 @@
 //! When a drive goes on, and when it ends.
 ghost use Rattle.std.specs.Prelude.{◌≤◌, ◌<◌};
 
-use crate::testing::*;
+use crate::support::*;
 use std::alloc::Global;
 use std::process::Abort;
 use timer_desk::{

@@ -1,5 +1,5 @@
 //! A dropped end of a ring line, as the other end sees it.
-use crate::testing::*;
+use crate::support::*;
 use timer_desk::{Inlet, Put};
 
 #[test]

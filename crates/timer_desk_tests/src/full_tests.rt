@@ -1,7 +1,7 @@
 //! A facility over a hierarchy of wheels with as many timers as may be pending.
 ghost use Rattle.std.specs.Prelude.{◌≡◌, []};
 
-use crate::testing::{hierarchy, same};
+use crate::support::{hierarchy, same};
 use std::alloc::Global;
 use std::process::Abort;
 use timer_base::Wheel;

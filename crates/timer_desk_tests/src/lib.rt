@@ -1,6 +1,6 @@
 //! Tests of `timer_desk` over its public calls: lines, desks over every wheel, and drives.
 //!
-//! `testing` has the desks, requests and words that they share.
+//! `support` has the desks, requests and words that they share.
 #![tactic(auto)]
 
 #[cfg(test)]
@@ -20,7 +20,7 @@ mod ring_tests;
 #[cfg(test)]
 mod row_tests;
 #[cfg(test)]
-mod testing;
+mod support;
 #[cfg(test)]
 mod ticks_tests;
 #[cfg(test)]

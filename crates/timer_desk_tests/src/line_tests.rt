@@ -1,5 +1,5 @@
 //! Lines alone, and the room of a desk.
-use crate::testing::{numbered, same, start, started};
+use crate::support::{numbered, same, start, started};
 use std::alloc::Global;
 use std::process::Abort;
 use std::test::Fail;

@@ -1,5 +1,5 @@
 //! Worked examples of lines under a lock.
-use crate::testing::{numbered, same, start, started};
+use crate::support::{numbered, same, start, started};
 use std::test::Fail;
 use timer_base::LAST;
 use timer_desk::{Inlet, Put, Taken, Unsent, locked_line};

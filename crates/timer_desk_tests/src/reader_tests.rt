@@ -4,7 +4,7 @@ ghost use Rattle.timer_desk.specs.declared.ring.RingInlet.{RingInlet};
 ghost use Rattle.timer_desk.specs.Desk.{clients_of};
 ghost use Rattle.timer_desk.specs.Ring.{line_of_inlet, words_ring_of_reader};
 
-use crate::testing::*;
+use crate::support::*;
 use std::process::Abort;
 use timer_base::PlainWheel;
 use timer_desk::{ClientReader, Desk, Inlet, Put, RingInlet, Served, Word};

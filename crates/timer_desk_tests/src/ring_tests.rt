@@ -4,7 +4,7 @@ ghost use Rattle.timer_desk.specs.declared.ring.RingInlet.{RingInlet};
 ghost use Rattle.timer_desk.specs.Ring.{line_of_end, line_of_inlet, words_ring_of_reader};
 ghost use Rattle.timer_desk.specs.Desk.{clients_of};
 
-use crate::testing::*;
+use crate::support::*;
 use std::process::Abort;
 use timer_desk::{ClientEnd, ClientReader, Desk, RingInlet, Served, Unsent, Word};
 use timer_facility::{Answer, Notice};

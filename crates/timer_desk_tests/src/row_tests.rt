@@ -5,7 +5,7 @@ ghost use Rattle.timer_base.specs.declared.limits.TheConstants.{LAST};
 ghost use Rattle.timer_base.specs.WheelState.{empty_wheel};
 ghost use Rattle.timer_desk.specs.Desk.{clients_of, InRange};
 
-use crate::testing::*;
+use crate::support::*;
 use std::alloc::Global;
 use std::process::Abort;
 use timer_base::{Handle, Wheel};
@@ -13,7 +13,7 @@ use timer_desk::{
     ClientEnd, Desk, Done, Inlet, MemoryInlet, Numbered, RingInlet, Served, Step, Word,
 };
 use timer_facility::{Answer, NotTaken, Notice, Request};
-use timer_fixtures::Refusing;
+use timer_fixtures::RefusingWheel;
 use timer_wheels::{HashedWheel, HierWheel, Table};
 
 /// How the steps of a row are taken.
@@ -299,7 +299,7 @@ fn held_request_over<W: Wheel + Drop>(
 {
     let requests = one(rt, alloc, numbered(1, 1, 7));
     let inlets = one(rt, alloc, MemoryInlet::new(alloc, requests, 10));
-    let wheel = Refusing {
+    let wheel = RefusingWheel {
         wheel,
         refuses: true,
     };

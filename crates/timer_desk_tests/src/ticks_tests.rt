@@ -1,5 +1,5 @@
 //! Many ticks of a desk at once.
-use crate::testing::*;
+use crate::support::*;
 use std::alloc::Global;
 use std::process::Abort;
 use timer_base::PlainWheel;

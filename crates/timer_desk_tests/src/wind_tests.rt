@@ -5,11 +5,11 @@ ghost use Rattle.timer_desk.specs.Ring.{line_of_end, line_of_inlet};
 ghost use Rattle.timer_desk.specs.declared.ring.RingInlet.{RingInlet};
 ghost use Rattle.timer_desk.specs.Desk.{clients_of};
 
-use crate::testing::*;
+use crate::support::*;
 use std::alloc::Global;
 use std::process::Abort;
 use timer_desk::{ClientEnd, ClientReader, Desk, DriveEnd, RingInlet, drive, wind_up};
-use timer_fixtures::Refusing;
+use timer_fixtures::RefusingWheel;
 use timer_wheels::{HierWheel, Table};
 
 #[test]
@@ -25,7 +25,7 @@ fn a_drive_over_an_empty_line_comes_to_its_limit(rt: HostRuntime) {
 
 /// Goes on only if the desk holds the request whose start ran out of memory, and the rest of its
 /// turn was done: a flush of no word, and a tick.
-fn holds_the_request(rt: &impl Abort, desk: &Desk<Refusing<HierWheel>, RingInlet>) {
+fn holds_the_request(rt: &impl Abort, desk: &Desk<RefusingWheel<HierWheel>, RingInlet>) {
     has_clients(rt, desk, 1);
     same(rt, desk.held(0), Some(numbered(1, 1, 7)));
     same(rt, desk.outbox_len(0), 0);
@@ -57,7 +57,7 @@ fn a_drive_that_ran_out_of_memory_can_be_driven_on(rt: HostRuntime) {
 fn wound_up(
     alloc: Global,
     end: ClientEnd,
-    desk: Desk<Refusing<HierWheel>, RingInlet>,
+    desk: Desk<RefusingWheel<HierWheel>, RingInlet>,
     goal: u64,
 ) -> Option<Result<usize, usize>>
     requires one { clients_of desk ≡ 1 }

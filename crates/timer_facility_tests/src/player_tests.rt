@@ -5,7 +5,7 @@ use std::process::Abort;
 use std::test::Fail;
 use timer_base::{Handle, PlainWheel, Timer, Wheel};
 use timer_facility::{Answer, Config, Event, Facility, Notice, Out, Player, Reason};
-use timer_fixtures::{CLOSE, MIGRATION, Refusing, Row, STOP_MIDDLE};
+use timer_fixtures::{CLOSE, MIGRATION, RefusingWheel, Row, STOP_MIDDLE};
 
 const CONFIG: Config = Config {
     clients: 64,
@@ -162,7 +162,7 @@ static ONCE_MORE: [Event; 3] = [
 
 #[test]
 fn an_event_that_ran_out_of_memory_can_be_played_again(rt: HostRuntime) -> Result<(), Fail> {
-    let wheel = Refusing {
+    let wheel = RefusingWheel {
         wheel: PlainWheel::new(rt.alloc(), 0)?,
         refuses: true,
     };

@@ -4,8 +4,8 @@
 //! Helpers that end the process are not here: the gate refuses a library whose functions may abort.
 #![tactic(auto)]
 
-mod refusing;
+mod refusing_wheel;
 mod rows;
 
-pub use refusing::Refusing;
+pub use refusing_wheel::RefusingWheel;
 pub use rows::{CLOSE, MIGRATION, Row, STOP_MIDDLE};

@@ -2,7 +2,7 @@
 use crate::arguments::{Subcommand, read_arguments};
 use crate::argv::{after_name, end_without_arguments};
 use crate::help::{CHECKS, PLACEMENTS, SCHEMES, SCRIPTS, STREAMS, THREADS};
-use crate::testing::{call, has_left, same, same_in};
+use crate::support::{call, has_left, same, same_in};
 use std::alloc::Global;
 use std::io::ErrorKind;
 use std::process::Abort;

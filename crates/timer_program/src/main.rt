@@ -21,7 +21,7 @@ mod help;
 #[cfg(test)]
 mod row_tests;
 #[cfg(test)]
-mod testing;
+mod support;
 
 use argv::{after_name, end_without_arguments};
 use command::command;

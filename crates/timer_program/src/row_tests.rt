@@ -1,5 +1,5 @@
 //! The worked examples: scripts and the texts that answer them, with each scheme.
-use crate::testing::{call, has_left, same_in};
+use crate::support::{call, has_left, same_in};
 use std::alloc::Global;
 use std::process::Abort;
 use std::thread::Threads;

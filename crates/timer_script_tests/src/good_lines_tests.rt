@@ -1,6 +1,6 @@
 //! Lines good and bad, in pieces of any size: the good ones are answered, the others are reported.
 use crate::recorded_peer::RecordedPeer;
-use crate::testing::{plain_facility, same_in};
+use crate::support::{plain_facility, same_in};
 use std::alloc::Global;
 use std::io;
 use std::io::{ErrorKind, Write};

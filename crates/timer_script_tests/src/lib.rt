@@ -16,7 +16,7 @@ mod service_tests;
 #[cfg(test)]
 mod session_tests;
 #[cfg(test)]
-mod testing;
+mod support;
 #[cfg(test)]
 mod text_tests;
 #[cfg(test)]

@@ -5,7 +5,7 @@ ghost use Rattle.timer_script.specs.Peer.{moment_of};
 ghost use Rattle.timer_script.specs.Session.{fresh};
 ghost use Rattle.timer_script.specs.Service.{IsPrompt};
 
-use crate::testing::{plain_facility, same};
+use crate::support::{plain_facility, same};
 use std::alloc::Global;
 use std::io;
 use std::process::Abort;

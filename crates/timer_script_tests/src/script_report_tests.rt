@@ -1,5 +1,5 @@
 //! Reports of bad lines: each reason with its column, and the column against its definition.
-use crate::testing::{same, same_in};
+use crate::support::{same, same_in};
 use std::alloc::Global;
 use std::io;
 use std::io::{ErrorKind, Read, Write};

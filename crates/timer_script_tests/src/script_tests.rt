@@ -1,5 +1,5 @@
 //! Scripts in memory, and the events of each line.
-use crate::testing::{facility, plain_facility, same, same_in};
+use crate::support::{facility, plain_facility, same, same_in};
 use std::alloc::Global;
 use std::process::Abort;
 use timer_base::LAST;

@@ -1,6 +1,6 @@
 //! In which order the calls of a server come, and which call is the last.
 use crate::recorded_peer::RecordedPeer;
-use crate::testing::{plain_facility, same_in};
+use crate::support::{plain_facility, same_in};
 use std::process::Abort;
 use timer_script::{ServeFault, serve};
 

@@ -1,5 +1,5 @@
 //! Sessions, fed in pieces of many sizes.
-use crate::testing::{plain_facility, same, same_in};
+use crate::support::{plain_facility, same, same_in};
 use std::alloc::Global;
 use std::process::Abort;
 use timer_base::PlainWheel;

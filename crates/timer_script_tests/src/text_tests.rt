@@ -1,5 +1,5 @@
 //! The line of each out.
-use crate::testing::same_in;
+use crate::support::same_in;
 use std::process::Abort;
 use timer_base::{Handle, Timer};
 use timer_facility::{Answer, NotTaken, Notice, Out, Reason, TickFault};

@@ -1,6 +1,6 @@
 //! What a watched reader or writer, and a peer of the two, ask of the ones inside: one call for each call,
 //! with the whole piece, and none again.
-use crate::testing::same_in;
+use crate::support::same_in;
 use std::alloc::Global;
 use std::io;
 use std::io::{ErrorKind, Read, Write};

@@ -2,8 +2,8 @@
 ghost use Rattle.std.specs.Prelude.{◌≡◌, ◌≤◌};
 ghost use Rattle.timer_base.specs.declared.limits.TheConstants.{LAST};
 
-use crate::testing;
-use crate::testing::{line, numbered, same};
+use crate::support;
+use crate::support::{line, numbered, same};
 use std::alloc::Global;
 use std::process::Abort;
 use std::sync::Arc;
@@ -15,7 +15,7 @@ use timer_threads::{Gate, InTurn, Open, Worked, client_work};
 
 /// The answer to a start that was accepted.
 fn started(number: u64) -> Word {
-    testing::started(number, number, 5)
+    support::started(number, number, 5)
 }
 
 /// An answer to request 1.
@@ -24,11 +24,11 @@ fn answered(answer: Answer) -> Word {
 }
 
 fn timer(deadline: u64, serial: u64) -> Timer {
-    testing::timer(serial, 0, serial, deadline, serial)
+    support::timer(serial, 0, serial, deadline, serial)
 }
 
 fn expired(deadline: u64, serial: u64) -> Word {
-    testing::expired(timer(deadline, serial))
+    support::expired(timer(deadline, serial))
 }
 
 fn returned(deadline: u64, serial: u64) -> Word {

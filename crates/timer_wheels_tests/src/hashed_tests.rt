@@ -1,5 +1,5 @@
 //! The hashed wheel's buckets as its picture shows them, and what it refuses.
-use crate::testing::{expire, start, tick_until};
+use crate::support::{expire, start, tick_until};
 use std::process::Abort;
 use std::test::Fail;
 use timer_base::{LAST, MakeFault, Wheel};

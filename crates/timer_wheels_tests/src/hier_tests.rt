@@ -1,5 +1,5 @@
 //! Where the timers of a hierarchy of wheels stand, as the pictures show them, and the counts.
-use crate::testing::{advance, expire, has_serials, start, tick_until};
+use crate::support::{advance, expire, has_serials, start, tick_until};
 use std::process::Abort;
 use std::test::Fail;
 use timer_base::{LAST, MakeFault, OutOfMemory, Wheel};
@@ -7,7 +7,7 @@ use timer_wheels::{HierWheel, LAST_OF_CLOCK, Table};
 
 /// One step of a picture. Serials are counted from 1.
 #[derive(Clone, Copy, Drop)]
-enum Step {
+enum PictureStep {
     /// Starts the next timer, with this deadline.
     Start(u64),
     /// Goes on to the tick, and nothing is due before it.
@@ -21,7 +21,13 @@ enum Step {
 }
 
 /// A name, the table, the first tick, the steps, and then starts, moves and visits.
-type Picture = (&'static str, Table, u64, &'static [Step], (u64, u64, u64));
+type Picture = (
+    &'static str,
+    Table,
+    u64,
+    &'static [PictureStep],
+    (u64, u64, u64),
+);
 
 const PICTURES: [Picture; 11] = [
     (
@@ -29,16 +35,16 @@ const PICTURES: [Picture; 11] = [
         Table::Wide,
         0,
         &[
-            Step::Start(4096),
-            Step::In(2, 1, &[1]),
-            Step::Until(4090),
-            Step::Start(4096),
-            Step::In(2, 1, &[1, 2]),
-            Step::Until(4095),
-            Step::Start(4096),
-            Step::In(2, 1, &[1, 2, 3]),
-            Step::Until(4096),
-            Step::Due(&[1, 2, 3]),
+            PictureStep::Start(4096),
+            PictureStep::In(2, 1, &[1]),
+            PictureStep::Until(4090),
+            PictureStep::Start(4096),
+            PictureStep::In(2, 1, &[1, 2]),
+            PictureStep::Until(4095),
+            PictureStep::Start(4096),
+            PictureStep::In(2, 1, &[1, 2, 3]),
+            PictureStep::Until(4096),
+            PictureStep::Due(&[1, 2, 3]),
         ],
         (3, 0, 4096),
     ),
@@ -47,16 +53,16 @@ const PICTURES: [Picture; 11] = [
         Table::Wide,
         0,
         &[
-            Step::Start(130),
-            Step::In(1, 2, &[1]),
-            Step::Until(64),
-            Step::In(1, 2, &[1]),
-            Step::Until(128),
-            Step::In(0, 2, &[1]),
-            Step::Start(130),
-            Step::In(0, 2, &[1, 2]),
-            Step::Until(130),
-            Step::Due(&[1, 2]),
+            PictureStep::Start(130),
+            PictureStep::In(1, 2, &[1]),
+            PictureStep::Until(64),
+            PictureStep::In(1, 2, &[1]),
+            PictureStep::Until(128),
+            PictureStep::In(0, 2, &[1]),
+            PictureStep::Start(130),
+            PictureStep::In(0, 2, &[1, 2]),
+            PictureStep::Until(130),
+            PictureStep::Due(&[1, 2]),
         ],
         (2, 1, 130),
     ),
@@ -65,14 +71,14 @@ const PICTURES: [Picture; 11] = [
         Table::Wide,
         987870,
         &[
-            Step::Start(990915),
-            Step::In(1, 59, &[1]),
-            Step::Until(990911),
-            Step::In(1, 59, &[1]),
-            Step::Until(990912),
-            Step::In(0, 3, &[1]),
-            Step::Until(990915),
-            Step::Due(&[1]),
+            PictureStep::Start(990915),
+            PictureStep::In(1, 59, &[1]),
+            PictureStep::Until(990911),
+            PictureStep::In(1, 59, &[1]),
+            PictureStep::Until(990912),
+            PictureStep::In(0, 3, &[1]),
+            PictureStep::Until(990915),
+            PictureStep::Due(&[1]),
         ],
         (1, 1, 3045),
     ),
@@ -82,18 +88,18 @@ const PICTURES: [Picture; 11] = [
         Table::Clock,
         987870,
         &[
-            Step::Start(990915),
-            Step::In(2, 11, &[1]),
-            Step::Until(989999),
-            Step::In(2, 11, &[1]),
-            Step::Until(990000),
-            Step::In(1, 15, &[1]),
-            Step::Until(990899),
-            Step::In(1, 15, &[1]),
-            Step::Until(990900),
-            Step::In(0, 15, &[1]),
-            Step::Until(990915),
-            Step::Due(&[1]),
+            PictureStep::Start(990915),
+            PictureStep::In(2, 11, &[1]),
+            PictureStep::Until(989999),
+            PictureStep::In(2, 11, &[1]),
+            PictureStep::Until(990000),
+            PictureStep::In(1, 15, &[1]),
+            PictureStep::Until(990899),
+            PictureStep::In(1, 15, &[1]),
+            PictureStep::Until(990900),
+            PictureStep::In(0, 15, &[1]),
+            PictureStep::Until(990915),
+            PictureStep::Due(&[1]),
         ],
         (1, 2, 3045),
     ),
@@ -102,19 +108,19 @@ const PICTURES: [Picture; 11] = [
         Table::Wide,
         0,
         &[
-            Step::Next(None),
-            Step::Start(4161),
-            Step::In(2, 1, &[1]),
-            Step::Next(Some(4096)),
-            Step::Until(4096),
-            Step::In(1, 1, &[1]),
-            Step::Next(Some(4160)),
-            Step::Until(4160),
-            Step::In(0, 1, &[1]),
-            Step::Next(Some(4161)),
-            Step::Until(4161),
-            Step::Due(&[1]),
-            Step::Next(None),
+            PictureStep::Next(None),
+            PictureStep::Start(4161),
+            PictureStep::In(2, 1, &[1]),
+            PictureStep::Next(Some(4096)),
+            PictureStep::Until(4096),
+            PictureStep::In(1, 1, &[1]),
+            PictureStep::Next(Some(4160)),
+            PictureStep::Until(4160),
+            PictureStep::In(0, 1, &[1]),
+            PictureStep::Next(Some(4161)),
+            PictureStep::Until(4161),
+            PictureStep::Due(&[1]),
+            PictureStep::Next(None),
         ],
         (1, 2, 4161),
     ),
@@ -123,12 +129,12 @@ const PICTURES: [Picture; 11] = [
         Table::Wide,
         0,
         &[
-            Step::Start(4097),
-            Step::In(2, 1, &[1]),
-            Step::Until(4096),
-            Step::In(0, 1, &[1]),
-            Step::Until(4097),
-            Step::Due(&[1]),
+            PictureStep::Start(4097),
+            PictureStep::In(2, 1, &[1]),
+            PictureStep::Until(4096),
+            PictureStep::In(0, 1, &[1]),
+            PictureStep::Until(4097),
+            PictureStep::Due(&[1]),
         ],
         (1, 1, 4097),
     ),
@@ -137,14 +143,14 @@ const PICTURES: [Picture; 11] = [
         Table::Wide,
         0,
         &[
-            Step::Start(3661),
-            Step::Until(3600),
-            Step::Start(3661),
-            Step::In(1, 57, &[1, 2]),
-            Step::Until(3648),
-            Step::In(0, 13, &[1, 2]),
-            Step::Until(3661),
-            Step::Due(&[1, 2]),
+            PictureStep::Start(3661),
+            PictureStep::Until(3600),
+            PictureStep::Start(3661),
+            PictureStep::In(1, 57, &[1, 2]),
+            PictureStep::Until(3648),
+            PictureStep::In(0, 13, &[1, 2]),
+            PictureStep::Until(3661),
+            PictureStep::Due(&[1, 2]),
         ],
         (2, 2, 3661),
     ),
@@ -153,16 +159,16 @@ const PICTURES: [Picture; 11] = [
         Table::Clock,
         0,
         &[
-            Step::Start(3661),
-            Step::In(2, 1, &[1]),
-            Step::Until(3600),
-            Step::In(1, 1, &[1]),
-            Step::Start(3661),
-            Step::In(1, 1, &[1, 2]),
-            Step::Until(3660),
-            Step::In(0, 1, &[1, 2]),
-            Step::Until(3661),
-            Step::Due(&[1, 2]),
+            PictureStep::Start(3661),
+            PictureStep::In(2, 1, &[1]),
+            PictureStep::Until(3600),
+            PictureStep::In(1, 1, &[1]),
+            PictureStep::Start(3661),
+            PictureStep::In(1, 1, &[1, 2]),
+            PictureStep::Until(3660),
+            PictureStep::In(0, 1, &[1, 2]),
+            PictureStep::Until(3661),
+            PictureStep::Due(&[1, 2]),
         ],
         (2, 3, 3661),
     ),
@@ -171,10 +177,10 @@ const PICTURES: [Picture; 11] = [
         Table::Clock,
         86399,
         &[
-            Step::Start(86400),
-            Step::In(3, 1, &[1]),
-            Step::Until(86400),
-            Step::Due(&[1]),
+            PictureStep::Start(86400),
+            PictureStep::In(3, 1, &[1]),
+            PictureStep::Until(86400),
+            PictureStep::Due(&[1]),
         ],
         (1, 0, 1),
     ),
@@ -183,10 +189,10 @@ const PICTURES: [Picture; 11] = [
         Table::Wide,
         1152921504606846974,
         &[
-            Step::Start(1152921504606846975),
-            Step::In(0, 63, &[1]),
-            Step::Until(1152921504606846975),
-            Step::Due(&[1]),
+            PictureStep::Start(1152921504606846975),
+            PictureStep::In(0, 63, &[1]),
+            PictureStep::Until(1152921504606846975),
+            PictureStep::Due(&[1]),
         ],
         (1, 0, 1),
     ),
@@ -195,10 +201,10 @@ const PICTURES: [Picture; 11] = [
         Table::Clock,
         8639990,
         &[
-            Step::Start(8639999),
-            Step::In(0, 59, &[1]),
-            Step::Until(8639999),
-            Step::Due(&[1]),
+            PictureStep::Start(8639999),
+            PictureStep::In(0, 59, &[1]),
+            PictureStep::Until(8639999),
+            PictureStep::Due(&[1]),
         ],
         (1, 0, 9),
     ),
@@ -226,18 +232,18 @@ fn see(rt: &impl Abort, picture: Picture, wheel: &mut HierWheel) -> Result<(), O
     let (name, table, _, steps, counts) = picture;
     for step in steps {
         match *step {
-            Step::Start(deadline) => {
+            PictureStep::Start(deadline) => {
                 start(rt, wheel, deadline)?;
             }
-            Step::Until(tick) => tick_until(rt, wheel, tick),
-            Step::In(level, slot, serials) => {
+            PictureStep::Until(tick) => tick_until(rt, wheel, tick),
+            PictureStep::In(level, slot, serials) => {
                 let list = list_of(rt, table, level, slot);
                 let there = has_serials(rt, wheel.links(), list, serials);
                 assert!(rt; there, "{name}: not in ({level}, {slot})");
                 assert_eq!(rt; wheel.len(), serials.len());
             }
-            Step::Due(serials) => expire(rt, wheel, serials),
-            Step::Next(tick) => assert_eq!(rt; wheel.quiet_until(), tick, "{name}"),
+            PictureStep::Due(serials) => expire(rt, wheel, serials),
+            PictureStep::Next(tick) => assert_eq!(rt; wheel.quiet_until(), tick, "{name}"),
         }
     }
     assert_eq!(rt;

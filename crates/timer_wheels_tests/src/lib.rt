@@ -13,7 +13,7 @@ mod links_tests;
 #[cfg(test)]
 mod plain_tests;
 #[cfg(test)]
-mod testing;
+mod support;
 #[cfg(test)]
 mod tests;
 #[cfg(test)]

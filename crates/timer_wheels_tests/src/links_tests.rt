@@ -1,7 +1,7 @@
 //! Lists of timers under keys: that each call succeeds while memory is available, and what the lists of
 //! worked examples hold after each call. No allocation fails here: `timer_hostile` refuses some, in `linked`.
 
-use crate::testing::same;
+use crate::support::same;
 use std::alloc::Global;
 use std::process::Abort;
 use timer_base::{OutOfMemory, Timer};

@@ -1,5 +1,5 @@
 //! What the plain wheel does that the other wheels don't: it jumps to the next deadline, however far that is.
-use crate::testing::{advance, expire, start};
+use crate::support::{advance, expire, start};
 use std::test::Fail;
 use timer_base::{LAST, MakeFault, PlainWheel, Wheel};
 

@@ -1,5 +1,5 @@
 //! The worked rows, over every wheel: the schemes and their sizes are the columns.
-use crate::testing::{Call, Pace, play};
+use crate::support::{Call, Pace, play};
 use std::alloc::Global;
 use std::process::Abort;
 use std::test::Fail;

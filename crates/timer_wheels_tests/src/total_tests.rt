@@ -4,7 +4,7 @@ use std::fmt::Debug;
 use std::process::Abort;
 use std::test::Fail;
 use timer_base::{Handle, LAST, OutOfMemory, PlainWheel, Wheel};
-use timer_total::{RestartFault, StartFault, TickFault, Timers};
+use timer_total::{AdvanceFault, RestartFault, StartFault, Timers};
 use timer_wheels::{HashedWheel, HierWheel, LAST_OF_CLOCK, Table};
 
 /// One call and what it returns. A timer is named by its serial, which is its action too.
@@ -25,9 +25,9 @@ enum Call {
     /// Takes the first expired timer, which is this one. Its deadline is the present tick.
     Expire(Option<u64>),
     /// Passes one tick.
-    Tick(Result<(), TickFault>),
+    Tick(Result<(), AdvanceFault>),
     /// Passes at most so many ticks.
-    Advance(u64, Result<u64, TickFault>),
+    Advance(u64, Result<u64, AdvanceFault>),
     /// Makes room for so many timers, if memory is there.
     Reserve(usize, bool),
     /// The present tick, how many timers are pending, whether one is due, and the first deadline.
@@ -81,8 +81,8 @@ const ROWS: [Row; 9] = [
             Call::Advance(0, Ok(0)),
             Call::Advance(10, Ok(2)),
             Call::Shows(103, 1, true, Some(107)),
-            Call::Advance(10, Err(TickFault::Due)),
-            Call::Tick(Err(TickFault::Due)),
+            Call::Advance(10, Err(AdvanceFault::Due)),
+            Call::Tick(Err(AdvanceFault::Due)),
             Call::Expire(Some(1)),
             Call::Expire(None),
             Call::Advance(LAST, Ok(4)),
@@ -126,7 +126,7 @@ const ROWS: [Row; 9] = [
             Call::StartAt(0, Ok(5)),
             Call::Look(5, Some(100)),
             Call::Shows(100, 3, true, Some(103)),
-            Call::Tick(Err(TickFault::Due)),
+            Call::Tick(Err(AdvanceFault::Due)),
             Call::Expire(Some(4)),
             Call::Expire(Some(5)),
             Call::Expire(None),
@@ -194,8 +194,8 @@ const ROWS: [Row; 9] = [
         &[
             Call::Advance(10, Ok(2)),
             Call::Shows(LAST, 0, false, None),
-            Call::Tick(Err(TickFault::ClockEnd)),
-            Call::Advance(0, Err(TickFault::ClockEnd)),
+            Call::Tick(Err(AdvanceFault::ClockEnd)),
+            Call::Advance(0, Err(AdvanceFault::ClockEnd)),
             Call::Stop(1, false),
         ],
     ),

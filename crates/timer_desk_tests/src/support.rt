@@ -12,7 +12,7 @@ use std::process::Abort;
 use timer_base::{Handle, PlainWheel, Timer, Wheel};
 use timer_desk::{ClientEnd, Desk, Done, Inlet, Numbered, RingInlet, Served, Word, ring_line};
 use timer_facility::{Answer, Config, Facility, Notice, Request};
-use timer_fixtures::Refusing;
+use timer_fixtures::RefusingWheel;
 use timer_wheels::{HierWheel, Table};
 
 /// Compares in a function of its own, so that a test is a list of calls without branches.
@@ -96,12 +96,12 @@ pub fn hierarchy(rt: &impl Abort, alloc: Global, table: Table) -> HierWheel
 }
 
 /// The same, whose first start runs out of memory if `refuses` says so.
-pub fn refusing(rt: &impl Abort, alloc: Global, refuses: bool) -> Refusing<HierWheel>
+pub fn refusing(rt: &impl Abort, alloc: Global, refuses: bool) -> RefusingWheel<HierWheel>
     ensures pending { (hier_state result.wheel).pending ≡ [] }
     ensures due { (hier_state result.wheel).due ≡ [] }
 {
     let wheel = hierarchy(rt, alloc, Table::Wide);
-    Refusing { wheel, refuses }
+    RefusingWheel { wheel, refuses }
 }
 
 /// A list of one.

@@ -5,12 +5,12 @@ use timer_base::{Handle, OutOfMemory, Timer, Wheel};
 
 /// A wheel whose next start fails if `refuses` is set, and only that one.
 #[derive(Drop)]
-pub struct Refusing<W> {
+pub struct RefusingWheel<W> {
     pub wheel: W,
     pub refuses: bool,
 }
 
-impl<W: Wheel> Wheel for Refusing<W> {
+impl<W: Wheel> Wheel for RefusingWheel<W> {
     // With no room: a start may be refused at any time.
     ghost state = { λ w. with_room 0 (W.state w.wheel) };
 
