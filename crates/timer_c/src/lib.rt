@@ -3,14 +3,14 @@
 //! C keeps a `struct timers` (`CTimers`), which owns the timers on the heap. A call requires nothing of C but
 //! the rules of that header; if it can't be done it returns a status that says why, and nothing changes.
 //!
-//!     exports    the functions that C calls: each checks that the struct is open, then forwards the call
-//!     calls      the calls over any wheel, with C's statuses and structs
-//!     opening    a wheel by C's number for its table
-//!     c_timers   `struct timers`: the slot, and the last serial while the slot is empty
-//!     owned_cell the slot: the two machine words by which it owns the timers on the heap; its four methods
-//!                are proved by hand
-//!     layout     the structs of the header
-//!     status     the statuses of the header
+//!     exports      the functions that C calls: each checks that the struct is open, then forwards the call
+//!     calls        the calls over any wheel, with C's statuses and structs
+//!     wheel_maker  a wheel by C's number for its table
+//!     c_timers     `struct timers`: the slot, and the last serial while the slot is empty
+//!     owned_cell   the slot: the two machine words by which it owns the timers on the heap; its four methods
+//!                  are proved by hand
+//!     layout       the structs of the header
+//!     status       the statuses of the header
 #![tactic(auto)]
 
 mod c_timers;

@@ -1,4 +1,4 @@
--- The invariant of a desk, when the side of one client changes.
+-- The invariant of a desk, when the account of one client changes.
 use Rattle.std.proofs.Common.{◌≡◌, ◌≢◌, ℕ, ◌+◌, ◌<◌, ◌≤◌, ◌==◌, Bool, true, false, ◌⊎◌, List, [], ◌++◌, length, get_or, refl, sym, ◌∙◌, ap, subst, inl, inr, arith}
 use Rattle.std.specs.Prelude.{slice_set, if◌then◌else◌}
 use Rattle.std.proofs.lemmas.Bool.Decides.{nat_tests}
@@ -21,7 +21,7 @@ is_equal m n h = grind (arith, nat_tests)
 is_other : (m n : ℕ) → (m == n) ≡ false → n ≢ m
 is_other m n h = grind (arith, nat_tests)
 
--- the side after a report ends in the held request
+-- the account after a report ends in the held request
 pub ClientAccount-held : (c : ℕ) (report : List Done) (a b : Account) → ClientAccount c report a b → HeldIsLast b
 ClientAccount-held c report a b t = held_last b (got_but_held a ++ asked c report) t.asked_are
 

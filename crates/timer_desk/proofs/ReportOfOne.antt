@@ -75,7 +75,7 @@ of_serve c served = record {
     same_client : (k : ℕ) (served : Served) → Dones.Served c served ≡ Dones.Served k NoMemory → c ≡ k
     same_client k served is = cc
 
--- a member of another client says nothing of a side
+-- a member of another client says nothing of an account
 ClientAccount-other : (c k : ℕ) (done : Done) (a : Account) → IsOf c done → k ≢ c → HeldIsLast a → ClientAccount k (done ∷ []) a a
 ClientAccount-other c k done a o other last =
     let none : asked k (done ∷ []) ≡ [] = ap (λ xs. xs ++ []) (o.no_request k other) in

@@ -1,4 +1,4 @@
--- The errors of opening a desk.
+-- The errors of the constructor of a desk.
 use Rattle.std.specs.Prelude.{◌≡◌, ◌<◌, ◌≤◌, ◌⊎◌, ℕ, List}
 use Rattle.timer_facility.specs.Facility.{FacilityView}
 use Rattle.timer_desk.specs.declared.constructor.OpenFault.{OpenFault}

@@ -107,7 +107,7 @@ close_notices s (Ok count) = notices_in (step s Close 0).outs
 close_notices s (Err fault) = []
 
 module _ {I : Type 0} (kind : LineKind I) where
-  -- the side of client c; i and b are the defaults if there is no such client
+  -- the account of client c; i and b are the defaults if there is no such client
   abbrev pub account_at : DeskState I → ℕ → I → BacklogState → Account
   account_at d c i b = account_of kind (get_or d.inlets c i) (get_or d.backlogs c b)
 

@@ -187,14 +187,14 @@ abbrev pub is_held : Option Numbered → Bool
 is_held (Some numbered) = true
 is_held None = false
 
--- one client's side of the desk, as lists
+-- one client's account at the desk, as lists
 pub record Account : Type 0 where
   pub got : List Numbered
   pub standing : List Numbered
   pub given : List Word
   pub backlog : BacklogState
 
--- the side of a client with line i and backlog b
+-- the account of a client with line i and backlog b
 abbrev pub account_of : {I : Type 0} → LineKind I → I → BacklogState → Account
 account_of kind i b = record {
   got = (kind.state i).got;
@@ -215,7 +215,7 @@ HeldIsLast a = got_but_held a ++ held_list a.backlog.held ≡ a.got
 abbrev pub left_of : Account → ℕ
 left_of a = length (held_list a.backlog.held) + length a.standing
 
--- what a report says of client c, whose side was a and is b
+-- what a report says of client c, whose account was a and is b
 pub record ClientAccount (c : ℕ) (report : List Done) (a b : Account) : Type 0 where
   -- a request held before is the first one asked since, or is still held
   pub held_first : Extends (held_list a.backlog.held) (asked c report ++ held_list b.backlog.held)

@@ -41,7 +41,7 @@ IsNeeded may_refuse c s [] = may_refuse ≡ true
 IsNeeded may_refuse c s (numbered ∷ later) = (may_refuse ≡ true)
     ⊎ NeedsMemory s c numbered.number numbered.request
 
--- the length of a client's outbox after a report, if its side was a: the words before and those since,
+-- the length of a client's outbox after a report, if its account was a: the words before and those since,
 -- less those flushed
 abbrev pub outbox_after : ℕ → Account → List Done → ℕ
 outbox_after c a past = length a.backlog.outbox + length (words c past) - flushed c past
@@ -50,7 +50,7 @@ outbox_after c a past = length a.backlog.outbox + length (words c past) - flushe
 abbrev pub pending_after : ℕ → FacilityState → List Done → ℕ
 pending_after c s past = pending_of (run s (events past)).state c
 
--- When a member is right for client c, whose side was a before the report and is b after it. A serve's result
+-- When a member is right for client c, whose account was a before the report and is b after it. A serve's result
 -- accords with the room. It runs out of memory only if the request that is then held (the next one done,
 -- or the one held at the end) allocates. After the member the outbox has room for a notice of each pending
 -- timer.

@@ -1,4 +1,4 @@
--- Lemmas for `stopping`: the bits after a stop. Also the counts of a hierarchy of wheels after `advance`.
+-- Lemmas for `hier_updates`: the bits after a stop. Also the counts of a hierarchy of wheels after `advance`.
 use Rattle.std.proofs.Common.{◌≡◌, ◌≢◌, ◌<◌, ◌≤◌, ◌+◌, ◌-◌, ◌*◌, ℕ, List, [], ◌∷◌, ◌++◌, length, refl, sym, ◌∙◌, ap, subst, inl, inr, arith, get_or-set_same, get_or-set_other}
 use Rattle.std.specs.Prelude.{Bool, true, false, Option, Some, None, MatchOption, map, slice_set}
 use Rattle.std.proofs.lemmas.Bool.{cases_eq}
