@@ -1,9 +1,7 @@
-//! Tests of the subcommands, over their public functions: texts, readers and writers that fail, clients in
-//! threads, and handles of timers that are gone. Not part of the program.
+//! Tests of the subcommands, over their public functions: texts, readers and writers that fail, and clients
+//! in threads. Not part of the program.
 #![tactic(auto)]
 
-#[cfg(test)]
-mod handle_tests;
 #[cfg(test)]
 mod long_tests;
 #[cfg(test)]

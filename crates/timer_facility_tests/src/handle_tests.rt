@@ -4,8 +4,8 @@ ghost use Rattle.timer_base.specs.declared.limits.TheConstants.{LAST};
 ghost use Rattle.timer_base.specs.WheelState.{empty_wheel};
 ghost use Rattle.timer_wheels.specs.Tables.{last_of_table};
 
-use crate::support::same_in;
 use std::alloc::Global;
+use std::fmt::Debug;
 use std::process::Abort;
 use timer_base::{Handle, PlainWheel, Timer, Wheel};
 use timer_facility::{Answer, Config, Facility, NotTaken, Notice, Reason, Request};
@@ -18,6 +18,17 @@ const CONFIG: Config = Config {
     first_serial: 1,
     first_number: 1,
 };
+
+/// Compares in a function of its own, so that a test is a list of calls without branches. `row` is shown if
+/// the two differ.
+fn same_in<R: Debug + Drop, T: PartialEq + Debug + Drop>(
+    rt: &impl Abort,
+    row: R,
+    found: T,
+    expected: T,
+) {
+    assert_eq!(rt; found, expected, "{row:?}");
+}
 
 /// The hierarchies of wheels, with the names of their schemes.
 const HIERARCHIES: [(Table, &str); 2] = [(Table::Wide, "hier"), (Table::Clock, "clock")];
