@@ -4,7 +4,7 @@
     page.py measure [--parts wheels,play] [--quick] [--load N]
     page.py write
 
-`measure` takes some ten minutes on four cores that do nothing else; the results go to build/page. With --load N
+`measure` takes some thirteen minutes on four cores that do nothing else; the results go to build/page. With --load N
 it keeps N processes counting beside each part, for the tables of a busy machine, and the results go to
 build/page/busy; then the parts are those of these tables. build_all has to have run before: it builds the product, its library for C and the peers. Other programs than those of this
 checkout are named by --work (crates/timer_desk_bench) and --timers (the product). `write` puts what has been

@@ -132,6 +132,7 @@ PLOTTED = ("stop", "start", "restart", "tick")
 
 
 def scale_panels(rows):
+    rows = [row for row in rows if row["measure"] in PLOTTED]
     across = sorted({int(row["pending"]) for row in rows})
     names = [of_count(value) for value in across]
     operations = [name for name in PLOTTED if any(row["measure"] == name for row in rows)]

@@ -44,7 +44,7 @@ struct Scale {
   template <class F> void looks(F &facility, const std::vector<std::pair<uint32_t, uint64_t>> &touches) {
     if constexpr (F::HAS_NEXT) {
       reads("look", touches.size(), touches.size(), [&](size_t i) { return facility.look(touches[i].first); });
-      // The library may walk one bucket, here one with as many as half of all timers.
+      // The library may walk one bucket, here one with all timers.
       const size_t calls = pending < 100000 ? 1000 : 20;
       reads("next", calls, calls, [&](size_t) { return facility.next(); });
     }
