@@ -4,9 +4,9 @@
     inlined.py PATH/libtimer_bench.a [LIST]
 
 LIST, by default inlined.txt beside this file, has a function a line. A function that has a symbol of its own in the
-library was not inlined at every place where it is called. Status 1 where there is one, 2 where the library cannot be
-read. A name that the library's source no longer has would never be found, so each name must be that of a function of
-the sources beside: status 2 where one is not.
+library was not inlined in each of its callers. Status 1 if there is one, 2 if the library can't be read. A name that
+the library's source no longer has would never be found. So each name must be that of a function of the sources
+beside: status 2 if one is not.
 """
 import os
 import re

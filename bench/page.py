@@ -1,5 +1,6 @@
 #!/usr/bin/env python3
-"""Measures all that stands in README.md and docs/scale.md, and writes their tables and the plots of docs/.
+"""Measures what stands in the tables of README.md and docs/scale.md, but for those of desk.py. Writes them, and the
+plots of docs/.
 
     page.py measure [--parts wheels,play] [--quick] [--load N]
     page.py write
