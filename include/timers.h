@@ -50,8 +50,9 @@
  *     The clock of TIMERS_CLOCK ends after 100 days. Before that, free the timers, make them again at tick
  *     0 and start what is left. That of TIMERS_WIDE has ticks for 36 million years of milliseconds.
  *
- *     The library is proved: each function meets the contract stated in crates/timer_c/src/exports.rt, for
- *     every call that keeps the rules below. Nothing checks that a caller keeps them.
+ *     The library is proved: each function but timers_message meets the contract that the sources state for
+ *     it (crates/timer_c/src/exports.rt), for every call that keeps the rules below. Nothing checks that a
+ *     caller keeps them.
  *
  * COSTS
  *     The timers are in arrays, and each is in the bucket of a wheel. A bucket of the lowest wheel has one
@@ -79,9 +80,9 @@
  *     than timers_reserve made room for. A start that re-arms a timer which was just taken does not.
  *
  *     Two of these are proved. No start returns TIMERS_NO_MEMORY while fewer timers are held than
- *     timers_reserve made room for. And there are at most 9 moves for each start and restart (of
- *     TIMERS_CLOCK, 3). The other costs are in no contract: they follow from the code. Tests count the
- *     allocations of each call.
+ *     timers_reserve made room for. And there are at most 9 moves for each start and restart. (With
+ *     TIMERS_CLOCK there are at most 3, which is proved of the wheel and not of timers_counts.) The other
+ *     costs are in no contract: they follow from the code. Tests count the allocations of each call.
  *
  * PORTING
  *     What stands for the calls of a heap or of libuv's timers, if `now` is the real time in ticks:
@@ -89,7 +90,8 @@
  *         uv_timer_start, insert       timers_start_at(t, now + timeout, action, &handle)
  *         the same, if it is active    timers_restart_at(t, handle, now + timeout, action, &handle)
  *         uv_timer_stop, remove        timers_stop(t, handle, &action)
- *         uv_timer_again, repeat       timers_start_at(t, now + repeat, ..), once it is taken
+ *         uv_timer_again               timers_restart_at if it is active, else timers_start_at
+ *         repeat                       timers_start_at(t, now + repeat, ..), once it is taken
  *         uv_timer_get_due_in          timers_look(t, handle, &timer); timer.deadline - now, or 0
  *         uv_is_active                 timers_look(t, handle, &timer) == TIMERS_OK
  *         uv_backend_timeout           timers_next(t) - now, or 0; TIMERS_NEVER if none is held
@@ -106,7 +108,7 @@
  *        two arguments of one call overlap.
  *     3. If an argument is only written (handle, restarted, action, passed, out, counts), the object may be
  *        uninitialised. It has only integers, so any bits are a value, and no function reads it. It is
- *        written exactly if the function's comment says so, and otherwise unchanged.
+ *        written exactly if the function's description says so, and otherwise unchanged.
  *     4. Calls on one `struct timers` come one at a time, also those that take a const pointer. It may be
  *        handed from thread to thread, by a lock or by a thread's start or join. Calls on two of them are
  *        independent.
@@ -127,7 +129,7 @@
  * ACTIONS
  *     An action is any 64 bits. For a pointer give (uint64_t)(uintptr_t)p, and read it as
  *     (void *)(uintptr_t)action. The timers never follow it: before you free what it points to, stop the
- *     timer. timers_free drops the timers and says nothing of their actions. To release these first:
+ *     timer. timers_free drops the timers and does not return their actions. To release these first:
  *
  *         size_t cursor = 0;
  *         struct timer_handle handle;
@@ -138,7 +140,7 @@
  *
  * ERRORS
  *     Each call that can fail returns a status: the first that applies, in the order of the function's
- *     comment. Unless it is TIMERS_OK, neither the timers nor what the arguments point to has changed.
+ *     description. Unless it is TIMERS_OK, neither the timers nor what the arguments point to has changed.
  */
 /* SPDX-License-Identifier: MIT OR Apache-2.0 */
 #ifndef TIMERS_H

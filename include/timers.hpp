@@ -12,13 +12,13 @@
  * interval of n ticks lasts more than n - 1 and at most n, since the present tick has begun. `at_least`
  * adds the tick that a time-out needs if it must not come early.
  *
- * ACTIONS. An `Action` is trivially copyable and has at most 8 bytes: a pointer to an object or a function,
- * an index, an enum, or a lambda that captures one pointer. Its bytes are the action of C, so that it costs
- * nothing. A std::function does not fit: keep it in an object of yours, and give the pointer to that.
+ * ACTIONS. An `Action` is trivially copyable and has at most 8 bytes. It may be a pointer to an object or a
+ * function, an index, an enum, or a lambda that captures one pointer. Its bytes are the action of C, so that
+ * it costs nothing. A std::function does not fit: keep it in an object of yours, and give the pointer to that.
  *
  * ERRORS. As in the standard library's containers, what a caller can't expect is an exception. It is
- * std::bad_alloc if memory is out, and otherwise `timing::error` with the status of C. What may well
- * happen is a result: no timer has the handle (it was stopped, restarted or taken), or nothing has
+ * std::bad_alloc if a call runs out of memory, and otherwise `timing::error` with the status of C. What may
+ * well happen is a result: no timer has the handle (it was stopped, restarted or taken), or nothing has
  * expired. After an exception nothing has changed. */
 /* SPDX-License-Identifier: MIT OR Apache-2.0 */
 #ifndef TIMERS_HPP
@@ -90,8 +90,9 @@ public:
 	timers(const timers &) = delete;
 	timers &operator=(const timers &) = delete;
 
-	/* The other one is left without timers. It may be destroyed and assigned to, and its readers return
-	 * that nothing is held. Every other call throws TIMERS_NOT_OPEN. */
+	/* The other one is left without timers. It may be destroyed and assigned to. Its stop, look and expire
+	 * return nothing, each visits nothing, and now and size return 0. A call that may throw `error` throws
+	 * it with TIMERS_NOT_OPEN. */
 	timers(timers &&other) noexcept : raw_(std::exchange(other.raw_, none())) {}
 	timers &operator=(timers &&other) noexcept
 	{

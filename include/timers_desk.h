@@ -49,8 +49,9 @@
  *
  *     Words wait in the client's outbox at the owner until a flush moves them into the line. A request is
  *     taken only if the outbox has room for its answer, a word of each of the client's pending timers, and
- *     one more. So no word is ever lost. A client that does not read stops only its own requests. If
- *     memory runs out for a request, it is held, and retried first when its client is served the next time.
+ *     one more. So no word is lost unless an end is freed. A client that does not read stops only its own
+ *     requests. If memory runs out for a request, it is held, and retried first when its client is served
+ *     the next time.
  *
  *     The owner's loop:
  *
@@ -79,15 +80,15 @@
  *     The library is proved: each function meets the contract stated in
  *     crates/timer_desk_c/src/desk_exports.rt or line_exports.rt, for every call that keeps the rules
  *     below. Nothing checks that a caller keeps them. Nothing is proved about time: when a thread runs, and
- *     when a word arrives. Nor is what timers_desk_line_freed and timers_line_abandoned say of the other
- *     end. It is proved that they change nothing, and that no word stands in a line that is abandoned.
+ *     when a word arrives. Nor is what timers_desk_line_freed and timers_line_abandoned return about the
+ *     other end. It is proved that they change nothing, and that no word stands in a line that is abandoned.
  *
  * RULES
  *     1. A `struct timers_desk` begins as TIMERS_DESK_INIT and a `struct timers_line` as TIMERS_LINE_INIT,
  *        or with all bytes 0. Only these functions write them. They must not be copied, since they own
  *        memory; they may be moved by a memcpy after which the old one is not used.
- *     2. A pointer argument is not NULL and points to an object of its type, or for `lines` to as many as
- *        are passed, that this call alone uses. No two arguments of one call overlap.
+ *     2. A pointer argument is not NULL. It points to an object of its type that this call alone uses;
+ *        `lines` points to as many as are passed. No two arguments of one call overlap.
  *     3. An object that a call only writes (number, word, passed, returned, standing, unread, client) may
  *        be uninitialised.
  *     4. Calls on one struct come one at a time. A struct may be handed from thread to thread, by a lock,
@@ -143,10 +144,23 @@ enum timers_desk_status {
 	TIMERS_DESK_FINISHED = 18,       /* the line has finished */
 	TIMERS_DESK_OUT_OF_RANGE = 19,   /* a number of the configuration, or the number of lines */
 	TIMERS_DESK_IDLE = 20,           /* no request was known to be in the line */
-	TIMERS_DESK_NO_ROOM = 21,        /* the outbox has no room for an answer and one word more */
+	TIMERS_DESK_NO_ROOM = 21,        /* the outbox has no room for the words of another request */
 	TIMERS_DESK_OTHER_LINE = 22,     /* another client's line, or its desk was freed before it finished */
 	TIMERS_DESK_NOT_FINISHED = 23,   /* the line has not finished */
 	TIMERS_DESK_LEFT = 24            /* something of the client is left at the desk */
+};
+
+#define TIMERS_DESK_CLIENTS 64   /* the most clients */
+
+/* The kinds of words, and the members of a word that each one sets. */
+enum timers_word_kind {
+	TIMERS_WORD_STARTED = 1,     /* number, handle, deadline */
+	TIMERS_WORD_RESTARTED = 2,   /* number, handle and deadline of the new timer, the old serial in `other` */
+	TIMERS_WORD_STOPPED = 3,     /* number, handle.serial of the stopped timer */
+	TIMERS_WORD_REFUSED = 4,     /* number, reason: its number is used up, and nothing else changed */
+	TIMERS_WORD_NOT_TAKEN = 5,   /* number, reason (REPEATED, AHEAD: the next number in `other`); nothing changed */
+	TIMERS_WORD_EXPIRED = 6,     /* number of its start or restart, handle.serial, deadline, action */
+	TIMERS_WORD_RETURNED = 7     /* the same: the desk was closed before its deadline */
 };
 
 /* Private: see rule 1. */
@@ -162,27 +176,15 @@ struct timers_line {
 #define TIMERS_DESK_INIT { NULL, 0 }
 #define TIMERS_LINE_INIT { NULL, 0, 0 }
 
-#define TIMERS_DESK_CLIENTS 64   /* the most clients */
-
 struct timers_desk_config {
-	uint64_t first_tick;   /* where the clock begins: up to TIMERS_LAST, of TIMERS_CLOCK TIMERS_CLOCK_LAST */
+	uint64_t first_tick;   /* the clock begins at it: up to TIMERS_LAST, of TIMERS_CLOCK TIMERS_CLOCK_LAST */
 	uint64_t capacity;     /* the most timers that may be pending at a time: 1 to 1,048,576 */
 	size_t room;           /* how many words each client's outbox has room for: 2 to 65,536 */
 	size_t line;           /* how many requests, and how many words, a line has room for: 1 to 65,536 */
 	uint32_t table;        /* the slots of the wheels: TIMERS_WIDE, which is 0, or TIMERS_CLOCK */
 };
 
-enum timers_word_kind {
-	TIMERS_WORD_STARTED = 1,     /* number, handle, deadline */
-	TIMERS_WORD_RESTARTED = 2,   /* number, handle and deadline of the new timer, the old serial in `other` */
-	TIMERS_WORD_STOPPED = 3,     /* number, handle.serial of the stopped timer */
-	TIMERS_WORD_REFUSED = 4,     /* number, reason: its number is used up, and nothing else changed */
-	TIMERS_WORD_NOT_TAKEN = 5,   /* number, reason: nothing changed */
-	TIMERS_WORD_EXPIRED = 6,     /* number of its start or restart, handle.serial, deadline, action */
-	TIMERS_WORD_RETURNED = 7     /* the same: the desk was closed before its deadline */
-};
-
-/* A message to a client. What its kind doesn't list above is 0. */
+/* A message to a client. A member that its kind does not set is 0. */
 struct timers_word {
 	uint32_t kind;      /* enum timers_word_kind */
 	uint32_t reason;    /* enum timers_desk_status */
@@ -274,7 +276,8 @@ enum timers_desk_status timers_desk_end(struct timers_desk *d, size_t client, st
 /* Ends the words of every client, each as timers_desk_end does: lines[0] to lines[clients - 1] are the
  * clients' lines, all of them handed over. Those that can be ended are ended, whatever is left of the
  * others, and the call may be repeated. A line that was freed is skipped, since no one reads its words.
- * Does not allocate. TIMERS_DESK_OK: the words of all whose line was not freed have ended.
+ * Does not allocate.
+ * TIMERS_DESK_OK: the words of all whose line was not freed have ended.
  * TIMERS_DESK_NOT_OPEN (the desk), TIMERS_DESK_OUT_OF_RANGE (`clients` is not the number of clients):
  * nothing has changed.
  * Otherwise it writes to `*client` the first client whose words have not ended, and returns why. That
@@ -343,8 +346,8 @@ bool timers_line_ended(const struct timers_line *line);
 
 /* Whether the desk was freed, and all words that it had put into the line were received: then no word comes
  * any more. Words that waited at the desk were dropped with it. Once true it stays true. False if it holds
- * no line, or if its words were ended by timers_desk_end: then timers_line_ended says that no word comes.
- * Nothing changes. Constant time. */
+ * no line, or if its words were ended by timers_desk_end: then timers_line_ended returns true once all were
+ * received. Nothing changes. Constant time. */
 bool timers_line_abandoned(const struct timers_line *line);
 
 /* Frees the client's end, if it holds one. What it sent is still taken, and words to it are lost. */
