@@ -127,18 +127,35 @@ const PUSHED_BACK: Row = Row {
 /// Handles are compared with their places: the plain wheel has one place, which is 0.
 static ROWS: [Row; 4] = [MIGRATION, STOP_MIDDLE, CLOSE, PUSHED_BACK];
 
+fn same_outs(rt: &impl Abort, outs: &[Out], wanted: &[Out], name: &str) {
+    assert_eq!(rt; outs, wanted, "{name}");
+}
+
+fn is_over(rt: &impl Abort, player: &Player<PlainWheel>, end: u64) {
+    let facility = player.facility();
+    assert_eq!(rt; (facility.now(), facility.pending()), (end, 0));
+}
+
+/// Plays the two parts of a row's events one after the other.
+fn play_parts(
+    rt: &impl Abort,
+    mut player: Player<PlainWheel>,
+    row: &Row,
+    parts: (&[Event], &[Event]),
+) -> Result<(), Fail> {
+    let mut outs = player.play(parts.0)?;
+    outs.extend_from_slice(player.play(parts.1)?.as_slice())?;
+    same_outs(rt, &outs, row.outs, row.name);
+    is_over(rt, &player, row.end);
+    Ok(())
+}
+
 #[test]
 fn the_outs_of_each_row_are_right_and_its_events_may_be_cut(rt: HostRuntime) -> Result<(), Fail> {
     for row in ROWS {
         for cut in 0..=row.events.len() {
-            let mut player = player(rt.alloc())?;
-            let mut outs = player.play(&row.events[..cut])?;
-            outs.extend_from_slice(player.play(&row.events[cut..])?.as_slice())?;
-            assert_eq!(rt; outs.as_slice(), row.outs, "{} cut at {cut}", row.name);
-            assert_eq!(rt;
-                (player.facility().now(), player.facility().pending()),
-                (row.end, 0)
-            );
+            let parts = (&row.events[..cut], &row.events[cut..]);
+            play_parts(&rt, player(rt.alloc())?, &row, parts)?;
         }
     }
     Ok(())
@@ -160,6 +177,35 @@ static ONCE_MORE: [Event; 3] = [
     },
 ];
 
+/// What the start and the stop of `ONCE_MORE` are answered.
+static ANSWERED_ONCE: [Out; 2] = [
+    Out::Answered {
+        client: 0,
+        number: 1,
+        answer: Answer::Started {
+            handle: Handle {
+                place: 0,
+                serial: 1,
+            },
+            deadline: 5,
+        },
+    },
+    Out::Answered {
+        client: 0,
+        number: 2,
+        answer: Answer::Stopped { serial: 1 },
+    },
+];
+
+/// Plays `ONCE_MORE` with a wheel that refuses the first start.
+fn play_to_the_refusal(rt: &impl Abort, player: &mut Player<RefusingWheel<PlainWheel>>) {
+    let Err(stop) = player.play(&ONCE_MORE) else {
+        panic!(rt; "it was not stopped");
+    };
+    assert_eq!(rt; (stop.done, stop.outs.len()), (1, 0));
+    assert_eq!(rt; player.facility().next_number(0), Some(1));
+}
+
 #[test]
 fn an_event_that_ran_out_of_memory_can_be_played_again(rt: HostRuntime) -> Result<(), Fail> {
     let wheel = RefusingWheel {
@@ -168,31 +214,9 @@ fn an_event_that_ran_out_of_memory_can_be_played_again(rt: HostRuntime) -> Resul
     };
     let facility = Facility::open(rt.alloc(), CONFIG.check()?, wheel);
     let mut player = Player::open(rt.alloc(), facility);
-    let Err(stop) = player.play(&ONCE_MORE) else {
-        panic!(rt; "it was not stopped");
-    };
-    assert_eq!(rt; (stop.done, stop.outs.len()), (1, 0));
-    assert_eq!(rt; player.facility().next_number(0), Some(1));
+    play_to_the_refusal(&rt, &mut player);
     let outs = player.play(&ONCE_MORE[1..])?;
-    let wanted = [
-        Out::Answered {
-            client: 0,
-            number: 1,
-            answer: Answer::Started {
-                handle: Handle {
-                    place: 0,
-                    serial: 1,
-                },
-                deadline: 5,
-            },
-        },
-        Out::Answered {
-            client: 0,
-            number: 2,
-            answer: Answer::Stopped { serial: 1 },
-        },
-    ];
-    assert_eq!(rt; outs.as_slice(), wanted.as_slice());
+    same_outs(&rt, &outs, &ANSWERED_ONCE, "after the refusal");
     assert_eq!(rt; player.facility().now(), 2);
     Ok(())
 }
@@ -256,6 +280,20 @@ static STOPS: [Event; 2] = [
     },
 ];
 
+/// The answers to these stops.
+static STOPPED: [Out; 2] = [
+    Out::Answered {
+        client: 0,
+        number: 2,
+        answer: Answer::Stopped { serial: 1 },
+    },
+    Out::Answered {
+        client: 2,
+        number: 102,
+        answer: Answer::Stopped { serial: 202 },
+    },
+];
+
 #[test]
 fn handles_of_timers_that_are_gone_are_forgotten(rt: HostRuntime) -> Result<(), Fail> {
     let mut player = player(rt.alloc())?;
@@ -264,19 +302,7 @@ fn handles_of_timers_that_are_gone_are_forgotten(rt: HostRuntime) -> Result<(), 
         play_round(&rt, &mut player, round)?;
     }
     let outs = player.play(&STOPS)?;
-    let wanted = [
-        Out::Answered {
-            client: 0,
-            number: 2,
-            answer: Answer::Stopped { serial: 1 },
-        },
-        Out::Answered {
-            client: 2,
-            number: 102,
-            answer: Answer::Stopped { serial: 202 },
-        },
-    ];
-    assert_eq!(rt; outs.as_slice(), wanted.as_slice());
+    same_outs(&rt, &outs, &STOPPED, "after the rounds");
     assert!(rt; player.handles().len() <= 64);
     Ok(())
 }

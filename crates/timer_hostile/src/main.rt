@@ -23,10 +23,23 @@ mod texts;
 mod wheels;
 
 use fault::Fault;
-use scenario::{SCENARIOS, play};
+use scenario::{SCENARIOS, Scenario, play};
 use std::env;
 use std::process::ExitCode;
 use std::sync::Wait;
+
+/// Plays a scenario and prints its name.
+fn play_one(
+    rt: &(impl AllocGlobal + Wait + Print + Eprint),
+    name: &str,
+    scenario: Scenario,
+) -> Result<(), Fault> {
+    if play(rt, scenario)? {
+        let _ = eprintln!(rt; "held");
+    }
+    let _ = println!(rt; "{name}");
+    Ok(())
+}
 
 /// Plays the scenarios with this name, or all of them.
 fn play_named(
@@ -35,10 +48,7 @@ fn play_named(
 ) -> Result<(), Fault> {
     for (name, scenario) in SCENARIOS {
         if wanted.is_none() || wanted == Some(name) {
-            if play(rt, scenario)? {
-                let _ = eprintln!(rt; "held");
-            }
-            let _ = println!(rt; "{name}");
+            play_one(rt, name, scenario)?;
         }
     }
     Ok(())
