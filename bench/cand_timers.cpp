@@ -17,7 +17,7 @@ struct Timers {
   // A refusal, or a clock that went another way, shows as a wrong count.
   uint64_t len() { return !failed && timers_now(&held) == present ? timers_len(&held) : ~0ull; }
   Handle start(const Timer &t) {
-    struct timer_handle h = {0, 0};
+    struct timers_handle h = {0, 0};
     failed |= timers_start(&held, t.deadline - present, t.action, &h) != TIMERS_OK;
     deadlines[t.action] = t.deadline;
     return {h.place, h.serial};
@@ -29,7 +29,7 @@ struct Timers {
   }
   // The owner's timer is pushed back by one call; where it is gone, another is started.
   bool restart(Handle &h, const Timer &t, Timer &out) {
-    struct timer_handle made;
+    struct timers_handle made;
     if (timers_restart(&held, {(size_t)h.place, h.serial}, t.deadline - present, t.action, &made) != TIMERS_OK) {
       h = start(t);
       return false;
@@ -48,7 +48,7 @@ struct Timers {
     return passed ? passed : k;
   }
   bool expire(Timer &out) {
-    struct timer_expired e;
+    struct timers_expired e;
     if (!timers_expire(&held, &e)) return false;
     out.serial = e.serial;
     return true;

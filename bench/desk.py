@@ -1,8 +1,7 @@
 #!/usr/bin/env python3
-"""Measures a desk from C beside the same threads over C++ rings and around a mutex, and prints the rows as a Markdown table.
+"""Measures a desk from C beside the same threads over C++ rings and around a mutex, and writes results/desk.csv.
 
     desk.py [--program PROGRAM] [--ring PROGRAM] [--clients 1,8,64] [--cores 1,2,4] [--repeats N] [--timers N] [--limit SECONDS]
-            [--csv FILE]
 
 The programs are build/desk_threads and build/desk_ring: bench/desk_threads.c says what a client does and what is timed, and
 bench/desk_ring.cpp what the owner of the rings does. Each row is one number of clients and of cores: a desk with lines of 64
@@ -13,9 +12,15 @@ turns. Rates are medians of the repeats, with the least and the greatest in pare
 --limit is for all runs together, 170 seconds by default. Rows that are not reached by then are left out, and a line says how
 many; a run that is not done after 30 seconds ends the measurement. Status 1: a run failed; 2: wrong arguments.
 """
-import argparse, csv, os, statistics, subprocess, sys, time
+import argparse
+import os
+import statistics
+import subprocess
+import sys
+import time
 
-HERE = os.path.dirname(os.path.abspath(__file__))
+from figures import HERE, fail, spread, write
+
 CORES = sorted(os.sched_getaffinity(0))
 SIZES = {"line 64": ["64", "1024"], "line 1,024": ["1024", "4096"]}
 # The program of each way, what comes before the numbers of clients and timers, and what comes after them.
@@ -25,11 +30,6 @@ WAYS["mutex"] = ("program", ["mutex"], [])
 TIMES = ["p50", "p999", "p9999", "most"]
 FIELDS = ["words", "seconds", *(f"{what}_{time}" for what in ("start", "answer") for time in TIMES)]
 SHOWN = ["start_p50", "start_p999", "start_p9999", "start_most", "answer_p50", "answer_p999"]
-
-
-def fail(text, status=1):
-    print(text, file=sys.stderr)
-    sys.exit(status)
 
 
 def run(programs, way, clients, timers, cores):
@@ -47,29 +47,10 @@ def run(programs, way, clients, timers, cores):
 
 
 def row_of(results):
-    """One row of all its repeats."""
-    row = {name: statistics.median(result[name] for result in results) for name in FIELDS if not name.endswith("most")}
-    row |= {name: max(result[name] for result in results) for name in FIELDS if name.endswith("most")}
-    rates = [result["words"] / result["seconds"] for result in results]
-    return row | {"rate": statistics.median(rates), "low": min(rates), "high": max(rates), "repeats": len(results)}
-
-
-def short(ns):
-    """A time in ns, us or ms, with two digits or three."""
-    for unit, size in (("ms", 1e6), ("µs", 1e3)):
-        if ns >= size:
-            return f"{ns / size:,.{0 if ns >= 10 * size else 1}f} {unit}"
-    return f"{ns:.0f} ns"
-
-
-def line_of(clients, cores, way, row, mutex):
-    rate = f"{row['rate'] / 1e6:.2f} ({row['low'] / 1e6:.2f}-{row['high'] / 1e6:.2f})"
-    if way != "mutex" and mutex:
-        rate += f", {row['rate'] / mutex['rate']:.2f}x"
-        if row["rate"] < mutex["rate"]:
-            rate += " (slower)"
-    times = [short(row[name]) for name in SHOWN]
-    return f"| {clients} | {cores} | {way} | {rate} | {' | '.join(times)} |"
+    """The cells of one row, of all its repeats, and its rate."""
+    rates = [result["words"] / result["seconds"] / 1e6 for result in results]
+    times = [(max if name.endswith("most") else statistics.median)(result[name] for result in results) for name in SHOWN]
+    return statistics.median(rates), spread(rates), [f"{time:.0f}" for time in times]
 
 
 def numbers(text):
@@ -85,7 +66,6 @@ def main():
     parser.add_argument("--repeats", type=int, default=3)
     parser.add_argument("--timers", type=int, default=128_000, help="of all clients together")
     parser.add_argument("--limit", type=float, default=170)
-    parser.add_argument("--csv")
     options = parser.parse_args()
     programs = {"program": options.program, "ring": options.ring}
     for program in programs.values():
@@ -101,19 +81,15 @@ def main():
             for way in WAYS:
                 result = run(programs, way, clients, max(1, options.timers // clients), cores)
                 rows.setdefault((clients, cores, way), []).append(result)
-    rows = {key: row_of(results) for key, results in rows.items()}
-    print("| clients | cores | way | million words a second | start: median | 99.9 % | 99.99 % | most | request to answer: median | 99.9 % |")
-    print("|---|---|---|---|---|---|---|---|---|---|")
-    for (clients, cores, way), row in rows.items():
-        print(line_of(clients, cores, way, row, rows.get((clients, cores, "mutex"))))
+    made = []
+    for (clients, cores, way), results in rows.items():
+        rate, cell, times = row_of(results)
+        mutex = row_of(rows[clients, cores, "mutex"])[0]
+        made.append([clients, cores, way, cell, "" if way == "mutex" else f"{rate / mutex:.2f}", *times])
+    shown = ["start, median", "start, 99.9 %", "start, 99.99 %", "start, most", "answer, median", "answer, 99.9 %"]
+    write("desk", ["clients", "cores", "way", "million words a second", "to the mutex", *shown], made)
     if left_out:
-        print(f"\n{left_out} rounds were left out after {options.limit:.0f} s.")
-    if options.csv:
-        with open(options.csv, "w", newline="") as file:
-            writer = csv.writer(file)
-            writer.writerow(["clients", "cores", "way", "repeats", "words_per_second", "least", "greatest", *FIELDS])
-            for (clients, cores, way), row in rows.items():
-                writer.writerow([clients, cores, way, row["repeats"], *(f"{row[name]:.0f}" for name in ("rate", "low", "high")), *(f"{row[name]:.{6 if name == 'seconds' else 0}f}" for name in FIELDS)])
+        print(f"{left_out} rounds were left out after {options.limit:.0f} s.", file=sys.stderr)
 
 
 if __name__ == "__main__":

@@ -9,7 +9,7 @@
 // client's pending timers are counted. There are starts alone. Prints what desk_threads prints.
 #include "desk_clients.h"
 #include "ring_ref.hpp"
-#include "wheels_ref.hpp"
+#include "wheels.hpp"
 #include <memory>
 #include <vector>
 
@@ -82,7 +82,7 @@ struct Served {
 };
 
 struct Owner {
-  Hier<true> wheel{0};
+  Hier wheel{0};
   std::vector<std::unique_ptr<Served>> served;
   uint64_t serial = 0;
 

@@ -85,13 +85,13 @@ static void own_desk(struct client *all, pthread_t *threads, size_t line, size_t
 
 /* The mutex. */
 
-static struct { pthread_mutex_t lock; size_t head, tail; struct timer_expired at[QUEUE]; char apart[64]; } queues[MAX_CLIENTS];
+static struct { pthread_mutex_t lock; size_t head, tail; struct timers_expired at[QUEUE]; char apart[64]; } queues[MAX_CLIENTS];
 static pthread_mutex_t lock = PTHREAD_MUTEX_INITIALIZER;
 static struct timers wheel = TIMERS_INIT;
 
 static void start_under_mutex(struct client *me)
 {
-	struct timer_handle handle;
+	struct timers_handle handle;
 	uint64_t n = me->sent + 1, began = nanoseconds();
 	pthread_mutex_lock(&lock);
 	uint64_t now = timers_now(&wheel);
@@ -110,7 +110,7 @@ static bool take_queue(struct client *me)
 	bool did = false;
 	pthread_mutex_lock(&queues[me->c].lock);
 	while (queues[me->c].head != queues[me->c].tail) {
-		struct timer_expired e = queues[me->c].at[queues[me->c].head++ % QUEUE];
+		struct timers_expired e = queues[me->c].at[queues[me->c].head++ % QUEUE];
 		take_expired(me, e.action & UINT32_MAX, e.action, e.deadline);
 		did = true;
 	}
@@ -134,7 +134,7 @@ static void *work_under_mutex(void *at)
 
 static void own_mutex(struct client *all, pthread_t *threads)
 {
-	static struct timer_expired batch[BATCH];
+	static struct timers_expired batch[BATCH];
 	CHECK(timers_new(&wheel, TIMERS_WIDE, 0) == TIMERS_OK);
 	for (size_t c = 0; c < clients; c++)
 		pthread_mutex_init(&queues[c].lock, NULL);

@@ -5,8 +5,7 @@
 // Those with HAS_NEXT also have look(i): when it expires, and next(): the next deadline. Those with HAS_ALL also have
 // start_at(i, interval), by the tick of its deadline; wakeup(): a tick to sleep until; each(): the sum of all deadlines.
 #pragma once
-#include "wheels_apart.hpp"
-#include "wheels_ref.hpp"
+#include "wheels.hpp"
 #include <cstdio>
 #include <cstdlib>
 #include <string>
@@ -28,7 +27,7 @@ namespace {
 struct LibTimers {
   static constexpr bool HAS_NEXT = true, HAS_ALL = true;
   struct timers held = TIMERS_INIT;
-  std::vector<timer_handle> handles;
+  std::vector<timers_handle> handles;
   explicit LibTimers(size_t owners) : handles(owners) {
     if (timers_new(&held, TIMERS_WIDE, 0)) give_up("timers_new");
   }
@@ -49,7 +48,7 @@ struct LibTimers {
   }
   size_t drain() {
     size_t count = 0;
-    timer_expired one;
+    timers_expired one;
     while (timers_expire(&held, &one)) ++count;
     return count;
   }
@@ -65,7 +64,7 @@ struct LibTimers {
     if (timers_start_at(&held, timers_now(&held) + interval, i, &handles[i])) give_up("timers_start_at");
   }
   uint64_t look(size_t i) {
-    timer_expired one;
+    timers_expired one;
     if (timers_look(&held, handles[i], &one)) give_up("timers_look");
     return one.deadline;
   }
@@ -74,8 +73,8 @@ struct LibTimers {
   uint64_t each() {
     uint64_t sum = 0;
     size_t cursor = 0;
-    timer_handle handle;
-    timer_expired one;
+    timers_handle handle;
+    timers_expired one;
     while (timers_each(&held, &cursor, &handle, &one)) sum += one.deadline;
     return sum;
   }
@@ -176,7 +175,7 @@ struct Random {  // splitmix64
 // Calls `run` with the type of the facility that has this name; false where there is none.
 template <class Run> bool with_facility(const std::string &name, Run run) {
   if (name == "ref-hier")
-    run.template of<Reference<Hier<true>>>();
+    run.template of<Reference<Hier>>();
   else if (name == "ref-apart")
     run.template of<Reference<HierApart>>();
   else if (name == "ref-hash-64k")

@@ -3,7 +3,7 @@
 // A client starts its timers, of interval 1 + j mod 97 and action j, and takes those of its own that have
 // expired, each time under the mutex; the main thread passes ticks under it. A client has at most 1,022
 // timers pending. The output is that of threads_ref.
-#include "wheels_ref.hpp"
+#include "wheels.hpp"
 #include <atomic>
 #include <cstdio>
 #include <cstdlib>
@@ -17,7 +17,7 @@ static const uint64_t MAX_PENDING = 1022, LIMIT = 10000000;
 
 struct Shared {
   std::mutex mutex;
-  Hier<true> wheel{0};
+  Hier wheel{0};
   std::vector<std::vector<Timer>> expired;
   std::vector<uint64_t> pending;
   uint64_t serial = 0;

@@ -5,7 +5,7 @@
 // It keeps the promise of `timers play`: the whole script is read, parsed and played before a byte is written;
 // a bad line, an input that is too long or a lack of memory writes nothing. Options: --clients N, --capacity N,
 // --first-tick T; others are passed over.
-#include "wheels_ref.hpp"
+#include "wheels.hpp"
 #include <algorithm>
 #include <cstdio>
 #include <cstdlib>
@@ -69,7 +69,7 @@ struct Facility {
     Handle handle;
     uint64_t client;
   };
-  Hier<true> wheel{0};
+  Hier wheel{0};
   uint64_t clients, capacity;
   std::vector<uint64_t> next;
   std::vector<Given> given;  // by serial - 1
@@ -140,8 +140,8 @@ struct Facility {
     closed = true;
     std::vector<Timer> all;
     all.reserve(wheel.len());
-    for (auto &node : wheel.l.nodes)
-      if (node.t.serial) all.push_back(node.t);
+    for (auto &node : wheel.lists.nodes)
+      if (node.timer.serial) all.push_back(node.timer);
     std::sort(all.begin(), all.end(), [](const Timer &x, const Timer &y) {
       return x.deadline != y.deadline ? x.deadline < y.deadline : x.serial < y.serial;
     });
@@ -152,7 +152,7 @@ struct Facility {
       out.word("returned");
       out.items(timer.client, timer.serial, timer.deadline, timer.action);
     }
-    wheel.l.count = 0;
+    wheel.lists.count = 0;
   }
   void end() {
     out.room(LINE);

@@ -1,115 +1,79 @@
 #!/usr/bin/env python3
-"""Runs a program that measures facilities, in turns, and writes medians and spreads as CSV.
+"""Runs build/scale or build/tail over facilities, in turns: ns, medians of the repeats with the least and the greatest.
 
-    runs.py scale --csv FILE [--repeats N] [--facilities A,B] [--pending 1000,10000] [--operations N]
-    runs.py tail --csv FILE [--repeats N] [--facilities A,B] [--pending 1000000] [--ticks N]
+    runs.py scale [--repeats N] [--facilities A,B] [--sizes 1000,10000] [--count N]
+    runs.py tail [--repeats N] [--facilities A,B] [--sizes 1000000] [--count N]
 
-Facilities that build/PROGRAM doesn't have are left out. A row has the median, the least and the greatest of
-the repeats, the machine, and its load when the run began: a load near the number of cores or above it makes
-the figures worth little. Status 1: a run failed, or there is nothing to run."""
+--sizes are numbers of pending timers, --count is how many operations or ticks are timed. Facilities that the program
+doesn't have are left out. Status 1: a run failed, or there is nothing to run.
+"""
 import argparse
-import csv
 import os
-import statistics
 import subprocess
-import sys
 
-HERE = os.path.dirname(os.path.abspath(__file__))
+import figures
+from figures import fail, spread
+
 FACILITIES = ["timers-c", "ref-hier", "ref-apart", "ref-hash-64k", "libuv"]
 SIZES = {"scale": "1000,10000,100000,1000000,10000000", "tail": "1000000"}
-COLUMNS = [
-    "program",
-    "facility",
-    "pending",
-    "run",
-    "measure",
-    "unit",
-    "median",
-    "low",
-    "high",
-    "repeats",
-    "machine",
-    "load",
-]
+OPERATIONS = ["stop", "start", "restart", "tick", "expiry", "start_at", "look", "next", "wakeup", "each"]
+RANKS = ["p50", "p99", "p99.9", "p99.99", "longest"]
+TAILS = {"ticks": "a tick", "growth": "a start, the table grows", "room": "a start, with room", "moves": "the tick that moves all"}
 
 
-def machine():
-    """Its processor and number of cores."""
-    with open("/proc/cpuinfo", encoding="utf-8") as file:
-        names = [line.split(":", 1)[1].strip() for line in file if line.startswith("model name")]
-    return f"{names[0] if names else 'unknown processor'}, {len(os.sched_getaffinity(0))} cores"
+def measures(program, facility, size, what):
+    """The figures of one run by name; none where the program lacks the facility."""
+    command = [os.path.join(figures.HERE, "build", program), facility, str(size), str(what)]
+    run = subprocess.run(command, capture_output=True, text=True, check=False)
+    if run.returncode not in (0, 2):
+        fail(f"{' '.join(command)}: status {run.returncode} {run.stderr.strip()}")
+    lines = run.stdout.splitlines() if run.returncode == 0 else []
+    return {name: float(value) for name, value in (line.rsplit(" ", 1) for line in lines)}
 
 
-def measures(program, facility, pending, what):
-    """The figures of one run by name, or None where the program lacks the facility."""
-    run = subprocess.run(
-        [os.path.join(HERE, "build", program), facility, str(pending), str(what)],
-        capture_output=True,
-        text=True,
-    )
-    if run.returncode == 2:
-        return None
-    if run.returncode:
-        print(
-            f"{program} {facility} {pending} {what}: status {run.returncode} {run.stderr.strip()}",
-            file=sys.stderr,
-        )
-        sys.exit(1)
-    return {name: float(value) for name, value in (line.rsplit(" ", 1) for line in run.stdout.splitlines())}
-
-
-def turns(options, sizes, runs):
-    """Each run's figures, one list a facility, size and run. The facilities take turns."""
+def turns(options, whats):
+    """Each run's figures, one list a facility, size, run and measure. The facilities take turns."""
     found = {}
     for _ in range(options.repeats):
-        for pending in sizes:
+        for size in options.sizes:
             for facility in options.facilities.split(","):
-                for what in runs:
-                    got = measures(options.program, facility, pending, what)
-                    for name, value in (got or {}).items():
-                        found.setdefault((facility, pending, what, name), []).append(value)
-    return found
+                for what in whats:
+                    for name, value in measures(options.program, facility, size, what).items():
+                        found.setdefault((facility, size, what, name), []).append(value)
+    return {key: spread(values) for key, values in found.items()} or fail("no facility to run")
+
+
+def scale(options, facilities):
+    found = turns(options, [options.count])
+    rows = [
+        [operation, facility, *(found.get((facility, size, options.count, operation), "") for size in options.sizes)]
+        for operation in OPERATIONS
+        for facility in facilities
+    ]
+    figures.write("scale", ["operation", "facility", *options.sizes], [row for row in rows if any(row[2:])])
+
+
+def tail(options, facilities):
+    size = options.sizes[0]
+    found = turns(options, [options.count, *list(TAILS)[1:]])
+    rows = [
+        [title, facility, *(found.get((facility, size, options.count if what == "ticks" else what, rank), "") for rank in RANKS)]
+        for what, title in TAILS.items()
+        for facility in facilities
+    ]
+    figures.write("tail", ["what", "facility", *RANKS], [row for row in rows if any(row[2:])])
 
 
 def main():
     parser = argparse.ArgumentParser()
     parser.add_argument("program", choices=["scale", "tail"])
-    parser.add_argument("--csv", required=True)
     parser.add_argument("--repeats", type=int, default=5)
     parser.add_argument("--facilities", default=",".join(FACILITIES))
-    parser.add_argument("--pending")
-    parser.add_argument("--operations", type=int, default=1_000_000)
-    parser.add_argument("--ticks", type=int, default=1_000_000)
+    parser.add_argument("--sizes")
+    parser.add_argument("--count", type=int, default=1_000_000)
     options = parser.parse_args()
-    sizes = [int(size) for size in (options.pending or SIZES[options.program]).split(",")]
-    runs = [options.operations] if options.program == "scale" else [options.ticks, "moves", "growth", "room"]
-    load = os.getloadavg()[0]
-    found = turns(options, sizes, runs)
-    if not found:
-        print("no facility to run", file=sys.stderr)
-        sys.exit(1)
-    with open(options.csv, "w", newline="", encoding="utf-8") as file:
-        writer = csv.writer(file)
-        writer.writerow(COLUMNS)
-        for (facility, pending, what, name), values in found.items():
-            kind = "operations" if options.program == "scale" else "ticks" if what == options.ticks else what
-            row = [
-                options.program,
-                facility,
-                pending,
-                kind,
-                name,
-                "ns",
-                f"{statistics.median(values):.3f}",
-                f"{min(values):.3f}",
-                f"{max(values):.3f}",
-            ]
-            writer.writerow([*row, options.repeats, machine(), f"{load:.1f}"])
-            print(
-                f"{facility:14} {pending:9} {kind:10} {name:8} {statistics.median(values):12.1f} ns"
-                f"  ({min(values):.1f} - {max(values):.1f})"
-            )
+    options.sizes = [int(size) for size in (options.sizes or SIZES[options.program]).split(",")]
+    (scale if options.program == "scale" else tail)(options, options.facilities.split(","))
 
 
-if __name__ == "__main__":
-    main()
+main()

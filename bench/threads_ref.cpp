@@ -3,7 +3,7 @@
 // A client sends TIMERS starts of interval 1 + j mod 97 and action j, reads its words and checks them. The owner's turn serves each client
 // that has requests left and room in its outbox, flushes each outbox and passes a tick. A side whose turn passed nothing on yields.
 #include "ring_ref.hpp"
-#include "wheels_ref.hpp"
+#include "wheels.hpp"
 #include <cstdio>
 #include <cstdlib>
 #include <deque>
@@ -54,7 +54,7 @@ struct Client {
 
 struct Owner {
   std::vector<std::unique_ptr<Client>> &clients;
-  Hier<true> wheel{0};
+  Hier wheel{0};
   std::vector<Outbox> outboxes;
   std::vector<uint64_t> served, flushed, pending, next;
   uint64_t serial = 0;

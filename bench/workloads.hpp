@@ -28,14 +28,10 @@ struct Random {  // splitmix64
   }
 };
 
-// How far a workload needs `ADVANCE` to jump for a sensible time: no jump, within the lowest wheel, over all
-// wheels.
-enum Skip { TICK_BY_TICK, LOW_WHEEL, ANY };
+// Whether a workload needs `ADVANCE` to jump over ticks, to end in a sensible time.
+enum Skip { TICK_BY_TICK, ANY };
 
 enum Owners { MANY, ONE };
-
-// For which workloads a candidate is: for all, or for those alone that push timers back.
-enum For { ALL, PUSHES };
 
 struct Candidate {
   const char *name;
@@ -43,19 +39,18 @@ struct Candidate {
   bool wide;
   double slots;
   Owners owners;
-  For only;
   bench_run run;
 };
 
 extern "C" {
-#define CANDIDATE_ROW(symbol, name, skip, wide, slots, owners, only) \
+#define CANDIDATE_ROW(symbol, name, skip, wide, slots, owners) \
   void symbol(const uint64_t *, size_t, size_t, uint64_t *, size_t);
 #include "candidates.h"
 #undef CANDIDATE_ROW
 }
 static const Candidate CANDIDATES[] = {
-#define CANDIDATE_ROW(symbol, name, skip, wide, slots, owners, only) \
-  {name, skip, wide, slots, owners, only, symbol},
+#define CANDIDATE_ROW(symbol, name, skip, wide, slots, owners) \
+  {name, skip, wide, slots, owners, symbol},
 #include "candidates.h"
 #undef CANDIDATE_ROW
 };
@@ -256,7 +251,7 @@ inline bool listed(const std::string &list, const std::string &name) {
 // Whether the candidate is for this workload, and can do it in a sensible time.
 inline bool suits(const Candidate &c, const Workload &w) {
   if (c.skip < w.skip || (w.wide && !c.wide) || (c.slots && w.walk / c.slots > 1e8)) return false;
-  return !(w.owners == MANY && c.owners == ONE) && !(c.only == PUSHES && !w.pushes);
+  return !(w.owners == MANY && c.owners == ONE);
 }
 
 struct Maker {
@@ -278,7 +273,7 @@ inline std::vector<Maker> timed(double scale) {
            }});
   add("expire-1000", [=](auto) { return expire_uniform(scaled(2000000)); });
   add("expire-log20", [=](auto) { return expire_log(scaled(1000000), 20, 10, TICK_BY_TICK); });
-  add("expire-log30", [=](auto) { return expire_log(scaled(1000000), 30, 16, LOW_WHEEL); });
+  add("expire-log30", [=](auto) { return expire_log(scaled(1000000), 30, 16, ANY); });
   add("expire-log40", [=](auto) { return expire_log(scaled(1000000), 40, 26, ANY); });
   add("quiet-1k", [=](auto name) { return quiet(1000, scaled(30000000), name); });
   add("quiet-100k", [=](auto name) { return quiet(100000, scaled(30000000), name); });

@@ -35,7 +35,7 @@ struct Random {  // splitmix64
 
 // The calls of C.
 struct Plain {
-  using Handle = timer_handle;
+  using Handle = timers_handle;
   timers held = TIMERS_INIT;
   Plain() {
     if (timers_new(&held, TIMERS_WIDE, 0)) give_up("timers_new");
@@ -62,7 +62,7 @@ struct Plain {
     return passed;
   }
   template <class Run> void take(Run run) {
-    timer_expired timer;
+    timers_expired timer;
     while (timers_expire(&held, &timer)) run(timer.deadline, timer.action);
   }
 };

@@ -1,7 +1,7 @@
 #!/usr/bin/env python3
 """Measures the wrappers of the library for C beside its own calls, by processor time.
 
-    wrappers.py [--library FOLDER] [--timers 100000] [--repeats 7] [--csv FILE]
+    wrappers.py [--library FOLDER] [--timers 100000] [--repeats 7]
 
 FOLDER has libtimers.so, by default build/lib of the repository (`make lib`). The programs are built here: the calls
 of C and timers.hpp by g++ (wrappers.cpp), timers.rs by rustc (wrappers.rs), timers.py is measured in a process of
@@ -14,27 +14,19 @@ library: so a call of C is here one through the table of a shared object, which 
 Status 1: a program failed, or two of them don't agree in what came out; 2: wrong arguments, no library, or no g++.
 """
 import argparse
-import csv
 import os
 import shutil
-import statistics
 import subprocess
 import sys
 import time
 
-import runs
+from figures import HERE, fail, spread, write
 
-HERE = os.path.dirname(os.path.abspath(__file__))
 TOP = os.path.join(HERE, "..")
 BUILD = os.path.join(HERE, "build")
 SPAN = 65536
 MASK = 2**64 - 1
 OPERATIONS = ["start", "restart", "stop", "expiry"]
-
-
-def fail(text, status):
-    print(text, file=sys.stderr)
-    sys.exit(status)
 
 
 def built(command):
@@ -110,25 +102,11 @@ def measure_python(library, count):
     print(f"sum {(sum(stopped) + sum(deadline ^ action for deadline, _, action in expired)) & MASK}")
 
 
-def write(path, took, timers, repeats, load):
-    """The times in the columns of runs.py."""
-    with open(path, "w", newline="", encoding="utf-8") as file:
-        writer = csv.writer(file)
-        writer.writerow(runs.COLUMNS)
-        for who, times in took.items():
-            for name in OPERATIONS:
-                all_times = [one[name] for one in times]
-                figures = (statistics.median(all_times), min(all_times), max(all_times))
-                row = ["wrappers", who, timers, "operations", name, "ns", *(f"{value:.3f}" for value in figures)]
-                writer.writerow([*row, repeats, runs.machine(), f"{load:.1f}"])
-
-
 def main():
     parser = argparse.ArgumentParser()
     parser.add_argument("--library", default=os.path.join(TOP, "build", "lib"))
     parser.add_argument("--timers", type=int, default=100_000)
     parser.add_argument("--repeats", type=int, default=7)
-    parser.add_argument("--csv")
     parser.add_argument("--measure-python", type=int, help=argparse.SUPPRESS)
     options = parser.parse_args()
     library = os.path.abspath(options.library)
@@ -140,7 +118,6 @@ def main():
     if options.timers < 2 or options.repeats < 1:
         parser.error("--timers takes a number from 2 on, --repeats one from 1 on")
     commands = programs(library, str(options.timers))
-    load = os.getloadavg()[0]
     took, sums = {who: [] for who in commands}, set()
     for _ in range(options.repeats):
         for who, command in commands.items():
@@ -149,14 +126,8 @@ def main():
             sums.add(total)
     if len(sums) != 1:
         fail(f"the programs don't agree in what came out: {', '.join(sorted(sums))}", 1)
-    for who, times in took.items():
-        cells = []
-        for name in OPERATIONS:
-            all_times = [one[name] for one in times]
-            cells.append(f"{name} {statistics.median(all_times):.0f} ({min(all_times):.0f}-{max(all_times):.0f})")
-        print(f"{who:11} ns: {', '.join(cells)}")
-    if options.csv:
-        write(options.csv, took, options.timers, options.repeats, load)
+    rows = [[name, *(spread([times[name] for times in took[who]]) for who in took)] for name in OPERATIONS]
+    write("wrappers", ["operation", *took], rows)
 
 
 if __name__ == "__main__":

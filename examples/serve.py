@@ -6,7 +6,7 @@
 Messages are sent, and each is to be acknowledged within 30 ticks of TICK seconds (by default 0.05). An
 acknowledgement stops the message's time-out. That of message 4 comes at the very tick at which the time-out fires.
 """
-import queue, subprocess, sys, threading, time
+import subprocess, sys, time
 
 TIME_OUT = 30
 PLAN = [  # what happens, and at which tick
@@ -19,41 +19,28 @@ class TimeOuts:
     """Time-outs in ticks. Each has a number of the caller's own, which `fired` gets when it fires."""
 
     def __init__(self, program, fired):
-        command = [program, "serve", "--clients", "1"]
+        command = [program, "serve", "--clients", "1", "--wakeups"]
         self.server = subprocess.Popen(command, stdin=subprocess.PIPE, stdout=subprocess.PIPE, text=True)
-        self.fired, self.requests, self.serials, self.lines = fired, 0, {}, queue.Queue()
-        threading.Thread(target=self.hear, daemon=True).start()
+        self.fired, self.requests, self.serials, self.wakeup = fired, 0, {}, None
 
-    def hear(self):
-        for line in self.server.stdout:
-            self.lines.put(line.split())
-        self.lines.put(["closed"])
-
-    def write(self, line):
+    def say(self, line):
+        """Sends a line, and returns its answer, if it has one. Until the tick `wakeup` nothing fires."""
         print(line, file=self.server.stdin, flush=True)
-
-    def listen(self, seconds=None):
-        """Waits for a line. Returns its fields, or None if a time-out fired or nothing came."""
-        try:
-            fields = self.lines.get(timeout=seconds)
-        except queue.Empty:
-            return None
-        if fields[0] != "expired":
-            return fields
-        _, tick, _, _, action = fields
-        self.fired(int(action), int(tick))
-        return None
-
-    def answer(self):
-        """The next line but for those of time-outs that fired."""
-        while not (fields := self.listen()):
-            pass
-        return fields
+        answer = None
+        while (fields := self.server.stdout.readline().split()) and fields[0] != "wakeup":
+            if fields[0] == "expired":
+                _, tick, _, _, action = fields
+                self.fired(int(action), int(tick))
+            else:
+                answer = fields
+        if not fields:
+            raise OSError(None, "it ended")
+        self.wakeup = None if fields[1] == "never" else int(fields[1])
+        return answer
 
     def ask(self, word, *numbers):
         self.requests += 1
-        self.write(" ".join(map(str, (word, 0, self.requests, *numbers))))
-        return self.answer()
+        return self.say(" ".join(map(str, (word, 0, self.requests, *numbers))))
 
     def start(self, ticks, number):
         _, _, _, self.serials[number], _ = self.ask("start", ticks, number)
@@ -64,7 +51,7 @@ class TimeOuts:
 
     def close(self):
         self.server.stdin.close()
-        return self.answer(), self.server.wait()
+        return self.server.stdout.readline().split(), self.server.wait()
 
 
 def main(program, tick):
@@ -72,10 +59,11 @@ def main(program, tick):
     begin, now = time.monotonic(), 0
     for at, what, number in PLAN:
         while now < at:
-            now += 1
-            while (left := begin + now * tick - time.monotonic()) > 0:
-                timers.listen(left)  # the loop sleeps here, until a line comes or the next tick is there
-            timers.write("tick 1")
+            # The loop sleeps until there is something to do, and then passes all ticks up to it.
+            then = min(at, timers.wakeup or at)
+            time.sleep(max(0, begin + then * tick - time.monotonic()))
+            timers.say(f"tick {then - now}")
+            now = then
         if what == "send":
             timers.start(TIME_OUT, number)
         elif timers.stop(number):

@@ -132,8 +132,8 @@
  *     timer. timers_free drops the timers and does not return their actions. To release these first:
  *
  *         size_t cursor = 0;
- *         struct timer_handle handle;
- *         struct timer_expired timer;
+ *         struct timers_handle handle;
+ *         struct timers_expired timer;
  *         while (timers_each(&t, &cursor, &handle, &timer))
  *             release((void *)(uintptr_t)timer.action);
  *         timers_free(&t);
@@ -198,19 +198,19 @@ struct timers {
 #define TIMERS_INIT { NULL, 0, 0 }
 
 /* The name of a timer. Both fields may be read, stored and compared. */
-struct timer_handle {
+struct timers_handle {
 	size_t place;
 	uint64_t serial;
 };
 
-struct timer_expired {
+struct timers_expired {
 	uint64_t deadline;   /* the tick at which it expired; of timers_look, at which it expires */
 	uint64_t serial;     /* that of its handle */
 	uint64_t action;     /* the action that its start or restart was given */
 };
 
 /* What the wheels have done since timers_new. */
-struct timer_counts {
+struct timers_counters {
 	uint64_t starts;     /* timers that were started or restarted */
 	uint64_t moves;      /* how often a timer moved to a lower wheel */
 	uint64_t visits;     /* buckets that were visited */
@@ -242,7 +242,7 @@ enum timers_status timers_reserve(struct timers *t, size_t most);
  * TIMERS_NOT_OPEN, TIMERS_ZERO_INTERVAL, TIMERS_TOO_LATE, TIMERS_SERIALS_SPENT, TIMERS_NO_MEMORY. */
 TIMERS_CHECKED
 enum timers_status timers_start(struct timers *t, uint64_t interval, uint64_t action,
-                                struct timer_handle *handle);
+                                struct timers_handle *handle);
 
 /* Starts a timer that expires at the tick `deadline`, as timers_start. If that is not after the present tick,
  * the timer has expired, with the present tick as its deadline. It is the last of those that wait to be
@@ -251,35 +251,35 @@ enum timers_status timers_start(struct timers *t, uint64_t interval, uint64_t ac
  * TIMERS_NOT_OPEN, TIMERS_TOO_LATE, TIMERS_SERIALS_SPENT, TIMERS_NO_MEMORY. */
 TIMERS_CHECKED
 enum timers_status timers_start_at(struct timers *t, uint64_t deadline, uint64_t action,
-                                   struct timer_handle *handle);
+                                   struct timers_handle *handle);
 
 /* Stops the timer with this handle, as timers_stop, and starts another in its place, as timers_start. On
  * failure the old one stays as it is. Writes `*restarted`, the new handle, at TIMERS_OK: `handle` is dead
  * then. Does not allocate.
  * TIMERS_NOT_OPEN, TIMERS_NOT_PENDING, TIMERS_ZERO_INTERVAL, TIMERS_TOO_LATE, TIMERS_SERIALS_SPENT. */
 TIMERS_CHECKED
-enum timers_status timers_restart(struct timers *t, struct timer_handle handle, uint64_t interval,
-                                  uint64_t action, struct timer_handle *restarted);
+enum timers_status timers_restart(struct timers *t, struct timers_handle handle, uint64_t interval,
+                                  uint64_t action, struct timers_handle *restarted);
 
 /* Stops the timer with this handle, as timers_restart, and starts one that expires at the tick `deadline`, as
  * timers_start_at. So a timer that waits to be taken goes behind the others if that tick is not after the
  * present one.
  * TIMERS_NOT_OPEN, TIMERS_NOT_PENDING, TIMERS_TOO_LATE, TIMERS_SERIALS_SPENT. */
 TIMERS_CHECKED
-enum timers_status timers_restart_at(struct timers *t, struct timer_handle handle, uint64_t deadline,
-                                     uint64_t action, struct timer_handle *restarted);
+enum timers_status timers_restart_at(struct timers *t, struct timers_handle handle, uint64_t deadline,
+                                     uint64_t action, struct timers_handle *restarted);
 
 /* Stops the timer with this handle, which is pending, or has expired and was not yet taken: it is not
  * handed out any more. Writes `*action`, its action, at TIMERS_OK.
  * TIMERS_NOT_OPEN, TIMERS_NOT_PENDING. */
-enum timers_status timers_stop(struct timers *t, struct timer_handle handle, uint64_t *action);
+enum timers_status timers_stop(struct timers *t, struct timers_handle handle, uint64_t *action);
 
 /* Writes `*out`, the timer with this handle, at TIMERS_OK. If its deadline is after timers_now, it is
  * pending, and the difference is the number of ticks that it has left. Otherwise it has expired and was not
  * yet taken.
  * TIMERS_NOT_OPEN, TIMERS_NOT_PENDING. */
 TIMERS_CHECKED
-enum timers_status timers_look(const struct timers *t, struct timer_handle handle, struct timer_expired *out);
+enum timers_status timers_look(const struct timers *t, struct timers_handle handle, struct timers_expired *out);
 
 /* Iterates over every timer, pending or expired and not yet taken, in no particular order. `*cursor` is 0 at
  * the first call. Each call that finds a timer writes it to `*out` and its handle to `*handle`, moves
@@ -287,8 +287,8 @@ enum timers_status timers_look(const struct timers *t, struct timer_handle handl
  * Between two calls timers may be started, stopped, restarted and taken, and ticks may pass. One that is
  * held all the time, under one handle, is found exactly once. A whole iteration takes time for the most
  * timers that were ever held at once, or that timers_reserve made room for. */
-bool timers_each(const struct timers *t, size_t *cursor, struct timer_handle *handle,
-                 struct timer_expired *out);
+bool timers_each(const struct timers *t, size_t *cursor, struct timers_handle *handle,
+                 struct timers_expired *out);
 
 /* Advances the clock by one tick. The timers with that deadline expire, and wait for timers_expire.
  * TIMERS_NOT_OPEN, TIMERS_DUE, TIMERS_CLOCK_END. */
@@ -303,12 +303,12 @@ enum timers_status timers_advance(struct timers *t, uint64_t most, uint64_t *pas
 
 /* Takes the first of the expired timers, in the order of their starts. Returns whether there was one, and
  * writes `*out` exactly then. Returns false if not open. */
-bool timers_expire(struct timers *t, struct timer_expired *out);
+bool timers_expire(struct timers *t, struct timers_expired *out);
 
 /* Takes the first of the expired timers, as many as there are and as fit into out[0] to out[room - 1].
  * Returns how many, and writes that many of `out`. `out` must not be NULL, even if `room` is 0. Returns 0
  * if not open. */
-size_t timers_expire_batch(struct timers *t, struct timer_expired *out, size_t room);
+size_t timers_expire_batch(struct timers *t, struct timers_expired *out, size_t room);
 
 /* Whether an expired timer was not yet taken. Returns false if not open. */
 bool timers_has_due(const struct timers *t);
@@ -339,7 +339,7 @@ uint64_t timers_next(const struct timers *t);
  * expires there. A stop and taking expired timers count nothing. Constant time. Does not allocate.
  * TIMERS_NOT_OPEN. */
 TIMERS_CHECKED
-enum timers_status timers_counts(const struct timers *t, struct timer_counts *counts);
+enum timers_status timers_counts(const struct timers *t, struct timers_counters *counts);
 
 /* The text of a status, for messages. */
 static inline const char *timers_message(enum timers_status status)
@@ -372,14 +372,14 @@ TIMERS_ASSERT(sizeof(bool) == 1, "a bool is one byte");
 TIMERS_ASSERT(sizeof(struct timers) == 24 && offsetof(struct timers, at) == 0
               && offsetof(struct timers, mark) == 8 && offsetof(struct timers, last_serial) == 16,
               "struct timers");
-TIMERS_ASSERT(sizeof(struct timer_handle) == 16 && offsetof(struct timer_handle, place) == 0
-              && offsetof(struct timer_handle, serial) == 8, "struct timer_handle");
-TIMERS_ASSERT(sizeof(struct timer_expired) == 24 && offsetof(struct timer_expired, deadline) == 0
-              && offsetof(struct timer_expired, serial) == 8 && offsetof(struct timer_expired, action) == 16,
-              "struct timer_expired");
-TIMERS_ASSERT(sizeof(struct timer_counts) == 24 && offsetof(struct timer_counts, starts) == 0
-              && offsetof(struct timer_counts, moves) == 8 && offsetof(struct timer_counts, visits) == 16,
-              "struct timer_counts");
+TIMERS_ASSERT(sizeof(struct timers_handle) == 16 && offsetof(struct timers_handle, place) == 0
+              && offsetof(struct timers_handle, serial) == 8, "struct timers_handle");
+TIMERS_ASSERT(sizeof(struct timers_expired) == 24 && offsetof(struct timers_expired, deadline) == 0
+              && offsetof(struct timers_expired, serial) == 8 && offsetof(struct timers_expired, action) == 16,
+              "struct timers_expired");
+TIMERS_ASSERT(sizeof(struct timers_counters) == 24 && offsetof(struct timers_counters, starts) == 0
+              && offsetof(struct timers_counters, moves) == 8 && offsetof(struct timers_counters, visits) == 16,
+              "struct timers_counters");
 #undef TIMERS_ASSERT
 #undef TIMERS_CHECKED
 

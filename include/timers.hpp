@@ -54,8 +54,8 @@ private:
 class handle {
 public:
 	handle() noexcept : raw_{ 0, 0 } {}
-	explicit handle(timer_handle raw) noexcept : raw_(raw) {}
-	timer_handle raw() const noexcept { return raw_; }
+	explicit handle(timers_handle raw) noexcept : raw_(raw) {}
+	timers_handle raw() const noexcept { return raw_; }
 	std::uint64_t serial() const noexcept { return raw_.serial; }
 	friend bool operator==(handle a, handle b) noexcept
 	{
@@ -64,7 +64,7 @@ public:
 	friend bool operator!=(handle a, handle b) noexcept { return !(a == b); }
 
 private:
-	timer_handle raw_;
+	timers_handle raw_;
 };
 
 template <class Tick = std::chrono::milliseconds, class Action = std::uint64_t>
@@ -141,7 +141,7 @@ public:
 	template <class Rep, class Period>
 	handle start(std::chrono::duration<Rep, Period> interval, Action action)
 	{
-		timer_handle started;
+		timers_handle started;
 		check(timers_start(&raw_, in_ticks(interval).count(), bits(action), &started));
 		return handle(started);
 	}
@@ -150,7 +150,7 @@ public:
 	 * that have expired already. Throws as start, except TIMERS_ZERO_INTERVAL. */
 	handle start_at(ticks deadline, Action action)
 	{
-		timer_handle started;
+		timers_handle started;
 		check(timers_start_at(&raw_, deadline.count(), bits(action), &started));
 		return handle(started);
 	}
@@ -161,7 +161,7 @@ public:
 	template <class Rep, class Period>
 	[[nodiscard]] bool restart(handle &of, std::chrono::duration<Rep, Period> interval, Action action)
 	{
-		return restarted(of, [&](timer_handle *to) {
+		return restarted(of, [&](timers_handle *to) {
 			return timers_restart(&raw_, of.raw(), in_ticks(interval).count(), bits(action), to);
 		});
 	}
@@ -169,7 +169,7 @@ public:
 	/* timers_restart_at, as restart. The deadline is one of start_at. */
 	[[nodiscard]] bool restart_at(handle &of, ticks deadline, Action action)
 	{
-		return restarted(of, [&](timer_handle *to) {
+		return restarted(of, [&](timers_handle *to) {
 			return timers_restart_at(&raw_, of.raw(), deadline.count(), bits(action), to);
 		});
 	}
@@ -187,7 +187,7 @@ public:
 	/* The timer with this handle, pending or expired and not yet taken. */
 	std::optional<expired> look(handle of) const noexcept
 	{
-		timer_expired timer;
+		timers_expired timer;
 		if (timers_look(&raw_, of.raw(), &timer) != TIMERS_OK)
 			return std::nullopt;
 		return cooked(timer);
@@ -199,8 +199,8 @@ public:
 	void each(Visit &&visit) const
 	{
 		std::size_t cursor = 0;
-		timer_handle of;
-		timer_expired timer;
+		timers_handle of;
+		timers_expired timer;
 		while (timers_each(&raw_, &cursor, &of, &timer))
 			visit(handle(of), cooked(timer));
 	}
@@ -219,7 +219,7 @@ public:
 	/* Takes the first of the expired timers, if there is one. */
 	std::optional<expired> expire() noexcept
 	{
-		timer_expired timer;
+		timers_expired timer;
 		if (!timers_expire(&raw_, &timer))
 			return std::nullopt;
 		return cooked(timer);
@@ -253,9 +253,9 @@ public:
 	std::optional<ticks> next() const noexcept { return unless_never(timers_next(&raw_)); }
 
 	/* timers_counts: the starts, moves and visits since the timers were made. Throws error: TIMERS_NOT_OPEN. */
-	timer_counts counts() const
+	timers_counters counts() const
 	{
-		timer_counts so_far;
+		timers_counters so_far;
 		check(timers_counts(&raw_, &so_far));
 		return so_far;
 	}
@@ -288,7 +288,7 @@ private:
 		return *std::launder(reinterpret_cast<const Action *>(bytes));
 	}
 
-	static expired cooked(const timer_expired &timer) noexcept
+	static expired cooked(const timers_expired &timer) noexcept
 	{
 		return expired{ ticks(timer.deadline), timer.serial, action_of(timer.action) };
 	}
@@ -301,7 +301,7 @@ private:
 	template <class Call>
 	static bool restarted(handle &of, Call call)
 	{
-		timer_handle to;
+		timers_handle to;
 		const enum timers_status status = call(&to);
 		if (status == TIMERS_NOT_PENDING)
 			return false;

@@ -189,7 +189,7 @@ struct timers_word {
 	uint32_t kind;      /* enum timers_word_kind */
 	uint32_t reason;    /* enum timers_desk_status */
 	uint64_t number;
-	struct timer_handle handle;
+	struct timers_handle handle;
 	uint64_t deadline;
 	uint64_t action;
 	uint64_t other;
@@ -323,12 +323,12 @@ enum timers_desk_status timers_line_start(struct timers_line *line, uint64_t int
 /* Sends the request to stop the timer with this handle, that of the word that answered its start. The same
  * statuses. */
 TIMERS_CHECKED
-enum timers_desk_status timers_line_stop(struct timers_line *line, struct timer_handle handle,
+enum timers_desk_status timers_line_stop(struct timers_line *line, struct timers_handle handle,
                                          uint64_t *number);
 
 /* Sends the request to stop the timer with this handle and start another in its place. The same statuses. */
 TIMERS_CHECKED
-enum timers_desk_status timers_line_restart(struct timers_line *line, struct timer_handle handle,
+enum timers_desk_status timers_line_restart(struct timers_line *line, struct timers_handle handle,
                                             uint64_t interval, uint64_t action, uint64_t *number);
 
 /* Receives the next word. Returns whether there was one, and writes `*word` exactly then. After false more

@@ -199,7 +199,7 @@ static void count_the_moves()
 	timers.start(61s, 1);
 	timers.start(59s, 2);
 	timers.catch_up(std::chrono::seconds(61), [](const auto &) {});
-	const timer_counts counts = timers.counts();
+	const timers_counters counts = timers.counts();
 	HOLDS(counts.starts == 2 && counts.moves == 1 && counts.visits == 3);
 }
 

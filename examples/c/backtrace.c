@@ -54,7 +54,7 @@ static struct timers_line lines[CLIENTS];
 int main(void)
 {
 	struct timers t = TIMERS_INIT;
-	struct timer_handle handle;
+	struct timers_handle handle;
 	CALL(timers_new(&t, TIMERS_WIDE, 0));
 	for (uint64_t timer = 0; timer < TIMERS; timer++)
 		CALL(timers_start(&t, 1 + timer, timer, &handle));

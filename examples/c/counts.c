@@ -26,16 +26,16 @@ static void check(enum timers_status status)
 	}
 }
 
-static struct timer_handle start_at(uint64_t deadline)
+static struct timers_handle start_at(uint64_t deadline)
 {
-	struct timer_handle handle;
+	struct timers_handle handle;
 	check(timers_start_at(&t, deadline, 0, &handle));
 	return handle;
 }
 
 static void take_all(void)
 {
-	struct timer_expired e;
+	struct timers_expired e;
 	while (timers_expire(&t, &e))
 		;
 }
@@ -52,7 +52,7 @@ static void advance_to_the_end(void)
 
 static void show(const char *run)
 {
-	struct timer_counts c;
+	struct timers_counters c;
 	check(timers_counts(&t, &c));
 	printf("%s: %" PRIu64 " starts, %" PRIu64 " moves, %" PRIu64 " visits\n", run, c.starts, c.moves, c.visits);
 	timers_free(&t);
@@ -60,7 +60,7 @@ static void show(const char *run)
 
 int main(void)
 {
-	struct timer_handle handle;
+	struct timers_handle handle;
 	uint64_t action;
 
 	/* timers_tick visits a bucket at each tick. */

@@ -31,7 +31,7 @@ static void empty_structs(void)
 	struct timers_desk d = TIMERS_DESK_INIT;
 	struct timers_line l = TIMERS_LINE_INIT;
 	struct timers_word w;
-	struct timer_handle h = { 1, 2 };
+	struct timers_handle h = { 1, 2 };
 	uint64_t n = 77;
 	size_t s = 78;
 	CHECK(timers_desk_serve(&d, 0) == TIMERS_DESK_NOT_OPEN && timers_desk_serve_all(&d, 9) == TIMERS_DESK_NOT_OPEN && !timers_desk_flush_all(&d));
@@ -256,7 +256,7 @@ static bool story(void)
 	CHECK(timers_line_receive(&l[0], &w) && w.reason == TIMERS_DESK_ZERO_INTERVAL);
 	CHECK(timers_line_receive(&l[0], &w) && w.reason == TIMERS_DESK_TOO_LATE);
 	/* a restart, whose handle is new */
-	struct timer_handle second = { first.handle.place, 2 };
+	struct timers_handle second = { first.handle.place, 2 };
 	CHECK(timers_line_restart(&l[0], second, 1000, 22, &n) == TIMERS_DESK_OK);
 	owner_turn(&d);
 	CHECK(timers_line_receive(&l[0], &w));

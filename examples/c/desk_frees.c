@@ -26,7 +26,7 @@ static void *work(void *at)
 	uint64_t number, sent = 0, answered = 0;
 	for (unsigned long i = 0; i < turns; i++) {
 		unsigned long d = draw(&me->seed) % 8;
-		struct timer_handle h = { draw(&me->seed) % 5, draw(&me->seed) % 20 };
+		struct timers_handle h = { draw(&me->seed) % 5, draw(&me->seed) % 20 };
 		enum timers_desk_status s;
 		if (d < 4)
 			s = timers_line_start(me->line, draw(&me->seed) % 6, i, &number);

@@ -79,7 +79,7 @@ static void *work(void *at)
 	struct client *me = at;
 	uint64_t sent = 0, answered = 0, last_deadline = 0, last_serial = 0, wanted = 0, idle = 0;
 	struct timers_word w;
-	struct timer_handle again = { 0, 0 };
+	struct timers_handle again = { 0, 0 };
 	uint64_t target = 0;                    /* the request that started `again` */
 	int ask = 0;                            /* 1 stop `again`, 2 restart it */
 	begin_client();

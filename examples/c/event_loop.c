@@ -22,7 +22,7 @@ static struct job {
 	const char *name;
 	uint64_t interval;
 	unsigned runs;                /* how often it is to run yet */
-	struct timer_handle handle;
+	struct timers_handle handle;
 } jobs[] = {
 	{ "once after 25 ms", 25, 1, { 0, 0 } },
 	{ "every 10 ms, five times", 10, 5, { 0, 0 } },
@@ -76,7 +76,7 @@ static void run(uint64_t job)
 /* Passes the ticks up to `now`, and runs what expires at each on the way: first what has expired already. */
 static void catch_up(uint64_t now)
 {
-	struct timer_expired expired;
+	struct timers_expired expired;
 	uint64_t passed;
 	for (;;) {
 		while (timers_expire(&timers, &expired)) {

@@ -8,7 +8,7 @@
 
 struct connection {
 	int number;
-	struct timer_handle idle;
+	struct timers_handle idle;
 	struct connection *peer;      /* closed with this one */
 };
 
@@ -44,7 +44,7 @@ static void close_connection(struct connection *c)
 	open_ones--;
 }
 
-static void time_out(const struct timer_expired *e)
+static void time_out(const struct timers_expired *e)
 {
 	struct connection *c = (struct connection *)(uintptr_t)e->action;
 	printf("tick %" PRIu64 ": connection %d was idle\n", e->deadline, c->number);
@@ -55,7 +55,7 @@ static void time_out(const struct timer_expired *e)
 
 int main(void)
 {
-	struct timer_expired e;
+	struct timers_expired e;
 	uint64_t passed;
 	check(timers_new(&timers, TIMERS_WIDE, 100), "new");
 	struct connection *first = connect_until(1, 105), *second = connect_until(2, 105), *third = connect_until(3, 105);

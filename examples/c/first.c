@@ -7,8 +7,8 @@
 int main(void)
 {
 	struct timers t = TIMERS_INIT;
-	struct timer_handle tea, egg, call;
-	struct timer_expired e;
+	struct timers_handle tea, egg, call;
+	struct timers_expired e;
 	uint64_t passed, action;
 	if (timers_new(&t, TIMERS_WIDE, 0) != TIMERS_OK               /* the clock is at tick 0 */
 	    || timers_start(&t, 300, 'T', &tea) != TIMERS_OK          /* 'T' comes back at tick 300 */

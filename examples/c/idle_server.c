@@ -37,7 +37,7 @@ static struct connection {
 	int server, client;               /* its two ends; the server's is -1 once it is closed */
 	unsigned writes;
 	uint64_t heard_at;                /* when there was input last, in nanoseconds */
-	struct timer_handle idle;
+	struct timers_handle idle;
 } connections[CONNECTIONS];
 
 static struct timers timers = TIMERS_INIT;
@@ -119,7 +119,7 @@ static void time_out(struct connection *c)
 
 static void play_client(struct connection *c, uint64_t now)
 {
-	struct timer_handle next;
+	struct timers_handle next;
 	if (c->writes < c->kind->writes) {
 		if (send(c->client, "x", 1, MSG_NOSIGNAL) != 1)
 			die("send", strerror(errno));
@@ -133,7 +133,7 @@ static void play_client(struct connection *c, uint64_t now)
 /* Passes the ticks up to now, and does at each what is due. */
 static void catch_up(uint64_t now)
 {
-	struct timer_expired expired;
+	struct timers_expired expired;
 	uint64_t passed;
 	for (;;) {
 		while (timers_expire(&timers, &expired))
@@ -150,7 +150,7 @@ static void catch_up(uint64_t now)
 static void connect_client(struct connection *c, struct kind *kind, int poller)
 {
 	int ends[2];
-	struct timer_handle first;
+	struct timers_handle first;
 	struct epoll_event event = { .events = EPOLLIN, .data.ptr = c };
 	if (socketpair(AF_UNIX, SOCK_STREAM, 0, ends) != 0
 	    || epoll_ctl(poller, EPOLL_CTL_ADD, ends[0], &event) != 0)

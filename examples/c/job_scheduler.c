@@ -19,7 +19,7 @@ static struct job {
 	const char *name;
 	uint64_t first, period;
 	uint64_t next;                    /* the second at which it runs next, from the beginning of day 0 */
-	struct timer_handle timer;
+	struct timers_handle timer;
 } jobs[] = {
 	{ "feed the cat", 7 * HOUR + 30 * MINUTE, 12 * HOUR, 0, { 0, 0 } },
 	{ "turn the page of the calendar", DAY, DAY, 0, { 0, 0 } },
@@ -87,7 +87,7 @@ static void begin_anew(void)
 /* Passes the ticks up to `tick`, and runs what is due at each on the way. */
 static void catch_up(uint64_t tick)
 {
-	struct timer_expired expired;
+	struct timers_expired expired;
 	uint64_t passed;
 	for (;;) {
 		while (timers_expire(&timers, &expired))

@@ -47,8 +47,8 @@ int main(void)
 	int failed = 0;
 	for (uint32_t round = 0; round < 8; round++) {
 		struct timers t = TIMERS_INIT;
-		struct timer_handle handle;
-		struct timer_expired expired;
+		struct timers_handle handle;
+		struct timers_expired expired;
 		failed |= timers_new(&t, round % 2, 5) != TIMERS_OK;
 		for (uint64_t i = 0; i < 1000; i++)
 			failed |= timers_start(&t, 1 + i % 70, i, &handle) != TIMERS_OK;

@@ -12,7 +12,7 @@ struct loop {
 };
 
 struct my_timer {
-	struct timer_handle handle;        /* all zeros at first: no timer has the serial 0 */
+	struct timers_handle handle;       /* all zeros at first: no timer has the serial 0 */
 	uint64_t repeat;
 	void (*run)(struct loop *loop, struct my_timer *h);
 	const char *name;
@@ -40,13 +40,13 @@ static void disarm(struct loop *loop, struct my_timer *h)
 
 static uint64_t due_in(struct loop *loop, const struct my_timer *h)
 {
-	struct timer_expired e;
+	struct timers_expired e;
 	if (timers_look(&loop->timers, h->handle, &e) != TIMERS_OK || e.deadline <= loop->now)
 		return 0;
 	return e.deadline - loop->now;
 }
 
-static bool take_due(struct loop *loop, struct timer_expired *e)
+static bool take_due(struct loop *loop, struct timers_expired *e)
 {
 	struct timers *t = &loop->timers;
 	uint64_t passed;
@@ -58,7 +58,7 @@ static bool take_due(struct loop *loop, struct timer_expired *e)
 
 static void run_timers(struct loop *loop)
 {
-	struct timer_expired e;
+	struct timers_expired e;
 	loop->now = clock_now();
 	while (take_due(loop, &e)) {
 		struct my_timer *h = (void *)(uintptr_t)e.action;

@@ -24,7 +24,7 @@ struct packet { unsigned number, attempt, character; };    /* an acknowledgement
 static struct sent {
 	unsigned attempts, acknowledged;             /* which attempt was acknowledged, or 0 */
 	uint64_t first_at, wait, waited;             /* when it was first sent, its wait, the waits before */
-	struct timer_handle timer;
+	struct timers_handle timer;
 } sent[PACKETS];
 
 static unsigned next_to_send, first_open;
@@ -141,7 +141,7 @@ static void take_acknowledgements(void)
 /* Passes the ticks up to now, and sends again what was not acknowledged in time. */
 static void catch_up(uint64_t now)
 {
-	struct timer_expired expired;
+	struct timers_expired expired;
 	uint64_t passed;
 	for (;;) {
 		while (timers_expire(&timers, &expired))

@@ -7,7 +7,7 @@
 
 #define MOST 20000
 
-static struct timer_handle held[MOST];
+static struct timers_handle held[MOST];
 static int refuse;
 static long refused;
 
@@ -54,7 +54,7 @@ static int fills(struct timers *t, size_t count, size_t most)
 /* Stops, restarts and starts timers and passes ticks, with `most` timers at most. */
 static int churns(struct timers *t, size_t most)
 {
-	struct timer_expired out;
+	struct timers_expired out;
 	uint64_t action, passed;
 	size_t left = 0;
 	for (int round = 0; round < 20; round++) {
@@ -70,7 +70,7 @@ static int churns(struct timers *t, size_t most)
 		for (uint64_t take = drawn(40); take > 0 && timers_expire(t, &out); take--)
 			;
 		size_t cursor = 0;
-		struct timer_handle handle;
+		struct timers_handle handle;
 		for (left = 0; timers_each(t, &cursor, &handle, &out); left++)
 			held[left] = handle;
 		if (!fills(t, left, most))
@@ -103,7 +103,7 @@ static int keeps_room(uint32_t table, size_t before, size_t most)
 static int refuses(uint32_t table)
 {
 	struct timers t = TIMERS_INIT;
-	struct timer_expired out;
+	struct timers_expired out;
 	int done = is(TIMERS_NOT_OPEN, timers_reserve(&t, 1)) && is(TIMERS_OK, timers_new(&t, table, 7)) && fills(&t, 0, 100);
 	refuse = 1;
 	done = done && is(TIMERS_NO_MEMORY, timers_reserve(&t, MOST));

@@ -63,7 +63,7 @@ static size_t room_for(void) { return reserved > held_most ? reserved : held_mos
 
 /* What the wheels should have counted since they were made; the moves are those of timers that are no longer in the
  * list. The units of the wheels are the ticks of a slot, from the highest wheel down. */
-static struct timer_counts counted;
+static struct timers_counters counted;
 static uint64_t units[10], wheels;
 
 static void set_units(bool wide)
@@ -163,7 +163,7 @@ static struct when random_when(void)
 static bool has_passed(struct when when) { return when.at_tick && when.number <= now; }
 
 /* The index of the timer with this handle, or `count`. */
-static size_t index_of(struct timer_handle handle)
+static size_t index_of(struct timers_handle handle)
 {
 	for (size_t i = 0; i < count; i++)
 		if (list[i].place == handle.place && list[i].serial == handle.serial)
@@ -172,11 +172,11 @@ static size_t index_of(struct timer_handle handle)
 }
 
 /* A handle, mostly of a timer that is pending or due; its index in the list, or `count` if it names none. */
-static size_t random_handle(struct timer_handle *handle)
+static size_t random_handle(struct timers_handle *handle)
 {
 	if (count > 0 && below(4)) {
 		size_t at = due > 0 && below(2) ? below(due) : below(count);
-		*handle = (struct timer_handle){ list[at].place, list[at].serial };
+		*handle = (struct timers_handle){ list[at].place, list[at].serial };
 		if (below(8))
 			return at;
 		if (below(2))                             /* an older serial at a place in use */
@@ -184,7 +184,7 @@ static size_t random_handle(struct timer_handle *handle)
 		else                                      /* a place that is another's, or none */
 			handle->place += 1 + (size_t)below(100000);
 	} else {
-		*handle = (struct timer_handle){ (size_t)next_random(), below(last_serial + 2) };
+		*handle = (struct timers_handle){ (size_t)next_random(), below(last_serial + 2) };
 	}
 	return index_of(*handle);
 }
@@ -233,7 +233,7 @@ static enum timers_status wanted_for(struct when when)
 }
 
 /* A timer that was accepted: one whose deadline is not after now is due at once, behind the others. */
-static void add(struct when when, struct timer_handle handle, uint64_t action)
+static void add(struct when when, struct timers_handle handle, uint64_t action)
 {
 	uint64_t deadline = !when.at_tick ? now + when.number : has_passed(when) ? now : when.number;
 	WANT("serial", handle.serial, ++last_serial);
@@ -247,7 +247,7 @@ static void do_start(struct timers *t)
 {
 	struct when when = random_when();
 	uint64_t action = next_random();
-	struct timer_handle handle = { 11, 12 };
+	struct timers_handle handle = { 11, 12 };
 	enum timers_status wanted = wanted_for(when);
 	may_allocate = count >= room_for();
 	enum timers_status status = when.at_tick ? WITH_REFUSALS(timers_start_at(t, when.number, action, &handle))
@@ -284,7 +284,7 @@ static void do_restart(struct timers *t)
 {
 	struct when when = random_when();
 	uint64_t action = next_random();
-	struct timer_handle handle, restarted = { 11, 12 };
+	struct timers_handle handle, restarted = { 11, 12 };
 	size_t at = random_handle(&handle);
 	enum timers_status wanted = at == count ? TIMERS_NOT_PENDING : wanted_for(when);
 	enum timers_status status = when.at_tick ? WITH_REFUSALS(timers_restart_at(t, handle, when.number, action, &restarted))
@@ -307,7 +307,7 @@ static void do_restart(struct timers *t)
 static void do_stop(struct timers *t)
 {
 	uint64_t action = 13;
-	struct timer_handle handle;
+	struct timers_handle handle;
 	size_t at = random_handle(&handle);
 	enum timers_status status = timers_stop(t, handle, &action);
 	WANT("stop", status, at == count ? TIMERS_NOT_PENDING : TIMERS_OK);
@@ -324,8 +324,8 @@ static void do_stop(struct timers *t)
 
 static void do_look(struct timers *t)
 {
-	struct timer_expired seen_now = { 31, 32, 33 };
-	struct timer_handle handle;
+	struct timers_expired seen_now = { 31, 32, 33 };
+	struct timers_handle handle;
 	size_t at = random_handle(&handle);
 	enum timers_status status = timers_look(t, handle, &seen_now);
 	WANT("look", status, at == count ? TIMERS_NOT_PENDING : TIMERS_OK);
@@ -381,7 +381,7 @@ static void do_advance(struct timers *t)
 	advance_by(t, below(8) ? below(200) : next_random() >> below(64));
 }
 
-static void want_first(const struct timer_expired *e)
+static void want_first(const struct timers_expired *e)
 {
 	WANT("deadline", e->deadline, list[0].deadline);
 	WANT("serial of the expired", e->serial, list[0].serial);
@@ -392,7 +392,7 @@ static void want_first(const struct timer_expired *e)
 
 static void do_expire(struct timers *t)
 {
-	struct timer_expired e = { 21, 22, 23 };
+	struct timers_expired e = { 21, 22, 23 };
 	bool some = timers_expire(t, &e);
 	WANT("expire", some, due > 0);
 	if (some)
@@ -403,7 +403,7 @@ static void do_expire(struct timers *t)
 
 static void do_expire_batch(struct timers *t)
 {
-	struct timer_expired batch[5];
+	struct timers_expired batch[5];
 	size_t length = (size_t)below(5), wanted = due < length ? due : length;
 	memset(batch, 33, sizeof batch);
 	WANT("batch", timers_expire_batch(t, batch, length), wanted);
@@ -431,7 +431,7 @@ static void look(struct timers *t)
 
 static void look_at_counts(struct timers *t)
 {
-	struct timer_counts counts;
+	struct timers_counters counts;
 	uint64_t moves = counted.moves;
 	for (size_t i = 0; i < count; i++)
 		moves += moves_of(&list[i]);
@@ -447,8 +447,8 @@ static void look_at_counts(struct timers *t)
 static void do_visit(struct timers *t)
 {
 	size_t cursor = 0, visited = 0, wanted = count;
-	struct timer_handle handle = { 41, 42 };
-	struct timer_expired e = { 43, 44, 45 };
+	struct timers_handle handle = { 41, 42 };
+	struct timers_expired e = { 43, 44, 45 };
 	uint64_t action, sum = 0, wanted_sum = 0;
 	for (size_t i = 0; i < count; i++)
 		wanted_sum += list[i].serial * list[i].serial;
@@ -465,7 +465,7 @@ static void do_visit(struct timers *t)
 			take_out(at);
 			stops++;
 		}
-		e = (struct timer_expired){ 43, 44, 45 };
+		e = (struct timers_expired){ 43, 44, 45 };
 	}
 	WANT("visited", visited, wanted);
 	WANT("each once", sum, wanted_sum);
@@ -476,9 +476,9 @@ static void do_visit(struct timers *t)
 
 static void want_closed(struct timers *t)
 {
-	struct timer_handle handle = { 7, 7 };
-	struct timer_expired e = { 7, 7, 7 };
-	struct timer_counts counts = { 7, 7, 7 };
+	struct timers_handle handle = { 7, 7 };
+	struct timers_expired e = { 7, 7, 7 };
+	struct timers_counters counts = { 7, 7, 7 };
 	uint64_t word = 7;
 	size_t place = 7;
 	WANT("reserve, not open", timers_reserve(t, 1), TIMERS_NOT_OPEN);
@@ -513,7 +513,7 @@ static void open_anew(struct timers *t)
 	WANT("too late", timers_new(t, table, last_tick + 1), TIMERS_TOO_LATE);
 	now = below(4) ? below(100000) : last_tick - below(100000);
 	count = due = reserved = held_most = 0;
-	counted = (struct timer_counts){ 0, 0, 0 };
+	counted = (struct timers_counters){ 0, 0, 0 };
 	set_units(table == TIMERS_WIDE);
 	while (WITH_REFUSALS(timers_new(t, table, now)) == TIMERS_NO_MEMORY)
 		want_closed(t);

@@ -56,20 +56,33 @@ def hand(slot, slots):
     )
 
 
-def ring(wheel, digit, held):
-    """One wheel around the origin; `held` has its buckets by slot."""
-    slots = wheel.slots
+def heading(wheel, middle):
+    """The name of a wheel and what its slots are, above it."""
+    slots = f"{wheel.slots} slots of {wheel.ticks} tick{'s' if wheel.ticks > 1 else ''}"
+    return [text(middle, 24, wheel.name, "name"), text(middle, 42, slots, "soft")]
+
+
+def track(slots):
+    """An empty wheel around the origin, with the numbers of some slots."""
     dashes = ' stroke-dasharray="0.84 0.16" stroke-dashoffset="-0.08"' if 1 < slots <= 128 else ""
     parts = [
         f'<circle class="track" r="{(INNER + OUTER) / 2}" pathLength="{slots}"{dashes}'
         ' transform="rotate(-90)"/>'
     ]
-    parts += [f'<path class="held" d="{segment(slot, slots)}"/>' for slot in held]
-    parts += [label(slot, slots, timers) for slot, timers in held.items()]
     for mark in range(0, slots, max(1, slots // 4)):
         x, y = point((mark + 0.5) / slots, INNER - 9)
         parts.append(text(x, y + 3.5, mark, "slot"))
-    return parts + [hand(digit, slots), text(0, 9, digit, "digit")]
+    return parts
+
+
+def standing(slots, digit, held):
+    """What a step changes on a wheel: its timers, hand and digit; `held` has its buckets by slot."""
+    return [
+        *[f'<path class="held" d="{segment(slot, slots)}"/>' for slot in held],
+        *[label(slot, slots, timers) for slot, timers in held.items()],
+        hand(digit, slots),
+        text(0, 9, digit, "digit"),
+    ]
 
 
 def named(wheels):
@@ -87,7 +100,7 @@ def caption(scheme, now, drawn):
     rest = [wheel for k, wheel in enumerate(scheme.wheels) if k > max(drawn)]
     lines = [f"The clock is at tick {now} = {value}, and the hands stand at these digits."]
     lines.append(
-        "A timer stands at the highest wheel at which its deadline has another digit than the clock,"
+        "A timer stands at the highest wheel at which its deadline's digit differs from the clock's,"
         " in the slot of that digit."
     )
     return lines + (
@@ -114,18 +127,11 @@ def picture(play, line):
         wheel = scheme.wheels[k]
         middle = width / 2 + ROOM * (at - (len(drawn) - 1) / 2)
         held = {slot: timers for (of, slot), timers in sorted(step.buckets.items()) if of == k}
-        parts.append(text(middle, 24, wheel.name, "name"))
-        parts.append(
-            text(
-                middle,
-                42,
-                f"{wheel.slots} slots of {wheel.ticks} tick{'s' if wheel.ticks > 1 else ''}",
-                "soft",
-            )
-        )
         parts += [
+            *heading(wheel, middle),
             f'<g transform="translate({middle:.1f} 160)">',
-            *ring(wheel, scheme.digit(k, step.now), held),
+            *track(wheel.slots),
+            *standing(wheel.slots, scheme.digit(k, step.now), held),
             "</g>",
         ]
     parts += [

@@ -48,8 +48,8 @@ filter-map p (t ∷ ts) = elim (either (p t)) [
 ]
 
 pub state_is : (n : ℕ) {p q d e : List Entry} (l : ℕ) → p ≡ q → d ≡ e
-    → let a : WheelState = record { last_tick = LAST; now = n; pending = p; due = d; last_serial = l; room = 0 } in
-    let b : WheelState = record { last_tick = LAST; now = n; pending = q; due = e; last_serial = l; room = 0 } in a ≡ b
+    → let a : WheelState = record { slots = 0; last_tick = LAST; now = n; pending = p; due = d; last_serial = l; room = 0 } in
+    let b : WheelState = record { slots = 0; last_tick = LAST; now = n; pending = q; due = e; last_serial = l; room = 0 } in a ≡ b
 state_is n l h k = cc
 
 -- A tick.

@@ -11,7 +11,7 @@ use Rattle.timer_base.specs.Order.{in_order, itself, IsOrdered, AreRising, AreDi
 use Rattle.timer_base.specs.OrderLaws.{IsOrdered-in_order, AreDistinct-in_order, AreDistinct-rising, AreRising-filter, All-in_order, All-filter}
 use Rattle.timer_base.specs.OneOrder.{map-itself}
 use Rattle.timer_base.specs.Pending.{Entry, timers_of, has_serial, is_due_at}
-use Rattle.timer_base.specs.WheelState.{WheelState, IsPending, IsWellFormed}
+use Rattle.timer_base.specs.WheelState.{WheelState, IsPending, IsDue, IsWellFormed}
 
 -- the deadline is after the tick
 abbrev pub is_after : ℕ → Timer → Bool
@@ -32,6 +32,7 @@ at_first_place t = record { place = 0; timer = t }
 -- the wheel state of the timers, with no room
 abbrev pub plain_state : ℕ → ℕ → List Timer → WheelState
 plain_state now last_serial timers = record {
+  slots = 0;
   last_tick = LAST;
   now = now;
   pending = map at_first_place (in_order itself (filter (is_after now) timers));
@@ -94,8 +95,8 @@ kept_is_pending now last_serial t h k = record {
 }
 
 kept_is_due : (now last_serial : ℕ) (t : Timer) → is_due_at now t ≡ true → IsKept now last_serial t
-    → t.deadline ≡ now
-kept_is_due now last_serial t h k = grind (arith, nat_tests)
+    → IsDue now last_serial t
+kept_is_due now last_serial t h k = record { deadline = grind (arith, nat_tests); serial = k.serial }
 
 pub plain_state-well_formed : (now last_serial : ℕ) (ts : List Timer) → now ≤ LAST → last_serial ≤ LAST
     → AreRising 0 ts
@@ -119,9 +120,9 @@ plain_state-well_formed now last_serial ts n l r k =
       each = rw same (All-in_order itself (IsPending LAST now last_serial) pending
           (All-filter (IsKept now last_serial) (IsPending LAST now last_serial) (is_after now) ts
           (kept_is_pending now last_serial) k));
-      due_now = rw (timers_of-at_first_place (filter (is_due_at now) ts))
-          (All-filter (IsKept now last_serial) (λ t. t.deadline
-          ≡ now) (is_due_at now) ts (kept_is_due now last_serial) k);
+      each_due = rw (timers_of-at_first_place (filter (is_due_at now) ts))
+          (All-filter (IsKept now last_serial) (IsDue now last_serial) (is_due_at now) ts
+          (kept_is_due now last_serial) k);
       due_rising = rw (timers_of-at_first_place (filter (is_due_at now) ts))
           (AreRising-filter (is_due_at now) 0 ts r);
     }

@@ -8,6 +8,8 @@ use Rattle.timer_base.specs.Order.{IsOrdered, AreDistinct, AreRising}
 use Rattle.timer_base.specs.Pending.{Entry, timers_of, put, has_handle, first_timer, without_found, entries_due, entries_left}
 
 pub record WheelState : Type 0 where
+  -- how many slots it has in all, 0 if it has none; no call changes it
+  pub slots : ℕ
   -- the last tick of the wheel's clock; no call changes it
   pub last_tick : ℕ
   -- the present tick
@@ -22,8 +24,9 @@ pub record WheelState : Type 0 where
   pub room : ℕ
 
 -- a new wheel
-abbrev pub empty_wheel : ℕ → ℕ → WheelState
-empty_wheel last_tick first_tick = record {
+abbrev pub empty_wheel : ℕ → ℕ → ℕ → WheelState
+empty_wheel slots last_tick first_tick = record {
+  slots = slots;
   last_tick = last_tick;
   now = first_tick;
   pending = [];
@@ -134,6 +137,11 @@ pub record IsPending (last_tick now last_serial : ℕ) (t : Timer) : Type 0 wher
   pub in_range : t.deadline ≤ last_tick
   pub serial : t.serial ≤ last_serial
 
+-- a due timer's deadline is now, and its serial at most the last one
+pub record IsDue (now last_serial : ℕ) (t : Timer) : Type 0 where
+  pub deadline : t.deadline ≡ now
+  pub serial : t.serial ≤ last_serial
+
 -- the invariant of every wheel
 pub record IsWellFormed (w : WheelState) : Type 0 where
   pub last_in_range : w.last_tick ≤ LAST
@@ -142,7 +150,7 @@ pub record IsWellFormed (w : WheelState) : Type 0 where
   pub ordered : IsOrdered (timers_of w.pending)
   pub distinct : AreDistinct (timers_of w.pending)
   pub each : AllByRecursion (IsPending w.last_tick w.now w.last_serial) (timers_of w.pending)
-  pub due_now : AllByRecursion (λ t. t.deadline ≡ w.now) (timers_of w.due)
+  pub each_due : AllByRecursion (IsDue w.now w.last_serial) (timers_of w.due)
   pub due_rising : AreRising 0 (timers_of w.due)
 
 -- room changes nothing in the invariant
@@ -154,6 +162,6 @@ with_room-well_formed room w h = record {
   ordered = h.ordered;
   distinct = h.distinct;
   each = h.each;
-  due_now = h.due_now;
+  each_due = h.each_due;
   due_rising = h.due_rising;
 }

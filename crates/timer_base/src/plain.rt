@@ -57,7 +57,7 @@ impl PlainWheel {
     /// not allocate.
     pub fn new(alloc: Global, first_tick: u64) -> Result<PlainWheel, MakeFault>
         ensures made { IfOk result (λ wheel. ⟦<PlainWheel as Wheel>⟧.state wheel
-            ≡ empty_wheel LAST first_tick) }
+            ≡ empty_wheel 0 LAST first_tick) }
         ensures fault { IsErr result ↔ (LAST < first_tick) }
         ensures first_tick { IfErr result (λ fault. fault ≡ MakeFault.FirstTick) }
     {

@@ -2,6 +2,7 @@
 //!
 //! One record, `WheelState`, is the abstract state of a wheel, however it keeps its timers:
 //!
+//!     slots         how many slots it has in all, which never changes
 //!     last_tick     the last tick of its clock, which never changes
 //!     now           the present tick
 //!     pending       the timers that wait for their deadline, by deadline and then serial, each with its

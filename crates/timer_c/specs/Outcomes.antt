@@ -6,17 +6,21 @@ use Rattle.timer_base.specs.declared.timer.Timer.{Timer}
 use Rattle.timer_base.specs.declared.timer.Handle as base
 use Rattle.timer_base.specs.WakeUps.{IsWakeUp, next_deadline}
 use Rattle.timer_base.specs.WheelState.{WheelState, empty_wheel, after_start, after_tick}
+use Rattle.timer_wheels.specs.declared.table.Table.TheVariants.{Wide, Clock}
+use Rattle.timer_wheels.specs.Leap.{IsNextVisit}
+use Rattle.timer_wheels.specs.Tables.{radices, slots_of_table}
 use Rattle.timer_wheels.specs.HeldPlaces.{AreBefore, AreElsewhere}
-use Rattle.timer_wheels.specs.HierWheel.{WheelCounts, counts_of, hier_state}
+use Rattle.timer_wheels.specs.HierWheel.{WheelCounts, counts_of, hier_state, table_of}
 use Rattle.timer_wheels.specs.declared.hier.HierWheel.{HierWheel}
 use Rattle.timer_wheels.specs.declared.table.TheConstants.{LAST_OF_CLOCK}
 use Rattle.timer_total.specs.Deadlines.{interval_until, after_start_at, after_start_due}
-use Rattle.timer_total.specs.Refusals.{next_timer, held_at, after_removal, IsStartable, IsRoomUsed, IsAt}
+use Rattle.timer_total.specs.Refusals.{next_timer, left_until, held_at, after_removal, IsStartable, IsRoomUsed, IsAt}
+use Rattle.timer_total.specs.Taken.{IsTakenBy}
 use Rattle.timer_total.specs.declared.fault.StartFault.{StartFault}
 use Rattle.timer_total.specs.declared.fault.StartFault.TheVariants as start
 use Rattle.timer_total.specs.declared.fault.RestartFault.{RestartFault}
 use Rattle.timer_total.specs.declared.fault.RestartFault.TheVariants as restart
-use Rattle.timer_total.specs.Ticks.{Passes, numbered}
+use Rattle.timer_total.specs.Ticks.{IsAdvanced, numbered}
 use Rattle.timer_c.specs.declared.layout.Counts.{Counts}
 use Rattle.timer_c.specs.declared.layout.CHandle.{CHandle}
 use Rattle.timer_c.specs.declared.layout.Expired.{Expired}
@@ -25,9 +29,9 @@ use Rattle.timer_c.specs.declared.status.TheConstants.{NO_TABLE, NO_MEMORY, DUE,
 -- an empty wheel with this table, at its first tick, with this last serial
 abbrev pub IsEmptyAt : ℕ → ℕ → ℕ → WheelState → Type 0
 IsEmptyAt table first_tick serial new =
-    ((table ≡ WIDE) × (first_tick ≤ LAST) × (new ≡ numbered serial (empty_wheel LAST first_tick)))
+    ((table ≡ WIDE) × (first_tick ≤ LAST) × (new ≡ numbered serial (empty_wheel (slots_of_table Wide) LAST first_tick)))
     ⊎ ((table ≡ CLOCK) × (first_tick ≤ LAST_OF_CLOCK)
-    × (new ≡ numbered serial (empty_wheel LAST_OF_CLOCK first_tick)))
+    × (new ≡ numbered serial (empty_wheel (slots_of_table Clock) LAST_OF_CLOCK first_tick)))
 
 -- there is such a table, and it has the first tick
 abbrev pub IsOpenable : ℕ → ℕ → Type 0
@@ -110,6 +114,20 @@ abbrev pub IsRestartAtRefusal : CHandle → ℕ → WheelState → ℕ → Type 
 IsRestartAtRefusal handle deadline old status =
     IsRestartRefusal handle (interval_until deadline old) old status
 
+-- a timer was set for this tick: a restart under a handle that names one, and otherwise a start
+abbrev pub IsSet : CHandle → ℕ → ℕ → WheelState → WheelState → CHandle → Type 0
+IsSet handle deadline action old new set =
+    IsStartable (interval_until deadline old) old × (set.serial ≡ old.last_serial + 1)
+    × (new ≡ after_start_at set.place deadline action (after_removal (base_handle handle) old))
+
+-- why it was not: only a start may find no memory
+abbrev pub IsSetRefusal : CHandle → ℕ → WheelState → ℕ → Type 0
+IsSetRefusal handle deadline old status =
+    ((status ≡ TOO_LATE) × (old.last_tick < old.now + interval_until deadline old))
+    ⊎ ((status ≡ SERIALS_SPENT) × (old.now + interval_until deadline old ≤ old.last_tick) × (LAST ≤ old.last_serial))
+    ⊎ ((status ≡ NO_MEMORY) × (held_at (base_handle handle) old ≡ None)
+    × IsStartable (interval_until deadline old) old × IsRoomUsed old)
+
 -- the status of a start that was refused
 abbrev pub start_status : StartFault → ℕ
 start_status start.ZeroInterval = ZERO_INTERVAL
@@ -144,16 +162,19 @@ WhyNotStopped handle old status =
 abbrev pub IsTicked : WheelState → WheelState → Type 0
 IsTicked old new = (old.due ≡ []) × (new ≡ after_tick old)
 
--- this many ticks were passed; at the clock's end not even 0 are
-abbrev pub IsAdvanced : ℕ → ℕ → WheelState → WheelState → Type 0
-IsAdvanced most passed old new =
-    (old.due ≡ []) × (old.now < old.last_tick) × Passes most passed old new
+-- ticks were passed up to this one, or up to the first at which a timer expires
+abbrev pub IsAdvancedTo : ℕ → WheelState → WheelState → Type 0
+IsAdvancedTo tick old new = (passed : ℕ) × IsAdvanced (left_until tick old) passed old new
 
 -- why the clock does not advance; at its end nothing is left, neither due nor pending
 abbrev pub WhyNotTicked : WheelState → ℕ → Type 0
 WhyNotTicked old status =
     ((status ≡ DUE) × (0 < length old.due))
     ⊎ ((status ≡ CLOCK_END) × (old.due ≡ []) × (old.now ≡ old.last_tick) × (old.pending ≡ []))
+
+-- why no tick of those that were asked for is passed
+abbrev pub WhyNotAdvanced : ℕ → WheelState → ℕ → Type 0
+WhyNotAdvanced most old status = (0 < most) × WhyNotTicked old status
 
 -- a timer as C's struct
 abbrev pub tell : Timer → Expired
@@ -163,6 +184,10 @@ abbrev pub told : Option Timer → Option Expired
 told None = None
 told (Some t) = Some (tell t)
 
+-- the next timer that is due by this tick was taken
+abbrev pub IsTaken : ℕ → WheelState → WheelState → Expired → Type 0
+IsTaken tick old new out = (timer : Timer) × (out ≡ tell timer) × IsTakenBy tick (Some timer) old new
+
 -- the timer with this handle, pending or expired and not yet taken
 abbrev pub IsSeen : CHandle → WheelState → Expired → Type 0
 IsSeen handle w out = told (held_at (base_handle handle) w) ≡ Some out
@@ -171,13 +196,20 @@ IsSeen handle w out = told (held_at (base_handle handle) w) ≡ Some out
 abbrev pub after_expiries : ℕ → WheelState → WheelState
 after_expiries count w = record w { due = drop count w.due }
 
--- the tick until which the caller may sleep: now if an expired timer waits, else one before which nothing
--- expires
+-- the first tick ahead at which a timer of a wheel in this state expires or moves to a lower wheel. There is one
+-- such tick for each state, since that has the number of slots, by which the table is known.
+pub record IsVisitOf (tick : ℕ) (w : WheelState) : Type 0 where
+  pub wheel : HierWheel
+  pub held : numbered w.last_serial (hier_state wheel) ≡ w
+  pub next : IsNextVisit (radices (table_of wheel)) tick (hier_state wheel)
+
+-- the tick until which the caller may sleep: now if an expired timer waits, else the first at which one expires or
+-- moves to a lower wheel, before which nothing expires
 abbrev pub IsNextCall : ℕ → WheelState → Type 0
 IsNextCall tick w =
     ((tick ≡ w.now) × (0 < length w.due))
     ⊎ ((tick ≡ NEVER) × (w.due ≡ []) × (w.pending ≡ []))
-    ⊎ ((w.due ≡ []) × IsWakeUp tick w)
+    ⊎ ((w.due ≡ []) × IsWakeUp tick w × IsVisitOf tick w)
 
 -- the deadline of the timer that is taken next: now if an expired one waits, else the first pending one
 abbrev pub IsNextDeadline : ℕ → WheelState → Type 0

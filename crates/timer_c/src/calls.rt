@@ -2,7 +2,10 @@
 ghost use Rattle.std.specs.Prelude.{◌≡◌, ◌*◌, ◌<◌, ◌≤◌, ◌++◌, ◌↔◌, true, false, Some, None, [], map, take, drop, length, min};
 ghost use Rattle.timer_base.specs.Pending.{timers_of};
 ghost use Rattle.timer_base.specs.WheelState.{first_due, after_reserve, after_tick, after_expiry};
-ghost use Rattle.timer_c.specs.Outcomes.{IsStarted, IsStartedAt, IsStartedDue, IsRestartedDue, IsStartRefusal, IsStartAtRefusal, IsRestarted, IsRestartedAt, IsRestartRefusal, IsRestartAtRefusal, start_status, restart_status, IsSeen, IsStopped, WhyNotStopped, IsTicked, IsAdvanced, WhyNotTicked, IsNextCall, IsNextDeadline, IsVisited, IsAllVisited, AreCountsOf, told, tell, tell_counts, after_expiries};
+ghost use Rattle.timer_c.specs.Outcomes.{IsStarted, IsStartedAt, IsStartedDue, IsRestartedDue, IsStartRefusal, IsStartAtRefusal, IsRestarted, IsRestartedAt, IsRestartRefusal, IsRestartAtRefusal, IsSet, IsSetRefusal, start_status, restart_status, IsSeen, IsStopped, WhyNotStopped, IsTicked, IsAdvancedTo, WhyNotTicked, WhyNotAdvanced, IsTaken, IsNextCall, IsNextDeadline, IsVisited, IsAllVisited, AreCountsOf, told, tell, tell_counts, after_expiries};
+ghost use Rattle.timer_total.specs.Refusals.{left_until};
+ghost use Rattle.timer_total.specs.Taken.{IsTakenBy};
+ghost use Rattle.timer_total.specs.Ticks.{IsAdvanced};
 ghost use Rattle.timer_wheels.specs.HierWheel.{counts_of};
 ghost use Rattle.timer_c.specs.declared.status.TheConstants.{OK, NO_MEMORY};
 
@@ -148,6 +151,26 @@ fn restart_due<W: Wheel + Drop>(
     }
 }
 
+/// Starts a timer for the tick `deadline`, in place of the one with this handle, if there is one.
+pub(crate) fn set_at<W: Wheel + Drop>(
+    timers: &mut Timers<W>,
+    handle: &mut CHandle,
+    deadline: u64,
+    action: u64,
+) -> u32
+    ensures set { result ≡ OK → IsSet handle.old deadline action timers.old timers.new handle.new }
+    ensures refused { 0 < result → IsSetRefusal handle.old deadline timers.old result }
+    ensures kept { 0 < result → (timers.new ≡ timers.old) × (handle.new ≡ handle.old) }
+{
+    match timers.set_at(from_c_handle(*handle), deadline, action) {
+        Ok(made) => {
+            *handle = to_c_handle(made);
+            OK
+        }
+        Err(fault) => start_status(fault),
+    }
+}
+
 /// Why a restart was refused, as C's status.
 fn restart_status(fault: RestartFault) -> u32
     ensures status { result ≡ restart_status fault }
@@ -208,7 +231,7 @@ pub(crate) fn tick<W: Wheel + Drop>(timers: &mut Timers<W>) -> u32
 
 pub(crate) fn advance<W: Wheel + Drop>(timers: &mut Timers<W>, most: u64, passed: &mut u64) -> u32
     ensures advanced { result ≡ OK → IsAdvanced most passed.new timers.old timers.new }
-    ensures refused { 0 < result → WhyNotTicked timers.old result }
+    ensures refused { 0 < result → WhyNotAdvanced most timers.old result }
     ensures kept { 0 < result → (timers.new ≡ timers.old) × (passed.new ≡ passed.old) }
 {
     match timers.advance(most) {
@@ -218,6 +241,32 @@ pub(crate) fn advance<W: Wheel + Drop>(timers: &mut Timers<W>, most: u64, passed
         }
         Err(AdvanceFault::Due) => DUE,
         Err(AdvanceFault::ClockEnd) => CLOCK_END,
+    }
+}
+
+pub(crate) fn advance_to<W: Wheel + Drop>(timers: &mut Timers<W>, tick: u64) -> u32
+    ensures advanced { result ≡ OK → IsAdvancedTo tick timers.old timers.new }
+    ensures refused { 0 < result → WhyNotAdvanced (left_until tick timers.old) timers.old result }
+    ensures kept { 0 < result → timers.new ≡ timers.old }
+{
+    match timers.advance_to(tick) {
+        Ok(_) => OK,
+        Err(AdvanceFault::Due) => DUE,
+        Err(AdvanceFault::ClockEnd) => CLOCK_END,
+    }
+}
+
+/// Takes the next timer that is due by this tick, and passes the ticks up to it.
+pub(crate) fn take<W: Wheel + Drop>(timers: &mut Timers<W>, tick: u64, out: &mut Expired) -> bool
+    ensures taken { result ≡ true → IsTaken tick timers.old timers.new out.new }
+    ensures none { result ≡ false → IsTakenBy tick None timers.old timers.new × (out.new ≡ out.old) }
+{
+    match timers.take(tick) {
+        Some(timer) => {
+            *out = to_c_expired(timer);
+            true
+        }
+        None => false,
     }
 }
 
@@ -252,13 +301,13 @@ pub(crate) fn expire_batch<W: Wheel + Drop>(timers: &mut Timers<W>, out: &mut [E
 }
 
 /// The tick until which its owner may sleep.
-pub(crate) fn wakeup<W: Wheel + Drop>(timers: &Timers<W>) -> u64
+pub(crate) fn wakeup(timers: &Timers<HierWheel>) -> u64
     ensures { IsNextCall result timers.now }
 {
     if timers.has_due() {
         return timers.now();
     }
-    match timers.quiet_until() {
+    match timers.wheel().quiet_until() {
         Some(tick) => tick,
         None => NEVER,
     }

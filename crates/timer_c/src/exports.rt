@@ -7,17 +7,29 @@ ghost use Rattle.std.specs.Prelude.{◌≡◌, ◌*◌, ◌<◌, ◌≤◌, ◌�
 ghost use Rattle.timer_base.specs.Pending.{timers_of};
 ghost use Rattle.timer_base.specs.WheelState.{first_due, after_reserve, after_expiry};
 ghost use Rattle.timer_c.specs.Frames.{IsOpen, IsShut, with_timers};
-ghost use Rattle.timer_c.specs.Outcomes.{IsEmptyAt, IsOpenable, WhyNoWheel, IsStarted, IsStartedAt, IsStartRefusal, IsStartAtRefusal, IsRestarted, IsRestartedAt, IsRestartRefusal, IsRestartAtRefusal, IsSeen, IsStopped, WhyNotStopped, IsTicked, IsAdvanced, WhyNotTicked, IsNextCall, IsNextDeadline, IsVisited, IsAllVisited, AreCountsOf, told, tell, after_expiries};
-ghost use Rattle.timer_c.specs.declared.status.TheConstants.{OK, NOT_OPEN, OPEN, NO_MEMORY, NEVER};
+ghost use Rattle.timer_c.specs.Outcomes.{IsEmptyAt, IsOpenable, WhyNoWheel, IsStarted, IsStartedAt, IsStartRefusal, IsStartAtRefusal, IsRestarted, IsRestartedAt, IsRestartRefusal, IsRestartAtRefusal, IsSet, IsSetRefusal, IsSeen, IsStopped, WhyNotStopped, IsTicked, IsAdvancedTo, WhyNotTicked, WhyNotAdvanced, IsTaken, IsNextCall, IsNextDeadline, IsVisited, IsAllVisited, AreCountsOf, told, tell, after_expiries};
+ghost use Rattle.timer_c.specs.declared.status.TheConstants.{OK, NOT_OPEN, OPEN, NO_MEMORY, NEVER, VERSION_NUMBER};
+ghost use Rattle.timer_total.specs.Drops.{after_drop};
+ghost use Rattle.timer_total.specs.Refusals.{left_until};
+ghost use Rattle.timer_total.specs.Taken.{IsTakenBy};
+ghost use Rattle.timer_total.specs.Ticks.{IsAdvanced};
 
 use crate::c_timers::CTimers;
 use crate::calls;
 use crate::layout::{CHandle, Counts, Expired};
-use crate::status::{NEVER, NO_MEMORY, NOT_OPEN, OK, OPEN};
+use crate::status::{NEVER, NO_MEMORY, NOT_OPEN, OK, OPEN, VERSION_NUMBER};
 use crate::wheel_maker::wheel_of;
 use std::alloc::Global;
 use timer_ffi_base::RawBox;
 use timer_total::Timers;
+
+/// The version of the library, as a number that rises with it.
+#[unsafe(no_mangle)]
+pub extern "C" fn timers_version() -> u32
+    ensures { result ≡ VERSION_NUMBER }
+{
+    VERSION_NUMBER
+}
 
 /// Makes timers with this table, none of them pending, at the first tick. `t` holds them until
 /// `timers_free`. Serials continue after those of the timers that `t` held before.
@@ -56,6 +68,18 @@ pub extern "C" fn timers_free(alloc: Global, t: &mut CTimers)
     if t.slot.holds() {
         t.last_serial = t.slot.timers().last_serial();
         drop(t.slot.take(alloc).unpark());
+    }
+}
+
+/// Drops every timer, pending or expired and not yet taken. The clock and the last serial stay.
+#[unsafe(no_mangle)]
+pub extern "C" fn timers_clear(t: &mut CTimers)
+    ensures cleared { IsOpen t.old → t.new.slot.state ≡ after_drop t.old.slot.state }
+    ensures not_open { IsShut t.old → t.new ≡ t.old }
+    ensures only { t.new ≡ with_timers t.old t.new.slot.state }
+{
+    if t.slot.holds() {
+        t.slot.timers().clear();
     }
 }
 
@@ -165,6 +189,28 @@ pub extern "C" fn timers_restart_at(
     calls::restart_at(t.slot.timers(), handle, deadline, action, restarted)
 }
 
+/// Starts a timer as `timers_start_at`, in place of the one with exactly this handle, if there is one, and writes
+/// its handle over the old one.
+#[unsafe(no_mangle)]
+pub extern "C" fn timers_set_at(
+    t: &mut CTimers,
+    handle: &mut CHandle,
+    deadline: u64,
+    action: u64,
+) -> u32
+    ensures set { result ≡ OK → IsOpen t.old
+        × IsSet handle.old deadline action t.old.slot.state t.new.slot.state handle.new }
+    ensures refused { 0 < result → ((result ≡ NOT_OPEN) × IsShut t.old)
+        ⊎ (IsOpen t.old × IsSetRefusal handle.old deadline t.old.slot.state result) }
+    ensures kept { 0 < result → (t.new ≡ t.old) × (handle.new ≡ handle.old) }
+    ensures only { t.new ≡ with_timers t.old t.new.slot.state }
+{
+    if !t.slot.holds() {
+        return NOT_OPEN;
+    }
+    calls::set_at(t.slot.timers(), handle, deadline, action)
+}
+
 /// Writes the timer with exactly this handle, pending or expired and not yet taken, and changes nothing.
 #[unsafe(no_mangle)]
 pub extern "C" fn timers_look(t: &mut CTimers, handle: CHandle, out: &mut Expired) -> u32
@@ -212,13 +258,13 @@ pub extern "C" fn timers_tick(t: &mut CTimers) -> u32
 }
 
 /// Passes at most `most` ticks, stops at the first at which a timer expires, and writes how many were
-/// passed: 0 only if `most` is 0.
+/// passed: 0 only if `most` is 0. Then nothing changes, and no reason is looked for.
 #[unsafe(no_mangle)]
 pub extern "C" fn timers_advance(t: &mut CTimers, most: u64, passed: &mut u64) -> u32
     ensures advanced { result ≡ OK → IsOpen t.old × IsAdvanced most passed.new t.old.slot.state
         t.new.slot.state }
     ensures refused { 0 < result → ((result ≡ NOT_OPEN) × IsShut t.old)
-        ⊎ (IsOpen t.old × WhyNotTicked t.old.slot.state result) }
+        ⊎ (IsOpen t.old × WhyNotAdvanced most t.old.slot.state result) }
     ensures kept { 0 < result → (t.new ≡ t.old) × (passed.new ≡ passed.old) }
     ensures only { t.new ≡ with_timers t.old t.new.slot.state }
 {
@@ -226,6 +272,40 @@ pub extern "C" fn timers_advance(t: &mut CTimers, most: u64, passed: &mut u64) -
         return NOT_OPEN;
     }
     calls::advance(t.slot.timers(), most, passed)
+}
+
+/// Passes ticks up to this one, and stops at the first at which a timer expires. For a tick that is not after the
+/// present one it does nothing.
+#[unsafe(no_mangle)]
+pub extern "C" fn timers_advance_to(t: &mut CTimers, tick: u64) -> u32
+    ensures advanced { result ≡ OK → IsOpen t.old × IsAdvancedTo tick t.old.slot.state t.new.slot.state }
+    ensures refused { 0 < result → ((result ≡ NOT_OPEN) × IsShut t.old)
+        ⊎ (IsOpen t.old
+        × WhyNotAdvanced (left_until tick t.old.slot.state) t.old.slot.state result) }
+    ensures kept { 0 < result → t.new ≡ t.old }
+    ensures only { t.new ≡ with_timers t.old t.new.slot.state }
+{
+    if !t.slot.holds() {
+        return NOT_OPEN;
+    }
+    calls::advance_to(t.slot.timers(), tick)
+}
+
+/// Takes the next timer that is due by this tick, and passes the ticks up to it. Returns whether there was one:
+/// if not, the clock is at this tick, or at its last one, or was past it before.
+#[unsafe(no_mangle)]
+pub extern "C" fn timers_take(t: &mut CTimers, tick: u64, out: &mut Expired) -> bool
+    ensures taken { result ≡ true
+        → IsOpen t.old × IsTaken tick t.old.slot.state t.new.slot.state out.new }
+    ensures none { result ≡ false → IsOpen t.old → IsTakenBy tick None t.old.slot.state t.new.slot.state }
+    ensures not_open { IsShut t.old → (result ≡ false) × (t.new ≡ t.old) }
+    ensures kept { result ≡ false → out.new ≡ out.old }
+    ensures only { t.new ≡ with_timers t.old t.new.slot.state }
+{
+    if !t.slot.holds() {
+        return false;
+    }
+    calls::take(t.slot.timers(), tick, out)
 }
 
 /// Takes the first of the expired timers. Returns whether there was one.
@@ -300,7 +380,8 @@ pub extern "C" fn timers_len(t: &mut CTimers) -> usize
 }
 
 /// The tick until which C may sleep: the present one if an expired timer waits, `NEVER` if
-/// nothing is pending or `t` is not open, and otherwise one before which nothing expires.
+/// nothing is pending or `t` is not open, and otherwise the first at which a timer expires or moves to a lower
+/// wheel.
 #[unsafe(no_mangle)]
 pub extern "C" fn timers_wakeup(t: &mut CTimers) -> u64
     ensures tick { IsOpen t.old → IsNextCall result t.old.slot.state }

@@ -1,6 +1,6 @@
 //! The structs that are passed to C and back, other than `struct timers`. `include/timers.h` has the same.
 
-/// How C refers to a timer: `struct timer_handle`.
+/// How C refers to a timer: `struct timers_handle`.
 #[repr(C)]
 #[derive(Clone, Copy, Debug, PartialEq, Eq)]
 pub struct CHandle {
@@ -10,7 +10,7 @@ pub struct CHandle {
     pub serial: u64,
 }
 
-/// A timer that expired, or that is looked at: `struct timer_expired`.
+/// A timer that expired, or that is looked at: `struct timers_expired`.
 #[repr(C)]
 #[derive(Clone, Copy, Debug, PartialEq, Eq)]
 pub struct Expired {
@@ -22,7 +22,7 @@ pub struct Expired {
     pub action: u64,
 }
 
-/// What the wheels did since they were made: `struct timer_counts`.
+/// What the wheels did since they were made: `struct timers_counters`.
 #[repr(C)]
 #[derive(Clone, Copy, Debug, PartialEq, Eq)]
 pub struct Counts {

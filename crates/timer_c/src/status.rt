@@ -39,5 +39,8 @@ pub const WIDE: u32 = 0;
 /// 60 seconds, 60 minutes, 24 hours, 100 days: a clock of 8,640,000 ticks.
 pub const CLOCK: u32 = 1;
 
+/// The version: 10,000 times its major number, 100 times its minor one, and its patch.
+pub const VERSION_NUMBER: u32 = 10000;
+
 /// In place of a tick: no timer is held.
 pub const NEVER: u64 = u64::MAX;

@@ -1,10 +1,13 @@
 -- Text that grows by indented lines.
 use Rattle.std.proofs.Common.{◌≡◌, ℕ, ◌==◌, true, List, [], ◌∷◌, ◌++◌, decimal, refl, sym, ap, ◌∙◌, append_assoc, append-nil}
-use Rattle.std.specs.Prelude.{Result, Ok, Err, OnOk}
+use Rattle.std.specs.Prelude.{Option, None, Some, codes, Result, Ok, Err, OnOk}
+use Rattle.timer_facility.specs.State.{FacilityState}
+use Rattle.timer_facility.specs.WakeUps.{IsQuietUntil}
+use Rattle.timer_script.specs.Decorator.{HasGrownBy}
 use Rattle.timer_script.specs.Splitter.{HasNoFeed}
-use Rattle.timer_script.proofs.SplitterLemmas.{no_feed-append}
-use Rattle.timer_commands.specs.Indented.{AddsIndented, HasGrownByIndented, HasGrownByFront}
-use Rattle.timer_commands.specs.IndentedLaws.{is_bare, bare, decimal_bare, adds_join}
+use Rattle.timer_script.proofs.SplitterLemmas.{no_feed-append, is_bare, bare}
+use Rattle.timer_commands.specs.Indented.{AddsWakeups, wakeup_line, AddsIndented, HasGrownByIndented, HasGrownByFront}
+use Rattle.timer_commands.specs.IndentedLaws.{decimal_bare, adds_join}
 
 adds_line : (front : List ℕ) → HasNoFeed front → AddsIndented [] (32 ∷ front ++ 10 ∷ [])
 adds_line front free = record {
@@ -15,7 +18,7 @@ adds_line front free = record {
 }
 
 pub grown_join : (a b c : List ℕ) → HasGrownByIndented a b → HasGrownByIndented b c → HasGrownByIndented a c
-grown_join a b c f g = (f.0 ++ g.0, g.1 ∙ ap (λ t. t ++ g.0) f.1 ∙ append_assoc a f.0 g.0, adds_join [] [] f.0 g.0 f.2 g.2)
+grown_join a b c f g = (f.0 ++ g.0, g.1 ∙ ap (λ t. t ++ g.0) f.1 ∙ append_assoc a f.0 g.0, adds_join 32 [] [] f.0 g.0 f.2 g.2)
 
 pub line_ended : (a b c : List ℕ) → HasGrownByFront a b → c ≡ b ++ 10 ∷ [] → HasGrownByIndented a c
 line_ended a b c f e = (32 ∷ f.0 ++ 10 ∷ [], e ∙ ap (λ t. t ++ 10 ∷ []) f.1 ∙ append_assoc a (32 ∷ f.0) (10 ∷ []), adds_line f.0 f.2)
@@ -52,3 +55,29 @@ pub grown_ok : {A E : Type 0} (result : Result A E) (a b c : List ℕ) → HasGr
     → OnOk result (HasGrownByIndented a c)
 grown_ok (Ok x) a b c f g = grown_join a b c f g
 grown_ok (Err e) a b c f g = tt
+
+-- ---- wake-ups
+
+wakeup_marked : (front : List ℕ) → HasNoFeed front → AddsWakeups [] (119 ∷ front ++ 10 ∷ [])
+wakeup_marked front free = record {
+  lines = (119 ∷ front ++ 10 ∷ []) ∷ [];
+  each = (record { front = 119 ∷ front; is = refl; no_feed = (λ e. absurd cc, free) }, tt);
+  text_is = sym (append-nil (119 ∷ front ++ 10 ∷ []));
+  answer_is = refl;
+}
+
+wakeup_lawful : (quiet : Option ℕ) → AddsWakeups [] (wakeup_line quiet)
+wakeup_lawful None = wakeup_marked (codes "akeup never") (bare (codes "akeup never") refl)
+wakeup_lawful (Some tick) = wakeup_marked (codes "akeup " ++ decimal tick)
+    (no_feed-append (codes "akeup ") (decimal tick) (bare (codes "akeup ") refl) (decimal_bare tick))
+
+pub wakeup_added : {A E : Type 0} (result : Result A E) (old new : List ℕ) (quiet : Option ℕ)
+    → OnOk result (new ≡ old ++ wakeup_line quiet) → OnOk result (HasGrownBy AddsWakeups old new)
+wakeup_added (Ok x) old new quiet h = (wakeup_line quiet, h, wakeup_lawful quiet)
+wakeup_added (Err e) old new quiet h = tt
+
+pub wakeup_known : {A E : Type 0} (result : Result A E) (old new : List ℕ) (quiet : Option ℕ) (s : FacilityState)
+    → IsQuietUntil quiet s → OnOk result (new ≡ old ++ wakeup_line quiet)
+    → OnOk result ((quiet : Option ℕ) × IsQuietUntil quiet s × (new ≡ old ++ wakeup_line quiet))
+wakeup_known (Ok x) old new quiet s k h = (quiet, k, h)
+wakeup_known (Err e) old new quiet s k h = tt

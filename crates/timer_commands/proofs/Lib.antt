@@ -1,1 +1,2 @@
 pub mod IndentedLemmas
+mod VerbLemmas

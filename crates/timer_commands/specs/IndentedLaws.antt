@@ -1,5 +1,5 @@
--- Which bytes are lines, and the laws of text to which indented lines are added. They are in specs/ since the
--- decorator of `show` cites them.
+-- Which bytes are lines, and the laws of text to which marked lines are added. They are in specs/ since the
+-- decorators of `show` and `serve` cite them.
 use Rattle.std.proofs.Common.{◌≡◌, ℕ, zero, suc, ◌+◌, ◌/◌, ◌%◌, ◌==◌, ◌&&◌, not, Bool, true, false, cond, nat_lt, List, [], ◌∷◌, ◌++◌, inl, inr, decimal, codes, refl, sym, ap, subst, ◌∙◌, arith, append-nil}
 use Rattle.std.specs.List.{filter, concat, AllByRecursion}
 use Rattle.std.specs.Fmt.{digits, digits_onto, digit_glyph}
@@ -19,25 +19,10 @@ use Rattle.timer_script.specs.Splitter.{HasNoFeed}
 use Rattle.timer_script.specs.Decorator.{IsLawful}
 use Rattle.timer_script.specs.Session.{lines_of}
 use Rattle.timer_script.specs.Text.{numbers, reason_word, refusal_word, out_line, end_line}
-use Rattle.timer_script.proofs.SplitterLemmas.{no_feed-append}
-use Rattle.timer_commands.specs.Indented.{EndsWithFeed, is_unindented, AddsIndented}
+use Rattle.timer_script.proofs.SplitterLemmas.{no_feed-append, is_bare, bare}
+use Rattle.timer_commands.specs.Indented.{EndsWithFeed, is_unmarked, AddsMarked, AddsIndented, AddsWakeups}
 
 -- ---- bytes without a line feed
-
-abbrev pub is_bare : List ℕ → Bool
-is_bare [] = true
-is_bare (b ∷ bytes) = not (b == 10) && is_bare bytes
-
-pub bare : (bytes : List ℕ) → is_bare bytes ≡ true → HasNoFeed bytes
-bare [] e = tt
-bare (b ∷ bytes) e = elim (either (b == 10)) [
-  | inl k ↦ (let h : false ≡ true = ap (λ t. not t && is_bare bytes) (sym k) ∙ e in absurd cc)
-  | inr k ↦ (
-    λ is. (let h : (10 == 10) ≡ false = subst (λ t. (t == 10) ≡ false) is k
-        in absurd cc),
-    bare bytes (ap (λ t. not t && is_bare bytes) (sym k) ∙ e),
-  )
-]
 
 digit_bare : (d : ℕ) → digit_glyph false d ≡ 10 → ⊥
 digit_bare d e = elim (either (nat_lt d 10)) [
@@ -62,23 +47,23 @@ decimal_bare n = onto_bare 64 n [] tt
 
 -- ---- lines that are added
 
-pub adds_nothing : AddsIndented [] []
-adds_nothing = record { lines = []; each = tt; text_is = refl; answer_is = refl }
+pub adds_nothing : (mark : ℕ) → AddsMarked mark [] []
+adds_nothing mark = record { lines = []; each = tt; text_is = refl; answer_is = refl }
 
 lines_join : (xs ys : List (List ℕ)) → AllByRecursion EndsWithFeed xs → AllByRecursion EndsWithFeed ys
     → AllByRecursion EndsWithFeed (xs ++ ys)
 lines_join [] ys a b = b
 lines_join (x ∷ xs) ys a b = (a.0, lines_join xs ys a.1 b)
 
-pub adds_join : (a b x y : List ℕ) → AddsIndented a x → AddsIndented b y → AddsIndented (a ++ b) (x ++ y)
-adds_join a b x y f g = record {
+pub adds_join : (mark : ℕ) (a b x y : List ℕ) → AddsMarked mark a x → AddsMarked mark b y → AddsMarked mark (a ++ b) (x ++ y)
+adds_join mark a b x y f g = record {
   lines = f.lines ++ g.lines;
   each = lines_join f.lines g.lines f.each g.each;
   text_is = ap (λ t. t ++ y) f.text_is ∙ ap (λ t. concat f.lines ++ t) g.text_is
       ∙ sym (concat-append f.lines g.lines);
-  answer_is = ap (λ t. t ++ b) f.answer_is ∙ ap (λ t. concat (filter is_unindented f.lines) ++ t) g.answer_is
-      ∙ sym (concat-append (filter is_unindented f.lines) (filter is_unindented g.lines))
-      ∙ ap concat (sym (filter-append is_unindented f.lines g.lines));
+  answer_is = ap (λ t. t ++ b) f.answer_is ∙ ap (λ t. concat (filter (is_unmarked mark) f.lines) ++ t) g.answer_is
+      ∙ sym (concat-append (filter (is_unmarked mark) f.lines) (filter (is_unmarked mark) g.lines))
+      ∙ ap concat (sym (filter-append (is_unmarked mark) f.lines g.lines));
 }
 
 -- ---- the lines of an answer, none of which begins with a space
@@ -88,10 +73,18 @@ numbers_bare [] = tt
 numbers_bare (n ∷ all) =
     no_feed-append (32 ∷ decimal n) (numbers all) (λ e. absurd cc, decimal_bare n) (numbers_bare all)
 
--- a line that does not begin with a space stays
-adds_one : (front : List ℕ) → HasNoFeed front → is_unindented (front ++ 10 ∷ []) ≡ true
-    → AddsIndented (front ++ 10 ∷ []) (front ++ 10 ∷ [])
-adds_one front free unindented =
+-- with none of these letters a line is marked that is added: s, r, e, c, t
+pub record IsUnused (mark : ℕ) : Type 0 where
+  pub s : is_unmarked mark (115 ∷ []) ≡ true
+  pub r : is_unmarked mark (114 ∷ []) ≡ true
+  pub e : is_unmarked mark (101 ∷ []) ≡ true
+  pub c : is_unmarked mark (99 ∷ []) ≡ true
+  pub t : is_unmarked mark (116 ∷ []) ≡ true
+
+-- a line that is not marked stays
+adds_one : (mark : ℕ) (front : List ℕ) → HasNoFeed front → is_unmarked mark (front ++ 10 ∷ []) ≡ true
+    → AddsMarked mark (front ++ 10 ∷ []) (front ++ 10 ∷ [])
+adds_one mark front free unindented =
     let line : List ℕ = front ++ 10 ∷ [] in
     record {
       lines = line ∷ [];
@@ -101,25 +94,25 @@ adds_one front free unindented =
     }
 
 -- a word and numbers
-numbered : (first : ℕ) (word all : List ℕ) → is_bare (first ∷ word) ≡ true → is_unindented (first ∷ []) ≡ true
-    → AddsIndented ((first ∷ word) ++ numbers all ++ codes "\n") ((first ∷ word) ++ numbers all ++ codes "\n")
-numbered first word all free unindented =
-    adds_one ((first ∷ word) ++ numbers all)
+numbered : (mark first : ℕ) (word all : List ℕ) → is_bare (first ∷ word) ≡ true → is_unmarked mark (first ∷ []) ≡ true
+    → AddsMarked mark ((first ∷ word) ++ numbers all ++ codes "\n") ((first ∷ word) ++ numbers all ++ codes "\n")
+numbered mark first word all free unindented =
+    adds_one mark ((first ∷ word) ++ numbers all)
     (no_feed-append (first ∷ word) (numbers all) (bare (first ∷ word) free) (numbers_bare all))
     unindented
 
 -- a word, numbers, and a reason
-refused : (all why : List ℕ) → is_bare why ≡ true
-    → AddsIndented (codes "refused" ++ numbers all ++ codes " " ++ why ++ codes "\n")
+refused : (mark : ℕ) (all why : List ℕ) → is_unmarked mark (114 ∷ []) ≡ true → is_bare why ≡ true
+    → AddsMarked mark (codes "refused" ++ numbers all ++ codes " " ++ why ++ codes "\n")
     (codes "refused" ++ numbers all ++ codes " " ++ why
     ++ codes "\n")
-refused all why free =
-    adds_one (codes "refused" ++ numbers all ++ codes " " ++ why)
+refused mark all why unmarked free =
+    adds_one mark (codes "refused" ++ numbers all ++ codes " " ++ why)
     (no_feed-append (codes "refused" ++ numbers all ++ codes " ") why
     (no_feed-append (codes "refused" ++ numbers all) (codes " ")
     (no_feed-append (codes "refused") (numbers all) (bare (codes "refused") refl) (numbers_bare all))
     (bare (codes " ") refl))
-    (bare why free)) refl
+    (bare why free)) unmarked
 
 reason_bare : (why : Reason) → is_bare (reason_word why) ≡ true
 reason_bare reason.ZeroInterval = refl
@@ -136,36 +129,42 @@ refusal_bare refusal.NumbersSpent = refl
 refusal_bare (refusal.Ahead next) = refl
 refusal_bare refusal.OutOfMemory = refl
 
-pub adds_end : (now pending : ℕ) → AddsIndented (end_line now pending) (end_line now pending)
-adds_end now pending = numbered 101 (codes "nd") (now ∷ pending ∷ []) refl refl
+pub adds_end : (mark : ℕ) → IsUnused mark → (now pending : ℕ) → AddsMarked mark (end_line now pending) (end_line now pending)
+adds_end mark u now pending = numbered mark 101 (codes "nd") (now ∷ pending ∷ []) refl u.e
 
-adds_out : (o : Out) → AddsIndented (out_line o) (out_line o)
-adds_out (out.Answered client number (Started handle deadline)) =
-    numbered 115 (codes "tarted") (client ∷ number ∷ handle.serial ∷ deadline ∷ []) refl refl
-adds_out (out.Answered client number (Stopped serial)) =
-    numbered 115 (codes "topped") (client ∷ number ∷ serial ∷ []) refl refl
-adds_out (out.Answered client number (Restarted handle deadline old)) =
-    numbered 114 (codes "estarted") (client ∷ number ∷ old ∷ handle.serial ∷ deadline ∷ []) refl refl
-adds_out (out.Answered client number (Refused why)) =
-    refused (client ∷ number ∷ []) (reason_word why) (reason_bare why)
-adds_out (out.NotTaken client number why) =
-    refused (client ∷ number ∷ []) (refusal_word why) (refusal_bare why)
-adds_out (out.Notice (Expired t)) =
-    numbered 101 (codes "xpired") (t.deadline ∷ t.client ∷ t.serial ∷ t.action ∷ []) refl refl
-adds_out (out.Notice (Returned t)) =
-    numbered 114 (codes "eturned") (t.client ∷ t.serial ∷ t.deadline ∷ t.action ∷ []) refl refl
-adds_out (out.TickRefused fault.Closed) =
-    adds_one (codes "tick refused closed") (bare (codes "tick refused closed") refl) refl
-adds_out (out.TickRefused fault.ClockEnd) =
-    adds_one (codes "tick refused clock-end") (bare (codes "tick refused clock-end") refl) refl
-adds_out (out.Closed count) = numbered 99 (codes "losed") (count ∷ []) refl refl
-adds_out out.CloseRefused =
-    adds_one (codes "close refused closed") (bare (codes "close refused closed") refl) refl
+adds_out : (mark : ℕ) → IsUnused mark → (o : Out) → AddsMarked mark (out_line o) (out_line o)
+adds_out mark u (out.Answered client number (Started handle deadline)) =
+    numbered mark 115 (codes "tarted") (client ∷ number ∷ handle.serial ∷ deadline ∷ []) refl u.s
+adds_out mark u (out.Answered client number (Stopped serial)) =
+    numbered mark 115 (codes "topped") (client ∷ number ∷ serial ∷ []) refl u.s
+adds_out mark u (out.Answered client number (Restarted handle deadline old)) =
+    numbered mark 114 (codes "estarted") (client ∷ number ∷ old ∷ handle.serial ∷ deadline ∷ []) refl u.r
+adds_out mark u (out.Answered client number (Refused why)) =
+    refused mark (client ∷ number ∷ []) (reason_word why) u.r (reason_bare why)
+adds_out mark u (out.NotTaken client number why) =
+    refused mark (client ∷ number ∷ []) (refusal_word why) u.r (refusal_bare why)
+adds_out mark u (out.Notice (Expired t)) =
+    numbered mark 101 (codes "xpired") (t.deadline ∷ t.client ∷ t.serial ∷ t.action ∷ []) refl u.e
+adds_out mark u (out.Notice (Returned t)) =
+    numbered mark 114 (codes "eturned") (t.client ∷ t.serial ∷ t.deadline ∷ t.action ∷ []) refl u.r
+adds_out mark u (out.TickRefused fault.Closed) =
+    adds_one mark (codes "tick refused closed") (bare (codes "tick refused closed") refl) u.t
+adds_out mark u (out.TickRefused fault.ClockEnd) =
+    adds_one mark (codes "tick refused clock-end") (bare (codes "tick refused clock-end") refl) u.t
+adds_out mark u (out.Closed count) = numbered mark 99 (codes "losed") (count ∷ []) refl u.c
+adds_out mark u out.CloseRefused =
+    adds_one mark (codes "close refused closed") (bare (codes "close refused closed") refl) u.c
 
-pub adds_outs : (outs : List Out) → AddsIndented (lines_of outs) (lines_of outs)
-adds_outs [] = adds_nothing
-adds_outs (o ∷ outs) =
-    adds_join (out_line o) (lines_of outs) (out_line o) (lines_of outs) (adds_out o) (adds_outs outs)
+pub adds_outs : (mark : ℕ) → IsUnused mark → (outs : List Out) → AddsMarked mark (lines_of outs) (lines_of outs)
+adds_outs mark u [] = adds_nothing mark
+adds_outs mark u (o ∷ outs) = adds_join mark (out_line o) (lines_of outs) (out_line o) (lines_of outs) (adds_out mark u o)
+    (adds_outs mark u outs)
+
+marked_is_lawful : (mark : ℕ) → IsUnused mark → IsLawful (AddsMarked mark)
+marked_is_lawful mark u = record { joins = adds_join mark; lines = adds_outs mark u; end = adds_end mark u }
 
 pub indented_is_lawful : IsLawful AddsIndented
-indented_is_lawful = record { joins = adds_join; lines = adds_outs; end = adds_end }
+indented_is_lawful = marked_is_lawful 32 (record { s = refl; r = refl; e = refl; c = refl; t = refl })
+
+pub wakeups_are_lawful : IsLawful AddsWakeups
+wakeups_are_lawful = marked_is_lawful 119 (record { s = refl; r = refl; e = refl; c = refl; t = refl })

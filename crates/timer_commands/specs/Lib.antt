@@ -3,5 +3,4 @@ pub mod Schemes
 pub mod Clients
 pub mod Indented
 pub mod IndentedLaws
-pub mod ShowStream
 pub mod Subcommands

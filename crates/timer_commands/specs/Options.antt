@@ -4,6 +4,8 @@ use Rattle.timer_base.specs.declared.limits.TheConstants.{LAST}
 use Rattle.timer_facility.specs.declared.config.Config.{Config}
 use Rattle.timer_facility.specs.Config.{config_fault}
 use Rattle.timer_wheels.specs.declared.table.TheConstants.{LAST_OF_CLOCK}
+use Rattle.timer_wheels.specs.declared.table.Table.TheVariants as table
+use Rattle.timer_wheels.specs.Tables.{slots_of_table}
 use Rattle.timer_commands.specs.declared.options.Scheme.{Scheme}
 use Rattle.timer_commands.specs.declared.options.Scheme.TheVariants.{Plain, Hashed, Hier, Clock}
 use Rattle.timer_commands.specs.declared.options.RunOptions.{RunOptions}
@@ -16,6 +18,13 @@ name_of Plain = codes "plain"
 name_of Hashed = codes "hashed"
 name_of Hier = codes "hier"
 name_of Clock = codes "clock"
+
+-- how many slots the wheel of a scheme has, where the options give this number for the hashed one
+abbrev pub scheme_slots : Scheme → ℕ → ℕ
+scheme_slots Plain slots = 0
+scheme_slots Hashed slots = slots
+scheme_slots Hier slots = slots_of_table table.Wide
+scheme_slots Clock slots = slots_of_table table.Clock
 
 -- the last tick of a scheme's clock
 abbrev pub scheme_last : Scheme → ℕ

@@ -1,112 +1,104 @@
--- How a subcommand ends: its exit status, and what it did to its input and its output.
+-- How a subcommand ends: its exit status, and what it did to its input and its outputs.
 use Rattle.std.specs.Prelude.{◌≡◌, ℕ, ◌≤◌, ◌⊎◌, Bool, true, false, List, Option, Result, Ok, Err}
+use Rattle.timer_facility.specs.State.{FacilityState}
 use Rattle.timer_facility.specs.Opened.{opened}
 use Rattle.timer_script.specs.declared.fault.RunFault.{RunFault}
 use Rattle.timer_script.specs.declared.fault.ServeFault.{ServeFault}
+use Rattle.timer_script.specs.declared.intake.OnBadLine.{OnBadLine}
+use Rattle.timer_script.specs.declared.intake.OnBadLine.TheVariants.{Stop}
+use Rattle.timer_script.specs.declared.streams.Streams.{Streams}
 use Rattle.timer_script.specs.declared.watched.Watched.{Watched}
 use Rattle.timer_script.specs.ScriptRun.{HasRun}
 use Rattle.timer_script.specs.ScriptReport.{HasChecked}
 use Rattle.timer_script.specs.Decorator.{Decoration, AddsNothing}
-use Rattle.timer_script.specs.Service.{HasServedBy}
-use Rattle.timer_script.specs.GoodLines.{HasServedGood}
+use Rattle.timer_script.specs.Service.{HasServed}
 use Rattle.timer_script.specs.Streams.{streams_state}
 use Rattle.timer_commands.specs.declared.options.RunOptions.{RunOptions}
 use Rattle.timer_commands.specs.declared.options.OptionsFault.{OptionsFault}
+use Rattle.timer_commands.specs.declared.verbs.Verb.{Verb}
+use Rattle.timer_commands.specs.declared.verbs.Verb.TheVariants as verbs
 use Rattle.timer_commands.specs.Options.{config_of, scheme_last, IsPlayable, IsRefused}
+use Rattle.timer_commands.specs.Indented.{AddsIndented, AddsWakeups}
 
--- a script was played, or the options are refused and nothing was read
-pub record HasPlayed {R S : Type 0} (options : RunOptions) (remaining : R → Option (List ℕ)) (contents : S
-    → Option (List ℕ))
-    (reader reader' : Watched R) (writer writer' : Watched S) (status : ℕ) : Type 0 where
-  pub in_range : status ≤ 2
-  -- 0: the whole text was written
-  pub written : status ≡ 0
-      → IsPlayable options × HasRun (opened (config_of options) (scheme_last options.scheme)) remaining
-      contents reader reader' writer writer' (Ok tt)
-  -- 1: the run failed
-  pub failed : status ≡ 1
-      → IsPlayable options × ((fault : RunFault)
-      × HasRun (opened (config_of options) (scheme_last options.scheme)) remaining contents reader reader'
-      writer writer' (Err fault))
-  -- 2: the options are refused, and nothing was read or written
-  pub refused : status ≡ 2 → ((fault : OptionsFault) × IsRefused fault options) × (reader' ≡ reader)
-      × (writer' ≡ writer)
+-- how the bytes of a reader, of a writer and of a writer of reports are known
+pub record Bytes (R S F : Type 0) : Type 0 where
+  pub remaining : R → Option (List ℕ)
+  pub contents : S → Option (List ℕ)
+  pub reports : F → Option (List ℕ)
 
--- what serving did with a reader and a writer, over the facility of the options, if this is what is added to
--- the answers
-abbrev pub HasServedStreamsBy : {R S : Type 0} (Adds : Decoration) (options : RunOptions)
-    (remaining : R → Option (List ℕ)) (contents : S → Option (List ℕ)) (reader reader' : Watched R)
-    (writer writer' : Watched S) → Result Unit ServeFault → Type 0
-HasServedStreamsBy Adds options remaining contents reader reader' writer writer' result =
-    HasServedBy Adds (opened (config_of options) (scheme_last options.scheme))
-    (streams_state remaining contents reader writer)
-    (streams_state remaining contents reader' writer') result
+-- the streams of a subcommand, at one moment
+pub record Channels (R S F : Type 0) : Type 0 where
+  pub streams : Streams R S
+  pub faults : Watched F
 
--- lines were answered as they came, with what is added to the answers, or the options are refused and nothing
--- was read
-pub record HasServedLinesBy {R S : Type 0} (Adds : Decoration) (options : RunOptions)
-    (remaining : R → Option (List ℕ)) (contents : S → Option (List ℕ)) (reader reader' : Watched R)
-    (writer writer' : Watched S) (status : ℕ) : Type 0 where
-  pub in_range : status ≤ 2
-  -- 0: the input came to its end, and the whole text was written
-  pub written : status ≡ 0
-      → IsPlayable options × HasServedStreamsBy Adds options remaining contents reader reader' writer writer'
-      (Ok tt)
-  -- 1: serving failed
-  pub failed : status ≡ 1
-      → IsPlayable options × ((fault : ServeFault) × HasServedStreamsBy Adds options remaining contents reader
-      reader' writer writer' (Err fault))
-  -- 2: the options are refused, and nothing was read or written
-  pub refused : status ≡ 2 → ((fault : OptionsFault) × IsRefused fault options) × (reader' ≡ reader)
-      × (writer' ≡ writer)
+-- the facility of the options, before the first event
+abbrev pub opened_by : RunOptions → FacilityState
+opened_by options = opened (config_of options) (scheme_last options.scheme)
 
--- lines were answered as they came, or the options are refused and nothing was read
-abbrev pub HasServedLines : {R S : Type 0} (options : RunOptions) (remaining : R → Option (List ℕ))
-    (contents : S → Option (List ℕ)) (reader reader' : Watched R) (writer writer' : Watched S)
-    → ℕ → Type 0
-HasServedLines options remaining contents reader reader' writer writer' status =
-    HasServedLinesBy AddsNothing options remaining contents reader reader' writer writer' status
-
--- what serving past bad lines did with a reader, a writer, and the writer of reports, over the facility of
--- the options
-abbrev pub HasServedGoodStreams : {R S F : Type 0} (options : RunOptions) (remaining : R → Option (List ℕ))
-    (contents : S → Option (List ℕ)) (reports : F → Option (List ℕ)) (reader reader' : Watched R)
-    (writer writer' : Watched S) (faults faults' : Watched F) → Result Bool ServeFault → Type 0
-HasServedGoodStreams options remaining contents reports reader reader' writer writer' faults faults' result =
-    HasServedGood (opened (config_of options) (scheme_last options.scheme))
-    (streams_state remaining contents reader writer) (streams_state remaining contents reader' writer')
-    reports faults faults' result
-
--- good lines were answered as they came and bad ones reported, or the options are refused and nothing was
--- read
-pub record HasServedGoodLines {R S F : Type 0} (options : RunOptions) (remaining : R → Option (List ℕ))
-    (contents : S → Option (List ℕ)) (reports : F → Option (List ℕ)) (reader reader' : Watched R)
-    (writer writer' : Watched S) (faults faults' : Watched F) (status : ℕ) : Type 0 where
-  pub in_range : status ≤ 2
-  -- 0: the input came to its end, no line was bad, and the whole text was written
-  pub written : status ≡ 0 → IsPlayable options
-      × HasServedGoodStreams options remaining contents reports reader reader' writer writer' faults faults'
-      (Ok true)
-  -- 1: some line was bad, the bad ones were reported, and the whole text of the others was written; or
-  -- serving failed, and `told` is the writer of reports before the failure's own report, which no clause
-  -- describes
-  pub failed : status ≡ 1 → IsPlayable options
-      × (HasServedGoodStreams options remaining contents reports reader reader' writer writer' faults faults'
-      (Ok false)
-      ⊎ ((fault : ServeFault) × (told : Watched F)
-      × HasServedGoodStreams options remaining contents reports reader reader' writer writer' faults told
-      (Err fault)))
-  -- 2: the options are refused, and nothing was read or written
-  pub refused : status ≡ 2 → ((fault : OptionsFault) × IsRefused fault options) × (reader' ≡ reader)
-      × (writer' ≡ writer)
-
--- a script was checked: each of its bad lines was reported, or the check failed
-pub record HasCheckedScript {R S : Type 0} (remaining : R → Option (List ℕ)) (contents : S → Option (List ℕ))
-    (reader reader' : Watched R) (writer writer' : Watched S) (status : ℕ) : Type 0 where
+-- an exit status of a success and of a failure
+pub record Ends (Good Bad : Type 0) (status : ℕ) : Type 0 where
   pub in_range : status ≤ 1
-  -- 0: no line is bad, and the report, which is empty, was written
-  pub good : status ≡ 0 → HasChecked remaining contents reader reader' writer writer' (Ok 0)
-  -- 1: some line is bad, and the whole report was written; or the check failed
-  pub bad : status ≡ 1
-      → ((lines : ℕ) × (1 ≤ lines) × HasChecked remaining contents reader reader' writer writer' (Ok lines))
-      ⊎ ((fault : RunFault) × HasChecked remaining contents reader reader' writer writer' (Err fault))
+  pub good : status ≡ 0 → Good
+  pub bad : status ≡ 1 → Bad
+
+-- what playing a script did
+abbrev pub HasPlayed : {R S F : Type 0} → FacilityState → Bytes R S F → (old new : Channels R S F)
+    → Result Unit RunFault → Type 0
+HasPlayed before bytes old new result =
+    HasRun before bytes.remaining bytes.contents old.streams.reader new.streams.reader old.streams.writer
+    new.streams.writer result
+
+-- what serving did, if this is done at a bad line and this is added to the answers
+abbrev pub HasServedStreams : {R S F : Type 0} → OnBadLine → Decoration → FacilityState → Bytes R S F
+    → (old new : Channels R S F) → Result Bool ServeFault → Type 0
+HasServedStreams on_bad Adds before bytes old new result =
+    HasServed on_bad Adds before
+    (streams_state bytes.remaining bytes.contents old.streams.reader old.streams.writer)
+    (streams_state bytes.remaining bytes.contents new.streams.reader new.streams.writer)
+    bytes.reports old.faults new.faults result
+
+-- the exit status of serving
+abbrev pub serving_status : Result Bool ServeFault → ℕ
+serving_status (Ok true) = 0
+serving_status (Ok false) = 1
+serving_status (Err fault) = 1
+
+-- 0: the input came to its end, no line was bad, and the whole text was written; 1: some line was bad, each bad
+-- one was reported, and the whole text of the others was written; or serving failed, and `told` is the writer of
+-- reports before the failure's own report, which no clause describes
+abbrev pub HasAnswered : {R S F : Type 0} → OnBadLine → Decoration → FacilityState → Bytes R S F
+    → (old new : Channels R S F) → ℕ → Type 0
+HasAnswered {R} {S} {F} on_bad Adds before bytes old new status =
+    Ends (HasServedStreams on_bad Adds before bytes old new (Ok true))
+    (HasServedStreams on_bad Adds before bytes old new (Ok false)
+    ⊎ ((fault : ServeFault) × (told : Watched F)
+    × HasServedStreams on_bad Adds before bytes old (record { streams = new.streams; faults = told }) (Err fault)))
+    status
+
+-- a script was played, or lines were answered as they came, or answered and shown
+abbrev pub HasDone : {R S F : Type 0} → Verb → FacilityState → Bytes R S F → (old new : Channels R S F)
+    → ℕ → Type 0
+HasDone verbs.Play before bytes old new status =
+    Ends (HasPlayed before bytes old new (Ok tt)) ((fault : RunFault) × HasPlayed before bytes old new (Err fault))
+    status
+HasDone (verbs.Serve on_bad false) before bytes old new status =
+    HasAnswered on_bad AddsNothing before bytes old new status
+HasDone (verbs.Serve on_bad true) before bytes old new status =
+    HasAnswered on_bad AddsWakeups before bytes old new status
+HasDone verbs.Show before bytes old new status = HasAnswered Stop AddsIndented before bytes old new status
+
+-- that was done over the facility of the options, or the options are refused and nothing was read or written
+pub record HasEnded {R S F : Type 0} (verb : Verb) (options : RunOptions) (bytes : Bytes R S F)
+    (old new : Channels R S F) (status : ℕ) : Type 0 where
+  pub in_range : status ≤ 2
+  pub done : status ≤ 1 → IsPlayable options × HasDone verb (opened_by options) bytes old new status
+  pub refused : status ≡ 2 → ((fault : OptionsFault) × IsRefused fault options) × (new.streams ≡ old.streams)
+
+-- a script was checked: 0: no line is bad, and the report, which is empty, was written; 1: some line is bad, and
+-- the whole report was written; or the check failed
+abbrev pub HasCheckedScript : {R S F : Type 0} → Bytes R S F → (streams streams' : Streams R S) → ℕ → Type 0
+HasCheckedScript {R} {S} {F} bytes streams streams' status =
+    let Checked : Result ℕ RunFault → Type 0 = HasChecked bytes.remaining bytes.contents streams.reader
+    streams'.reader streams.writer streams'.writer in
+    Ends (Checked (Ok 0))
+    (((lines : ℕ) × (1 ≤ lines) × Checked (Ok lines)) ⊎ ((fault : RunFault) × Checked (Err fault))) status

@@ -19,8 +19,9 @@ pub fn check_script<R: Read, W: Write, F: Write>(
 ) -> u8
     requires reader_good { has_failed streams.old.reader ≡ false }
     requires writer_good { has_failed streams.old.writer ≡ false }
-    ensures { HasCheckedScript R.remaining W.contents streams.old.reader streams.new.reader
-        streams.old.writer streams.new.writer result }
+    ensures { HasCheckedScript
+        (record { remaining = R.remaining; contents = W.contents; reports = F.contents })
+        streams.old streams.new result }
 {
     match check(alloc, &mut streams.reader, &mut streams.writer) {
         Ok(bad) => { if bad == 0 { 0 } else { 1 } }

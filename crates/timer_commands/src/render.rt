@@ -9,7 +9,7 @@
 //! two lines of a script nothing is.
 ghost use Rattle.std.specs.Prelude.{◌≡◌, ◌<◌, ◌++◌, length, decimal, OnOk};
 ghost use Rattle.timer_script.specs.Decorator.{HasGrown};
-ghost use Rattle.timer_commands.specs.Indented.{HasGrownByIndented, HasGrownByFront};
+ghost use Rattle.timer_commands.specs.Indented.{HasGrownByIndented, HasGrownByFront, wakeup_line};
 
 use itoa::Buffer;
 use timer_base::{OutOfMemory, PlainWheel, Wheel};
@@ -172,4 +172,19 @@ pub fn push_shown<W: Wheel + Placement>(text: &mut Vec<u8>, wheel: &W) -> Result
     push_number(text, b"  now ", wheel.now())?;
     text.push(b'\n')?;
     wheel.push_placement(text)
+}
+
+/// Appends the line of a wake-up.
+pub fn push_wakeup(text: &mut Vec<u8>, quiet: Option<u64>) -> Result<(), OutOfMemory>
+    ensures text { OnOk result (text.new.items ≡ text.old.items ++ wakeup_line quiet) }
+    ensures kept { HasGrown text.old.items text.new.items }
+{
+    match quiet {
+        None => text.extend_from_slice(b"wakeup never\n")?,
+        Some(tick) => {
+            push_number(text, b"wakeup ", tick)?;
+            text.push(b'\n')?;
+        }
+    }
+    Ok(())
 }

@@ -1,166 +1,154 @@
-//! What is done with the facility of a run: play a script, answer lines, or show where their timers are.
+//! What is done with a facility: play a script, answer lines, or show where their timers are.
 //!
-//! A verb holds its streams. It knows no scheme: `schemes` makes the wheel, and hands the verb a facility.
-ghost use Rattle.std.specs.Prelude.{◌≡◌, []};
+//! It is done over any wheel: `schemes` makes the wheel, and hands the facility over.
+ghost use Rattle.std.specs.Prelude.{◌≡◌, [], false, OnOk};
 ghost use Rattle.timer_facility.specs.State.{FacilityState};
+ghost use Rattle.timer_script.specs.Watched.{has_failed};
+ghost use Rattle.timer_commands.specs.Subcommands.{HasDone, serving_status};
 
-use crate::render::Placement;
-use crate::show_stream::show;
+use crate::error_report::report;
+use crate::render::{Placement, push_shown, push_wakeup};
 use std::alloc::Global;
 use std::io::{Read, Write};
-use timer_base::Wheel;
+use timer_base::{OutOfMemory, Wheel};
 use timer_facility::Facility;
-use timer_script::{Peer, RunFault, ServeFault, Watched, run, serve, serve_good};
+use timer_script::{
+    Decorator, OnBadLine, RunFault, ServeFault, Streams, Undecorated, Watched, run, serve,
+};
 
-/// What is done with a facility, over any wheel.
-pub trait Verb {
-    type Outcome;
-
-    /// None of its streams has failed.
-    ghost is_ready: { Self → Type 0 };
-
-    /// What it did, over a facility that was in this state: itself before and after, and the outcome.
-    ghost has_done: { FacilityState → Self → Self → Self.Outcome → Type 0 };
-
-    /// Does it.
-    fn run_over<W: Wheel + Placement + Drop>(
-        &mut self,
-        alloc: Global,
-        facility: Facility<W>,
-    ) -> Self::Outcome
-        requires ready { is_ready self.old }
-        requires pending { facility.state.pending ≡ [] }
-        requires waiting { facility.waiting ≡ [] }
-        ensures { has_done facility.state self.old self.new result };
-
-    /// The outcome if there was no memory for a wheel. Nothing was read or written.
-    fn out_of_memory(&self) -> Self::Outcome
-        requires { is_ready self.now }
-        ensures { (before : FacilityState) → has_done before self.now self.now result };
+/// What is done with a facility.
+#[derive(Clone, Copy, Debug, PartialEq, Eq)]
+pub enum Verb {
+    /// Plays a whole script, and writes its text.
+    Play,
+    /// Answers lines as they come, and with `wakeups` reports after each when to wake up next.
+    Serve { on_bad: OnBadLine, wakeups: bool },
+    /// Answers lines as they come, and shows after each where the timers are.
+    Show,
 }
 
-/// Plays a whole script.
-#[derive(Drop)]
-pub struct Play<'a, R, S> {
-    pub reader: &'a mut Watched<R>,
-    pub writer: &'a mut Watched<S>,
-}
+/// Shows where the timers are. An answer is followed by the clock and the placement, which `render` draws.
+struct Placements;
 
-impl<R: Read, S: Write> Verb for Play<'_, R, S> {
-    ghost use Rattle.std.specs.Prelude.{false};
-    ghost use Rattle.timer_script.specs.ScriptRun.{HasRun};
-    ghost use Rattle.timer_script.specs.Watched.{has_failed};
+impl<W: Wheel + Placement + Drop> Decorator<W> for Placements {
+    ghost use Rattle.timer_commands.specs.Indented.{AddsIndented};
+    ghost use Rattle.timer_commands.specs.IndentedLaws.{indented_is_lawful};
 
-    type Outcome = Result<(), RunFault>;
+    ghost adds = { AddsIndented };
 
-    ghost is_ready = { λ verb. (has_failed verb.reader.now ≡ false) × (has_failed verb.writer.now ≡ false) };
-
-    ghost has_done = { λ before old new result. (new.reader.ghost_name ≡ old.reader.ghost_name)
-        × (new.writer.ghost_name ≡ old.writer.ghost_name)
-        × HasRun before R.remaining S.contents old.reader.now new.reader.now old.writer.now new.writer.now
-        result };
-
-    fn run_over<W: Wheel + Placement + Drop>(
-        &mut self,
-        alloc: Global,
-        facility: Facility<W>,
-    ) -> Result<(), RunFault> {
-        run(alloc, self.reader, self.writer, facility)
+    // The pictures for the lines of one read might not fit into memory.
+    fn sends_each_line(&self) -> bool {
+        true
     }
 
-    fn out_of_memory(&self) -> Result<(), RunFault> {
-        Err(RunFault::OutOfMemory)
-    }
-}
-
-/// Answers lines as they come.
-#[derive(Drop)]
-pub struct Serve<'a, P> {
-    pub peer: &'a mut P,
-}
-
-impl<P: Peer> Verb for Serve<'_, P> {
-    ghost use Rattle.timer_script.specs.Service.{AreGood, HasServed};
-
-    type Outcome = Result<(), ServeFault>;
-
-    ghost is_ready = { λ verb. AreGood (P.state verb.peer.now) };
-
-    ghost has_done = { λ before old new result. (new.peer.ghost_name ≡ old.peer.ghost_name)
-        × HasServed before (P.state old.peer.now) (P.state new.peer.now) result };
-
-    fn run_over<W: Wheel + Placement + Drop>(
-        &mut self,
-        alloc: Global,
-        facility: Facility<W>,
-    ) -> Result<(), ServeFault> {
-        serve(alloc, self.peer, facility)
+    fn decorate(&self, text: &mut Vec<u8>, facility: &Facility<W>) -> Result<(), OutOfMemory> {
+        push_shown(text, facility.wheel())
     }
 
-    fn out_of_memory(&self) -> Result<(), ServeFault> {
-        Err(ServeFault::OutOfMemory)
-    }
+    ghost is_lawful = { indented_is_lawful };
 }
 
-/// Answers good lines as they come, and reports the bad ones.
-#[derive(Drop)]
-pub struct ServeGood<'a, P, F> {
-    pub peer: &'a mut P,
-    pub faults: &'a mut Watched<F>,
-}
+/// Reports when to wake up: a tick until which nothing expires, if something is pending. Then the line is
+/// `wakeup TICK`, and else `wakeup never`.
+struct Wakeups;
 
-impl<P: Peer, F: Write> Verb for ServeGood<'_, P, F> {
-    ghost use Rattle.timer_script.specs.Service.{AreGood};
-    ghost use Rattle.timer_script.specs.GoodLines.{HasServedGood};
+impl<W: Wheel + Drop> Decorator<W> for Wakeups {
+    ghost use Rattle.std.specs.Prelude.{◌≡◌, ◌++◌, ℕ, Option, OnOk};
+    ghost use Rattle.timer_facility.specs.WakeUps.{IsQuietUntil};
+    ghost use Rattle.timer_script.specs.Decorator.{HasGrown, HasGrownBy};
+    ghost use Rattle.timer_commands.specs.Indented.{AddsWakeups, wakeup_line};
+    ghost use Rattle.timer_commands.specs.IndentedLaws.{wakeups_are_lawful};
 
-    type Outcome = Result<bool, ServeFault>;
+    ghost adds = { AddsWakeups };
 
-    ghost is_ready = { λ verb. AreGood (P.state verb.peer.now) };
-
-    ghost has_done = { λ before old new result. (new.peer.ghost_name ≡ old.peer.ghost_name)
-        × (new.faults.ghost_name ≡ old.faults.ghost_name)
-        × HasServedGood before (P.state old.peer.now) (P.state new.peer.now) F.contents
-        old.faults.now new.faults.now result };
-
-    fn run_over<W: Wheel + Placement + Drop>(
-        &mut self,
-        alloc: Global,
-        facility: Facility<W>,
-    ) -> Result<bool, ServeFault> {
-        serve_good(alloc, self.peer, facility, self.faults)
+    // The line is also the acknowledgement of a line with no answer.
+    fn sends_each_line(&self) -> bool {
+        true
     }
 
-    fn out_of_memory(&self) -> Result<bool, ServeFault> {
-        Err(ServeFault::OutOfMemory)
+    fn decorate(&self, text: &mut Vec<u8>, facility: &Facility<W>) -> Result<(), OutOfMemory>
+        ensures added { OnOk result (HasGrownBy AddsWakeups text.old.items text.new.items) }
+        ensures kept { HasGrown text.old.items text.new.items }
+        // The tick is after the present one, and at most the first pending deadline.
+        ensures wakeup { OnOk result ((quiet : Option ℕ) × IsQuietUntil quiet facility.now.state
+            × (text.new.items ≡ text.old.items ++ wakeup_line quiet)) }
+    {
+        push_wakeup(text, facility.quiet_until())
+    }
+
+    ghost is_lawful = { wakeups_are_lawful };
+}
+
+/// Does it, and returns the exit status.
+///
+/// 0: the input came to its end, no line was bad, and the whole text was written. 1: a line was bad, and is
+/// reported on `faults`; or an error, reported there in one line.
+pub fn do_verb<R: Read, S: Write, F: Write, W: Wheel + Placement + Drop>(
+    alloc: Global,
+    verb: Verb,
+    facility: Facility<W>,
+    streams: &mut Streams<R, S>,
+    faults: &mut Watched<F>,
+) -> u8
+    requires reader_good { has_failed streams.old.reader ≡ false }
+    requires writer_good { has_failed streams.old.writer ≡ false }
+    requires pending { facility.state.pending ≡ [] }
+    requires waiting { facility.waiting ≡ [] }
+    ensures { HasDone verb facility.state
+        (record { remaining = R.remaining; contents = S.contents; reports = F.contents })
+        (record { streams = streams.old; faults = faults.old })
+        (record { streams = streams.new; faults = faults.new }) result }
+{
+    match verb {
+        Verb::Play => match run(alloc, &mut streams.reader, &mut streams.writer, facility) {
+            Ok(()) => 0,
+            Err(fault) => report(fault, faults),
+        },
+        Verb::Serve { on_bad, wakeups } => {
+            if wakeups {
+                let served = serve(alloc, streams, facility, &Wakeups, on_bad, faults);
+                return end_serving(served, faults);
+            }
+            let served = serve(alloc, streams, facility, &Undecorated, on_bad, faults);
+            end_serving(served, faults)
+        }
+        Verb::Show => {
+            let served = serve(
+                alloc,
+                streams,
+                facility,
+                &Placements,
+                OnBadLine::Stop,
+                faults,
+            );
+            end_serving(served, faults)
+        }
     }
 }
 
-/// Answers lines as they come, and shows after each where the timers are.
-#[derive(Drop)]
-pub struct Show<'a, P> {
-    pub peer: &'a mut P,
+/// The exit status of serving. An error is reported in one line.
+fn end_serving<F: Write>(served: Result<bool, ServeFault>, faults: &mut Watched<F>) -> u8
+    ensures status { result ≡ serving_status served }
+    ensures told { OnOk served (faults.new ≡ faults.old) }
+{
+    match served {
+        Ok(true) => 0,
+        Ok(false) => 1,
+        Err(fault) => report(fault, faults),
+    }
 }
 
-impl<P: Peer> Verb for Show<'_, P> {
-    ghost use Rattle.timer_script.specs.Service.{AreGood};
-    ghost use Rattle.timer_commands.specs.ShowStream.{HasShown};
-
-    type Outcome = Result<(), ServeFault>;
-
-    ghost is_ready = { λ verb. AreGood (P.state verb.peer.now) };
-
-    ghost has_done = { λ before old new result. (new.peer.ghost_name ≡ old.peer.ghost_name)
-        × HasShown before (P.state old.peer.now) (P.state new.peer.now) result };
-
-    fn run_over<W: Wheel + Placement + Drop>(
-        &mut self,
-        alloc: Global,
-        facility: Facility<W>,
-    ) -> Result<(), ServeFault> {
-        show(alloc, self.peer, facility)
-    }
-
-    fn out_of_memory(&self) -> Result<(), ServeFault> {
-        Err(ServeFault::OutOfMemory)
-    }
+/// Reports that there was no memory for a wheel, and returns the exit status. Nothing was read or written.
+pub fn no_memory<R: Read, S: Write, F: Write>(
+    streams: &Streams<R, S>,
+    faults: &mut Watched<F>,
+) -> u8
+    requires reader_good { has_failed streams.now.reader ≡ false }
+    requires writer_good { has_failed streams.now.writer ≡ false }
+    ensures { (verb : Verb) (before : FacilityState) → HasDone verb before
+        (record { remaining = R.remaining; contents = S.contents; reports = F.contents })
+        (record { streams = streams.now; faults = faults.old })
+        (record { streams = streams.now; faults = faults.new }) result }
+{
+    report(RunFault::OutOfMemory, faults)
 }

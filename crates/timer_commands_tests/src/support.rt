@@ -4,10 +4,8 @@ use std::fmt::Debug;
 use std::io;
 use std::io::{ErrorKind, Read, Write};
 use std::process::Abort;
-use timer_commands::{
-    RunOptions, Scheme, check_script, play_script, serve_good_lines, serve_lines, show_lines,
-};
-use timer_script::{Streams, Watched};
+use timer_commands::{RunOptions, Scheme, Verb, check_script, run_verb};
+use timer_script::{OnBadLine, Streams, Watched};
 
 /// Compares in a function of its own, so that a test is a list of calls without branches.
 pub fn same<T: PartialEq + Debug + Drop>(rt: &impl Abort, found: T, expected: T) {
@@ -216,12 +214,22 @@ pub fn call(
 ) -> Ended {
     let mut streams = Streams::new(source, sink);
     let mut faults = Watched::new(Vec::new(alloc));
-    let status = match subcommand {
-        Reading::Play => play_script(alloc, options, &mut streams, &mut faults),
-        Reading::Serve => serve_lines(alloc, options, &mut streams, &mut faults),
-        Reading::ServeGood => serve_good_lines(alloc, options, &mut streams, &mut faults),
-        Reading::Show => show_lines(alloc, options, &mut streams, &mut faults),
-        Reading::Check => check_script(alloc, &mut streams, &mut faults),
+    let verb = match subcommand {
+        Reading::Play => Some(Verb::Play),
+        Reading::Serve => Some(Verb::Serve {
+            on_bad: OnBadLine::Stop,
+            wakeups: false,
+        }),
+        Reading::ServeGood => Some(Verb::Serve {
+            on_bad: OnBadLine::Report,
+            wakeups: false,
+        }),
+        Reading::Show => Some(Verb::Show),
+        Reading::Check => None,
+    };
+    let status = match verb {
+        Some(verb) => run_verb(alloc, verb, options, &mut streams, &mut faults),
+        None => check_script(alloc, &mut streams, &mut faults),
     };
     let Streams { reader, writer } = streams;
     let reader_failed = reader.failed();

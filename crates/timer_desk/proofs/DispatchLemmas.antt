@@ -3,7 +3,7 @@ use Rattle.std.proofs.Common.{◌≡◌, ◌≢◌, ℕ, ◌+◌, ◌<◌, ◌�
 use Rattle.std.specs.Prelude.{if◌then◌else◌, Option, Some, None, Ok, Err, Result, MatchResult, IfOk, OnOk, IfErr, OnErr, IsTrue, ◌↔◌}
 use Rattle.std.proofs.lemmas.Bool.Decides.{nat_tests}
 use Rattle.std.proofs.lemmas.Grind.{flat_map-append}
-use Rattle.std.proofs.lemmas.List.{get_or-set_same, get_or-set_other, get_or_default, length-set}
+use Rattle.std.proofs.lemmas.List.{get_or-set_same, get_or-set_other, get_or_default, length-set, length-map}
 use Rattle.timer_base.specs.declared.timer.Timer.{Timer}
 use Rattle.timer_base.specs.Pending.{timers_of}
 use Rattle.timer_facility.specs.declared.request.Notice.{Notice}
@@ -19,22 +19,23 @@ use Rattle.timer_facility.specs.Step.{StepResult, step, step_of_tick, step_of_cl
 use Rattle.timer_facility.specs.Run.{run, notices_in}
 use Rattle.timer_facility.specs.Facility.{FacilityView, view_after, with_nothing_waiting}
 use Rattle.timer_facility.specs.HandedOver.{HandsOver, timers_handed}
+use Rattle.timer_facility.specs.Owed.{timer_handed}
 use Rattle.timer_desk.specs.declared.word.Numbered.{Numbered}
 use Rattle.timer_desk.specs.declared.word.Word.{Word}
 use Rattle.timer_desk.specs.declared.word.Word.TheVariants as Words
 use Rattle.timer_desk.specs.declared.report.Done.{Done}
 use Rattle.timer_desk.specs.declared.report.Done.TheVariants as Dones
-use Rattle.timer_desk.specs.declared.report.Step.TheVariants as Steps
+use Rattle.timer_desk.specs.declared.report.Step.{Step}
 use Rattle.timer_desk.specs.Inlet.{LineKind}
 use Rattle.timer_desk.specs.Backlog.{BacklogState, empty_backlog, with_word, with_words, client_of, with_notice, with_notices, notices_for, HasRoom}
+use Rattle.timer_desk.specs.declared.report.Served.{Served}
 use Rattle.timer_desk.specs.declared.report.Served.TheVariants.{NoMemory}
 use Rattle.timer_desk.specs.Extends.{Extends, Extends-refl}
-use Rattle.timer_desk.specs.Report.{Account, account_of, HeldIsLast, got_but_held, held_list, is_held, held_after, may_hold, ClientAccount, Runs, asked, asked_in, words, words_in, flushed, flushed_in, events, events_in, outs, tick_outs, placed}
-use Rattle.timer_desk.specs.Right.{AtEach, RespectsRoom, MemberRespectsRoom, IsRightClose, IsRightPass, pending_after}
+use Rattle.timer_desk.specs.Report.{Account, account_of, HeldIsLast, got_but_held, held_list, ClientAccount, Runs, asked, asked_in, words, words_in, flushed, flushed_in, events, events_in, outs, tick_outs, placed}
+use Rattle.timer_desk.specs.Right.{AtEach, RespectsRoom, IsRightClose, IsRightPass, pending_after}
 use Rattle.timer_desk.specs.Held.{HoldsAfter, Holds}
 use Rattle.timer_desk.proofs.HeldLemmas.{holds-notices}
-use Rattle.timer_desk.proofs.ReportConcatenation.{not_held}
-use Rattle.timer_desk.specs.Desk.{DeskState, IsDesk, ReportHolds, AreInTime, AddsStep, tick_notices, close_notices, steps_of, AreBehind}
+use Rattle.timer_desk.specs.Desk.{DeskState, IsDesk, ReportHolds, IsInTime, AddsStep, tick_notices, close_notices, step_in, steps_of, AreBehind}
 
 either : (b : Bool) → (b ≡ true) ⊎ (b ≡ false)
 either b = elim b as (λ v. (v ≡ true) ⊎ (v ≡ false)) [ true ↦ inl refl | false ↦ inr refl ]
@@ -115,10 +116,6 @@ pub behind-notices : (ns : List Notice) → AreBehind true (map Dones.Noticed ns
 behind-notices [] = tt
 behind-notices (n ∷ ns) = (refl, behind-notices ns)
 
-may_hold-notices : (c : ℕ) (before : Bool) (ns : List Notice) → may_hold c before (map Dones.Noticed ns) ≡ before
-may_hold-notices c before [] = refl
-may_hold-notices c before (n ∷ ns) = may_hold-notices c before ns
-
 flushed-append : (c : ℕ) (r q : List Done) → flushed c (r ++ q) ≡ flushed c r + flushed c q
 flushed-append c [] q = omega arith
 flushed-append c (d ∷ r) q = let n = flushed-append c r q in omega arith
@@ -139,88 +136,65 @@ right-notices refuses c s a b past (n ∷ ns) none fits =
     let ef : flushed c (past ++ one) ≡ flushed c past + 0 = flushed-append c past one in
     let ep : pending_after c s (past ++ one) ≡ pending_after c s past =
     ap (λ ps. pending_of (run s ps).state c) (flat_map-append events_in past one ∙ append-nil (events past)) in (
-      record { served = tt; needed = λ is. absurd (cc); room = omega arith },
+      record { served = λ result is. absurd (cc); needed = λ is. absurd (cc); room = omega arith },
       right-notices refuses c s a b (past ++ one) ns (omega arith) (omega arith),
     )
 
-closes-notices : (s : FacilityState) (past : List Done) (ns : List Notice) → AtEach (IsRightClose s) past (map Dones.Noticed ns)
-closes-notices s past [] = tt
-closes-notices s past (n ∷ ns) = ((λ is. absurd (cc)), closes-notices s (past ++ Dones.Noticed n ∷ []) ns)
+-- a fact of each notice holds of each of these
+module _ (fact : List Done → Done → List Done → Type 0) (one : (past : List Done) (n : Notice) (later : List Done) → fact past
+    (Dones.Noticed n) later) where
+  each-notices : (past : List Done) (ns : List Notice) → AtEach fact past (map Dones.Noticed ns)
+  each-notices past [] = tt
+  each-notices past (n ∷ ns) = (one past n (map Dones.Noticed ns), each-notices (past ++ Dones.Noticed n ∷ []) ns)
 
-passes-notices : (s : FacilityState) (past : List Done) (ns : List Notice) → AtEach (IsRightPass s) past (map Dones.Noticed ns)
-passes-notices s past [] = tt
-passes-notices s past (n ∷ ns) = ((λ limit passed is. absurd (cc)), passes-notices s (past ++ Dones.Noticed n ∷ []) ns)
+-- a member that says nothing of client c
+pub record IsSilent (c : ℕ) (done : Done) : Type 0 where
+  pub no_request : asked_in c done ≡ []
+  pub no_word : words_in c done ≡ []
+  pub none_flushed : flushed_in c done ≡ 0
+  pub no_serve : (served : Served) → done ≡ Dones.Served c served → ⊥
+  pub holds : (may_refuse : Bool) (s : FacilityState) (held : Option Numbered) → HoldsAfter may_refuse c s held done held
 
-in_time-notices : (s : FacilityState) (past : List Done) (ns : List Notice)
-    → outs (past ++ map Dones.Noticed ns) ≡ (run s (events (past ++ map Dones.Noticed ns))).outs → AreInTime s past (map Dones.Noticed ns)
-in_time-notices s past [] h = subst (λ r. outs r ≡ (run s (events r)).outs) (append-nil past) h
-in_time-notices s past (n ∷ ns) h =
-    in_time-notices s (past ++ Dones.Noticed n ∷ []) ns (subst (λ r. outs r
-    ≡ (run s (events r)).outs) (sym (append_assoc past (Dones.Noticed n ∷ []) (map Dones.Noticed ns))) h)
-
--- the member of a tick or a close appends nothing to any client's lists
-pub record IsOwners (first : Done) : Type 0 where
-  pub no_request : (c : ℕ) → asked_in c first ≡ []
-  pub no_word : (c : ℕ) → words_in c first ≡ []
-  pub none_flushed : (c : ℕ) → flushed_in c first ≡ 0
-  pub same_held : (c : ℕ) (before : Bool) → held_after c before first ≡ before
-  pub is_right : (c room len left pending : ℕ) → MemberRespectsRoom c room len left pending first
-  pub no_serve : (c : ℕ) → first ≡ Dones.Served c NoMemory → ⊥
-  pub holds : (may_refuse : Bool) (c : ℕ) (s : FacilityState) (held : Option Numbered) → HoldsAfter may_refuse c s held first held
-  pub in_time : (s : FacilityState) (report : List Done) → AreInTime s (first ∷ []) report → AreInTime s [] (first ∷ report)
-
-pub of_tick : (r : Result (Unit {0}) TickFault) → IsOwners (Dones.Ticked r)
-of_tick r = record {
-  no_request = λ c. refl;
-  no_word = λ c. refl;
-  none_flushed = λ c. refl;
-  same_held = λ c before. refl;
-  is_right = λ c room len left pending. tt;
-  no_serve = λ c h. absurd (cc);
-  holds = λ m c s held. refl;
-  in_time = λ s report h. (refl, h);
+pub of_tick : (r : Result (Unit {0}) TickFault) (c : ℕ) → IsSilent c (Dones.Ticked r)
+of_tick r c = record {
+  no_request = refl;
+  no_word = refl;
+  none_flushed = refl;
+  no_serve = λ served h. absurd (cc);
+  holds = λ m s held. refl;
 }
 
-pub of_pass : (limit : ℕ) (r : Result ℕ TickFault) → IsOwners (Dones.Passed limit r)
-of_pass limit r = record {
-  no_request = λ c. refl;
-  no_word = λ c. refl;
-  none_flushed = λ c. refl;
-  same_held = λ c before. refl;
-  is_right = λ c room len left pending. tt;
-  no_serve = λ c h. absurd (cc);
-  holds = λ m c s held. refl;
-  in_time = λ s report h. (refl, h);
+pub of_pass : (limit : ℕ) (r : Result ℕ TickFault) (c : ℕ) → IsSilent c (Dones.Passed limit r)
+of_pass limit r c = record {
+  no_request = refl;
+  no_word = refl;
+  none_flushed = refl;
+  no_serve = λ served h. absurd (cc);
+  holds = λ m s held. refl;
 }
 
-pub of_close : (r : Result ℕ CloseFault) → IsOwners (Dones.Closed r)
-of_close r = record {
-  no_request = λ c. refl;
-  no_word = λ c. refl;
-  none_flushed = λ c. refl;
-  same_held = λ c before. refl;
-  is_right = λ c room len left pending. tt;
-  no_serve = λ c h. absurd (cc);
-  holds = λ m c s held. refl;
-  in_time = λ s report h. (refl, h);
+pub of_close : (r : Result ℕ CloseFault) (c : ℕ) → IsSilent c (Dones.Closed r)
+of_close r c = record {
+  no_request = refl;
+  no_word = refl;
+  none_flushed = refl;
+  no_serve = λ served h. absurd (cc);
+  holds = λ m s held. refl;
 }
 
-ClientAccount-noted : (c : ℕ) (first : Done) (ns : List Notice) (a : Account) → IsOwners first → HeldIsLast a
+pub ClientAccount-noted : (c : ℕ) (first : Done) (ns : List Notice) (a : Account) → IsSilent c first → HeldIsLast a
     → ClientAccount c (first ∷ map Dones.Noticed ns) a (record a { backlog = with_words (words c (map Dones.Noticed ns)) a.backlog })
 ClientAccount-noted c first ns a o last =
     let more : List Word = words c (map Dones.Noticed ns) in
-    let none : asked c (first ∷ map Dones.Noticed ns) ≡ [] = ap (λ xs. xs ++ asked c (map Dones.Noticed ns)) (o.no_request c)
+    let none : asked c (first ∷ map Dones.Noticed ns) ≡ [] = ap (λ xs. xs ++ asked c (map Dones.Noticed ns)) o.no_request
     ∙ asked-notices c ns in
-    let said : words c (first ∷ map Dones.Noticed ns) ≡ more = ap (λ xs. xs ++ more) (o.no_word c) in record {
+    let said : words c (first ∷ map Dones.Noticed ns) ≡ more = ap (λ xs. xs ++ more) o.no_word in record {
       held_first = subst (λ xs. Extends (held_list a.backlog.held) (xs ++ held_list a.backlog.held)) (sym none)
           (Extends-refl (held_list a.backlog.held));
-      none_held = λ h. not_held a.backlog.held
-          (sym (may_hold-notices c (is_held a.backlog.held) ns)
-          ∙ ap (λ v. may_hold c v (map Dones.Noticed ns)) (sym (o.same_held c (is_held a.backlog.held))) ∙ h);
       asked_are = ap (λ xs. got_but_held a ++ xs ++ held_list a.backlog.held) none
           ∙ ap (λ xs. xs ++ held_list a.backlog.held) (append-nil (got_but_held a)) ∙ last;
       words_are = sym (append_assoc a.given a.backlog.outbox more) ∙ ap (λ xs. a.given ++ a.backlog.outbox ++ xs) (sym said);
-      flushed_are = let f = o.none_flushed c in let g = flushed-notices c ns in omega arith;
+      flushed_are = let f = o.none_flushed in let g = flushed-notices c ns in omega arith;
       fewer_left = let n : length (asked c (first ∷ map Dones.Noticed ns)) ≡ 0 = ap (λ xs. length xs) none in omega arith;
       same_room = refl;
     }
@@ -228,7 +202,7 @@ ClientAccount-noted c first ns a o last =
 module _ {I : Type 0} (kind : LineKind I) where
   -- a tick or a close, and its notices
   pub ReportHolds-noted : (first : Done) (ns : List Notice) (f f' : FacilityView) (inlets : List I) (bs bs' : List BacklogState)
-      → IsOwners first
+      → ((c : ℕ) → IsSilent c first)
       → IsDesk kind f inlets bs → bs' ≡ with_notices ns bs → HasRoom bs' f' → Runs (first ∷ map Dones.Noticed ns) f.state f'.state
       → IsRightClose f.state [] first [] → IsRightPass f.state [] first []
       → let old : DeskState I = record { facility = f.state; inlets = inlets; backlogs = bs } in
@@ -241,7 +215,7 @@ module _ {I : Type 0} (kind : LineKind I) where
       sides = λ c i b l. told_account c i b l;
     };
     facility = runs;
-    in_time = o.in_time f.state (map Dones.Noticed ns) (in_time-notices f.state (first ∷ []) ns runs.outs_are);
+    in_time = ((λ _. refl), each-notices (IsInTime f.state) (λ past n later is. absurd (cc)) (first ∷ []) ns);
     right = λ c i b l. right_side c i b l;
     holds = λ c b l.
         let held : Option Numbered = (get_or bs c b).held in
@@ -249,9 +223,9 @@ module _ {I : Type 0} (kind : LineKind I) where
         let there : get_or bs' c b ≡ with_words (words c (map Dones.Noticed ns)) (get_or bs c b) =
         ap (λ xs. get_or xs c b) e ∙ with_notices-at ns bs c b within in
         subst (λ (x : BacklogState). Holds kind.take_may_refuse c f.state held [] (first ∷ map Dones.Noticed ns) x.held) (sym there)
-        (held, o.holds kind.take_may_refuse c f.state held, holds-notices kind.take_may_refuse c f.state held (first ∷ []) ns);
-    closes = (closes, closes-notices f.state (first ∷ []) ns);
-    passes = (passes, passes-notices f.state (first ∷ []) ns);
+        (held, (o c).holds kind.take_may_refuse f.state held, holds-notices kind.take_may_refuse c f.state held (first ∷ []) ns);
+    closes = (closes, each-notices (IsRightClose f.state) (λ past n later is. absurd (cc)) (first ∷ []) ns);
+    passes = (passes, each-notices (IsRightPass f.state) (λ past n later limit passed is. absurd (cc)) (first ∷ []) ns);
   }
     where
       right_side : (c : ℕ) (i : I) (b : BacklogState) → c < length inlets
@@ -271,9 +245,13 @@ module _ {I : Type 0} (kind : LineKind I) where
           room c b (omega arith) in
           let state : pending_of f'.state c ≡ pending_after c f.state (first ∷ []) =
           ap (λ v. pending_of v c) (runs.state_is ∙ ap (λ ps. (run f.state (events_in first ++ ps)).state) (events-notices ns)) in
-          let no_words : length (words c (first ∷ [])) ≡ 0 = ap (λ xs. length (xs ++ [])) (o.no_word c) in
-          let none : flushed c (first ∷ []) ≡ 0 = let f0 = o.none_flushed c in omega arith in (
-            record { served = o.is_right c _ _ _ _; needed = λ is. absurd (o.no_serve c is); room = omega arith },
+          let no_words : length (words c (first ∷ [])) ≡ 0 = ap (λ xs. length (xs ++ [])) (o c).no_word in
+          let none : flushed c (first ∷ []) ≡ 0 = let f0 = (o c).none_flushed in omega arith in (
+            record {
+              served = λ result is. absurd ((o c).no_serve result is);
+              needed = λ is. absurd ((o c).no_serve NoMemory is);
+              room = omega arith;
+            },
             right-notices kind.take_may_refuse c f.state a z (first ∷ []) ns none (omega arith),
           )
 
@@ -286,7 +264,7 @@ module _ {I : Type 0} (kind : LineKind I) where
           let there : get_or bs' c b ≡ with_words (words c (map Dones.Noticed ns)) (get_or bs c b) =
           ap (λ xs. get_or xs c b) e ∙ with_notices-at ns bs c b within in
           subst (λ x. ClientAccount c (first ∷ map Dones.Noticed ns) a (account_of kind (get_or inlets c i) x)) (sym there)
-          (ClientAccount-noted c first ns a o (d.held c i b l))
+          (ClientAccount-noted c first ns a (o c) (d.held c i b l))
 
   -- the invariant of a desk, after a tick or a close and its notices
   pub IsDesk-noted : (ns : List Notice) (f f' : FacilityView) (inlets : List I) (bs bs' : List BacklogState)
@@ -421,13 +399,84 @@ pub HasRoom-ticked : (bs : List BacklogState) (f f' : FacilityView) → HasRoom 
     → HandsOver f.state (step f.state Tick 0) → f' ≡ view_after (step f.state Tick 0) → HasRoom bs f'
 HasRoom-ticked bs f f' room quiet hands e = HasRoom-handed bs f f' (step f.state Tick 0) room quiet hands e
 
--- How many notices there are.
+-- what a tick hands out is no longer pending
+pub fewer_ticked : (f g : FacilityView) → HandsOver f.state (step f.state Tick 0) → g ≡ view_after (step f.state Tick 0)
+    → length g.waiting + length g.state.pending ≡ length f.state.pending
+fewer_ticked f g hands e =
+    let st : StepResult = step f.state Tick 0 in
+    let waits : length g.waiting ≡ length (notices_in st.outs) = ap (λ (v : FacilityView). length v.waiting) e in
+    let pending : length g.state.pending ≡ length st.state.pending = ap (λ (v : FacilityView). length v.state.pending) e in
+    let handed : length (timers_handed st) ≡ length (notices_in st.outs) = length-map (notices_in st.outs) timer_handed in
+    let all = hands.all in
+    omega arith
 
--- Whole calls.
+-- Events of the owner.
+
+-- an event leads from f to g, and what it hands out waits then; `first` is its member of a report
+pub record IsEvent (first : Done) (f g : FacilityView) : Type 0 where
+  pub silent : (c : ℕ) → IsSilent c first
+  pub runs : Runs (first ∷ map Dones.Noticed g.waiting) f.state g.state
+  pub closes : IsRightClose f.state [] first []
+  pub passes : IsRightPass f.state [] first []
+  pub same_numbers : length g.state.numbers ≡ length f.state.numbers
+
+pub event_of_tick : (f g : FacilityView) (r : Result (Unit {0}) TickFault) → g ≡ view_after (step f.state Tick 0)
+    → MatchResult r (λ done. tick_refusal f.state ≡ None) (λ fault. tick_refusal f.state ≡ Some fault) → IsEvent (Dones.Ticked r) f g
+event_of_tick f g r e h = record {
+  silent = of_tick r;
+  runs = subst (λ (ns : List Notice). Runs (Dones.Ticked r ∷ map Dones.Noticed ns) f.state g.state)
+      (sym (ap (λ (v : FacilityView). v.waiting) e)) (Runs-ticked f g r e h);
+  closes = λ is. absurd (cc);
+  passes = λ limit passed is. absurd (cc);
+  same_numbers = ap (λ (v : FacilityView). length v.state.numbers) e ∙ numbers_tick f.state;
+}
+
+pub event_of_close : (f g : FacilityView) (r : Result ℕ CloseFault) → f.waiting ≡ [] → HasClosed f g r → IsEvent (Dones.Closed r) f g
+event_of_close f g r quiet h = record {
+  silent = of_close r;
+  runs = subst (λ (ns : List Notice). Runs (Dones.Closed r ∷ map Dones.Noticed ns) f.state g.state)
+      (sym (waiting_close f g r h quiet)) (Runs-closed f g r h);
+  closes = right_close f g r h;
+  passes = λ limit passed is. absurd (cc);
+  same_numbers = numbers_close f g r h;
+}
 
 -- the desk state of these parts
 abbrev pub desk_of : {I : Type 0} → FacilityView → List I → List BacklogState → DeskState I
 desk_of f inlets bs = record { facility = f.state; inlets = inlets; backlogs = bs }
+
+module _ {I : Type 0} (kind : LineKind I) where
+  pub ReportHolds-event : (first : Done) (f g f' : FacilityView) (inlets : List I) (bs bs' : List BacklogState)
+      → IsEvent first f g → IsDesk kind f inlets bs
+      → f' ≡ with_nothing_waiting g.state → bs' ≡ with_notices g.waiting bs → HasRoom bs' f'
+      → ReportHolds kind (first ∷ map Dones.Noticed g.waiting) (desk_of f inlets bs) (desk_of f' inlets bs')
+  ReportHolds-event first f g f' inlets bs bs' event d left noted room =
+      ReportHolds-noted kind first g.waiting f f' inlets bs bs' event.silent d noted room
+      (subst (Runs (first ∷ map Dones.Noticed g.waiting) f.state) (sym (ap (λ (v : FacilityView). v.state) left)) event.runs)
+      event.closes event.passes
+
+  pub IsDesk-event : (first : Done) (f g f' : FacilityView) (inlets : List I) (bs bs' : List BacklogState)
+      → IsEvent first f g → IsDesk kind f inlets bs
+      → f' ≡ with_nothing_waiting g.state → bs' ≡ with_notices g.waiting bs → HasRoom bs' f'
+      → IsDesk kind f' inlets bs'
+  IsDesk-event first f g f' inlets bs bs' event d left noted room =
+      IsDesk-noted kind g.waiting f f' inlets bs bs' d noted (ap (λ (v : FacilityView). v.waiting) left)
+      (ap (λ (v : FacilityView). length v.state.numbers) left ∙ event.same_numbers) room
+
+  pub AddsStep-event : (taken : Step) (before after : List Done) (first : Done) (f g f' : FacilityView) (inlets : List I)
+      (bs bs' : List BacklogState)
+      → IsEvent first f g → step_in first ≡ taken ∷ [] → AreBehind false (first ∷ map Dones.Noticed g.waiting)
+      → IsDesk kind f inlets bs
+      → f' ≡ with_nothing_waiting g.state → bs' ≡ with_notices g.waiting bs → HasRoom bs' f'
+      → after ≡ (before ++ first ∷ []) ++ map Dones.Noticed g.waiting
+      → AddsStep kind taken before after (desk_of f inlets bs) (desk_of f' inlets bs')
+  AddsStep-event taken before after first f g f' inlets bs bs' event is behind d left noted room added = record {
+    more = first ∷ map Dones.Noticed g.waiting;
+    added = added ∙ append_assoc before (first ∷ []) (map Dones.Noticed g.waiting);
+    step = ap (λ xs. step_in first ++ xs) (steps-notices g.waiting) ∙ ap (λ xs. xs ++ []) is;
+    behind = behind;
+    told = ReportHolds-event first f g f' inlets bs bs' event d left noted room;
+  }
 
 module _ {I : Type 0} (kind : LineKind I) where
   pub ReportHolds-tick : (f g f' : FacilityView) (r : Result (Unit {0}) TickFault) (inlets : List I) (bs bs' : List BacklogState)
@@ -436,12 +485,9 @@ module _ {I : Type 0} (kind : LineKind I) where
       → f' ≡ with_nothing_waiting g.state → bs' ≡ with_notices g.waiting bs → HasRoom bs' f'
       → ReportHolds kind (Dones.Ticked r ∷ map Dones.Noticed (tick_notices f.state)) (desk_of f inlets bs) (desk_of f' inlets bs')
   ReportHolds-tick f g f' r inlets bs bs' d e h left noted room =
-      let waits : g.waiting ≡ tick_notices f.state = ap (λ (v : FacilityView). v.waiting) e in
-      let runs : Runs (Dones.Ticked r ∷ map Dones.Noticed (tick_notices f.state)) f.state f'.state =
-      subst (Runs (Dones.Ticked r ∷ map Dones.Noticed (tick_notices f.state)) f.state) (sym (ap (λ (v : FacilityView). v.state) left))
-      (Runs-ticked f g r e h) in
-      ReportHolds-noted kind (Dones.Ticked r) (tick_notices f.state) f f' inlets bs bs' (of_tick r) d (noted
-      ∙ ap (λ ns. with_notices ns bs) waits) room runs (λ is. absurd (cc)) (λ limit passed is. absurd (cc))
+      subst (λ (ns : List Notice). ReportHolds kind (Dones.Ticked r ∷ map Dones.Noticed ns) (desk_of f inlets bs) (desk_of f' inlets bs'))
+      (ap (λ (v : FacilityView). v.waiting) e)
+      (ReportHolds-event kind (Dones.Ticked r) f g f' inlets bs bs' (event_of_tick f g r e h) d left noted room)
 
   pub IsDesk-tick : (f g f' : FacilityView) (inlets : List I) (bs bs' : List BacklogState)
       → IsDesk kind f inlets bs → g ≡ view_after (step f.state Tick 0)
@@ -457,53 +503,6 @@ module _ {I : Type 0} (kind : LineKind I) where
       → f' ≡ with_nothing_waiting g.state → bs' ≡ with_notices g.waiting bs → HasRoom bs' f'
       → ReportHolds kind (Dones.Closed r ∷ map Dones.Noticed (close_notices f.state r)) (desk_of f inlets bs) (desk_of f' inlets bs')
   ReportHolds-close f g f' r inlets bs bs' d h left noted room =
-      let waits : g.waiting ≡ close_notices f.state r = waiting_close f g r h d.nothing_waits in
-      let runs : Runs (Dones.Closed r ∷ map Dones.Noticed (close_notices f.state r)) f.state f'.state =
-      subst (Runs (Dones.Closed r ∷ map Dones.Noticed (close_notices f.state r)) f.state) (sym (ap (λ (v : FacilityView). v.state) left))
-      (Runs-closed f g r h) in
-      ReportHolds-noted kind (Dones.Closed r) (close_notices f.state r) f f' inlets bs bs' (of_close r) d (noted
-      ∙ ap (λ ns. with_notices ns bs) waits) room runs (right_close f g r h) (λ limit passed is. absurd (cc))
-
-  pub IsDesk-close : (f g f' : FacilityView) (r : Result ℕ CloseFault) (inlets : List I) (bs bs' : List BacklogState)
-      → IsDesk kind f inlets bs → HasClosed f g r
-      → f' ≡ with_nothing_waiting g.state → bs' ≡ with_notices g.waiting bs → HasRoom bs' f'
-      → IsDesk kind f' inlets bs'
-  IsDesk-close f g f' r inlets bs bs' d h left noted room =
-      IsDesk-noted kind g.waiting f f' inlets bs bs' d noted (ap (λ (v : FacilityView). v.waiting) left)
-      (ap (λ (v : FacilityView). length v.state.numbers) left ∙ numbers_close f g r h) room
-
-  -- the members that ticks or a close append
-  pub added_are : (before after : List Done) (first : Done) (g : FacilityView) (ns : List Notice) → g.waiting ≡ ns
-      → after ≡ (before ++ first ∷ []) ++ map Dones.Noticed g.waiting
-      → after ≡ before ++ (first ∷ map Dones.Noticed ns)
-  added_are before after first g ns waits e = e ∙ ap (λ xs. (before ++ first ∷ []) ++ map Dones.Noticed xs) waits
-      ∙ append_assoc before (first ∷ []) (map Dones.Noticed ns)
-
-  pub AddsStep-tick : (before after : List Done) (f g f' : FacilityView) (r : Result (Unit {0}) TickFault) (inlets : List I)
-      (bs bs' : List BacklogState)
-      → IsDesk kind f inlets bs → g ≡ view_after (step f.state Tick 0)
-      → MatchResult r (λ done. tick_refusal f.state ≡ None) (λ fault. tick_refusal f.state ≡ Some fault)
-      → f' ≡ with_nothing_waiting g.state → bs' ≡ with_notices g.waiting bs → HasRoom bs' f'
-      → after ≡ (before ++ Dones.Ticked r ∷ []) ++ map Dones.Noticed g.waiting
-      → AddsStep kind Steps.Tick before after (desk_of f inlets bs) (desk_of f' inlets bs')
-  AddsStep-tick before after f g f' r inlets bs bs' d e h left noted room added = record {
-    more = Dones.Ticked r ∷ map Dones.Noticed (tick_notices f.state);
-    added = added_are before after (Dones.Ticked r) g (tick_notices f.state) (ap (λ (v : FacilityView). v.waiting) e) added;
-    step = ap (λ xs. Steps.Tick ∷ xs) (steps-notices (tick_notices f.state));
-    behind = behind-notices (tick_notices f.state);
-    told = ReportHolds-tick f g f' r inlets bs bs' d e h left noted room;
-  }
-
-  pub AddsStep-close : (before after : List Done) (f g f' : FacilityView) (r : Result ℕ CloseFault) (inlets : List I)
-      (bs bs' : List BacklogState)
-      → IsDesk kind f inlets bs → HasClosed f g r
-      → f' ≡ with_nothing_waiting g.state → bs' ≡ with_notices g.waiting bs → HasRoom bs' f'
-      → after ≡ (before ++ Dones.Closed r ∷ []) ++ map Dones.Noticed g.waiting
-      → AddsStep kind Steps.Close before after (desk_of f inlets bs) (desk_of f' inlets bs')
-  AddsStep-close before after f g f' r inlets bs bs' d h left noted room added = record {
-    more = Dones.Closed r ∷ map Dones.Noticed (close_notices f.state r);
-    added = added_are before after (Dones.Closed r) g (close_notices f.state r) (waiting_close f g r h d.nothing_waits) added;
-    step = ap (λ xs. Steps.Close ∷ xs) (steps-notices (close_notices f.state r));
-    behind = behind-notices (close_notices f.state r);
-    told = ReportHolds-close f g f' r inlets bs bs' d h left noted room;
-  }
+      subst (λ (ns : List Notice). ReportHolds kind (Dones.Closed r ∷ map Dones.Noticed ns) (desk_of f inlets bs) (desk_of f' inlets bs'))
+      (waiting_close f g r h d.nothing_waits)
+      (ReportHolds-event kind (Dones.Closed r) f g f' inlets bs bs' (event_of_close f g r d.nothing_waits h) d left noted room)

@@ -254,7 +254,7 @@ module _ {I : Type 0} (kind : LineKind I) (last : Step) where
     told = t.told;
     fit = t.fit;
     behind = t.behind;
-    owed = AreOwed-in_time x.facility law [] t.report t.told.in_time;
+    owed = AreOwed-in_time x.facility y.facility law t.report t.told.facility t.told.in_time;
     served = λ is c l. (reached is c l).0;
     given_words = λ is c l. (reached is c l).1;
     memory = λ is. t.memory (memory is);

@@ -1,5 +1,5 @@
 -- The step of a turn that passes many ticks at once.
-use Rattle.std.proofs.Common.{◌≡◌, ℕ, ◌+◌, List, [], ◌∷◌, ◌++◌, length, map, refl, sym, ◌∙◌, ap, subst, arith, append-nil}
+use Rattle.std.proofs.Common.{◌≡◌, ℕ, ◌+◌, List, [], ◌∷◌, ◌++◌, length, map, sym, ◌∙◌, ap, subst, arith, append-nil}
 use Rattle.std.specs.Prelude.{Some, None, Ok, Err, Result, MatchResult, IfOk, OnErr}
 use Rattle.timer_facility.specs.declared.request.Notice.{Notice}
 use Rattle.timer_facility.specs.declared.request.TickFault.{TickFault}
@@ -8,20 +8,18 @@ use Rattle.timer_facility.specs.State.{FacilityState, Tick}
 use Rattle.timer_facility.specs.Verdict.{tick_refusal}
 use Rattle.timer_facility.specs.Step.{StepResult, step, step_of_tick}
 use Rattle.timer_facility.specs.Run.{PlacedEvent, run}
-use Rattle.timer_facility.specs.Facility.{FacilityView, view_after, with_nothing_waiting}
+use Rattle.timer_facility.specs.Facility.{FacilityView, view_after}
 use Rattle.timer_facility.specs.HandedOver.{HandsOver}
 use Rattle.timer_facility.specs.Ticked.{ticks, AreTicked}
 use Rattle.timer_facility.proofs.PlayedTicks.{are_accepted, length-many}
-use Rattle.timer_desk.specs.declared.report.Done.{Done}
 use Rattle.timer_desk.specs.declared.report.Done.TheVariants as Dones
-use Rattle.timer_desk.specs.declared.report.Step.TheVariants as Steps
 use Rattle.timer_desk.specs.Inlet.{LineKind}
-use Rattle.timer_desk.specs.Backlog.{BacklogState, with_notices, HasRoom}
+use Rattle.timer_desk.specs.Backlog.{BacklogState, HasRoom}
 use Rattle.timer_desk.specs.Report.{Runs, events}
 use Rattle.timer_desk.specs.Right.{IsRightPass}
-use Rattle.timer_desk.specs.Desk.{IsDesk, AddsStep}
-use Rattle.timer_desk.proofs.DispatchLemmas.{desk_of, of_pass, outs-notices, events-notices, steps-notices, behind-notices, ReportHolds-noted, IsDesk-noted, added_are}
-use Rattle.timer_desk.proofs.TicksLemmas.{HasRoom-ticks, clients-ticks}
+use Rattle.timer_desk.specs.Desk.{IsDesk}
+use Rattle.timer_desk.proofs.DispatchLemmas.{of_pass, outs-notices, events-notices, IsEvent}
+use Rattle.timer_desk.proofs.TicksLemmas.{HasRoom-ticks, numbers_ticks}
 
 -- what the contract of the facility's `ticks` gives
 pub record HasTicked (limit : ℕ) (f g : FacilityView) (r : Result ℕ TickFault) : Type 0 where
@@ -83,33 +81,17 @@ module _ {I : Type 0} (kind : LineKind I) (hands : (t : FacilityState) → Hands
   HasRoom-passed limit f g (Ok passed) inlets bs d h = HasRoom-ticks kind hands f g inlets bs d limit passed h.ticked
   HasRoom-passed limit f g (Err fault) inlets bs d h = subst (HasRoom bs) (sym h.unchanged) d.room
 
-  pub clients-passed : (limit : ℕ) (f g : FacilityView) (r : Result ℕ TickFault) (inlets : List I) (bs : List BacklogState)
-      → IsDesk kind f inlets bs → HasTicked limit f g r → length bs ≡ length g.state.numbers
-  clients-passed limit f g (Ok passed) inlets bs d h = clients-ticks kind hands f g inlets bs d limit passed h.ticked
-  clients-passed limit f g (Err fault) inlets bs d h =
-      d.as_many ∙ d.clients ∙ sym (ap (λ (v : FacilityView). length v.state.numbers) h.unchanged)
+numbers_passed : (limit : ℕ) (f g : FacilityView) (r : Result ℕ TickFault) → HasTicked limit f g r
+    → length g.state.numbers ≡ length f.state.numbers
+numbers_passed limit f g (Ok passed) h = ap (λ (v : FacilityView). length v.state.numbers) h.ticked.ticked ∙ numbers_ticks passed f.state
+numbers_passed limit f g (Err fault) h = ap (λ (v : FacilityView). length v.state.numbers) h.unchanged
 
-  pub IsDesk-passed : (limit : ℕ) (f g f' : FacilityView) (r : Result ℕ TickFault) (inlets : List I) (bs bs' : List BacklogState)
-      → IsDesk kind f inlets bs → HasTicked limit f g r
-      → f' ≡ with_nothing_waiting g.state → bs' ≡ with_notices g.waiting bs → HasRoom bs' f'
-      → IsDesk kind f' inlets bs'
-  IsDesk-passed limit f g f' r inlets bs bs' d h left noted room =
-      IsDesk-noted kind g.waiting f f' inlets bs bs' d noted (ap (λ (v : FacilityView). v.waiting) left)
-      (ap (λ (v : FacilityView). length v.state.numbers) left ∙ sym (clients-passed limit f g r inlets bs d h)
-      ∙ d.as_many ∙ d.clients) room
-
-  pub AddsStep-passed : (before after : List Done) (limit : ℕ) (f g f' : FacilityView) (r : Result ℕ TickFault) (inlets : List I)
-      (bs bs' : List BacklogState)
-      → IsDesk kind f inlets bs → HasTicked limit f g r
-      → f' ≡ with_nothing_waiting g.state → bs' ≡ with_notices g.waiting bs → HasRoom bs' f'
-      → after ≡ (before ++ Dones.Passed limit r ∷ []) ++ map Dones.Noticed g.waiting
-      → AddsStep kind (Steps.Ticks limit) before after (desk_of f inlets bs) (desk_of f' inlets bs')
-  AddsStep-passed before after limit f g f' r inlets bs bs' d h left noted room added = record {
-    more = Dones.Passed limit r ∷ map Dones.Noticed g.waiting;
-    added = added_are kind before after (Dones.Passed limit r) g g.waiting refl added;
-    step = ap (λ xs. Steps.Ticks limit ∷ xs) (steps-notices g.waiting);
-    behind = behind-notices g.waiting;
-    told = ReportHolds-noted kind (Dones.Passed limit r) g.waiting f f' inlets bs bs' (of_pass limit r) d noted room
-        (subst (Runs (Dones.Passed limit r ∷ map Dones.Noticed g.waiting) f.state) (sym (ap (λ (v : FacilityView). v.state) left))
-        (Runs-passed limit f g r h d.nothing_waits)) (λ is. absurd (cc)) (right_pass limit f g r h);
-  }
+pub event_of_pass : (limit : ℕ) (f g : FacilityView) (r : Result ℕ TickFault) → f.waiting ≡ [] → HasTicked limit f g r
+    → IsEvent (Dones.Passed limit r) f g
+event_of_pass limit f g r quiet h = record {
+  silent = of_pass limit r;
+  runs = Runs-passed limit f g r h quiet;
+  closes = λ is. absurd (cc);
+  passes = right_pass limit f g r h;
+  same_numbers = numbers_passed limit f g r h;
+}

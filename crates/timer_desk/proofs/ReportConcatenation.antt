@@ -1,6 +1,6 @@
 -- Two consecutive reports, joined, are one.
-use Rattle.std.proofs.Common.{◌≡◌, ℕ, ◌+◌, ◌<◌, ◌≤◌, Bool, true, false, List, [], ◌∷◌, ◌++◌, length, get_or, refl, sym, subst, ◌∙◌, ap, inl, inr, ◌⊎◌, ◌==◌, append_assoc, append-nil, length-append, arith}
-use Rattle.std.specs.Prelude.{take, drop, Option, Some, None, if◌then◌else◌}
+use Rattle.std.proofs.Common.{◌≡◌, ℕ, ◌+◌, ◌<◌, ◌≤◌, Bool, true, false, List, [], ◌∷◌, ◌++◌, length, get_or, refl, sym, subst, ◌∙◌, ap, inl, ◌⊎◌, append_assoc, append-nil, length-append, arith}
+use Rattle.std.specs.Prelude.{take, drop}
 use Rattle.std.proofs.lemmas.Grind.{flat_map-append}
 use Rattle.timer_facility.specs.State.{FacilityState, pending_of}
 use Rattle.timer_facility.specs.Step.{StepResult, step}
@@ -16,9 +16,9 @@ use Rattle.timer_desk.specs.Backlog.{BacklogState}
 use Rattle.timer_facility.specs.Facility.{NeedsMemory, view_after}
 use Rattle.timer_facility.specs.Ticked.{ticks, AreTicked}
 use Rattle.timer_desk.specs.Extends.{Extends, Extends-refl, Extends-front, Extends-is, Extends-trans}
-use Rattle.timer_desk.specs.Report.{Account, got_but_held, held_list, is_held, held_after_serve, held_after, may_hold, HeldIsLast, ClientAccount, Runs, asked, words, flushed, events, outs, asked_in, words_in, events_in, outs_in}
-use Rattle.timer_desk.specs.Right.{AtEach, ServeRespectsRoom, MemberRespectsRoom, IsNeeded, outbox_after, pending_after, RespectsRoom, IsRightClose, IsRightPass}
-use Rattle.timer_desk.specs.Desk.{DeskState, clients_of, account_at, SidesHold, ReportHolds, AreInTime, AreOwed, AreBehind}
+use Rattle.timer_desk.specs.Report.{Account, got_but_held, held_list, HeldIsLast, ClientAccount, Runs, asked, words, flushed, events, outs, asked_in, words_in, events_in, outs_in}
+use Rattle.timer_desk.specs.Right.{AtEach, ServeRespectsRoom, IsNeeded, outbox_after, pending_after, RespectsRoom, IsRightClose, IsRightPass}
+use Rattle.timer_desk.specs.Desk.{DeskState, clients_of, account_at, SidesHold, ReportHolds, is_notice, IsInTime, IsOwed, AreOwed, AreBehind}
 use Rattle.timer_desk.proofs.ReportHeld.{got_but_held_is}
 use Rattle.timer_desk.proofs.HeldLemmas.{Holds-joined}
 
@@ -54,63 +54,10 @@ Runs-joined r q s t u f g =
 
 -- One client.
 
-either : (b : Bool) → (b ≡ true) ⊎ (b ≡ false)
-either b = elim b as (λ v. (v ≡ true) ⊎ (v ≡ false)) [ true ↦ inl refl | false ↦ inr refl ]
-
 pub Extends-behind : {X : Type 0} (xs ys zs : List X) → Extends ys zs → Extends (xs ++ ys) (xs ++ zs)
 Extends-behind xs ys zs h =
     ap (take (length (xs ++ ys))) (ap (λ us. xs ++ us) (Extends-is ys zs h) ∙ sym (append_assoc xs ys (drop (length ys) zs)))
     ∙ Extends-front (xs ++ ys) (drop (length ys) zs)
-
-may_hold-append : (c : ℕ) (before : Bool) (r q : List Done) → may_hold c before (r ++ q) ≡ may_hold c (may_hold c before r) q
-may_hold-append c before [] q = refl
-may_hold-append c before (d ∷ r) q = may_hold-append c (held_after c before d) r q
-
-serve_keeps : (served : Served) → (held_after_serve true served ≡ held_after_serve false served)
-    ⊎ ((held_after_serve true served ≡ true) × (held_after_serve false served ≡ false))
-serve_keeps Idle = inl refl
-serve_keeps NoRoom = inr (refl, refl)
-serve_keeps NoMemory = inl refl
-serve_keeps (Did numbered word) = inl refl
-
--- a member leaves the client's held request held, or decides by itself whether one may be held after it
-member_keeps : (c : ℕ) (d : Done) → (held_after c true d ≡ held_after c false d)
-    ⊎ ((held_after c true d ≡ true) × (held_after c false d ≡ false))
-member_keeps c (Dones.Served client served) = elim (client == c) as
-    (λ v. ((if v then held_after_serve true served else true) ≡ (if v then held_after_serve false served else false))
-    ⊎ (((if v then held_after_serve true served else true) ≡ true) × ((if v then held_after_serve false served else false) ≡ false))) [
-      | true ↦ serve_keeps served
-      | false ↦ inr (refl, refl)
-    ]
-member_keeps c (Dones.Ticked result) = inr (refl, refl)
-member_keeps c (Dones.Passed limit passed) = inr (refl, refl)
-member_keeps c (Dones.Closed result) = inr (refl, refl)
-member_keeps c (Dones.Noticed notice) = inr (refl, refl)
-member_keeps c (Dones.Flushed client count) = inr (refl, refl)
-
--- if none may be held after a report though one was held before it, none may be held after it if none was before
-may_hold-false : (c : ℕ) (q : List Done) → may_hold c true q ≡ false → may_hold c false q ≡ false
-may_hold-false c [] h = refl
-may_hold-false c (d ∷ q) h = elim (member_keeps c d) [
-  | inl e ↦ ap (λ v. may_hold c v q) (sym e) ∙ h
-  | inr e ↦ ap (λ v. may_hold c v q) (e.1) ∙ may_hold-false c q (ap (λ v. may_hold c v q) (sym e.0) ∙ h)
-]
-
-may_hold-fewer : (c : ℕ) (before : Bool) (q : List Done) → may_hold c true q ≡ false → may_hold c before q ≡ false
-may_hold-fewer c true q h = h
-may_hold-fewer c false q h = may_hold-false c q h
-
-none_joined : (c : ℕ) (r q : List Done) (x y z : Account)
-    → (may_hold c (is_held x.backlog.held) r ≡ false → y.backlog.held ≡ None)
-    → (may_hold c (is_held y.backlog.held) q ≡ false → z.backlog.held ≡ None)
-    → (may_hold c (is_held x.backlog.held) r ≡ true) ⊎ (may_hold c (is_held x.backlog.held) r ≡ false)
-    → may_hold c (is_held x.backlog.held) (r ++ q) ≡ false → z.backlog.held ≡ None
-none_joined c r q x y z f g (inl v) h =
-    g (may_hold-fewer c (is_held y.backlog.held) q (ap (λ b. may_hold c b q) (sym v) ∙ sym (may_hold-append c (is_held x.backlog.held) r q)
-    ∙ h))
-none_joined c r q x y z f g (inr v) h =
-    g (ap (λ b. may_hold c (is_held b) q) (f v) ∙ ap (λ b. may_hold c b q) (sym v) ∙ sym (may_hold-append c (is_held x.backlog.held) r q)
-    ∙ h)
 
 pub ClientAccount-joined : (c : ℕ) (r q : List Done) (x y z : Account) → ClientAccount c r x y → ClientAccount c q y z
     → ClientAccount c (r ++ q) x z
@@ -123,7 +70,6 @@ ClientAccount-joined c r q x y z f g =
           ∙ ap (λ xs. xs ++ held) (sym split))
           (Extends-trans (held_list x.backlog.held) (asked c r ++ held_list y.backlog.held) (asked c r ++ (asked c q ++ held)) f.held_first
           (Extends-behind (asked c r) (held_list y.backlog.held) (asked c q ++ held) g.held_first));
-      none_held = λ h. none_joined c r q x y z f.none_held g.none_held (either (may_hold c (is_held x.backlog.held) r)) h;
       asked_are =
           ap (λ xs. got_but_held x ++ xs ++ held) split ∙ ap (λ xs. xs ++ held)
           (sym (append_assoc (got_but_held x) (asked c r) (asked c q)))
@@ -139,22 +85,12 @@ ClientAccount-joined c r q x y z f g =
 
 -- Right members.
 
-serve_moved : (room len len' left left' p p' : ℕ) (served : Served) → len ≡ len' → left' ≤ left → p ≡ p'
-    → ServeRespectsRoom room len left p served → ServeRespectsRoom room len' left' p' served
-serve_moved room len len' left left' p p' NoRoom a b e h = omega arith
-serve_moved room len len' left left' p p' Idle a b e h = (omega arith, omega arith)
-serve_moved room len len' left left' p p' NoMemory a b e h = omega arith
-serve_moved room len len' left left' p p' (Did numbered word) a b e h = let fits = h.0 in (omega arith, h.1)
-
-pub moved : (c room room' len len' left left' p p' : ℕ) (d : Done) → room ≡ room' → len ≡ len' → left' ≤ left → p ≡ p'
-    → MemberRespectsRoom c room len left p d → MemberRespectsRoom c room' len' left' p' d
-moved c room room' len len' left left' p p' (Dones.Served client served) r a b e h =
-    λ is. subst (λ n. ServeRespectsRoom n len' left' p' served) r (serve_moved room len len' left left' p p' served a b e (h is))
-moved c room room' len len' left left' p p' (Dones.Ticked result) r a b e h = tt
-moved c room room' len len' left left' p p' (Dones.Passed limit passed) r a b e h = tt
-moved c room room' len len' left left' p p' (Dones.Closed result) r a b e h = tt
-moved c room room' len len' left left' p p' (Dones.Noticed notice) r a b e h = tt
-moved c room room' len len' left left' p p' (Dones.Flushed client count) r a b e h = tt
+pub moved : (room room' len len' left left' p p' : ℕ) (served : Served) → room ≡ room' → len ≡ len' → left' ≤ left → p ≡ p'
+    → ServeRespectsRoom room len left p served → ServeRespectsRoom room' len' left' p' served
+moved room room' len len' left left' p p' NoRoom r a b e h = omega arith
+moved room room' len len' left left' p p' Idle r a b e h = (omega arith, omega arith)
+moved room room' len len' left left' p p' NoMemory r a b e h = omega arith
+moved room room' len len' left left' p p' (Did numbered word) r a b e h = let fits = h.0 in (omega arith, h.1)
 
 pub IsNeeded-longer : (may_refuse : Bool) (c : ℕ) (s : FacilityState) (xs ys : List Numbered) → Extends xs ys → IsNeeded may_refuse c s xs
     → IsNeeded may_refuse c s ys
@@ -230,10 +166,11 @@ module _ (refuses : Bool) (c : ℕ) (r q : List Done) (x y z : Account) (s t : F
   right_behind : (past : List Done) (d : Done) (later : List Done) → RespectsRoom refuses c t y z past d later
       → RespectsRoom refuses c s x z (r ++ past) d later
   right_behind past d later h = record {
-    served =
+    served = λ result is.
         let le = f.fewer_left in
         let ea = ap (λ xs. length xs) (flat_map-append (asked_in c) r past) ∙ length-append (asked c r) (asked c past) in
-        moved c y.backlog.room x.backlog.room _ _ _ _ _ _ d f.same_room (outbox-joined past) (omega arith) (pending-joined past) h.served;
+        moved y.backlog.room x.backlog.room _ _ _ _ _ _ result f.same_room (outbox-joined past) (omega arith) (pending-joined past)
+        (h.served result is);
     needed = λ is. subst (λ v. IsNeeded refuses c v (asked c later ++ held_list z.backlog.held)) (state-joined s t r past e) (h.needed is);
     room =
         let o = outbox-joined (past ++ d ∷ []) ∙ ap (outbox_after c x) (sym (append_assoc r past (d ∷ []))) in
@@ -270,68 +207,11 @@ module _ (s s' : FacilityState) (r : List Done) (runs : Runs r s s') where
       ∙ ap (λ os. (run s (events r)).outs ++ os) (h ∙ ap (λ v. (run v (events past)).outs) runs.state_is)
       ∙ sym (outs-append s (events r) (events past)) ∙ ap (λ ps. (run s ps).outs) (sym (flat_map-append events_in r past))
 
-  then_in_time : (past ds : List Done) → AreInTime s' past ds → AreInTime s (r ++ past) ds
-  then_in_time past [] h = same_so_far past h
-  then_in_time past (Dones.Served client served ∷ ds) h = (
-    same_so_far past h.0,
-    subst (λ p. AreInTime s p ds) (sym (append_assoc r past (Dones.Served client served ∷ [])))
-        (then_in_time (past ++ Dones.Served client served ∷ []) ds h.1),
-  )
-  then_in_time past (Dones.Ticked result ∷ ds) h = (
-    same_so_far past h.0,
-    subst (λ p. AreInTime s p ds) (sym (append_assoc r past (Dones.Ticked result ∷ [])))
-        (then_in_time (past ++ Dones.Ticked result ∷ []) ds h.1),
-  )
-  then_in_time past (Dones.Passed limit passed ∷ ds) h = (
-    same_so_far past h.0,
-    subst (λ p. AreInTime s p ds) (sym (append_assoc r past (Dones.Passed limit passed ∷ [])))
-        (then_in_time (past ++ Dones.Passed limit passed ∷ []) ds h.1),
-  )
-  then_in_time past (Dones.Closed result ∷ ds) h = (
-    same_so_far past h.0,
-    subst (λ p. AreInTime s p ds) (sym (append_assoc r past (Dones.Closed result ∷ [])))
-        (then_in_time (past ++ Dones.Closed result ∷ []) ds h.1),
-  )
-  then_in_time past (Dones.Noticed notice ∷ ds) h = subst (λ p. AreInTime s p ds) (sym (append_assoc r past (Dones.Noticed notice ∷ [])))
-      (then_in_time (past ++ Dones.Noticed notice ∷ []) ds h)
-  then_in_time past (Dones.Flushed client count ∷ ds) h = (
-    same_so_far past h.0,
-    subst (λ p. AreInTime s p ds) (sym (append_assoc r past (Dones.Flushed client count ∷ [])))
-        (then_in_time (past ++ Dones.Flushed client count ∷ []) ds h.1),
-  )
-
-in_time-append : (s : FacilityState) (past ds q : List Done) → AreInTime s past ds → AreInTime s (past ++ ds) q → AreInTime s past (ds ++ q)
-in_time-append s past [] q h k = subst (λ p. AreInTime s p q) (append-nil past) k
-in_time-append s past (Dones.Served client served ∷ ds) q h k = (
-  h.0,
-  in_time-append s (past ++ Dones.Served client served ∷ []) ds q h.1
-      (subst (λ p. AreInTime s p q) (sym (append_assoc past (Dones.Served client served ∷ []) ds)) k),
-)
-in_time-append s past (Dones.Ticked result ∷ ds) q h k = (
-  h.0,
-  in_time-append s (past ++ Dones.Ticked result ∷ []) ds q h.1
-      (subst (λ p. AreInTime s p q) (sym (append_assoc past (Dones.Ticked result ∷ []) ds)) k),
-)
-in_time-append s past (Dones.Passed limit passed ∷ ds) q h k = (
-  h.0,
-  in_time-append s (past ++ Dones.Passed limit passed ∷ []) ds q h.1
-      (subst (λ p. AreInTime s p q) (sym (append_assoc past (Dones.Passed limit passed ∷ []) ds)) k),
-)
-in_time-append s past (Dones.Closed result ∷ ds) q h k = (
-  h.0,
-  in_time-append s (past ++ Dones.Closed result ∷ []) ds q h.1
-      (subst (λ p. AreInTime s p q) (sym (append_assoc past (Dones.Closed result ∷ []) ds)) k),
-)
-in_time-append s past (Dones.Noticed notice ∷ ds) q h k = in_time-append s (past ++ Dones.Noticed notice ∷ []) ds q h
-    (subst (λ p. AreInTime s p q) (sym (append_assoc past (Dones.Noticed notice ∷ []) ds)) k)
-in_time-append s past (Dones.Flushed client count ∷ ds) q h k = (
-  h.0,
-  in_time-append s (past ++ Dones.Flushed client count ∷ []) ds q h.1
-      (subst (λ p. AreInTime s p q) (sym (append_assoc past (Dones.Flushed client count ∷ []) ds)) k),
-)
-
-in_time-joined : (s t : FacilityState) (r q : List Done) → Runs r s t → AreInTime s [] r → AreInTime t [] q → AreInTime s [] (r ++ q)
-in_time-joined s t r q runs h k = in_time-append s [] r q h (subst (λ p. AreInTime s p q) (append-nil r) (then_in_time s t r runs [] q k))
+in_time-joined : (s t : FacilityState) (r q : List Done) → Runs r s t → AtEach (IsInTime s) [] r → AtEach (IsInTime t) [] q
+    → AtEach (IsInTime s) [] (r ++ q)
+in_time-joined s t r q runs h k =
+    AtEach-joined (IsInTime s) (IsInTime t) (IsInTime s) r q (λ past d later p. p)
+    (λ past d later p is. same_so_far s t r runs past (p is)) h k
 
 -- The desk.
 
@@ -366,14 +246,9 @@ module _ {I : Type 0} (kind : LineKind I) where
 
 -- The empty report.
 
-pub not_held : (held : Option Numbered) → is_held held ≡ false → held ≡ None
-not_held (Some numbered) h = absurd (cc)
-not_held None h = refl
-
 ClientAccount-nothing : (c : ℕ) (x : Account) → HeldIsLast x → ClientAccount c [] x x
 ClientAccount-nothing c x last = record {
   held_first = Extends-refl (held_list x.backlog.held);
-  none_held = not_held x.backlog.held;
   asked_are = ap (λ xs. xs ++ held_list x.backlog.held) (append-nil (got_but_held x)) ∙ last;
   words_are = sym (append-nil (x.given ++ x.backlog.outbox));
   flushed_are = omega arith;
@@ -391,7 +266,7 @@ module _ {I : Type 0} (kind : LineKind I) where
       sides = λ c i b low. ClientAccount-nothing c (account_at kind x c i b) (last c i b low);
     };
     facility = record { outs_are = refl; state_is = refl };
-    in_time = refl;
+    in_time = tt;
     right = λ c i b low. tt;
     holds = λ c b low. refl;
     closes = tt;
@@ -428,28 +303,15 @@ take_all (h ∷ hs) = ap (λ r. h ∷ r) (take_all hs)
 abbrev pub IsLaw : FacilityState → Type 0
 IsLaw s = (placed : List PlacedEvent) (k : ℕ) → notices (take k (history s placed)) ≡ owed s (take k (history s placed))
 
-owed_so_far : (s : FacilityState) → IsLaw s → (past : List Done) → outs past ≡ (run s (events past)).outs
-    → notices_in (outs past) ≡ owed s (history s (events past))
+owed_so_far : (s : FacilityState) → IsLaw s → (past : List Done) → outs past ≡ (run s (events past)).outs → IsOwed s past
 owed_so_far s law past h =
     let hs : List HistoryEntry = history s (events past) in
     ap notices_in h ∙ subst (λ gs. notices gs ≡ owed s gs) (take_all hs) (law (events past) (length hs))
 
-pub AreOwed-in_time : (s : FacilityState) → IsLaw s → (past ds : List Done) → AreInTime s past ds → AreOwed s past ds
-AreOwed-in_time s law past [] h = owed_so_far s law past h
-AreOwed-in_time s law past (Dones.Served client served ∷ ds) h =
-    (owed_so_far s law past h.0, AreOwed-in_time s law (past ++ Dones.Served client served ∷ []) ds h.1)
-AreOwed-in_time s law past (Dones.Ticked result ∷ ds) h = (
-  owed_so_far s law past h.0,
-  AreOwed-in_time s law (past ++ Dones.Ticked result ∷ []) ds h.1,
-)
-AreOwed-in_time s law past (Dones.Passed limit passed ∷ ds) h = (
-  owed_so_far s law past h.0,
-  AreOwed-in_time s law (past ++ Dones.Passed limit passed ∷ []) ds h.1,
-)
-AreOwed-in_time s law past (Dones.Closed result ∷ ds) h = (
-  owed_so_far s law past h.0,
-  AreOwed-in_time s law (past ++ Dones.Closed result ∷ []) ds h.1,
-)
-AreOwed-in_time s law past (Dones.Noticed notice ∷ ds) h = AreOwed-in_time s law (past ++ Dones.Noticed notice ∷ []) ds h
-AreOwed-in_time s law past (Dones.Flushed client count ∷ ds) h =
-    (owed_so_far s law past h.0, AreOwed-in_time s law (past ++ Dones.Flushed client count ∷ []) ds h.1)
+pub AreOwed-in_time : (s t : FacilityState) → IsLaw s → (report : List Done) → Runs report s t → AtEach (IsInTime s) [] report
+    → AreOwed s report
+AreOwed-in_time s t law report runs h = record {
+  before = each_behind (IsInTime s) (λ past done later. is_notice done ≡ false → IsOwed s past) [] [] report
+      (λ past d later p is. owed_so_far s law past (p is)) h;
+  at_end = owed_so_far s law report runs.outs_are;
+}

@@ -156,14 +156,8 @@ steps-ticks_report passed s some =
     ∙ ap (λ xs. xs ++ Steps.Tick ∷ []) (steps_done (passed - 1)) ∙ replicate_more (passed - 1) Steps.Tick
     ∙ ap (λ n. replicate n Steps.Tick) (sym (from_one passed some))
 
-module _ {I : Type 0} (kind : LineKind I) where
-  -- the clients stay
-  pub clients-ticks : ((t : FacilityState) → HandsOver t (step t Tick 0))
-      → (f g : FacilityView) (inlets : List I) (bs : List BacklogState) → IsDesk kind f inlets bs → (limit passed : ℕ)
-      → AreTicked limit passed f.state g
-      → length bs ≡ length g.state.numbers
-  clients-ticks hands f g inlets bs d limit passed a =
-      let t : FacilityState = state_after f.state (ticks (passed - 1)) in
-      let was = before_last kind hands f g inlets bs d limit passed a in
-      d.as_many ∙ was.desk.clients ∙ sym (numbers_tick t) ∙ sym
-      (ap (λ (v : FacilityView). length v.state.numbers) (view_last limit passed f.state g a))
+-- the clients stay
+pub numbers_ticks : (n : ℕ) (s : FacilityState) → length (state_after s (ticks n)).numbers ≡ length s.numbers
+numbers_ticks zero s = refl
+numbers_ticks (suc n) s = ap (λ (t : FacilityState). length t.numbers) (state_after-ticks n s) ∙ numbers_tick (state_after s (ticks n))
+    ∙ numbers_ticks n s

@@ -73,21 +73,24 @@ AreBehind allowed (Dones.Closed result ∷ report) = AreBehind true report
 AreBehind allowed (Dones.Noticed notice ∷ report) = (allowed ≡ true) × AreBehind allowed report
 AreBehind allowed (Dones.Flushed client count ∷ report) = AreBehind false report
 
--- Before each member of a report that is not a notice, and at its end, the outs of the members `past` are
--- those of a run of their events: no notice comes late, and none early.
-abbrev pub AreInTime : FacilityState → List Done → List Done → Type 0
-AreInTime s past [] = outs past ≡ (run s (events past)).outs
-AreInTime s past (Dones.Noticed notice ∷ report) = AreInTime s (past ++ Dones.Noticed notice ∷ []) report
-AreInTime s past (done ∷ report) = (outs past ≡ (run s (events past)).outs)
-    × AreInTime s (past ++ done ∷ []) report
+-- whether a member is a notice
+abbrev pub is_notice : Done → Bool
+is_notice (Dones.Noticed notice) = true
+is_notice done = false
 
--- before each member of a report that is not a notice, and at its end, the notices among the members `past`
--- are what is owed for their events
-abbrev pub AreOwed : FacilityState → List Done → List Done → Type 0
-AreOwed s past [] = notices_in (outs past) ≡ owed s (history s (events past))
-AreOwed s past (Dones.Noticed notice ∷ report) = AreOwed s (past ++ Dones.Noticed notice ∷ []) report
-AreOwed s past (done ∷ report) = (notices_in (outs past) ≡ owed s (history s (events past)))
-    × AreOwed s (past ++ done ∷ []) report
+-- Before a member that is not a notice, the outs of the members `past` are those of a run of their events: no
+-- notice comes late, and none early.
+abbrev pub IsInTime : FacilityState → List Done → Done → List Done → Type 0
+IsInTime s past done later = is_notice done ≡ false → outs past ≡ (run s (events past)).outs
+
+-- the notices in a report are what is owed for its events
+abbrev pub IsOwed : FacilityState → List Done → Type 0
+IsOwed s report = notices_in (outs report) ≡ owed s (history s (events report))
+
+-- so before each member of a report that is not a notice, and at its end
+pub record AreOwed (s : FacilityState) (report : List Done) : Type 0 where
+  pub before : AtEach (λ past done later. is_notice done ≡ false → IsOwed s past) [] report
+  pub at_end : IsOwed s report
 
 -- the step's client is one of these, and of many ticks it asks for one at least
 abbrev pub InRange : ℕ → Step → Type 0
@@ -140,7 +143,7 @@ module _ {I : Type 0} (kind : LineKind I) where
   pub record ReportHolds (report : List Done) (old new : DeskState I) : Type 0 where
     pub clients : SidesHold report old new
     pub facility : Runs report old.facility new.facility
-    pub in_time : AreInTime old.facility [] report
+    pub in_time : AtEach (IsInTime old.facility) [] report
     pub right : (c : ℕ) (i : I) (b : BacklogState) → c < clients_of old
         → AtEach (RespectsRoom kind.take_may_refuse c old.facility (account_at kind old c i b)
         (account_at kind new c i b)) [] report

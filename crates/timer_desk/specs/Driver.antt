@@ -138,7 +138,7 @@ module _ {I : Type 0} (kind : LineKind I) (last : Step) where
     pub told : ReportHolds kind report old new
     pub fit : All (IsFit (clients_of old) last) (steps_of report)
     pub behind : AreBehind false report
-    pub owed : AreOwed old.facility [] report
+    pub owed : AreOwed old.facility report
     pub served : outcome ≡ DriveEnds.Done → (c : ℕ) → c < clients_of old → goal ≤ length (asked c report)
     pub given_words : outcome ≡ DriveEnds.Done → (c : ℕ) → c < clients_of old → 2 * goal ≤ flushed c report
     pub memory : ¬ (outcome ≡ DriveEnds.OutOfMemory) → NoneRanOut report

@@ -1,5 +1,5 @@
 -- The readings of a report of `turn`, and what they say of each client and of the facility.
-use Rattle.std.specs.Prelude.{◌≡◌, ℕ, ◌+◌, ◌-◌, ◌≤◌, ◌==◌, Bool, true, false, List, [], ◌∷◌, ◌++◌, length, take, Option, Some, None, Ok, Err, Result, if◌then◌else◌}
+use Rattle.std.specs.Prelude.{◌≡◌, ℕ, ◌+◌, ◌-◌, ◌≤◌, ◌==◌, List, [], ◌∷◌, ◌++◌, length, take, Option, Some, None, Ok, Err, Result, if◌then◌else◌}
 use Rattle.std.specs.List.{flat_map}
 use Rattle.timer_facility.specs.declared.request.CloseFault.{CloseFault}
 use Rattle.timer_facility.specs.declared.request.CloseFault.TheVariants as CloseFaults
@@ -58,25 +58,6 @@ flushed_in c (Dones.Passed limit passed) = 0
 flushed_in c (Dones.Closed result) = 0
 flushed_in c (Dones.Noticed notice) = 0
 flushed_in c (Dones.Flushed client count) = if client == c then count else 0
-
--- Whether a request of the client may be held after a serve of it; `before` is whether one was held before. A
--- held request is retried first, so after a serve one is held only if memory ran out; without room nothing
--- is tried.
-abbrev pub held_after_serve : Bool → Served → Bool
-held_after_serve before Idle = false
-held_after_serve before NoRoom = before
-held_after_serve before NoMemory = true
-held_after_serve before (Did numbered word) = false
-
--- the same after a member of a report, for client c
-abbrev pub held_after : ℕ → Bool → Done → Bool
-held_after c before (Dones.Served client served) =
-    if client == c then held_after_serve before served else before
-held_after c before (Dones.Ticked result) = before
-held_after c before (Dones.Passed limit passed) = before
-held_after c before (Dones.Closed result) = before
-held_after c before (Dones.Noticed notice) = before
-held_after c before (Dones.Flushed client count) = before
 
 -- the place in a word, if it is the answer to an accepted start or restart
 abbrev pub place_told : Word → ℕ
@@ -161,12 +142,6 @@ abbrev pub flushed : ℕ → List Done → ℕ
 flushed c [] = 0
 flushed c (done ∷ report) = flushed_in c done + flushed c report
 
--- whether a request of client c may be held after a report: a serve of c ran out of memory, and no later
--- serve of c found the line empty or was done
-abbrev pub may_hold : ℕ → Bool → List Done → Bool
-may_hold c before [] = before
-may_hold c before (done ∷ report) = may_hold c (held_after c before done) report
-
 -- the events of the facility, each accepted start with the place in its answer
 abbrev pub events : List Done → List PlacedEvent
 events report = flat_map events_in report
@@ -181,11 +156,6 @@ outs report = flat_map outs_in report
 abbrev pub held_list : Option Numbered → List Numbered
 held_list (Some numbered) = numbered ∷ []
 held_list None = []
-
--- whether a request is held
-abbrev pub is_held : Option Numbered → Bool
-is_held (Some numbered) = true
-is_held None = false
 
 -- one client's account at the desk, as lists
 pub record Account : Type 0 where
@@ -219,7 +189,6 @@ left_of a = length (held_list a.backlog.held) + length a.standing
 pub record ClientAccount (c : ℕ) (report : List Done) (a b : Account) : Type 0 where
   -- a request held before is the first one asked since, or is still held
   pub held_first : Extends (held_list a.backlog.held) (asked c report ++ held_list b.backlog.held)
-  pub none_held : may_hold c (is_held a.backlog.held) report ≡ false → b.backlog.held ≡ None
   pub asked_are : got_but_held a ++ asked c report ++ held_list b.backlog.held ≡ b.got
   pub words_are : b.given ++ b.backlog.outbox ≡ a.given ++ a.backlog.outbox ++ words c report
   pub flushed_are : length b.given ≡ length a.given + flushed c report

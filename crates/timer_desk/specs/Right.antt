@@ -26,15 +26,6 @@ ServeRespectsRoom room len left pending Idle = (len + pending + 2 ≤ room) × (
 ServeRespectsRoom room len left pending NoMemory = len + pending + 2 ≤ room
 ServeRespectsRoom room len left pending (Did numbered word) = (len + pending + 2 ≤ room) × IsNoWant word
 
-abbrev pub MemberRespectsRoom : ℕ → ℕ → ℕ → ℕ → ℕ → Done → Type 0
-MemberRespectsRoom c room len left pending (Dones.Served client served) = client ≡ c
-    → ServeRespectsRoom room len left pending served
-MemberRespectsRoom c room len left pending (Dones.Ticked result) = Unit {0}
-MemberRespectsRoom c room len left pending (Dones.Passed limit passed) = Unit {0}
-MemberRespectsRoom c room len left pending (Dones.Closed result) = Unit {0}
-MemberRespectsRoom c room len left pending (Dones.Noticed notice) = Unit {0}
-MemberRespectsRoom c room len left pending (Dones.Flushed client count) = Unit {0}
-
 -- the line may run out of memory, or the facility allocates for the first of these requests
 abbrev pub IsNeeded : Bool → ℕ → FacilityState → List Numbered → Type 0
 IsNeeded may_refuse c s [] = may_refuse ≡ true
@@ -56,8 +47,9 @@ pending_after c s past = pending_of (run s (events past)).state c
 -- timer.
 pub record RespectsRoom (may_refuse : Bool) (c : ℕ) (s : FacilityState) (a b : Account) (past : List Done)
     (done : Done) (later : List Done) : Type 0 where
-  pub served : MemberRespectsRoom c a.backlog.room (outbox_after c a past) (left_of a - length (asked c past))
-      (pending_after c s past) done
+  pub served : (result : Served) → done ≡ Dones.Served c result
+      → ServeRespectsRoom a.backlog.room (outbox_after c a past) (left_of a - length (asked c past))
+      (pending_after c s past) result
   pub needed : done ≡ Dones.Served c NoMemory → IsNeeded may_refuse c (run s (events past)).state
       (asked c later ++ held_list b.backlog.held)
   pub room : outbox_after c a (past ++ done ∷ []) + pending_after c s (past ++ done ∷ []) ≤ a.backlog.room

@@ -36,6 +36,7 @@ impl Backlog {
     ghost use Rattle.timer_desk.specs.Inlet.{taken_of};
     ghost use Rattle.timer_desk.specs.Report.{held_list, account_of, HeldIsLast, left_of, ClientAccount, Runs};
     ghost use Rattle.timer_desk.specs.Right.{ServeRespectsRoom};
+    ghost use Rattle.timer_desk.specs.Held.{HoldsAfterServe};
     ghost use Rattle.timer_desk.specs.Flush.{IsGiven, without_words};
     ghost use Rattle.timer_desk.specs.declared.word.Numbered.{Numbered};
 
@@ -101,7 +102,7 @@ impl Backlog {
             ≤ length (taken_of result) + length (I.kind.state inlet.new).standing }
     {
         match self.held {
-            Some(numbered) => Taken::Got(numbered),
+            Some(Numbered { number, request }) => Taken::Got(Numbered { number, request }),
             None => inlet.take(),
         }
     }
@@ -152,6 +153,8 @@ impl Backlog {
             (left_of (account_of I.kind inlet.old self.old)) (pending_of facility.old.state client) result }
         ensures memory { result ≡ Served.NoMemory → RanOutOfMemory I.kind.take_may_refuse client
             facility.old.state self.new.held }
+        ensures holds { HoldsAfterServe I.kind.take_may_refuse client facility.old.state self.old.held result
+            self.new.held }
         ensures no_room { result ≡ Served.NoRoom → (inlet.new ≡ inlet.old) × (self.new ≡ self.old)
             × (facility.new ≡ facility.old) }
         ensures idle { result ≡ Served.Idle
@@ -166,19 +169,23 @@ impl Backlog {
         if self.free() - facility.pending_of(client as u64) < 2 {
             return Served::NoRoom;
         }
-        let numbered = match self.fetch(inlet) {
+        // A request is copied field by field: see `Numbered`.
+        let Numbered { number, request } = match self.fetch(inlet) {
             Taken::Empty => return Served::Idle,
             Taken::NoMemory => return Served::NoMemory,
             Taken::Got(numbered) => numbered,
         };
-        match ask(facility, client as u64, numbered) {
+        match ask(facility, client as u64, Numbered { number, request }) {
             None => {
-                self.held = Some(numbered);
+                self.held = Some(Numbered { number, request });
                 Served::NoMemory
             }
             Some(word) => {
                 self.answer(word);
-                Served::Did { numbered, word }
+                Served::Did {
+                    numbered: Numbered { number, request },
+                    word,
+                }
             }
         }
     }

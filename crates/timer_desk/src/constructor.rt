@@ -52,6 +52,7 @@ impl<W: Wheel + Drop, I: Inlet + Drop> Desk<W, I> {
                 inlets,
                 backlogs,
                 alloc,
+                kept: Vec::new(alloc),
             }),
             Err(_) => Err(OpenFault::OutOfMemory(facility, inlets)),
         }

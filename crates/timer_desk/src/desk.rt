@@ -27,6 +27,8 @@ pub struct Desk<W: Wheel + Drop, I: Inlet + Drop> {
     // The backlog of each client, in the order of `inlets`.
     pub(crate) backlogs: Vec<Backlog>,
     pub(crate) alloc: Global,
+    // The memory of an earlier report, which the next turn uses.
+    pub(crate) kept: Vec<Done>,
 }
 
 impl<W: Wheel + Drop, I: Inlet + Drop> Model for Desk<W, I> {
@@ -155,6 +157,7 @@ impl<W: Wheel + Drop, I: Inlet + Drop> Desk<W, I> {
             inlets,
             backlogs: _,
             alloc: _,
+            kept: _,
         } = self;
         (facility, inlets)
     }

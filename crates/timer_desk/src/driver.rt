@@ -156,6 +156,7 @@ fn one_turn<W: Wheel + Drop, I: Inlet + Drop>(
     if ran_out(&report) {
         return Turned::OutOfMemory;
     }
+    desk.recycle(report);
     if passed { Turned::Passed } else { Turned::Idle }
 }
 

@@ -20,8 +20,8 @@ pub fn ask<W: Wheel + Drop>(
     ensures none { IsNone result → facility.new ≡ facility.old }
     ensures memory { IsNone result → NeedsMemory facility.old.state client numbered.number numbered.request }
 {
-    let number = numbered.number;
-    match facility.take(client, number, numbered.request) {
+    let Numbered { number, request } = numbered;
+    match facility.take(client, number, request) {
         Ok(answer) => Some(Word::Answered { number, answer }),
         Err(reason) => {
             if let NotTaken::OutOfMemory = reason {

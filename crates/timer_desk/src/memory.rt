@@ -52,9 +52,9 @@ impl Inlet for MemoryInlet {
 
     fn take(&mut self) -> Taken {
         if self.next < self.requests.len() {
-            let numbered = self.requests[self.next];
+            let Numbered { number, request } = self.requests[self.next];
             self.next += 1;
-            return Taken::Got(numbered);
+            return Taken::Got(Numbered { number, request });
         }
         Taken::Empty
     }

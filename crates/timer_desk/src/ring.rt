@@ -179,10 +179,11 @@ impl Inlet for RingInlet {
             if self.requests.cached_slots() == 0 {
                 return Taken::Empty;
             }
-            return Taken::Got(self.requests.pop_known());
+            let Numbered { number, request } = self.requests.pop_known();
+            return Taken::Got(Numbered { number, request });
         }
         match self.requests.pop() {
-            Ok(numbered) => Taken::Got(numbered),
+            Ok(Numbered { number, request }) => Taken::Got(Numbered { number, request }),
             Err(_) => Taken::Empty,
         }
     }

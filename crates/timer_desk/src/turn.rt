@@ -12,6 +12,8 @@ use crate::desk::Desk;
 use crate::dispatch::hand_out_into;
 use crate::inlet::Inlet;
 use crate::report::{Done, Step};
+use std::alloc::AllocError;
+use std::mem;
 use timer_base::{OutOfMemory, Wheel};
 use timer_facility::laws::{notices_are_owed, what_is_handed_out_was_pending};
 
@@ -23,7 +25,7 @@ impl<W: Wheel + Drop, I: Inlet + Drop> Desk<W, I> {
         ensures told { IfOk result (λ report. ReportHolds I.kind report.items self.old self.new) }
         ensures steps { IfOk result (λ report. steps_of report.items ≡ steps.now) }
         ensures behind { IfOk result (λ report. AreBehind false report.items) }
-        ensures owed { IfOk result (λ report. AreOwed self.old.facility [] report.items) }
+        ensures owed { IfOk result (λ report. AreOwed self.old.facility report.items) }
         ensures room { IfOk result (λ report. HasRoom self.new.backlogs
             (with_nothing_waiting self.new.facility)) }
         ensures err { OnErr result (self.new ≡ self.old) }
@@ -33,13 +35,32 @@ impl<W: Wheel + Drop, I: Inlet + Drop> Desk<W, I> {
             .len()
             .saturating_mul(2)
             .saturating_add(self.facility.pending());
-        let Ok(mut report) = Vec::with_capacity(self.alloc, room) else {
+        let Ok(mut report) = self.empty_report(room) else {
             return Err(OutOfMemory);
         };
         for step in steps {
             self.step(*step, &mut report);
         }
         self.lemma_invariant();
+        Ok(report)
+    }
+
+    /// Keeps the memory of a report for the next turn, which then allocates only if it needs more.
+    pub fn recycle(&mut self, report: Vec<Done>)
+        ensures { self.new ≡ self.old }
+    {
+        self.kept = report;
+    }
+
+    /// An empty report with room for so many members. It takes the memory that was kept.
+    fn empty_report(&mut self, room: usize) -> Result<Vec<Done>, AllocError>
+        ensures empty { IfOk result (λ report. report.items ≡ []) }
+        ensures room { IfOk result (λ report. room ≤ vec_capacity report) }
+        ensures same { self.new ≡ self.old }
+    {
+        let mut report = mem::replace(&mut self.kept, Vec::new(self.alloc));
+        report.clear();
+        report.reserve(room)?;
         Ok(report)
     }
 

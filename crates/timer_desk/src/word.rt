@@ -2,6 +2,9 @@
 use timer_facility::{Answer, NotTaken, Notice, Request};
 
 /// A request with its number.
+///
+/// Where speed counts, copy its fields and not the whole. The tag of an enum is one byte. In a copy of the whole,
+/// the compiler takes the bytes behind the tag in pieces that overlap, and reading those back stalls.
 #[derive(Clone, Copy, Debug, PartialEq, Eq)]
 pub struct Numbered {
     pub number: u64,

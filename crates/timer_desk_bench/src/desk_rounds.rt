@@ -81,6 +81,7 @@ fn take_steps(
     for done in &report {
         counts.add(done);
     }
+    desk.recycle(report);
     Some(())
 }
 

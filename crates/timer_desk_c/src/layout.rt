@@ -1,7 +1,7 @@
 //! The structs that are passed to C and back, other than those that own something. `include/timers_desk.h`
 //! has the same.
 
-/// How C refers to a timer: `struct timer_handle`.
+/// How C refers to a timer: `struct timers_handle`.
 #[repr(C)]
 #[derive(Clone, Copy, Debug, PartialEq, Eq)]
 pub struct CHandle {

@@ -312,7 +312,7 @@ fn held_request_over<W: Wheel + Drop>(
 
 /// A hashed wheel at tick 0.
 fn hashed(rt: &impl Abort, alloc: Global, slots: usize) -> HashedWheel
-    ensures { ⟦<HashedWheel as Wheel>⟧.state result ≡ empty_wheel LAST 0 }
+    ensures { ⟦<HashedWheel as Wheel>⟧.state result ≡ empty_wheel slots LAST 0 }
 {
     match HashedWheel::new(alloc, slots, 0) {
         Ok(wheel) => wheel,

@@ -76,7 +76,7 @@ pub fn line(rt: &impl Abort, alloc: Global, capacity: usize, first: u64) -> (Cli
 
 /// A plain wheel at tick 0.
 pub fn plain(rt: &impl Abort, alloc: Global) -> PlainWheel
-    ensures { ⟦<PlainWheel as Wheel>⟧.state result ≡ empty_wheel LAST 0 }
+    ensures { ⟦<PlainWheel as Wheel>⟧.state result ≡ empty_wheel 0 LAST 0 }
 {
     match PlainWheel::new(alloc, 0) {
         Ok(wheel) => wheel,

@@ -79,3 +79,19 @@ fn many_ticks_are_one_step_of_a_turn(rt: HostRuntime) {
         [of(Err(TickFault::Closed))].as_slice()
     );
 }
+
+#[test]
+fn a_turn_over_recycled_memory_has_a_report_of_its_own(rt: HostRuntime) {
+    let alloc = rt.alloc();
+    let mut desk = desk_of_one_client(&rt, alloc, 1500);
+    let first = report_of_ticks(&rt, &mut desk);
+    desk.recycle(first);
+    let passed = Done::Passed {
+        limit: 1000,
+        passed: Ok(1000),
+    };
+    assert_eq!(rt;
+        report_of_ticks(&rt, &mut desk).as_slice(),
+        [passed].as_slice()
+    );
+}

@@ -2,7 +2,7 @@
 ghost use Rattle.std.specs.Prelude.{◌≡◌, []};
 ghost use Rattle.timer_base.specs.declared.limits.TheConstants.{LAST};
 ghost use Rattle.timer_base.specs.WheelState.{empty_wheel};
-ghost use Rattle.timer_wheels.specs.Tables.{last_of_table};
+ghost use Rattle.timer_wheels.specs.Tables.{last_of_table, slots_of_table};
 
 use std::alloc::Global;
 use std::fmt::Debug;
@@ -170,7 +170,7 @@ fn try_old_handle<W: Wheel + Drop>(rt: &impl Abort, scheme: &str, facility: Faci
 
 /// A plain wheel at tick 0.
 fn plain(rt: &impl Abort, alloc: Global) -> PlainWheel
-    ensures { ⟦<PlainWheel as Wheel>⟧.state result ≡ empty_wheel LAST 0 }
+    ensures { ⟦<PlainWheel as Wheel>⟧.state result ≡ empty_wheel 0 LAST 0 }
 {
     match PlainWheel::new(alloc, 0) {
         Ok(wheel) => wheel,
@@ -180,7 +180,7 @@ fn plain(rt: &impl Abort, alloc: Global) -> PlainWheel
 
 /// A hashed wheel at tick 0.
 fn hashed(rt: &impl Abort, alloc: Global, slots: usize) -> HashedWheel
-    ensures { ⟦<HashedWheel as Wheel>⟧.state result ≡ empty_wheel LAST 0 }
+    ensures { ⟦<HashedWheel as Wheel>⟧.state result ≡ empty_wheel slots LAST 0 }
 {
     match HashedWheel::new(alloc, slots, 0) {
         Ok(wheel) => wheel,
@@ -190,7 +190,7 @@ fn hashed(rt: &impl Abort, alloc: Global, slots: usize) -> HashedWheel
 
 /// A hierarchy of wheels at tick 0.
 fn hier(rt: &impl Abort, alloc: Global, table: Table) -> HierWheel
-    ensures { ⟦<HierWheel as Wheel>⟧.state result ≡ empty_wheel (last_of_table table) 0 }
+    ensures { ⟦<HierWheel as Wheel>⟧.state result ≡ empty_wheel (slots_of_table table) (last_of_table table) 0 }
 {
     match HierWheel::with_table(alloc, table, 0) {
         Ok(wheel) => wheel,

@@ -5,7 +5,7 @@ ghost use Rattle.timer_base.specs.declared.plain.PlainWheel.{PlainWheel};
 ghost use Rattle.timer_base.specs.WheelState.{empty_wheel};
 ghost use Rattle.timer_wheels.specs.declared.hashed.HashedWheel.{HashedWheel};
 ghost use Rattle.timer_wheels.specs.declared.hier.HierWheel.{HierWheel};
-ghost use Rattle.timer_wheels.specs.Tables.{last_of_table};
+ghost use Rattle.timer_wheels.specs.Tables.{last_of_table, slots_of_table};
 
 use crate::fault::{Fault, same, see};
 use std::alloc::Global;
@@ -17,7 +17,7 @@ const STARTS: u64 = 100;
 
 /// The plain wheel, which is made without an allocation.
 pub fn plain(alloc: Global) -> Result<PlainWheel, Fault>
-    ensures { IfOk result (λ wheel. ⟦<PlainWheel as Wheel>⟧.state wheel ≡ empty_wheel LAST 0) }
+    ensures { IfOk result (λ wheel. ⟦<PlainWheel as Wheel>⟧.state wheel ≡ empty_wheel 0 LAST 0) }
 {
     match PlainWheel::new(alloc, 0) {
         Ok(wheel) => Ok(wheel),
@@ -27,7 +27,7 @@ pub fn plain(alloc: Global) -> Result<PlainWheel, Fault>
 
 /// A hashed wheel, at the second try if the first is refused.
 pub fn hashed(alloc: Global, slots: usize) -> Result<HashedWheel, Fault>
-    ensures { IfOk result (λ wheel. ⟦<HashedWheel as Wheel>⟧.state wheel ≡ empty_wheel LAST 0) }
+    ensures { IfOk result (λ wheel. ⟦<HashedWheel as Wheel>⟧.state wheel ≡ empty_wheel slots LAST 0) }
 {
     for _ in 0..2 {
         if let Ok(wheel) = HashedWheel::new(alloc, slots, 0) {
@@ -40,7 +40,7 @@ pub fn hashed(alloc: Global, slots: usize) -> Result<HashedWheel, Fault>
 /// A hierarchy of wheels, at the second try if the first is refused.
 pub fn hier(alloc: Global, table: Table) -> Result<HierWheel, Fault>
     ensures { IfOk result (λ wheel. ⟦<HierWheel as Wheel>⟧.state wheel
-        ≡ empty_wheel (last_of_table table) 0) }
+        ≡ empty_wheel (slots_of_table table) (last_of_table table) 0) }
 {
     for _ in 0..2 {
         if let Ok(wheel) = HierWheel::with_table(alloc, table, 0) {

@@ -184,8 +184,20 @@ impl Links {
     /// Makes room for `most` nodes at one time, those that are here among them. No list changes.
     ///
     /// While fewer nodes are here, `push_back` then does not fail, also after others were removed. The
-    /// error is out of memory, as that of `push_back`. What was allocated is kept, after an error too.
+    /// error is out of memory, as that of `push_back`. What was allocated is kept, after an error too. Room
+    /// that an earlier call made is not looked at again: then nothing is allocated.
     pub fn reserve(&mut self, most: usize) -> Result<(), OutOfMemory>
+        ensures ok { OnOk result (self.new ≡ record self.old { room = max self.old.room most }) }
+        ensures err { OnErr result (self.new ≡ self.old) }
+    {
+        if most <= self.room {
+            return Ok(());
+        }
+        self.grow_room(most)
+    }
+
+    /// Makes room as `reserve`, also if it may be there.
+    fn grow_room(&mut self, most: usize) -> Result<(), OutOfMemory>
         ensures ok { OnOk result (self.new ≡ record self.old { room = max self.old.room most }) }
         ensures err { OnErr result (self.new ≡ self.old) }
     {

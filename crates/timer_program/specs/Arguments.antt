@@ -4,14 +4,14 @@ use Rattle.std.specs.List.{slice_index}
 use Rattle.clap.specs.declared.error.kind.ErrorKind.{ErrorKind}
 use Rattle.clap.specs.declared.error.kind.ErrorKind.TheVariants as kinds
 use Rattle.timer_program.specs.declared.arguments.Subcommand.{Subcommand}
-use Rattle.timer_program.specs.declared.arguments.Subcommand.TheVariants.{Play, Serve, ServeGood, Show, Threads, Check}
+use Rattle.timer_program.specs.declared.arguments.Subcommand.TheVariants.{Run, Threads, Check}
+use Rattle.timer_commands.specs.declared.verbs.Verb.TheVariants.{Play, Serve, Show}
 
 -- the name of a subcommand, as it is typed
 abbrev pub subcommand_name : Subcommand → List ℕ
-subcommand_name (Play options) = codes "play"
-subcommand_name (Serve options) = codes "serve"
-subcommand_name (ServeGood options) = codes "serve"
-subcommand_name (Show options) = codes "show"
+subcommand_name (Run Play options) = codes "play"
+subcommand_name (Run (Serve on_bad wakeups) options) = codes "serve"
+subcommand_name (Run Show options) = codes "show"
 subcommand_name (Threads options) = codes "threads"
 subcommand_name Check = codes "check"
 

@@ -7,8 +7,7 @@ use Rattle.clap.specs.declared.error.kind.ErrorKind.{ErrorKind}
 use Rattle.clap.specs.declared.error.kind.ErrorKind.TheVariants as kinds
 use Rattle.timer_script.specs.declared.watched.Watched.{Watched}
 use Rattle.timer_script.specs.Watched.{inner_of, has_failed}
-use Rattle.timer_commands.specs.Subcommands.{HasPlayed, HasServedLines, HasServedGoodLines, HasCheckedScript}
-use Rattle.timer_commands.specs.ShowStream.{HasShownLines}
+use Rattle.timer_commands.specs.Subcommands.{Bytes, Channels, HasEnded, HasCheckedScript}
 use Rattle.timer_commands.specs.Clients.{HasRunClients}
 use Rattle.timer_program.specs.declared.arguments.Subcommand.{Subcommand}
 use Rattle.timer_program.specs.declared.arguments.Subcommand.TheVariants as calls
@@ -31,40 +30,26 @@ pub record HasNotPlayed {R S : Type 0} (kind : ErrorKind) (contents : S
   -- 2: the arguments are refused, and nothing was written
   pub refused : status ≡ 2 → (kind ≢ kinds.OutOfMemory) × ((¬ (IsShown kind)) × (writer' ≡ writer))
 
--- What was done for arguments that were read as this: a script was played, lines were answered as they came,
--- or the good ones were and the others reported, or lines were answered and shown, or clients ran and nothing
--- was read, or a script was checked. If they are read as none of these, nothing but a text was written.
-abbrev pub HasDone : {R S F : Type 0} → Result Subcommand Error → (remaining : R → Option (List ℕ))
-    (contents : S → Option (List ℕ)) (reports : F → Option (List ℕ)) (reader reader' : Watched R)
-    (writer writer' : Watched S) (faults faults' : Watched F) → ℕ → Type 0
-HasDone (Ok (calls.Play options)) remaining contents reports reader reader' writer writer' faults faults'
-    status =
-    HasPlayed options remaining contents reader reader' writer writer' status
-HasDone (Ok (calls.Serve options)) remaining contents reports reader reader' writer writer' faults
-    faults' status =
-    HasServedLines options remaining contents reader reader' writer writer' status
-HasDone (Ok (calls.ServeGood options)) remaining contents reports reader reader' writer writer' faults
-    faults' status =
-    HasServedGoodLines options remaining contents reports reader reader' writer writer' faults faults' status
-HasDone (Ok (calls.Show options)) remaining contents reports reader reader' writer writer' faults faults'
-    status =
-    HasShownLines options remaining contents reader reader' writer writer' status
-HasDone (Ok (calls.Threads options)) remaining contents reports reader reader' writer writer' faults
-    faults' status =
-    (reader' ≡ reader) × HasRunClients options contents writer writer' status
-HasDone (Ok calls.Check) remaining contents reports reader reader' writer writer' faults faults' status =
-    HasCheckedScript remaining contents reader reader' writer writer' status
-HasDone (Err error) remaining contents reports reader reader' writer writer' faults faults' status =
-    HasNotPlayed (kind_of error) contents reader reader' writer writer' status
+-- What was done for arguments that were read as this: a script was played, or lines were answered; or clients
+-- ran and nothing was read; or a script was checked. If they are read as none of these, nothing but a text was
+-- written.
+abbrev pub HasCalled : {R S F : Type 0} → Result Subcommand Error → Bytes R S F → (old new : Channels R S F)
+    → ℕ → Type 0
+HasCalled (Ok (calls.Run verb options)) bytes old new status = HasEnded verb options bytes old new status
+HasCalled (Ok (calls.Threads options)) bytes old new status =
+    (new.streams.reader ≡ old.streams.reader)
+    × HasRunClients options bytes.contents old.streams.writer new.streams.writer status
+HasCalled (Ok calls.Check) bytes old new status = HasCheckedScript bytes old.streams new.streams status
+HasCalled (Err error) bytes old new status =
+    HasNotPlayed (kind_of error) bytes.contents old.streams.reader new.streams.reader old.streams.writer
+    new.streams.writer status
 
 -- the arguments were read as a call of the subcommand that they name, or as an error, which is help or the
 -- version only if an argument asks for it; and that was done
-pub record HasRunProgram {A R S F : Type 0} (text : A → List ℕ) (arguments : List A) (remaining : R
-    → Option (List ℕ))
-    (contents : S → Option (List ℕ)) (reports : F → Option (List ℕ)) (reader reader' : Watched R)
-    (writer writer' : Watched S) (faults faults' : Watched F) (status : ℕ) : Type 0 where
+pub record HasRunProgram {A R S F : Type 0} (text : A → List ℕ) (arguments : List A) (bytes : Bytes R S F)
+    (old new : Channels R S F) (status : ℕ) : Type 0 where
   pub read : Result Subcommand Error
   pub called : IfOk read (λ subcommand. first_or_play text arguments ≡ subcommand_name subcommand)
   pub asked : IfErr read (λ error. IsShown (kind_of error)
       → Any (λ argument. AsksForText (text argument)) arguments)
-  pub done : HasDone read remaining contents reports reader reader' writer writer' faults faults' status
+  pub done : HasCalled read bytes old new status

@@ -6,7 +6,8 @@ use crate::support::{call, has_left, same, same_in};
 use std::alloc::Global;
 use std::io::ErrorKind;
 use std::process::Abort;
-use timer_commands::{RunOptions, Scheme, ThreadsOptions};
+use timer_commands::{RunOptions, Scheme, ThreadsOptions, Verb};
+use timer_script::OnBadLine;
 
 /// Arguments, and what they are read as.
 type Row = (&'static [&'static str], Subcommand);
@@ -47,7 +48,7 @@ const HIGHEST: RunOptions = RunOptions {
 
 /// The usual options with a scheme.
 const fn of_scheme(scheme: Scheme) -> Subcommand {
-    Subcommand::Play(RunOptions { scheme, ..USUAL })
+    Subcommand::Run(Verb::Play, RunOptions { scheme, ..USUAL })
 }
 
 /// Options of threads.
@@ -120,19 +121,37 @@ static MOST: [&str; 5] = [
 
 fn rows() -> [Row; 17] {
     [
-        (NO_ARGUMENTS.as_slice(), Subcommand::Play(USUAL)),
-        (&["play"], Subcommand::Play(USUAL)),
+        (NO_ARGUMENTS.as_slice(), Subcommand::Run(Verb::Play, USUAL)),
+        (&["play"], Subcommand::Run(Verb::Play, USUAL)),
         (&["play", "--scheme=plain"], of_scheme(Scheme::Plain)),
         (&["play", "--scheme=hashed"], of_scheme(Scheme::Hashed)),
         (&["play", "--scheme=hier"], of_scheme(Scheme::Hier)),
         (&["play", "--scheme=clock"], of_scheme(Scheme::Clock)),
-        (&LEAST, Subcommand::Play(LOWEST)),
-        (&MOST, Subcommand::Play(HIGHEST)),
-        (&APART, Subcommand::Play(OTHER)),
-        (&JOINED, Subcommand::Play(OTHER)),
-        (&SERVE, Subcommand::Serve(OTHER)),
-        (&SERVE_GOOD, Subcommand::ServeGood(OTHER)),
-        (&SHOW, Subcommand::Show(OTHER)),
+        (&LEAST, Subcommand::Run(Verb::Play, LOWEST)),
+        (&MOST, Subcommand::Run(Verb::Play, HIGHEST)),
+        (&APART, Subcommand::Run(Verb::Play, OTHER)),
+        (&JOINED, Subcommand::Run(Verb::Play, OTHER)),
+        (
+            &SERVE,
+            Subcommand::Run(
+                Verb::Serve {
+                    on_bad: OnBadLine::Stop,
+                    wakeups: false,
+                },
+                OTHER,
+            ),
+        ),
+        (
+            &SERVE_GOOD,
+            Subcommand::Run(
+                Verb::Serve {
+                    on_bad: OnBadLine::Report,
+                    wakeups: false,
+                },
+                OTHER,
+            ),
+        ),
+        (&SHOW, Subcommand::Run(Verb::Show, OTHER)),
         (&["threads"], threads(4, 1000)),
         (&["threads", "--clients", "1"], threads(1, 1000)),
         (

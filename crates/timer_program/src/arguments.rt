@@ -24,19 +24,14 @@ use clap::error::ErrorKind;
 use clap::{Arg, ArgAction, ArgMatches, Command, Error, value_parser};
 use std::alloc::{AllocError, Global};
 use std::convert::AsStr;
-use timer_commands::{RunOptions, Scheme, ThreadsOptions};
+use timer_commands::{RunOptions, Scheme, ThreadsOptions, Verb};
+use timer_script::OnBadLine;
 
 /// A subcommand with its options.
 #[derive(Clone, Copy, Debug, PartialEq, Eq)]
 pub enum Subcommand {
-    /// `play`: play the script on standard input.
-    Play(RunOptions),
-    /// `serve`: answer the lines of standard input as they come.
-    Serve(RunOptions),
-    /// `serve --keep-going`: answer the good ones as they come, and report the bad ones.
-    ServeGood(RunOptions),
-    /// `show`: answer them, and show after each where the timers are.
-    Show(RunOptions),
+    /// `play`, `serve` or `show`: play the script on standard input, or answer its lines as they come.
+    Run(Verb, RunOptions),
     /// `threads`: run clients in threads of their own.
     Threads(ThreadsOptions),
     /// `check`: report each bad line of the script on standard input.
@@ -156,7 +151,13 @@ fn serve_command<'a>(alloc: Global) -> Result<Command<'a>, AllocError> {
         .long("keep-going")
         .action(ArgAction::SetTrue)
         .help("Report each bad line on standard error, and go on with the next line");
-    playing_command(alloc, "serve", SERVE_USAGE, SERVE_ABOUT, STREAMS)?.arg(keep_going)
+    let wakeups = Arg::new(alloc, "wakeups")
+        .long("wakeups")
+        .action(ArgAction::SetTrue)
+        .help("After the answers to each line, print when to wake up next");
+    playing_command(alloc, "serve", SERVE_USAGE, SERVE_ABOUT, STREAMS)?
+        .arg(keep_going)?
+        .arg(wakeups)
 }
 
 /// The subcommand `threads` with its options.
@@ -228,6 +229,15 @@ fn run_options(options: &ArgMatches) -> Option<RunOptions> {
     })
 }
 
+/// What `serve` does at a bad line.
+fn on_bad_of(options: &ArgMatches) -> OnBadLine {
+    if options.get_flag("keep-going") {
+        OnBadLine::Report
+    } else {
+        OnBadLine::Stop
+    }
+}
+
 /// The options of `threads`, if each has a value.
 fn threads_options(options: &ArgMatches) -> Option<ThreadsOptions> {
     Some(ThreadsOptions {
@@ -241,12 +251,13 @@ fn subcommand_of(name: &str, options: &ArgMatches) -> Option<Subcommand>
     ensures { IfSome result (λ subcommand. name.now ≡ subcommand_name subcommand) }
 {
     match name {
-        "play" => Some(Subcommand::Play(run_options(options)?)),
-        "serve" if options.get_flag("keep-going") => Some(Subcommand::ServeGood(run_options(
-            options,
-        )?)),
-        "serve" => Some(Subcommand::Serve(run_options(options)?)),
-        "show" => Some(Subcommand::Show(run_options(options)?)),
+        "play" => Some(Subcommand::Run(Verb::Play, run_options(options)?)),
+        "serve" => {
+            let on_bad = on_bad_of(options);
+            let wakeups = options.get_flag("wakeups");
+            Some(Subcommand::Run(Verb::Serve { on_bad, wakeups }, run_options(options)?))
+        }
+        "show" => Some(Subcommand::Run(Verb::Show, run_options(options)?)),
         "threads" => Some(Subcommand::Threads(threads_options(options)?)),
         "check" => Some(Subcommand::Check),
         _ => None,

@@ -2,7 +2,7 @@
 ghost use Rattle.std.specs.Prelude.{◌≡◌, ◌≢◌, ◌≤◌, ◌⊎◌, ℕ, List, false, true};
 ghost use Rattle.std.specs.Io.KnownBytes.{Appends};
 ghost use Rattle.clap.specs.Values.{kind_of};
-ghost use Rattle.timer_program.specs.Command.{HasDone, HasRunProgram};
+ghost use Rattle.timer_program.specs.Command.{HasCalled, HasRunProgram};
 ghost use Rattle.timer_script.specs.Watched.{inner_of, has_failed};
 
 use crate::arguments::{Subcommand, read_arguments};
@@ -12,9 +12,7 @@ use std::alloc::Global;
 use std::convert::AsStr;
 use std::io::{Read, Write};
 use std::thread::Threads;
-use timer_commands::{
-    check_script, play_script, report, run_clients, serve_good_lines, serve_lines, show_lines,
-};
+use timer_commands::{check_script, report, run_clients, run_verb};
 use timer_script::{RunFault, Streams, Watched, write_text};
 
 /// Runs the program on the arguments after its name, and returns its exit status.
@@ -36,9 +34,10 @@ pub fn command<T: AllocGlobal + Threads, S: AsStr, R: Read, W: Write, F: Write>(
 ) -> u8
     requires reader_good { has_failed streams.old.reader ≡ false }
     requires writer_good { has_failed streams.old.writer ≡ false }
-    ensures { HasRunProgram S.text arguments.now R.remaining W.contents F.contents
-        streams.old.reader streams.new.reader streams.old.writer streams.new.writer
-        faults.old faults.new result }
+    ensures { HasRunProgram S.text arguments.now
+        (record { remaining = R.remaining; contents = W.contents; reports = F.contents })
+        (record { streams = streams.old; faults = faults.old })
+        (record { streams = streams.new; faults = faults.new }) result }
 {
     let read = read_arguments(rt.alloc(), arguments);
     run_subcommand(rt, read, streams, faults)
@@ -53,16 +52,14 @@ fn run_subcommand<T: AllocGlobal + Threads, R: Read, W: Write, F: Write>(
 ) -> u8
     requires reader_good { has_failed streams.old.reader ≡ false }
     requires writer_good { has_failed streams.old.writer ≡ false }
-    ensures { HasDone read R.remaining W.contents F.contents
-        streams.old.reader streams.new.reader streams.old.writer streams.new.writer
-        faults.old faults.new result }
+    ensures { HasCalled read
+        (record { remaining = R.remaining; contents = W.contents; reports = F.contents })
+        (record { streams = streams.old; faults = faults.old })
+        (record { streams = streams.new; faults = faults.new }) result }
 {
     let alloc = rt.alloc();
     match read {
-        Ok(Subcommand::Play(options)) => play_script(alloc, options, streams, faults),
-        Ok(Subcommand::Serve(options)) => serve_lines(alloc, options, streams, faults),
-        Ok(Subcommand::ServeGood(options)) => serve_good_lines(alloc, options, streams, faults),
-        Ok(Subcommand::Show(options)) => show_lines(alloc, options, streams, faults),
+        Ok(Subcommand::Run(verb, options)) => run_verb(alloc, verb, options, streams, faults),
         Ok(Subcommand::Threads(options)) => {
             run_clients(rt, alloc, options, &mut streams.writer, faults)
         }

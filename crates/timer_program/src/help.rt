@@ -92,6 +92,9 @@ is reported. A last line without its line feed is a bad line. With `--keep-going
 stream continues after a bad line. Each one is reported and skipped, the others are
 answered, and the exit status is 1 at the end.
 
+With `--wakeups` the answers to each line are followed by `wakeup TICK`: no timer expires
+before that tick. The line is `wakeup never` if no timer is pending.
+
 For example, another program writes to the input and reads the output of `timers serve`:
   start 0 1 30 7         started 0 1 1 30
   tick 20                (nothing expires, so there is no answer)

@@ -11,6 +11,6 @@ pub mod SplitterLemmas
 pub mod SieveLemmas
 pub mod SessionLemmas
 pub mod PeerLemmas
+pub mod IntakeLemmas
 pub mod ServicePieces
 pub mod ServiceLemmas
-pub mod GoodLinesLemmas

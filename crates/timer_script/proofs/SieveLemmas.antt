@@ -29,12 +29,12 @@ pub number-append : (n : ℕ) (xs ys : List Line) → number_after n (xs ++ ys) 
 number-append n [] ys = refl
 number-append n (x ∷ xs) ys = number-append (number_after_line n) xs ys
 
-bad-append : (n : ℕ) (xs ys : List Line) → bad_of n (xs ++ ys) ≡ bad_of n xs ++ bad_of (number_after n xs) ys
+pub bad-append : (n : ℕ) (xs ys : List Line) → bad_of n (xs ++ ys) ≡ bad_of n xs ++ bad_of (number_after n xs) ys
 bad-append n [] ys = refl
 bad-append n (Good event ∷ xs) ys = bad-append (number_after_line n) xs ys
 bad-append n (Bad front ∷ xs) ys = ap (λ t. n ∷ t) (bad-append (number_after_line n) xs ys)
 
-pub complaints-append : (n : ℕ) (xs ys : List Line) → complaints (bad_of n (xs ++ ys))
+complaints-append : (n : ℕ) (xs ys : List Line) → complaints (bad_of n (xs ++ ys))
     ≡ complaints (bad_of n xs) ++ complaints (bad_of (number_after n xs) ys)
 complaints-append n xs ys = ap complaints (bad-append n xs ys) ∙ flat_map-append complaint (bad_of n xs) (bad_of (number_after n xs) ys)
 

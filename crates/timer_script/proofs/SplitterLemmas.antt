@@ -1,8 +1,9 @@
 -- The positions of line feeds in lines.
-use Rattle.std.proofs.Common.{◌≡◌, ℕ, ◌+◌, ◌-◌, ◌^◌, ◌%◌, ◌<◌, ◌≤◌, List, [], ◌∷◌, ◌++◌, length, get_or, take, Some, None, decimal, codes, refl, sym, ap, subst, ◌∙◌, arith, append_assoc, append-nil, length-append, lit≤}
+use Rattle.std.proofs.Common.{◌==◌, ◌&&◌, not, Bool, true, false, inl, inr, ◌≡◌, ℕ, ◌+◌, ◌-◌, ◌^◌, ◌%◌, ◌<◌, ◌≤◌, List, [], ◌∷◌, ◌++◌, length, get_or, take, Some, None, decimal, codes, refl, sym, ap, subst, ◌∙◌, arith, append_assoc, append-nil, length-append, lit≤}
 use Rattle.std.proofs.lemmas.Fmt.{length-decimal-le, decimal_by_steps}
 use Rattle.std.proofs.lemmas.List.{take_more}
 use Rattle.timer_base.specs.declared.limits.TheConstants.{LAST}
+use Rattle.timer_base.specs.OrderLaws.{either}
 use Rattle.timer_script.specs.declared.splitter.TheConstants.{MAX_LINE}
 use Rattle.timer_script.specs.declared.lines.TheConstants.{MAX_TICKS}
 use Rattle.timer_facility.specs.declared.event.Event.{Event}
@@ -18,6 +19,22 @@ use Rattle.timer_script.proofs.LineLemmas.{line_again, line_sound}
 pub no_feed-append : (xs ys : List ℕ) → HasNoFeed xs → HasNoFeed ys → HasNoFeed (xs ++ ys)
 no_feed-append [] ys a b = b
 no_feed-append (x ∷ xs) ys a b = (a.0, no_feed-append xs ys a.1 b)
+
+-- whether no line feed is among the bytes
+abbrev pub is_bare : List ℕ → Bool
+is_bare [] = true
+is_bare (b ∷ bytes) = not (b == 10) && is_bare bytes
+
+pub bare : (bytes : List ℕ) → is_bare bytes ≡ true → HasNoFeed bytes
+bare [] e = tt
+bare (b ∷ bytes) e = elim (either (b == 10)) [
+  | inl k ↦ (let h : false ≡ true = ap (λ t. not t && is_bare bytes) (sym k) ∙ e in absurd cc)
+  | inr k ↦ (
+    λ is. (let h : (10 == 10) ≡ false = subst (λ t. (t == 10) ≡ false) is k
+        in absurd cc),
+    bare bytes (ap (λ t. not t && is_bare bytes) (sym k) ∙ e),
+  )
+]
 
 -- a number has no line feed, and at most 19 digits
 decimal_no_feed : (n : ℕ) → n < 2 ^ 64 → HasNoFeed (decimal n)
@@ -51,56 +68,26 @@ join m n xs ys a b = record {
 number : (n : ℕ) → n ≤ LAST → IsBare 19 (decimal n)
 number n fits = record { no_feed = number_no_feed n fits; short = number_short n fits }
 
+word : (most : ℕ) (bytes : List ℕ) → is_bare bytes ≡ true → length bytes ≤ most → IsBare most bytes
+word most bytes free short = record { no_feed = bare bytes free; short = short }
+
 blank : IsBare 1 (codes " ")
-blank = record { no_feed = (λ e. absurd cc, tt); short = omega arith }
+blank = word 1 (codes " ") refl (omega arith)
 
 word_start : IsBare 6 (codes "start ")
-word_start = record {
-  no_feed = (
-    λ e. absurd cc,
-    (
-      λ e. absurd cc,
-      (λ e. absurd cc, (λ e. absurd cc, (λ e. absurd cc, (λ e. absurd cc, tt)))),
-    ),
-  );
-  short = omega arith;
-}
+word_start = word 6 (codes "start ") refl (omega arith)
 
 word_stop : IsBare 5 (codes "stop ")
-word_stop = record {
-  no_feed = (λ e. absurd cc, (λ e. absurd cc, (λ e. absurd cc, (λ e. absurd cc, (λ e. absurd cc, tt)))));
-  short = omega arith;
-}
+word_stop = word 5 (codes "stop ") refl (omega arith)
 
 word_restart : IsBare 8 (codes "restart ")
-word_restart = record {
-  no_feed = (
-    λ e. absurd cc,
-    (
-      λ e. absurd cc,
-      (
-        λ e. absurd cc,
-        (
-          λ e. absurd cc,
-          (λ e. absurd cc, (λ e. absurd cc, (λ e. absurd cc, (λ e. absurd cc, tt)))),
-        ),
-      ),
-    ),
-  );
-  short = omega arith;
-}
+word_restart = word 8 (codes "restart ") refl (omega arith)
 
 word_tick : IsBare 5 (codes "tick ")
-word_tick = record {
-  no_feed = (λ e. absurd cc, (λ e. absurd cc, (λ e. absurd cc, (λ e. absurd cc, (λ e. absurd cc, tt)))));
-  short = omega arith;
-}
+word_tick = word 5 (codes "tick ") refl (omega arith)
 
 word_close : IsBare 5 (codes "close")
-word_close = record {
-  no_feed = (λ e. absurd cc, (λ e. absurd cc, (λ e. absurd cc, (λ e. absurd cc, (λ e. absurd cc, tt)))));
-  short = omega arith;
-}
+word_close = word 5 (codes "close") refl (omega arith)
 
 -- a number and a space
 spaced : (n : ℕ) → n ≤ LAST → IsBare 20 (decimal n ++ codes " ")

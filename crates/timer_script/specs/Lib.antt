@@ -13,6 +13,6 @@ pub mod ScriptReport
 pub mod Peer
 pub mod Streams
 pub mod Decorator
-pub mod Service
 pub mod Sieve
-pub mod GoodLines
+pub mod Intake
+pub mod Service

@@ -1,5 +1,5 @@
 -- A session with a peer: what was played, what went to the peer, and when.
-use Rattle.std.specs.Prelude.{◌≡◌, ℕ, ◌≤◌, ◌⊎◌, ◌-◌, ◌^◌, Bool, true, false, List, [], ◌∷◌, ◌++◌, length, take, Result, Ok, Err}
+use Rattle.std.specs.Prelude.{◌≡◌, ℕ, ◌≤◌, ◌⊎◌, ◌-◌, ◌^◌, Bool, true, false, List, [], ◌∷◌, ◌++◌, length, take, Option, Result, Ok, Err}
 use Rattle.std.specs.Io.KnownBytes.{Consumes, Appends, IsAtEnd}
 use Rattle.timer_facility.specs.declared.event.Event.{Event}
 use Rattle.timer_facility.specs.State.{FacilityState}
@@ -12,7 +12,11 @@ use Rattle.timer_script.specs.declared.service.TheConstants.{PIECE}
 use Rattle.timer_script.specs.Text.{end_line}
 use Rattle.timer_script.specs.ScriptRun.{IsAnswer}
 use Rattle.timer_script.specs.Session.{SessionState, fresh, lines_of, next_line, HasFed, IsAnsweredSoFar, HasFailed, IsStoppedAt}
-use Rattle.timer_script.specs.Decorator.{Decoration, AddsNothing}
+use Rattle.timer_script.specs.declared.watched.Watched.{Watched}
+use Rattle.timer_script.specs.declared.intake.OnBadLine.{OnBadLine}
+use Rattle.timer_script.specs.declared.intake.OnBadLine.TheVariants.{Stop}
+use Rattle.timer_script.specs.Decorator.{Decoration}
+use Rattle.timer_script.specs.Intake.{Passes, AreSoFar, AreFirst, HasPassed, HasPassedPart, HasEnded}
 use Rattle.timer_script.specs.Peer.{PeerState, Moment, Came, Went, Flush, Grows}
 
 -- the bytes that came from a peer
@@ -53,9 +57,13 @@ IsPromptBy Answers came gone flushed (Went bytes ∷ moments) =
     IsPromptBy Answers came (gone ++ bytes) false moments
 IsPromptBy Answers came gone flushed (Flush ∷ moments) = IsPromptBy Answers came gone true moments
 
+-- and so has one that was fed what passes of them
+abbrev pub IsAnsweredOf : OnBadLine → SessionState → (came gone : List ℕ) → Type 0
+IsAnsweredOf on_bad start came gone = (fed : List ℕ) × Passes on_bad came fed × IsAnsweredBy start fed gone
+
 -- before each read all complete lines so far have been answered as the session does, and the answers flushed
-abbrev pub IsPrompt : SessionState → (came gone : List ℕ) → Bool → List Moment → Type 0
-IsPrompt start = IsPromptBy (IsAnsweredBy start)
+abbrev pub IsPrompt : OnBadLine → SessionState → (came gone : List ℕ) → Bool → List Moment → Type 0
+IsPrompt on_bad start = IsPromptBy (IsAnsweredOf on_bad start)
 
 -- these bytes came from the peer and this text went to it, and before more was read the text so far was an
 -- answer
@@ -169,70 +177,77 @@ StopsEnd faults.OutOfMemory s peer peer' = peer' ≡ peer
 StopsEnd faults.Write s peer peer' = (s.held ≡ []) × HasSentPart peer (last_line s) peer'
 StopsEnd faults.TooLong s peer peer' = ⊥
 
--- the peer was read to its end, its bytes are the script of some events, and the answer to them was written
-pub record HasAnsweredAll (before : FacilityState) (peer peer' : PeerState)
-    (bytes answer : List ℕ) : Type 0 where
+-- the peer was read to its end, these bytes are the script of some events, and this is the answer to them
+pub record HasAnsweredAll (before : FacilityState) (peer : PeerState) (fed answer : List ℕ) : Type 0 where
   pub events : List Event
-  pub at_end : IsAtEnd peer'.remaining
-  pub script : IsScript events bytes
+  pub at_end : IsAtEnd peer.remaining
+  pub script : IsScript events fed
   pub answered : IsAnswer before events answer
 
--- a session that was fed these bytes has answered each complete line of them, and this text is the answer
--- with what is added
-pub record IsAnsweredWith (Adds : Decoration) (start : SessionState)
+-- a session that was fed what passes of these bytes has answered each complete line of that, and this text is
+-- the answer with what is added
+pub record IsAnsweredWith (on_bad : OnBadLine) (Adds : Decoration) (start : SessionState)
     (came gone : List ℕ) : Type 0 where
+  pub fed : List ℕ
   pub session : SessionState
-  pub answered : HasAnswered Adds start came gone session []
+  pub passes : Passes on_bad came fed
+  pub answered : HasAnswered Adds start fed gone session []
   pub going : IsAnsweredSoFar session
 
--- these bytes came from the peer and this text went to it, each complete line answered before more was read
-abbrev pub HasTalked : Decoration → FacilityState → (old new : PeerState)
+-- these bytes came from the peer and this text went to it, each complete line that passes answered before more
+-- was read
+abbrev pub HasTalked : OnBadLine → Decoration → FacilityState → (old new : PeerState)
     → (came gone : List ℕ) → Bool → Type 0
-HasTalked Adds before = HasTalkedBy (IsAnsweredWith Adds (fresh before))
+HasTalked on_bad Adds before = HasTalkedBy (IsAnsweredWith on_bad Adds (fresh before))
 
--- what went from the peer through the session and back: the last of the bytes that came were not fed, and the
--- last of the text for those that were fed has not been sent
-pub record HasServedSoFar (Adds : Decoration) (before : FacilityState) (peer peer' : PeerState)
-    (new : SessionState) (unfed unsent : List ℕ) (flushed : Bool) : Type 0 where
+-- what went from the peer through the session and back: of the bytes that came some passed, the last of those
+-- were not fed, and the last of the text for those that were fed has not been sent
+pub record HasServedSoFar (on_bad : OnBadLine) (Passed : (came fed : List ℕ) → Type 0) (Adds : Decoration)
+    (before : FacilityState) (peer peer' : PeerState) (new : SessionState) (unfed unsent : List ℕ)
+    (flushed : Bool) : Type 0 where
   pub came : List ℕ
+  pub fed : List ℕ
   pub sent : List ℕ
-  pub talked : HasTalked Adds before peer peer' came sent flushed
-  pub answered : HasAnswered Adds (fresh before) came (sent ++ unsent) new unfed
+  pub passed : Passed came fed
+  pub talked : HasTalked on_bad Adds before peer peer' came sent flushed
+  pub answered : HasAnswered Adds (fresh before) fed (sent ++ unsent) new unfed
 
--- what serving did, by how it ended, if this is what is added to the answers; in each case every complete
--- line was answered, and its answer flushed, before more was read
-abbrev pub HasServedBy : Decoration → FacilityState → PeerState → PeerState
-    → Result Unit ServeFault → Type 0
--- the whole answer, with what is added, was written and flushed, and nothing else
-HasServedBy Adds before peer peer' (Ok u) =
-    (bytes answer text : List ℕ) × HasAnsweredAll before peer peer' bytes answer × Adds answer text
-    × HasTalked Adds before peer peer' bytes text true × AreGood peer'
--- a read failed, and each complete line that came is answered
-HasServedBy Adds before peer peer' (Err faults.Read) =
-    (s : SessionState) × HasServedSoFar Adds before peer peer' s [] [] true × IsAnsweredSoFar s
-    × (peer'.read_failed ≡ true) × (peer'.write_failed ≡ false)
--- the n-th line is the first bad one, each line before it is answered, and nothing else was written but what
--- is added
-HasServedBy Adds before peer peer' (Err (faults.Bad n)) =
-    (bytes answer text : List ℕ) × IsStoppedAt before bytes answer n × Adds answer text
-    × HasTalked Adds before peer peer' bytes text true × AreGood peer'
+-- what serving did, by how it ended, if this is done at a bad line and this is added to the answers; in each
+-- case every complete line that passes was answered, and its answer flushed, before more was read
+abbrev pub HasServed : {F : Type 0} → OnBadLine → Decoration → FacilityState → (peer peer' : PeerState)
+    → (contents : F → Option (List ℕ)) → (writer writer' : Watched F) → Result Bool ServeFault → Type 0
+-- the whole answer, with what is added, was written and flushed, and nothing else; all bad lines were reported
+HasServed on_bad Adds before peer peer' contents writer writer' (Ok clean) =
+    (came fed answer text : List ℕ) × HasEnded on_bad clean contents writer writer' came fed
+    × HasAnsweredAll before peer' fed answer × Adds answer text
+    × HasTalked on_bad Adds before peer peer' came text true × AreGood peer'
+-- a read failed, each complete line that came is answered, or was reported
+HasServed on_bad Adds before peer peer' contents writer writer' (Err faults.Read) =
+    (s : SessionState)
+    × HasServedSoFar on_bad (HasPassed on_bad AreSoFar contents writer writer') Adds before peer peer' s [] [] true
+    × IsAnsweredSoFar s × (peer'.read_failed ≡ true) × (peer'.write_failed ≡ false)
+-- a bad line ends it: the n-th line is the first bad one, each line before it is answered, and nothing else was
+-- written but what is added
+HasServed on_bad Adds before peer peer' contents writer writer' (Err (faults.Bad n)) =
+    (on_bad ≡ Stop) × (writer' ≡ writer) × (bytes answer text : List ℕ) × IsStoppedAt before bytes answer n
+    × Adds answer text × HasTalked on_bad Adds before peer peer' bytes text true × AreGood peer'
 -- out of memory: all the text so far was written
-HasServedBy Adds before peer peer' (Err faults.OutOfMemory) =
-    (s : SessionState) × (unfed : List ℕ) × HasServedSoFar Adds before peer peer' s unfed [] true
+HasServed on_bad Adds before peer peer' contents writer writer' (Err faults.OutOfMemory) =
+    (s : SessionState) × (unfed : List ℕ)
+    × HasServedSoFar on_bad (HasPassedPart on_bad contents writer writer') Adds before peer peer' s unfed [] true
     × AreGood peer'
 -- a write failed: a prefix was written of the answers with what is added, or of the whole answer with that
-HasServedBy Adds before peer peer' (Err faults.Write) =
+HasServed on_bad Adds before peer peer' contents writer writer' (Err faults.Write) =
     (((s : SessionState) × (unfed unsent : List ℕ) × (flushed : Bool)
-    × HasServedSoFar Adds before peer peer' s unfed unsent flushed)
-    ⊎ ((bytes answer sent unsent : List ℕ) × (flushed : Bool) × HasAnsweredAll before peer peer' bytes answer
-    × Adds answer (sent ++ unsent) × HasTalked Adds before peer peer' bytes sent flushed))
+    × HasServedSoFar on_bad (HasPassed on_bad AreFirst contents writer writer') Adds before peer peer' s unfed
+    unsent flushed)
+    ⊎ ((came fed answer sent unsent : List ℕ) × (flushed : Bool)
+    × HasPassed on_bad AreFirst contents writer writer' came fed × HasAnsweredAll before peer' fed answer
+    × Adds answer (sent ++ unsent) × HasTalked on_bad Adds before peer peer' came sent flushed))
     × (peer'.read_failed ≡ false) × (peer'.write_failed ≡ true)
--- more bytes came than a u64 counts, and each complete line of them is answered
-HasServedBy Adds before peer peer' (Err faults.TooLong) =
-    (s : SessionState) × (served : HasServedSoFar Adds before peer peer' s [] [] true)
-    × (2 ^ 64 - 1 ≤ length served.came)
-    × IsAnsweredSoFar s × AreGood peer'
-
--- what serving did, if nothing is added: what was written is the answer
-abbrev pub HasServed : FacilityState → PeerState → PeerState → Result Unit ServeFault → Type 0
-HasServed = HasServedBy AddsNothing
+-- more bytes came than a u64 counts, and each complete line of them is answered, or was reported
+HasServed on_bad Adds before peer peer' contents writer writer' (Err faults.TooLong) =
+    (s : SessionState)
+    × (served : HasServedSoFar on_bad (HasPassed on_bad AreSoFar contents writer writer') Adds before peer peer' s []
+    [] true)
+    × (2 ^ 64 - 1 ≤ length served.came) × IsAnsweredSoFar s × AreGood peer'

@@ -1,5 +1,5 @@
 //! Lemmas about scripts and the text that answers them, each the contract of a function that does nothing.
-ghost use Rattle.std.specs.Prelude.{◌≡◌, ◌++◌, ℕ, List, [], length, true, Some, Result};
+ghost use Rattle.std.specs.Prelude.{◌≡◌, ◌++◌, ℕ, List, [], length, true, Bool, Some, Result};
 ghost use Rattle.timer_base.specs.declared.limits.TheConstants.{LAST};
 ghost use Rattle.timer_facility.specs.declared.event.Event.{Event};
 ghost use Rattle.timer_facility.specs.State.{FacilityState, IsSound};
@@ -10,11 +10,15 @@ ghost use Rattle.timer_script.specs.Script.{IsScript, IsBadLine};
 ghost use Rattle.timer_script.specs.ScriptRun.{IsAnswer};
 ghost use Rattle.timer_script.specs.declared.fault.SessionFault.TheVariants.{Bad};
 ghost use Rattle.timer_script.specs.declared.fault.ServeFault.{ServeFault};
+ghost use Rattle.timer_script.specs.declared.intake.OnBadLine.{OnBadLine};
+ghost use Rattle.timer_script.specs.declared.watched.Watched.{Watched};
+ghost use Rattle.timer_script.specs.Decorator.{AddsNothing};
 ghost use Rattle.timer_script.specs.Peer.{PeerState, Moment};
 ghost use Rattle.timer_script.specs.Service.{IsPrompt, HasServed};
 ghost use Rattle.timer_script.specs.Session.{SessionState, fresh, HasFed, HasFailed, WhyNotEnded, IsStoppedAt};
 ghost use Rattle.timer_script.specs.Text.{end_line};
 
+use std::io::Write;
 use timer_facility::laws::players_give_the_same;
 
 /// The limits that the definitions name, as numbers.
@@ -76,9 +80,11 @@ pub fn a_session_stops_at_the_first_bad_line()
 {}
 
 /// The calls of a peer, if they are known, are prompt, however serving ends: before each read every
-/// complete line that came was answered, and the answers were flushed.
-pub fn served_calls_are_prompt()
-    ensures { (before : FacilityState) (peer after : PeerState) (result : Result Unit ServeFault)
+/// complete line that came, or every good one if bad ones are reported, was answered, and the answers flushed.
+pub fn served_calls_are_prompt<F: Write>()
+    ensures { (on_bad : OnBadLine) (before : FacilityState) (peer after : PeerState)
+        (writer writer' : Watched F) (result : Result Bool ServeFault)
         (calls : List Moment) → peer.moments ≡ Some [] → after.moments ≡ Some calls
-        → HasServed before peer after result → IsPrompt (fresh before) [] [] true calls }
+        → HasServed on_bad AddsNothing before peer after F.contents writer writer' result
+        → IsPrompt on_bad (fresh before) [] [] true calls }
 {}

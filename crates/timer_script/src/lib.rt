@@ -10,7 +10,7 @@
 //!
 //!     bytes       digits and lines (`lines`), scripts (`script`), a stream cut into lines (`splitter`)
 //!     runs        `input`, `output`, `script_run`, `answer` (the same in memory), `text`
-//!     streams     `session`, `peer`, `streams`, `service`, `decorator`; past bad lines `sieve`, `good_lines`
+//!     streams     `session`, `peer`, `streams`, `service`, `decorator`; past bad lines `sieve`, `intake`
 //!     bad lines   `line_fault` and `diagnosis` (one line), `script_report` (those of a script)
 #![tactic(auto)]
 
@@ -18,8 +18,8 @@ mod answer;
 mod decorator;
 mod diagnosis;
 mod fault;
-mod good_lines;
 mod input;
+mod intake;
 pub mod laws;
 mod line_fault;
 mod lines;
@@ -38,11 +38,11 @@ mod text;
 mod watched;
 
 pub use answer::answer_of;
-pub use decorator::Decorator;
+pub use decorator::{Decorator, Undecorated};
 pub use diagnosis::fault_in_line;
 pub use fault::{RunFault, ScriptFault, ServeFault, SessionFault};
-pub use good_lines::serve_good;
 pub use input::MAX_BYTES;
+pub use intake::OnBadLine;
 pub use line_fault::{Field, LineFault, LineReason};
 pub use lines::MAX_TICKS;
 pub use output::write_text;
@@ -50,7 +50,7 @@ pub use peer::Peer;
 pub use script::parse_script;
 pub use script_report::{check, scripts_have_no_bad_line};
 pub use script_run::run;
-pub use service::{serve, serve_decorated};
+pub use service::serve;
 pub use session::{FeedStop, Session};
 pub use stage::Stage;
 pub use streams::Streams;

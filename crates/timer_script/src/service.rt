@@ -1,18 +1,22 @@
 //! A session with a peer: each line is answered as soon as it is whole.
 //!
 //! A turn reads once, plays the lines that came, and writes and flushes their answers. So whenever more
-//! is read, each whole line that came has been answered. A decorator may add text after an answer.
+//! is read, each whole line that came has been answered. A decorator may add text after an answer. An intake
+//! decides whether a bad line ends the session, or is reported to a second writer.
 ghost use Rattle.std.specs.Prelude.{◌≡◌, ◌≢◌, [], false, true, IfErr, OnErr, OnOk};
 ghost use Rattle.timer_script.specs.Session.{IsAnsweredSoFar};
-ghost use Rattle.timer_script.specs.Service.{AreGood, HasSent, HasSentPart, HasAnswered, StopsAnswer, HasServedPiece, StopsPiece, StopsEnd, HasServedBy, HasServed, serve_fault, last_line};
+ghost use Rattle.timer_script.specs.Service.{AreGood, HasSent, HasSentPart, HasAnswered, StopsAnswer, HasServedPiece, StopsPiece, StopsEnd, HasServed, serve_fault, last_line};
 
-use crate::decorator::{Decorator, Undecorated};
+use crate::decorator::Decorator;
 use crate::fault::{ServeFault, SessionFault};
 use crate::input::zeroed_buffer;
+use crate::intake::{Intake, OnBadLine};
 use crate::peer::Peer;
 use crate::session::Session;
 use crate::splitter::line_len;
+use crate::watched::Watched;
 use std::alloc::Global;
+use std::io::Write;
 use timer_base::Wheel;
 use timer_facility::Facility;
 
@@ -21,7 +25,7 @@ pub const PIECE: usize = 65536;
 
 /// Writes the text and nothing else, and flushes. Fails if a write or the flush fails, or a write
 /// takes no byte.
-pub fn send<P: Peer>(peer: &mut P, text: &[u8]) -> Result<(), ServeFault>
+fn send<P: Peer>(peer: &mut P, text: &[u8]) -> Result<(), ServeFault>
     requires { (P.state peer.old).write_failed ≡ false }
     ensures ok { OnOk result (HasSent (P.state peer.old) text.now (P.state peer.new)) }
     ensures fault { IfErr result (λ fault. fault ≡ ServeFault.Write) }
@@ -44,7 +48,7 @@ pub fn send<P: Peer>(peer: &mut P, text: &[u8]) -> Result<(), ServeFault>
 }
 
 /// The fault of a session that was not ended before.
-pub fn serve_fault_of(fault: SessionFault) -> ServeFault
+fn serve_fault_of(fault: SessionFault) -> ServeFault
     requires { fault ≢ SessionFault.Ended }
     ensures { result ≡ serve_fault fault }
 {
@@ -142,7 +146,7 @@ fn serve_piece<P: Peer, W: Wheel + Drop, D: Decorator<W>>(
 }
 
 /// Writes and flushes the end line, if no line is held in part.
-pub fn finish<P: Peer, W: Wheel + Drop>(
+fn finish<P: Peer, W: Wheel + Drop>(
     session: &mut Session<W>,
     peer: &mut P,
     line: &mut Vec<u8>,
@@ -160,35 +164,32 @@ pub fn finish<P: Peer, W: Wheel + Drop>(
     }
 }
 
-/// Answers each line as soon as it is whole, until the peer's end, and then writes the end line.
+/// Answers each line as soon as it is whole, until the peer's end, and then writes the end line. Returns
+/// whether no line was bad.
 ///
-/// The text is the one that `run` writes for the same input, which may have any length here.
-/// Before each read every whole line that came has been answered, and the answers flushed. The peer may
-/// not have failed before, and nothing may be pending in the facility or wait in it.
-pub fn serve<P: Peer, W: Wheel + Drop>(
-    alloc: Global,
-    peer: &mut P,
-    facility: Facility<W>,
-) -> Result<(), ServeFault>
-    requires good { AreGood (P.state peer.old) }
-    requires pending { facility.state.pending ≡ [] }
-    requires waiting { facility.waiting ≡ [] }
-    ensures { HasServed facility.state (P.state peer.old) (P.state peer.new) result }
-{
-    serve_decorated(alloc, peer, facility, &Undecorated)
-}
-
-/// Serves as `serve` does, and adds what the decorator adds after the answers.
-pub fn serve_decorated<P: Peer, W: Wheel + Drop, D: Decorator<W>>(
+/// The text is the one that `run` writes for the same input, which may have any length here, with what the
+/// decorator adds after the answers. Before each read every whole line that came has been answered, and the
+/// answers flushed.
+///
+/// With `OnBadLine::Stop` a bad line ends it as an error, and nothing is written to `faults`. With `Report`
+/// what is written to the peer is the answer to the good lines alone, and a bad line is reported to `faults` by
+/// its number, counted from 1 over all lines (2^64 - 1 stands for any later one). The reports of one read are
+/// written before its answers: no clause says so. An error in reporting is ignored, and ends the reports.
+///
+/// The peer may not have failed before, and nothing may be pending in the facility or wait in it.
+pub fn serve<P: Peer, W: Wheel + Drop, D: Decorator<W>, F: Write>(
     alloc: Global,
     peer: &mut P,
     facility: Facility<W>,
     decorator: &D,
-) -> Result<(), ServeFault>
+    on_bad: OnBadLine,
+    faults: &mut Watched<F>,
+) -> Result<bool, ServeFault>
     requires good { AreGood (P.state peer.old) }
     requires pending { facility.state.pending ≡ [] }
     requires waiting { facility.waiting ≡ [] }
-    ensures { HasServedBy D.adds facility.state (P.state peer.old) (P.state peer.new) result }
+    ensures { HasServed on_bad D.adds facility.state (P.state peer.old) (P.state peer.new)
+        F.contents faults.old faults.new result }
 {
     // Brings what `owed` rests on into scope for the prover.
     let _now = facility.now();
@@ -197,13 +198,28 @@ pub fn serve_decorated<P: Peer, W: Wheel + Drop, D: Decorator<W>>(
     };
     let mut text = Vec::new(alloc);
     let mut session = Session::open(alloc, facility);
+    let mut intake = Intake::new(alloc, on_bad);
     for turned in 0..u64::MAX {
         let Ok(n) = peer.read(&mut piece) else {
             return Err(ServeFault::Read);
         };
-        serve_piece(&mut session, peer, decorator, &piece[..n], &mut text)?;
+        let came = &piece[..n];
+        let Ok(()) = intake.take_in(came, faults) else {
+            return Err(ServeFault::OutOfMemory);
+        };
+        serve_piece(
+            &mut session,
+            peer,
+            decorator,
+            intake.passed(came),
+            &mut text,
+        )?;
         if n == 0 {
-            return finish(&mut session, peer, &mut text);
+            let Ok(()) = intake.end(faults) else {
+                return Err(ServeFault::OutOfMemory);
+            };
+            finish(&mut session, peer, &mut text)?;
+            return Ok(intake.clean);
         }
     }
     Err(ServeFault::TooLong)

@@ -5,7 +5,7 @@ use std::alloc::Global;
 use std::io;
 use std::io::{ErrorKind, Write};
 use std::process::Abort;
-use timer_script::{ServeFault, Watched, serve_good};
+use timer_script::{OnBadLine, ServeFault, Undecorated, Watched, serve};
 
 /// Takes some bytes, and then fails.
 #[derive(Drop)]
@@ -51,7 +51,7 @@ static ROWS: [Row; 10] = [
         size: 100,
         fails_at: u64::MAX,
         room: usize::MAX,
-        log: "<>end 0 0\n!",
+        log: "<!>end 0 0\n!",
         reports: "",
         end: Ok(true),
     },
@@ -60,7 +60,7 @@ static ROWS: [Row; 10] = [
         size: 100,
         fails_at: u64::MAX,
         room: usize::MAX,
-        log: "<tick 2\nclose\n>closed 0\n!<>end 2 0\n!",
+        log: "<tick 2\nclose\n>closed 0\n!<!>end 2 0\n!",
         reports: "",
         end: Ok(true),
     },
@@ -69,7 +69,7 @@ static ROWS: [Row; 10] = [
         size: 100,
         fails_at: u64::MAX,
         room: usize::MAX,
-        log: "<tikc 2\ntick 3\n!<>end 3 0\n!",
+        log: "<tikc 2\ntick 3\n!<!>end 3 0\n!",
         reports: "bad line 1\n",
         end: Ok(false),
     },
@@ -78,7 +78,7 @@ static ROWS: [Row; 10] = [
         size: 100,
         fails_at: u64::MAX,
         room: usize::MAX,
-        log: "<tick 2\n\ntick 3\n!<>end 5 0\n!",
+        log: "<tick 2\n\ntick 3\n!<!>end 5 0\n!",
         reports: "bad line 2\n",
         end: Ok(false),
     },
@@ -87,7 +87,7 @@ static ROWS: [Row; 10] = [
         size: 100,
         fails_at: u64::MAX,
         room: usize::MAX,
-        log: "<a\nb\nclose\nc\nd\n>closed 0\n!<>end 0 0\n!",
+        log: "<a\nb\nclose\nc\nd\n>closed 0\n!<!>end 0 0\n!",
         reports: "bad line 1\nbad line 2\nbad line 4\nbad line 5\n",
         end: Ok(false),
     },
@@ -96,7 +96,7 @@ static ROWS: [Row; 10] = [
         size: 100,
         fails_at: u64::MAX,
         room: usize::MAX,
-        log: "<tick 2\r\ntick 3\n!<>end 3 0\n!",
+        log: "<tick 2\r\ntick 3\n!<!>end 3 0\n!",
         reports: "bad line 1\n",
         end: Ok(false),
     },
@@ -105,7 +105,7 @@ static ROWS: [Row; 10] = [
         size: 100,
         fails_at: u64::MAX,
         room: usize::MAX,
-        log: "<tick 2\ntick 3!<>end 2 0\n!",
+        log: "<tick 2\ntick 3!<!>end 2 0\n!",
         reports: "bad line 2\n",
         end: Ok(false),
     },
@@ -114,7 +114,7 @@ static ROWS: [Row; 10] = [
         size: 1,
         fails_at: u64::MAX,
         room: usize::MAX,
-        log: "<c!<l!<o!<s!<e!<\n>closed 0\n!<x!<\n!<c!<l!<o!<s!<e!<\n>close refused closed\n!<>end 0 0\n!",
+        log: "<c!<l!<o!<s!<e!<\n>closed 0\n!<x!<\n!<c!<l!<o!<s!<e!<\n>close refused closed\n!<!>end 0 0\n!",
         reports: "bad line 2\n",
         end: Ok(false),
     },
@@ -132,7 +132,7 @@ static ROWS: [Row; 10] = [
         size: 2,
         fails_at: u64::MAX,
         room: 5,
-        log: "<x\n!<cl!<os!<e\n>closed 0\n!<y\n!<>end 0 0\n!",
+        log: "<x\n!<cl!<os!<e\n>closed 0\n!<y\n!<!>end 0 0\n!",
         reports: "bad l",
         end: Ok(false),
     },
@@ -146,7 +146,14 @@ fn serve_row(rt: &impl Abort, alloc: Global, script: &[u8], row: &Row) -> Vec<u8
         text: Vec::new(alloc),
         room: row.room,
     });
-    let end = serve_good(alloc, &mut peer, facility, &mut faults);
+    let end = serve(
+        alloc,
+        &mut peer,
+        facility,
+        &Undecorated,
+        OnBadLine::Report,
+        &mut faults,
+    );
     let reports = faults.into_inner().text;
     same_in(rt, row.script, reports.as_slice(), row.reports.as_bytes());
     same_in(rt, row.script, end, row.end);

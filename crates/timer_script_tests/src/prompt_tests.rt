@@ -5,14 +5,14 @@ ghost use Rattle.timer_script.specs.Peer.{moment_of};
 ghost use Rattle.timer_script.specs.Session.{fresh};
 ghost use Rattle.timer_script.specs.Service.{IsPrompt};
 
-use crate::support::{plain_facility, same};
+use crate::support::{Nowhere, plain_facility, same};
 use std::alloc::Global;
 use std::io;
 use std::process::Abort;
 use timer_base::PlainWheel;
 use timer_facility::Facility;
 use timer_script::laws::served_calls_are_prompt;
-use timer_script::{Peer, ServeFault, serve};
+use timer_script::{OnBadLine, Peer, ServeFault, Undecorated, Watched, serve};
 
 /// Gives its bytes in pieces of `size`, and keeps each call: `<` and what came, `>` and what went, or `!`
 /// for a flush. No call fails.
@@ -78,15 +78,22 @@ fn serve_known<R: Abort + Drop>(
     alloc: Global,
     peer: &mut Known<'_, R>,
     facility: Facility<PlainWheel>,
-) -> Result<(), ServeFault>
+) -> Result<bool, ServeFault>
     requires none { peer.old.calls.items ≡ [] }
     requires pending { facility.state.pending ≡ [] }
     requires waiting { facility.waiting ≡ [] }
-    ensures { IsPrompt (fresh facility.state) [] [] true
+    ensures { IsPrompt OnBadLine.Stop (fresh facility.state) [] [] true
         (map moment_of (map (λ call. call.items) peer.new.calls.items)) }
 {
-    served_calls_are_prompt();
-    serve(alloc, peer, facility)
+    served_calls_are_prompt::<Nowhere>();
+    serve(
+        alloc,
+        peer,
+        facility,
+        &Undecorated,
+        OnBadLine::Stop,
+        &mut Watched::new(Nowhere),
+    )
 }
 
 #[test]
@@ -100,7 +107,7 @@ fn the_calls_of_a_peer_that_keeps_them_are_prompt(rt: HostRuntime) {
         calls: Vec::new(alloc),
     };
     let facility = plain_facility(&rt, alloc, 1, 10);
-    same(&rt, serve_known(alloc, &mut peer, facility), Ok(()));
+    same(&rt, serve_known(alloc, &mut peer, facility), Ok(true));
     let wanted: [&[u8]; 10] = [
         b"<start 0 1 3 7\n",
         b">started 0 1 1 3\n",

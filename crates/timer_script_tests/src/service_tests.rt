@@ -1,8 +1,8 @@
 //! In which order the calls of a server come, and which call is the last.
 use crate::recorded_peer::RecordedPeer;
-use crate::support::{plain_facility, same_in};
+use crate::support::{Nowhere, plain_facility, same_in};
 use std::process::Abort;
-use timer_script::{ServeFault, serve};
+use timer_script::{OnBadLine, ServeFault, Undecorated, Watched, serve};
 
 /// A peer that gives these bytes in pieces of `size`, and whose call number `fails_at` fails.
 #[derive(Clone, Copy)]
@@ -12,7 +12,7 @@ struct Row {
     fails_at: u64,
     /// Its calls.
     log: &'static str,
-    end: Result<(), ServeFault>,
+    end: Result<bool, ServeFault>,
 }
 
 static ROWS: [Row; 9] = [
@@ -21,14 +21,14 @@ static ROWS: [Row; 9] = [
         size: 7,
         fails_at: u64::MAX,
         log: "<tick 9\n!<close\n>closed 0\n!<!>end 9 0\n!",
-        end: Ok(()),
+        end: Ok(true),
     },
     Row {
         script: "start 0 1 3 7\ntick 3\n",
         size: 14,
         fails_at: u64::MAX,
         log: "<start 0 1 3 7\n>started 0 1 1 3\n!<tick 3\n>expired 3 0 1 7\n!<!>end 3 0\n!",
-        end: Ok(()),
+        end: Ok(true),
     },
     Row {
         script: "close\ncl",
@@ -87,7 +87,15 @@ fn each_line_is_answered_before_more_is_read_and_a_failed_call_is_the_last(rt: H
         let facility = plain_facility(&rt, rt.alloc(), 1, 10);
         let script = row.script.as_bytes();
         let mut peer = RecordedPeer::new(rt.alloc(), script, row.size, row.fails_at);
-        let end = serve(rt.alloc(), &mut peer, facility);
+        let mut faults = Watched::new(Nowhere);
+        let end = serve(
+            rt.alloc(),
+            &mut peer,
+            facility,
+            &Undecorated,
+            OnBadLine::Stop,
+            &mut faults,
+        );
         let name = (row.script, row.fails_at);
         same_in(&rt, name, peer.log.as_slice(), row.log.as_bytes());
         same_in(&rt, name, end, row.end);

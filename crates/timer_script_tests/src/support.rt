@@ -3,6 +3,8 @@ ghost use Rattle.std.specs.Prelude.{◌≡◌, []};
 
 use std::alloc::Global;
 use std::fmt::Debug;
+use std::io;
+use std::io::Write;
 use std::process::Abort;
 use timer_base::PlainWheel;
 use timer_facility::{Config, Facility};
@@ -54,4 +56,18 @@ pub fn plain_facility(
         first_number: 1,
     };
     facility(rt, alloc, config)
+}
+
+/// Takes all bytes, and keeps none.
+#[derive(Drop)]
+pub struct Nowhere;
+
+impl Write for Nowhere {
+    fn write(&mut self, buf: &[u8]) -> io::Result<usize> {
+        Ok(buf.len())
+    }
+
+    fn flush(&mut self) -> io::Result<()> {
+        Ok(())
+    }
 }

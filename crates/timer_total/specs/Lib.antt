@@ -1,3 +1,5 @@
 pub mod Deadlines
 pub mod Refusals
 pub mod Ticks
+pub mod Taken
+pub mod Drops

@@ -86,3 +86,7 @@ abbrev pub WhyNotTicked : WheelState → AdvanceFault → Type 0
 WhyNotTicked w fault =
     ((fault ≡ tick.Due) × (0 < length w.due))
     ⊎ ((fault ≡ tick.ClockEnd) × (w.due ≡ []) × (w.now ≡ w.last_tick) × (w.pending ≡ []))
+
+-- why no tick of those that were asked for is passed: for no tick there is no reason
+abbrev pub WhyNotAdvanced : ℕ → WheelState → AdvanceFault → Type 0
+WhyNotAdvanced most w fault = (0 < most) × WhyNotTicked w fault

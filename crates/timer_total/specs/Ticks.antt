@@ -20,6 +20,10 @@ pub record Passes (most passed : ℕ) (old new : WheelState) : Type 0 where
   -- it stops early only if something is due, or the clock is at its end
   pub early : passed < most → (0 < length new.due) ⊎ (new.now ≡ new.last_tick)
 
+-- an advance that was accepted: a tick is passed only if nothing is due and the clock is not at its end
+abbrev pub IsAdvanced : ℕ → ℕ → WheelState → WheelState → Type 0
+IsAdvanced most passed old new = (0 < most → (old.due ≡ []) × (old.now < old.last_tick)) × Passes most passed old new
+
 -- ticks use no serial
 pub after_ticks-numbered : (n serial : ℕ) (w : WheelState)
     → numbered serial (after_ticks n w) ≡ after_ticks n (numbered serial w)

@@ -4,8 +4,10 @@ ghost use Rattle.timer_base.specs.declared.limits.TheConstants.{LAST};
 ghost use Rattle.timer_base.specs.WakeUps.{IsQuietUntil, next_deadline};
 ghost use Rattle.timer_base.specs.WheelState.{WheelState, first_due, after_start, after_reserve, after_tick, after_expiry};
 ghost use Rattle.timer_total.specs.Deadlines.{interval_until, after_start_due, after_start_at, IsCounted};
-ghost use Rattle.timer_total.specs.Refusals.{next_timer, left_until, held_at, after_removal, IsStartable, IsRoomUsed, IsAt, WhyNotStarted, WhyNotRestarted, WhyNotTicked};
-ghost use Rattle.timer_total.specs.Ticks.{Passes, numbered};
+ghost use Rattle.timer_total.specs.Refusals.{next_timer, left_until, held_at, after_removal, IsStartable, IsRoomUsed, IsAt, WhyNotStarted, WhyNotRestarted, WhyNotTicked, WhyNotAdvanced};
+ghost use Rattle.timer_total.specs.Taken.{IsTakenBy};
+ghost use Rattle.timer_total.specs.Ticks.{IsAdvanced, numbered};
+ghost use Rattle.timer_total.specs.Drops.{without_due, after_drop};
 
 use crate::fault::{AdvanceFault, RestartFault, StartFault};
 use crate::replacement::replace;
@@ -305,6 +307,34 @@ impl<W: Wheel + Drop> Timers<W> {
         }
     }
 
+    /// Starts a timer that expires at the tick `deadline`, as `start_at`, in place of the timer with exactly this
+    /// handle, if there is one: it is restarted then, as by `restart_at`, and nothing is allocated.
+    ///
+    /// The errors are those of `start_at`. It is out of memory only if no timer has the handle.
+    pub fn set_at(
+        &mut self,
+        handle: Handle,
+        deadline: u64,
+        action: u64,
+    ) -> Result<Handle, StartFault>
+        ensures set { IfOk result (λ made.
+            self.new ≡ after_start_at made.place deadline action (after_removal handle self.old)) }
+        ensures named { IfOk result (λ made. made.serial ≡ self.old.last_serial + 1) }
+        ensures in_order { IfOk result (λ _. IsStartable (interval_until deadline self.old) self.old) }
+        ensures fault { IfErr result (λ fault. WhyNotStarted (interval_until deadline self.old) self.old fault
+            ⊎ ((fault ≡ StartFault.OutOfMemory) × (held_at handle self.old ≡ None)
+            × IsStartable (interval_until deadline self.old) self.old × IsRoomUsed self.old)) }
+        ensures err { OnErr result (self.new ≡ self.old) }
+    {
+        match self.restart_at(handle, deadline, action) {
+            Ok(made) => Ok(made),
+            Err(RestartFault::NotPending) => self.start_at(deadline, action),
+            Err(RestartFault::ZeroInterval) => Err(StartFault::ZeroInterval),
+            Err(RestartFault::TooLate) => Err(StartFault::TooLate),
+            Err(RestartFault::SerialsSpent) => Err(StartFault::SerialsSpent),
+        }
+    }
+
     /// Whether a restart of the timer with this handle is accepted.
     fn check_restart(&self, handle: Handle, interval: u64) -> Result<(), RestartFault>
         ensures in_order { IfOk result (λ _. IsAt handle self.now × IsStartable interval self.now) }
@@ -342,15 +372,17 @@ impl<W: Wheel + Drop> Timers<W> {
     }
 
     /// Passes at most `most` ticks, stops at the first at which a timer expires, and returns how many
-    /// were passed: 0 only if `most` is 0.
+    /// were passed: 0 only if `most` is 0. Then nothing changes, and there is no error.
     ///
     /// Stretches in which nothing expires are skipped, as far as the wheel can skip them.
     pub fn advance(&mut self, most: u64) -> Result<u64, AdvanceFault>
-        ensures passed { IfOk result (λ passed. (self.old.due ≡ []) × (self.old.now < self.old.last_tick)
-            × Passes most passed self.old self.new) }
-        ensures fault { IfErr result (WhyNotTicked self.old) }
+        ensures passed { IfOk result (λ passed. IsAdvanced most passed self.old self.new) }
+        ensures fault { IfErr result (WhyNotAdvanced most self.old) }
         ensures err { OnErr result (self.new ≡ self.old) }
     {
+        if most == 0 {
+            return Ok(0);
+        }
         if self.wheel.has_due() {
             return Err(AdvanceFault::Due);
         }
@@ -358,10 +390,17 @@ impl<W: Wheel + Drop> Timers<W> {
         if left == 0 {
             return Err(AdvanceFault::ClockEnd);
         }
-        if most == 0 {
-            return Ok(0);
-        }
         Ok(self.wheel.advance(most.min(left)))
+    }
+
+    /// Passes ticks up to this one, as `advance`, and stops at the first at which a timer expires. A tick that
+    /// is not after the present one is none to pass: then nothing changes, and there is no error.
+    pub fn advance_to(&mut self, tick: u64) -> Result<u64, AdvanceFault>
+        ensures passed { IfOk result (λ passed. IsAdvanced (left_until tick self.old) passed self.old self.new) }
+        ensures fault { IfErr result (WhyNotAdvanced (left_until tick self.old) self.old) }
+        ensures err { OnErr result (self.new ≡ self.old) }
+    {
+        self.advance(self.until(tick))
     }
 
     /// Removes the first of the expired timers, in order of starting, and returns it.
@@ -371,4 +410,32 @@ impl<W: Wheel + Drop> Timers<W> {
     {
         self.wheel.expire()
     }
+
+    /// Removes the next timer that is due by this tick, and returns it: one that has expired already, or the
+    /// first whose deadline is at most this tick, up to which ticks are passed.
+    ///
+    /// With None the clock is at this tick, or at its last one, or was past it before. Does not allocate.
+    pub fn take(&mut self, tick: u64) -> Option<Timer>
+        ensures { IsTakenBy tick result self.old self.new }
+    {
+        // Refused while an expired timer waits, and at the last tick: then no tick has to pass.
+        let _passed = self.advance_to(tick);
+        self.expire()
+    }
+
+    /// Drops every timer, pending or expired and not yet taken. The clock and the last serial stay. Does not
+    /// allocate.
+    pub fn clear(&mut self)
+        ensures { self.new ≡ after_drop self.old }
+    {
+        self.wheel.clear();
+        drop_due(&mut self.wheel);
+    }
+}
+
+/// Drops the timers that are due.
+fn drop_due<W: Wheel>(wheel: &mut W)
+    ensures { W.state wheel.new ≡ without_due (W.state wheel.old) }
+{
+    while wheel.expire().is_some() {}
 }

@@ -314,7 +314,7 @@ module _ (t : Table) (b : Buckets) (words : List ℕ) (h : IsHier t b words) (l 
 
   standing : (s : ℕ) → s < b.slots → AllByRecursion (IsStanding (radices t) b.tick s) (list_at s b.links.lists)
   standing s k = standing-rows (radices t) b.last_tick b.tick b.last_serial s (list_at s b.links.lists)
-      (all-list_at (λ row. IsPending b.last_tick b.tick b.last_serial (timer_in row)) b.slots b.links.lists b.pending s k) (h.placed s k)
+      (all-list_at (λ row. IsPending b.last_tick b.tick b.last_serial (timer_in row)) b.slots b.links.lists b.sound.pending s k) (h.placed s k)
 
   some_there : 0 < length (list_at l b.links.lists)
   some_there = filled_some t b words h (list_at l b.links.lists) (sym (h.marked.0 l first_below) ∙ f.1)
@@ -348,7 +348,7 @@ module _ (t : Table) (b : Buckets) (words : List ℕ) (h : IsHier t b words) (l 
 
   least_of_first : (d : ℕ) → IsLeast d (timers_in (list_at l b.links.lists)) → Some d ≡ next_deadline (state_of b).pending
   least_of_first d m =
-      let n : length b.links.lists ≡ b.slots + 1 = b.has_lists in
+      let n : length b.links.lists ≡ b.slots + 1 = b.sound.has_lists in
       least_is_next (Some d) (rows_below b.slots b.links.lists) (record {
         has = has_below d b.slots l b.links.lists first_below (let k : l < b.slots = first_below in omega arith) m.has;
         none_earlier = of_timers d (rows_below b.slots b.links.lists)

@@ -9,15 +9,15 @@ use Rattle.timer_base.specs.declared.timer.Timer.{Timer}
 use Rattle.timer_base.specs.Order.{in_order, AreDistinct, AreRising}
 use Rattle.timer_base.specs.OrderLaws.{filter-in_order, in_order-same, AllAt, AreRising-weaken, All-weaken}
 use Rattle.timer_base.specs.Pending.{Entry, timer_of, is_due_at, entries_due, entries_left}
-use Rattle.timer_base.specs.WheelState.{IsPending, after_tick}
+use Rattle.timer_base.specs.WheelState.{WheelState, IsPending, after_tick}
 use Rattle.timer_links.specs.declared.node.Node.{Node}
 use Rattle.timer_links.specs.Lists.{list_at, KeyedLists}
-use Rattle.timer_wheels.specs.BucketLaws.{timers_of-entries}
-use Rattle.timer_wheels.specs.BucketLists.{timer_in, timers_in, entry_of, entries_of, rows_below, pending_in, wheel_state, ArePending, AreInOrder}
+use Rattle.timer_wheels.specs.BucketLaws.{timers_of-entries, wheel_state-well_formed}
+use Rattle.timer_wheels.specs.BucketLists.{timer_in, timers_in, entry_of, entries_of, rows_below, pending_in, wheel_state, ArePending, AreInOrder, AreBuckets}
 use Rattle.timer_wheels.specs.Hashed.{IsInBucket, AreInBuckets, rounds_of}
 use Rattle.timer_wheels.specs.Sweep.{due_now, due_later, swept}
 use Rattle.timer_wheels.proofs.RowLemmas.{all-rows_below, all-list_at, append-nil, entries-append, filter-entries, filter-append, is_due}
-use Rattle.timer_wheels.proofs.BucketLemmas.{filter-pending_in, AreDistinct-part}
+use Rattle.timer_wheels.proofs.BucketLemmas.{filter-pending_in, AreDistinct-part, due_past}
 use Rattle.timer_wheels.proofs.ShownLemmas.{filter-one_list}
 
 -- Numbers.
@@ -231,7 +231,7 @@ module _ (n last_tick now last : ℕ) (lists : KeyedLists) (z : 0 < n) (len : le
   staying_rows t h e = All-weaken (StaysIn n last_tick now last t) (StaysIn n last_tick (now + 1) last t) (list_at t lists)
       (λ row q. let f = off_slot n now t row z e q.0.later q.1 in (still last_tick now last (timer_in row) q.0 f.0, f.1)) (stays t h)
 
-  pub length-swept : length (swept ((now + 1) % n) n lists) ≡ length lists
+  length-swept : length (swept ((now + 1) % n) n lists) ≡ length lists
   length-swept = length-set (slice_set lists ((now + 1) % n) (due_later (list_at ((now + 1) % n) lists) ++ [])) n (list_at n lists
       ++ due_now (list_at ((now + 1) % n) lists)) ∙ length-set lists ((now + 1) % n) (due_later (list_at ((now + 1) % n) lists) ++ [])
 
@@ -278,7 +278,7 @@ module _ (n last_tick now last : ℕ) (lists : KeyedLists) (z : 0 < n) (len : le
   rows_left = entries_below (λ (entry : Entry). not (is_due_at (now + 1) entry.timer)) n lists (swept ((now + 1) % n) n lists)
       (sym length-swept) left_in
 
-  pub ticked-pending : ArePending last_tick (now + 1) last (rows_below n (swept ((now + 1) % n) n lists))
+  ticked-pending : ArePending last_tick (now + 1) last (rows_below n (swept ((now + 1) % n) n lists))
   ticked-pending = all-rows_below (λ row. IsPending last_tick (now + 1) last (timer_in row)) n (swept ((now + 1) % n) n lists)
       (λ t h. All-weaken (StaysIn n last_tick (now + 1) last t) (λ row. IsPending last_tick (now + 1) last (timer_in row))
       (list_at t (swept ((now + 1) % n) n lists)) (λ row q. q.0) (each_after t h))
@@ -287,7 +287,7 @@ module _ (n last_tick now last : ℕ) (lists : KeyedLists) (z : 0 < n) (len : le
   ticked-in_buckets t h = All-weaken (StaysIn n last_tick (now + 1) last t) (IsInBucket n (now + 1) t)
       (list_at t (swept ((now + 1) % n) n lists)) (λ row q. q.1) (each_after t h)
 
-  pub ticked-in_order : AreInOrder (n + 1) lists → AreInOrder (n + 1) (swept ((now + 1) % n) n lists)
+  ticked-in_order : AreInOrder (n + 1) lists → AreInOrder (n + 1) (swept ((now + 1) % n) n lists)
   ticked-in_order o t h = elim (cases_eq t n) [
     | inl e ↦ rw (e, at_due) (rising-now 0 (list_at ((now + 1) % n) lists) (o ((now + 1) % n) (omega (arith, below))))
     | inr x ↦ elim (cases_eq t ((now + 1) % n)) [
@@ -296,7 +296,7 @@ module _ (n last_tick now last : ℕ) (lists : KeyedLists) (z : 0 < n) (len : le
     ]
   ]
 
-  pub ticked-distinct : AreDistinct (timers_in (rows_below n lists))
+  ticked-distinct : AreDistinct (timers_in (rows_below n lists))
       → AreDistinct (timers_in (rows_below n (swept ((now + 1) % n) n lists)))
   ticked-distinct d =
       let left : List (ℕ × Node) = filter (λ (row : ℕ × Node). not (is_due_at (now + 1) (timer_in row))) (rows_below n lists) in
@@ -329,6 +329,20 @@ module _ (n last_tick now last : ℕ) (lists : KeyedLists) (z : 0 < n) (len : le
         at_due,
         due_rows o,
       ) refl
+
+  pub ticked-sound : AreBuckets n last_tick now last lists → now < last_tick
+      → AreBuckets n last_tick (now + 1) last (swept ((now + 1) % n) n lists)
+  ticked-sound a before = record {
+    last_in_range = a.last_in_range;
+    tick_in_range = omega arith;
+    serial_in_range = a.serial_in_range;
+    has_lists = length-swept ∙ len;
+    pending = ticked-pending;
+    distinct = ticked-distinct a.distinct;
+    due = due_past last_tick now (now + 1) last (pending_in (rows_below n lists)) (list_at n (swept ((now + 1) % n) n lists))
+        (wheel_state-well_formed n last_tick now last lists a).each (ap (λ (w : WheelState). w.due) (ticked a.in_order));
+    in_order = ticked-in_order a.in_order;
+  }
 
 -- Slots.
 

@@ -1,6 +1,6 @@
 -- Lemmas for `leap`: the first visit ahead, the clock set forward to it, and the loop of `advance_until_due`.
 use Rattle.timer_wheels.proofs.RoomLemmas.{leaps-with_room, wake_up-with_room}
-use Rattle.std.proofs.Common.{◌≡◌, ◌<◌, ◌≤◌, ◌+◌, ◌-◌, ◌*◌, ℕ, List, [], ◌∷◌, length, sym, ◌∙◌, ap, subst, inl, inr, arith}
+use Rattle.std.proofs.Common.{◌≡◌, ◌<◌, ◌≤◌, ◌+◌, ◌-◌, ◌*◌, ℕ, List, [], ◌∷◌, length, refl, sym, ◌∙◌, ap, subst, inl, inr, arith}
 use Rattle.std.specs.Prelude.{Some}
 use Rattle.std.specs.List.{AllByRecursion}
 use Rattle.std.proofs.lemmas.Bool.{cases_lt}
@@ -13,7 +13,8 @@ use Rattle.timer_links.specs.Lists.{list_at}
 use Rattle.timer_wheels.specs.declared.buckets.Buckets.{Buckets}
 use Rattle.timer_wheels.specs.Buckets.{state_of}
 use Rattle.timer_wheels.specs.declared.table.Table.{Table}
-use Rattle.timer_wheels.specs.Digits.{HasDigits, slots, bucket}
+use Rattle.timer_wheels.specs.declared.wheels.Wheels.{Wheels}
+use Rattle.timer_wheels.specs.Digits.{HasDigits, slots, last_of, bucket}
 use Rattle.timer_wheels.proofs.DigitLaws.{digits_down}
 use Rattle.timer_wheels.specs.Tables.{radices}
 use Rattle.timer_wheels.specs.Hier.{IsHier}
@@ -59,7 +60,7 @@ module _ (t : Table) (b : Buckets) (words : List ℕ) (h : IsHier t b words) whe
 
   known : (s : ℕ) → s < b.slots → AllByRecursion (IsKnown (radices t) b.tick s) (list_at s b.links.lists)
   known s k = known_rows s (list_at s b.links.lists) (all-list_at (λ row.
-      IsPending b.last_tick b.tick b.last_serial (timer_in row)) b.slots b.links.lists b.pending s k) (h.placed s k)
+      IsPending b.last_tick b.tick b.last_serial (timer_in row)) b.slots b.links.lists b.sound.pending s k) (h.placed s k)
 
   none_where : (s : ℕ) → s < b.slots → bit_of words s ≡ 0 → list_at s b.links.lists ≡ []
   none_where s k z = no_rows_there (list_at s b.links.lists) (sym (h.marked.0 s k) ∙ z)
@@ -152,10 +153,10 @@ module _ (t : Table) (b : Buckets) (words : List ℕ) (h : IsHier t b words) (z 
       let i = (of_table t).is_table in
       let d = last_digits t b words h in
       record {
-        pending = leapt_pending (radices t) b.last_tick b.tick (tick + 1) n i d near b.slots b.last_serial b.links.lists b.pending q;
-        placed = leapt_placed (radices t) b.last_tick b.tick (tick + 1) n i d near b.slots b.last_serial b.links.lists b.pending q h.placed;
+        pending = leapt_pending (radices t) b.last_tick b.tick (tick + 1) n i d near b.slots b.last_serial b.links.lists b.sound.pending q;
+        placed = leapt_placed (radices t) b.last_tick b.tick (tick + 1) n i d near b.slots b.last_serial b.links.lists b.sound.pending q h.placed;
         leaps = leaps-with_room b.links.room _ _ _ _
-            (leapt (radices t) b.last_tick b.tick (tick + 1) n i d near b.slots b.last_serial b.links.lists b.pending q z);
+            (leapt (radices t) b.last_tick b.tick (tick + 1) n i d near b.slots b.last_serial b.links.lists b.sound.pending q z);
       }
 
   pub skipped : (tick : ℕ) → b.tick ≤ tick → AreNotVisitedBefore (radices t) b.slots b.tick (tick + 1) b.links.lists → HasSkipped t b tick
@@ -174,30 +175,40 @@ leap_and_tick table moves old mid new a z e m p =
 
 -- Leap by leap.
 
-pub record IsAdvancing (t : Table) (most moves : ℕ) (first b : Buckets) (words : List ℕ) : Type 0 where
-  pub hier : IsHier t b words
-  pub nothing_due : (state_of b).due ≡ []
-  pub leaps : Leaps (radices t) moves (state_of first) (state_of b)
-  pub not_past : b.tick ≤ first.tick + most
+pub record IsAdvancing (most moves : ℕ) (first w : Wheels) : Type 0 where
+  pub table : w.table ≡ first.table
+  pub last_tick : w.buckets.last_tick ≡ first.buckets.last_tick
+  pub nothing_due : (state_of w.buckets).due ≡ []
+  pub leaps : Leaps (radices first.table) moves (state_of first.buckets) (state_of w.buckets)
+  pub not_past : w.buckets.tick ≤ first.buckets.tick + most
 
-pub advancing_none : (t : Table) (most : ℕ) (b : Buckets) (words : List ℕ) → IsHier t b words → (state_of b).due ≡ []
-    → IsAdvancing t most 0 b b words
-advancing_none t most b words h z = record {
-  hier = h;
+pub advancing_none : (most : ℕ) (w : Wheels) → (state_of w.buckets).due ≡ [] → IsAdvancing most 0 w w
+advancing_none most w z = record {
+  table = refl;
+  last_tick = refl;
   nothing_due = z;
-  leaps = leaps_none (radices t) (state_of b);
+  leaps = leaps_none (radices w.table) (state_of w.buckets);
   not_past = omega arith;
 }
 
-pub advancing_leap : (t : Table) (most moves more : ℕ) (first b new : Buckets) (words words2 : List ℕ)
-    → IsAdvancing t most moves first b words → Leaps (radices t) more (state_of b) (state_of new) → IsHier t new words2
-    → (state_of new).due ≡ [] → new.tick ≤ first.tick + most → IsAdvancing t most (moves + more) first new words2
-advancing_leap t most moves more first b new words words2 w l h z e = record {
-  hier = h;
-  nothing_due = z;
-  leaps = leaps_on (radices t) moves more (state_of first) (state_of b) (state_of new) w.leaps w.nothing_due l;
-  not_past = e;
-}
+module _ {most moves : ℕ} {first w : Wheels} (a : IsAdvancing most moves first w) (more : ℕ) (new : Wheels)
+    (l : Leaps (radices w.table) more (state_of w.buckets) (state_of new.buckets)) where
+  pub leap_from : Leaps (radices first.table) more (state_of w.buckets) (state_of new.buckets)
+  leap_from = let P : Table → Type 0 = λ t. Leaps (radices t) more (state_of w.buckets) (state_of new.buckets) in subst P a.table l
+
+  pub leaps_all : Leaps (radices first.table) (moves + more) (state_of first.buckets) (state_of new.buckets)
+  leaps_all = leaps_on (radices first.table) moves more (state_of first.buckets) (state_of w.buckets) (state_of new.buckets) a.leaps
+      a.nothing_due leap_from
+
+  pub advancing_leap : new.table ≡ w.table → (state_of new.buckets).due ≡ [] → new.buckets.tick ≤ first.buckets.tick + most
+      → IsAdvancing most (moves + more) first new
+  advancing_leap t z e = record {
+    table = t ∙ a.table;
+    last_tick = new.hier.clock ∙ (ap (λ (y : Table). last_of (radices y)) (t ∙ a.table) ∙ sym first.hier.clock);
+    nothing_due = z;
+    leaps = leaps_all;
+    not_past = e;
+  }
 
 -- the count of moves does not overflow
 pub moves_fit : (table : List ℕ) (moves more : ℕ) (u v w : WheelState) → Leaps table moves u v → Leaps table more v w

@@ -1,21 +1,23 @@
 -- The invariant of a hierarchy of wheels when it is made, after a start and a restart, and what `links` shows.
 use Rattle.timer_wheels.proofs.RoomLemmas.{shows-with_room}
 use Rattle.std.proofs.Common.{◌≡◌, ◌<◌, ◌≤◌, ◌+◌, ◌*◌, ℕ, zero, suc, List, [], ◌∷◌, length, refl, sym, ◌∙◌, ap, subst, inl, inr, arith}
-use Rattle.std.specs.Prelude.{Bool, filter, map, Option, Some, None, MatchOption, nat_lt, replicate}
+use Rattle.std.specs.Prelude.{Bool, filter, Option, Some, None, nat_lt, replicate}
 use Rattle.timer_base.specs.declared.timer.Timer.{Timer}
 use Rattle.timer_base.specs.declared.timer.Handle.{Handle}
 use Rattle.timer_base.specs.declared.limits.TheConstants.{LAST}
 use Rattle.timer_base.specs.OrderLaws.{either}
 use Rattle.timer_base.specs.Pending.{Entry, put, without_found}
-use Rattle.timer_base.specs.WheelState.{WheelState, empty_wheel, after_start, after_stop, timer_at, after_withdrawal}
-use Rattle.timer_links.specs.Lists.{list_at, with_row, without_key, KeyedLists}
+use Rattle.timer_base.specs.WheelState.{WheelState, empty_wheel, after_start, after_stop, timer_at, after_withdrawal, after_made_due}
+use Rattle.timer_links.specs.Lists.{list_at}
 use Rattle.timer_wheels.specs.declared.buckets.Buckets.{Buckets}
-use Rattle.timer_wheels.specs.Buckets.{state_of, IsSameFrame}
-use Rattle.timer_wheels.specs.Digits.{slots, level, bucket, last_of}
+use Rattle.timer_wheels.specs.Buckets.{state_of}
+use Rattle.timer_wheels.specs.declared.table.Table.{Table}
+use Rattle.timer_wheels.specs.Tables.{radices}
+use Rattle.timer_wheels.specs.Digits.{slots, level, last_of}
 use Rattle.timer_wheels.proofs.DigitLaws.{level_in_table, digits_down}
 use Rattle.timer_wheels.specs.BucketLists.{EachRow}
 use Rattle.timer_wheels.specs.Placement.{IsPlaced, bucket_at, no_rounds, levels_of, IsPaid, most_moves}
-use Rattle.timer_wheels.proofs.BucketLemmas.{each-with_row, each-without_key, each-none}
+use Rattle.timer_wheels.proofs.BucketLemmas.{each-none}
 use Rattle.timer_wheels.specs.Shown.{ShowsBuckets}
 use Rattle.timer_wheels.proofs.ShownLemmas.{shows}
 use Rattle.timer_wheels.proofs.TableLaws.{IsClock}
@@ -75,132 +77,47 @@ pub new_placed : (table : List ℕ) (b : Buckets) (n : ℕ) → b.links.lists �
     b.links.lists
 new_placed table b n e = each-none (IsPlaced table b.tick) b.slots b.links.lists (λ s h. ap (list_at s) e ∙ list_at-replicate s n)
 
-pub new_paid : (table : List ℕ) (b : Buckets) (last first : ℕ) → state_of b ≡ empty_wheel last first
+pub new_paid : (table : List ℕ) (b : Buckets) (n last first : ℕ) → state_of b ≡ empty_wheel n last first
     → IsPaid table 0 0 b.tick (state_of b).pending
-new_paid table b last first e = let h : levels_of table b.tick (state_of b).pending ≡ 0 =
+new_paid table b n last first e = let h : levels_of table b.tick (state_of b).pending ≡ 0 =
     ap (λ (w : WheelState). levels_of table b.tick w.pending) e in omega arith
 
--- A start.
+-- The moves that are left stay paid for.
 
-module _ (table : List ℕ) (old new : Buckets) where
-  pub started_placed : (list place : ℕ) (t : Timer) → list < old.slots → list ≡ bucket table old.tick t.deadline
-      → EachRow (IsPlaced table old.tick) old.slots old.links.lists
-      → new.links.lists ≡ with_row list (place, record { timer = t; rounds = 0 }) old.links.lists → IsSameFrame old new
-      → EachRow (IsPlaced table new.tick) new.slots new.links.lists
-  started_placed list place t h at p e f =
-      let Q : ℕ → Type 0 = λ k. EachRow (IsPlaced table k) new.slots new.links.lists in
-      let R : ℕ → Type 0 = λ k. EachRow (IsPlaced table old.tick) k new.links.lists in
-      let P : KeyedLists → Type 0 = λ lists. EachRow (IsPlaced table old.tick) old.slots lists in
-      let len : length old.links.lists ≡ old.slots + 1 = old.has_lists in
-      subst Q (sym f.tick) (subst R (sym f.slots) (subst P (sym e)
-      (each-with_row (IsPlaced table old.tick) old.slots list (
-        place,
-        record {
-          timer = t;
-          rounds = 0;
-        },
-      ) old.links.lists (omega arith) (sym at, refl) p)))
-
-  pub started_paid : (place starts moves : ℕ) (t : Timer) → IsClock table → IsPaid table starts moves old.tick (state_of old).pending
-      → old.tick < t.deadline → t.deadline ≤ last_of table → state_of new ≡ after_start place t (state_of old) → IsSameFrame old new
-      → IsPaid table (starts + 1) moves new.tick (state_of new).pending
-  started_paid place starts moves t k p later range e f =
-      let x : levels_of table new.tick (state_of new).pending ≡ level table old.tick t.deadline + levels_of table old.tick
-      (state_of old).pending =
-      ap (λ (k : ℕ). levels_of table k (state_of new).pending) f.tick
-      ∙ (ap (λ (w : WheelState). levels_of table old.tick w.pending) e
-      ∙ levels-put table old.tick (record { place = place; timer = t }) (state_of old).pending) in
-      let b : level table old.tick t.deadline < length table = level_in_table table old.tick t.deadline k.is_table
-      (digits_down table t.deadline (last_of table) k.is_table range k.digits) later in
-      paid_more moves (levels_of table new.tick (state_of new).pending) (level table old.tick t.deadline)
-      (levels_of table old.tick (state_of old).pending) (most_moves table) starts x (omega arith) p
-
-  pub started_few : (place starts : ℕ) (t : Timer) → starts ≤ old.last_serial → old.last_serial < t.serial
-      → state_of new ≡ after_start place t (state_of old) → starts + 1 ≤ new.last_serial
-  started_few place starts t h k e = let x : new.last_serial ≡ t.serial = ap (λ (w : WheelState). w.last_serial) e in omega arith
-
-  -- A stop.
-
-  placed_lists : (now key n : ℕ) (found : Option Timer) (before after : KeyedLists)
-      → MatchOption found (after ≡ before) (λ t. after ≡ map (without_key key) before) → EachRow (IsPlaced table now) n before
-      → EachRow (IsPlaced table now) n after
-  placed_lists now key n None before after m p = let P : KeyedLists → Type 0 = λ lists. EachRow (IsPlaced table now) n lists
-      in subst P (sym m) p
-  placed_lists now key n (Some t) before after m p = let P : KeyedLists → Type 0 = λ lists. EachRow (IsPlaced table now) n lists
-      in subst P (sym m) (each-without_key (IsPlaced table now) n key before p)
-
-  pub stopped_placed : (key : ℕ) (found : Option Timer) → MatchOption found (new.links.lists ≡ old.links.lists) (λ t. new.links.lists
-      ≡ map (without_key key) old.links.lists) → EachRow (IsPlaced table old.tick) old.slots old.links.lists → IsSameFrame old new
-      → EachRow (IsPlaced table new.tick) new.slots new.links.lists
-  stopped_placed key found m p f =
-      let Q : ℕ → Type 0 = λ k. EachRow (IsPlaced table k) new.slots new.links.lists in
-      let R : ℕ → Type 0 = λ k. EachRow (IsPlaced table old.tick) k new.links.lists in
-      subst Q (sym f.tick) (subst R (sym f.slots) (placed_lists old.tick key old.slots found old.links.lists new.links.lists m p))
-
-  pub stopped_paid : (handle : Handle) (starts moves : ℕ) → IsPaid table starts moves old.tick (state_of old).pending
-      → state_of new ≡ after_stop handle (state_of old) → IsSameFrame old new → IsPaid table starts moves new.tick (state_of new).pending
-  stopped_paid handle starts moves p e f =
-      let x : levels_of table new.tick (state_of new).pending ≡ levels_of table old.tick
-      (without_found (timer_at handle (state_of old)) (state_of old).pending) =
-      ap (λ (k : ℕ). levels_of table k (state_of new).pending) f.tick ∙ ap (λ (w : WheelState). levels_of table old.tick w.pending) e in
-      let y : levels_of table old.tick (without_found (timer_at handle (state_of old)) (state_of old).pending)
-      ≤ levels_of table old.tick (state_of old).pending = levels-without table old.tick (timer_at handle (state_of old))
-      (state_of old).pending in
+module _ (table : List ℕ) (old new : Buckets) (starts moves : ℕ) (p : IsPaid table starts moves old.tick (state_of old).pending) where
+  -- one timer goes, if it was found
+  pub paid_without : (handle : Handle) → new.tick ≡ old.tick
+      → (state_of new).pending ≡ without_found (timer_at handle (state_of old)) (state_of old).pending
+      → IsPaid table starts moves new.tick (state_of new).pending
+  paid_without handle tick e =
+      let found : Option Timer = timer_at handle (state_of old) in
+      let x : levels_of table new.tick (state_of new).pending ≡ levels_of table old.tick (without_found found (state_of old).pending) =
+      ap (λ (k : ℕ). levels_of table k (state_of new).pending) tick ∙ ap (levels_of table old.tick) e in
+      let y : levels_of table old.tick (without_found found (state_of old).pending) ≤ levels_of table old.tick (state_of old).pending =
+      levels-without table old.tick found (state_of old).pending in
       paid_less moves (levels_of table new.tick (state_of new).pending) (levels_of table old.tick (state_of old).pending)
       (most_moves table * starts) (omega arith) p
 
--- A restart: a stop, and then a start.
+  -- one timer is started, after another went or none
+  pub paid_start : (place : ℕ) (t : Timer) (rest : WheelState) → IsClock table → old.tick < t.deadline → t.deadline ≤ last_of table
+      → levels_of table old.tick rest.pending ≤ levels_of table old.tick (state_of old).pending → rest.now ≡ old.tick
+      → state_of new ≡ after_start place t rest → IsPaid table (starts + 1) moves new.tick (state_of new).pending
+  paid_start place t rest k later range y now e =
+      let x : levels_of table new.tick (state_of new).pending ≡ level table old.tick t.deadline + levels_of table old.tick rest.pending =
+      ap (λ (k : ℕ). levels_of table k (state_of new).pending) (ap (λ (w : WheelState). w.now) e ∙ now)
+      ∙ (ap (λ (w : WheelState). levels_of table old.tick w.pending) e
+      ∙ levels-put table old.tick (record { place = place; timer = t }) rest.pending) in
+      let b : level table old.tick t.deadline < length table = level_in_table table old.tick t.deadline k.is_table
+      (digits_down table t.deadline (last_of table) k.is_table range k.digits) later in
+      let q : moves + levels_of table old.tick rest.pending ≤ most_moves table * starts =
+      paid_less moves (levels_of table old.tick rest.pending) (levels_of table old.tick (state_of old).pending)
+      (most_moves table * starts) y p in
+      paid_more moves (levels_of table new.tick (state_of new).pending) (level table old.tick t.deadline)
+      (levels_of table old.tick rest.pending) (most_moves table) starts x (omega arith) q
 
-levels-after_start : (table : List ℕ) (now place : ℕ) (t : Timer) (w : WheelState)
-    → levels_of table now (after_start place t w).pending ≡ level table now t.deadline + levels_of table now w.pending
-levels-after_start table now place t w = levels-put table now (record { place = place; timer = t }) w.pending
-
-pub restarted_paid : (table : List ℕ) (old new : Buckets) (handle : Handle) (place starts moves : ℕ) (t : Timer) → IsClock table
-    → IsPaid table starts moves old.tick (state_of old).pending → old.tick < t.deadline → t.deadline ≤ last_of table
-    → state_of new ≡ after_start place t (after_stop handle (state_of old)) → IsSameFrame old new
-    → IsPaid table (starts + 1) moves new.tick (state_of new).pending
-restarted_paid table old new handle place starts moves t k p later range e f =
-    let rest : WheelState = after_stop handle (state_of old) in
-    let x : levels_of table new.tick (state_of new).pending ≡ level table old.tick t.deadline + levels_of table old.tick rest.pending =
-    ap (λ (k : ℕ). levels_of table k (state_of new).pending) f.tick
-    ∙ (ap (λ (w : WheelState). levels_of table old.tick w.pending) e ∙ levels-after_start table old.tick place t rest) in
-    let y : levels_of table old.tick rest.pending ≤ levels_of table old.tick (state_of old).pending =
-    levels-without table old.tick (timer_at handle (state_of old)) (state_of old).pending in
-    let b : level table old.tick t.deadline < length table = level_in_table table old.tick t.deadline k.is_table
-    (digits_down table t.deadline (last_of table) k.is_table range k.digits) later in
-    let q : moves + levels_of table old.tick rest.pending ≤ most_moves table * starts =
-    paid_less moves (levels_of table old.tick rest.pending) (levels_of table old.tick (state_of old).pending)
-    (most_moves table * starts) y p in
-    paid_more moves (levels_of table new.tick (state_of new).pending) (level table old.tick t.deadline)
-    (levels_of table old.tick rest.pending) (most_moves table) starts x (omega arith) q
-
-pub restarted_few : (old new : Buckets) (handle : Handle) (place starts : ℕ) (t : Timer) → starts ≤ old.last_serial
-    → old.last_serial < t.serial → state_of new ≡ after_start place t (after_stop handle (state_of old)) → starts + 1 ≤ new.last_serial
-restarted_few old new handle place starts t h k e = let x : new.last_serial ≡ t.serial = ap (λ (w : WheelState). w.last_serial) e
-    in omega arith
-
--- A revival: a withdrawal, which leaves the pending timers as they are, and then a start.
-
-pub revived_paid : (table : List ℕ) (old new : Buckets) (handle : Handle) (place starts moves : ℕ) (t : Timer) → IsClock table
-    → IsPaid table starts moves old.tick (state_of old).pending → old.tick < t.deadline → t.deadline ≤ last_of table
-    → state_of new ≡ after_start place t (after_withdrawal handle (state_of old)) → IsSameFrame old new
-    → IsPaid table (starts + 1) moves new.tick (state_of new).pending
-revived_paid table old new handle place starts moves t k p later range e f =
-    let x : levels_of table new.tick (state_of new).pending ≡ level table old.tick t.deadline + levels_of table old.tick
-    (state_of old).pending =
-    ap (λ (k : ℕ). levels_of table k (state_of new).pending) f.tick
-    ∙ (ap (λ (w : WheelState). levels_of table old.tick w.pending) e
-    ∙ levels-after_start table old.tick place t (after_withdrawal handle (state_of old))) in
-    let b : level table old.tick t.deadline < length table = level_in_table table old.tick t.deadline k.is_table
-    (digits_down table t.deadline (last_of table) k.is_table range k.digits) later in
-    paid_more moves (levels_of table new.tick (state_of new).pending) (level table old.tick t.deadline)
-    (levels_of table old.tick (state_of old).pending) (most_moves table) starts x (omega arith) p
-
-pub revived_few : (old new : Buckets) (handle : Handle) (place starts : ℕ) (t : Timer) → starts ≤ old.last_serial
-    → old.last_serial < t.serial → state_of new ≡ after_start place t (after_withdrawal handle (state_of old))
-    → starts + 1 ≤ new.last_serial
-revived_few old new handle place starts t h k e = let x : new.last_serial ≡ t.serial = ap (λ (w : WheelState). w.last_serial) e
-    in omega arith
+pub few_starts : (old new : Buckets) (place starts : ℕ) (t : Timer) (rest : WheelState) → starts ≤ old.last_serial
+    → old.last_serial < t.serial → state_of new ≡ after_start place t rest → starts + 1 ≤ new.last_serial
+few_starts old new place starts t rest h k e = let x : new.last_serial ≡ t.serial = ap (λ (w : WheelState). w.last_serial) e in omega arith
 
 -- What the buckets show.
 
@@ -208,8 +125,14 @@ pub shown : (table : List ℕ) (b : Buckets) → b.slots ≡ slots table → Eac
     → ShowsBuckets (slots table) (bucket_at table b.tick) no_rounds (state_of b) b.links.lists
 shown table b s p =
     let P : ℕ → Type 0 = λ n. ShowsBuckets n (bucket_at table b.tick) no_rounds (state_of b) b.links.lists in
-    subst P s (shows-with_room b.links.room _ _ _ _ _ (shows b.slots (bucket_at table b.tick) no_rounds b.links.lists b.has_lists p
-    b.last_tick b.tick b.last_serial b.in_order))
+    subst P s (shows-with_room b.links.room _ _ _ _ _ (shows b.slots (bucket_at table b.tick) no_rounds b.links.lists b.sound.has_lists p
+    b.last_tick b.tick b.last_serial b.sound.in_order))
+
+-- the same of a table that is as it was
+pub paid_at : (starts moves : ℕ) (b : Buckets) (old new : Table) → new ≡ old
+    → IsPaid (radices old) starts moves b.tick (state_of b).pending → IsPaid (radices new) starts moves b.tick (state_of b).pending
+paid_at starts moves b old new e p = let P : Table → Type 0 = λ t. IsPaid (radices t) starts moves b.tick (state_of b).pending
+    in subst P (sym e) p
 
 -- Counts that do not overflow.
 

@@ -13,12 +13,13 @@ use Rattle.timer_links.specs.declared.node.Node.{Node}
 use Rattle.timer_links.specs.Lists.{list_at, KeyedLists}
 use Rattle.timer_wheels.specs.Digits.{IsTable, HasDigits, level, lowest, slots_below, slots, bucket, emptied, hops, last_of, BucketAtTick}
 use Rattle.timer_wheels.proofs.DigitLaws.{bucket_at_tick, digits_down, emptied_in_range}
-use Rattle.timer_wheels.specs.BucketLists.{timer_in, timers_in, entry_of, entries_of, rows_below, pending_in, ArePending, AreInOrder, EachRow, wheel_state}
+use Rattle.timer_wheels.specs.BucketLaws.{wheel_state-well_formed}
+use Rattle.timer_wheels.specs.BucketLists.{timer_in, timers_in, entry_of, entries_of, rows_below, pending_in, ArePending, AreInOrder, AreBuckets, EachRow, wheel_state}
 use Rattle.timer_wheels.specs.Placement.{IsPlaced, hops_of, levels_of}
 use Rattle.timer_wheels.specs.Migration.{target, migrated, due_rows, left_rows, MayMigrate, IsOfTick}
 use Rattle.timer_wheels.proofs.RowLemmas.{all-append, all-front, all-rest, all-rows_below, all-list_at, IsAround, around, append-nil, all-entries, is_due}
 use Rattle.std.proofs.lemmas.List.Elements.{filter-append}
-use Rattle.timer_wheels.proofs.BucketLemmas.{filter-pending_in, AreRising-part, no_rows}
+use Rattle.timer_wheels.proofs.BucketLemmas.{filter-pending_in, AreRising-part, no_rows, due_past}
 use Rattle.timer_wheels.proofs.MigrationLemmas.{target_due, target_left, migrate_rows-length, to_list, list_at-migrate_rows, Distinct, distinct-filter, in_order-pulled, distinct-pulled, GoesDown, AreMigrated, migrate_rows_keeps}
 
 -- the invariant of a hierarchical wheel before a tick
@@ -26,11 +27,8 @@ pub record IsBefore (table : List ℕ) (last_tick a last_serial : ℕ) (lists : 
   pub is_table : IsTable table
   pub digits : HasDigits table last_tick
   pub before_last : a < last_tick
-  pub has_lists : length lists ≡ slots table + 1
+  pub sound : AreBuckets (slots table) last_tick a last_serial lists
   pub placed : EachRow (IsPlaced table a) (slots table) lists
-  pub pending : ArePending last_tick a last_serial (rows_below (slots table) lists)
-  pub distinct : AreDistinct (timers_in (rows_below (slots table) lists))
-  pub in_order : AreInOrder (slots table + 1) lists
   pub none_due : list_at (slots table) lists ≡ []
 
 -- the invariant of each row of a bucket before the tick
@@ -253,7 +251,7 @@ module _ (table : List ℕ) (last_tick a last_serial : ℕ) (lists : KeyedLists)
             (digits_down table (timer_in row).deadline last_tick b.is_table q.in_range b.digits) q.later;
       })
       (b.placed s h)
-      (all-list_at (λ row. IsPending last_tick a last_serial (timer_in row)) (slots table) lists b.pending s h)
+      (all-list_at (λ row. IsPending last_tick a last_serial (timer_in row)) (slots table) lists b.sound.pending s h)
 
   all_going : AllByRecursion (RowLeaves table a m) rows_l
   all_going = All-weaken (KnownRow table last_tick a last_serial l) (RowLeaves table a m) rows_l
@@ -267,11 +265,11 @@ module _ (table : List ℕ) (last_tick a last_serial : ℕ) (lists : KeyedLists)
   list_at-base s n = get_or-set_other lists l s [] [] n
 
   list_at-l : list_at l base ≡ []
-  list_at-l = get_or-set_same lists l [] [] (let h : length lists ≡ slots table + 1 = b.has_lists in let k : l < slots table = l_in_range
+  list_at-l = get_or-set_same lists l [] [] (let h : length lists ≡ slots table + 1 = b.sound.has_lists in let k : l < slots table = l_in_range
       in omega arith)
 
   base-length : length base ≡ slots table + 1
-  base-length = length-set lists l [] ∙ b.has_lists
+  base-length = length-set lists l [] ∙ b.sound.has_lists
 
   pub after-length : length after ≡ slots table + 1
   after-length = migrate_rows-length table (a + 1) rows_l base ∙ base-length
@@ -309,10 +307,10 @@ module _ (table : List ℕ) (last_tick a last_serial : ℕ) (lists : KeyedLists)
   -- Each list is in order of starting.
 
   order_of : (s : ℕ) → s < slots table + 1 → AreRising 0 (timers_in (list_at s lists))
-  order_of s h = b.in_order s h
+  order_of s h = b.sound.in_order s h
 
   rising_l : AreRising 0 (timers_in rows_l)
-  rising_l = b.in_order l (let k : l < slots table = l_in_range in omega arith)
+  rising_l = b.sound.in_order l (let k : l < slots table = l_in_range in omega arith)
 
   abbrev Rising : List (ℕ × Node) → Type 0
   Rising rows = AreRising 0 (timers_in rows)
@@ -323,7 +321,7 @@ module _ (table : List ℕ) (last_tick a last_serial : ℕ) (lists : KeyedLists)
     | inr k ↦ elim (cases_lt s (slots table)) [
       | inl j ↦ subst Rising (sym (above s k j)) (elim (cases_eq s l) [
         | inl e ↦ subst Rising (sym (ap (λ (v : ℕ). list_at v base) e ∙ list_at-l)) tt
-        | inr n ↦ subst Rising (sym (list_at-base s n)) (b.in_order s h)
+        | inr n ↦ subst Rising (sym (list_at-base s n)) (b.sound.in_order s h)
       ])
       | inr j ↦
           let e : slots table ≡ s = omega arith in
@@ -385,7 +383,7 @@ module _ (table : List ℕ) (last_tick a last_serial : ℕ) (lists : KeyedLists)
   -- The pending timers, and the due ones.
 
   around_l : IsAround (slots table) l lists
-  around_l = around (slots table) l lists l_in_range (let h : length lists ≡ slots table + 1 = b.has_lists
+  around_l = around (slots table) l lists l_in_range (let h : length lists ≡ slots table + 1 = b.sound.has_lists
       in let k : l < slots table = l_in_range in omega arith)
 
   base_rows : rows_below (slots table) base ≡ around_l.front ++ around_l.rest
@@ -406,7 +404,7 @@ module _ (table : List ℕ) (last_tick a last_serial : ℕ) (lists : KeyedLists)
   not_due_rest = all-rest (λ row. (timer_in row).deadline ≢ a + 1) around_l.front around_l.rest not_due_around
 
   distinct_around : Distinct (around_l.front ++ (rows_l ++ around_l.rest))
-  distinct_around = subst Distinct around_l.rows b.distinct
+  distinct_around = subst Distinct around_l.rows b.sound.distinct
 
   goes_down : (row : ℕ × Node) → RowLeaves table a m row → GoesDown table (a + 1) row
   goes_down row (inl e) f = absurd (left_means (a + 1) (timer_in row) f e)
@@ -449,7 +447,7 @@ module _ (table : List ℕ) (last_tick a last_serial : ℕ) (lists : KeyedLists)
       ∙ (ap (λ (r : List (ℕ × Node)). in_order timer_in (left_rows (a + 1) rows_l ++ r)) base_rows
       ∙ (sym (in_order-pulled around_l.front (left_rows (a + 1) rows_l) around_l.rest
       (subst Distinct left_parts (distinct-filter (λ row. not (is_due_at (a + 1) (timer_in row)))
-      (rows_below (slots table) lists) b.distinct)))
+      (rows_below (slots table) lists) b.sound.distinct)))
       ∙ ap (in_order timer_in) (sym left_parts)))
 
   pub after-left : pending_in (rows_below (slots table) after) ≡ entries_left (a + 1) (pending_in (rows_below (slots table) lists))
@@ -578,8 +576,9 @@ all_fall table last_tick a last_serial rows i h p =
 
 -- A hierarchical wheel with n buckets after a tick.
 
-abbrev state : ℕ → ℕ → ℕ → List Entry → List Entry → WheelState
-state last_tick tick last_serial pending due = record {
+abbrev state : ℕ → ℕ → ℕ → ℕ → List Entry → List Entry → WheelState
+state n last_tick tick last_serial pending due = record {
+  slots = n;
   last_tick = last_tick;
   now = tick;
   pending = pending;
@@ -589,18 +588,15 @@ state last_tick tick last_serial pending due = record {
 }
 
 pub record IsNext (table : List ℕ) (n last_tick a last_serial moves : ℕ) (lists new : KeyedLists) : Type 0 where
-  pub has_lists : length new ≡ n + 1
-  pub pending : ArePending last_tick (a + 1) last_serial (rows_below n new)
-  pub distinct : AreDistinct (timers_in (rows_below n new))
-  pub in_order : AreInOrder (n + 1) new
+  pub sound : AreBuckets n last_tick (a + 1) last_serial new
   pub placed : EachRow (IsPlaced table (a + 1)) n new
   pub ticked : wheel_state n last_tick (a + 1) last_serial new ≡ after_tick (wheel_state n last_tick a last_serial lists)
   pub moves_are : moves ≡ hops_of table a 1 (pending_in (rows_below n lists))
   pub pays : moves + levels_of table (a + 1) (pending_in (rows_below n new)) ≤ levels_of table a (pending_in (rows_below n lists))
 
-same_state : (last_tick tick last_serial : ℕ) (p q d e : List Entry) → p ≡ q → d ≡ e
-    → state last_tick tick last_serial p d ≡ state last_tick tick last_serial q e
-same_state last_tick tick last_serial p q d e h k = cc
+same_state : (n last_tick tick last_serial : ℕ) (p q d e : List Entry) → p ≡ q → d ≡ e
+    → state n last_tick tick last_serial p d ≡ state n last_tick tick last_serial q e
+same_state n last_tick tick last_serial p q d e h k = cc
 
 next_here : (table : List ℕ) (last_tick a last_serial moves : ℕ) (lists new : KeyedLists)
     → IsBefore table last_tick a last_serial lists
@@ -621,18 +617,25 @@ next_here table last_tick a last_serial moves lists new b e g =
     (entries_left (a + 1) (pending_in (rows_below (slots table) lists)))
     ≤ levels_of table a (pending_in (rows_below (slots table) lists))
     = levels_pay table a (pending_in (rows_below (slots table) lists))
-    (all_fall table last_tick a last_serial (rows_below (slots table) lists) b.is_table b.digits b.pending) in
+    (all_fall table last_tick a last_serial (rows_below (slots table) lists) b.is_table b.digits b.sound.pending) in
     record {
-      has_lists = ap (λ (y : KeyedLists). length y) e ∙ after-length table last_tick a last_serial lists b;
-      pending = (let P : KeyedLists → Type 0 = λ y. ArePending last_tick (a + 1) last_serial (rows_below (slots table) y)
-          in subst P (sym e) (after-pending table last_tick a last_serial lists b));
-      distinct = (let P : KeyedLists → Type 0 = λ y. AreDistinct (timers_in (rows_below (slots table) y))
-          in subst P (sym e) (after-distinct table last_tick a last_serial lists b));
-      in_order = (let P : KeyedLists → Type 0 = AreInOrder (slots table + 1)
-          in subst P (sym e) (after-in_order table last_tick a last_serial lists b));
+      sound = record {
+        last_in_range = b.sound.last_in_range;
+        tick_in_range = (let h : a < last_tick = b.before_last in omega arith);
+        serial_in_range = b.sound.serial_in_range;
+        has_lists = ap (λ (y : KeyedLists). length y) e ∙ after-length table last_tick a last_serial lists b;
+        pending = (let P : KeyedLists → Type 0 = λ y. ArePending last_tick (a + 1) last_serial (rows_below (slots table) y)
+            in subst P (sym e) (after-pending table last_tick a last_serial lists b));
+        distinct = (let P : KeyedLists → Type 0 = λ y. AreDistinct (timers_in (rows_below (slots table) y))
+            in subst P (sym e) (after-distinct table last_tick a last_serial lists b));
+        due = due_past last_tick a (a + 1) last_serial (pending_in (rows_below (slots table) lists)) (list_at (slots table) new)
+            (wheel_state-well_formed (slots table) last_tick a last_serial lists b.sound).each due_is;
+        in_order = (let P : KeyedLists → Type 0 = AreInOrder (slots table + 1)
+            in subst P (sym e) (after-in_order table last_tick a last_serial lists b));
+      };
       placed = (let P : KeyedLists → Type 0 = EachRow (IsPlaced table (a + 1)) (slots table)
           in subst P (sym e) (after-placed table last_tick a last_serial lists b));
-      ticked = same_state last_tick (a + 1) last_serial (pending_in (rows_below (slots table) new))
+      ticked = same_state (slots table) last_tick (a + 1) last_serial (pending_in (rows_below (slots table) new))
           (entries_left (a + 1) (pending_in (rows_below (slots table) lists))) (entries_of (list_at (slots table) new))
           (entries_due (a + 1) (pending_in (rows_below (slots table) lists))) left due_is;
       moves_are = hops;
@@ -650,17 +653,13 @@ next_of table n last_tick a last_serial moves lists new s b e g =
 
 pub before_of : (table : List ℕ) (n last_tick a last_serial : ℕ) (lists : KeyedLists) → n ≡ slots table → IsTable table
     → HasDigits table last_tick → a < last_tick
-    → length lists ≡ n + 1 → EachRow (IsPlaced table a) n lists → ArePending last_tick a last_serial (rows_below n lists)
-    → AreDistinct (timers_in (rows_below n lists)) → AreInOrder (n + 1) lists → entries_of (list_at n lists) ≡ []
+    → AreBuckets n last_tick a last_serial lists → EachRow (IsPlaced table a) n lists → entries_of (list_at n lists) ≡ []
     → IsBefore table last_tick a last_serial lists
-before_of table n last_tick a last_serial lists s i h l len p q d o z = record {
+before_of table n last_tick a last_serial lists s i h l b p z = record {
   is_table = i;
   digits = h;
   before_last = l;
-  has_lists = omega arith;
+  sound = (let P : ℕ → Type 0 = λ k. AreBuckets k last_tick a last_serial lists in subst P s b);
   placed = (let P : ℕ → Type 0 = λ k. EachRow (IsPlaced table a) k lists in subst P s p);
-  pending = (let P : ℕ → Type 0 = λ k. ArePending last_tick a last_serial (rows_below k lists) in subst P s q);
-  distinct = (let P : ℕ → Type 0 = λ k. AreDistinct (timers_in (rows_below k lists)) in subst P s d);
-  in_order = (let P : ℕ → Type 0 = λ k. AreInOrder (k + 1) lists in subst P s o);
   none_due = (let P : ℕ → Type 0 = λ k. list_at k lists ≡ [] in subst P s (no_rows (list_at n lists) z));
 }

@@ -15,9 +15,8 @@ use Rattle.timer_wheels.specs.BucketLists.{entry_of, entries_of, rows_below}
 use Rattle.timer_wheels.specs.Buckets.{state_of}
 use Rattle.timer_wheels.specs.HeldPlaces.{IsHeld, IsFirstHeld}
 use Rattle.timer_wheels.specs.declared.buckets.Buckets.{Buckets}
-use Rattle.timer_wheels.proofs.BucketLemmas.{separated, look-some}
+use Rattle.timer_wheels.proofs.Handles.{looked, looked_due, named_later, named_due}
 use Rattle.timer_wheels.proofs.RowLemmas.{all-rows_below, all-entries}
-use Rattle.timer_wheels.proofs.WithdrawLemmas.{all_later, due-some}
 
 -- each row stands under its key
 under_from : (lists : KeyedLists) (l : ℕ) (front rows : List (ℕ × Node)) → AreApart lists → l < length lists
@@ -53,7 +52,7 @@ some_timer t o e = subst IsSome e refl
 
 module _ (b : Buckets) (apart : AreApart b.links.lists) where
   under : (l : ℕ) → l < b.slots + 1 → AllByRecursion (λ row. node_at row.0 b.links.lists ≡ Some row.1) (list_at l b.links.lists)
-  under l h = let n : length b.links.lists ≡ b.slots + 1 = b.has_lists in under_from b.links.lists l [] (list_at l b.links.lists) apart
+  under l h = let n : length b.links.lists ≡ b.slots + 1 = b.sound.has_lists in under_from b.links.lists l [] (list_at l b.links.lists) apart
       (omega arith) refl
 
   under_below : AllByRecursion (λ row. node_at row.0 b.links.lists ≡ Some row.1) (rows_below b.slots b.links.lists)
@@ -76,11 +75,9 @@ module _ (b : Buckets) (apart : AreApart b.links.lists) where
       → IsHeld handle (state_of b)
   held_under handle node e s = elim (cases_lt b.tick node.timer.deadline) [
     | inl h ↦ inl (some_timer node.timer (timer_at handle (state_of b))
-        (look-some b.tick b.slots handle b.links.lists b.has_lists (separated b.last_tick b.tick b.last_serial b.slots b.links.lists
-        b.pending b.due)
-        apart node e s h b.distinct))
+        (sym (named_later handle b.tick node s h) ∙ looked b.sound apart handle (Some node) e))
     | inr h ↦ inr (some_timer node.timer (due_at handle (state_of b))
-        (due-some b.tick b.slots handle b.links.lists b.has_lists (all_later b) b.due apart node e s h))
+        (sym (named_due handle b.tick node s h) ∙ looked_due b.sound apart handle (Some node) e))
   ]
 
   pub none_held : (from : ℕ) → IsFirstUsed from b.links.lists None → IsFirstHeld from (state_of b) None

@@ -2,6 +2,8 @@
 pub mod DigitLaws
 pub mod RowLemmas
 pub mod BucketLemmas
+pub mod Handles
+pub mod Updates
 pub mod RoomLemmas
 pub mod WalkLemmas
 pub mod WideDigits
@@ -21,14 +23,12 @@ pub mod LeapLemmas
 pub mod WideVisits
 pub mod NextVisitLemmas
 pub mod HierLeaps
-pub mod HierUpdateLemmas
+pub mod WheelUpdates
+pub mod HierCounts
 pub mod ClockDigits
 pub mod TableLaws
 pub mod ReplaceLemmas
-pub mod RestartLemmas
 pub mod WakeUpLemmas
 pub mod SlotLaws
-pub mod WithdrawLemmas
 pub mod DeadlineLemmas
 pub mod IterationLemmas
-pub mod MadeDueLemmas

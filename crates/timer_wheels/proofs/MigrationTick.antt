@@ -19,7 +19,7 @@ module _ (t : Table) (b : Buckets) (words : List ℕ) (h : IsHier t b words) (z 
       let k = of_table t in
       let P : ℕ → Type 0 = HasDigits (radices t) in
       before_of (radices t) b.slots b.last_tick b.tick b.last_serial b.links.lists h.has_slots k.is_table (subst P (sym h.clock) k.digits) l
-      b.has_lists h.placed b.pending b.distinct b.in_order z
+      b.sound h.placed z
 
   pub may_migrate_at : (list : ℕ) → list ≡ emptied (radices t) (b.tick + 1)
       → AllByRecursion (MayMigrate (radices t) (b.tick + 1) list) (list_at list b.links.lists)

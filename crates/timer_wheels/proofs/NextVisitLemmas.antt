@@ -189,6 +189,6 @@ module _ (t : Table) (b : Buckets) (words : List ℕ) (h : IsHier t b words) (l 
       let P : ℕ → Type 0 = λ k. (0 < length (after_ticks k (state_of b)).due) ⊎ (0 < hops_of (radices t) b.tick k (state_of b).pending) in
       record {
         none_before = leapt_hops (radices t) b.last_tick b.tick visit n (of_table t).is_table (last_digits t b words h)
-            (omega arith) b.slots b.last_serial b.links.lists b.pending (first_ahead t b words h l visit e f);
+            (omega arith) b.slots b.last_serial b.links.lists b.sound.pending (first_ahead t b words h l visit e f);
         some = subst P s (next_by n (omega arith));
       }

@@ -6,7 +6,6 @@ use Rattle.std.proofs.lemmas.Bool.{cases_eq, cases_lt}
 use Rattle.std.proofs.lemmas.Nat.Bits.{bit_at_set_same, bit_at_set_other, bit_at_clear_same, bit_at_clear_other, bit_at-trailing_zeros, bit_at-zero}
 use Rattle.timer_links.specs.declared.node.Node.{Node}
 use Rattle.timer_links.specs.Lists.{list_at, with_row, front_moved, first_row_moved, KeyedLists}
-use Rattle.timer_wheels.specs.Buckets.{AddsRow}
 use Rattle.timer_wheels.specs.Occupied.{bit_of, filled, AreMarked, AreMarkedBut, IsClearFrom, IsFirstSet, IsLowestSet}
 
 -- One word is written.
@@ -135,18 +134,6 @@ marked_with_row n words words2 l row lists f b h o t = (
     | inl e ↦ ap (bit_of words2) e ∙ (h ∙ sym (ap (λ (v : ℕ). filled (list_at v (with_row l row lists))) e
         ∙ (ap filled (get_or-set_same lists l (list_at l lists ++ row ∷ []) [] b) ∙ filled_behind (list_at l lists) row)))
     | inr m ↦ o s m ∙ (t.0 s k ∙ sym (ap filled (get_or-set_other lists l s (list_at l lists ++ row ∷ []) [] m)))
-  ]),
-  clear_too n l words words2 f o t.1,
-)
-
--- one bit is set, and one row added
-pub marked_added : (n : ℕ) (words words2 : List ℕ) (l : ℕ) (row : ℕ × Node) (old new : KeyedLists) → l < n → AddsRow n l row old new
-    → bit_of words2 l ≡ 1 → ((s : ℕ) → s ≢ l → bit_of words2 s ≡ bit_of words s) → AreMarked n words old → AreMarked n words2 new
-marked_added n words words2 l row old new f d h o t = (
-  (λ (s : ℕ) (k : s < n). elim (cases_eq s l) [
-    | inl e ↦ ap (bit_of words2) e ∙ (h ∙ sym (ap (λ (v : ℕ). filled (list_at v new)) e
-        ∙ (ap filled d.here ∙ filled_behind (list_at l old) row)))
-    | inr m ↦ o s m ∙ (t.0 s k ∙ sym (ap filled (d.others s k m)))
   ]),
   clear_too n l words words2 f o t.1,
 )

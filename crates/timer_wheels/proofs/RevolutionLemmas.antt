@@ -14,7 +14,7 @@ use Rattle.timer_base.specs.WheelState.{WheelState, IsPending, Advances, after_t
 use Rattle.timer_links.specs.declared.node.Node.{Node}
 use Rattle.timer_links.specs.Lists.{list_at, KeyedLists}
 use Rattle.timer_wheels.specs.BucketLaws.{timers_of-entries}
-use Rattle.timer_wheels.specs.BucketLists.{timer_in, timers_in, entries_of, rows_below, pending_in, wheel_state, ArePending, AreDue, AreInOrder}
+use Rattle.timer_wheels.specs.BucketLists.{timer_in, timers_in, entries_of, rows_below, pending_in, wheel_state, ArePending, AreDue, AreInOrder, AreBuckets}
 use Rattle.timer_wheels.specs.Hashed.{IsInBucket, AreInBuckets}
 use Rattle.timer_wheels.specs.Revolutions.{HasRoundsLeft, with_fewer_rounds}
 use Rattle.timer_wheels.proofs.HashedTicks.{IsDistance, StaysIn, distance, quotient_is, both}
@@ -95,8 +95,8 @@ quiet_now n last_tick now last lists p =
     (later_entries (now + 0) (rows_below n lists) (All-weaken (λ row. IsPending last_tick now last (timer_in row)) (λ row. now + 0
     < (timer_in row).deadline) (rows_below n lists) (λ row q. let l : now < (timer_in row).deadline = q.later in omega arith) p))
 
-none_due : (tick : ℕ) (rows : List (ℕ × Node)) → rows ≡ [] → AreDue tick rows
-none_due tick rows e = let P : List (ℕ × Node) → Type 0 = AreDue tick in subst P (sym e) tt
+none_due : (tick last : ℕ) (rows : List (ℕ × Node)) → rows ≡ [] → AreDue tick last rows
+none_due tick last rows e = let P : List (ℕ × Node) → Type 0 = AreDue tick last in subst P (sym e) tt
 
 -- All lists.
 
@@ -123,7 +123,7 @@ module _ (n last_tick now last k tick : ℕ) (old new : KeyedLists) (z : 0 < n) 
   pub skipped : wheel_state n last_tick tick last new ≡ record (wheel_state n last_tick now last old) { now = tick }
   skipped = rw (ap (in_order timer_of) entries, ap entries_of others) refl
 
-  pub skipped-pending : ArePending last_tick tick last (rows_below n new)
+  skipped-pending : ArePending last_tick tick last (rows_below n new)
   skipped-pending = all-rows_below (λ row. IsPending last_tick tick last (timer_in row)) n new
       (λ s h. All-weaken (StaysIn n last_tick tick last s) (λ row. IsPending last_tick tick last (timer_in row)) (list_at s new)
       (λ row q. q.0) (after s h))
@@ -131,10 +131,10 @@ module _ (n last_tick now last k tick : ℕ) (old new : KeyedLists) (z : 0 < n) 
   pub skipped-in_buckets : AreInBuckets n tick new
   skipped-in_buckets s h = All-weaken (StaysIn n last_tick tick last s) (IsInBucket n tick s) (list_at s new) (λ row q. q.1) (after s h)
 
-  pub skipped-distinct : AreDistinct (timers_in (rows_below n old)) → AreDistinct (timers_in (rows_below n new))
+  skipped-distinct : AreDistinct (timers_in (rows_below n old)) → AreDistinct (timers_in (rows_below n new))
   skipped-distinct d = subst AreDistinct (sym timers) d
 
-  pub skipped-in_order : AreInOrder (n + 1) old → AreInOrder (n + 1) new
+  skipped-in_order : AreInOrder (n + 1) old → AreInOrder (n + 1) new
   skipped-in_order o s h = elim (cases_eq s n) [
     | inl q ↦ rw (q, others) (o n (omega arith))
     | inr x ↦ (
@@ -143,8 +143,20 @@ module _ (n last_tick now last k tick : ℕ) (old new : KeyedLists) (z : 0 < n) 
         rw same (o s h))
   ]
 
-  pub skipped-due : list_at n old ≡ [] → AreDue tick (list_at n new)
-  skipped-due d = none_due tick (list_at n new) (others ∙ d)
+  skipped-due : list_at n old ≡ [] → AreDue tick last (list_at n new)
+  skipped-due d = none_due tick last (list_at n new) (others ∙ d)
+
+  pub skipped-sound : AreBuckets n last_tick now last old → list_at n old ≡ [] → tick ≤ last_tick → AreBuckets n last_tick tick last new
+  skipped-sound a d range = record {
+    last_in_range = a.last_in_range;
+    tick_in_range = range;
+    serial_in_range = a.serial_in_range;
+    has_lists = len ∙ a.has_lists;
+    pending = skipped-pending;
+    distinct = skipped-distinct a.distinct;
+    due = skipped-due d;
+    in_order = skipped-in_order a.in_order;
+  }
 
   pub skipped-quiet : AreAfter tick (pending_in (rows_below n old))
   skipped-quiet =

@@ -1,17 +1,16 @@
 -- Lemmas about the state that lists represent. They are in specs/ since `Buckets.state_of-well_formed` cites
 -- them.
-use Rattle.std.specs.Prelude.{◌≡◌, ◌+◌, ℕ, ◌≤◌, List, [], ◌∷◌, map, refl}
+use Rattle.std.specs.Prelude.{◌≡◌, ℕ, List, [], ◌∷◌, map, refl}
 use Rattle.std.proofs.Common.{◌∙◌, ap, arith}
 use Rattle.std.specs.List.{AllByRecursion}
 use Rattle.timer_base.specs.declared.timer.Timer.{Timer}
-use Rattle.timer_base.specs.declared.limits.TheConstants.{LAST}
-use Rattle.timer_base.specs.Order.{in_order, itself, AreDistinct}
+use Rattle.timer_base.specs.Order.{in_order, itself}
 use Rattle.timer_base.specs.OrderLaws.{map-in_order, All-in_order, IsOrdered-in_order, AreDistinct-in_order}
 use Rattle.timer_base.specs.Pending.{timer_of, timers_of}
-use Rattle.timer_base.specs.WheelState.{IsPending, IsWellFormed}
+use Rattle.timer_base.specs.WheelState.{IsPending, IsDue, IsWellFormed}
 use Rattle.timer_links.specs.declared.node.Node.{Node}
 use Rattle.timer_links.specs.Lists.{list_at, KeyedLists}
-use Rattle.timer_wheels.specs.BucketLists.{timer_in, timers_in, entries_of, rows_below, pending_in, wheel_state, ArePending, AreDue, AreInOrder}
+use Rattle.timer_wheels.specs.BucketLists.{timer_in, timers_in, entries_of, rows_below, pending_in, wheel_state, AreBuckets}
 
 pub timers_of-entries : (rows : List (ℕ × Node)) → map timer_of (entries_of rows) ≡ timers_in rows
 timers_of-entries [] = refl
@@ -30,22 +29,19 @@ all-timers P [] a = tt
 all-timers P (x ∷ xs) a = (a.0, all-timers P xs a.1)
 
 pub wheel_state-well_formed : (n last_tick now last : ℕ) (lists : KeyedLists)
-    → last_tick ≤ LAST → now ≤ last_tick → last ≤ LAST
-    → ArePending last_tick now last (rows_below n lists) → AreDistinct (timers_in (rows_below n lists))
-    → AreDue now (list_at n lists) → AreInOrder (n + 1) lists
-    → IsWellFormed (wheel_state n last_tick now last lists)
-wheel_state-well_formed n last_tick now last lists a b c p d q o =
+    → AreBuckets n last_tick now last lists → IsWellFormed (wheel_state n last_tick now last lists)
+wheel_state-well_formed n last_tick now last lists b =
     let rows : List (ℕ × Node) = rows_below n lists in
     record {
-      last_in_range = a;
-      now_in_range = b;
-      serial_in_range = c;
+      last_in_range = b.last_in_range;
+      now_in_range = b.tick_in_range;
+      serial_in_range = b.serial_in_range;
       ordered = IsOrdered-in_order timer_of (entries_of rows);
-      distinct = AreDistinct-in_order timer_of (entries_of rows) (rw (timers_of-entries rows) d);
+      distinct = AreDistinct-in_order timer_of (entries_of rows) (rw (timers_of-entries rows) b.distinct);
       each = rw (timers_of-pending rows)
           (All-in_order itself (IsPending last_tick now last) (timers_in rows)
-          (all-timers (IsPending last_tick now last) rows p));
-      due_now = rw (timers_of-entries (list_at n lists))
-          (all-timers (λ t. t.deadline ≡ now) (list_at n lists) q);
-      due_rising = rw (timers_of-entries (list_at n lists)) (o n (omega arith));
+          (all-timers (IsPending last_tick now last) rows b.pending));
+      each_due = rw (timers_of-entries (list_at n lists))
+          (all-timers (IsDue now last) (list_at n lists) b.due);
+      due_rising = rw (timers_of-entries (list_at n lists)) (b.in_order n (omega arith));
     }

@@ -1,15 +1,15 @@
 -- The state that the lists of a wheel represent: the first n are its buckets, and the next one has what is
 -- due.
-use Rattle.std.specs.Prelude.{◌≡◌, ℕ, ◌<◌, zero, suc, List, [], ◌∷◌, ◌++◌, map}
+use Rattle.std.specs.Prelude.{◌≡◌, ℕ, ◌+◌, ◌<◌, ◌≤◌, zero, suc, List, [], ◌∷◌, ◌++◌, length, map}
 use Rattle.std.specs.List.{AllByRecursion, AllByRecursion-prop}
 use Rattle.std.specs.Coded.{Π_prop}
-use Rattle.std.proofs.Math.Nat.{ℕ_set}
 use Rattle.std.proofs.Props.{props}
+use Rattle.timer_base.specs.declared.limits.TheConstants.{LAST}
 use Rattle.timer_base.specs.declared.timer.Timer.{Timer}
 use Rattle.timer_base.specs.Order.{in_order, AreDistinct, AreRising, IsNotAmong}
 use Rattle.timer_base.specs.OrderLaws.{AreRising-prop}
 use Rattle.timer_base.specs.Pending.{Entry, timer_of}
-use Rattle.timer_base.specs.WheelState.{WheelState, IsPending}
+use Rattle.timer_base.specs.WheelState.{WheelState, IsPending, IsDue}
 use Rattle.timer_links.specs.declared.node.Node.{Node}
 use Rattle.timer_links.specs.Lists.{list_at, KeyedLists}
 
@@ -41,6 +41,7 @@ pending_in rows = in_order timer_of (entries_of rows)
 -- the state of a wheel with n buckets and no room
 abbrev pub wheel_state : ℕ → ℕ → ℕ → ℕ → KeyedLists → WheelState
 wheel_state n last_tick now last_serial lists = record {
+  slots = n;
   last_tick = last_tick;
   now = now;
   pending = pending_in (rows_below n lists);
@@ -62,9 +63,20 @@ ArePendingBelow n last_tick now last_serial lists = ArePending last_tick now las
 abbrev pub AreInOrder : ℕ → KeyedLists → Type 0
 AreInOrder n lists = (s : ℕ) → s < n → AreRising 0 (timers_in (list_at s lists))
 
--- the deadline of each row is the tick
-abbrev pub AreDue : ℕ → List (ℕ × Node) → Type 0
-AreDue now rows = AllByRecursion (λ row. (timer_in row).deadline ≡ now) rows
+-- each row is of a due timer
+abbrev pub AreDue : ℕ → ℕ → List (ℕ × Node) → Type 0
+AreDue now last_serial rows = AllByRecursion (λ row. IsDue now last_serial (timer_in row)) rows
+
+-- what always holds of n buckets, the list of due timers after them, and their clock
+pub record AreBuckets (n last_tick now last_serial : ℕ) (lists : KeyedLists) : Type 0 where
+  pub last_in_range : last_tick ≤ LAST
+  pub tick_in_range : now ≤ last_tick
+  pub serial_in_range : last_serial ≤ LAST
+  pub has_lists : length lists ≡ n + 1
+  pub pending : ArePendingBelow n last_tick now last_serial lists
+  pub distinct : AreDistinct (timers_in (rows_below n lists))
+  pub due : AreDue now last_serial (list_at n lists)
+  pub in_order : AreInOrder (n + 1) lists
 
 -- each row of the first n lists is as the fact says of its list
 abbrev pub EachRow : (ℕ → ℕ × Node → Type 0) → ℕ → KeyedLists → Type 0
@@ -79,8 +91,12 @@ ArePendingBelow-prop n last_tick now last_serial lists =
     AllByRecursion-prop (λ row. IsPending last_tick now last_serial (timer_in row))
     (λ row. IsPending-prop last_tick now last_serial (timer_in row)) (rows_below n lists)
 
-pub AreDue-prop : (now : ℕ) (rows : List (ℕ × Node)) → IsProp (AreDue now rows)
-AreDue-prop now rows = AllByRecursion-prop (λ row. (timer_in row).deadline ≡ now) (λ row. ℕ_set _ _) rows
+IsDue-prop : (now last_serial : ℕ) (t : Timer) → IsProp (IsDue now last_serial t)
+IsDue-prop now last_serial t = hlevel props
+
+pub AreDue-prop : (now last_serial : ℕ) (rows : List (ℕ × Node)) → IsProp (AreDue now last_serial rows)
+AreDue-prop now last_serial rows = AllByRecursion-prop (λ row. IsDue now last_serial (timer_in row))
+    (λ row. IsDue-prop now last_serial (timer_in row)) rows
 
 pub AreInOrder-prop : (n : ℕ) (lists : KeyedLists) → IsProp (AreInOrder n lists)
 AreInOrder-prop n lists = Π_prop (λ s. Π_prop (λ b. AreRising-prop 0 (timers_in (list_at s lists))))
@@ -97,3 +113,13 @@ IsNotAmong-prop serial (t ∷ ts) = hlevel (props, IsNotAmong-prop serial ts)
 pub AreDistinct-prop : (ts : List Timer) → IsProp (AreDistinct ts)
 AreDistinct-prop [] = hlevel props
 AreDistinct-prop (t ∷ ts) = hlevel (props, IsNotAmong-prop t.serial ts, AreDistinct-prop ts)
+
+pub AreBuckets-prop : (n last_tick now last_serial : ℕ) (lists : KeyedLists)
+    → IsProp (AreBuckets n last_tick now last_serial lists)
+AreBuckets-prop n last_tick now last_serial lists = hlevel (
+  props,
+  ArePendingBelow-prop n last_tick now last_serial lists,
+  AreDistinct-prop (timers_in (rows_below n lists)),
+  AreDue-prop now last_serial (list_at n lists),
+  AreInOrder-prop (n + 1) lists,
+)

@@ -1,9 +1,9 @@
 -- The state that `Buckets` represents, and how its calls change the lists.
-use Rattle.std.specs.Prelude.{◌≡◌, ◌≢◌, ◌<◌, ◌++◌, ℕ, [], ◌∷◌, map, Option, Some, None, MatchOption}
+use Rattle.std.specs.Prelude.{◌≡◌, ℕ, map, Option, Some, None, MatchOption}
 use Rattle.timer_base.specs.declared.timer.Timer.{Timer}
 use Rattle.timer_base.specs.WheelState.{WheelState, IsWellFormed, with_room, with_room-well_formed}
 use Rattle.timer_links.specs.declared.node.Node.{Node}
-use Rattle.timer_links.specs.Lists.{list_at, with_row, without_key, KeyedLists}
+use Rattle.timer_links.specs.Lists.{with_row, without_key, KeyedLists}
 use Rattle.timer_wheels.specs.declared.buckets.Buckets.{Buckets}
 use Rattle.timer_wheels.specs.BucketLists.{wheel_state}
 use Rattle.timer_wheels.specs.BucketLaws.{wheel_state-well_formed}
@@ -36,28 +36,21 @@ row_at place timer rounds = (place, record { timer = timer; rounds = rounds })
 abbrev pub RemovesRow : {X : Type 0} → Option X → ℕ → KeyedLists → KeyedLists → Type 0
 RemovesRow found key old new = MatchOption found (new ≡ old) (λ r. new ≡ map (without_key key) old)
 
--- where a timer was found, the row under its key is removed from the first n lists; else they are unchanged
-abbrev pub LeavesBuckets : {X : Type 0} → Option X → ℕ → ℕ → KeyedLists → KeyedLists
-    → Type 0
-LeavesBuckets found key n old new = MatchOption found ((s : ℕ) → s < n → list_at s new ≡ list_at s old)
-    (λ r. (s : ℕ) → s < n → list_at s new ≡ list_at s (map (without_key key) old))
-
 -- where a timer was found, the row under its key is removed, and this row is pushed to the back of a list;
 -- else the lists are unchanged
 abbrev pub ReplacesRow : {X : Type 0} → Option X → ℕ → ℕ × Node → KeyedLists → KeyedLists → Type 0
 ReplacesRow found l row old new = MatchOption found (new ≡ old) (λ r. new
     ≡ with_row l row (map (without_key row.0) old))
 
--- the row is pushed to the back of list l; the others of the first n lists are unchanged
-pub record AddsRow (n l : ℕ) (row : ℕ × Node) (old new : KeyedLists) : Type 0 where
-  pub here : list_at l new ≡ list_at l old ++ row ∷ []
-  pub others : (s : ℕ) → s < n → s ≢ l → list_at s new ≡ list_at s old
+-- where a timer was found, its row comes to the back of list n, with the tick as its deadline and no rounds; else the
+-- lists are unchanged
+abbrev pub MakesRowDue : Option Timer → ℕ → ℕ → ℕ → KeyedLists → KeyedLists → Type 0
+MakesRowDue found key n tick old new = MatchOption found (new ≡ old)
+    (λ t. new ≡ with_row n (row_at key (record t { deadline = tick }) 0) (map (without_key key) old))
 
 -- the invariant of the buckets implies that of every wheel
 pub state_of-well_formed : (buckets : Buckets) → IsWellFormed (state_of buckets)
 state_of-well_formed buckets =
     with_room-well_formed buckets.links.room (roomless_state buckets)
     (wheel_state-well_formed buckets.slots buckets.last_tick buckets.tick buckets.last_serial
-    buckets.links.lists
-    buckets.last_in_range buckets.tick_in_range buckets.serial_in_range buckets.pending buckets.distinct
-    buckets.due buckets.in_order)
+    buckets.links.lists buckets.sound)

@@ -1,10 +1,11 @@
--- The invariant of the buckets of a hierarchy of wheels and of their bits, and the potential of the timers.
+-- The invariant of the buckets of a hierarchy of wheels and of their bits.
 use Rattle.std.specs.Prelude.{◌≡◌, ℕ, List}
+use Rattle.std.proofs.Props.{props}
 use Rattle.timer_wheels.specs.Buckets.{state_of}
 use Rattle.timer_wheels.specs.declared.buckets.Buckets.{Buckets}
 use Rattle.timer_wheels.specs.declared.table.Table.{Table}
 use Rattle.timer_wheels.specs.Digits.{slots, last_of}
-use Rattle.timer_wheels.specs.Occupied.{AreMarked}
+use Rattle.timer_wheels.specs.Occupied.{AreMarked, AreMarked-prop}
 use Rattle.timer_wheels.specs.Placement.{IsPlaced, IsPlaced-prop, levels_of}
 use Rattle.timer_wheels.specs.Tables.{radices}
 use Rattle.timer_wheels.specs.BucketLists.{EachRow, EachRow-prop}
@@ -13,7 +14,7 @@ use Rattle.timer_wheels.specs.BucketLists.{EachRow, EachRow-prop}
 abbrev pub ArePlaced : Table → Buckets → Type 0
 ArePlaced table b = EachRow (IsPlaced (radices table) b.tick) b.slots b.links.lists
 
-pub ArePlaced-prop : (table : Table) (b : Buckets) → IsProp (ArePlaced table b)
+ArePlaced-prop : (table : Table) (b : Buckets) → IsProp (ArePlaced table b)
 ArePlaced-prop table b = EachRow-prop (IsPlaced (radices table) b.tick)
     (IsPlaced-prop (radices table) b.tick) b.slots b.links.lists
 
@@ -29,3 +30,6 @@ pub record IsHier (table : Table) (b : Buckets) (words : List ℕ) : Type 0 wher
   pub placed : ArePlaced table b
   -- the bits mark which buckets have timers
   pub marked : AreMarked b.slots words b.links.lists
+
+pub IsHier-prop : (table : Table) (b : Buckets) (words : List ℕ) → IsProp (IsHier table b words)
+IsHier-prop table b words = hlevel (props, ArePlaced-prop table b, AreMarked-prop b.slots words b.links.lists)

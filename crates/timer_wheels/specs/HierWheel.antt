@@ -1,5 +1,6 @@
 -- The names in the public clauses of `HierWheel`.
 use Rattle.std.specs.Prelude.{◌≡◌, ◌⊎◌, ℕ, ◌+◌, ◌-◌, ◌<◌, ◌≤◌}
+use Rattle.std.proofs.Common.{sym, ◌∙◌}
 use Rattle.timer_base.specs.declared.fault.MakeFault.{MakeFault}
 use Rattle.timer_base.specs.declared.fault.MakeFault.TheVariants.{FirstTick, OutOfMemory}
 use Rattle.timer_base.specs.WheelState.{WheelState}
@@ -8,15 +9,21 @@ use Rattle.timer_wheels.specs.declared.hier.HierWheel.{HierWheel}
 use Rattle.timer_wheels.specs.declared.table.Table.{Table}
 use Rattle.timer_wheels.specs.Digits.{lowest_radix}
 use Rattle.timer_wheels.specs.Placement.{hops_of, visited_between, has_any}
-use Rattle.timer_wheels.specs.Tables.{radices}
+use Rattle.timer_wheels.specs.Tables.{radices, table_by_slots}
 
 -- the state of the wheel
 abbrev pub hier_state : HierWheel → WheelState
-hier_state wheel = state_of wheel.buckets
+hier_state wheel = state_of wheel.wheels.buckets
 
 -- the table by which it reads its digits
 abbrev pub table_of : HierWheel → Table
-table_of wheel = wheel.table
+table_of wheel = wheel.wheels.table
+
+-- no call changes the number of slots, and so none changes the table
+pub same_table : (old new : HierWheel) → (hier_state new).slots ≡ (hier_state old).slots
+    → table_of new ≡ table_of old
+same_table old new e = table_by_slots new.wheels.table old.wheels.table
+    (sym new.wheels.hier.has_slots ∙ (e ∙ old.wheels.hier.has_slots))
 
 -- the error of `new` and `with_table`: the first tick is after the last one, or out of memory
 abbrev pub IsHierFault : ℕ → ℕ → MakeFault → Type 0
@@ -37,7 +44,7 @@ abbrev pub counts_of : HierWheel → WheelCounts
 counts_of wheel = record {
   starts = wheel.counts.starts;
   moves = wheel.counts.moves;
-  visits = wheel.buckets.tick - wheel.counts.skipped;
+  visits = wheel.wheels.buckets.tick - wheel.counts.skipped;
 }
 
 -- the counts after one more start or restart

@@ -10,12 +10,8 @@ ghost use Rattle.timer_links.specs.Lists.{list_at};
 ghost use Rattle.timer_wheels.specs.BucketLists.{rows_below, timers_in};
 ghost use Rattle.timer_wheels.specs.Buckets.{state_of};
 ghost use Rattle.timer_wheels.specs.Deadlines.{IsLeastDeadline};
-ghost use Rattle.timer_wheels.specs.Hier.{IsHier};
 
 use crate::buckets::Buckets;
-use crate::digits::{lowest_slots, visit_of};
-use crate::occupied::Occupied;
-use crate::table::Table;
 use timer_links::Links;
 
 /// The first pending deadline, found by a walk along every bucket. Does not allocate.
@@ -23,23 +19,6 @@ pub fn first_of_all(buckets: &Buckets) -> Option<u64>
     ensures { result ≡ next_deadline (state_of buckets.now).pending }
 {
     least_below(&buckets.links, buckets.slots)
-}
-
-/// The first pending deadline of a hierarchy of wheels, found in its first bucket with a timer. Does not
-/// allocate.
-///
-/// A slot of wheel 0 is one tick, and so its deadline needs no walk.
-pub fn first_of_wheels(table: Table, buckets: &Buckets, occupied: &Occupied) -> Option<u64>
-    requires { IsHier table buckets.now occupied.now }
-    ensures { result ≡ next_deadline (state_of buckets.now).pending }
-{
-    let Some(list) = occupied.first() else {
-        return None;
-    };
-    if list < lowest_slots(table) {
-        return Some(visit_of(table, list, buckets.tick));
-    }
-    least_in(&buckets.links, list)
 }
 
 /// The least deadline of the timers in the first `count` lists. It walks all of them.
@@ -55,7 +34,7 @@ fn least_below(links: &Links, count: usize) -> Option<u64>
 }
 
 /// The least deadline of the timers in one list. It walks the whole list.
-fn least_in(links: &Links, list: usize) -> Option<u64>
+pub fn least_in(links: &Links, list: usize) -> Option<u64>
     requires { list < length links.now.lists }
     ensures { IsLeastDeadline result (timers_in (list_at list links.now.lists)) }
 {

@@ -28,7 +28,6 @@ ghost use Rattle.timer_wheels.specs.Hashed.{slot_of, rounds_of, IsHashed, AreInB
 
 use crate::buckets::Buckets;
 use crate::deadlines::first_of_all;
-use crate::names::lemma_names_one;
 use crate::revolutions::skip_revolutions;
 use crate::sweep::{next_sweep, slot_after, sweep_tick};
 use std::alloc::Global;
@@ -63,7 +62,7 @@ impl HashedWheel {
     /// Errors, in this order: `Slots` if there are none or more than `MAX_SLOTS`; `FirstTick` above
     /// `LAST`; `OutOfMemory`.
     pub fn new(alloc: Global, slots: usize, first_tick: u64) -> Result<HashedWheel, MakeFault>
-        ensures ok { IfOk result (λ wheel. hashed_state wheel ≡ empty_wheel LAST first_tick) }
+        ensures ok { IfOk result (λ wheel. hashed_state wheel ≡ empty_wheel slots LAST first_tick) }
         ensures slots { IfOk result (λ wheel. slots_of wheel ≡ slots) }
         ensures no_fault { IfOk result (λ wheel. argument_fault slots first_tick ≡ None) }
         ensures err { IfErr result (λ fault. IsHashedFault slots first_tick fault) }
@@ -122,8 +121,7 @@ impl HashedWheel {
         requires nothing_due { (hashed_state self.old).due ≡ [] }
         requires some { 0 < most }
         requires before_last { most ≤ (hashed_state self.old).last_tick - (hashed_state self.old).now }
-        ensures advances { Advances most result (hashed_state self.old) (hashed_state self.new) }
-        ensures slots { slots_of self.new ≡ slots_of self.old }
+        ensures { Advances most result (hashed_state self.old) (hashed_state self.new) }
     {
         for passed in 0..most {
             self.per_tick();
@@ -135,8 +133,6 @@ impl HashedWheel {
     }
 }
 
-// A call that changes the wheel repeats the clauses of the trait, which its own would replace, and adds
-// that the number of slots stays: so `links` shows the same slots from `new` on.
 impl Wheel for HashedWheel {
     ghost use Rattle.timer_wheels.specs.HashedWheel.{hashed_state, slots_of};
     ghost use Rattle.timer_wheels.specs.Buckets.{state_of-well_formed};
@@ -165,27 +161,12 @@ impl Wheel for HashedWheel {
         self.buckets.last_serial
     }
 
-    fn start(&mut self, timer: Timer) -> Result<Handle, OutOfMemory>
-        requires later { (hashed_state self.old).now < timer.deadline }
-        requires deadline { timer.deadline ≤ (hashed_state self.old).last_tick }
-        requires fresh { (hashed_state self.old).last_serial < timer.serial }
-        requires serial { timer.serial ≤ LAST }
-        ensures named { IfOk result (λ handle. handle.serial ≡ timer.serial) }
-        ensures started { IfOk result (λ handle. hashed_state self.new
-            ≡ after_start handle.place timer (hashed_state self.old)) }
-        ensures full { OnErr result ((hashed_state self.old).room ≤ held_count (hashed_state self.old)) }
-        ensures err { OnErr result (hashed_state self.new ≡ hashed_state self.old) }
-        ensures slots { slots_of self.new ≡ slots_of self.old }
-    {
+    fn start(&mut self, timer: Timer) -> Result<Handle, OutOfMemory> {
         let (bucket, rounds) = self.bucket_and_rounds(timer);
         self.buckets.start(bucket, timer, rounds)
     }
 
-    fn reserve(&mut self, most: usize) -> Result<(), OutOfMemory>
-        ensures ok { OnOk result (hashed_state self.new ≡ after_reserve most (hashed_state self.old)) }
-        ensures err { OnErr result (hashed_state self.new ≡ hashed_state self.old) }
-        ensures slots { slots_of self.new ≡ slots_of self.old }
-    {
+    fn reserve(&mut self, most: usize) -> Result<(), OutOfMemory> {
         self.buckets.reserve(most)
     }
 
@@ -193,45 +174,20 @@ impl Wheel for HashedWheel {
         self.buckets.look(handle)
     }
 
-    fn stop(&mut self, handle: Handle) -> Option<Timer>
-        ensures timer { result ≡ timer_at handle (hashed_state self.old) }
-        ensures stopped { hashed_state self.new ≡ after_stop handle (hashed_state self.old) }
-        ensures slots { slots_of self.new ≡ slots_of self.old }
-    {
+    fn stop(&mut self, handle: Handle) -> Option<Timer> {
         self.buckets.stop(handle)
     }
 
-    fn restart(&mut self, handle: Handle, timer: Timer) -> Option<(Handle, Timer)>
-        requires later { (hashed_state self.old).now < timer.deadline }
-        requires deadline { timer.deadline ≤ (hashed_state self.old).last_tick }
-        requires fresh { (hashed_state self.old).last_serial < timer.serial }
-        requires serial { timer.serial ≤ LAST }
-        ensures old { old_timer result ≡ timer_at handle (hashed_state self.old) }
-        ensures named { MatchOption result (Unit {0}) (λ r. r.0.serial ≡ timer.serial) }
-        ensures restarted { hashed_state self.new ≡ after_restart result handle timer
-            (hashed_state self.old) }
-        ensures slots { slots_of self.new ≡ slots_of self.old }
-    {
+    fn restart(&mut self, handle: Handle, timer: Timer) -> Option<(Handle, Timer)> {
         let (bucket, rounds) = self.bucket_and_rounds(timer);
         self.buckets.restart(handle, bucket, timer, rounds)
     }
 
-    fn make_due(&mut self, handle: Handle) -> Option<Timer>
-        requires last { handle.serial ≡ (hashed_state self.old).last_serial }
-        requires newest { AreBelow handle.serial (timers_of (hashed_state self.old).due) }
-        ensures timer { result ≡ timer_at handle (hashed_state self.old) }
-        ensures made_due { hashed_state self.new ≡ after_made_due handle (hashed_state self.old) }
-        ensures slots { slots_of self.new ≡ slots_of self.old }
-    {
+    fn make_due(&mut self, handle: Handle) -> Option<Timer> {
         self.buckets.make_due(handle)
     }
 
-    fn per_tick(&mut self)
-        requires nothing_due { (hashed_state self.old).due ≡ [] }
-        requires before_last { (hashed_state self.old).now < (hashed_state self.old).last_tick }
-        ensures ticked { hashed_state self.new ≡ after_tick (hashed_state self.old) }
-        ensures slots { slots_of self.new ≡ slots_of self.old }
-    {
+    fn per_tick(&mut self) {
         let buckets = &mut self.buckets;
         let slot = slot_after(self.slot, 1, buckets.slots);
         sweep_tick(buckets, slot);
@@ -240,13 +196,7 @@ impl Wheel for HashedWheel {
 
     /// Takes single ticks for a revolution, and then skips whole revolutions in which nothing is due: at most
     /// two revolutions of ticks and two walks along all timers, however far the next deadline is.
-    fn advance(&mut self, most: u64) -> u64
-        requires nothing_due { (hashed_state self.old).due ≡ [] }
-        requires some { 0 < most }
-        requires before_last { most ≤ (hashed_state self.old).last_tick - (hashed_state self.old).now }
-        ensures advances { Advances most result (hashed_state self.old) (hashed_state self.new) }
-        ensures slots { slots_of self.new ≡ slots_of self.old }
-    {
+    fn advance(&mut self, most: u64) -> u64 {
         let revolution = self.slots() as u64;
         let mut passed = 0;
         while passed < most {
@@ -273,11 +223,7 @@ impl Wheel for HashedWheel {
         first_of_all(&self.buckets)
     }
 
-    fn expire(&mut self) -> Option<Timer>
-        ensures first { result ≡ first_due (hashed_state self.old) }
-        ensures rest { hashed_state self.new ≡ after_expiry (hashed_state self.old) }
-        ensures slots { slots_of self.new ≡ slots_of self.old }
-    {
+    fn expire(&mut self) -> Option<Timer> {
         self.buckets.expire()
     }
 
@@ -285,40 +231,24 @@ impl Wheel for HashedWheel {
         self.buckets.look_due(handle)
     }
 
-    fn withdraw(&mut self, handle: Handle) -> Option<Timer>
-        ensures timer { result ≡ due_at handle (hashed_state self.old) }
-        ensures withdrawn { hashed_state self.new ≡ after_withdrawal handle (hashed_state self.old) }
-        ensures slots { slots_of self.new ≡ slots_of self.old }
-    {
+    fn withdraw(&mut self, handle: Handle) -> Option<Timer> {
         self.buckets.withdraw(handle)
     }
 
-    fn revive(&mut self, handle: Handle, timer: Timer) -> Option<(Handle, Timer)>
-        requires later { (hashed_state self.old).now < timer.deadline }
-        requires deadline { timer.deadline ≤ (hashed_state self.old).last_tick }
-        requires fresh { (hashed_state self.old).last_serial < timer.serial }
-        requires serial { timer.serial ≤ LAST }
-        ensures old { old_timer result ≡ due_at handle (hashed_state self.old) }
-        ensures named { MatchOption result (Unit {0}) (λ r. r.0.serial ≡ timer.serial) }
-        ensures revived { hashed_state self.new ≡ after_revival result handle timer (hashed_state self.old) }
-        ensures slots { slots_of self.new ≡ slots_of self.old }
-    {
+    fn revive(&mut self, handle: Handle, timer: Timer) -> Option<(Handle, Timer)> {
         let (bucket, rounds) = self.bucket_and_rounds(timer);
         self.buckets.revive(handle, bucket, timer, rounds)
     }
 
     fn lemma_names_one(&self, handle: Handle) {
-        lemma_names_one(&self.buckets, handle)
+        self.buckets.lemma_names_one(handle)
     }
 
     fn list(&self) -> Result<Vec<Timer>, OutOfMemory> {
         self.buckets.list()
     }
 
-    fn clear(&mut self)
-        ensures cleared { hashed_state self.new ≡ after_clear (hashed_state self.old) }
-        ensures slots { slots_of self.new ≡ slots_of self.old }
-    {
+    fn clear(&mut self) {
         self.buckets.clear()
     }
 }

@@ -55,25 +55,17 @@ ghost use Rattle.timer_base.specs.Pending.{timers_of};
 ghost use Rattle.timer_base.specs.WakeUps.{IsQuietUntil};
 ghost use Rattle.timer_base.specs.WheelState.{empty_wheel, timer_at, first_due, after_start, after_reserve, held_count, after_stop, after_tick, after_expiry, after_clear, after_restart, after_made_due, after_withdrawal, after_revival, due_at, old_timer, Advances};
 ghost use Rattle.timer_wheels.specs.Buckets.{state_of, state_of-well_formed};
-ghost use Rattle.timer_wheels.specs.Digits.{slots, last_of};
 ghost use Rattle.timer_wheels.specs.Leap.{IsNextVisit};
-ghost use Rattle.timer_wheels.specs.Tables.{radices, last_of_table};
+ghost use Rattle.timer_wheels.specs.Tables.{radices, last_of_table, slots_of_table};
 ghost use Rattle.timer_wheels.specs.declared.table.Table.TheVariants.{Wide};
-ghost use Rattle.timer_wheels.specs.Occupied.{AreMarked, AreMarked-prop};
 ghost use Rattle.timer_wheels.specs.HeldPlaces.{IsFirstHeld};
-ghost use Rattle.timer_wheels.specs.Hier.{ArePlaced, ArePlaced-prop};
 ghost use Rattle.timer_wheels.specs.Placement.{ShowsWheels, IsPaid, most_moves};
 
-use crate::buckets::Buckets;
-use crate::deadlines::first_of_wheels;
-use crate::digits::{bucket_of, buckets_of, last_tick_of};
-use crate::hier_updates::{make_timer_due, restart_timer, revive_timer, stop_timer};
+use crate::digits::last_tick_of;
 use crate::iteration::held_from;
-use crate::leap::{advance_until_due, first_visit, visits_between};
-use crate::migration::next_tick;
-use crate::names::lemma_names_one;
-use crate::occupied::Occupied;
+use crate::leap::visits_between;
 use crate::table::Table;
+use crate::wheels::Wheels;
 use std::alloc::Global;
 use timer_base::{Handle, LAST, MakeFault, OutOfMemory, Timer, Wheel};
 use timer_links::Links;
@@ -110,22 +102,14 @@ impl Counts {
 /// `start` returns out of memory though no allocation failed.
 #[derive(Drop)]
 pub struct HierWheel {
-    table: Table,
-    buckets: Buckets,
-    // Which buckets have a timer.
-    occupied: Occupied,
+    wheels: Wheels,
     counts: Counts,
-    ghost has_slots: { buckets.slots ≡ slots (radices table) },
-    ghost has_clock: { buckets.last_tick ≡ last_of (radices table) },
-    // Each timer stands in its bucket.
-    ghost placed: { ArePlaced table buckets } by { ArePlaced-prop table buckets },
-    ghost marked: { AreMarked buckets.slots occupied buckets.links.lists } by { AreMarked-prop
-        buckets.slots occupied buckets.links.lists },
-    ghost few_starts: { counts.starts ≤ buckets.last_serial },
-    ghost few_skipped: { counts.skipped ≤ buckets.tick },
+    ghost few_starts: { counts.starts ≤ wheels.buckets.last_serial },
+    ghost few_skipped: { counts.skipped ≤ wheels.buckets.tick },
     // A start allows one move for each wheel but the highest, and each move lowers a level. So what is left
     // to move is counted too.
-    ghost paid: { IsPaid (radices table) counts.starts counts.moves buckets.tick (state_of buckets).pending },
+    ghost paid: { IsPaid (radices wheels.table) counts.starts counts.moves wheels.buckets.tick
+        (state_of wheels.buckets).pending },
 }
 
 impl HierWheel {
@@ -135,7 +119,8 @@ impl HierWheel {
     ///
     /// Errors, in this order: `FirstTick` above `LAST`; `OutOfMemory`.
     pub fn new(alloc: Global, first_tick: u64) -> Result<HierWheel, MakeFault>
-        ensures state { IfOk result (λ wheel. hier_state wheel ≡ empty_wheel LAST first_tick) }
+        ensures state { IfOk result (λ wheel. hier_state wheel
+            ≡ empty_wheel (slots_of_table Wide) LAST first_tick) }
         ensures counts { IfOk result (λ wheel. counts_of wheel ≡ record {
           starts = 0;
           moves = 0;
@@ -154,7 +139,7 @@ impl HierWheel {
     /// `LAST_OF_CLOCK`; `OutOfMemory`.
     pub fn with_table(alloc: Global, table: Table, first_tick: u64) -> Result<HierWheel, MakeFault>
         ensures state { IfOk result (λ wheel. hier_state wheel
-            ≡ empty_wheel (last_of_table table) first_tick) }
+            ≡ empty_wheel (slots_of_table table) (last_of_table table) first_tick) }
         ensures counts { IfOk result (λ wheel. counts_of wheel ≡ record {
           starts = 0;
           moves = 0;
@@ -164,11 +149,10 @@ impl HierWheel {
         ensures in_range { IfOk result (λ wheel. first_tick ≤ last_of_table table) }
         ensures fault { IfErr result (λ fault. IsHierFault (last_of_table table) first_tick fault) }
     {
-        let last_tick = last_tick_of(table);
-        if first_tick > last_tick {
+        if first_tick > last_tick_of(table) {
             return Err(MakeFault::FirstTick);
         }
-        let Ok(buckets) = Buckets::new(alloc, buckets_of(table), last_tick, first_tick) else {
+        let Ok(wheels) = Wheels::new(alloc, table, first_tick) else {
             return Err(MakeFault::OutOfMemory);
         };
         let counts = Counts {
@@ -176,12 +160,7 @@ impl HierWheel {
             moves: 0,
             skipped: first_tick,
         };
-        Ok(HierWheel {
-            table,
-            buckets,
-            occupied: Occupied::new(),
-            counts,
-        })
+        Ok(HierWheel { wheels, counts })
     }
 
     /// The buckets, and after them the list of due timers, which is list 640 of `Table::Wide` and
@@ -193,14 +172,15 @@ impl HierWheel {
     pub fn links(&self) -> &Links
         ensures { ShowsWheels (radices (table_of self.now)) (hier_state self.now) result.now.lists }
     {
-        &self.buckets.links
+        &self.wheels.buckets.links
     }
 
     /// The table whose slots the wheels have, which stays as it was chosen. Does not allocate.
     pub fn table(&self) -> Table
-        ensures { result ≡ table_of self.now }
+        ensures table { result ≡ table_of self.now }
+        ensures slots { slots_of_table result ≡ (hier_state self.now).slots }
     {
-        self.table
+        self.wheels.table
     }
 
     /// How many timers were started or restarted since the wheel was made. Does not allocate.
@@ -226,7 +206,7 @@ impl HierWheel {
     pub fn visits(&self) -> u64
         ensures { result ≡ (counts_of self.now).visits }
     {
-        self.buckets.tick - self.counts.skipped
+        self.wheels.buckets.tick - self.counts.skipped
     }
 
     /// The handle of the timer, pending or due, at this place or the first later one that has a timer, or
@@ -237,35 +217,35 @@ impl HierWheel {
         ensures first { IsFirstHeld place (hier_state self.now) result }
         ensures in_range { IfSome result (λ handle. handle.place < 4294967296) }
     {
-        held_from(&self.buckets, place)
+        held_from(&self.wheels.buckets, place)
     }
 }
 
 // A call that changes the wheel repeats the clauses of the trait, which its own would replace, and adds
-// what it counts and that the table stays.
+// what it counts.
 impl Wheel for HierWheel {
     ghost use Rattle.timer_wheels.specs.HierWheel.{hier_state, table_of, counts_of, with_start, with_ticks, hops_ahead, visits_to};
 
     ghost state = { λ wheel. hier_state wheel };
 
     fn last_tick(&self) -> u64 {
-        self.buckets.last_tick
+        self.wheels.buckets.last_tick
     }
 
     fn now(&self) -> u64 {
-        self.buckets.tick
+        self.wheels.buckets.tick
     }
 
     fn len(&self) -> usize {
-        self.buckets.len()
+        self.wheels.buckets.len()
     }
 
     fn has_due(&self) -> bool {
-        self.buckets.has_due()
+        self.wheels.buckets.has_due()
     }
 
     fn last_serial(&self) -> u64 {
-        self.buckets.last_serial
+        self.wheels.buckets.last_serial
     }
 
     // Always inlined, as restart and revive are: the results of calls would go through memory.
@@ -282,11 +262,8 @@ impl Wheel for HierWheel {
         ensures err { OnErr result (hier_state self.new ≡ hier_state self.old) }
         ensures counted { IfOk result (λ handle. counts_of self.new ≡ with_start (counts_of self.old)) }
         ensures not_counted { OnErr result (counts_of self.new ≡ counts_of self.old) }
-        ensures table { table_of self.new ≡ table_of self.old }
     {
-        let list = bucket_of(self.table, self.buckets.tick, timer.deadline);
-        let handle = self.buckets.start(list, timer, 0)?;
-        self.occupied.insert(list);
+        let handle = self.wheels.start(timer)?;
         let counts = &mut self.counts;
         counts.starts += 1;
         Ok(handle)
@@ -296,22 +273,20 @@ impl Wheel for HierWheel {
         ensures ok { OnOk result (hier_state self.new ≡ after_reserve most (hier_state self.old)) }
         ensures err { OnErr result (hier_state self.new ≡ hier_state self.old) }
         ensures counts { counts_of self.new ≡ counts_of self.old }
-        ensures table { table_of self.new ≡ table_of self.old }
     {
-        self.buckets.reserve(most)
+        self.wheels.buckets.reserve(most)
     }
 
     fn look(&self, handle: Handle) -> Option<Timer> {
-        self.buckets.look(handle)
+        self.wheels.buckets.look(handle)
     }
 
     fn stop(&mut self, handle: Handle) -> Option<Timer>
         ensures timer { result ≡ timer_at handle (hier_state self.old) }
         ensures stopped { hier_state self.new ≡ after_stop handle (hier_state self.old) }
         ensures counts { counts_of self.new ≡ counts_of self.old }
-        ensures table { table_of self.new ≡ table_of self.old }
     {
-        stop_timer(self.table, &mut self.buckets, &mut self.occupied, handle)
+        self.wheels.stop(handle)
     }
 
     #[inline(always)]
@@ -325,15 +300,8 @@ impl Wheel for HierWheel {
         ensures restarted { hier_state self.new ≡ after_restart result handle timer (hier_state self.old) }
         ensures counted { MatchOption result (counts_of self.new
             ≡ counts_of self.old) (λ r. counts_of self.new ≡ with_start (counts_of self.old)) }
-        ensures table { table_of self.new ≡ table_of self.old }
     {
-        let restarted = restart_timer(
-            self.table,
-            &mut self.buckets,
-            &mut self.occupied,
-            handle,
-            timer,
-        )?;
+        let restarted = self.wheels.restart(handle, timer)?;
         let counts = &mut self.counts;
         counts.starts += 1;
         Some(restarted)
@@ -345,9 +313,8 @@ impl Wheel for HierWheel {
         ensures timer { result ≡ timer_at handle (hier_state self.old) }
         ensures made_due { hier_state self.new ≡ after_made_due handle (hier_state self.old) }
         ensures counts { counts_of self.new ≡ counts_of self.old }
-        ensures table { table_of self.new ≡ table_of self.old }
     {
-        make_timer_due(self.table, &mut self.buckets, &mut self.occupied, handle)
+        self.wheels.make_due(handle)
     }
 
     fn per_tick(&mut self)
@@ -355,9 +322,8 @@ impl Wheel for HierWheel {
         requires before_last { (hier_state self.old).now < (hier_state self.old).last_tick }
         ensures ticked { hier_state self.new ≡ after_tick (hier_state self.old) }
         ensures counted { counts_of self.new ≡ with_ticks (hops_ahead self.old 1) 1 (counts_of self.old) }
-        ensures table { table_of self.new ≡ table_of self.old }
     {
-        let moves = next_tick(self.table, &mut self.buckets, &mut self.occupied);
+        let moves = self.wheels.next_tick();
         let counts = &mut self.counts;
         counts.add_moves(moves);
     }
@@ -369,13 +335,13 @@ impl Wheel for HierWheel {
         ensures advances { Advances most result (hier_state self.old) (hier_state self.new) }
         ensures counted { counts_of self.new ≡ with_ticks (hops_ahead self.old result)
             (visits_to self.old self.new) (counts_of self.old) }
-        ensures table { table_of self.new ≡ table_of self.old }
     {
-        let first = self.buckets.tick;
-        let moves = advance_until_due(self.table, &mut self.buckets, &mut self.occupied, most);
-        let last = self.buckets.tick;
+        let table = self.wheels.table;
+        let first = self.wheels.buckets.tick;
+        let moves = self.wheels.advance_until_due(most);
+        let last = self.wheels.buckets.tick;
         let passed = last - first;
-        let visits = visits_between(self.table, first, last, self.buckets.has_due());
+        let visits = visits_between(table, first, last, self.wheels.buckets.has_due());
         let counts = &mut self.counts;
         counts.moves += moves;
         counts.skipped += passed - visits;
@@ -389,35 +355,33 @@ impl Wheel for HierWheel {
             (hier_state self.now)) }
         ensures quiet { IsQuietUntil result (hier_state self.now) }
     {
-        first_visit(self.table, &self.buckets, &self.occupied)
+        self.wheels.first_visit()
     }
 
     /// Found in the first bucket with a timer: on wheel 0 without a look at its timers, and on a higher wheel
     /// by a walk along that bucket alone.
     fn next_deadline(&self) -> Option<u64> {
-        first_of_wheels(self.table, &self.buckets, &self.occupied)
+        self.wheels.next_deadline()
     }
 
     fn expire(&mut self) -> Option<Timer>
         ensures first { result ≡ first_due (hier_state self.old) }
         ensures rest { hier_state self.new ≡ after_expiry (hier_state self.old) }
         ensures counts { counts_of self.new ≡ counts_of self.old }
-        ensures table { table_of self.new ≡ table_of self.old }
     {
-        self.buckets.expire()
+        self.wheels.buckets.expire()
     }
 
     fn look_due(&self, handle: Handle) -> Option<Timer> {
-        self.buckets.look_due(handle)
+        self.wheels.buckets.look_due(handle)
     }
 
     fn withdraw(&mut self, handle: Handle) -> Option<Timer>
         ensures timer { result ≡ due_at handle (hier_state self.old) }
         ensures withdrawn { hier_state self.new ≡ after_withdrawal handle (hier_state self.old) }
         ensures counts { counts_of self.new ≡ counts_of self.old }
-        ensures table { table_of self.new ≡ table_of self.old }
     {
-        self.buckets.withdraw(handle)
+        self.wheels.withdraw(handle)
     }
 
     #[inline(always)]
@@ -431,36 +395,27 @@ impl Wheel for HierWheel {
         ensures revived { hier_state self.new ≡ after_revival result handle timer (hier_state self.old) }
         ensures counted { MatchOption result (counts_of self.new
             ≡ counts_of self.old) (λ r. counts_of self.new ≡ with_start (counts_of self.old)) }
-        ensures table { table_of self.new ≡ table_of self.old }
     {
-        let revived = revive_timer(
-            self.table,
-            &mut self.buckets,
-            &mut self.occupied,
-            handle,
-            timer,
-        )?;
+        let revived = self.wheels.revive(handle, timer)?;
         let counts = &mut self.counts;
         counts.starts += 1;
         Some(revived)
     }
 
     fn lemma_names_one(&self, handle: Handle) {
-        lemma_names_one(&self.buckets, handle)
+        self.wheels.buckets.lemma_names_one(handle)
     }
 
     fn list(&self) -> Result<Vec<Timer>, OutOfMemory> {
-        self.buckets.list()
+        self.wheels.buckets.list()
     }
 
     fn clear(&mut self)
         ensures cleared { hier_state self.new ≡ after_clear (hier_state self.old) }
         ensures counts { counts_of self.new ≡ counts_of self.old }
-        ensures table { table_of self.new ≡ table_of self.old }
     {
-        self.buckets.clear();
-        self.occupied = Occupied::new();
+        self.wheels.clear();
     }
 
-    ghost well_formed = { λ wheel. state_of-well_formed wheel.buckets };
+    ghost well_formed = { λ wheel. state_of-well_formed wheel.wheels.buckets };
 }

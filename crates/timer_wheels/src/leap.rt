@@ -13,111 +13,106 @@ ghost use Rattle.timer_wheels.specs.declared.table.Table.TheVariants.{Wide};
 ghost use Rattle.timer_wheels.specs.Tables.{radices};
 ghost use Rattle.timer_wheels.specs.Placement.{visited_between, most_moves};
 ghost use Rattle.timer_wheels.specs.Buckets.{state_of};
+ghost use Rattle.timer_wheels.specs.Hier.{potential};
 ghost use Rattle.timer_wheels.specs.Leap.{AreNotVisitedBefore, IsVisitBound, IsNextVisit, Leaps};
-ghost use Rattle.timer_wheels.specs.Hier.{IsHier, potential};
 
-use crate::buckets::Buckets;
 use crate::digits::{is_rollover, revolutions, visit_of};
-use crate::migration::next_tick;
-use crate::occupied::Occupied;
 use crate::table::Table;
+use crate::wheels::Wheels;
 
-/// Advances to the first tick at which something is due, by at most `most` ticks.
-///
-/// Returns how many timers went to a lower wheel. Does not allocate.
-pub fn advance_until_due(
-    table: Table,
-    buckets: &mut Buckets,
-    occupied: &mut Occupied,
-    most: u64,
-) -> u64
-    requires hier { IsHier table buckets.old occupied.old }
-    requires nothing_due { (state_of buckets.old).due ≡ [] }
-    requires some { 0 < most }
-    requires before_last { most ≤ buckets.old.last_tick - buckets.old.tick }
-    requires few { potential table buckets.old ≤ most_moves (radices Wide) * LAST }
-    ensures hier { IsHier table buckets.new occupied.new }
-    ensures leaps { Leaps (radices table) result (state_of buckets.old) (state_of buckets.new) }
-    ensures advances { Advances most (buckets.new.tick - buckets.old.tick) (state_of buckets.old)
-        (state_of buckets.new) }
-{
-    let end = buckets.tick + most;
-    let mut moves = 0;
-    while buckets.tick < end {
-        moves += leap_to_visit(table, buckets, occupied, end);
-        if buckets.has_due() {
-            return moves;
+impl Wheels {
+    /// Advances to the first tick at which something is due, by at most `most` ticks.
+    ///
+    /// Returns how many timers went to a lower wheel. Does not allocate.
+    pub fn advance_until_due(&mut self, most: u64) -> u64
+        requires nothing_due { (state_of self.old.buckets).due ≡ [] }
+        requires some { 0 < most }
+        requires before_last { most ≤ self.old.buckets.last_tick - self.old.buckets.tick }
+        requires few { potential self.old.table self.old.buckets ≤ most_moves (radices Wide) * LAST }
+        ensures leaps { Leaps (radices self.old.table) result (state_of self.old.buckets)
+            (state_of self.new.buckets) }
+        ensures advances { Advances most (self.new.buckets.tick - self.old.buckets.tick)
+            (state_of self.old.buckets) (state_of self.new.buckets) }
+        ensures table { self.new.table ≡ self.old.table }
+    {
+        let end = self.buckets.tick + most;
+        let mut moves = 0;
+        while self.buckets.tick < end {
+            moves += self.leap_to_visit(end);
+            if self.buckets.has_due() {
+                return moves;
+            }
+        }
+        moves
+    }
+
+    /// Advances to the next visit of a bucket with a timer, or to the end if that comes first.
+    fn leap_to_visit(&mut self, end: u64) -> u64
+        requires nothing_due { (state_of self.old.buckets).due ≡ [] }
+        requires before_end { self.old.buckets.tick < end }
+        requires end { end ≤ self.old.buckets.last_tick }
+        ensures leaps { Leaps (radices self.old.table) result (state_of self.old.buckets)
+            (state_of self.new.buckets) }
+        ensures later { self.old.buckets.tick < self.new.buckets.tick }
+        ensures end { self.new.buckets.tick ≤ end }
+        ensures table { self.new.table ≡ self.old.table }
+    {
+        let visit = self.next_visit(end);
+        if end < visit {
+            self.skip_to(end);
+            0
+        } else {
+            self.skip_to(visit - 1);
+            self.next_tick()
         }
     }
-    moves
-}
 
-/// Advances to the next visit of a bucket with a timer, or to the end if that comes first.
-fn leap_to_visit(table: Table, buckets: &mut Buckets, occupied: &mut Occupied, end: u64) -> u64
-    requires hier { IsHier table buckets.old occupied.old }
-    requires nothing_due { (state_of buckets.old).due ≡ [] }
-    requires before_end { buckets.old.tick < end }
-    requires end { end ≤ buckets.old.last_tick }
-    ensures hier { IsHier table buckets.new occupied.new }
-    ensures leaps { Leaps (radices table) result (state_of buckets.old) (state_of buckets.new) }
-    ensures later { buckets.old.tick < buckets.new.tick }
-    ensures end { buckets.new.tick ≤ end }
-{
-    let visit = next_visit(table, buckets, occupied, end);
-    if end < visit {
-        skip_to(table, buckets, occupied, end);
-        0
-    } else {
-        skip_to(table, buckets, occupied, visit - 1);
-        next_tick(table, buckets, occupied)
+    /// The next visit of a bucket with a timer, or the tick after the end if no bucket has one.
+    fn next_visit(&self, end: u64) -> u64
+        requires before_end { self.now.buckets.tick < end }
+        requires end { end ≤ self.now.buckets.last_tick }
+        ensures later { self.now.buckets.tick < result }
+        ensures not_before { AreNotVisitedBefore (radices self.now.table) self.now.buckets.slots
+            self.now.buckets.tick result self.now.buckets.links.lists }
+    {
+        match self.first_visit() {
+            Some(visit) => visit,
+            None => end + 1,
+        }
     }
-}
 
-/// The next visit of a bucket with a timer, or the tick after the end if no bucket has one.
-fn next_visit(table: Table, buckets: &Buckets, occupied: &Occupied, end: u64) -> u64
-    requires hier { IsHier table buckets.now occupied.now }
-    requires before_end { buckets.now.tick < end }
-    requires end { end ≤ buckets.now.last_tick }
-    ensures later { buckets.now.tick < result }
-    ensures not_before { AreNotVisitedBefore (radices table) buckets.now.slots buckets.now.tick result
-        buckets.now.links.lists }
-{
-    match first_visit(table, buckets, occupied) {
-        Some(visit) => visit,
-        None => end + 1,
+    /// The next visit of a bucket with a timer, or None if no bucket has one.
+    #[inline]
+    pub fn first_visit(&self) -> Option<u64>
+        ensures quiet { IsQuietUntil result (state_of self.now.buckets) }
+        ensures next { IfSome result (λ tick. IsNextVisit (radices self.now.table) tick
+            (state_of self.now.buckets)) }
+        ensures not_before { IsVisitBound (radices self.now.table) self.now.buckets.slots
+            self.now.buckets.tick result self.now.buckets.links.lists }
+    {
+        match self.occupied.first() {
+            Some(list) => Some(visit_of(self.table, list, self.buckets.tick)),
+            None => None,
+        }
     }
-}
 
-/// The next visit of a bucket with a timer, or None if no bucket has one.
-#[inline]
-pub fn first_visit(table: Table, buckets: &Buckets, occupied: &Occupied) -> Option<u64>
-    requires { IsHier table buckets.now occupied.now }
-    ensures quiet { IsQuietUntil result (state_of buckets.now) }
-    ensures next { IfSome result (λ tick. IsNextVisit (radices table) tick (state_of buckets.now)) }
-    ensures not_before { IsVisitBound (radices table) buckets.now.slots buckets.now.tick result
-        buckets.now.links.lists }
-{
-    match occupied.first() {
-        Some(list) => Some(visit_of(table, list, buckets.tick)),
-        None => None,
+    /// Sets the clock to a later tick, if no bucket with a timer is visited up to it.
+    fn skip_to(&mut self, tick: u64)
+        requires nothing_due { (state_of self.old.buckets).due ≡ [] }
+        requires later { self.old.buckets.tick ≤ tick }
+        requires in_range { tick ≤ self.old.buckets.last_tick }
+        requires not_before { AreNotVisitedBefore (radices self.old.table) self.old.buckets.slots
+            self.old.buckets.tick (tick + 1) self.old.buckets.links.lists }
+        ensures leaps { Leaps (radices self.old.table) 0 (state_of self.old.buckets)
+            (state_of self.new.buckets) }
+        ensures tick { self.new.buckets.tick ≡ tick }
+        ensures last_tick { self.new.buckets.last_tick ≡ self.old.buckets.last_tick }
+        ensures nothing_due { (state_of self.new.buckets).due ≡ [] }
+        ensures table { self.new.table ≡ self.old.table }
+    {
+        let buckets = &mut self.buckets;
+        buckets.tick = tick;
     }
-}
-
-/// Sets the clock to a later tick, if no bucket with a timer is visited up to it.
-fn skip_to(table: Table, buckets: &mut Buckets, occupied: &Occupied, tick: u64)
-    requires hier { IsHier table buckets.old occupied.now }
-    requires nothing_due { (state_of buckets.old).due ≡ [] }
-    requires later { buckets.old.tick ≤ tick }
-    requires in_range { tick ≤ buckets.old.last_tick }
-    requires not_before { AreNotVisitedBefore (radices table) buckets.old.slots buckets.old.tick
-        (tick + 1) buckets.old.links.lists }
-    ensures leaps { Leaps (radices table) 0 (state_of buckets.old) (state_of buckets.new) }
-    ensures hier { IsHier table buckets.new occupied.now }
-    ensures tick { buckets.new.tick ≡ tick }
-    ensures last_tick { buckets.new.last_tick ≡ buckets.old.last_tick }
-    ensures nothing_due { (state_of buckets.new).due ≡ [] }
-{
-    buckets.tick = tick;
 }
 
 /// How many visits the ticks after the first one up to the last count: one at each multiple of the lowest

@@ -1,42 +1,16 @@
-//! One tick of a hierarchy of wheels, and the bucket that it empties.
-ghost use Rattle.std.specs.Prelude.{◌≡◌, ◌+◌, ◌<◌, ◌≤◌, [], length};
+//! The bucket that one tick of a hierarchy of wheels empties.
+ghost use Rattle.std.specs.Prelude.{◌≡◌, ◌+◌, ◌<◌, length};
 ghost use Rattle.std.specs.List.{AllByRecursion};
-ghost use Rattle.timer_base.specs.WheelState.{after_tick};
 ghost use Rattle.timer_links.specs.Lists.{list_at};
-ghost use Rattle.timer_wheels.specs.Buckets.{state_of};
 ghost use Rattle.timer_wheels.specs.Digits.{slots, lowest_radix};
-ghost use Rattle.timer_wheels.specs.Hier.{IsHier, potential};
 ghost use Rattle.timer_wheels.specs.Migration.{MayMigrate, IsOfTick, migrated, left_rows, first_deadline, second_deadline};
 ghost use Rattle.timer_wheels.specs.Occupied.{bit_of, AreMarked, AreMarkedBut};
-ghost use Rattle.timer_wheels.specs.Placement.{hops_of};
 ghost use Rattle.timer_wheels.specs.Tables.{radices};
 
-use crate::buckets::Buckets;
-use crate::digits::{bucket_of, buckets_of, emptied_at, lowest_slots};
+use crate::digits::{bucket_of, buckets_of, lowest_slots};
 use crate::occupied::Occupied;
 use crate::table::Table;
 use timer_links::Links;
-
-/// Advances to the next tick, and empties the bucket of its lowest digit that isn't zero.
-///
-/// Returns how many timers went to a lower wheel. Does not allocate.
-// Always inlined: with a call, a tick at which nothing is due takes two to three times as long.
-#[inline(always)]
-pub fn next_tick(table: Table, buckets: &mut Buckets, occupied: &mut Occupied) -> u64
-    requires hier { IsHier table buckets.old occupied.old }
-    requires nothing_due { (state_of buckets.old).due ≡ [] }
-    requires before_last { buckets.old.tick < buckets.old.last_tick }
-    ensures ticked { state_of buckets.new ≡ after_tick (state_of buckets.old) }
-    ensures hier { IsHier table buckets.new occupied.new }
-    ensures moves { result ≡ hops_of (radices table) buckets.old.tick 1 (state_of buckets.old).pending }
-    ensures falls { result + potential table buckets.new ≤ potential table buckets.old }
-{
-    let tick = buckets.tick + 1;
-    let list = emptied_at(table, tick);
-    let moves = empty_bucket(table, &mut buckets.links, occupied, list, tick);
-    buckets.tick = tick;
-    moves
-}
 
 /// Empties a bucket: a timer whose deadline is this tick goes to the back of the list of due timers, and
 /// any other one to the back of its bucket in a lower wheel, one after the other.
@@ -45,7 +19,7 @@ pub fn next_tick(table: Table, buckets: &mut Buckets, occupied: &mut Occupied) -
 /// many timers went to a lower wheel. Does not allocate.
 // Always inlined: most ticks find their bucket empty or move it as a whole, which is less work than a call.
 #[inline(always)]
-fn empty_bucket(
+pub fn empty_bucket(
     table: Table,
     links: &mut Links,
     occupied: &mut Occupied,

@@ -9,7 +9,7 @@ _timers() {
             *" --scheme") words="plain hashed hier clock" ;;
             *" --slots" | *" --clients" | *" --capacity" | *" --first-tick" | *" --timers") ;;
             "play "* | "show "*) words="--scheme --slots --clients --capacity --first-tick --help" ;;
-            "serve "*) words="--scheme --slots --clients --capacity --first-tick --keep-going --help" ;;
+            "serve "*) words="--scheme --slots --clients --capacity --first-tick --keep-going --wakeups --help" ;;
             "threads "*) words="--clients --timers --help" ;;
             "check "*) words="--help" ;;
             "help help") words="play serve show threads check" ;;

@@ -14,6 +14,7 @@ complete -c timers -n $playing -l slots -x -d "The buckets of the hashed wheel, 
 complete -c timers -n $playing -l capacity -x -d "The most pending timers, 1 to 1048576"
 complete -c timers -n $playing -l first-tick -x -d "The tick at which the clock begins"
 complete -c timers -n "__fish_seen_subcommand_from serve" -l keep-going -d "Report bad lines and go on"
+complete -c timers -n "__fish_seen_subcommand_from serve" -l wakeups -d "Print when to wake up next"
 complete -c timers -n "__fish_seen_subcommand_from play serve show threads" -l clients -x -d "The number of clients, 1 to 64"
 complete -c timers -n "__fish_seen_subcommand_from threads" -l timers -x -d "The timers that each client starts, 1 to 10000"
 complete -c timers -n "__fish_seen_subcommand_from help" -a "play serve show threads check"

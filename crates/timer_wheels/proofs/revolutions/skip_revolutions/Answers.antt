@@ -1,52 +1,31 @@
 use Rattle.timer_base.specs.WheelState.{with_room}
-use Rattle.std.proofs.Common.{ap, ◌+◌, ◌*◌, refl, arith}
+use Rattle.std.proofs.Common.{ap, ◌≤◌, ◌+◌, ◌*◌, refl, arith, rules}
 use Rattle.timer_links.specs.Lists.{list_at}
 use Rattle.timer_wheels.proofs.BucketLemmas.{no_rows}
-use Rattle.timer_wheels.proofs.RevolutionLemmas.{skipped, skipped-pending, skipped-in_buckets, skipped-distinct, skipped-in_order, skipped-due, skipped-quiet, same_slot_after, quiet_now}
+use Rattle.timer_wheels.proofs.RevolutionLemmas.{skipped, skipped-sound, skipped-in_buckets, skipped-quiet, same_slot_after, quiet_now}
 use Rattle.timer_wheels.proofs.revolutions.skip_revolutions.Goals as goal
 
 pub returns-then-most-revolution-clause-quiet : goal.returns-then-most-revolution-clause-quiet
 returns-then-most-revolution-clause-quiet c =
     let b = c.args.buckets.now in
-    quiet_now b.slots b.last_tick b.tick b.last_serial b.links.lists b.pending
+    quiet_now b.slots b.last_tick b.tick b.last_serial b.links.lists b.sound.pending
 
 pub returns-then-revolutions-eq0-clause-quiet : goal.returns-then-revolutions-eq0-clause-quiet
 returns-then-revolutions-eq0-clause-quiet c =
     let b = c.args.buckets.now in
-    quiet_now b.slots b.last_tick b.tick b.last_serial b.links.lists b.pending
+    quiet_now b.slots b.last_tick b.tick b.last_serial b.links.lists b.sound.pending
 
-pub invariant_of-buckets-clause-pending : goal.invariant_of-buckets-clause-pending
-invariant_of-buckets-clause-pending c =
+pub invariant_of-buckets : goal.invariant_of-buckets
+invariant_of-buckets c =
     let b = c.args.buckets.now in
-    skipped-pending b.slots b.last_tick b.tick b.last_serial c.fewest_rounds-revolutions.result
-    (b.tick + c.fewest_rounds-revolutions.result * b.slots) b.links.lists c.count_down_lists.new.links.lists
-    c.requires.has_slots refl c.count_down_lists.ensures.length b.pending c.requires.in_buckets c.fewest_rounds-revolutions.ensures.fewest
-    c.count_down_lists.ensures.counted (c.count_down_lists.ensures.others b.slots (omega arith))
-
-pub invariant_of-buckets-clause-distinct : goal.invariant_of-buckets-clause-distinct
-invariant_of-buckets-clause-distinct c =
-    let b = c.args.buckets.now in
-    skipped-distinct b.slots b.last_tick b.tick b.last_serial c.fewest_rounds-revolutions.result
-    (b.tick + c.fewest_rounds-revolutions.result * b.slots) b.links.lists c.count_down_lists.new.links.lists
-    c.requires.has_slots refl c.count_down_lists.ensures.length b.pending c.requires.in_buckets c.fewest_rounds-revolutions.ensures.fewest
-    c.count_down_lists.ensures.counted (c.count_down_lists.ensures.others b.slots (omega arith)) b.distinct
-
-pub invariant_of-buckets-clause-due : goal.invariant_of-buckets-clause-due
-invariant_of-buckets-clause-due c =
-    let b = c.args.buckets.now in
-    skipped-due b.slots b.last_tick b.tick b.last_serial c.fewest_rounds-revolutions.result
-    (b.tick + c.fewest_rounds-revolutions.result * b.slots) b.links.lists c.count_down_lists.new.links.lists
-    c.requires.has_slots refl c.count_down_lists.ensures.length b.pending c.requires.in_buckets c.fewest_rounds-revolutions.ensures.fewest
-    c.count_down_lists.ensures.counted (c.count_down_lists.ensures.others b.slots (omega arith))
-    (no_rows (list_at b.slots b.links.lists) c.requires.nothing_due)
-
-pub invariant_of-buckets-clause-in_order : goal.invariant_of-buckets-clause-in_order
-invariant_of-buckets-clause-in_order c =
-    let b = c.args.buckets.now in
-    skipped-in_order b.slots b.last_tick b.tick b.last_serial c.fewest_rounds-revolutions.result
-    (b.tick + c.fewest_rounds-revolutions.result * b.slots) b.links.lists c.count_down_lists.new.links.lists
-    c.requires.has_slots refl c.count_down_lists.ensures.length b.pending c.requires.in_buckets c.fewest_rounds-revolutions.ensures.fewest
-    c.count_down_lists.ensures.counted (c.count_down_lists.ensures.others b.slots (omega arith)) b.in_order
+    record {
+      sound = skipped-sound b.slots b.last_tick b.tick b.last_serial c.fewest_rounds-revolutions.result
+          (b.tick + c.fewest_rounds-revolutions.result * b.slots) b.links.lists c.count_down_lists.new.links.lists
+          c.requires.has_slots refl c.count_down_lists.ensures.length b.sound.pending c.requires.in_buckets
+          c.fewest_rounds-revolutions.ensures.fewest c.count_down_lists.ensures.counted
+          (c.count_down_lists.ensures.others b.slots (omega arith)) b.sound (no_rows (list_at b.slots b.links.lists) c.requires.nothing_due)
+          (let h : b.tick + c.fewest_rounds-revolutions.result * b.slots ≤ b.last_tick = search rules in h);
+    }
 
 pub returns-clause-skipped : goal.returns-clause-skipped
 returns-clause-skipped c =
@@ -54,7 +33,7 @@ returns-clause-skipped c =
     rw c.count_down_lists.ensures.room (ap (with_room b.links.room) (skipped b.slots b.last_tick b.tick b.last_serial
     c.fewest_rounds-revolutions.result
     (b.tick + c.fewest_rounds-revolutions.result * b.slots) b.links.lists c.count_down_lists.new.links.lists
-    c.requires.has_slots refl c.count_down_lists.ensures.length b.pending c.requires.in_buckets c.fewest_rounds-revolutions.ensures.fewest
+    c.requires.has_slots refl c.count_down_lists.ensures.length b.sound.pending c.requires.in_buckets c.fewest_rounds-revolutions.ensures.fewest
     c.count_down_lists.ensures.counted (c.count_down_lists.ensures.others b.slots (omega arith))))
 
 pub returns-clause-quiet : goal.returns-clause-quiet
@@ -62,7 +41,7 @@ returns-clause-quiet c =
     let b = c.args.buckets.now in
     skipped-quiet b.slots b.last_tick b.tick b.last_serial c.fewest_rounds-revolutions.result
     (b.tick + c.fewest_rounds-revolutions.result * b.slots) b.links.lists c.count_down_lists.new.links.lists
-    c.requires.has_slots refl c.count_down_lists.ensures.length b.pending c.requires.in_buckets c.fewest_rounds-revolutions.ensures.fewest
+    c.requires.has_slots refl c.count_down_lists.ensures.length b.sound.pending c.requires.in_buckets c.fewest_rounds-revolutions.ensures.fewest
     c.count_down_lists.ensures.counted (c.count_down_lists.ensures.others b.slots (omega arith))
 
 pub returns-clause-in_buckets : goal.returns-clause-in_buckets
@@ -70,7 +49,7 @@ returns-clause-in_buckets c =
     let b = c.args.buckets.now in
     skipped-in_buckets b.slots b.last_tick b.tick b.last_serial c.fewest_rounds-revolutions.result
     (b.tick + c.fewest_rounds-revolutions.result * b.slots) b.links.lists c.count_down_lists.new.links.lists
-    c.requires.has_slots refl c.count_down_lists.ensures.length b.pending c.requires.in_buckets c.fewest_rounds-revolutions.ensures.fewest
+    c.requires.has_slots refl c.count_down_lists.ensures.length b.sound.pending c.requires.in_buckets c.fewest_rounds-revolutions.ensures.fewest
     c.count_down_lists.ensures.counted (c.count_down_lists.ensures.others b.slots (omega arith))
 
 pub returns-clause-same_slot : goal.returns-clause-same_slot

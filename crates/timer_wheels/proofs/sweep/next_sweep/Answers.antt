@@ -7,7 +7,7 @@ use Rattle.timer_wheels.proofs.sweep.next_sweep.Goals as goal
 pub returns-then-len-eq0-clause-quiet : goal.returns-then-len-eq0-clause-quiet
 returns-then-len-eq0-clause-quiet c =
     let b = c.args.buckets.now in
-    none_at_all b.slots b.links.lists b.has_lists (omega (arith, c.len.ensures, c.if-len-eq0.true))
+    none_at_all b.slots b.links.lists b.sound.has_lists (omega (arith, c.len.ensures, c.if-len-eq0.true))
 
 pub loop-step-init : goal.loop-step-init
 loop-step-init c = none_ahead c.args.buckets.now.slots c.args.slot c.args.buckets.now.links.lists
@@ -25,14 +25,14 @@ returns-then-not-is_empty-clause-quiet c =
     wake_up-with_room b.links.room _ _ (wakes_at b.slots b.last_tick b.tick b.last_serial c.args.slot c.loop-step.step b.links.lists
     c.requires.slot c.loop-step.invariant
     c.slot_after-bucket.result r (seen_filled (list_at c.slot_after-bucket.result b.links.lists) c.is_empty.result c.is_empty.ensures
-    c.if-not-is_empty.true) b.pending c.requires.in_buckets)
+    c.if-not-is_empty.true) b.sound.pending c.requires.in_buckets)
 
 pub returns-then-not-is_empty-clause-next : goal.returns-then-not-is_empty-clause-next
 returns-then-not-is_empty-clause-next c =
     let b = c.args.buckets.now in
     next_sweep-with_room b.links.room _ _ _ (sweeps_next b.slots b.last_tick b.tick b.last_serial c.args.slot c.loop-step.step
     b.links.lists c.requires.has_slots c.requires.slot
-    c.loop-step.invariant b.has_lists b.in_order c.requires.in_buckets c.slot_after-bucket.result c.slot_after-bucket.ensures
+    c.loop-step.invariant b.sound.has_lists b.sound.in_order c.requires.in_buckets c.slot_after-bucket.result c.slot_after-bucket.ensures
     c.loop-step-test.true (seen_filled (list_at c.slot_after-bucket.result b.links.lists) c.is_empty.result c.is_empty.ensures
     c.if-not-is_empty.true))
 

@@ -1,7 +1,7 @@
 use Rattle.std.proofs.Common.{◌∷◌, map, subst}
 use Rattle.timer_desk.specs.declared.report.Done.TheVariants.{Closed, Noticed}
 use Rattle.timer_desk.specs.Desk.{DeskState, ReportHolds, close_notices}
-use Rattle.timer_desk.proofs.DispatchLemmas.{desk_of, HasClosed, ReportHolds-close, IsDesk-close}
+use Rattle.timer_desk.proofs.DispatchLemmas.{desk_of, HasClosed, ReportHolds-close, IsDesk-event, event_of_close}
 use Rattle.timer_desk.proofs.desk.Desk.close.Goals as goal
 
 pub invariant_of-self : goal.invariant_of-self
@@ -10,9 +10,10 @@ invariant_of-self g c =
     let e = c.close-result.ensures in
     let closed : HasClosed c.self.inside.facility c.close-result.new.self c.close-result.result =
     record { count = e.count; open_before = e.open; closed = e.closed; fault = e.fault; unchanged = e.err } in
-    IsDesk-close g.I.Inlet.kind c.self.inside.facility c.close-result.new.self c.hand_out.new.facility c.close-result.result
+    IsDesk-event g.I.Inlet.kind (Closed c.close-result.result) c.self.inside.facility c.close-result.new.self c.hand_out.new.facility
     c.self.inside.inlets.items c.self.inside.backlogs.items c.hand_out.new.backlogs.items
-    c.self.invariant closed handed.facility handed.noted handed.room
+    (event_of_close c.self.inside.facility c.close-result.new.self c.close-result.result c.self.invariant.nothing_waits closed)
+    c.self.invariant handed.facility handed.noted handed.room
 
 pub returns : goal.returns
 returns g c =

@@ -1,8 +1,8 @@
-use Rattle.std.proofs.Common.{◌++◌, map, ◌∙◌, ap, subst}
-use Rattle.timer_desk.specs.declared.report.Done.TheVariants.{Noticed}
+use Rattle.std.proofs.Common.{◌++◌, map, ◌∙◌, ap, refl, subst}
+use Rattle.timer_desk.specs.declared.report.Done.TheVariants.{Noticed, Closed}
 use Rattle.timer_desk.specs.declared.report.Step.TheVariants as Steps
 use Rattle.timer_desk.specs.Desk.{DeskState, AddsStep}
-use Rattle.timer_desk.proofs.DispatchLemmas.{AddsStep-close, IsDesk-close, HasClosed, desk_of}
+use Rattle.timer_desk.proofs.DispatchLemmas.{AddsStep-event, IsDesk-event, event_of_close, behind-notices, HasClosed, desk_of}
 use Rattle.timer_desk.proofs.desk.Desk.close_into.Goals as goal
 
 pub invariant_of-self : goal.invariant_of-self
@@ -11,9 +11,10 @@ invariant_of-self g c =
     let e = c.close-result.ensures in
     let closed : HasClosed c.self.inside.facility c.close-result.new.self c.close-result.result =
     record { count = e.count; open_before = e.open; closed = e.closed; fault = e.fault; unchanged = e.err } in
-    IsDesk-close g.I.Inlet.kind c.self.inside.facility c.close-result.new.self c.hand_out_into.new.facility c.close-result.result
-    c.self.inside.inlets.items c.self.inside.backlogs.items c.hand_out_into.new.backlogs.items
-    c.self.invariant closed handed.facility handed.noted handed.room
+    IsDesk-event g.I.Inlet.kind (Closed c.close-result.result) c.self.inside.facility c.close-result.new.self
+    c.hand_out_into.new.facility c.self.inside.inlets.items c.self.inside.backlogs.items c.hand_out_into.new.backlogs.items
+    (event_of_close c.self.inside.facility c.close-result.new.self c.close-result.result c.self.invariant.nothing_waits closed)
+    c.self.invariant handed.facility handed.noted handed.room
 
 pub returns-clause-adds : goal.returns-clause-adds
 returns-clause-adds g c =
@@ -27,6 +28,8 @@ returns-clause-adds g c =
     let added = handed.report ∙ ap (λ report. report ++ map (λ n. Noticed n) c.close-result.new.self.waiting) c.push_reserved.ensures.items
     in
     subst (λ (d : DeskState g.row.I.Denot). AddsStep g.I.Inlet.kind Steps.Close before after d new) c.self.view_is
-    (AddsStep-close g.I.Inlet.kind before after c.self.inside.facility c.close-result.new.self c.hand_out_into.new.facility
-    c.close-result.result c.self.inside.inlets.items c.self.inside.backlogs.items c.hand_out_into.new.backlogs.items
-    c.self.invariant closed handed.facility handed.noted handed.room added)
+    (AddsStep-event g.I.Inlet.kind Steps.Close before after (Closed c.close-result.result) c.self.inside.facility
+    c.close-result.new.self c.hand_out_into.new.facility c.self.inside.inlets.items c.self.inside.backlogs.items
+    c.hand_out_into.new.backlogs.items
+    (event_of_close c.self.inside.facility c.close-result.new.self c.close-result.result c.self.invariant.nothing_waits closed)
+    refl (behind-notices c.close-result.new.self.waiting) c.self.invariant handed.facility handed.noted handed.room added)

@@ -4,7 +4,7 @@ use Rattle.timer_desk.specs.declared.report.Done.TheVariants.{Served}
 use Rattle.timer_desk.specs.Desk.{DeskState, clients_of, ReportHolds}
 use Rattle.timer_desk.proofs.DeskLemmas.{IsDesk-one, ClientAccount-held}
 use Rattle.timer_desk.proofs.DispatchLemmas.{desk_of}
-use Rattle.timer_desk.proofs.ReportOfOne.{ReportHolds-one, of_serve, same_served}
+use Rattle.timer_desk.proofs.ReportOfOne.{ReportHolds-one}
 use Rattle.timer_desk.proofs.desk.Desk.serve.Goals as goal
 
 pub invariant_of-self : goal.invariant_of-self
@@ -25,9 +25,9 @@ returns-clause-told g c =
     let new = desk_of c.serve.new.facility (slice_set c.self.inside.inlets.items c.args.c c.serve.new.inlet)
     (slice_set c.self.inside.backlogs.items c.args.c c.serve.new.self) in
     subst (λ (d : DeskState g.row.I.Denot). ReportHolds g.I.Inlet.kind (Served c.args.c result ∷ []) d new) c.self.view_is
-    (ReportHolds-one g.I.Inlet.kind c.args.c (Served c.args.c result) c.self.inside.facility c.serve.new.facility c.self.inside.inlets.items
+    (ReportHolds-one g.I.Inlet.kind c.args.c result c.self.inside.facility c.serve.new.facility c.self.inside.inlets.items
     c.self.inside.backlogs.items
     c.index_mut-2.result.now c.serve.new.inlet c.index_mut.result.now c.serve.new.self
-    (of_serve c.args.c result) c.self.invariant low c.index_mut-2.ensures.value c.index_mut.ensures.value served.line served.tells
+    c.self.invariant low c.index_mut-2.ensures.value c.index_mut.ensures.value served.line served.tells
     served.runs
-    (λ is. served.right) (λ is. served.memory (same_served c.args.c _ _ is)) served.room served.adds.of_client)
+    served.right served.memory served.holds served.room served.adds.of_client)

@@ -1,10 +1,11 @@
-use Rattle.std.proofs.Common.{◌≡◌, subst, arith}
+use Rattle.std.proofs.Common.{◌≡◌, ◌∙◌, ap, length, subst, arith}
+use Rattle.timer_facility.specs.Facility.{FacilityView}
 use Rattle.std.specs.Prelude.{replicate}
 use Rattle.timer_desk.specs.declared.report.Step.TheVariants as Steps
 use Rattle.timer_desk.specs.Desk.{DeskState, ReportHolds, steps_of}
 use Rattle.timer_desk.specs.Ticks.{ticks_report, HasPassed}
 use Rattle.timer_desk.proofs.DispatchLemmas.{desk_of}
-use Rattle.timer_desk.proofs.TicksLemmas.{HasRoom-ticks, IsDesk-ticks, ReportHolds-ticks, HasPassed-ticked, clients-ticks, steps-ticks_report}
+use Rattle.timer_desk.proofs.TicksLemmas.{HasRoom-ticks, IsDesk-ticks, ReportHolds-ticks, HasPassed-ticked, numbers_ticks, steps-ticks_report}
 use Rattle.timer_desk.proofs.desk.Desk.ticks.Goals as goal
 
 pub hand_out-requires-clause-room : goal.hand_out-requires-clause-room
@@ -16,11 +17,11 @@ hand_out-requires-clause-room g c =
 
 pub hand_out-requires-clause-clients : goal.hand_out-requires-clause-clients
 hand_out-requires-clause-clients g c =
-    let n = clients-ticks g.I.Inlet.kind
-    c.what_is_handed_out_was_pending.ensures.tick c.self.inside.facility c.ticks.new.self c.self.inside.inlets.items
-    c.self.inside.backlogs.items c.self.invariant
-    c.args.limit c.in-Ok.passed c.in-Ok.ensures.ticked in
-    let ok = c.self.inside.backlogs.ok in omega (arith, n, ok)
+    let many = c.in-Ok.ensures.ticked in
+    let n = ap (λ (v : FacilityView). length v.state.numbers) many.ticked ∙ numbers_ticks c.in-Ok.passed c.self.inside.facility.state in
+    let as_many = c.self.invariant.as_many in
+    let clients = c.self.invariant.clients in
+    let ok = c.self.inside.backlogs.ok in omega (arith, n, as_many, clients, ok)
 
 pub invariant_of-self : goal.invariant_of-self
 invariant_of-self g c =

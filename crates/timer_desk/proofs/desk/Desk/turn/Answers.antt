@@ -1,4 +1,4 @@
-use Rattle.std.proofs.Common.{[], false, ap, subst, sym, arith}
+use Rattle.std.proofs.Common.{false, ap, subst, sym, arith}
 use Rattle.std.proofs.lemmas.Grind.{flat_map-append, common_steps}
 use Rattle.timer_facility.specs.State.{IsSound}
 use Rattle.timer_desk.specs.Desk.{DeskState, ReportHolds, AreBehind, step_in}
@@ -20,5 +20,7 @@ loop-step-preserved g c =
 pub returns-clause-owed : goal.returns-clause-owed
 returns-clause-owed g c =
     let sound = subst IsSound (ap (λ (d : DeskState g.row.I.Denot). d.facility) c.self.view_is) c.pending.ensures.sound in
-    AreOwed-in_time c.args.self.now.facility (λ placed k. c.notices_are_owed.ensures c.args.self.now.facility placed k sound) []
-    c.loop-step.report.items c.loop-step.invariant.told.in_time
+    let told = c.loop-step.invariant.told in
+    AreOwed-in_time c.args.self.now.facility c.loop-step.self.facility
+    (λ placed k. c.notices_are_owed.ensures c.args.self.now.facility placed k sound)
+    c.loop-step.report.items told.facility told.in_time

@@ -27,8 +27,7 @@ returns-clause-passed g c =
     let some : 0 < c.min.result = omega arith in
     let before : w.now < w.last_tick = omega arith in
     let none : w.due ≡ [] = not_due w.due c.has_due.result c.has_due.ensures c.if-has_due.false in (
-      none_due serial w c.args.self.now c.self.view_is none,
-      before_end serial w c.args.self.now c.self.view_is before,
+      λ asked. (none_due serial w c.args.self.now c.self.view_is none, before_end serial w c.args.self.now c.self.view_is before),
       advanced c.args.most c.min.result c.advance.result serial w w' c.args.self.now c.self.view_is asked some in_range c.advance.ensures,
     )
 
@@ -40,6 +39,10 @@ returns-then-left-eq0-clause-fault g c =
     let left = c.if-left-eq0.true in
     let told_last = c.last_tick.ensures in
     let told_now = c.now.ensures in
+    let asks = c.if-most-eq0.false in
     let ends : w.now ≡ w.last_tick = omega arith in
-    at_end c.self.inside.last_serial w c.args.self.now c.self.view_is f
-    (not_due w.due c.has_due.result c.has_due.ensures c.if-has_due.false) ends
+    let some : 0 < c.args.most = omega arith in (
+      some,
+      at_end c.self.inside.last_serial w c.args.self.now c.self.view_is f
+          (not_due w.due c.has_due.result c.has_due.ensures c.if-has_due.false) ends,
+    )

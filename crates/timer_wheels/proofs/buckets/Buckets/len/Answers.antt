@@ -8,14 +8,14 @@ pub overflow_sub-result : goal.overflow_sub-result
 overflow_sub-result c =
     let b = c.args.self.now in
     let parts : row_count b.links.lists ≡ length (rows_below b.slots b.links.lists) + length (list_at b.slots b.links.lists) =
-    row_count-parts b.slots b.links.lists b.has_lists in
+    row_count-parts b.slots b.links.lists b.sound.has_lists in
     omega (arith, c.list_len.ensures)
 
 pub returns : goal.returns
 returns c =
     let b = c.args.self.now in
     let parts : row_count b.links.lists ≡ length (rows_below b.slots b.links.lists) + length (list_at b.slots b.links.lists) =
-    row_count-parts b.slots b.links.lists b.has_lists in
+    row_count-parts b.slots b.links.lists b.sound.has_lists in
     let rows : length (pending_in (rows_below b.slots b.links.lists)) ≡ length (rows_below b.slots b.links.lists) =
     length-pending_in (rows_below b.slots b.links.lists) in
     omega (arith, c.list_len.ensures)

@@ -11,7 +11,7 @@ use Rattle.timer_wheels.proofs.buckets.Buckets.list.Goals as goal
 pub loop-bucket-preserved : goal.loop-bucket-preserved
 loop-bucket-preserved c =
     let b = c.args.self.now in
-    let lists : length b.links.lists ≡ b.slots + 1 = b.has_lists in
+    let lists : length b.links.lists ≡ b.slots + 1 = b.sound.has_lists in
     timers_below-more c.loop-bucket.bucket b.links.lists c.loop-bucket.timers.items c.copy_list.new.timers.items
     (omega arith) c.loop-bucket.invariant c.in_ok-copy_list.ensures
 

@@ -7,5 +7,5 @@ pub returns : goal.returns
 returns c =
     let w = c.args.self.now in
     let b = w.buckets in
-    shows-with_room b.links.room _ _ _ _ _ (shows b.slots (slot_of b.slots) (rounds_of b.slots b.tick) b.links.lists b.has_lists
-    w.in_buckets b.last_tick b.tick b.last_serial b.in_order)
+    shows-with_room b.links.room _ _ _ _ _ (shows b.slots (slot_of b.slots) (rounds_of b.slots b.tick) b.links.lists b.sound.has_lists
+    w.in_buckets b.last_tick b.tick b.last_serial b.sound.in_order)

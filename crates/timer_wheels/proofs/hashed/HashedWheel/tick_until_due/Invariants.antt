@@ -7,5 +7,4 @@ use Rattle.timer_wheels.proofs.hashed.HashedWheel.tick_until_due.Given as goal
 abbrev pub invariant-loop-passed : goal.invariant-loop-passed
 invariant-loop-passed l = record {
   passing : IsPassing l.passed (state_of l.initial.self.buckets) (state_of l.self.buckets);
-  slots : slots_of l.self ≡ slots_of l.initial.self;
 }

@@ -15,15 +15,15 @@ tick_until_due-passed-requires-clause-before_last c =
     let m : c.min.result ≡ min c.slots-revolution.result (c.args.most - c.loop-passed.passed) = c.min.ensures in
     omega arith
 
-pub returns-then-has_due-clause-advances : goal.returns-then-has_due-clause-advances
-returns-then-has_due-clause-advances c =
+pub returns-then-has_due : goal.returns-then-has_due
+returns-then-has_due c =
     let w = c.loop-passed.invariant in
     let mid = state_of c.loop-passed.self.buckets in
     let new = state_of c.tick_until_due-passed.new.self.buckets in
     advances_on c.loop-passed.passed c.min.result c.tick_until_due-passed.result c.args.most
-    (state_of c.args.self.now.buckets) mid new w.passing c.tick_until_due-passed.ensures.advances
+    (state_of c.args.self.now.buckets) mid new w.passing c.tick_until_due-passed.ensures
     (turn_fits c.loop-passed.passed c.slots-revolution.result c.min.result c.tick_until_due-passed.result c.args.most mid new w.at_most
-    c.min.ensures c.tick_until_due-passed.ensures.advances)
+    c.min.ensures c.tick_until_due-passed.ensures)
     (c.has_due.ensures.0 c.if-has_due.true)
 
 pub skip_revolutions-passed-requires-clause-nothing_due : goal.skip_revolutions-passed-requires-clause-nothing_due
@@ -37,11 +37,11 @@ skip_revolutions-passed-requires-clause-before_last c =
     let mid = state_of c.loop-passed.self.buckets in
     let new = state_of c.tick_until_due-passed.new.self.buckets in
     let due : new.due ≡ [] = not_due new.due c.has_due.result c.has_due.ensures c.if-has_due.false in
-    let turn = passing_from c.min.result c.tick_until_due-passed.result mid new c.tick_until_due-passed.ensures.advances due in
+    let turn = passing_from c.min.result c.tick_until_due-passed.result mid new c.tick_until_due-passed.ensures due in
     room_left (c.loop-passed.passed + c.tick_until_due-passed.result) c.args.most old new
     (passing_on c.loop-passed.passed c.tick_until_due-passed.result old mid new w.passing turn)
     (turn_fits c.loop-passed.passed c.slots-revolution.result c.min.result c.tick_until_due-passed.result c.args.most mid new w.at_most
-    c.min.ensures c.tick_until_due-passed.ensures.advances)
+    c.min.ensures c.tick_until_due-passed.ensures)
     c.requires.before_last
 
 pub loop-passed-preserved : goal.loop-passed-preserved
@@ -53,7 +53,7 @@ loop-passed-preserved c =
     let end = state_of c.skip_revolutions-passed.new.buckets in
     let due : new.due ≡ [] = not_due new.due c.has_due.result c.has_due.ensures c.if-has_due.false in
     let turn : IsPassing c.tick_until_due-passed.result mid new =
-    passing_from c.min.result c.tick_until_due-passed.result mid new c.tick_until_due-passed.ensures.advances due in
+    passing_from c.min.result c.tick_until_due-passed.result mid new c.tick_until_due-passed.ensures due in
     let skip : IsPassing c.skip_revolutions-passed.result new end =
     passing_skip c.skip_revolutions-passed.result new end due c.skip_revolutions-passed.ensures.quiet
     c.skip_revolutions-passed.ensures.skipped in
@@ -61,11 +61,10 @@ loop-passed-preserved c =
     passing_on c.loop-passed.passed c.tick_until_due-passed.result old mid new w.passing turn in
     let fits : c.loop-passed.passed + c.tick_until_due-passed.result ≤ c.args.most =
     turn_fits c.loop-passed.passed c.slots-revolution.result c.min.result c.tick_until_due-passed.result c.args.most mid new w.at_most
-    c.min.ensures c.tick_until_due-passed.ensures.advances in
+    c.min.ensures c.tick_until_due-passed.ensures in
     let less : c.skip_revolutions-passed.result ≤ c.args.most - (c.loop-passed.passed + c.tick_until_due-passed.result) =
     c.skip_revolutions-passed.ensures.at_most in
     record {
       passing = passing_on (c.loop-passed.passed + c.tick_until_due-passed.result) c.skip_revolutions-passed.result old new end at skip;
-      slots = c.skip_revolutions-passed.ensures.slots ∙ (c.tick_until_due-passed.ensures.slots ∙ w.slots);
       at_most = omega arith;
     }

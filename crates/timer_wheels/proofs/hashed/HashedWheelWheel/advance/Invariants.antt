@@ -7,7 +7,6 @@ use Rattle.timer_wheels.proofs.hashed.HashedWheelWheel.advance.Given as goal
 abbrev pub invariant-loop-passed : goal.invariant-loop-passed
 invariant-loop-passed l = record {
   passing : IsPassing l.passed (state_of l.initial.self.buckets) (state_of l.self.buckets);
-  slots : slots_of l.self ≡ slots_of l.initial.self;
   at_most : l.passed ≤ l.most;
 }
 

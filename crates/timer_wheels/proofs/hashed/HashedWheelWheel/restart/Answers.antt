@@ -4,7 +4,7 @@ use Rattle.timer_base.specs.declared.timer.Timer.{Timer}
 use Rattle.timer_base.specs.declared.timer.Handle.{Handle}
 use Rattle.timer_links.specs.Lists.{with_row, without_key, KeyedLists}
 use Rattle.timer_wheels.specs.Hashed.{AreInBuckets, IsInBucket, rounds_of}
-use Rattle.timer_wheels.proofs.RestartLemmas.{each_restarted}
+use Rattle.timer_wheels.proofs.BucketLemmas.{each_restarted}
 use Rattle.timer_wheels.proofs.HashedTicks.{same_frame}
 use Rattle.timer_wheels.proofs.hashed.HashedWheelWheel.restart.Goals as goal
 
@@ -21,7 +21,7 @@ invariant_of-self-clause-in_buckets c =
     let b = w.buckets in
     let found = c.bucket_and_rounds-bucket in
     let in_range : found.result.0 < b.slots = found.ensures.in_range in
-    let lists : length b.links.lists ≡ b.slots + 1 = b.has_lists in
+    let lists : length b.links.lists ≡ b.slots + 1 = b.sound.has_lists in
     same_frame b.slots b.tick c.restart.new.self.slots c.restart.new.self.tick c.restart.new.self.links.lists c.restart.ensures.frame.slots
     c.restart.ensures.frame.tick
     (in_buckets b.slots b.tick found.result.0 found.result.1 c.args.handle.place c.args.timer b.links.lists c.restart.new.self.links.lists

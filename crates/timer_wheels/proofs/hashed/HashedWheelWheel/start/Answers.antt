@@ -23,7 +23,7 @@ invariant_of-self-clause-in_buckets c =
     let b = w.buckets in
     let found = c.bucket_and_rounds-bucket in
     let in_range : found.result.0 < b.slots = found.ensures.in_range in
-    let lists : length b.links.lists ≡ b.slots + 1 = b.has_lists in
+    let lists : length b.links.lists ≡ b.slots + 1 = b.sound.has_lists in
     same_frame b.slots b.tick c.start.new.self.slots c.start.new.self.tick c.start.new.self.links.lists c.start.ensures.frame.slots
     c.start.ensures.frame.tick
     (in_buckets _ b.slots b.tick found.result.0 found.result.1 c.args.timer b.links.lists c.start.new.self.links.lists c.start.result

@@ -1,0 +1,178 @@
+#!/usr/bin/python3
+"""Draws the plots of docs/ from the tables of results/: bench.svg, scale.svg, tail.svg and lines.svg.
+
+    plots.py [FOLDER]      by default docs/. It needs Debian's python3-matplotlib
+
+Each picture has the colours of light and dark pages, and a marker shape for each series.
+"""
+import os
+import re
+import sys
+
+import matplotlib
+
+matplotlib.use("svg")
+import matplotlib.pyplot as plt  # noqa: E402
+from matplotlib.ticker import FixedLocator, FuncFormatter, NullLocator  # noqa: E402
+
+import figures  # noqa: E402
+from figures import ends, median  # noqa: E402
+
+# The colours of a light page, and the dark ones that take their places.
+THEMES = {"#1a222d": "#e7ebf0", "#56616f": "#9ba7b5", "#d9dee5": "#2c3541", "#fefefe": "#0d1117",
+          "#0b5cad": "#6cb0f5", "#b24a00": "#ffa463", "#5b6675": "#b8c2cf"}
+INK, SOFT, GRID, PAPER, PRODUCT, FIRST_PEER, SECOND_PEER = THEMES
+STYLES = {"product": (PRODUCT, "o"), "first": (FIRST_PEER, "s"), "second": (SECOND_PEER, "^")}
+plt.rcParams.update({
+    "svg.fonttype": "none", "svg.hashsalt": "timers", "font.family": "sans-serif", "font.size": 11, "figure.facecolor": PAPER,
+    "axes.facecolor": PAPER, "axes.edgecolor": SOFT, "axes.labelcolor": INK, "axes.titlesize": 11, "text.color": INK, "grid.color": GRID,
+    "xtick.color": SOFT, "ytick.color": SOFT, "xtick.labelcolor": INK, "ytick.labelcolor": INK, "axes.spines.top": False, "axes.spines.right": False,
+    "legend.frameon": False, "lines.markersize": 6,
+})
+
+
+def of_ns(value, _=None):
+    """A time with its unit."""
+    unit, size = next(((unit, size) for unit, size in (("s", 1e9), ("ms", 1e6), ("µs", 1e3)) if value >= size), ("ns", 1))
+    return f"{value / size:g} {unit}"
+
+
+def machine(part):
+    row = next(row for row in figures.read("settings") if row["part"] == part)
+    return f"{row['machine']}, {row['date']}"
+
+
+def draw(axes, at, cells, style, label=None, is_across=False):
+    """The medians of cells with their spreads, at these places; a series is joined if it goes upwards."""
+    colour, marker = STYLES[style]
+    points = [(place, median(cell), *ends(cell)) for place, cell in zip(at, cells) if cell]
+    places, medians, lows, highs = zip(*points)
+    if is_across:
+        axes.hlines(places, lows, highs, colour, linewidth=1.6)
+        axes.plot(medians, places, marker, color=colour, label=label)
+    else:
+        axes.vlines(places, lows, highs, colour, linewidth=1.6)
+        axes.plot(places, medians, marker + "-", color=colour, label=label, linewidth=1.4)
+
+
+def save(figure, folder, name, title, description):
+    """Writes the picture with its title, its description and the colours of both themes. It has few lines."""
+    path = os.path.join(folder, f"{name}.svg")
+    figure.savefig(path, metadata={"Date": None, "Creator": None, "Format": None, "Type": None})
+    plt.close(figure)
+    with open(path, encoding="utf-8") as file:
+        text = file.read()
+    text = text[text.index("<svg"):]
+    text = re.sub(r" <metadata>.*?</metadata>\n", "", text, flags=re.DOTALL)
+    for at, light in enumerate(THEMES):
+        text = re.sub(rf"(fill|stroke): {light}", rf"\1: {light}; \1: var(--c{at})", text)
+    light, dark = (" ".join(f"--c{at}: {colour};" for at, colour in enumerate(of)) for of in (THEMES, THEMES.values()))
+    style = f"<style>svg {{ {light} }} @media (prefers-color-scheme: dark) {{ svg {{ {dark} }} }}</style>"
+    head, rest = text.split(">", 1)
+    text = f'{head} role="img" aria-labelledby="title desc">\n<title id="title">{title}</title>\n<desc id="desc">{description}</desc>\n{style}{rest}'
+    text = re.sub(r"\n +", "\n", text)
+    with open(path, "w", encoding="utf-8") as file:
+        file.write(re.sub(r"\n(?!<(title|desc|style|g id=\"(axes|legend|matplotlib|LineColl)))", " ", text).strip() + "\n")
+
+
+def ratio_axis(axes, low, high, ticks):
+    axes.set_xscale("log")
+    axes.set_xlim(low, high)
+    axes.xaxis.set_major_locator(FixedLocator(ticks))
+    axes.xaxis.set_major_formatter(FuncFormatter(lambda value, _: f"{value:g}"))
+    axes.xaxis.set_minor_locator(NullLocator())
+    axes.grid(axis="x")
+    axes.axvline(1, color=INK, linewidth=1.2)
+    axes.tick_params(axis="y", length=0)
+
+
+def legend(figure, axes):
+    """One legend above all axes."""
+    figure.get_layout_engine().set(rect=(0, 0, 1, 1 - 0.3 / figure.get_figheight()))
+    figure.legend(*axes.get_legend_handles_labels(), loc="upper center", ncols=3)
+
+
+def bench(folder):
+    rows = figures.read("wheels")
+    figure, axes = plt.subplots(figsize=(8.6, 7.6), layout="constrained")
+    for shift, style, column, label in ((-0.24, "product", "timers-hier", "timers"), (0, "first", "tokio-wheel", "tokio-util"),
+                                        (0.24, "second", "libuv", "libuv")):
+        draw(axes, [at + shift for at in range(len(rows))], [row[column] for row in rows], style, label, is_across=True)
+    axes.set_yticks(range(len(rows)), [row["workload"] for row in rows])
+    axes.set_ylim(len(rows) - 0.4, -0.6)
+    ratio_axis(axes, 0.4, 25, [0.5, 0.7, 1, 1.5, 2, 3, 5, 10, 20])
+    for at in range(len(rows) - 1):
+        axes.axhline(at + 0.5, color=GRID, linewidth=0.6)
+    axes.set_xlabel("processor time, as a ratio to a hand-tuned C++ wheel (1); less is better\n" + machine("wheels"))
+    legend(figure, axes)
+    save(figure, folder, "bench", "timers, tokio-util and libuv beside a hand-tuned C++ wheel",
+         "Ratios of processor time by workload: medians of five runs with the least and the greatest. bench/results/wheels.csv has the numbers.")
+
+
+def panels(count, width):
+    figure, all_axes = plt.subplots(1, count, figsize=(width, 4.2), layout="constrained", sharey=True)
+    for axes in all_axes:
+        axes.set_yscale("log")
+        axes.yaxis.set_major_formatter(FuncFormatter(of_ns))
+        axes.yaxis.set_minor_locator(NullLocator())
+        axes.grid(axis="y")
+    return figure, all_axes
+
+
+FACILITIES = {"timers-c": ("product", "timers (C library)"), "ref-hier": ("first", "hand-tuned C++ wheel"), "libuv": ("second", "libuv")}
+
+
+def scale(folder):
+    rows = {(row["operation"], row["facility"]): row for row in figures.read("scale")}
+    sizes = [size for size in next(iter(rows.values())) if size.isdigit()]
+    figure, all_axes = panels(4, 10.5)
+    for axes, operation in zip(all_axes, ("start", "stop", "restart", "tick")):
+        for facility, (style, label) in FACILITIES.items():
+            draw(axes, [float(size) for size in sizes], [rows[operation, facility][size] for size in sizes], style, label)
+        axes.set_title(operation, fontweight="bold")
+        axes.set_xscale("log")
+        axes.set_xticks([float(size) for size in sizes], ["10³", "10⁴", "10⁵", "10⁶", "10⁷"])
+        axes.xaxis.set_minor_locator(NullLocator())
+    figure.supxlabel("pending timers; processor time of one operation; less is better\n" + machine("scale"), fontsize=11)
+    legend(figure, all_axes[0])
+    save(figure, folder, "scale", "What an operation costs, by the number of pending timers",
+         "A panel each for start, stop, restart and a tick with nothing due, 1,000 to 10,000,000 timers. bench/results/scale.csv has the numbers.")
+
+
+def tail(folder):
+    rows = {(row["what"], row["facility"]): row for row in figures.read("tail")}
+    ranks = ["p50", "p99", "p99.9", "p99.99", "longest"]
+    figure, all_axes = panels(3, 10.5)
+    for axes, what in zip(all_axes, ("a tick", "a start, the table grows", "a start, with room")):
+        for facility, (style, label) in FACILITIES.items():
+            draw(axes, range(len(ranks)), [rows[what, facility][rank] for rank in ranks], style, label)
+        axes.set_title(what, fontweight="bold")
+        axes.set_xticks(range(len(ranks)), ["50", "99", "99.9", "99.99", "all"])
+    figure.supxlabel("so many per cent take at most so long, with a million timers; less is better\n" + machine("tail"), fontsize=11)
+    legend(figure, all_axes[0])
+    save(figure, folder, "tail", "How long single ticks and starts take, with a million timers",
+         "Elapsed time by rank, from the median to the longest. bench/results/tail.csv has the numbers.")
+
+
+def lines(folder):
+    rows = [(row["row"], row["ratio"]) for row in figures.read("lines") if "against" not in row["row"]]
+    for row in figures.read("threads"):
+        cores = f"threads, {row['cores']} core{'' if row['cores'] == '1' else 's'}"
+        rows += [(cores, row["to threads_ref"]), (f"{cores}, to a mutex", row["to mutex_ref"])]
+    figure, axes = plt.subplots(figsize=(8.6, 5.6), layout="constrained")
+    draw(axes, range(len(rows)), [cell for _, cell in rows], "product", is_across=True)
+    axes.set_yticks(range(len(rows)), [name for name, _ in rows])
+    axes.set_ylim(len(rows) - 0.4, -0.6)
+    ratio_axis(axes, 0.15, 10, [0.2, 0.5, 1, 2, 3, 5, 10])
+    axes.set_xlabel("ratio to the row's peer in C++ (1); less is better\n" + machine("lines"))
+    save(figure, folder, "lines", "The desk, ring lines and client threads beside their peers",
+         "Ratios of time with the least and the greatest of five runs. bench/results/lines.csv and threads.csv have the numbers.")
+
+
+def main():
+    folder = sys.argv[1] if len(sys.argv) > 1 else os.path.join(figures.HERE, "..", "docs")
+    for plot in (bench, scale, tail, lines):
+        plot(folder)
+
+
+main()

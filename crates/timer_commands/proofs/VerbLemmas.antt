@@ -1,0 +1,75 @@
+-- How serving ends, as an exit status.
+use Rattle.std.proofs.Common.{◌≡◌, zero, suc, ℕ, ◌+◌, true, false, [], List, refl, sym, subst, arith, inl, inr}
+use Rattle.std.specs.Prelude.{Option, Result, Ok, Err, OnOk, Bool, true}
+use Rattle.timer_script.specs.declared.fault.ServeFault.{ServeFault}
+use Rattle.std.proofs.KnownBytes.{Consumes-nil}
+use Rattle.timer_facility.specs.State.{FacilityState}
+use Rattle.timer_script.specs.declared.fault.RunFault.TheVariants as runs
+use Rattle.timer_script.specs.declared.fault.ServeFault.TheVariants as serves
+use Rattle.timer_script.specs.declared.intake.OnBadLine.{OnBadLine}
+use Rattle.timer_script.specs.declared.intake.OnBadLine.TheVariants.{Stop}
+use Rattle.timer_script.specs.declared.streams.Streams.{Streams}
+use Rattle.timer_script.specs.declared.watched.Watched.{Watched}
+use Rattle.timer_script.specs.Watched.{inner_of, has_failed}
+use Rattle.timer_script.specs.Decorator.{Decoration, IsLawful, AddsNothing, nothing_is_lawful}
+use Rattle.timer_script.specs.Streams.{streams_state}
+use Rattle.timer_script.proofs.ServiceLemmas.{served_nothing}
+use Rattle.timer_commands.specs.declared.verbs.Verb.{Verb}
+use Rattle.timer_commands.specs.declared.verbs.Verb.TheVariants as verbs
+use Rattle.timer_commands.specs.Indented.{AddsIndented, AddsWakeups}
+use Rattle.timer_commands.specs.IndentedLaws.{indented_is_lawful, wakeups_are_lawful}
+use Rattle.timer_commands.specs.Subcommands.{Bytes, Channels, Ends, HasServedStreams, serving_status, HasAnswered, HasDone}
+
+unserved : {R S F : Type 0} (on_bad : OnBadLine) (A : Decoration) (d : IsLawful A) (before : FacilityState) (bytes : Bytes R S F)
+    (streams : Streams R S) (faults faults' : Watched F) → has_failed streams.reader ≡ false → has_failed streams.writer ≡ false
+    → HasAnswered on_bad A before bytes (record { streams = streams; faults = faults }) (record { streams = streams; faults = faults' }) 1
+unserved on_bad A d before bytes streams faults faults' reading writing = record {
+  in_range = omega arith;
+  good = λ e. absurd cc;
+  bad = λ e. inr (
+    serves.OutOfMemory,
+    faults,
+    served_nothing on_bad A d before (streams_state bytes.remaining bytes.contents streams.reader streams.writer) bytes.reports faults
+        (record { reading = reading; writing = writing }),
+  );
+}
+
+pub undone : {R S F : Type 0} (bytes : Bytes R S F) (streams : Streams R S) (faults faults' : Watched F)
+    → has_failed streams.reader ≡ false → has_failed streams.writer ≡ false → (verb : Verb) (before : FacilityState)
+    → HasDone verb before bytes (record { streams = streams; faults = faults }) (record { streams = streams; faults = faults' }) 1
+undone bytes streams faults faults' reading writing verbs.Play before = record {
+  in_range = omega arith;
+  good = λ e. absurd cc;
+  bad = λ e. (runs.OutOfMemory, (([], Consumes-nil (bytes.remaining (inner_of streams.reader)), omega arith), reading, refl));
+}
+undone bytes streams faults faults' reading writing (verbs.Serve on_bad true) before =
+    unserved on_bad AddsWakeups wakeups_are_lawful before bytes streams faults faults' reading writing
+undone bytes streams faults faults' reading writing (verbs.Serve on_bad false) before =
+    unserved on_bad AddsNothing nothing_is_lawful before bytes streams faults faults' reading writing
+undone bytes streams faults faults' reading writing verbs.Show before =
+    unserved Stop AddsIndented indented_is_lawful before bytes streams faults faults' reading writing
+
+-- serving ended, and then its failure may have been reported
+pub ended_serving : {R S F : Type 0} (on_bad : OnBadLine) (A : Decoration) (before : FacilityState) (bytes : Bytes R S F)
+    (old : Channels R S F) (streams : Streams R S) (told faults : Watched F) (served : Result Bool ServeFault) (status : ℕ)
+    → HasServedStreams on_bad A before bytes old (record { streams = streams; faults = told }) served
+    → OnOk served (faults ≡ told) → status ≡ serving_status served
+    → HasAnswered on_bad A before bytes old (record { streams = streams; faults = faults }) status
+ended_serving {R} {S} {F} on_bad A before bytes old streams told faults served status h same is =
+    subst (λ n. HasAnswered on_bad A before bytes old (record { streams = streams; faults = faults }) n) (sym is) (go served h same)
+  where
+    go : (r : Result Bool ServeFault) → HasServedStreams on_bad A before bytes old (record { streams = streams; faults = told }) r
+        → OnOk r (faults ≡ told)
+        → HasAnswered on_bad A before bytes old (record { streams = streams; faults = faults }) (serving_status r)
+    go (Ok true) h same = record {
+      in_range = omega arith;
+      good = λ e. subst (λ w. HasServedStreams on_bad A before bytes old (record { streams = streams; faults = w }) (Ok true)) (sym same) h;
+      bad = λ e. absurd cc;
+    }
+    go (Ok false) h same = record {
+      in_range = omega arith;
+      good = λ e. absurd cc;
+      bad = λ e. inl (subst (λ w. HasServedStreams on_bad A before bytes old (record { streams = streams; faults = w }) (Ok false))
+          (sym same) h);
+    }
+    go (Err fault) h same = record { in_range = omega arith; good = λ e. absurd cc; bad = λ e. inr (fault, told, h) }

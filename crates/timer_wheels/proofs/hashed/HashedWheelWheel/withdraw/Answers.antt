@@ -1,0 +1,23 @@
+use Rattle.std.proofs.Common.{◌≡◌, ℕ}
+use Rattle.std.specs.Prelude.{map, Option, Some, None, MatchOption}
+use Rattle.timer_base.specs.declared.timer.Timer.{Timer}
+use Rattle.timer_links.specs.Lists.{without_key, KeyedLists}
+use Rattle.timer_wheels.specs.Hashed.{AreInBuckets, IsInBucket}
+use Rattle.timer_wheels.proofs.BucketLemmas.{each-without_key}
+use Rattle.timer_wheels.proofs.HashedTicks.{same_frame}
+use Rattle.timer_wheels.proofs.hashed.HashedWheelWheel.withdraw.Goals as goal
+
+-- each row that a stop leaves stays in its bucket
+in_buckets : (n now key : ℕ) (old new : KeyedLists) (result : Option Timer)
+    → MatchOption result (new ≡ old) (λ timer. new ≡ map (without_key key) old) → AreInBuckets n now old → AreInBuckets n now new
+in_buckets n now key old new None e a = rw e a
+in_buckets n now key old new (Some t) e a = rw e (each-without_key (IsInBucket n now) n key old a)
+
+pub invariant_of-self-clause-in_buckets : goal.invariant_of-self-clause-in_buckets
+invariant_of-self-clause-in_buckets c =
+    let w = c.args.self.now in
+    let b = w.buckets in
+    same_frame b.slots b.tick c.withdraw.new.self.slots c.withdraw.new.self.tick c.withdraw.new.self.links.lists c.withdraw.ensures.frame.slots
+    c.withdraw.ensures.frame.tick
+    (in_buckets b.slots b.tick c.args.handle.place b.links.lists c.withdraw.new.self.links.lists c.withdraw.result c.withdraw.ensures.lists
+    w.in_buckets)

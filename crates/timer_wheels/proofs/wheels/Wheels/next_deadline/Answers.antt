@@ -1,0 +1,19 @@
+use Rattle.std.proofs.Common.{◌≡◌, ◌<◌, arith}
+use Rattle.timer_wheels.specs.Digits.{lowest_radix}
+use Rattle.timer_wheels.specs.Tables.{radices}
+use Rattle.timer_wheels.proofs.DeadlineLemmas.{none_is_next, first_is_next, visit_is_next}
+use Rattle.timer_wheels.proofs.wheels.Wheels.next_deadline.Goals as goal
+
+pub returns-in_default : goal.returns-in_default
+returns-in_default c = none_is_next c.args.self.now.table c.args.self.now.buckets c.args.self.now.occupied c.args.self.now.hier c.in_default.ensures
+
+pub returns-then-list-lowest_slots : goal.returns-then-list-lowest_slots
+returns-then-list-lowest_slots c =
+    let e : c.lowest_slots.result ≡ lowest_radix (radices c.args.self.now.table) = c.lowest_slots.ensures.value in
+    let k : c.in-Some.list < c.lowest_slots.result = c.if-list-lowest_slots.true in
+    visit_is_next c.args.self.now.table c.args.self.now.buckets c.args.self.now.occupied c.args.self.now.hier c.in-Some.list c.in-Some.ensures c.visit_of.result
+    c.visit_of.ensures (omega arith)
+
+pub returns : goal.returns
+returns c = first_is_next c.args.self.now.table c.args.self.now.buckets c.args.self.now.occupied c.args.self.now.hier c.in-Some.list c.in-Some.ensures c.least_in.result
+    c.least_in.ensures

@@ -1,0 +1,38 @@
+use Rattle.timer_links.specs.Lists.{list_at}
+use Rattle.timer_wheels.proofs.HierLeaps.{skipped}
+use Rattle.timer_wheels.proofs.BucketLemmas.{none_past}
+use Rattle.timer_wheels.proofs.wheels.Wheels.skip_to.Goals as goal
+
+pub invariant_of-buckets : goal.invariant_of-buckets
+invariant_of-buckets c =
+    let b = c.args.self.now.buckets in
+    record {
+      sound = record {
+        last_in_range = b.sound.last_in_range;
+        tick_in_range = c.requires.in_range;
+        serial_in_range = b.sound.serial_in_range;
+        has_lists = b.sound.has_lists;
+        pending = (skipped c.args.self.now.table b c.args.self.now.occupied c.args.self.now.hier c.requires.nothing_due c.args.tick c.requires.later
+            c.requires.not_before).pending;
+        distinct = b.sound.distinct;
+        due = none_past c.args.tick b.last_serial (list_at b.slots b.links.lists) c.requires.nothing_due;
+        in_order = b.sound.in_order;
+      };
+    }
+
+pub invariant_of-self : goal.invariant_of-self
+invariant_of-self c =
+    let w = c.args.self.now in
+    record {
+      hier = record {
+        has_slots = w.hier.has_slots;
+        clock = w.hier.clock;
+        placed = (skipped w.table w.buckets w.occupied w.hier c.requires.nothing_due c.args.tick c.requires.later
+            c.requires.not_before).placed;
+        marked = w.hier.marked;
+      };
+    }
+
+pub returns-clause-leaps : goal.returns-clause-leaps
+returns-clause-leaps c = (skipped c.args.self.now.table c.args.self.now.buckets c.args.self.now.occupied c.args.self.now.hier c.requires.nothing_due c.args.tick
+    c.requires.later c.requires.not_before).leaps

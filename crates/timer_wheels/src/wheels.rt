@@ -1,0 +1,211 @@
+//! A hierarchy of wheels: the buckets of a table of radices, and a bit for each bucket that has a timer.
+//!
+//! A call that puts a timer into a bucket sets the bucket's bit, and one that takes the last timer out of it clears it.
+//! So the clock finds the next bucket with a timer among the bits, and looks at no other (`leap`). One tick is in
+//! `migration`.
+ghost use Rattle.std.specs.Prelude.{◌≡◌, ◌<◌, ◌≤◌, ◌+◌, [], IfOk, OnErr, MatchOption};
+ghost use Rattle.timer_base.specs.declared.limits.TheConstants.{LAST};
+ghost use Rattle.timer_base.specs.Order.{AreBelow};
+ghost use Rattle.timer_base.specs.Pending.{timers_of};
+ghost use Rattle.timer_base.specs.WakeUps.{next_deadline};
+ghost use Rattle.timer_base.specs.WheelState.{empty_wheel, timer_at, after_start, held_count, after_stop, after_tick, after_clear, after_restart, after_made_due, after_withdrawal, after_revival, due_at, old_timer};
+ghost use Rattle.timer_wheels.specs.Buckets.{state_of};
+ghost use Rattle.timer_wheels.specs.Hier.{IsHier, IsHier-prop, potential};
+
+use crate::buckets::Buckets;
+use crate::deadlines::least_in;
+use crate::digits::{bucket_of, buckets_of, emptied_at, last_tick_of, lowest_slots, visit_of};
+use crate::migration::empty_bucket;
+use crate::occupied::{Occupied, clear_emptied};
+use crate::table::Table;
+use std::alloc::Global;
+use timer_base::{Handle, OutOfMemory, Timer};
+
+/// The buckets of a table, and which of them have a timer.
+#[derive(Drop)]
+pub struct Wheels {
+    /// The radices, which no call changes.
+    pub table: Table,
+    /// A bucket for each slot of each wheel.
+    pub buckets: Buckets,
+    /// Which buckets have a timer.
+    pub occupied: Occupied,
+    ghost hier: { IsHier table buckets occupied } by { IsHier-prop table buckets occupied },
+}
+
+impl Wheels {
+    ghost use Rattle.timer_wheels.specs.Placement.{hops_of};
+    ghost use Rattle.timer_wheels.specs.Tables.{radices, last_of_table, slots_of_table};
+
+    /// Makes the empty buckets of a table.
+    pub fn new(alloc: Global, table: Table, first_tick: u64) -> Result<Wheels, OutOfMemory>
+        requires { first_tick ≤ last_of_table table }
+        ensures state { IfOk result (λ wheels. state_of wheels.buckets
+            ≡ empty_wheel (slots_of_table table) (last_of_table table) first_tick) }
+        ensures table { IfOk result (λ wheels. wheels.table ≡ table) }
+    {
+        let buckets = Buckets::new(alloc, buckets_of(table), last_tick_of(table), first_tick)?;
+        Ok(Wheels {
+            table,
+            buckets,
+            occupied: Occupied::new(),
+        })
+    }
+
+    /// Starts a timer in its bucket.
+    #[inline(always)]
+    pub fn start(&mut self, timer: Timer) -> Result<Handle, OutOfMemory>
+        requires later { self.old.buckets.tick < timer.deadline }
+        requires deadline { timer.deadline ≤ self.old.buckets.last_tick }
+        requires fresh { self.old.buckets.last_serial < timer.serial }
+        requires serial { timer.serial ≤ LAST }
+        ensures named { IfOk result (λ handle. handle.serial ≡ timer.serial) }
+        ensures started { IfOk result (λ handle. state_of self.new.buckets
+            ≡ after_start handle.place timer (state_of self.old.buckets)) }
+        ensures full { OnErr result ((state_of self.old.buckets).room
+            ≤ held_count (state_of self.old.buckets)) }
+        ensures err { OnErr result (state_of self.new.buckets ≡ state_of self.old.buckets) }
+        ensures table { self.new.table ≡ self.old.table }
+    {
+        let bucket = bucket_of(self.table, self.buckets.tick, timer.deadline);
+        let handle = self.buckets.start(bucket, timer, 0)?;
+        self.occupied.insert(bucket);
+        Ok(handle)
+    }
+
+    /// Removes the pending timer with just this handle. Does not allocate.
+    #[inline]
+    pub fn stop(&mut self, handle: Handle) -> Option<Timer>
+        ensures timer { result ≡ timer_at handle (state_of self.old.buckets) }
+        ensures stopped { state_of self.new.buckets ≡ after_stop handle (state_of self.old.buckets) }
+        ensures table { self.new.table ≡ self.old.table }
+    {
+        self.buckets.links.lemma_keys_unique();
+        let (timer, emptied) = self.buckets.take(handle)?;
+        clear_emptied(&mut self.occupied, emptied);
+        Some(timer)
+    }
+
+    /// Removes the pending timer with just this handle, and starts another at its place. Does not allocate.
+    #[inline(always)]
+    pub fn restart(&mut self, handle: Handle, timer: Timer) -> Option<(Handle, Timer)>
+        requires later { self.old.buckets.tick < timer.deadline }
+        requires deadline { timer.deadline ≤ self.old.buckets.last_tick }
+        requires fresh { self.old.buckets.last_serial < timer.serial }
+        requires serial { timer.serial ≤ LAST }
+        ensures old { old_timer result ≡ timer_at handle (state_of self.old.buckets) }
+        ensures named { MatchOption result (Unit {0}) (λ r. r.0.serial ≡ timer.serial) }
+        ensures restarted { state_of self.new.buckets
+            ≡ after_restart result handle timer (state_of self.old.buckets) }
+        ensures table { self.new.table ≡ self.old.table }
+    {
+        self.buckets.links.lemma_keys_unique();
+        let bucket = bucket_of(self.table, self.buckets.tick, timer.deadline);
+        self.buckets.look(handle)?;
+        let emptied = self.buckets.links.alone_in(handle.place);
+        let restarted = self.buckets.restart(handle, bucket, timer, 0)?;
+        clear_emptied(&mut self.occupied, emptied);
+        self.occupied.insert(bucket);
+        Some(restarted)
+    }
+
+    /// Moves the pending timer with just this handle to the back of the due ones. Does not allocate.
+    pub fn make_due(&mut self, handle: Handle) -> Option<Timer>
+        requires newest { AreBelow handle.serial (timers_of (state_of self.old.buckets).due) }
+        ensures timer { result ≡ timer_at handle (state_of self.old.buckets) }
+        ensures made_due { state_of self.new.buckets
+            ≡ after_made_due handle (state_of self.old.buckets) }
+        ensures table { self.new.table ≡ self.old.table }
+    {
+        self.buckets.links.lemma_keys_unique();
+        self.buckets.look(handle)?;
+        let emptied = self.buckets.links.alone_in(handle.place);
+        let timer = self.buckets.make_due(handle)?;
+        clear_emptied(&mut self.occupied, emptied);
+        Some(timer)
+    }
+
+    /// Removes the due timer with just this handle. Does not allocate.
+    pub fn withdraw(&mut self, handle: Handle) -> Option<Timer>
+        ensures timer { result ≡ due_at handle (state_of self.old.buckets) }
+        ensures withdrawn { state_of self.new.buckets
+            ≡ after_withdrawal handle (state_of self.old.buckets) }
+        ensures table { self.new.table ≡ self.old.table }
+    {
+        self.buckets.links.lemma_keys_unique();
+        self.buckets.withdraw(handle)
+    }
+
+    /// Removes the due timer with just this handle, and starts another at its place. Does not allocate.
+    #[inline(always)]
+    pub fn revive(&mut self, handle: Handle, timer: Timer) -> Option<(Handle, Timer)>
+        requires later { self.old.buckets.tick < timer.deadline }
+        requires deadline { timer.deadline ≤ self.old.buckets.last_tick }
+        requires fresh { self.old.buckets.last_serial < timer.serial }
+        requires serial { timer.serial ≤ LAST }
+        ensures old { old_timer result ≡ due_at handle (state_of self.old.buckets) }
+        ensures named { MatchOption result (Unit {0}) (λ r. r.0.serial ≡ timer.serial) }
+        ensures revived { state_of self.new.buckets
+            ≡ after_revival result handle timer (state_of self.old.buckets) }
+        ensures table { self.new.table ≡ self.old.table }
+    {
+        self.buckets.links.lemma_keys_unique();
+        let bucket = bucket_of(self.table, self.buckets.tick, timer.deadline);
+        let revived = self.buckets.revive(handle, bucket, timer, 0)?;
+        self.occupied.insert(bucket);
+        Some(revived)
+    }
+
+    /// Advances to the next tick, and empties the bucket of its lowest digit that isn't zero.
+    ///
+    /// Returns how many timers went to a lower wheel. Does not allocate.
+    // Always inlined: with a call, a tick at which nothing is due takes two to three times as long.
+    #[inline(always)]
+    pub fn next_tick(&mut self) -> u64
+        requires nothing_due { (state_of self.old.buckets).due ≡ [] }
+        requires before_last { self.old.buckets.tick < self.old.buckets.last_tick }
+        ensures ticked { state_of self.new.buckets ≡ after_tick (state_of self.old.buckets) }
+        ensures moves { result ≡ hops_of (radices self.old.table) self.old.buckets.tick 1
+            (state_of self.old.buckets).pending }
+        ensures falls { result + potential self.old.table self.new.buckets
+            ≤ potential self.old.table self.old.buckets }
+        ensures table { self.new.table ≡ self.old.table }
+    {
+        let tick = self.buckets.tick + 1;
+        let list = emptied_at(self.table, tick);
+        let buckets = &mut self.buckets;
+        let moves = empty_bucket(
+            self.table,
+            &mut buckets.links,
+            &mut self.occupied,
+            list,
+            tick,
+        );
+        buckets.tick = tick;
+        moves
+    }
+
+    /// The first pending deadline, found in the first bucket with a timer. Does not allocate.
+    ///
+    /// A slot of wheel 0 is one tick, and so its deadline needs no walk.
+    pub fn next_deadline(&self) -> Option<u64>
+        ensures { result ≡ next_deadline (state_of self.now.buckets).pending }
+    {
+        let Some(list) = self.occupied.first() else {
+            return None;
+        };
+        if list < lowest_slots(self.table) {
+            return Some(visit_of(self.table, list, self.buckets.tick));
+        }
+        least_in(&self.buckets.links, list)
+    }
+
+    /// Drops the pending timers. Does not allocate.
+    pub fn clear(&mut self)
+        ensures cleared { state_of self.new.buckets ≡ after_clear (state_of self.old.buckets) }
+        ensures table { self.new.table ≡ self.old.table }
+    {
+        self.buckets.clear();
+        self.occupied = Occupied::new();
+    }
+}

@@ -1,0 +1,14 @@
+/* What the generated code and heap.c agree on. */
+
+/* Another library that the toolchain made may stand in the same program, with a heap of its own. */
+#define rattle_alloc timers_heap_alloc
+#define rattle_realloc timers_heap_realloc
+#define rattle_dealloc timers_heap_dealloc
+
+/* After each function of the API. A shared object that embeds the library doesn't export its functions. The shared
+ * object that is the library is compiled with -DTIMERS_SHARED, and exports them. */
+#ifdef TIMERS_SHARED
+#define API(function)
+#else
+#define API(function) .hidden function
+#endif
