@@ -1,12 +1,12 @@
 //! Lists of events: `play` stops for memory and is called again with the rest.
+ghost use Rattle.std.specs.Prelude.{◌≡◌, []};
+
 use crate::facilities::numbers;
 use crate::fault::{Fault, same};
-use crate::wheels::hier;
 use std::alloc::Global;
-use timer_base::Handle;
+use timer_base::{Handle, Wheel};
 use timer_facility::{Answer, Event, Facility, Out, Player};
 use timer_fixtures::Row;
-use timer_wheels::{HierWheel, Table};
 
 /// The out without the place of a handle, which is a free choice of the wheel.
 fn bare(out: Out) -> Out {
@@ -36,9 +36,13 @@ fn see_outs(outs: &[Out], wanted: &[Out]) -> Result<(), Fault> {
     Ok(())
 }
 
-/// A player over a hierarchy of wheels.
-fn player(alloc: Global) -> Result<Player<HierWheel>, Fault> {
-    let wheel = hier(alloc, Table::Wide)?;
+/// A player over this wheel.
+fn player<W: Wheel + Drop>(alloc: Global, wheel: W) -> Result<Player<W>, Fault>
+    requires pending { (W.state wheel).pending ≡ [] }
+    requires due { (W.state wheel).due ≡ [] }
+    requires now { (W.state wheel).now ≡ 0 }
+    requires serial { (W.state wheel).last_serial ≡ 0 }
+{
     let Ok(checked) = numbers(64, 1024).check() else {
         return Err(Fault::Wrong("the numbers of a facility"));
     };
@@ -46,7 +50,11 @@ fn player(alloc: Global) -> Result<Player<HierWheel>, Fault> {
 }
 
 /// Plays the events, and the rest of them if memory stopped it. What comes of both is what is wanted.
-fn play(player: &mut Player<HierWheel>, events: &[Event], wanted: &[Out]) -> Result<(), Fault> {
+fn play<W: Wheel + Drop>(
+    player: &mut Player<W>,
+    events: &[Event],
+    wanted: &[Out],
+) -> Result<(), Fault> {
     let stop = match player.play(events) {
         Ok(outs) => return see_outs(&outs, wanted),
         Err(stop) => stop,
@@ -62,9 +70,14 @@ fn play(player: &mut Player<HierWheel>, events: &[Event], wanted: &[Out]) -> Res
     }
 }
 
-/// Plays a row.
-pub fn play_row(alloc: Global, row: Row) -> Result<(), Fault> {
-    let mut player = player(alloc)?;
+/// Plays a row over this wheel.
+pub fn play_row<W: Wheel + Drop>(alloc: Global, wheel: W, row: Row) -> Result<(), Fault>
+    requires pending { (W.state wheel).pending ≡ [] }
+    requires due { (W.state wheel).due ≡ [] }
+    requires now { (W.state wheel).now ≡ 0 }
+    requires serial { (W.state wheel).last_serial ≡ 0 }
+{
+    let mut player = player(alloc, wheel)?;
     play(&mut player, row.events, row.outs)?;
     let facility = player.facility();
     let end = (facility.now(), facility.pending());

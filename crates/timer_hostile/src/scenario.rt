@@ -7,7 +7,7 @@ use crate::handles::use_strange_handles;
 use crate::lines::{use_locked_line, use_memory_line, use_ring_line};
 use crate::links::push_a_hundred;
 use crate::plays::play_row;
-use crate::texts::write_text_of_outs;
+use crate::texts::{read_script, write_text_of_outs};
 use crate::wheels::{hashed, hier, list_a_few, plain, start_a_hundred};
 use std::alloc::Global;
 use std::sync::Wait;
@@ -33,7 +33,8 @@ pub enum Scenario {
     /// So many starts at a facility that has room for a thousand timers.
     Room(Kind, u64),
     /// A list of events.
-    Events(Row),
+    Events(Kind, Row),
+    Script,
     Text,
     MemoryLine,
     LockedLine,
@@ -53,7 +54,7 @@ const WIDE: Kind = Kind::Hier(Table::Wide);
 const CLOCK: Kind = Kind::Hier(Table::Clock);
 
 /// Each scenario with its name.
-pub static SCENARIOS: [(&str, Scenario); 45] = [
+pub static SCENARIOS: [(&str, Scenario); 58] = [
     ("pushes-9", Scenario::Pushes(9)),
     ("pushes-257", Scenario::Pushes(257)),
     ("pushes-641", Scenario::Pushes(641)),
@@ -79,9 +80,22 @@ pub static SCENARIOS: [(&str, Scenario); 45] = [
     ("room-hier-1000", Scenario::Room(WIDE, 1000)),
     ("room-clock-1", Scenario::Room(CLOCK, 1)),
     ("room-clock-1000", Scenario::Room(CLOCK, 1000)),
-    ("migration", Scenario::Events(MIGRATION)),
-    ("stop-middle", Scenario::Events(STOP_MIDDLE)),
-    ("close", Scenario::Events(CLOSE)),
+    ("migration-plain", Scenario::Events(Kind::Plain, MIGRATION)),
+    ("migration-hashed", Scenario::Events(EIGHT, MIGRATION)),
+    ("migration-hier", Scenario::Events(WIDE, MIGRATION)),
+    ("migration-clock", Scenario::Events(CLOCK, MIGRATION)),
+    (
+        "stop-middle-plain",
+        Scenario::Events(Kind::Plain, STOP_MIDDLE),
+    ),
+    ("stop-middle-hashed", Scenario::Events(EIGHT, STOP_MIDDLE)),
+    ("stop-middle-hier", Scenario::Events(WIDE, STOP_MIDDLE)),
+    ("stop-middle-clock", Scenario::Events(CLOCK, STOP_MIDDLE)),
+    ("close-plain", Scenario::Events(Kind::Plain, CLOSE)),
+    ("close-hashed", Scenario::Events(EIGHT, CLOSE)),
+    ("close-hier", Scenario::Events(WIDE, CLOSE)),
+    ("close-clock", Scenario::Events(CLOCK, CLOSE)),
+    ("script", Scenario::Script),
     ("text", Scenario::Text),
     ("memory-line", Scenario::MemoryLine),
     ("locked-line", Scenario::LockedLine),
@@ -96,7 +110,13 @@ pub static SCENARIOS: [(&str, Scenario); 45] = [
     ("held-by-turns", Scenario::HeldOverTick(By::Turn)),
     ("drive", Scenario::Drive),
     ("handles-plain", Scenario::Handles(Kind::Plain)),
-    ("handles-hashed", Scenario::Handles(EIGHT)),
+    ("handles-hashed-1", Scenario::Handles(Kind::Hashed(1))),
+    ("handles-hashed-8", Scenario::Handles(EIGHT)),
+    ("handles-hashed-256", Scenario::Handles(Kind::Hashed(256))),
+    (
+        "handles-hashed-65536",
+        Scenario::Handles(Kind::Hashed(65536)),
+    ),
     ("handles-hier", Scenario::Handles(WIDE)),
     ("handles-clock", Scenario::Handles(CLOCK)),
 ];
@@ -110,7 +130,8 @@ pub fn play<R: AllocGlobal + Wait>(rt: &R, scenario: Scenario) -> Result<bool, F
         Scenario::Lists(kind) => lists(alloc, kind)?,
         Scenario::Facility(kind) => facility(alloc, kind)?,
         Scenario::Room(kind, starts) => room(alloc, kind, starts)?,
-        Scenario::Events(row) => play_row(alloc, row)?,
+        Scenario::Events(kind, row) => events(alloc, kind, row)?,
+        Scenario::Script => read_script(alloc)?,
         Scenario::Text => write_text_of_outs(alloc)?,
         Scenario::MemoryLine => use_memory_line(alloc)?,
         Scenario::LockedLine => use_locked_line(rt, alloc)?,
@@ -154,6 +175,14 @@ fn room(alloc: Global, kind: Kind, starts: u64) -> Result<(), Fault> {
         Kind::Plain => start_with_room(alloc, plain(alloc)?, starts),
         Kind::Hashed(slots) => start_with_room(alloc, hashed(alloc, slots)?, starts),
         Kind::Hier(table) => start_with_room(alloc, hier(alloc, table)?, starts),
+    }
+}
+
+fn events(alloc: Global, kind: Kind, row: Row) -> Result<(), Fault> {
+    match kind {
+        Kind::Plain => play_row(alloc, plain(alloc)?, row),
+        Kind::Hashed(slots) => play_row(alloc, hashed(alloc, slots)?, row),
+        Kind::Hier(table) => play_row(alloc, hier(alloc, table)?, row),
     }
 }
 

@@ -1,9 +1,31 @@
-//! The text of a list of outs.
+//! A script that is read to a list of events, and the text of a list of outs.
 use crate::fault::{Fault, same};
 use std::alloc::Global;
 use timer_base::{Handle, Timer};
-use timer_facility::{Answer, Notice, Out};
-use timer_script::text_of;
+use timer_facility::{Answer, Event, Notice, Out};
+use timer_script::{ScriptFault, parse_script, text_of};
+
+/// Reads a script, again if that was refused, and compares its events.
+pub fn read_script(alloc: Global) -> Result<(), Fault> {
+    let script = b"start 0 1 5 7\ntick 1\ntick 1\ntick 1\ntick 1\nclose\n".as_slice();
+    let events = match parse_script(alloc, script) {
+        Ok(events) => events,
+        Err(ScriptFault::Bad { .. }) => return Err(Fault::Wrong("a script without a bad line")),
+        Err(ScriptFault::OutOfMemory) => match parse_script(alloc, script) {
+            Ok(events) => events,
+            Err(_) => return Err(Fault::RefusedTwice),
+        },
+    };
+    let tick = Event::Ticks { count: 1 };
+    let start = Event::Start {
+        client: 0,
+        number: 1,
+        interval: 5,
+        action: 7,
+    };
+    let wanted = [start, tick, tick, tick, tick, Event::Close].as_slice();
+    same(events.as_slice(), wanted, "the events of a script")
+}
 
 /// Makes a text, again if that was refused, and compares it.
 pub fn write_text_of_outs(alloc: Global) -> Result<(), Fault> {
