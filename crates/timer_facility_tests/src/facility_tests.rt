@@ -445,8 +445,8 @@ fn each_call_returns_what_its_row_says(rt: HostRuntime) -> Result<(), Fail> {
     Ok(())
 }
 
-/// Configurations with a number out of its range, and the first of them.
-static REFUSED: [(Config, ConfigFault); 10] = [
+/// Configurations with numbers out of their ranges, and the first of them.
+static REFUSED: [(Config, ConfigFault); 13] = [
     (
         Config {
             clients: 0,
@@ -510,13 +510,43 @@ static REFUSED: [(Config, ConfigFault); 10] = [
         },
         ConfigFault::FirstNumber,
     ),
+    // All five are wrong, then the last four, three and two.
     (
         Config {
             clients: 0,
             capacity: 0,
-            ..CONFIG
+            first_tick: LAST + 1,
+            first_serial: 0,
+            first_number: 0,
         },
         ConfigFault::Clients,
+    ),
+    (
+        Config {
+            capacity: 0,
+            first_tick: LAST + 1,
+            first_serial: 0,
+            first_number: 0,
+            ..CONFIG
+        },
+        ConfigFault::Capacity,
+    ),
+    (
+        Config {
+            first_tick: LAST + 1,
+            first_serial: 0,
+            first_number: 0,
+            ..CONFIG
+        },
+        ConfigFault::FirstTick,
+    ),
+    (
+        Config {
+            first_serial: 0,
+            first_number: 0,
+            ..CONFIG
+        },
+        ConfigFault::FirstSerial,
     ),
 ];
 

@@ -23,8 +23,12 @@ pub fn read_script(alloc: Global) -> Result<(), Fault> {
         interval: 5,
         action: 7,
     };
-    let wanted = [start, tick, tick, tick, tick, Event::Close].as_slice();
-    same(events.as_slice(), wanted, "the events of a script")
+    let wanted = [start, tick, tick, tick, tick, Event::Close];
+    same(
+        events.as_slice(),
+        wanted.as_slice(),
+        "the events of a script",
+    )
 }
 
 /// Makes a text, again if that was refused, and compares it.
