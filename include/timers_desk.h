@@ -119,6 +119,13 @@
 #define TIMERS_CHECKED
 #endif
 
+/* C of 1989 has no bool: see timers.h. */
+#if defined(__GNUC__) && !defined(__cplusplus) && (!defined(__STDC_VERSION__) || __STDC_VERSION__ < 199901L)
+#define TIMERS_OLD_C
+#pragma GCC diagnostic push
+#pragma GCC diagnostic ignored "-Wpedantic"
+#endif
+
 #ifdef __cplusplus
 extern "C" {
 #endif
@@ -354,8 +361,10 @@ bool timers_line_abandoned(const struct timers_line *line);
 void timers_line_free(struct timers_line *line);
 
 /* The layout that the library was built for. */
-#ifdef __cplusplus
+#if defined(__cplusplus)
 #define TIMERS_DESK_ASSERT(fact, says) static_assert(fact, says)
+#elif defined(__GNUC__)
+#define TIMERS_DESK_ASSERT(fact, says) __extension__ _Static_assert(fact, says)
 #else
 #define TIMERS_DESK_ASSERT(fact, says) _Static_assert(fact, says)
 #endif
@@ -378,5 +387,9 @@ TIMERS_DESK_ASSERT(sizeof(struct timers_desk_config) == 40
 
 #ifdef __cplusplus
 }
+#endif
+#ifdef TIMERS_OLD_C
+#pragma GCC diagnostic pop
+#undef TIMERS_OLD_C
 #endif
 #endif
