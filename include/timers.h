@@ -290,8 +290,8 @@ void timers_clear(struct timers *t);
  * already among them. While fewer are held, a start then allocates nothing and does not return
  * TIMERS_NO_MEMORY, whatever was started, stopped and taken before. The timers and the clock don't change.
  * Takes 64 bytes for each timer, and time for each: it may move those that are held. The memory is kept
- * until timers_free, also what was allocated before a failure. Room that an earlier call made is not made
- * again: then nothing is allocated, and TIMERS_OK returned.
+ * until timers_free, also what was allocated before a failure. If an earlier timers_reserve made as much room,
+ * it allocates nothing and returns TIMERS_OK.
  * TIMERS_NO_MEMORY is also returned if `most` is above some 4.29 billion.
  * TIMERS_NOT_OPEN, TIMERS_NO_MEMORY. */
 TIMERS_CHECKED
