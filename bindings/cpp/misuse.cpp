@@ -1,4 +1,4 @@
-/* Misuses of timers.hpp that the compiler refuses. Without MISUSE it compiles; with MISUSE=1 to MISUSE=LAST it must not.
+/* Misuses of timers.hpp that the compiler refuses. With MISUSE=0 it compiles, with the others it must not.
  * tools/c_tests compares what the compiler says with the comment of each. */
 #include <functional>
 #include <memory>
