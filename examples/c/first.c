@@ -16,7 +16,7 @@ int main(void)
 	    || timers_start(&t, 900, 'C', &call) != TIMERS_OK)
 		return 1;
 	timers_stop(&t, call, &action);
-	while (timers_take(&t, 1000, &e))                             /* the ticks up to 1000, one timer after another */
+	while (timers_take(&t, 1000, &e))          /* what is due by tick 1000 */
 		printf("%" PRIu64 ": %c\n", e.deadline, (char)e.action);
 	timers_free(&t);
 	return 0;
