@@ -735,7 +735,7 @@ static void do_something(struct timers *t)
 	default: do_expire(t);
 	}
 	/* seldom, so that many timers are held in between */
-	if (calls_done % 20000 < 5000 && below(500) == 0)
+	if (calls_done % 20000 < 5000 && below(due > 0 && count > due ? 100 : 1000) == 0)
 		do_clear(t);
 	look(t);
 	if (below(1000) == 0) {
