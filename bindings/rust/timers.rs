@@ -47,11 +47,11 @@ pub enum Error {
     NoMemory,
     /// An expired timer was not yet taken.
     Due,
-    /// No timer has this handle: it was stopped, restarted or taken.
+    /// No timer has this handle: it was stopped, restarted, taken or dropped.
     NotPending,
     /// The interval is 0.
     ZeroInterval,
-    /// The deadline, or the first tick, is after the last tick.
+    /// The tick is after the last one of the clock.
     TooLate,
     /// 2^60 - 1 timers were started.
     SerialsSpent,
