@@ -153,9 +153,9 @@
  *     timers_free included. No call calls back, so that no other longjmp and no exception leaves one.
  *
  *     A forked child has a copy of the timers, with the same handles. If the process had a single thread, the
- *     child may call all functions. If it had more, the child may use the timers that no other thread was
- *     changing during the fork, by the calls that neither allocate nor free. It may use the others as well if
- *     the allocator works in such a child, as that of glibc does.
+ *     child may make all calls. If it had more, the child may use the timers that no other thread was changing
+ *     during the fork, by the calls that neither allocate nor free. It may make the other calls as well if the
+ *     allocator works in such a child, as that of glibc does.
  *
  * HANDLES
  *     A handle is for the `struct timers` that returned it. It is dead once its timer was stopped,

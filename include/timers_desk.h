@@ -118,8 +118,8 @@
  *
  *     A forked child has copies of the structs, which share nothing with those of the parent. Those of its
  *     threads but one are copies without a thread. It may use what no other thread was changing during the
- *     fork, by the calls that neither allocate nor free. It may use the others as well if the process had a
- *     single thread, or if the allocator works in such a child, as that of glibc does.
+ *     fork, by the calls that neither allocate nor free. It may make the other calls as well if the process had
+ *     a single thread, or if the allocator works in such a child, as that of glibc does.
  */
 /* SPDX-License-Identifier: MIT OR Apache-2.0 */
 #ifndef TIMERS_DESK_H
