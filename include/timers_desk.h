@@ -116,8 +116,8 @@
  *     asynchronous cancellation, may leave its struct half changed: then no call may use that any more, its free
  *     included. The other end of the line may go on.
  *
- *     A forked child has copies of the structs, which share nothing with those of the parent. Those of its
- *     threads but one are copies without a thread. It may use what no other thread was changing during the
+ *     A forked child has copies of the structs, which share nothing with those of the parent, and one thread, that
+ *     which forked. It may use what no other thread was changing during the
  *     fork, by the calls that neither allocate nor free. It may make the other calls as well if the process had
  *     a single thread, or if the allocator works in such a child, as that of glibc does.
  */
