@@ -116,10 +116,10 @@
  *     asynchronous cancellation, may leave its struct half changed: then no call may use that any more, its free
  *     included. The other end of the line may go on.
  *
- *     A forked child has copies of the structs, which share nothing with those of the parent, and one thread, that
- *     which forked. It may use what no other thread was changing during the
- *     fork, by the calls that neither allocate nor free. It may make the other calls as well if the process had
- *     a single thread, or if the allocator works in such a child, as that of glibc does.
+ *     A forked child has copies of the structs, which share nothing with those of the parent, and one thread,
+ *     that which forked. It may use what no other thread was changing during the fork, by the calls that neither
+ *     allocate nor free. It may make the other calls as well if the process had a single thread, or if the
+ *     allocator works in such a child, as that of glibc does.
  */
 /* SPDX-License-Identifier: MIT OR Apache-2.0 */
 #ifndef TIMERS_DESK_H
