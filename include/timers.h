@@ -5,12 +5,15 @@
  *     timers_reserve - make room for timers
  *     timers_start, timers_restart, timers_stop - START_TIMER, RESTART, STOP_TIMER
  *     timers_start_at, timers_restart_at - the same, for a tick in place of an interval
- *     timers_tick, timers_advance - pass ticks
+ *     timers_set_at - start a timer, or restart the one that a handle names
+ *     timers_tick, timers_advance, timers_advance_to - pass ticks
  *     timers_expire, timers_expire_batch - take expired timers
+ *     timers_take - take the next timer that is due by a tick, and pass the ticks up to it
+ *     timers_clear - drop all timers
  *     timers_look, timers_each - read one timer, iterate over all of them
  *     timers_now, timers_len, timers_has_due, timers_wakeup, timers_next - read the state
  *     timers_counts - read what the wheels have done so far
- *     timers_message - return the text of a status
+ *     timers_message, timers_version - return the text of a status, and the version of the library
  *
  * SYNOPSIS
  *     #include <timers.h>
@@ -20,17 +23,18 @@
  *     A `struct timers` owns timers and a clock of ticks. It is open from a timers_new that returned
  *     TIMERS_OK to timers_free. The length of a tick is the caller's choice: a millisecond, a frame, a
  *     retransmission unit. A timer is started for an interval in ticks, or for a tick, with a value, its
- *     action. Only timers_tick and timers_advance advance the clock. A timer whose deadline is the present
- *     tick has expired: it is no longer pending, and waits until timers_expire takes it. Timers expire in the
- *     order of their deadlines, and those of one deadline in the order of their starts.
+ *     action. Only timers_tick, timers_advance, timers_advance_to and timers_take advance the clock. A timer
+ *     whose deadline is the present tick has expired: it is no longer pending, and waits to be taken by
+ *     timers_expire, timers_expire_batch or timers_take. Timers expire in the order of their deadlines, and
+ *     those of one deadline in the order of their starts.
  *
  *     While expired timers wait, others may be started, restarted and stopped, for instance by the work that
  *     the first of them triggers. Only the clock can't advance until all of them are taken (TIMERS_DUE). An
  *     expired timer that was not yet taken can be stopped and restarted too. After a timers_stop that
- *     returned TIMERS_OK, neither timers_expire nor timers_expire_batch hands the timer out. So if the work
- *     of one timer frees what the action of another points to, it stops the other, whether that has expired
- *     or not. A timer that timers_expire_batch has written to an array is taken, and can't be stopped any
- *     more. If the work of one can free what another of the array points to, take them one at a time.
+ *     returned TIMERS_OK, no call hands the timer out. So if the work of one timer frees what the action of
+ *     another points to, it stops the other, whether that has expired or not. A timer that
+ *     timers_expire_batch has written to an array is taken, and can't be stopped any more. If the work of one
+ *     can free what another of the array points to, take them one at a time.
  *
  *     An interval counts from the present tick, the one up to which the clock was advanced last. While the
  *     clock is behind the real time, as it is while input is handled, a timer expires that much too early.
@@ -38,14 +42,17 @@
  *     real time down to a tick starts a timer somewhere within that tick. So an interval of n ticks lasts
  *     more than n - 1 and at most n: add 1 if it must last no less than n.
  *
- *     The tick of timers_start_at or timers_restart_at may have passed. Then the timer is due at once: it
- *     has expired, with the present tick as its deadline. The same holds for the present tick. The timer is
- *     taken after those that expired before it. So a caller that is late can add its period to the tick that
- *     was meant until it has caught up. If the work of each timer starts one that is due at once, a loop that
- *     takes what expires until nothing is left never ends.
+ *     The tick of timers_start_at, timers_restart_at or timers_set_at may have passed. Then the timer is due
+ *     at once: it has expired, with the present tick as its deadline. The same holds for the present tick.
+ *     The timer is taken after those that expired before it. So a caller that is late can add its period to
+ *     the tick that was meant until it has caught up. If the work of each timer starts one that is due at
+ *     once, a loop that takes what expires until nothing is left never ends.
  *
  *     An interval of 0 is refused (TIMERS_ZERO_INTERVAL). An interval ends at a later tick, and 0 is mostly
  *     a mistake of a calculation. For work that is due at once give timers_start_at the present tick.
+ *
+ *     The clock never goes back. A real time that does, and so is before timers_now, is no error for
+ *     timers_advance_to and timers_take: they pass no tick then.
  *
  *     The clock of TIMERS_CLOCK ends after 100 days. Before that, free the timers, make them again at tick
  *     0 and start what is left. That of TIMERS_WIDE has ticks for 36 million years of milliseconds.
@@ -61,12 +68,15 @@
  *
  *         start, start_at         constant; if the arrays are full, moves them
  *         restart, restart_at     constant
+ *         set_at                  as restart_at if the handle names a timer, else as start_at
  *         stop, look, expire      constant
  *         expire_batch            each timer that it takes
  *         tick                    constant; at a multiple of 64 (60), one bucket
- *         advance                 each bucket with timers on the way, each move
+ *         advance, advance_to     each bucket with timers on the way, each move
+ *         take                    as advance_to
+ *         clear                   each timer that is held, and the buckets
  *         wakeup, has_due, now    constant
- *         counts                  constant
+ *         counts, version         constant
  *         next                    constant, or each timer of one bucket
  *         len                     each expired timer that waits
  *         each                    each place up to the next timer
@@ -75,29 +85,37 @@
  *
  *     A move takes a timer to a lower wheel. A tick moves the timers of its bucket, unless they expire.
  *
- *     Only timers_new, timers_reserve, timers_start and timers_start_at allocate. Memory is kept for later
- *     starts until timers_free. So a start allocates only if more timers are held than ever before, and more
- *     than timers_reserve made room for. A start that re-arms a timer which was just taken does not.
- *
  *     Two of these are proved. No start returns TIMERS_NO_MEMORY while fewer timers are held than
  *     timers_reserve made room for. And there are at most 9 moves for each start and restart. (With
  *     TIMERS_CLOCK there are at most 3, which is proved of the wheel and not of timers_counts.) The other
  *     costs are in no contract: they follow from the code. Tests count the allocations of each call.
  *
+ * MEMORY
+ *     Only timers_new, timers_reserve, timers_start and timers_start_at allocate, and timers_set_at if no
+ *     timer has the handle. A start does so only if more timers are held than ever before, and more than
+ *     timers_reserve made room for. One that re-arms a timer which was just taken does not.
+ *
+ *     timers_new allocates some 5 KB for the buckets, and the first start or reserve as much again (with
+ *     TIMERS_CLOCK 2 KB each). A timer takes 64 bytes, in two arrays. An array that is full grows, the
+ *     larger one to twice its length. So above some 1,000 timers there are 64 to 130 bytes for each, of the
+ *     most that were ever held. With timers_reserve there are 64.
+ *
+ *     Memory is kept for later starts until timers_free. It can't be given back in part, since a timer stays
+ *     at the place that its handle has. A caller that wants it back starts what is left in a second `struct
+ *     timers`, and frees the first.
+ *
  * PORTING
  *     What stands for the calls of a heap or of libuv's timers, if `now` is the real time in ticks:
  *
- *         uv_timer_start, insert       timers_start_at(t, now + timeout, action, &handle)
- *         the same, if it is active    timers_restart_at(t, handle, now + timeout, action, &handle)
+ *         uv_timer_start, insert       timers_set_at(t, &handle, now + timeout, action)
  *         uv_timer_stop, remove        timers_stop(t, handle, &action)
- *         uv_timer_again               timers_restart_at if it is active, else timers_start_at
- *         repeat                       timers_start_at(t, now + repeat, ..), once it is taken
+ *         uv_timer_again               timers_set_at(t, &handle, now + repeat, action)
+ *         repeat                       the same, once it is taken
  *         uv_timer_get_due_in          timers_look(t, handle, &timer); timer.deadline - now, or 0
  *         uv_is_active                 timers_look(t, handle, &timer) == TIMERS_OK
  *         uv_backend_timeout           timers_next(t) - now, or 0; TIMERS_NEVER if none is held
- *         run what is due by now       timers_expire(t, &timer) until it returns false, then
- *                                      timers_advance(t, now - timers_now(t), &passed), and
- *                                      so on until timers_now(t) is now and none expired
+ *         run what is due by now       while (timers_take(t, now, &timer)) run(timer.action);
+ *         drop them all                timers_clear(t)
  *
  * RULES
  *     1. A `struct timers` begins as TIMERS_INIT, or with all its bytes 0: static storage, calloc and
@@ -108,28 +126,49 @@
  *        two arguments of one call overlap.
  *     3. If an argument is only written (handle, restarted, action, passed, out, counts), the object may be
  *        uninitialised. It has only integers, so any bits are a value, and no function reads it. It is
- *        written exactly if the function's description says so, and otherwise unchanged.
- *     4. Calls on one `struct timers` come one at a time, also those that take a const pointer. It may be
- *        handed from thread to thread, by a lock or by a thread's start or join. Calls on two of them are
- *        independent.
+ *        written exactly if the function's description says so, and otherwise unchanged. The handle of
+ *        timers_set_at and the cursor of timers_each are read too.
+ *     4. Calls on one `struct timers` come one at a time, but for those that THREADS names.
  *     5. malloc, realloc and free are one allocator, and align as C requires. The timers are freed in a
  *        process that has the allocator which they came from.
- *     6. No call comes from a signal handler, or from the forked child of a process with threads. (The
- *        child of a process without threads has a copy of its own, with the same handles.)
+ *     6. No call comes from a signal handler. THREADS says which calls a forked child may make.
  *
  *     Nothing else is required. A call before timers_new, after timers_free, or in the wrong order returns
  *     a status and changes nothing.
  *
+ * THREADS
+ *     Calls with a const pointer only read the timers. So they may run beside each other, each with objects
+ *     of its own to write to, while no other call uses the same `struct timers`. Calls on two of them are
+ *     independent.
+ *
+ *     A `struct timers` may be handed from thread to thread by all that makes the one see what the other
+ *     wrote: a lock, a thread's start or join, an atomic that the one stores with release order and the other
+ *     loads with acquire order.
+ *
+ *     No call waits for another thread, unless the allocator does. malloc, realloc and free are called only by
+ *     the calls that MEMORY names, and by timers_free. No call is a cancellation point.
+ *
+ *     A call has to run to its end. One that is left by a longjmp out of a signal handler, or by an
+ *     asynchronous cancellation, may leave the timers half changed: then no call may use them any more,
+ *     timers_free included. No call calls back, so that no other longjmp and no exception leaves one.
+ *
+ *     A forked child has a copy of the timers, with the same handles. If the process had a single thread, the
+ *     child may make all calls. If it had more, the child may use the timers that no other thread was changing
+ *     during the fork, by the calls that neither allocate nor free. It may make the other calls as well if the
+ *     allocator works in such a child, as that of glibc does.
+ *
  * HANDLES
  *     A handle is for the `struct timers` that returned it. It is dead once its timer was stopped,
- *     restarted or taken, and never names another timer of that struct: serials continue after timers_free
- *     and timers_new. (Setting a struct to TIMERS_INIT again resets them.) Nothing marks to which struct a
- *     handle belongs. Each struct counts serials from 1, so the same handle may name a timer of another.
+ *     restarted, taken or dropped, and never names another timer of that struct: serials continue after
+ *     timers_free and timers_new. (Setting a struct to TIMERS_INIT again resets them.) Serials count from 1,
+ *     so a handle with all its bytes 0 names no timer. Nothing marks to which struct a handle belongs. Each
+ *     struct counts for itself, so the same handle may name a timer of another.
  *
  * ACTIONS
  *     An action is any 64 bits. For a pointer give (uint64_t)(uintptr_t)p, and read it as
  *     (void *)(uintptr_t)action. The timers never follow it: before you free what it points to, stop the
- *     timer. timers_free drops the timers and does not return their actions. To release these first:
+ *     timer. timers_free and timers_clear drop the timers and do not return their actions. To release these
+ *     first:
  *
  *         size_t cursor = 0;
  *         struct timers_handle handle;
@@ -146,12 +185,18 @@
 #ifndef TIMERS_H
 #define TIMERS_H
 
+#if defined(__cplusplus) && __cplusplus < 201103L
+#error "timers.h needs C++11 or later"
+#endif
+
 #include <stdbool.h>
 #include <stddef.h>
 #include <stdint.h>
 
-/* The version of this header. */
+/* The version of this header, as text, and as a number: 10,000 times the major number, 100 times the minor one,
+ * and the patch. timers_version returns the number of the library. */
 #define TIMERS_VERSION "1.0.0"
+#define TIMERS_VERSION_NUMBER 10000
 
 /* Marks calls whose status has to be read, and the compiler warns if it is not. Without TIMERS_OK nothing was
  * made or started, or there is no answer. The status of a stop, a tick or an advance may be ignored. */
@@ -159,6 +204,16 @@
 #define TIMERS_CHECKED __attribute__((warn_unused_result))
 #else
 #define TIMERS_CHECKED
+#endif
+
+/* C of 1989 has no bool. The compilers have it all the same, and -pedantic would warn about each use. */
+#if defined(__GNUC__) && !defined(__cplusplus) && (!defined(__STDC_VERSION__) || __STDC_VERSION__ < 199901L)
+#define TIMERS_OLD_C
+#pragma GCC diagnostic push
+#pragma GCC diagnostic ignored "-Wpedantic"
+#define TIMERS_INLINE __inline
+#else
+#define TIMERS_INLINE inline
 #endif
 
 #ifdef __cplusplus
@@ -170,11 +225,11 @@ enum timers_status {
 	TIMERS_NOT_OPEN = 1,       /* not open: timers_new was not called, or timers_free was since */
 	TIMERS_OPEN = 2,           /* already open */
 	TIMERS_NO_TABLE = 3,       /* the table is none of enum timers_table */
-	TIMERS_NO_MEMORY = 4,      /* malloc or realloc returned NULL, or about 4.29 billion timers are held */
+	TIMERS_NO_MEMORY = 4,      /* no memory for it: malloc or realloc returned NULL, or some 4.29 billion are held */
 	TIMERS_DUE = 5,            /* an expired timer was not yet taken: call timers_expire */
-	TIMERS_NOT_PENDING = 6,    /* no timer has this handle: it was stopped, restarted or taken */
+	TIMERS_NOT_PENDING = 6,    /* no timer has this handle: it was stopped, restarted, taken or dropped */
 	TIMERS_ZERO_INTERVAL = 7,  /* the interval is 0 */
-	TIMERS_TOO_LATE = 8,       /* the deadline, or the first tick, is after the last tick */
+	TIMERS_TOO_LATE = 8,       /* the tick is after the last one */
 	TIMERS_SERIALS_SPENT = 9,  /* this struct has started 2^60 - 1 timers */
 	TIMERS_CLOCK_END = 10      /* the clock is at its last tick */
 };
@@ -226,12 +281,17 @@ enum timers_status timers_new(struct timers *t, uint32_t table, uint64_t first_t
  * open, so it may be called twice. */
 void timers_free(struct timers *t);
 
+/* Drops all timers, pending or expired and not yet taken, and does not return their actions. Their handles are
+ * dead. The clock, the serials, the counts and the memory stay, and so does the room of timers_reserve. Does
+ * nothing if `t` is not open. Does not allocate. */
+void timers_clear(struct timers *t);
+
 /* Makes room for `most` timers held at once, pending or expired and not yet taken, those that are held
  * already among them. While fewer are held, a start then allocates nothing and does not return
  * TIMERS_NO_MEMORY, whatever was started, stopped and taken before. The timers and the clock don't change.
- * Takes about 64 bytes for each timer, and time for each: it may move those that are held. The memory is
- * kept until timers_free, also what was allocated before a failure. Room that an earlier call made costs
- * nothing.
+ * Takes 64 bytes for each timer, and time for each: it may move those that are held. The memory is kept
+ * until timers_free, also what was allocated before a failure. If an earlier timers_reserve made as much room,
+ * it allocates nothing and returns TIMERS_OK.
  * TIMERS_NO_MEMORY is also returned if `most` is above some 4.29 billion.
  * TIMERS_NOT_OPEN, TIMERS_NO_MEMORY. */
 TIMERS_CHECKED
@@ -269,6 +329,15 @@ TIMERS_CHECKED
 enum timers_status timers_restart_at(struct timers *t, struct timers_handle handle, uint64_t deadline,
                                      uint64_t action, struct timers_handle *restarted);
 
+/* Restarts the timer with the handle `*handle`, as timers_restart_at, and if there is none starts one, as
+ * timers_start_at. Writes the new handle to `*handle` at TIMERS_OK. On failure a timer that has the old one
+ * stays as it is. A handle with all its bytes 0 names none: so a struct that was set to 0 has one to begin with.
+ * Allocates only if no timer has the handle, and only then returns TIMERS_NO_MEMORY.
+ * TIMERS_NOT_OPEN, TIMERS_TOO_LATE, TIMERS_SERIALS_SPENT, TIMERS_NO_MEMORY. */
+TIMERS_CHECKED
+enum timers_status timers_set_at(struct timers *t, struct timers_handle *handle, uint64_t deadline,
+                                 uint64_t action);
+
 /* Stops the timer with this handle, which is pending, or has expired and was not yet taken: it is not
  * handed out any more. Writes `*action`, its action, at TIMERS_OK.
  * TIMERS_NOT_OPEN, TIMERS_NOT_PENDING. */
@@ -285,8 +354,10 @@ enum timers_status timers_look(const struct timers *t, struct timers_handle hand
  * the first call. Each call that finds a timer writes it to `*out` and its handle to `*handle`, moves
  * `*cursor` past it and returns true. At the end, or if `t` is not open, it returns false and writes nothing.
  * Between two calls timers may be started, stopped, restarted and taken, and ticks may pass. One that is
- * held all the time, under one handle, is found exactly once. A whole iteration takes time for the most
- * timers that were ever held at once, or that timers_reserve made room for. */
+ * held all the time, under one handle, is found exactly once. One that is restarted is found once as well: it
+ * keeps its place, so after it was found it is not met again under its new handle. One that is started may be
+ * found or not. A whole iteration takes time for the most timers that were ever held at once, or that
+ * timers_reserve made room for. */
 bool timers_each(const struct timers *t, size_t *cursor, struct timers_handle *handle,
                  struct timers_expired *out);
 
@@ -295,11 +366,24 @@ bool timers_each(const struct timers *t, size_t *cursor, struct timers_handle *h
 enum timers_status timers_tick(struct timers *t);
 
 /* Passes at most `most` ticks, and stops at the first at which a timer expires. Writes `*passed`, how many
- * were passed, at TIMERS_OK. It is 0 only if `most` is 0. It is less than `most` only if a timer has expired
- * or the clock has come to its last tick. Once it is there, a call returns TIMERS_CLOCK_END, also for no
- * tick.
+ * were passed, at TIMERS_OK. It is 0 only if `most` is 0: that is no tick, and is not refused while an expired
+ * timer waits or at the last tick. It is less than `most` only if a timer has expired or the clock has come to
+ * its last tick.
  * TIMERS_NOT_OPEN, TIMERS_DUE, TIMERS_CLOCK_END. */
 enum timers_status timers_advance(struct timers *t, uint64_t most, uint64_t *passed);
+
+/* Passes the ticks up to `tick`, and stops at the first at which a timer expires, or at the last tick of the
+ * clock. A tick that is not after the present one is none to pass: then nothing changes, and the status is
+ * TIMERS_OK, also while an expired timer waits or at the last tick.
+ * TIMERS_NOT_OPEN, TIMERS_DUE, TIMERS_CLOCK_END. */
+enum timers_status timers_advance_to(struct timers *t, uint64_t tick);
+
+/* Takes the next timer that is due by `tick`, and nothing after it. If an expired timer waits, it is the first
+ * of these, and no tick passes. Otherwise it is the first whose deadline is at most `tick`, and the ticks up to
+ * that deadline pass. Returns whether there was one, and writes `*out` exactly then.
+ * After false the ticks up to `tick` have passed, or those up to the last tick of the clock if that is before.
+ * If `tick` is before the present tick, none passes. Returns false if not open. Does not allocate. */
+bool timers_take(struct timers *t, uint64_t tick, struct timers_expired *out);
 
 /* Takes the first of the expired timers, in the order of their starts. Returns whether there was one, and
  * writes `*out` exactly then. Returns false if not open. */
@@ -321,9 +405,10 @@ uint64_t timers_now(const struct timers *t);
 size_t timers_len(const struct timers *t);
 
 /* The tick until which the caller may sleep. It is the present one if an expired timer waits to be taken,
- * and TIMERS_NEVER if nothing is pending or `t` is not open. Otherwise it is a tick after the present one, at
- * most the first deadline, before which nothing expires. Call it again once the clock is there: it may be
- * before the first deadline, as the wheels don't search for that. Constant time. */
+ * and TIMERS_NEVER if nothing is pending or `t` is not open. Otherwise it is the first tick after the present
+ * one at which a timer expires or moves to a lower wheel. That is at most the first deadline, and nothing
+ * expires before it. Call it again once the clock is there: if it is before the first deadline, nothing has
+ * expired. Constant time. */
 uint64_t timers_wakeup(const struct timers *t);
 
 /* The deadline of the timer that is taken next, exactly. It is the present tick if an expired timer waits to
@@ -334,17 +419,24 @@ uint64_t timers_next(const struct timers *t);
 
 /* Writes `*counts`, what the wheels have done since timers_new, at TIMERS_OK. `starts` counts each start and
  * restart that returned TIMERS_OK. `moves` is at most 9 times `starts` (of TIMERS_CLOCK, 3 times). `visits`
- * counts one for each tick of timers_tick. Of timers_advance it counts one for each multiple of 64 ticks that
- * is passed (of TIMERS_CLOCK, 60). It also counts its last tick if that is no such multiple and a timer
- * expires there. A stop and taking expired timers count nothing. Constant time. Does not allocate.
+ * counts one for each tick of timers_tick. Of timers_advance, timers_advance_to and timers_take it counts one
+ * for each multiple of 64 ticks that is passed (of TIMERS_CLOCK, 60). It also counts their last tick if that is
+ * no such multiple and a timer expires there. A stop and taking expired timers count nothing, and timers_clear
+ * changes no count. Constant time. Does not allocate.
  * TIMERS_NOT_OPEN. */
 TIMERS_CHECKED
 enum timers_status timers_counts(const struct timers *t, struct timers_counters *counts);
 
+/* The version of the library, as the number TIMERS_VERSION_NUMBER of its header. It is above that of this
+ * header if the library is newer than what the program was built with. */
+uint32_t timers_version(void);
+
 /* The text of a status, for messages. */
-static inline const char *timers_message(enum timers_status status)
+static TIMERS_INLINE const char *timers_message(enum timers_status status)
 {
-	switch (status) {
+	const uint32_t number = status;   /* that of no status has a text too */
+
+	switch (number) {
 	case TIMERS_OK: return "done";
 	case TIMERS_NOT_OPEN: return "no timers are held";
 	case TIMERS_OPEN: return "timers are held already";
@@ -356,13 +448,15 @@ static inline const char *timers_message(enum timers_status status)
 	case TIMERS_TOO_LATE: return "after the last tick";
 	case TIMERS_SERIALS_SPENT: return "every serial was used";
 	case TIMERS_CLOCK_END: return "the clock is at its last tick";
+	default: return "no status";
 	}
-	return "no status";
 }
 
 /* The layout that the library was built for. */
-#ifdef __cplusplus
+#if defined(__cplusplus)
 #define TIMERS_ASSERT(fact, says) static_assert(fact, says)
+#elif defined(__GNUC__)
+#define TIMERS_ASSERT(fact, says) __extension__ _Static_assert(fact, says)
 #else
 #define TIMERS_ASSERT(fact, says) _Static_assert(fact, says)
 #endif
@@ -382,8 +476,13 @@ TIMERS_ASSERT(sizeof(struct timers_counters) == 24 && offsetof(struct timers_cou
               "struct timers_counters");
 #undef TIMERS_ASSERT
 #undef TIMERS_CHECKED
+#undef TIMERS_INLINE
 
 #ifdef __cplusplus
 }
+#endif
+#ifdef TIMERS_OLD_C
+#pragma GCC diagnostic pop
+#undef TIMERS_OLD_C
 #endif
 #endif

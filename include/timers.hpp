@@ -1,28 +1,33 @@
-/* timers.hpp - timers.h for C++17, header only
+/* timers.hpp - timers.h for C++17 and later, header only
  *
  *     #include <timers.hpp>
  *     c++ -std=c++17 prog.cpp $(pkg-config --cflags --libs timers)
  *
  * A `timing::timers<Tick, Action>` owns timers and frees them. It can be moved and not copied. timers.h
- * says what each call does; this header says what differs. It adds no memory, no lock and no table: the
- * owner is the 24 bytes of `struct timers`, and each call is one of C.
+ * says what each call does; this header says what differs. It allocates nothing and takes no lock: the owner
+ * is a `struct timers` and the last tick of its clock, 32 bytes. Each call but catch_up is one of C.
  *
  * TICKS. `Tick` is the length of a tick, a std::chrono::duration. The clock and deadlines are `ticks`,
  * counted from tick 0. An interval is any duration of whole numbers, and is rounded up to ticks. An
  * interval of n ticks lasts more than n - 1 and at most n, since the present tick has begun. `at_least`
  * adds the tick that a time-out needs if it must not come early.
  *
- * ACTIONS. An `Action` is trivially copyable and has at most 8 bytes. It may be a pointer to an object or a
+ * ACTIONS. An `Action` can be copied, trivially, and has at most 8 bytes. It may be a pointer to an object or a
  * function, an index, an enum, or a lambda that captures one pointer. Its bytes are the action of C, so that
  * it costs nothing. A std::function does not fit: keep it in an object of yours, and give the pointer to that.
+ * What owns something does not fit either, as it can't be copied, or not trivially.
  *
  * ERRORS. As in the standard library's containers, what a caller can't expect is an exception. It is
  * std::bad_alloc if a call runs out of memory, and otherwise `timing::error` with the status of C. What may
  * well happen is a result: no timer has the handle (it was stopped, restarted or taken), or nothing has
- * expired. After an exception nothing has changed. */
+ * expired. After an exception of the library nothing has changed. */
 /* SPDX-License-Identifier: MIT OR Apache-2.0 */
 #ifndef TIMERS_HPP
 #define TIMERS_HPP
+
+#if __cplusplus < 201703L
+#error "timers.hpp needs C++17 or later: C++11 and C++14 have timers.h"
+#endif
 
 #include <chrono>
 #include <cstddef>
@@ -69,8 +74,9 @@ private:
 
 template <class Tick = std::chrono::milliseconds, class Action = std::uint64_t>
 class timers {
-	static_assert(std::is_trivially_copyable_v<Action> && sizeof(Action) <= 8,
-	              "an action is trivially copyable, of at most 8 bytes: for larger things give a pointer");
+	/* A type that can only be moved may be trivially copyable all the same. */
+	static_assert(std::is_trivially_copyable_v<Action> && std::is_copy_constructible_v<Action> && sizeof(Action) <= 8,
+	              "an action can be copied, trivially, and has at most 8 bytes: for larger things give a pointer");
 
 public:
 	using ticks = std::chrono::duration<std::uint64_t, typename Tick::period>;
@@ -83,6 +89,7 @@ public:
 
 	/* Throws error: TIMERS_NO_TABLE, TIMERS_TOO_LATE; std::bad_alloc. */
 	explicit timers(enum timers_table table = TIMERS_WIDE, ticks first_tick = ticks::zero())
+		: last_tick_(table == TIMERS_CLOCK ? TIMERS_CLOCK_LAST : TIMERS_LAST)
 	{
 		check(timers_new(&raw_, table, first_tick.count()));
 	}
@@ -93,12 +100,13 @@ public:
 	/* The other one is left without timers. It may be destroyed and assigned to. Its stop, look and expire
 	 * return nothing, each visits nothing, and now and size return 0. A call that may throw `error` throws
 	 * it with TIMERS_NOT_OPEN. */
-	timers(timers &&other) noexcept : raw_(std::exchange(other.raw_, none())) {}
+	timers(timers &&other) noexcept : raw_(std::exchange(other.raw_, none())), last_tick_(other.last_tick_) {}
 	timers &operator=(timers &&other) noexcept
 	{
 		if (this != &other) {
 			timers_free(&raw_);
 			raw_ = std::exchange(other.raw_, none());
+			last_tick_ = other.last_tick_;
 		}
 		return *this;
 	}
@@ -174,6 +182,15 @@ public:
 		});
 	}
 
+	/* timers_set_at: restarts the timer with the handle `of`, and if there is none starts one. Writes the new
+	 * handle to `of`. Throws as start_at; std::bad_alloc only if no timer has the handle. */
+	void set_at(handle &of, ticks deadline, Action action)
+	{
+		timers_handle to = of.raw();
+		check(timers_set_at(&raw_, &to, deadline.count(), bits(action)));
+		of = handle(to);
+	}
+
 	/* Stops the timer with this handle, pending or expired, and returns its action; nothing if there is
 	 * none. */
 	std::optional<Action> stop(handle of) noexcept
@@ -216,6 +233,19 @@ public:
 		return ticks(passed);
 	}
 
+	/* timers_advance_to: passes the ticks up to this one, or up to the first at which a timer expires. Does nothing
+	 * if it is not after now(). Throws as tick. */
+	void advance_to(ticks tick) { check(timers_advance_to(&raw_, tick.count())); }
+
+	/* timers_take: takes the next timer that is due by this tick, and passes the ticks up to it. */
+	std::optional<expired> take(ticks tick) noexcept
+	{
+		timers_expired timer;
+		if (!timers_take(&raw_, tick.count(), &timer))
+			return std::nullopt;
+		return cooked(timer);
+	}
+
 	/* Takes the first of the expired timers, if there is one. */
 	std::optional<expired> expire() noexcept
 	{
@@ -225,22 +255,26 @@ public:
 		return cooked(timer);
 	}
 
-	/* Passes the ticks up to `real_time`, and calls run(expired) for each timer that expires on the way. It
-	 * takes them one at a time, so `run` may start, stop and restart any. It returns only once nothing is due:
-	 * a `run` that always starts a timer which is due at once keeps it from returning. Throws as tick
-	 * (TIMERS_CLOCK_END once the last tick is before `real_time`), and what `run` throws: that timer is taken,
-	 * and a further call continues. */
+	/* Passes the ticks up to `real_time`, and calls run(expired) for each timer that expires on the way. Does
+	 * nothing if `real_time` is before now(), as after a step back of the real clock. It takes the timers one at a
+	 * time, so `run` may start, stop and restart any. It returns only once nothing is due: a `run` that always
+	 * starts a timer which is due at once keeps it from returning.
+	 * Throws error: TIMERS_NOT_OPEN, TIMERS_TOO_LATE (`real_time` is after the last tick of the clock): nothing was
+	 * run then. What `run` throws leaves the call: that timer is taken, and a further call continues. */
 	template <class Run>
 	void catch_up(ticks real_time, Run &&run)
 	{
-		for (;;) {
-			while (const std::optional<expired> timer = expire())
-				run(*timer);
-			if (now() >= real_time)
-				return;
-			advance(real_time - now());
-		}
+		check(timers_advance_to(&raw_, 0));
+		if (real_time.count() > last_tick_)
+			throw error(TIMERS_TOO_LATE);
+		if (real_time < now())
+			return;
+		while (const std::optional<expired> timer = take(real_time))
+			run(*timer);
 	}
+
+	/* timers_clear: drops all timers, and does not return their actions. */
+	void clear() noexcept { timers_clear(&raw_); }
 
 	bool has_due() const noexcept { return timers_has_due(&raw_); }
 	ticks now() const noexcept { return ticks(timers_now(&raw_)); }
@@ -311,6 +345,7 @@ private:
 	}
 
 	::timers raw_ = TIMERS_INIT;
+	std::uint64_t last_tick_;
 };
 
 } // namespace timing

@@ -91,17 +91,35 @@
  *        `lines` points to as many as are passed. No two arguments of one call overlap.
  *     3. An object that a call only writes (number, word, passed, returned, standing, unread, client) may
  *        be uninitialised.
- *     4. Calls on one struct come one at a time. A struct may be handed from thread to thread, by a lock,
- *        by a thread's start or join, or by a sequentially consistent atomic. Calls on two structs are
- *        independent: those of the owner and of its clients may overlap in every way.
+ *     4. Calls on one struct come one at a time, but for those that THREADS names. A struct may be handed from
+ *        thread to thread, by a lock, by a thread's start or join, or by an atomic that the one stores with
+ *        release order and the other loads with acquire order. Calls on two structs are independent: those
+ *        of the owner and of its clients may overlap in every way.
  *     5. timers_desk_settle, timers_desk_end and timers_desk_end_all are given lines of the same desk. A
  *        line of another client is refused, and so is one of another desk whose client has another number.
  *        A line of another desk whose client has the same number is not detected.
  *     6. malloc, realloc and free are one allocator that threads may share, and align as C requires.
- *     7. No call comes from a signal handler, or from the forked child of a process with threads.
+ *     7. No call comes from a signal handler. THREADS says which calls a forked child may make.
  *
  *     Nothing else is required. A call before timers_desk_new, after a free, or in the wrong order returns
  *     a status or nothing and changes nothing. Either end may be freed before the other, at any time.
+ *
+ * THREADS
+ *     Calls whose only struct is const only read it, so that they may run beside each other while no other call
+ *     uses the struct. timers_line_abandoned is none of them: it keeps what it found out about the other end.
+ *
+ *     No call waits for another thread, unless the allocator does. malloc, realloc and free are called only by
+ *     timers_desk_new, timers_desk_close, the serves, timers_line_finish and the frees. No call is a cancellation
+ *     point, and none calls back.
+ *
+ *     A call has to run to its end. One that is left by a longjmp out of a signal handler, or by an
+ *     asynchronous cancellation, may leave its struct half changed: then no call may use that any more, its free
+ *     included. The other end of the line may go on.
+ *
+ *     A forked child has copies of the structs, which share nothing with those of the parent, and one thread,
+ *     that which forked. It may use what no other thread was changing during the fork, by the calls that neither
+ *     allocate nor free. It may make the other calls as well if the process had a single thread, or if the
+ *     allocator works in such a child, as that of glibc does.
  */
 /* SPDX-License-Identifier: MIT OR Apache-2.0 */
 #ifndef TIMERS_DESK_H
@@ -117,6 +135,13 @@
 #define TIMERS_CHECKED __attribute__((warn_unused_result))
 #else
 #define TIMERS_CHECKED
+#endif
+
+/* C of 1989 has no bool: see timers.h. */
+#if defined(__GNUC__) && !defined(__cplusplus) && (!defined(__STDC_VERSION__) || __STDC_VERSION__ < 199901L)
+#define TIMERS_OLD_C
+#pragma GCC diagnostic push
+#pragma GCC diagnostic ignored "-Wpedantic"
 #endif
 
 #ifdef __cplusplus
@@ -145,7 +170,7 @@ enum timers_desk_status {
 	TIMERS_DESK_OUT_OF_RANGE = 19,   /* a number of the configuration, or the number of lines */
 	TIMERS_DESK_IDLE = 20,           /* no request was known to be in the line */
 	TIMERS_DESK_NO_ROOM = 21,        /* the outbox has no room for the words of another request */
-	TIMERS_DESK_OTHER_LINE = 22,     /* another client's line, or its desk was freed before it finished */
+	TIMERS_DESK_OTHER_LINE = 22,     /* the line is not this client's line at this desk */
 	TIMERS_DESK_NOT_FINISHED = 23,   /* the line has not finished */
 	TIMERS_DESK_LEFT = 24            /* something of the client is left at the desk */
 };
@@ -255,8 +280,8 @@ enum timers_desk_status timers_desk_close(struct timers_desk *d, uint64_t *retur
  * TIMERS_DESK_OK it writes to `*standing` how many of the client's requests still stand in the line.
  * Suppose it is 0, the last serve did not return TIMERS_DESK_NO_MEMORY, and the outbox is empty. Then only
  * pending timers of this client are left at the desk. Does not allocate.
- * TIMERS_DESK_NOT_OPEN (either struct), TIMERS_DESK_NO_CLIENT, TIMERS_DESK_OTHER_LINE (it is another
- * client's), TIMERS_DESK_NOT_FINISHED, TIMERS_DESK_OTHER_LINE (the desk was freed before it finished). */
+ * TIMERS_DESK_NOT_OPEN (either struct), TIMERS_DESK_NO_CLIENT, TIMERS_DESK_OTHER_LINE (its client has another
+ * number), TIMERS_DESK_NOT_FINISHED, TIMERS_DESK_OTHER_LINE (it is of a desk that was freed). */
 TIMERS_CHECKED
 enum timers_desk_status timers_desk_settle(struct timers_desk *d, size_t client,
                                            const struct timers_line *line, size_t *standing);
@@ -265,8 +290,8 @@ enum timers_desk_status timers_desk_settle(struct timers_desk *d, size_t client,
  * TIMERS_DESK_OK it writes to `*unread` how many words stand in the line. With those that were received
  * they are all that the client was given. The line may then be handed back and read to its end. Does not
  * allocate.
- * TIMERS_DESK_NOT_OPEN (either struct), TIMERS_DESK_NO_CLIENT, TIMERS_DESK_OTHER_LINE (it is another
- * client's), TIMERS_DESK_NOT_FINISHED, TIMERS_DESK_OTHER_LINE (the desk was freed before it finished).
+ * TIMERS_DESK_NOT_OPEN (either struct), TIMERS_DESK_NO_CLIENT, TIMERS_DESK_OTHER_LINE (its client has another
+ * number), TIMERS_DESK_NOT_FINISHED, TIMERS_DESK_OTHER_LINE (it is of a desk that was freed).
  * TIMERS_DESK_LEFT: a request is held or stands in the line, a word waits in the outbox, or a timer is
  * pending. */
 TIMERS_CHECKED
@@ -281,8 +306,8 @@ enum timers_desk_status timers_desk_end(struct timers_desk *d, size_t client, st
  * TIMERS_DESK_NOT_OPEN (the desk), TIMERS_DESK_OUT_OF_RANGE (`clients` is not the number of clients):
  * nothing has changed.
  * Otherwise it writes to `*client` the first client whose words have not ended, and returns why. That
- * client's line is as it was. TIMERS_DESK_OTHER_LINE (it is another client's), TIMERS_DESK_NOT_FINISHED,
- * TIMERS_DESK_OTHER_LINE (the desk was freed before it finished), TIMERS_DESK_LEFT. */
+ * client's line is as it was. TIMERS_DESK_OTHER_LINE (its client has another number), TIMERS_DESK_NOT_FINISHED,
+ * TIMERS_DESK_OTHER_LINE (it is of a desk that was freed), TIMERS_DESK_LEFT. */
 TIMERS_CHECKED
 enum timers_desk_status timers_desk_end_all(struct timers_desk *d, struct timers_line *lines, size_t clients,
                                             size_t *client);
@@ -354,8 +379,10 @@ bool timers_line_abandoned(const struct timers_line *line);
 void timers_line_free(struct timers_line *line);
 
 /* The layout that the library was built for. */
-#ifdef __cplusplus
+#if defined(__cplusplus)
 #define TIMERS_DESK_ASSERT(fact, says) static_assert(fact, says)
+#elif defined(__GNUC__)
+#define TIMERS_DESK_ASSERT(fact, says) __extension__ _Static_assert(fact, says)
 #else
 #define TIMERS_DESK_ASSERT(fact, says) _Static_assert(fact, says)
 #endif
@@ -378,5 +405,9 @@ TIMERS_DESK_ASSERT(sizeof(struct timers_desk_config) == 40
 
 #ifdef __cplusplus
 }
+#endif
+#ifdef TIMERS_OLD_C
+#pragma GCC diagnostic pop
+#undef TIMERS_OLD_C
 #endif
 #endif

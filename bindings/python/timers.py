@@ -7,8 +7,8 @@
             ...
 
 Ticks and actions are whole numbers from 0 to 2^64 - 1: any other is refused by OverflowError or TypeError. A
-call that the library refuses raises TimersError, and has changed nothing. An action may be the key of a
-dictionary. If the library is in no folder that the loader searches, give its path: Timers("lib/libtimers.so.1").
+call that the library refuses raises TimersError. After each of these nothing has changed. An action may be the
+key of a dictionary. If the library is in no folder that the loader searches, give its path: Timers("lib/libtimers.so.1").
 """
 # SPDX-License-Identifier: MIT OR Apache-2.0
 import ctypes
@@ -17,6 +17,7 @@ from ctypes import POINTER, Structure, byref, c_bool, c_size_t, c_uint32, c_uint
 
 OK, NOT_OPEN, OPEN, NO_TABLE, NO_MEMORY, DUE, NOT_PENDING, ZERO_INTERVAL, TOO_LATE, SERIALS_SPENT, CLOCK_END = range(11)
 WIDE, CLOCK = 0, 1
+LAST, LAST_OF_CLOCK = 2**60 - 1, 8639999  # the last tick of each
 NEVER = 2**64 - 1
 MESSAGES = [
     "done", "no timers are held", "timers are held already", "no such table", "out of memory",
@@ -72,8 +73,12 @@ CALLS = {
     "restart_at": (c_uint32, [POINTER(Held), Handle, c_uint64, c_uint64, POINTER(Handle)]),
     "look": (c_uint32, [POINTER(Held), Handle, POINTER(Expired)]),
     "stop": (c_uint32, [POINTER(Held), Handle, POINTER(c_uint64)]),
+    "set_at": (c_uint32, [POINTER(Held), POINTER(Handle), c_uint64, c_uint64]),
+    "clear": (None, [POINTER(Held)]),
     "tick": (c_uint32, [POINTER(Held)]),
     "advance": (c_uint32, [POINTER(Held), c_uint64, POINTER(c_uint64)]),
+    "advance_to": (c_uint32, [POINTER(Held), c_uint64]),
+    "take": (c_bool, [POINTER(Held), c_uint64, POINTER(Expired)]),
     "expire": (c_bool, [POINTER(Held), POINTER(Expired)]),
     "expire_batch": (c_size_t, [POINTER(Held), POINTER(Expired), c_size_t]),
     "has_due": (c_bool, [POINTER(Held)]),
@@ -100,6 +105,7 @@ class Timers:
             function = getattr(loaded, "timers_" + name)
             function.restype, function.argtypes = result, arguments
             self._call[name] = function
+        self._last_tick = LAST_OF_CLOCK if table == CLOCK else LAST
         self._held = Held()
         self._do("new", word(table, 32), word(first_tick))
 
@@ -160,6 +166,15 @@ class Timers:
         self._do("restart_at", handle, word(deadline), word(action), byref(restarted))
         return restarted
 
+    def set_at(self, handle, deadline, action):
+        """Restarts the timer with this handle for this tick, or starts one if there is none. Returns its handle.
+
+        Before the first start the handle is None. The old handle names no timer any more.
+        """
+        made = Handle() if handle is None else Handle(handle.place, handle.serial)
+        self._do("set_at", byref(made), word(deadline), word(action))
+        return made
+
     def stop(self, handle):
         """Stops the timer with this handle, pending or expired, and returns its action."""
         action = c_uint64()
@@ -173,19 +188,33 @@ class Timers:
             return None
         return timer.deadline, timer.serial, timer.action
 
+    def take(self, tick):
+        """Takes the next timer that is due by this tick, and passes the ticks up to it.
+
+        Returns it as (deadline, serial, action), or None. Then the ticks up to `tick` have passed, as far as the
+        clock has them. A tick before now is none to pass.
+        """
+        timer = Expired()
+        if not self._call["take"](self._held, word(tick), byref(timer)):
+            return None
+        return timer.deadline, timer.serial, timer.action
+
     def catch_up(self, now, run):
         """Passes the ticks up to `now`, and calls run(deadline, serial, action) for each timer on the way.
 
-        They are taken one at a time: what `run` stops does not come out. It returns only once nothing is due:
-        a `run` that always starts a timer which is due at once keeps it from returning.
+        They are taken one at a time: what `run` stops does not come out. If `run` raises, that timer is taken, and a
+        further call continues. It returns only once nothing is due: a `run` that always starts a timer which is due
+        at once keeps it from returning. With a tick before the present one it does nothing. One after the last tick
+        is refused (TOO_LATE), and nothing was run then.
         """
-        now, passed = word(now), c_uint64()
-        while True:
-            while (timer := self.expire()) is not None:
-                run(*timer)
-            if self.now() >= now:
-                return
-            self._do("advance", now - self.now(), byref(passed))
+        now = word(now)
+        self._do("advance_to", 0)  # refused if they are closed
+        if now > self._last_tick:
+            raise TimersError(TOO_LATE)
+        if now < self.now():
+            return
+        while (timer := self.take(now)) is not None:
+            run(*timer)
 
     def expired(self):
         """Takes all that expired, and returns it as a list of (deadline, serial, action)."""
@@ -200,16 +229,26 @@ class Timers:
         These are taken, and can't be stopped any more. It passes fewer ticks if the clock comes to its last
         one. There it is refused (CLOCK_END) if nothing was left to take.
         """
-        first_tick, out, passed, most = self.now(), self.expired(), c_uint64(), word(most)
-        while most > 0:
-            status = self._call["advance"](self._held, most, byref(passed))
-            # What was taken is taken: an error would lose it.
-            if status == CLOCK_END and (out or self.now() > first_tick):
-                break
-            check(status)
-            most -= passed.value
+        most = word(most)
+        self._do("advance_to", 0)  # refused if they are closed
+        if most > 0 and self.now() == self._last_tick and not self.has_due():
+            raise TimersError(CLOCK_END)
+        until, out = min(self.now() + most, self._last_tick), self.expired()
+        while self.now() < until:
+            self._do("advance_to", until)
             out.extend(self.expired())
         return out
+
+    def advance_to(self, tick):
+        """Passes the ticks up to this one, or up to the first at which a timer expires. What expires waits to be taken.
+
+        A tick that is not after the present one is none to pass.
+        """
+        self._do("advance_to", word(tick))
+
+    def clear(self):
+        """Drops all timers, pending and expired. Their actions are not returned."""
+        self._call["clear"](self._held)
 
     def tick(self):
         """Passes one tick. What expires then waits to be taken."""

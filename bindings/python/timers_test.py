@@ -1,10 +1,12 @@
-"""Random calls through timers.py agree with a dictionary; then its edges and the end of the clock.
+"""Random calls through timers.py agree with a dictionary; then its edges, its memory and the end of the clock.
 
     python3 timers_test.py libtimers.so
 """
 import copy
+import pickle
 import random
 import sys
+import threading
 
 from timers import (CLOCK, CLOCK_END, DUE, NO_MEMORY, NOT_OPEN, NOT_PENDING, OK, TOO_LATE, ZERO_INTERVAL, Timers,
                     TimersError)
@@ -37,27 +39,46 @@ def compare(library, calls=20000):
             elif which < 4:
                 serial = rng.choice(list(held)[:50])
                 _, action, handle = held.pop(serial)
+                how = rng.randrange(3)
                 if which == 2:
                     assert timers.stop(handle) == action
-                elif rng.randrange(2):
+                elif how == 0:
                     restarted = timers.restart_at(handle, tick, action)
+                    held[restarted.serial] = (tick_due, action, restarted)
+                elif how == 1:
+                    restarted = timers.set_at(handle, tick, action)
                     held[restarted.serial] = (tick_due, action, restarted)
                 else:
                     restarted = timers.restart(handle, interval, action)
                     held[restarted.serial] = (now + interval, action, restarted)
-                assert refused(timers.stop, handle) == NOT_PENDING
+                assert handle.serial == serial and refused(timers.stop, handle) == NOT_PENDING
+                if which == 2 and how == 0:
+                    started = timers.set_at(rng.choice([handle, None]), tick, action)
+                    held[started.serial] = (tick_due, action, started)
             else:
                 most = rng.randrange(200)
-                got = []
-                if rng.randrange(2):
+                got, how = [], rng.randrange(4)
+                if how == 0:
                     got = timers.advance(most)
-                else:
+                elif how == 1:
                     timers.catch_up(now + most, lambda *timer: got.append(timer))
+                elif how == 2:
+                    while (timer := timers.take(now + most)) is not None:
+                        got.append(timer)
+                else:
+                    got += timers.expired()
+                    while timers.now() < now + most:
+                        timers.advance_to(now + most)
+                        got += timers.expired()
                 now += most
                 want = sorted((d, s, a) for s, (d, a, _) in held.items() if d <= now)
                 assert got == want, (got, want)
                 for _, serial, _ in got:
                     del held[serial]
+                timers.advance_to(rng.randrange(now + 1))  # passes nothing
+                if rng.randrange(200) == 0:
+                    timers.clear()
+                    held.clear()
             due = sum(d == now for d, _, _ in held.values())
             first = min((d for d, _, _ in held.values()), default=None)
             wakeup = timers.wakeup()
@@ -85,10 +106,11 @@ def meet_the_edges(library):
     with Timers(library, first_tick=2**60 - 2) as timers:
         handle = timers.start(1, 2**64 - 1)
         calls = [timers.start, timers.start_at, lambda *two: timers.restart(handle, *two)]
-        for call in calls + [lambda *two: timers.restart_at(handle, *two)]:
+        calls += [lambda *two: timers.restart_at(handle, *two), lambda *two: timers.set_at(handle, *two)]
+        for call in calls + [lambda *two: timers.set_at(None, *two)]:
             for value in (2**64, -1):
                 assert raises(OverflowError, call, value, 1) and raises(OverflowError, call, 1, value)
-            for value in (1.0, "1", None):
+            for value in (1.5, 1.0, "1", None):
                 assert raises(TypeError, call, value, 1) and raises(TypeError, call, 1, value)
         for value in (2**64, -1):
             assert raises(OverflowError, timers.advance, value)
@@ -99,12 +121,154 @@ def meet_the_edges(library):
         assert refused(timers.reserve, 2**64 - 1) == NO_MEMORY
         assert refused(timers.start, 0, 1) == refused(timers.restart, handle, 0, 1) == ZERO_INTERVAL
         assert refused(timers.start, 2, 1) == TOO_LATE
-        assert raises(TypeError, copy.copy, timers) and raises(TypeError, copy.deepcopy, timers)
+        assert refused(timers.set_at, handle, 2**60, 1) == refused(timers.set_at, None, 2**60, 1) == TOO_LATE
+        for owned in (copy.copy, copy.deepcopy, pickle.dumps):
+            assert raises(TypeError, owned, timers)
         assert timers.look(handle) == (2**60 - 1, 1, 2**64 - 1) and len(timers) == 1
         assert timers.stop(handle) == 2**64 - 1
         assert timers and len(timers) == 0 and timers.next() is None and timers.wakeup() is None
-    assert timers and refused(timers.start, 1, 1) == NOT_OPEN
+    assert timers and refused(timers.start, 1, 1) == refused(timers.set_at, handle, 1, 1) == NOT_OPEN
+    assert refused(timers.advance, 0) == refused(timers.advance, 1) == refused(timers.advance_to, 1) == NOT_OPEN
+    assert refused(timers.catch_up, 0, print) == refused(timers.tick) == NOT_OPEN
+    assert timers.take(9) is None and timers.expired() == [] and list(timers) == []
+    timers.clear()
     timers.close()
+
+
+def take_nothing_if_refused(library):
+    """A number that is refused takes no timer, and passes no tick."""
+    with Timers(library) as timers:
+        first, second = timers.start_at(0, 7), timers.start(3, 8)
+        for call in (timers.advance, lambda value: timers.catch_up(value, print), timers.take, timers.advance_to):
+            for value, kind in ((-1, OverflowError), (2**64, OverflowError), (1.5, TypeError), (None, TypeError)):
+                assert raises(kind, call, value)
+        assert refused(timers.catch_up, 2**60, print) == refused(timers.catch_up, 2**64 - 1, print) == TOO_LATE
+        assert timers.now() == 0 and timers.has_due() and len(timers) == 1
+        assert timers.advance(3) == [(0, first.serial, 7), (3, second.serial, 8)]
+
+
+def catch_up_with_other_times(library):
+    """A time before the clock passes no tick and runs nothing. One after its end is refused, and nothing has run."""
+    with Timers(library, CLOCK, 1000) as timers:
+        ran = []
+        timers.start(500, 1)
+        timers.start_at(0, 2)
+        for now in (999, 0):
+            timers.catch_up(now, lambda *timer: ran.append(timer))
+            timers.advance_to(now)
+        for now in (8640000, 2**64 - 1):
+            assert refused(timers.catch_up, now, lambda *timer: ran.append(timer)) == TOO_LATE
+        assert ran == [] and timers.now() == 1000 and timers.has_due() and len(timers) == 1
+        timers.catch_up(1000, lambda *timer: ran.append(timer[2]))
+        timers.catch_up(8639999, lambda *timer: ran.append(timer[2]))
+        assert ran == [2, 1] and timers.now() == 8639999
+
+
+def take_many(library):
+    """All timers of a tick are taken, however many there are. What is dropped is not."""
+    with Timers(library) as timers:
+        for take in (timers.advance, lambda most: timers.advance_to(timers.now() + most) or timers.expired()):
+            for action in range(1000):
+                timers.start(9, action)
+            assert [action for _, _, action in take(9)] == list(range(1000)) and not timers.has_due()
+        ran = []
+        for action in range(200):
+            timers.start(9, action)
+        timers.catch_up(timers.now() + 9, lambda *timer: ran.append(timer[2]))
+        assert ran == list(range(200))
+        handles = [timers.start_at(0, 1), timers.start(5, 2)]
+        timers.clear()
+        assert len(timers) == 0 and timers.advance(99) == [] and timers.now() == 126
+        assert all(refused(timers.look, handle) == NOT_PENDING for handle in handles)
+
+
+def keep_what_an_iteration_gave(library):
+    """Each handle of an iteration names its own timer, also when it is used later."""
+    with Timers(library) as timers:
+        for action in range(50):
+            timers.start(1 + action, action)
+        found = list(timers)
+        assert sorted(action for _, (_, _, action) in found) == list(range(50))
+        assert all(timers.look(handle) == timer for handle, timer in found)
+        assert sorted(timers.stop(handle) for handle, _ in found) == list(range(50)) and len(timers) == 0
+
+
+def raise_from_a_run(library):
+    """What `run` raises leaves catch_up. The timer is taken, and the others of its tick are not."""
+    with Timers(library) as timers:
+        for action in range(10):
+            timers.start(5, action)
+        ran = []
+
+        def run(*timer):
+            ran.append(timer[2])
+            if timer[2] % 3 == 0:
+                raise KeyError(timer[2])
+
+        for _ in range(4):
+            assert raises(KeyError, timers.catch_up, 9, run)
+            assert timers.now() == 5 and ran == list(range(ran[-1] + 1))
+        timers.catch_up(9, run)
+        assert ran == list(range(10)) and timers.now() == 9
+
+
+def mapped():
+    """The bytes of memory that this process has mapped."""
+    with open("/proc/self/statm", encoding="ascii") as file:
+        return int(file.read().split()[0]) * 4096
+
+
+def make_room(library):
+    """Room for 100,000 timers is 6.4 MB. While fewer are held, nothing is added to it."""
+    most, before = 100000, mapped()
+    with Timers(library) as timers:
+        timers.reserve(most)
+        reserved = mapped()
+        assert 60 * most < reserved - before < 80 * most, reserved - before
+        for action in range(most):
+            timers.start(1 + action, action)
+        assert mapped() < reserved + 2**21 and len(timers) == most
+
+
+def free_what_is_closed(library):
+    """What is closed or forgotten gives its memory back, once: 60 times 6.4 MB would be 384 MB."""
+    before = mapped()
+    for round_of in range(60):
+        timers = Timers(library)
+        timers.reserve(100000)
+        timers.start(1, round_of)
+        if round_of % 3 == 0:
+            timers.close()
+            timers.close()
+        elif round_of % 3 == 1:
+            with timers:
+                pass
+    del timers
+    assert mapped() < before + 100 * 2**20, mapped() - before
+
+
+def hold_the_lock(library):
+    """No other thread of Python runs during a call, so that calls of several threads come one at a time."""
+    counted, started, ended = [0], threading.Event(), threading.Event()
+
+    def count():
+        started.wait()
+        while not ended.is_set():
+            counted[0] += 1
+
+    counter, interval = threading.Thread(target=count), sys.getswitchinterval()
+    with Timers(library) as timers:
+        counter.start()
+        try:
+            sys.setswitchinterval(9)  # seconds: the other thread runs sooner only if a call gives up the lock
+            started.set()
+            timers.reserve(1000000)
+            meanwhile = counted[0]
+        finally:
+            sys.setswitchinterval(interval)
+            ended.set()
+            counter.join()
+    assert meanwhile == 0, f"the other thread counted to {meanwhile} in a call"
 
 
 def stop_what_expired(library):
@@ -176,3 +340,11 @@ if __name__ == "__main__":
     start_what_is_due_at_once(library)
     come_to_the_last_tick(library)
     count_the_moves(library)
+    take_nothing_if_refused(library)
+    catch_up_with_other_times(library)
+    take_many(library)
+    keep_what_an_iteration_gave(library)
+    raise_from_a_run(library)
+    make_room(library)
+    free_what_is_closed(library)
+    hold_the_lock(library)

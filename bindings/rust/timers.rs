@@ -47,11 +47,11 @@ pub enum Error {
     NoMemory,
     /// An expired timer was not yet taken.
     Due,
-    /// No timer has this handle: it was stopped, restarted or taken.
+    /// No timer has this handle: it was stopped, restarted, taken or dropped.
     NotPending,
     /// The interval is 0.
     ZeroInterval,
-    /// The deadline, or the first tick, is after the last tick.
+    /// The tick is after the last one of the clock.
     TooLate,
     /// 2^60 - 1 timers were started.
     SerialsSpent,
@@ -93,9 +93,9 @@ impl fmt::Display for Error {
 
 impl error::Error for Error {}
 
-/// The name of a timer of one `Timers`. In another one it may name a timer that is there.
+/// The name of a timer of one `Timers`. In another one it may name a timer that is there. The default names none.
 #[repr(C)]
-#[derive(Clone, Copy, Debug, Eq, Hash, PartialEq)]
+#[derive(Clone, Copy, Debug, Default, Eq, Hash, PartialEq)]
 pub struct Handle {
     place: usize,
     serial: u64,
@@ -161,8 +161,12 @@ unsafe extern "C" {
     fn timers_stop(t: *mut Held, handle: Handle, action: *mut u64) -> c_uint;
     fn timers_look(t: *const Held, handle: Handle, out: *mut Timer) -> c_uint;
     fn timers_each(t: *const Held, cursor: *mut usize, handle: *mut Handle, out: *mut Timer) -> bool;
+    fn timers_set_at(t: *mut Held, handle: *mut Handle, deadline: u64, action: u64) -> c_uint;
+    fn timers_clear(t: *mut Held);
     fn timers_tick(t: *mut Held) -> c_uint;
     fn timers_advance(t: *mut Held, most: u64, passed: *mut u64) -> c_uint;
+    fn timers_advance_to(t: *mut Held, tick: u64) -> c_uint;
+    fn timers_take(t: *mut Held, tick: u64, out: *mut Timer) -> bool;
     fn timers_expire(t: *mut Held, out: *mut Timer) -> bool;
     fn timers_expire_batch(t: *mut Held, out: *mut Timer, room: usize) -> usize;
     fn timers_has_due(t: *const Held) -> bool;
@@ -180,6 +184,7 @@ unsafe extern "C" {
 /// `&mut` and the missing `Sync` make calls come one at a time.
 pub struct Timers {
     held: Held,
+    last_tick: u64,
 }
 
 // SAFETY: the library keeps nothing of a thread, and a struct may be handed to another one (rule 4).
@@ -214,7 +219,11 @@ impl Timers {
     pub fn new(table: Table, first_tick: u64) -> Result<Timers, Error> {
         let mut held = Held { at: std::ptr::null_mut(), mark: 0, last_serial: 0 };
         Error::of(unsafe { timers_new(&mut held, table as u32, first_tick) })?;
-        Ok(Timers { held })
+        let last_tick = match table {
+            Table::Wide => LAST,
+            Table::Clock => LAST_OF_CLOCK,
+        };
+        Ok(Timers { held, last_tick })
     }
 
     /// Makes room for `most` timers at once: no start fails for memory while fewer are held. `NoMemory`.
@@ -246,6 +255,14 @@ impl Timers {
         written(|restarted| unsafe { timers_restart_at(&mut self.held, handle, deadline, action, restarted) })
     }
 
+    /// Restarts the timer with this handle as `restart_at`, and if there is none starts one as `start_at`. Returns
+    /// its handle. `TooLate`, `SerialsSpent`, `NoMemory`, the last only if no timer has the handle.
+    pub fn set_at(&mut self, handle: Handle, deadline: u64, action: u64) -> Result<Handle, Error> {
+        let mut made = handle;
+        Error::of(unsafe { timers_set_at(&mut self.held, &mut made, deadline, action) })?;
+        Ok(made)
+    }
+
     /// Stops a timer, pending or expired and not yet taken, and returns its action; `None` if none has the
     /// handle.
     pub fn stop(&mut self, handle: Handle) -> Option<u64> {
@@ -258,8 +275,8 @@ impl Timers {
     }
 
     /// Finds a timer, pending or expired, and moves the cursor, which begins at 0, past it; `None` at the
-    /// end. Between two calls timers may be started, stopped and taken: one that is there all the time is
-    /// found exactly once.
+    /// end. Between two calls timers may be started, stopped, restarted and taken: one that is there all the
+    /// time, or is restarted, is found exactly once.
     pub fn visit(&self, cursor: &mut usize) -> Option<(Handle, Timer)> {
         let mut handle = Handle { place: 0, serial: 0 };
         let mut timer = Timer::default();
@@ -283,6 +300,24 @@ impl Timers {
         written(|passed| unsafe { timers_advance(&mut self.held, most, passed) })
     }
 
+    /// Passes the ticks up to this one, or up to the first at which a timer expires. Does nothing if it is not
+    /// after now. `Due`, `ClockEnd`.
+    pub fn advance_to(&mut self, tick: u64) -> Result<(), Error> {
+        Error::of(unsafe { timers_advance_to(&mut self.held, tick) })
+    }
+
+    /// Takes the next timer that is due by this tick, and passes the ticks up to it. With `None` the ticks up to
+    /// `tick` have passed, as far as the clock has them. A tick before now is none to pass.
+    pub fn take(&mut self, tick: u64) -> Option<Timer> {
+        let mut timer = Timer::default();
+        unsafe { timers_take(&mut self.held, tick, &mut timer) }.then_some(timer)
+    }
+
+    /// Drops all timers, pending and expired. Their actions are not returned.
+    pub fn clear(&mut self) {
+        unsafe { timers_clear(&mut self.held) }
+    }
+
     /// Takes the first of the expired timers.
     pub fn expire(&mut self) -> Option<Timer> {
         let mut timer = Timer::default();
@@ -298,18 +333,19 @@ impl Timers {
 
     /// Passes the ticks up to `now`, and calls `run` for each timer that expires on the way. It takes them one at
     /// a time: what `run` stops does not come out. It returns only once nothing is due: a `run` that always
-    /// starts a timer which is due at once keeps it from returning. `ClockEnd` once the last tick is before
-    /// `now`.
+    /// starts a timer which is due at once keeps it from returning. With a tick before the present one it does
+    /// nothing. `TooLate` if `now` is after the last tick: then nothing was run.
     pub fn catch_up(&mut self, now: u64, mut run: impl FnMut(&mut Timers, Timer)) -> Result<(), Error> {
-        loop {
-            while let Some(timer) = self.expire() {
-                run(self, timer);
-            }
-            if self.now() >= now {
-                return Ok(());
-            }
-            self.advance(now - self.now())?;
+        if now > self.last_tick {
+            return Err(Error::TooLate);
         }
+        if now < self.now() {
+            return Ok(());
+        }
+        while let Some(timer) = self.take(now) {
+            run(self, timer);
+        }
+        Ok(())
     }
 
     /// Whether an expired timer was not yet taken.

@@ -1,9 +1,10 @@
 /* Random calls of timers.hpp against a sorted map, of deadline and serial to action. Then its edges and its memory.
- * It is linked with --wrap=malloc,--wrap=realloc, so that it can refuse memory. */
+ * It is linked with --wrap=malloc,--wrap=realloc,--wrap=free: so it can refuse memory, and count the library's blocks. */
 #include <algorithm>
 #include <chrono>
 #include <cstdint>
 #include <cstdlib>
+#include <cstring>
 #include <iostream>
 #include <map>
 #include <random>
@@ -25,21 +26,30 @@ using ticks = Timers::ticks;
 	} while (false)
 
 static bool refusing;
+static long blocks;     /* that were allocated and not freed */
 
 extern "C" {
 void *__real_malloc(std::size_t size);
 void *__real_realloc(void *block, std::size_t size);
+void __real_free(void *block);
 void *__wrap_malloc(std::size_t size)
 {
+	blocks += !refusing;
 	return refusing ? nullptr : __real_malloc(size);
 }
 void *__wrap_realloc(void *block, std::size_t size)
 {
+	blocks += !refusing && !block;
 	return refusing ? nullptr : __real_realloc(block, size);
+}
+void __wrap_free(void *block)
+{
+	blocks -= block != nullptr;
+	__real_free(block);
 }
 }
 
-static_assert(sizeof(Timers) == 24);
+static_assert(sizeof(Timers) == 32);
 static_assert(!std::is_copy_constructible_v<Timers> && !std::is_copy_assignable_v<Timers>);
 static_assert(std::is_nothrow_move_constructible_v<Timers> && std::is_nothrow_move_assignable_v<Timers>);
 
@@ -55,72 +65,171 @@ static enum timers_status refusal(Call call)
 	return TIMERS_OK;
 }
 
+/* The timers that are held, by deadline and serial, and handles, dead ones too, with the deadlines of their timers. */
+struct model {
+	std::map<std::pair<ticks, std::uint64_t>, const int *> held;
+	std::vector<std::pair<timing::handle, ticks>> handles;
+
+	void add(timing::handle h, ticks deadline, const int *action)
+	{
+		HOLDS(held.emplace(std::make_pair(deadline, h.serial()), action).second);
+	}
+
+	/* The first timer of the model is this one, and is taken. */
+	void take_first(const Timers::expired &timer)
+	{
+		HOLDS(!held.empty());
+		const auto &[key, action] = *held.begin();
+		HOLDS(key == std::make_pair(timer.deadline, timer.serial) && action == timer.action);
+		held.erase(held.begin());
+	}
+};
+
+static std::mt19937 lots(7);
+
+static ticks random_tick(ticks now)
+{
+	return lots() % 4 ? now + ticks(1 + lots() % 3000) : ticks(lots() % (now.count() + 1));
+}
+
+static void start_one(Timers &timers, model &m, const int *action)
+{
+	const ticks now = timers.now(), interval(1 + lots() % 3000), tick = random_tick(now);
+	timing::handle h;
+	switch (lots() % 3) {
+	case 0:
+		h = timers.start(interval, action);
+		m.handles.push_back({ h, now + interval });
+		break;
+	case 1:
+		h = timers.start_at(tick, action);
+		m.handles.push_back({ h, std::max(tick, now) });     /* at once, if it is not after now */
+		break;
+	default:
+		timers.set_at(h, tick, action);
+		m.handles.push_back({ h, std::max(tick, now) });
+	}
+	m.add(h, m.handles.back().second, action);
+}
+
+/* Looks at the timer of a handle, which may be dead, and stops or restarts it. */
+static void change_one(Timers &timers, model &m, const int *action)
+{
+	auto &[h, deadline] = m.handles[lots() % m.handles.size()];
+	const auto found = m.held.find({ deadline, h.serial() });
+	const bool there = found != m.held.end();
+	const auto seen = timers.look(h);
+	HOLDS(seen.has_value() == there);
+	HOLDS(!there || (seen->deadline == deadline && seen->serial == h.serial() && seen->action == found->second));
+	const ticks now = timers.now(), interval(1 + lots() % 3000), tick = random_tick(now);
+	const timing::handle old = h;
+	bool started = there;
+	switch (lots() % 4) {
+	case 0: {
+		const auto stopped = timers.stop(h);
+		HOLDS(stopped.has_value() == there && (!there || *stopped == found->second));
+		started = false;
+		break;
+	}
+	case 1:
+		HOLDS(timers.restart(h, interval, action) == there);
+		deadline = there ? now + interval : deadline;
+		break;
+	case 2:
+		HOLDS(timers.restart_at(h, tick, action) == there);
+		deadline = there ? std::max(tick, now) : deadline;
+		break;
+	default:
+		timers.set_at(h, tick, action);
+		deadline = std::max(tick, now);
+		started = true;
+	}
+	HOLDS((h == old) != started && !(started && timers.look(old)));
+	if (there)
+		m.held.erase(found);
+	if (started)
+		m.add(h, deadline, action);
+}
+
+/* Passes ticks, and takes what expires: by catch_up, one take, or an advance. */
+static void pass_some(Timers &timers, model &m)
+{
+	const ticks now = timers.now(), until = now + ticks(lots() % 200);
+	switch (lots() % 3) {
+	case 0:
+		timers.catch_up(until, [&](const Timers::expired &timer) {
+			HOLDS(timer.deadline <= until && timer.deadline == timers.now());
+			m.take_first(timer);
+		});
+		HOLDS(timers.now() == until && (m.held.empty() || m.held.begin()->first.first > until));
+		break;
+	case 1: {
+		const bool some = !m.held.empty() && m.held.begin()->first.first <= until;
+		const auto taken = timers.take(until);
+		HOLDS(taken.has_value() == some && timers.now() == (some ? taken->deadline : until));
+		if (taken)
+			m.take_first(*taken);
+		break;
+	}
+	default:
+		if (timers.has_due())
+			return;
+		timers.advance_to(until);
+		HOLDS(timers.now() == (m.held.empty() ? until : std::min(until, m.held.begin()->first.first)));
+	}
+	timers.advance_to(now);
+	HOLDS(timers.now() >= now);
+}
+
+static void compare_state(const Timers &timers, const model &m)
+{
+	const auto next = timers.next(), wakeup = timers.wakeup();
+	const auto later = m.held.lower_bound({ timers.now() + ticks(1), 0 });
+	HOLDS(timers.size() == static_cast<std::size_t>(std::distance(later, m.held.end())));
+	HOLDS(timers.has_due() == (later != m.held.begin()));
+	HOLDS(next.has_value() == !m.held.empty() && wakeup.has_value() == !m.held.empty());
+	HOLDS(!next || *next == m.held.begin()->first.first);
+	HOLDS(!next || (timers.has_due() ? *wakeup == timers.now() : timers.now() < *wakeup && *wakeup <= *next));
+}
+
+/* Each timer is visited once. The handles are kept and compared after the visit, and each names its own timer. */
+static void visit_all(const Timers &timers, const model &m)
+{
+	std::vector<std::pair<timing::handle, Timers::expired>> visited;
+	timers.each([&](timing::handle h, const Timers::expired &timer) { visited.push_back({ h, timer }); });
+	auto left = m.held;
+	for (const auto &[h, timer] : visited) {
+		HOLDS(h.serial() == timer.serial && timers.look(h)->serial == timer.serial);
+		HOLDS(left.at({ timer.deadline, timer.serial }) == timer.action);
+		left.erase({ timer.deadline, timer.serial });
+	}
+	HOLDS(left.empty());
+}
+
 static void compare(unsigned calls)
 {
-	std::mt19937 random(7);
-	std::map<std::pair<ticks, std::uint64_t>, const int *> pending;
-	std::vector<std::pair<timing::handle, ticks>> handles;     /* dead ones too, with their deadlines */
 	const int numbers[100] = {};
+	model m;
 	Timers timers(TIMERS_WIDE, 1000ms);
 	for (unsigned i = 0; i < calls; i++) {
-		const ticks now = timers.now(), interval(1 + random() % 3000);
-		const ticks tick = random() % 4 ? now + interval : ticks(random() % (now.count() + 1));
-		const ticks tick_due = std::max(tick, now);          /* at once, if it is not after now */
-		const int *action = &numbers[random() % 100];
-		const auto which = random() % 5;
-		if (random() % 64 == 0)
-			timers.reserve(random() % 1000);
-		if (which < 2 || handles.empty()) {
-			const timing::handle h = which ? timers.start(interval, action) : timers.start_at(tick, action);
-			const ticks deadline = which ? now + interval : tick_due;
-			pending[{ deadline, h.serial() }] = action;
-			handles.push_back({ h, deadline });
-		} else if (which < 4) {
-			auto &[h, deadline] = handles[random() % handles.size()];
-			const auto found = pending.find({ deadline, h.serial() });
-			const bool there = found != pending.end();
-			const auto seen = timers.look(h);
-			HOLDS(seen.has_value() == there);
-			HOLDS(!there || (seen->deadline == deadline && seen->action == found->second));
-			if (which == 2) {
-				const auto stopped = timers.stop(h);
-				HOLDS(stopped.has_value() == there && (!there || *stopped == found->second));
-			} else {
-				const timing::handle old = h;
-				const bool at_tick = random() % 2;
-				const bool restarted = at_tick ? timers.restart_at(h, tick, action) : timers.restart(h, interval, action);
-				HOLDS(restarted == there && (h == old) != there);
-				if (there) {
-					deadline = at_tick ? tick_due : now + interval;
-					pending[{ deadline, h.serial() }] = action;
-				}
-			}
-			if (there)
-				pending.erase(found);
-		} else {
-			const ticks until = now + ticks(random() % 200);
-			timers.catch_up(until, [&](const Timers::expired &timer) {
-				HOLDS(!pending.empty() && timer.deadline <= until && timer.deadline == timers.now());
-				const auto &[key, first] = *pending.begin();
-				HOLDS(key == std::make_pair(timer.deadline, timer.serial) && first == timer.action);
-				pending.erase(pending.begin());
-			});
-			HOLDS(timers.now() == until && (pending.empty() || pending.begin()->first.first > until));
+		const int *action = &numbers[lots() % 100];
+		const auto which = lots() % 5;
+		if (lots() % 64 == 0)
+			timers.reserve(lots() % 1000);
+		if (which < 2 || m.handles.empty())
+			start_one(timers, m, action);
+		else if (which < 4)
+			change_one(timers, m, action);
+		else
+			pass_some(timers, m);
+		if (lots() % 2000 == 0) {
+			timers.clear();
+			m.held.clear();
 		}
-		const auto next = timers.next(), wakeup = timers.wakeup();
-		const auto later = pending.lower_bound({ timers.now() + ticks(1), 0 });
-		HOLDS(timers.size() == static_cast<std::size_t>(std::distance(later, pending.end())));
-		HOLDS(timers.has_due() == (later != pending.begin()));
-		HOLDS(next.has_value() == !pending.empty() && wakeup.has_value() == !pending.empty());
-		HOLDS(!next || *next == pending.begin()->first.first);
-		HOLDS(!next || (timers.has_due() ? *wakeup == timers.now() : timers.now() < *wakeup && *wakeup <= *next));
+		compare_state(timers, m);
 	}
-	timers.each([&](timing::handle h, const Timers::expired &timer) {
-		HOLDS(h.serial() == timer.serial && pending.at({ timer.deadline, timer.serial }) == timer.action);
-		pending.erase({ timer.deadline, timer.serial });
-	});
-	HOLDS(pending.empty());
-	std::cout << calls << " calls agree\n";
+	visit_all(timers, m);
+	std::cout << calls << " calls agree, " << m.held.size() << " timers are held\n";
 }
 
 static void round_intervals()
@@ -171,12 +280,20 @@ static void meet_the_edges()
 	HOLDS(moved.size() == 1 && timers.size() == 0 && !timers.stop(first));
 	HOLDS(refusal([&] { timers.start(1ms, &number); }) == TIMERS_NOT_OPEN);
 	HOLDS(refusal([&] { timers.counts(); }) == TIMERS_NOT_OPEN);
+	HOLDS(refusal([&] { timers.catch_up(ticks(9), [](const auto &) {}); }) == TIMERS_NOT_OPEN);
+	HOLDS(refusal([&] { timers.advance_to(ticks(9)); }) == TIMERS_NOT_OPEN && !timers.take(ticks(9)));
+	HOLDS(refusal([&] { timers.set_at(first, ticks(9), &number); }) == TIMERS_NOT_OPEN);
+	timers.clear();
 	timers = std::move(moved);
 	Timers &same = timers;
 	timers = std::move(same);
 	HOLDS(timers.stop(first) == &number);
-	HOLDS(refusal([&] { timers.catch_up(ticks(8640000), [](const auto &) {}); }) == TIMERS_CLOCK_END);
-	HOLDS(timers.now().count() == 8639999);
+	timers.catch_up(ticks(8639999), [](const auto &) {});
+	HOLDS(timers.now().count() == 8639999 && refusal([&] { timers.tick(); }) == TIMERS_CLOCK_END);
+	HOLDS(timers.advance(ticks(0)) == ticks(0));
+	HOLDS(refusal([&] { timers.advance_to(ticks(8640000)); }) == TIMERS_CLOCK_END);
+	timers.advance_to(timers.now());
+	HOLDS(!timers.take(ticks::max()));
 	HOLDS(refusal([&] { timers.start_at(timers.now(), &number); }) == TIMERS_TOO_LATE);
 	HOLDS(refusal([&] { timers.start_at(ticks(0), &number); }) == TIMERS_TOO_LATE);
 
@@ -189,6 +306,138 @@ static void meet_the_edges()
 	counters.catch_up(1min, [](const auto &timer) { timer.action(); });
 	HOLDS(runs == 2);
 	std::cout << "the edges are as the header says\n";
+}
+
+/* A real time that is before the clock passes no tick, and runs nothing. One after the end of the clock is refused,
+ * and nothing has run. */
+static void catch_up_with_other_times()
+{
+	unsigned ran = 0;
+	const auto run = [&ran](const Timers::expired &) { ran++; };
+	Timers timers(TIMERS_CLOCK, ticks(1000));
+	timers.start(500ms, nullptr);
+	timers.catch_up(ticks(999), run);
+	timers.catch_up(ticks(0), run);
+	timers.advance_to(ticks(3));
+	HOLDS(timers.now() == ticks(1000) && timers.size() == 1);
+	timers.start_at(ticks(0), nullptr);
+	timers.catch_up(ticks(999), run);
+	HOLDS(ran == 0 && timers.has_due());
+	HOLDS(refusal([&] { timers.catch_up(ticks(8640000), run); }) == TIMERS_TOO_LATE);
+	HOLDS(refusal([&] { timers.catch_up(ticks::max(), run); }) == TIMERS_TOO_LATE);
+	HOLDS(ran == 0 && timers.has_due() && timers.now() == ticks(1000) && timers.size() == 1);
+	timers.catch_up(ticks(1000), run);
+	HOLDS(ran == 1 && !timers.has_due() && timers.now() == ticks(1000));
+	timers.catch_up(ticks(8639999), run);
+	HOLDS(ran == 2 && timers.now() == ticks(8639999));
+	Timers wide;
+	HOLDS(refusal([&] { wide.catch_up(ticks(TIMERS_LAST + 1), run); }) == TIMERS_TOO_LATE && wide.now() == ticks(0));
+	Timers moved(TIMERS_CLOCK);
+	moved = std::move(wide);
+	moved.catch_up(ticks(TIMERS_LAST), run);
+	HOLDS(moved.now() == ticks(TIMERS_LAST));
+}
+
+/* What `run` throws leaves catch_up. The timer is taken, and the others of its tick are not. */
+static void throw_from_a_run()
+{
+	Timers timers;
+	for (int i = 0; i < 100; i++)
+		timers.start(5ms, nullptr);
+	unsigned ran = 0, thrown = 0;
+	const auto run = [&ran](const Timers::expired &timer) {
+		HOLDS(timer.serial == ++ran);
+		if (ran % 3 == 0)
+			throw ran;
+	};
+	for (int tries = 0; tries < 34; tries++) {
+		try {
+			timers.catch_up(ticks(9), run);
+		} catch (unsigned at) {
+			thrown++;
+			HOLDS(at == 3 * thrown && timers.now() == ticks(5) && timers.has_due() == (at < 100));
+		}
+	}
+	HOLDS(ran == 100 && thrown == 33 && timers.now() == ticks(9) && !timers.has_due());
+}
+
+/* Leaves ones on the stack, where a call puts its action next. */
+static void fill_the_stack()
+{
+	volatile unsigned char ones[256];
+	for (volatile unsigned char &byte : ones)
+		byte = 0xff;
+}
+
+/* The word of C is the bytes of the action, and 0 in those that the action lacks. The action comes back. */
+template <class Action>
+static void keep(Action action, std::uint64_t word)
+{
+	timing::timers<std::chrono::milliseconds, Action> timers;
+	timing::handle h;
+	const auto holds_word = [&] {
+		timers_expired seen;
+		HOLDS(timers_look(timers.raw(), h.raw(), &seen) == TIMERS_OK && seen.action == word);
+		const auto looked = timers.look(h);
+		HOLDS(looked && std::memcmp(&looked->action, &action, sizeof action) == 0);
+	};
+	fill_the_stack();
+	h = timers.start(1ms, action);
+	holds_word();
+	fill_the_stack();
+	HOLDS(timers.restart(h, 2ms, action));
+	holds_word();
+	fill_the_stack();
+	timers.set_at(h, ticks(3), action);
+	holds_word();
+	const auto taken = timers.take(ticks(3));
+	HOLDS(taken && std::memcmp(&taken->action, &action, sizeof action) == 0);
+}
+
+static void keep_small_actions()
+{
+	struct three { unsigned char bytes[3]; };
+	enum class color : std::uint16_t { red = 0x1234 };
+	keep<unsigned char>(0xab, 0xab);
+	keep<std::uint16_t>(0xfffe, 0xfffe);
+	keep<std::uint32_t>(0xfedcba98, 0xfedcba98);
+	keep<std::uint64_t>(0xfedcba9876543210, 0xfedcba9876543210);
+	keep<std::int32_t>(-1, 0xffffffff);
+	keep<color>(color::red, 0x1234);
+	keep<three>({ { 1, 2, 3 } }, 0x030201);
+}
+
+/* What a move leaves behind, or is put in place of, is freed, and nothing is freed twice. */
+static void own_one_at_a_time()
+{
+	const long before = blocks;
+	{
+		Timers first;
+		first.start(5ms, nullptr);
+		const long of_one = blocks - before;
+		HOLDS(of_one > 0);
+		Timers second(std::move(first));
+		HOLDS(blocks == before + of_one && second.size() == 1);
+		Timers third;
+		third.start(6ms, nullptr);
+		HOLDS(blocks == before + 2 * of_one);
+		third = std::move(second);
+		HOLDS(blocks == before + of_one && third.size() == 1 && *third.next() == ticks(5));
+		first = std::move(third);
+		HOLDS(blocks == before + of_one && first.size() == 1);
+		first.clear();
+		HOLDS(blocks == before + of_one && first.size() == 0);
+		first = Timers();
+		HOLDS(blocks < before + of_one);
+	}
+	HOLDS(blocks == before);
+	std::vector<Timers> several;
+	for (int i = 0; i < 20; i++)          /* the vector moves those that it has */
+		several.emplace_back().start(1ms, nullptr);
+	several.erase(several.begin(), several.begin() + 7);
+	HOLDS(several.size() == 13 && several.front().size() == 1);
+	several.clear();
+	HOLDS(blocks == before);
 }
 
 /* 61 seconds are 1 minute and 1 second, so that timer moves from the minutes to the seconds at second 60. Visits are
@@ -257,6 +506,10 @@ int main()
 	compare(20000);
 	round_intervals();
 	meet_the_edges();
+	catch_up_with_other_times();
+	throw_from_a_run();
+	keep_small_actions();
+	own_one_at_a_time();
 	count_the_moves();
 	run_out_of_memory();
 	make_room();

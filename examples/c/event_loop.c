@@ -77,15 +77,9 @@ static void run(uint64_t job)
 static void catch_up(uint64_t now)
 {
 	struct timers_expired expired;
-	uint64_t passed;
-	for (;;) {
-		while (timers_expire(&timers, &expired)) {
-			printf("%3" PRIu64 " ms: %s\n", expired.deadline, jobs[expired.action].name);
-			run(expired.action);        /* it may start, restart and stop timers while others still wait */
-		}
-		if (timers_now(&timers) >= now)
-			return;
-		check(timers_advance(&timers, now - timers_now(&timers), &passed), "timers_advance");
+	while (timers_take(&timers, now, &expired)) {
+		printf("%3" PRIu64 " ms: %s\n", expired.deadline, jobs[expired.action].name);
+		run(expired.action);        /* it may start, restart and stop timers while others still wait */
 	}
 }
 

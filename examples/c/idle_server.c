@@ -134,17 +134,11 @@ static void play_client(struct connection *c, uint64_t now)
 static void catch_up(uint64_t now)
 {
 	struct timers_expired expired;
-	uint64_t passed;
-	for (;;) {
-		while (timers_expire(&timers, &expired))
-			if (expired.action % 2)
-				play_client(&connections[expired.action / 2], expired.deadline);
-			else
-				time_out(&connections[expired.action / 2]);
-		if (timers_now(&timers) >= now)
-			return;
-		check(timers_advance(&timers, now - timers_now(&timers), &passed), "advance");
-	}
+	while (timers_take(&timers, now, &expired))
+		if (expired.action % 2)
+			play_client(&connections[expired.action / 2], expired.deadline);
+		else
+			time_out(&connections[expired.action / 2]);
 }
 
 static void connect_client(struct connection *c, struct kind *kind, int poller)

@@ -88,14 +88,8 @@ static void begin_anew(void)
 static void catch_up(uint64_t tick)
 {
 	struct timers_expired expired;
-	uint64_t passed;
-	for (;;) {
-		while (timers_expire(&timers, &expired))
-			run((struct job *)(uintptr_t)expired.action);
-		if (timers_now(&timers) >= tick)
-			return;
-		check(timers_advance(&timers, tick - timers_now(&timers), &passed), "timers_advance");
-	}
+	while (timers_take(&timers, tick, &expired))
+		run((struct job *)(uintptr_t)expired.action);
 }
 
 static uint64_t least(uint64_t one, uint64_t other)

@@ -96,7 +96,7 @@ static void attempt_again(unsigned number)
 	struct sent *s = &sent[number];
 	s->waited += s->wait;
 	if (milliseconds() < s->first_at + s->waited)
-		die("timers_expire", "too early");
+		die("timers_take", "too early");
 	s->wait = 2 * s->wait < LONGEST_WAIT ? 2 * s->wait : LONGEST_WAIT;
 	attempt(number);
 }
@@ -142,14 +142,8 @@ static void take_acknowledgements(void)
 static void catch_up(uint64_t now)
 {
 	struct timers_expired expired;
-	uint64_t passed;
-	for (;;) {
-		while (timers_expire(&timers, &expired))
-			attempt_again((unsigned)expired.action);
-		if (timers_now(&timers) >= now)
-			return;
-		check(timers_advance(&timers, now - timers_now(&timers), &passed), "timers_advance");
-	}
+	while (timers_take(&timers, now, &expired))
+		attempt_again((unsigned)expired.action);
 }
 
 static int patience(uint64_t now)

@@ -91,6 +91,17 @@ static uint64_t moves_of(const struct entry *e)
 	return moves;
 }
 
+/* The tick at which this pending timer expires or moves to a lower wheel: that at which its bucket is emptied. */
+static uint64_t next_call_of(const struct entry *e)
+{
+	for (uint64_t i = 0; i < wheels; i++) {
+		uint64_t emptied = e->deadline / units[i] * units[i];
+		if (emptied != now / units[i] * units[i])
+			return emptied;
+	}
+	return now;
+}
+
 static void insert(struct entry e)
 {
 	if (count == room) {
@@ -193,20 +204,35 @@ static uint64_t statuses[11], starts, restarts, stops, expiries, ticks, refused_
 
 /* Cases that should occur in each run; the last two if allocations are refused. */
 enum {
-	REVIVALS, WITHDRAWALS, VISITS, EARLY_WAKEUPS, MOVES, PASSED_STARTS, PASSED_RESTARTS, PASSED_REVIVALS,
-	PASSED_AT_THE_END, RESERVES, STARTS_IN_RESERVE, REFUSED_STARTS, REFUSED_RESERVES,
+	REVIVALS, WITHDRAWALS, VISITS, VISITED_LATER, EARLY_WAKEUPS, MOVES, PASSED_STARTS, PASSED_RESTARTS,
+	PASSED_REVIVALS, PASSED_AT_THE_END, SET_STARTS, SET_RESTARTS, SET_REVIVALS, REFUSED_SETS, ADVANCES_TO_PASSED,
+	ADVANCES_TO_WHILE_DUE, TAKES, TAKES_THAT_PASS, TAKES_OF_NONE, TAKES_BY_PASSED, CLEARS, NO_TICKS, RESERVES,
+	STARTS_IN_RESERVE, REFUSED_STARTS, REFUSED_RESERVES,
 	CASES = REFUSES ? REFUSED_RESERVES + 1 : REFUSED_STARTS
 };
 static const char *const names[] = {
 	[REVIVALS] = "restarts of expired timers",
 	[WITHDRAWALS] = "stops of expired timers",
 	[VISITS] = "visits of all timers",
+	[VISITED_LATER] = "timers that were restarted before a visit came to them",
 	[EARLY_WAKEUPS] = "wake-ups before the next deadline",
 	[MOVES] = "looks at counts with moves",
 	[PASSED_STARTS] = "starts for ticks not after now",
 	[PASSED_RESTARTS] = "restarts for ticks not after now",
 	[PASSED_REVIVALS] = "those of expired timers",
 	[PASSED_AT_THE_END] = "such ticks at the last one",
+	[SET_STARTS] = "starts by timers_set_at",
+	[SET_RESTARTS] = "restarts by it",
+	[SET_REVIVALS] = "those of expired timers",
+	[REFUSED_SETS] = "refusals by it that kept a timer",
+	[ADVANCES_TO_PASSED] = "advances to a tick that is not after now",
+	[ADVANCES_TO_WHILE_DUE] = "those while timers wait",
+	[TAKES] = "takes of timers that wait",
+	[TAKES_THAT_PASS] = "takes that passed ticks",
+	[TAKES_OF_NONE] = "takes of none",
+	[TAKES_BY_PASSED] = "takes by a tick before now",
+	[CLEARS] = "clears of pending and expired timers",
+	[NO_TICKS] = "advances by no tick that a reason would have refused",
 	[RESERVES] = "reserves",
 	[STARTS_IN_RESERVE] = "starts with room by reserve alone",
 	[REFUSED_STARTS] = "starts without memory",
@@ -271,7 +297,7 @@ static void do_start(struct timers *t)
 static void do_reserve(struct timers *t)
 {
 	size_t most = below(4) ? count + (size_t)below(200) : (size_t)below(2 * count + 2);
-	may_allocate = reserved == 0 || most > room_for();
+	may_allocate = most > reserved;
 	enum timers_status status = WITH_REFUSALS(timers_reserve(t, most));
 	WANT("reserve", status, may_allocate && refused > refused_before ? TIMERS_NO_MEMORY : TIMERS_OK);
 	if (status == TIMERS_OK)
@@ -302,6 +328,38 @@ static void do_restart(struct timers *t)
 	} else {
 		WANT("new handle kept", restarted.place == 11 && restarted.serial == 12, 1);
 	}
+}
+
+/* A start, or a restart if the handle names a timer. */
+static void do_set_at(struct timers *t)
+{
+	struct when when = random_when();
+	uint64_t action = next_random();
+	struct timers_handle handle, old;
+	size_t at = random_handle(&handle);
+	when.at_tick = true;
+	if (at == count && below(2))
+		handle = (struct timers_handle){ 0, 0 };
+	old = handle;
+	enum timers_status wanted = wanted_for(when);
+	may_allocate = at == count && count >= room_for();
+	enum timers_status status = WITH_REFUSALS(timers_set_at(t, &handle, when.number, action));
+	if (wanted == TIMERS_OK && may_allocate && refused > refused_before)
+		wanted = TIMERS_NO_MEMORY;
+	WANT("set", status, wanted);
+	seen(status);
+	occurs(REFUSED_SETS, status != TIMERS_OK && at < count);
+	if (status != TIMERS_OK) {
+		WANT("handle to set kept", handle.place == old.place && handle.serial == old.serial, 1);
+		return;
+	}
+	occurs(SET_STARTS, at == count);
+	occurs(SET_RESTARTS, at < count);
+	occurs(SET_REVIVALS, at < due);
+	if (at < count)
+		take_out(at);
+	add(when, handle, action);
+	WANT("the handle before", timers_stop(t, old, &action), TIMERS_NOT_PENDING);
 }
 
 static void do_stop(struct timers *t)
@@ -352,33 +410,71 @@ static void do_tick(struct timers *t)
 	}
 }
 
+/* The tick to which the clock comes on the way to this one: that of the first deadline, or the last. */
+static uint64_t stop_before(uint64_t tick)
+{
+	uint64_t stop = tick < last_tick ? tick : last_tick;
+	return count > 0 && list[0].deadline < stop ? list[0].deadline : stop;
+}
+
+/* The clock of the model comes to this tick. */
+static void pass_to(uint64_t tick)
+{
+	uint64_t slots = units[wheels - 2], first = now;
+	now = tick;
+	ticks += now - first;
+	if (now == first)
+		return;
+	count_due();
+	counted.visits += now / slots - first / slots + (due > 0 && now % slots > 0);
+}
+
+/* The status of passing ticks. For none there is no reason to refuse it. */
+static enum timers_status wanted_to_pass(bool some)
+{
+	return !some ? TIMERS_OK : due ? TIMERS_DUE : now == last_tick ? TIMERS_CLOCK_END : TIMERS_OK;
+}
+
 static void advance_by(struct timers *t, uint64_t most)
 {
-	uint64_t passed = 14, wanted = most;
+	uint64_t passed = 14;
 	enum timers_status status = timers_advance(t, most, &passed);
-	WANT("advance", status, due ? TIMERS_DUE : now == last_tick ? TIMERS_CLOCK_END : TIMERS_OK);
+	WANT("advance", status, wanted_to_pass(most > 0));
 	seen(status);
+	occurs(NO_TICKS, most == 0 && (due > 0 || now == last_tick));
 	if (status != TIMERS_OK) {
 		WANT("passed kept", passed, 14);
 		return;
 	}
-	if (wanted > last_tick - now)
-		wanted = last_tick - now;
-	if (count > 0 && list[0].deadline - now < wanted)
-		wanted = list[0].deadline - now;
-	WANT("ticks passed", passed, wanted);
-	uint64_t slots = units[wheels - 2], first = now;
-	now += wanted;
-	ticks += wanted;
-	if (wanted > 0) {
-		count_due();
-		counted.visits += now / slots - first / slots + (due > 0 && now % slots > 0);
-	}
+	uint64_t stop = most == 0 ? now : stop_before(most > last_tick - now ? last_tick : now + most);
+	WANT("ticks passed", passed, stop - now);
+	pass_to(stop);
 }
 
 static void do_advance(struct timers *t)
 {
 	advance_by(t, below(8) ? below(200) : next_random() >> below(64));
+}
+
+/* A tick to advance to: one in four is not after now, and few are after the last one. */
+static uint64_t random_tick(void)
+{
+	uint64_t ahead = below(8) ? below(200) : next_random() >> below(64);
+	if (below(4) == 0)
+		return below(2) ? now : below(now + 1);
+	return ahead > UINT64_MAX - now ? UINT64_MAX : now + ahead;
+}
+
+static void do_advance_to(struct timers *t)
+{
+	uint64_t tick = random_tick();
+	enum timers_status status = timers_advance_to(t, tick);
+	WANT("advance to", status, wanted_to_pass(tick > now));
+	seen(status);
+	occurs(ADVANCES_TO_PASSED, tick <= now);
+	occurs(ADVANCES_TO_WHILE_DUE, tick <= now && due > 0);
+	if (status == TIMERS_OK && tick > now)
+		pass_to(stop_before(tick));
 }
 
 static void want_first(const struct timers_expired *e)
@@ -399,6 +495,40 @@ static void do_expire(struct timers *t)
 		want_first(&e);
 	else
 		WANT("out kept", e.deadline == 21 && e.serial == 22 && e.action == 23, 1);
+}
+
+/* Takes the next timer that is due by a tick. None is due before the clock comes to it, and nothing after it is taken. */
+static void do_take(struct timers *t)
+{
+	struct timers_expired e = { 21, 22, 23 };
+	uint64_t tick = random_tick(), first = now;
+	bool waits = due > 0;
+	occurs(TAKES_BY_PASSED, tick < now);
+	if (!waits && tick > now)
+		pass_to(stop_before(tick));
+	bool some = timers_take(t, tick, &e);
+	WANT("take", some, due > 0);
+	occurs(TAKES, waits);
+	occurs(TAKES_THAT_PASS, some && now > first);
+	occurs(TAKES_OF_NONE, !some && now > first);
+	if (some)
+		want_first(&e);
+	else
+		WANT("out of the take kept", e.deadline == 21 && e.serial == 22 && e.action == 23, 1);
+}
+
+/* Drops all timers: their handles are dead, and all else is as it was. */
+static void do_clear(struct timers *t)
+{
+	struct timers_handle handle = { 0, 0 };
+	struct timers_expired e;
+	if (count > 0)
+		handle = (struct timers_handle){ list[count - 1].place, list[count - 1].serial };
+	occurs(CLEARS, due > 0 && count > due);
+	timers_clear(t);
+	while (count > 0)
+		take_out(count - 1);
+	WANT("look after a clear", timers_look(t, handle, &e), TIMERS_NOT_PENDING);
 }
 
 static void do_expire_batch(struct timers *t)
@@ -424,7 +554,7 @@ static void look(struct timers *t)
 	else if (count == 0)
 		WANT("wake-up when nothing is pending", wakeup, TIMERS_NEVER);
 	else
-		WANT("wake-up in time", wakeup > now && wakeup <= list[0].deadline, 1);
+		WANT("wake-up", wakeup, next_call_of(&list[0]));
 	WANT("next deadline", next, count == 0 ? TIMERS_NEVER : list[0].deadline);
 	occurs(EARLY_WAKEUPS, wakeup < next);
 }
@@ -443,7 +573,26 @@ static void look_at_counts(struct timers *t)
 	occurs(MOVES, counts.moves > 0);
 }
 
-/* Iterates over all timers, and stops one in eight when it finds it: each is found once, with its deadline and action. */
+/* Restarts a timer while all are visited. It keeps its place: if the visit was there, it does not come again. Else it
+ * comes to the new timer. Returns by how much the sum of squares changes that is still to be found. */
+static uint64_t restart_in_visit(struct timers *t, size_t at, size_t cursor)
+{
+	struct timers_handle handle = { list[at].place, list[at].serial }, old = handle;
+	struct when when = { true, below(2) ? now : now + 1 + below(last_tick - now) };
+	uint64_t action = next_random();
+	if (below(2))
+		WANT("set in a visit", timers_set_at(t, &handle, when.number, action), TIMERS_OK);
+	else
+		WANT("restart in a visit", timers_restart_at(t, handle, when.number, action, &handle), TIMERS_OK);
+	WANT("place of the restarted", handle.place, old.place);
+	take_out(at);
+	add(when, handle, action);
+	restarts++;
+	occurs(VISITED_LATER, old.place >= cursor);
+	return old.place < cursor ? 0 : handle.serial * handle.serial - old.serial * old.serial;
+}
+
+/* Iterates over all timers, and stops and restarts some meanwhile. Each is found once, with its deadline and action. */
 static void do_visit(struct timers *t)
 {
 	size_t cursor = 0, visited = 0, wanted = count;
@@ -465,6 +614,8 @@ static void do_visit(struct timers *t)
 			take_out(at);
 			stops++;
 		}
+		if (count > 0 && now < last_tick && below(4) == 0)
+			wanted_sum += restart_in_visit(t, (size_t)below(count), cursor);
 		e = (struct timers_expired){ 43, 44, 45 };
 	}
 	WANT("visited", visited, wanted);
@@ -486,10 +637,16 @@ static void want_closed(struct timers *t)
 	WANT("restart, not open", timers_restart(t, handle, 1, 1, &handle), TIMERS_NOT_OPEN);
 	WANT("start at, not open", timers_start_at(t, 1, 1, &handle), TIMERS_NOT_OPEN);
 	WANT("restart at, not open", timers_restart_at(t, handle, 1, 1, &handle), TIMERS_NOT_OPEN);
+	WANT("set at, not open", timers_set_at(t, &handle, 1, 1), TIMERS_NOT_OPEN);
 	WANT("look, not open", timers_look(t, handle, &e), TIMERS_NOT_OPEN);
 	WANT("stop, not open", timers_stop(t, handle, &word), TIMERS_NOT_OPEN);
 	WANT("tick, not open", timers_tick(t), TIMERS_NOT_OPEN);
 	WANT("advance, not open", timers_advance(t, 5, &word), TIMERS_NOT_OPEN);
+	WANT("no tick, not open", timers_advance(t, 0, &word), TIMERS_NOT_OPEN);
+	WANT("advance to, not open", timers_advance_to(t, 5), TIMERS_NOT_OPEN);
+	WANT("advance to now, not open", timers_advance_to(t, 0), TIMERS_NOT_OPEN);
+	WANT("take, not open", timers_take(t, 5, &e), false);
+	timers_clear(t);
 	WANT("expire, not open", timers_expire(t, &e), false);
 	WANT("batch, not open", timers_expire_batch(t, &e, 1), 0);
 	WANT("due, not open", timers_has_due(t), false);
@@ -535,8 +692,13 @@ static void go_to_the_end(struct timers *t)
 	WANT("pending at the last tick", timers_len(t), 0);
 	do_tick(t);
 	do_advance(t);
-	for (int i = 0; i < 50; i++)
+	advance_by(t, 0);
+	for (int i = 0; i < 50; i++) {
 		do_start(t);
+		do_set_at(t);
+		do_advance_to(t);
+		do_take(t);
+	}
 	WANT("held at the last tick", count, 0);
 	look(t);
 	look_at_counts(t);
@@ -559,16 +721,22 @@ static const char *missing(void)
 
 static void do_something(struct timers *t)
 {
-	switch (below(20)) {
-	case 0: case 1: case 2: case 3: case 4: case 5: do_start(t); break;
+	switch (below(22)) {
+	case 0: case 1: case 2: case 3: case 4: case 5: case 20: case 21: do_start(t); break;
 	case 6: case 7: do_restart(t); break;
 	case 8: do_stop(t); break;
 	case 9: below(2) ? do_stop(t) : do_look(t); break;
-	case 10: case 11: case 12: do_tick(t); break;
-	case 13: below(8) ? do_advance(t) : do_reserve(t); break;
-	case 14: case 15: do_expire_batch(t); break;
+	case 10: case 11: do_set_at(t); break;
+	case 12: case 13: do_tick(t); break;
+	case 14: below(8) ? do_advance(t) : do_reserve(t); break;
+	case 15: do_advance_to(t); break;
+	case 16: do_expire_batch(t); break;
+	case 17: do_take(t); break;
 	default: do_expire(t);
 	}
+	/* seldom, so that many timers are held in between */
+	if (calls_done % 20000 < 5000 && below(due > 0 && count > due ? 100 : 1000) == 0)
+		do_clear(t);
 	look(t);
 	if (below(1000) == 0) {
 		look_at_counts(t);
@@ -602,8 +770,8 @@ int main(int argc, char **argv)
 		WANT("allocates", allocations > before && !may_allocate, 0);
 		if (calls_done % 20000 == 0)
 			spread = UINT64_C(1) << (3 + below(14));
-		/* Now and then begin anew, with timers pending and due. Serials continue. */
-		if (below(20000) == 0) {
+		/* Now and then begin anew, with timers pending and due, and soon at the end of the clock. Serials continue. */
+		if (below(20000) == 0 || (now == last_tick && below(100) == 0)) {
 			timers_free(&t);
 			open_anew(&t);
 		}

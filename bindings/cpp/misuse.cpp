@@ -1,0 +1,48 @@
+/* Misuses of timers.hpp that the compiler refuses. With MISUSE=0 it compiles, with the others it must not.
+ * tools/c_tests compares what the compiler says with the comment of each. */
+#include <functional>
+#include <memory>
+#include <string>
+#include <utility>
+
+#include <timers.hpp>
+
+using namespace std::chrono_literals;
+
+struct only_moved {
+	int number;
+	only_moved() = default;
+	only_moved(only_moved &&) = default;
+	only_moved &operator=(only_moved &&) = default;
+};
+static_assert(std::is_trivially_copyable_v<only_moved> && !std::is_copy_constructible_v<only_moved>);
+
+struct nine_bytes { char bytes[9]; };
+
+int main()
+{
+	timing::timers<> timers;
+#if MISUSE == 1     /* an action can be copied */
+	timing::timers<std::chrono::milliseconds, std::unique_ptr<int>> others;
+#elif MISUSE == 2   /* an action can be copied */
+	timing::timers<std::chrono::milliseconds, std::string> others;
+#elif MISUSE == 3   /* an action can be copied */
+	timing::timers<std::chrono::milliseconds, only_moved> others;
+#elif MISUSE == 4   /* an action can be copied */
+	timing::timers<std::chrono::milliseconds, nine_bytes> others;
+#elif MISUSE == 5   /* an action can be copied */
+	timing::timers<std::chrono::milliseconds, std::function<void()>> others;
+#elif MISUSE == 6   /* deleted */
+	timing::timers<> others = timers;
+#elif MISUSE == 7   /* deleted */
+	timing::timers<> others;
+	others = timers;
+#elif MISUSE == 8   /* an interval is a whole number */
+	timers.start(std::chrono::duration<double>(1.5), 1);
+#elif MISUSE == 9   /* too far apart */
+	timing::timers<std::chrono::duration<int, std::ratio<1, 4611686014132420609>>> others;
+	others.start(std::chrono::duration<int, std::ratio<1, 1000000007>>(1), 1);
+#else
+	timers.start(1s, 1);
+#endif
+}

@@ -1,0 +1,106 @@
+/* How many bytes the timers take: what timers.h says of it under MEMORY.
+ * Link with -Wl,--wrap=malloc,--wrap=realloc,--wrap=free. */
+#include <stdio.h>
+#include <stdlib.h>
+#include <string.h>
+
+#include <timers.h>
+
+static size_t held;     /* the bytes of all blocks */
+static int failed;
+
+void *__real_malloc(size_t size);
+void __real_free(void *block);
+void *__wrap_malloc(size_t size);
+void *__wrap_realloc(void *block, size_t size);
+void __wrap_free(void *block);
+
+/* A block has its size in front of it. */
+void *__wrap_malloc(size_t size)
+{
+	unsigned char *block = __real_malloc(size + 16);
+	if (!block)
+		exit(2);
+	memcpy(block, &size, sizeof size);
+	held += size;
+	return block + 16;
+}
+
+static size_t size_of(const void *block)
+{
+	size_t size = 0;
+	if (block)
+		memcpy(&size, (const unsigned char *)block - 16, sizeof size);
+	return size;
+}
+
+void __wrap_free(void *block)
+{
+	held -= size_of(block);
+	__real_free(block ? (unsigned char *)block - 16 : NULL);
+}
+
+void *__wrap_realloc(void *block, size_t size)
+{
+	size_t before = size_of(block);
+	void *moved = __wrap_malloc(size);
+	if (block)
+		memcpy(moved, block, before < size ? before : size);
+	__wrap_free(block);
+	return moved;
+}
+
+static void is_within(const char *what, size_t timers, size_t got, size_t least, size_t most)
+{
+	if (got < least || got > most) {
+		printf("%s, %zu timers: %zu bytes, not %zu to %zu\n", what, timers, got, least, most);
+		failed = 1;
+	}
+}
+
+/* The buckets take `buckets` bytes, and the first timer as much again. From 1,000 timers on each takes 64 to 130. */
+static void grow(uint32_t table, size_t buckets, size_t most)
+{
+	struct timers t = TIMERS_INIT;
+	struct timers_handle handle;
+	if (timers_new(&t, table, 0) != TIMERS_OK)
+		exit(2);
+	size_t made = held;
+	is_within("new", 0, made, buckets / 10 * 8, buckets / 10 * 12);
+	for (size_t count = 1; count <= most; count++) {
+		if (timers_start(&t, 1 + count % 5000, count, &handle) != TIMERS_OK)
+			exit(2);
+		if (count == 1)
+			is_within("first start", 1, held - made, buckets / 10 * 8, buckets / 10 * 12);
+		if (count >= 1000)
+			is_within("starts", count, held - made, 64 * count, 130 * count);
+	}
+	size_t kept = held;
+	timers_clear(&t);
+	is_within("clear", 0, held, kept, kept);
+	timers_free(&t);
+	is_within("free", 0, held, 0, 0);
+}
+
+/* With room each timer takes 64 bytes, beside the buckets. */
+static void reserve(uint32_t table, size_t buckets, size_t most)
+{
+	struct timers t = TIMERS_INIT;
+	if (timers_new(&t, table, 0) != TIMERS_OK || timers_reserve(&t, most) != TIMERS_OK)
+		exit(2);
+	is_within("reserve", most, held, 64 * most, 64 * most + 3 * buckets);
+	timers_free(&t);
+}
+
+int main(void)
+{
+	static const size_t rooms[] = { 1, 10, 100, 1000, 10000, 100000 };
+	grow(TIMERS_WIDE, 5300, 300000);
+	grow(TIMERS_CLOCK, 2200, 300000);
+	for (size_t i = 0; i < sizeof rooms / sizeof *rooms; i++) {
+		reserve(TIMERS_WIDE, 5300, rooms[i]);
+		reserve(TIMERS_CLOCK, 2200, rooms[i]);
+	}
+	printf(failed ? "it is not as the header says\n" : "the timers take what the header says\n");
+	return failed;
+}
