@@ -1,0 +1,209 @@
+/* A random program over libuv's timers, and its trace.
+ *
+ *     trace SEED STEPS
+ *
+ * The clock and epoll_wait are replaced by functions of this file, so that a seed always gives the same trace with the
+ * same timers. Two builds of libuv agree if their traces do: which callbacks run, in which order and at which time, how
+ * long each poll waits, and what each call returns. */
+#include <errno.h>
+#include <inttypes.h>
+#include <stdio.h>
+#include <stdlib.h>
+#include <string.h>
+#include <sys/epoll.h>
+#include <time.h>
+
+#include <uv.h>
+
+enum { TIMERS = 120, POLLS_A_RUN = 40, CALLS_A_RUN = 400 };
+
+static uv_loop_t loop;
+static uv_timer_t timers[TIMERS];
+static uint64_t random_state, clock_ns;
+static int polls_left, calls_left;
+
+/* xorshift64* */
+static uint64_t random_bits(void)
+{
+	random_state ^= random_state >> 12;
+	random_state ^= random_state << 25;
+	random_state ^= random_state >> 27;
+	return random_state * UINT64_C(2685821657736338717);
+}
+
+static uint64_t below(uint64_t bound) { return (random_bits() >> 11) % bound; }
+
+static void pass_ms(uint64_t ms) { clock_ns += ms * 1000000 + below(1000000); }
+
+int clock_gettime(clockid_t id, struct timespec *now)
+{
+	(void)id;
+	now->tv_sec = (time_t)(clock_ns / 1000000000);
+	now->tv_nsec = (long)(clock_ns % 1000000000);
+	return 0;
+}
+
+/* Mostly waits as long as it may. Sometimes it is late, early, or interrupted, as the real one. */
+int epoll_wait(int fd, struct epoll_event *events, int most, int timeout)
+{
+	(void)fd, (void)events, (void)most;
+	printf("  poll %d\n", timeout);
+	if (timeout < 0)
+		abort();
+	if (--polls_left <= 0)
+		uv_stop(&loop);
+	uint64_t how = below(10), wait = (uint64_t)timeout;
+	if (how == 0)
+		pass_ms(wait + below(300));
+	else if (how == 1)
+		pass_ms(wait / 2);
+	else
+		clock_ns += wait * 1000000;
+	if (how == 2 && timeout > 0) {
+		errno = EINTR;
+		return -1;
+	}
+	return 0;
+}
+
+/* Of each length that a wheel treats in its own way, and some that no clock reaches. */
+static uint64_t some_timeout(void)
+{
+	switch (below(12)) {
+	case 0: return 0;
+	case 1: return 1 + below(3);
+	case 2: case 3: case 4: return below(64);
+	case 5: case 6: return below(5000);
+	case 7: return below(300000);
+	case 8: return 64 * below(100);
+	case 9: return below(UINT64_C(1) << 34);
+	case 10: return below(10) == 0 ? UINT64_MAX - below(3) : 4096 * below(20);
+	default: return 50;
+	}
+}
+
+static void print_timer(const char *did, size_t k, int result)
+{
+	const uv_timer_t *t = &timers[k];
+	printf("%" PRIu64 ": %s %zu: %d, active %d, due in %" PRIu64 ", repeat %" PRIu64 "\n", uv_now(&loop), did, k,
+	       result, uv_is_active((const uv_handle_t *)t), uv_timer_get_due_in(t), uv_timer_get_repeat(t));
+}
+
+static void some_steps(uint64_t most);
+
+static void on_timer(uv_timer_t *t)
+{
+	size_t k = (size_t)(t - timers);
+	print_timer("ran", k, 0);
+	if (--calls_left <= 0) {
+		uv_stop(&loop);
+		uv_timer_stop(t);
+		return;
+	}
+	some_steps(2);
+}
+
+static void on_other(uv_timer_t *t)
+{
+	print_timer("ran the other callback of", (size_t)(t - timers), 0);
+	some_steps(1);
+}
+
+static void init(size_t k)
+{
+	/* What stands in the memory of a new handle is of no consequence. */
+	memset(&timers[k], 0xa5, sizeof timers[k]);
+	print_timer("init", k, uv_timer_init(&loop, &timers[k]));
+}
+
+static void on_close(uv_handle_t *h)
+{
+	size_t k = (size_t)((uv_timer_t *)h - timers);
+	printf("closed %zu\n", k);
+	init(k);
+}
+
+static void count_active(uv_handle_t *h, void *count) { *(int *)count += uv_is_active(h); }
+
+static void start(size_t k)
+{
+	uint64_t timeout = some_timeout(), repeat = below(3) == 0 ? some_timeout() : 0;
+	/* What is due again at once would keep uv_run from ever ending. */
+	if (calls_left <= 0 && timeout == 0)
+		timeout = 1;
+	print_timer("start", k, uv_timer_start(&timers[k], below(4) ? on_timer : on_other, timeout, repeat));
+}
+
+static void step(void)
+{
+	size_t k = below(TIMERS);
+	uv_timer_t *t = &timers[k];
+	int active = 0;
+	switch (below(20)) {
+	default: start(k); break;
+	case 1: case 2: case 3: print_timer("stop", k, uv_timer_stop(t)); break;
+	case 4: case 5: print_timer("again", k, uv_timer_again(t)); break;
+	case 6: uv_timer_set_repeat(t, below(3) ? some_timeout() : 0); print_timer("repeat", k, 0); break;
+	case 7: uv_ref((uv_handle_t *)t); print_timer("ref", k, uv_loop_alive(&loop)); break;
+	case 8: uv_unref((uv_handle_t *)t); print_timer("unref", k, uv_loop_alive(&loop)); break;
+	case 9: uv_update_time(&loop); printf("now %" PRIu64 "\n", uv_now(&loop)); break;
+	case 10: pass_ms(below(100)); break;
+	case 11: pass_ms(below(10) ? 0 : below(10000000)); break;
+	case 12: printf("backend %d\n", uv_backend_timeout(&loop)); break;
+	case 13: uv_walk(&loop, count_active, &active); printf("walk %d\n", active); break;
+	case 14:
+		if (!uv_is_closing((uv_handle_t *)t)) {
+			uv_close((uv_handle_t *)t, on_close);
+			print_timer("close", k, 0);
+		}
+		break;
+	case 15: print_timer("look at", k, uv_is_closing((uv_handle_t *)t)); break;
+	}
+}
+
+static void some_steps(uint64_t most)
+{
+	for (uint64_t left = below(most + 1); left > 0; left--)
+		step();
+}
+
+static void run(void)
+{
+	static const uv_run_mode modes[] = { UV_RUN_ONCE, UV_RUN_NOWAIT, UV_RUN_DEFAULT };
+	uv_run_mode mode = modes[below(3)];
+	polls_left = POLLS_A_RUN;
+	calls_left = CALLS_A_RUN;
+	int alive = uv_run(&loop, mode);
+	printf("run %d: %d at %" PRIu64 "\n", (int)mode, alive, uv_now(&loop));
+	calls_left = 0;
+}
+
+static void forget(uv_handle_t *h, void *unused)
+{
+	(void)unused;
+	if (!uv_is_closing(h))
+		uv_close(h, NULL);
+}
+
+int main(int argc, char **argv)
+{
+	if (argc != 3)
+		return 2;
+	random_state = strtoull(argv[1], NULL, 10) * 2 + 1;
+	for (int skipped = 0; skipped < 20; skipped++)
+		random_bits();
+	clock_ns = below(3) ? below(UINT64_C(1) << 50) : (UINT64_C(1) << (6 * (1 + below(6)))) * 1000000 - below(64) * 1000000;
+	if (uv_loop_init(&loop) != 0)
+		return 1;
+	for (size_t k = 0; k < TIMERS; k++)
+		init(k);
+	for (int left = atoi(argv[2]); left > 0; left--) {
+		some_steps(30);
+		run();
+	}
+	uv_walk(&loop, forget, NULL);
+	polls_left = POLLS_A_RUN;
+	uv_run(&loop, UV_RUN_NOWAIT);
+	printf("close %d\n", uv_loop_close(&loop));
+	return 0;
+}
