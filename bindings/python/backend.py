@@ -1,0 +1,77 @@
+"""Builds the wheel of the module `timers`, for pip and other tools that read pyproject.toml.
+
+The wheel has a package of three files: timers.py, libtimers.so.1 as tools/lib builds it of generated/, and a first file
+that loads the library before the module, which then finds it by its name. The compiler is that of CC, by default cc.
+"""
+# SPDX-License-Identifier: MIT OR Apache-2.0
+import base64
+import hashlib
+import os
+import subprocess
+import sysconfig
+import tempfile
+import zipfile
+
+HERE = os.path.dirname(os.path.abspath(__file__))
+TOP = os.path.dirname(os.path.dirname(HERE))
+LIBRARY = "libtimers.so.1"
+PACKAGE = f'''"""Timers over hierarchical timing wheels, with the library that they need."""
+import ctypes
+import os
+
+ctypes.CDLL(os.path.join(os.path.dirname(os.path.abspath(__file__)), "{LIBRARY}"))
+from .timers import *  # noqa: E402, F401, F403
+'''
+
+
+class UnsupportedOperation(Exception):
+    """What this backend does not build."""
+
+
+def contents(*path):
+    with open(os.path.join(*path), "rb") as file:
+        return file.read()
+
+
+def library():
+    with tempfile.TemporaryDirectory() as folder:
+        subprocess.run([os.path.join(TOP, "tools", "lib"), folder], check=True)
+        return contents(folder, LIBRARY)
+
+
+def metadata(version):
+    return f"Metadata-Version: 2.1\nName: timers\nVersion: {version}\nLicense: MIT OR Apache-2.0\nRequires-Python: >=3.8\n"
+
+
+def record(files, path):
+    """A line for each file with its digest, as the format of wheels has it."""
+    lines = []
+    for name, data in files.items():
+        digest = base64.urlsafe_b64encode(hashlib.sha256(data).digest()).rstrip(b"=").decode()
+        lines.append(f"{name},sha256={digest},{len(data)}\n")
+    return "".join([*lines, f"{path},,\n"]).encode()
+
+
+def build_wheel(wheel_directory, config_settings=None, metadata_directory=None):
+    version = contents(TOP, "tools", "install", "version").decode().strip()
+    tag = "py3-none-" + sysconfig.get_platform().replace("-", "_").replace(".", "_")
+    folder = f"timers-{version}.dist-info"
+    files = {
+        "timers/__init__.py": PACKAGE.encode(),
+        "timers/timers.py": contents(HERE, "timers.py"),
+        f"timers/{LIBRARY}": library(),
+        f"{folder}/METADATA": metadata(version).encode(),
+        f"{folder}/WHEEL": f"Wheel-Version: 1.0\nGenerator: timers\nRoot-Is-Purelib: false\nTag: {tag}\n".encode(),
+    }
+    for name in ("LICENSE-MIT", "LICENSE-APACHE", "generated/NOTICE"):
+        files[f"{folder}/licenses/{os.path.basename(name)}"] = contents(TOP, name)
+    files[f"{folder}/RECORD"] = record(files, f"{folder}/RECORD")
+    name = f"timers-{version}-{tag}.whl"
+    with zipfile.ZipFile(os.path.join(wheel_directory, name), "w", zipfile.ZIP_DEFLATED) as wheel:
+        for path, data in files.items():
+            wheel.writestr(zipfile.ZipInfo(path), data, zipfile.ZIP_DEFLATED)
+    return name
+
+
+def build_sdist(sdist_directory, config_settings=None):
+    raise UnsupportedOperation("there is no source distribution: the sources are the whole repository")

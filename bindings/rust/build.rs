@@ -1,0 +1,22 @@
+// Builds libtimers.a by tools/lib. The C compiler is that of CC, and without it cc, or Debian's for another processor.
+use std::env;
+use std::path::Path;
+use std::process::Command;
+
+fn main() {
+    let top = Path::new(&env::var("CARGO_MANIFEST_DIR").unwrap()).join("../..");
+    let folder = env::var("OUT_DIR").unwrap();
+    let mut build = Command::new(top.join("tools/lib"));
+    build.arg(&folder);
+    if env::var_os("CC").is_none() && env::var("TARGET") != env::var("HOST") {
+        build.env("CC", format!("{}-linux-gnu-gcc", env::var("CARGO_CFG_TARGET_ARCH").unwrap()));
+    }
+    let status = build.status().expect("tools/lib cannot be run");
+    assert!(status.success(), "tools/lib: {status}");
+    println!("cargo:rustc-link-search=native={folder}");
+    println!("cargo:rustc-link-lib=static=timers");
+    println!("cargo:rerun-if-env-changed=CC");
+    for path in ["generated", "tools/lib", "tools/install/version"] {
+        println!("cargo:rerun-if-changed={}", top.join(path).display());
+    }
+}
