@@ -5,28 +5,24 @@ use crate::fault::{Fault, see};
 use crate::wheels::MOST;
 use std::alloc::Global;
 use timer_base::Wheel;
-use timer_facility::{Checked, Config, Facility, MAX_PENDING, Notice, Request};
+use timer_facility::{Config, Facility, MAX_PENDING, Notice, Request};
 
 /// The numbers of a facility of one client that keeps the most timers.
-pub fn numbers() -> Result<Checked, Fault>
-    ensures { IfOk result (λ checked. checked ≡ record {
+pub fn numbers() -> Config
+    ensures { result ≡ record {
       clients = 1;
-      capacity = MAX_PENDING;
+      capacity = 1048576;
       first_tick = 0;
       first_serial = 1;
       first_number = 1;
-    }) }
+    } }
 {
-    let config = Config {
+    Config {
         clients: 1,
         capacity: MAX_PENDING,
         first_tick: 0,
         first_serial: 1,
         first_number: 1,
-    };
-    match config.check() {
-        Ok(checked) => Ok(checked),
-        Err(_) => Err(Fault("the numbers of a facility")),
     }
 }
 
@@ -37,7 +33,10 @@ pub fn fill_and_close<W: Wheel + Drop>(alloc: Global, wheel: W) -> Result<(), Fa
     requires now { (W.state wheel).now ≡ 0 }
     requires serial { (W.state wheel).last_serial ≡ 0 }
 {
-    let mut facility = Facility::open(alloc, numbers()?, wheel);
+    let Ok(checked) = numbers().check() else {
+        return Err(Fault("the numbers of a facility"));
+    };
+    let mut facility = Facility::open(alloc, checked, wheel);
     see(facility.reserve().is_ok(), "room in a facility")?;
     for number in 1..=MOST as u64 {
         start(&mut facility, number)?;

@@ -15,7 +15,10 @@ fn player<W: Wheel + Drop>(alloc: Global, wheel: W) -> Result<Player<W>, Fault>
     requires now { (W.state wheel).now ≡ 0 }
     requires serial { (W.state wheel).last_serial ≡ 0 }
 {
-    Ok(Player::open(alloc, Facility::open(alloc, numbers()?, wheel)))
+    let Ok(checked) = numbers().check() else {
+        return Err(Fault("the numbers of a player"));
+    };
+    Ok(Player::open(alloc, Facility::open(alloc, checked, wheel)))
 }
 
 /// As many starts as there may be, for one tick, and this event after them.
@@ -98,15 +101,13 @@ fn play<W: Wheel + Drop>(alloc: Global, wheel: W, events: &[Event]) -> Result<Ve
 
 /// Goes on only if these are notices, by serial.
 fn see_handed_out(outs: &[Out]) -> Result<(), Fault> {
-    let mut serial = 1;
-    for out in outs {
+    for (i, out) in outs.iter().enumerate() {
         match out {
             Out::Notice(Notice::Expired(timer)) | Out::Notice(Notice::Returned(timer)) => {
-                see(timer.serial == serial, "the order of notices")?;
+                see(timer.serial == i as u64 + 1, "the order of notices")?;
             }
             _ => return Err(Fault("an out that is no notice")),
         }
-        serial += 1;
     }
     Ok(())
 }

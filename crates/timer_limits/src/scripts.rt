@@ -25,7 +25,7 @@ pub fn read_script(alloc: Global, line: &str) -> Result<(), Fault> {
         return Err(Fault("a script of 1,048,576 bytes"));
     };
     see(
-        events.len() * line.len() == script.len(),
+        events.len().checked_mul(line.len()) == Some(script.len()),
         "how many events a script has",
     )
 }
@@ -33,7 +33,11 @@ pub fn read_script(alloc: Global, line: &str) -> Result<(), Fault> {
 /// Plays a script of these lines from text to text.
 pub fn play_script(alloc: Global, line: &str) -> Result<(), Fault> {
     let script = script_of(alloc, line)?;
-    let facility = Facility::open(alloc, numbers()?, hier(alloc)?);
+    let Ok(checked) = numbers().check() else {
+        return Err(Fault("the numbers of a facility"));
+    };
+    let wheel = hier(alloc)?;
+    let facility = Facility::open(alloc, checked, wheel);
     let Ok(text) = answer_of(alloc, &script, facility) else {
         return Err(Fault("a script of 1,048,576 bytes that is played"));
     };
