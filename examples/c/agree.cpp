@@ -338,6 +338,17 @@ static void catch_up_with_other_times()
 	HOLDS(moved.now() == ticks(TIMERS_LAST));
 }
 
+/* All timers of a tick are taken in one call, however many there are, in the order of their starts. */
+static void take_many()
+{
+	Timers timers;
+	for (int i = 0; i < 1000; i++)
+		timers.start(5ms, nullptr);
+	std::uint64_t last = 0;
+	timers.catch_up(ticks(5), [&last](const Timers::expired &timer) { HOLDS(timer.serial == ++last); });
+	HOLDS(last == 1000 && !timers.has_due() && timers.size() == 0);
+}
+
 /* The work of one timer stops another of its tick, which is not handed out then, and starts one that is due at once. */
 static void stop_what_expired()
 {
@@ -524,6 +535,7 @@ int main()
 	round_intervals();
 	meet_the_edges();
 	catch_up_with_other_times();
+	take_many();
 	stop_what_expired();
 	throw_from_a_run();
 	keep_small_actions();
