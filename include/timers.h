@@ -108,7 +108,7 @@
  *     What stands for the calls of a heap or of libuv's timers, if `now` is the real time in ticks:
  *
  *         uv_timer_start, insert       timers_set_at(t, &handle, now + timeout, action)
- *         uv_timer_stop, remove        timers_stop(t, handle, &action)
+ *         uv_timer_stop, remove        timers_stop(t, handle, NULL)
  *         uv_timer_again               timers_set_at(t, &handle, now + repeat, action)
  *         repeat                       the same, once it is taken
  *         uv_timer_get_due_in          timers_look(t, handle, &timer); timer.deadline - now, or 0
