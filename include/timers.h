@@ -57,9 +57,9 @@
  *     The clock of TIMERS_CLOCK ends after 100 days. Before that, free the timers, make them again at tick
  *     0 and start what is left. That of TIMERS_WIDE has ticks for 36 million years of milliseconds.
  *
- *     The library is proved: each function but the inline ones of this header meets the contract that the
- *     sources state for it (crates/timer_c/src/exports.rt), for every call that keeps the rules below. Nothing
- *     checks that a caller keeps them.
+ *     The library is proved, but for the inline functions of this header. Each function meets the contract
+ *     that the sources state for it (crates/timer_c/src/exports.rt), for every call that keeps the rules below.
+ *     Nothing checks that a caller keeps them.
  *
  * COSTS
  *     The timers are in arrays, and each is in the bucket of a wheel. A bucket of the lowest wheel has one
@@ -156,8 +156,8 @@
  *     timers_free included. No call calls back, so that no other longjmp and no exception leaves one.
  *
  *     A forked child has a copy of the timers, with the same handles. If the process had a single thread, the
- *     child may make all calls. If it had more, the child may use the timers that no other thread was changing
- *     during the fork, by the calls that neither allocate nor free. It may make the other calls as well if the
+ *     child may make all calls. If it had more, the child may make those that neither allocate nor free, on
+ *     timers that no other thread was changing during the fork. It may make the other calls as well if the
  *     allocator works in such a child, as that of glibc does.
  *
  * HANDLES
