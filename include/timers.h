@@ -57,9 +57,9 @@
  *     The clock of TIMERS_CLOCK ends after 100 days. Before that, free the timers, make them again at tick
  *     0 and start what is left. That of TIMERS_WIDE has ticks for 36 million years of milliseconds.
  *
- *     The library is proved: each function but timers_message meets the contract that the sources state for
- *     it (crates/timer_c/src/exports.rt), for every call that keeps the rules below. Nothing checks that a
- *     caller keeps them.
+ *     The library is proved, but for the inline functions of this header. Each function meets the contract
+ *     that the sources state for it (crates/timer_c/src/exports.rt), for every call that keeps the rules below.
+ *     Nothing checks that a caller keeps them.
  *
  * COSTS
  *     The timers are in arrays, and each is in the bucket of a wheel. A bucket of the lowest wheel has one
@@ -108,7 +108,7 @@
  *     What stands for the calls of a heap or of libuv's timers, if `now` is the real time in ticks:
  *
  *         uv_timer_start, insert       timers_set_at(t, &handle, now + timeout, action)
- *         uv_timer_stop, remove        timers_stop(t, handle, &action)
+ *         uv_timer_stop, remove        timers_stop(t, handle, NULL)
  *         uv_timer_again               timers_set_at(t, &handle, now + repeat, action)
  *         repeat                       the same, once it is taken
  *         uv_timer_get_due_in          timers_look(t, handle, &timer); timer.deadline - now, or 0
@@ -122,8 +122,11 @@
  *        memset will do. Only these functions write it. It must not be copied, since it owns memory; it may
  *        be moved by a memcpy after which the old one is not used. No function, timers_new included, may be
  *        given uninitialised memory: it could not tell whether that owns timers.
- *     2. A pointer argument is not NULL and points to an object of its type that this call alone uses. No
- *        two arguments of one call overlap.
+ *     2. A pointer argument points to an object of its type that this call alone uses. No two arguments of
+ *        one call overlap. It is NULL only where nobody wants the answer: the handle or restarted of a start
+ *        or restart, action, passed, out of timers_expire and timers_take, handle and out of timers_each. And
+ *        timers_free(NULL) does nothing. (That is done by inline functions at the end of this header. The
+ *        symbols of the library, with which other languages link, need an object.)
  *     3. If an argument is only written (handle, restarted, action, passed, out, counts), the object may be
  *        uninitialised. It has only integers, so any bits are a value, and no function reads it. It is
  *        written exactly if the function's description says so, and otherwise unchanged. The handle of
@@ -153,8 +156,8 @@
  *     timers_free included. No call calls back, so that no other longjmp and no exception leaves one.
  *
  *     A forked child has a copy of the timers, with the same handles. If the process had a single thread, the
- *     child may make all calls. If it had more, the child may use the timers that no other thread was changing
- *     during the fork, by the calls that neither allocate nor free. It may make the other calls as well if the
+ *     child may make all calls. If it had more, the child may make those that neither allocate nor free, on
+ *     timers that no other thread was changing during the fork. It may make the other calls as well if the
  *     allocator works in such a child, as that of glibc does.
  *
  * HANDLES
@@ -451,6 +454,106 @@ static TIMERS_INLINE const char *timers_message(enum timers_status status)
 	default: return "no status";
 	}
 }
+
+/* NULL for an answer that nobody wants. The library writes to an object each time: these give it one. (Their names
+ * begin lines of their own, as they are no functions of the library.) */
+static TIMERS_INLINE void
+timers_null_free(struct timers *t)
+{
+	if (t != NULL)
+		timers_free(t);
+}
+
+TIMERS_CHECKED
+static TIMERS_INLINE enum timers_status
+timers_null_start(struct timers *t, uint64_t interval, uint64_t action, struct timers_handle *handle)
+{
+	struct timers_handle unwanted;
+
+	return timers_start(t, interval, action, handle != NULL ? handle : &unwanted);
+}
+
+TIMERS_CHECKED
+static TIMERS_INLINE enum timers_status
+timers_null_start_at(struct timers *t, uint64_t deadline, uint64_t action, struct timers_handle *handle)
+{
+	struct timers_handle unwanted;
+
+	return timers_start_at(t, deadline, action, handle != NULL ? handle : &unwanted);
+}
+
+TIMERS_CHECKED
+static TIMERS_INLINE enum timers_status
+timers_null_restart(struct timers *t, struct timers_handle handle, uint64_t interval, uint64_t action,
+                    struct timers_handle *restarted)
+{
+	struct timers_handle unwanted;
+
+	return timers_restart(t, handle, interval, action, restarted != NULL ? restarted : &unwanted);
+}
+
+TIMERS_CHECKED
+static TIMERS_INLINE enum timers_status
+timers_null_restart_at(struct timers *t, struct timers_handle handle, uint64_t deadline, uint64_t action,
+                       struct timers_handle *restarted)
+{
+	struct timers_handle unwanted;
+
+	return timers_restart_at(t, handle, deadline, action, restarted != NULL ? restarted : &unwanted);
+}
+
+static TIMERS_INLINE enum timers_status
+timers_null_stop(struct timers *t, struct timers_handle handle, uint64_t *action)
+{
+	uint64_t unwanted;
+
+	return timers_stop(t, handle, action != NULL ? action : &unwanted);
+}
+
+static TIMERS_INLINE enum timers_status
+timers_null_advance(struct timers *t, uint64_t most, uint64_t *passed)
+{
+	uint64_t unwanted;
+
+	return timers_advance(t, most, passed != NULL ? passed : &unwanted);
+}
+
+static TIMERS_INLINE bool
+timers_null_take(struct timers *t, uint64_t tick, struct timers_expired *out)
+{
+	struct timers_expired unwanted;
+
+	return timers_take(t, tick, out != NULL ? out : &unwanted);
+}
+
+static TIMERS_INLINE bool
+timers_null_expire(struct timers *t, struct timers_expired *out)
+{
+	struct timers_expired unwanted;
+
+	return timers_expire(t, out != NULL ? out : &unwanted);
+}
+
+static TIMERS_INLINE bool
+timers_null_each(const struct timers *t, size_t *cursor, struct timers_handle *handle,
+                 struct timers_expired *out)
+{
+	struct timers_handle unwanted_handle;
+	struct timers_expired unwanted;
+
+	return timers_each(t, cursor, handle != NULL ? handle : &unwanted_handle, out != NULL ? out : &unwanted);
+}
+
+#define timers_free timers_null_free
+#define timers_start timers_null_start
+#define timers_start_at timers_null_start_at
+#define timers_restart timers_null_restart
+#define timers_restart_at timers_null_restart_at
+#define timers_stop timers_null_stop
+#define timers_advance timers_null_advance
+#define timers_take timers_null_take
+#define timers_expire timers_null_expire
+#define timers_each timers_null_each
 
 /* The layout that the library was built for. */
 #if defined(__cplusplus)

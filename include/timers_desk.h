@@ -92,9 +92,8 @@
  *     3. An object that a call only writes (number, word, passed, returned, standing, unread, client) may
  *        be uninitialised.
  *     4. Calls on one struct come one at a time, but for those that THREADS names. A struct may be handed from
- *        thread to thread, by a lock, by a thread's start or join, or by an atomic that the one stores with
- *        release order and the other loads with acquire order. Calls on two structs are independent: those
- *        of the owner and of its clients may overlap in every way.
+ *        thread to thread: by a lock, by a thread's start or join, by an atomic with release and acquire order.
+ *        Calls on two structs are independent: those of the owner and of its clients may overlap in every way.
  *     5. timers_desk_settle, timers_desk_end and timers_desk_end_all are given lines of the same desk. A
  *        line of another client is refused, and so is one of another desk whose client has another number.
  *        A line of another desk whose client has the same number is not detected.
@@ -118,7 +117,7 @@
  *
  *     A forked child has copies of the structs, which share nothing with those of the parent, and one thread,
  *     that which forked. It may use what no other thread was changing during the fork, by the calls that neither
- *     allocate nor free. It may make the other calls as well if the process had a single thread, or if the
+ *     allocate nor free. If the process had a single thread, it may make the other calls as well. It also may if the
  *     allocator works in such a child, as that of glibc does.
  */
 /* SPDX-License-Identifier: MIT OR Apache-2.0 */

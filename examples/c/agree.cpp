@@ -338,6 +338,34 @@ static void catch_up_with_other_times()
 	HOLDS(moved.now() == ticks(TIMERS_LAST));
 }
 
+/* All timers of a tick are taken in one call, however many there are, in the order of their starts. */
+static void take_many()
+{
+	Timers timers;
+	for (int i = 0; i < 1000; i++)
+		timers.start(5ms, nullptr);
+	std::uint64_t last = 0;
+	timers.catch_up(ticks(5), [&last](const Timers::expired &timer) { HOLDS(timer.serial == ++last); });
+	HOLDS(last == 1000 && !timers.has_due() && timers.size() == 0);
+}
+
+/* The work of one timer stops another of its tick, which is not handed out then, and starts one that is due at once. */
+static void stop_what_expired()
+{
+	Timers timers;
+	timers.start(5ms, nullptr);
+	const timing::handle second = timers.start(5ms, nullptr);
+	std::vector<std::uint64_t> ran;
+	timers.catch_up(ticks(9), [&](const Timers::expired &timer) {
+		ran.push_back(timer.serial);
+		if (ran.size() == 1) {
+			HOLDS(timers.stop(second));
+			timers.start_at(ticks(0), nullptr);
+		}
+	});
+	HOLDS((ran == std::vector<std::uint64_t>{ 1, 3 }) && timers.now() == ticks(9));
+}
+
 /* What `run` throws leaves catch_up. The timer is taken, and the others of its tick are not. */
 static void throw_from_a_run()
 {
@@ -507,6 +535,8 @@ int main()
 	round_intervals();
 	meet_the_edges();
 	catch_up_with_other_times();
+	take_many();
+	stop_what_expired();
 	throw_from_a_run();
 	keep_small_actions();
 	own_one_at_a_time();

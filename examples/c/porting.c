@@ -32,8 +32,7 @@ static int arm(struct loop *loop, struct my_timer *h, uint64_t timeout)
 
 static void disarm(struct loop *loop, struct my_timer *h)
 {
-	uint64_t action;
-	timers_stop(&loop->timers, h->handle, &action);
+	timers_stop(&loop->timers, h->handle, NULL);
 }
 
 static int again(struct loop *loop, struct my_timer *h)
