@@ -1,7 +1,7 @@
 #!/usr/bin/env bats
 # One version everywhere, man pages that are made and clean, and links that lead somewhere. TIMERS names the program.
-setup_file() {
 # shellcheck disable=SC2143  # `! grep` fails no test
+setup_file() {
     cd "$BATS_TEST_DIRNAME/.." || return
     VERSION=$(cat tools/install/version)
     export VERSION
