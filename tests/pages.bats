@@ -1,7 +1,7 @@
 #!/usr/bin/env bats
 # The help and docs/formats.md against each other and against the program, which TIMERS names; and shell completions.
 # docs/formats.md is timers(1), too (tests/man.bats).
-# shellcheck disable=SC2016
+# shellcheck disable=SC2016,SC2034,SC2086
 LAST=1152921504606846975
 
 setup_file() {
