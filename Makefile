@@ -24,7 +24,8 @@
 # make soak        64 clients of 10,000 timers each in threads, 100 times; prints progress
 # make bench       measures the wheels against others (bench/README.md)
 # make bench-lines measures the owner's desk, ring lines and clients in threads against others
-# make docs        makes docs/pages and docs/hierarchy.svg from the scripts of examples/, and counts lines for docs/proofs.md
+# make docs        makes docs/pages and pictures from the scripts of examples/, timers(1) from docs/formats.md and timers(3)
+#                  from the headers, and counts lines for docs/proofs.md
 
 PROCESSOR := $(shell uname -m)
 GENERATED := $(wildcard generated/* generated/*/*)
@@ -101,6 +102,9 @@ soak:
 docs: all
 	TIMERS=$(CURDIR)/timers tools/docs_pages docs
 	tools/line_counts docs/proofs.md
+	tools/install/man1 > tools/install/timers.1
+	tools/install/man3 timers > tools/install/timers.3
+	tools/install/man3 timers_desk > tools/install/timers_desk.3
 
 clean:
 	rm -rf crates/*/out build timers

@@ -1,4 +1,4 @@
-"""The page: one HTML file with its style, its code and what was played."""
+"""The page: one HTML file with its style, its code and what was played, of one script or of several."""
 import html
 import json
 import os
@@ -35,6 +35,7 @@ def data_of(play, title, name, options):
         steps.append([step.line, step.passed, str(step.now), step.answers, edits(before, step.buckets)])
         before = step.buckets
     return {
+        "name": name,
         "title": title,
         "command": " ".join(["timers show", *options, "<", name]),
         "scheme": play.scheme.name,
@@ -48,10 +49,11 @@ def data_of(play, title, name, options):
     }
 
 
-def page(play, title, name, options):
-    data = json.dumps(data_of(play, title, name, options), ensure_ascii=True, separators=(",", ":"))
+def page(plays):
+    """The page of plays, each with its title, its name and the options of show. The first is shown at first."""
+    data = json.dumps([data_of(*play) for play in plays], ensure_ascii=True, separators=(",", ":"))
     parts = {
-        "TITLE": html.escape(title),
+        "TITLE": html.escape(plays[0][1]),
         "STYLE": read("page.css"),
         # Within a script element the text may not end it, nor open a comment.
         "DATA": data.replace("<", "\\u003c"),

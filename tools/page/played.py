@@ -1,8 +1,8 @@
 """A script as `timers show` plays it: one step for each line, or for each piece of a line of ticks."""
+import re
 import subprocess
 from dataclasses import dataclass, field
 
-import bad_lines
 import cutting
 from schemes import Scheme, scheme_of
 
@@ -46,6 +46,14 @@ def show(program, options, script):
     return run.stdout.decode("ascii"), error
 
 
+def why_bad(program, script, line):
+    """What `timers check` says of a line: the reason and the column."""
+    run = subprocess.run([program, "check"], input=script, capture_output=True)
+    found = re.search(rf"^line {line}, column (\d+): (.*)$", run.stdout.decode(), re.MULTILINE)
+    # It reads no script that is too long for `play`.
+    return f"{found[2]}, at column {found[1]}" if found else "it has none of the forms of a line"
+
+
 def steps_of(text, lines):
     """One step for each `now` in the text; `lines` has (line, passed) for each."""
     steps, answers = [], []
@@ -84,7 +92,5 @@ def play(program, script, options, whole):
         if [a for s in fine for a in s.answers] != [a for s in steps for a in s.answers]:
             raise Refused("the script has other answers when its ticks are played in pieces", 1)
         steps = fine
-    reason = (
-        bad_lines.reason(lines[bad], bad == len(lines) - 1 and not script.endswith(b"\n")) if error else ""
-    )
+    reason = why_bad(program, script, bad + 1) if error else ""
     return Play(scheme, first_tick, lines, steps, bad, reason, uncut)

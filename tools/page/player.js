@@ -7,7 +7,8 @@ const READ_LETTER = 20;   // and for each letter that is said there
 const LONGEST_STEPS = 4;  // whose height is measured
 
 const $ = (id) => document.getElementById(id);
-const play = new Play(JSON.parse($("data").textContent));
+const plays = JSON.parse($("data").textContent);
+const play = new Play(plays.find(({name}) => location.hash === `#${name}`) ?? plays[0]);
 const words = new Words(play);
 const shown = {
   step: 0,
@@ -364,8 +365,15 @@ function legendRow([kind, said]) {
       make("svg", {viewBox: "0 0 16 20", "aria-hidden": "true"}, ...signOf(kind)), said);
 }
 
+// A page with several scripts has a link to each.
+function playLink({name, title}) {
+  return make("a", {href: `#${name}`, ...(title === play.title ? {"aria-current": "page"} : {})}, title);
+}
+
 function fill() {
   $("title").textContent = play.title;
+  document.title = `${play.title} · timing wheels`;
+  if (plays.length > 1) $("plays").replaceChildren(...plays.map(playLink));
   $("command").textContent = play.command;
   $("scheme").textContent = words.scheme();
   $("opening").textContent = OPENING[play.scheme];
@@ -401,6 +409,7 @@ function listen() {
   $("before").onclick = () => followNext(-1n);
   $("after").onclick = () => followNext(1n);
   document.addEventListener("keydown", key);
+  window.addEventListener("hashchange", () => location.reload());
   window.addEventListener("resize", () => {
     reserveNews();
     renderArrows();

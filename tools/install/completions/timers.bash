@@ -1,20 +1,15 @@
-# Completes the arguments of timers(1) in bash.
+# Completes the arguments of timers(1) in bash: the words come from its help.
 _timers() {
-    local words=""
-    COMPREPLY=()
-    if [ "$COMP_CWORD" -eq 1 ]; then
-        words="play serve show threads check help --help --version"
+    local help words option='s/^ +(-., )?(--[a-z-]+).*/\2/p'
+    if [ "$COMP_CWORD" -gt 1 ] && [ "${COMP_WORDS[1]}" != help ]; then
+        help=$("$1" "${COMP_WORDS[1]}" --help 2> /dev/null)
+        words=$(sed -nE "$option" <<< "$help")
+        if grep -qE -e "^ +$3 <" <<< "$help"; then
+            words=$(sed -nE "s/^ +$3 <.*\[possible values: (.*)\]\$/\1/p" <<< "$help" | tr -d ,)
+        fi
     else
-        case "${COMP_WORDS[1]} ${COMP_WORDS[COMP_CWORD - 1]}" in
-            *" --scheme") words="plain hashed hier clock" ;;
-            *" --slots" | *" --clients" | *" --capacity" | *" --first-tick" | *" --timers") ;;
-            "play "* | "show "*) words="--scheme --slots --clients --capacity --first-tick --help" ;;
-            "serve "*) words="--scheme --slots --clients --capacity --first-tick --keep-going --wakeups --help" ;;
-            "threads "*) words="--clients --timers --help" ;;
-            "check "*) words="--help" ;;
-            "help help") words="play serve show threads check" ;;
-        esac
+        words=$("$1" --help 2> /dev/null | sed -nE "/^Commands:/,/^\$/s/^  ([a-z]+) .*/\1/p; $option")
     fi
-    mapfile -t COMPREPLY < <(compgen -W "$words" -- "${COMP_WORDS[COMP_CWORD]}")
+    mapfile -t COMPREPLY < <(compgen -W "$words" -- "$2")
 }
 complete -F _timers timers

@@ -1,20 +1,24 @@
-# Completes the arguments of timers(1) in fish.
+# Completes the arguments of timers(1) in fish: commands and options come from its help.
+function __timers_commands
+    timers --help 2> /dev/null | sed -nE '/^Commands:/,/^$/s/^  ([a-z]+) +(.*)/\1\t\2/p'
+end
+
+function __timers_options
+    set -l command (commandline -opc)[2]
+    timers $command --help 2> /dev/null | sed -nE 's/^ +(-., )?(--[a-z-]+)( <[A-Z]+>)? +([^[]*).*/\2\t\4/p'
+end
+
+# The values of the option before the cursor, if its help lists them; fails if it takes none.
+function __timers_values
+    set -l words (commandline -opc)
+    set -l help (timers $words[2] --help 2> /dev/null | string match -r -- "^ +$words[-1] <.*")
+    or return
+    string match -rg '\[possible values: (.*)\]' -- $help | string split ', '
+    true
+end
+
 complete -c timers -f
-complete -c timers -n __fish_use_subcommand -a play -d "Play the script on standard input"
-complete -c timers -n __fish_use_subcommand -a serve -d "Answer each line of standard input as it comes"
-complete -c timers -n __fish_use_subcommand -a show -d "Answer lines, and show where the timers are"
-complete -c timers -n __fish_use_subcommand -a threads -d "Run clients in threads of their own"
-complete -c timers -n __fish_use_subcommand -a check -d "Report every bad line of the script on standard input"
-complete -c timers -n __fish_use_subcommand -a help -d "Print help, of the program or of a command"
-complete -c timers -n __fish_use_subcommand -s V -l version -d "Print the version"
-complete -c timers -s h -l help -d "Print help"
-set -l playing "__fish_seen_subcommand_from play serve show"
-complete -c timers -n $playing -l scheme -x -a "plain hashed hier clock" -d "How timers are kept"
-complete -c timers -n $playing -l slots -x -d "The buckets of the hashed wheel, 1 to 65536"
-complete -c timers -n $playing -l capacity -x -d "The most pending timers, 1 to 1048576"
-complete -c timers -n $playing -l first-tick -x -d "The tick at which the clock begins"
-complete -c timers -n "__fish_seen_subcommand_from serve" -l keep-going -d "Report bad lines and go on"
-complete -c timers -n "__fish_seen_subcommand_from serve" -l wakeups -d "Print when to wake up next"
-complete -c timers -n "__fish_seen_subcommand_from play serve show threads" -l clients -x -d "The number of clients, 1 to 64"
-complete -c timers -n "__fish_seen_subcommand_from threads" -l timers -x -d "The timers that each client starts, 1 to 10000"
-complete -c timers -n "__fish_seen_subcommand_from help" -a "play serve show threads check"
+complete -c timers -n __fish_use_subcommand -a '(__timers_commands)'
+complete -c timers -n '__fish_seen_subcommand_from help' -a '(__timers_commands)'
+complete -c timers -n 'not __timers_values > /dev/null' -a '(__timers_options)'
+complete -c timers -n '__timers_values > /dev/null' -a '(__timers_values)'

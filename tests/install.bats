@@ -1,0 +1,240 @@
+#!/usr/bin/env bats
+# Installs by `make install`, looks at each file, builds with it, and removes it. It runs in copies of this tree that have
+# what `make` left here, and without the toolchain. Then it packs a tarball and does the same with that.
+# shellcheck disable=SC2013,SC2143
+load helpers
+
+setup_file() {
+    cd "$BATS_TEST_DIRNAME/.." || return
+    if ! [ -e timers ] || ! [ -e build/lib/libtimers.a ]; then
+        echo "./timers and build/lib were not built: make" >&2
+        return 1
+    fi
+    hide_toolchain
+    unset PREFIX BINDIR LIBDIR INCLUDEDIR DATADIR MANDIR DOCDIR DESTDIR BUILT PKG_CONFIG_PATH
+    version=$(cat tools/install/version)
+    tarball=timers-$version-linux-$(uname -m).tar.gz
+    export version tarball top=$PWD work=$BATS_FILE_TMPDIR
+    copy_tree "$work/clone"
+    copy_tree "$work/tree"
+    mkdir -p "$work/tree/build"
+    cp -pR timers "$work/tree/timers"
+    cp -pR build/lib "$work/tree/build/lib"
+}
+in_tree() { make --no-print-directory -C "$work/tree" "$@"; }
+in_clone() { make --no-print-directory -C "$work/clone" "$@"; }
+needs_compiler() { needs cc pkg-config readelf; }
+
+# Each installed path of a folder of its own, with its mode, and the link's target or the file of the tree that it is
+# a copy of. The names of the functions are those of the header.
+wanted_files() {
+    local mode path page function
+    cat << EOT
+755 bin/timers timers
+644 lib/libtimers.a build/lib/libtimers.a
+644 lib/libtimers.so.$version build/lib/libtimers.so.$version
+link lib/libtimers.so.${version%%.*} libtimers.so.$version
+link lib/libtimers.so libtimers.so.${version%%.*}
+644 lib/pkgconfig/timers.pc -
+644 include/timers.hpp include/timers.hpp
+644 share/man/man1/timers.1 tools/install/timers.1
+644 share/bash-completion/completions/timers tools/install/completions/timers.bash
+644 share/zsh/site-functions/_timers tools/install/completions/_timers
+644 share/fish/vendor_completions.d/timers.fish tools/install/completions/timers.fish
+644 share/doc/timers/NOTICE generated/NOTICE
+EOT
+    for path in CHANGELOG.md LICENSE-APACHE LICENSE-MIT docs/{embedding,formats,porting,server,versions,walkthroughs}.md docs/pages/*.html; do
+        echo "644 share/doc/timers/$path $path"
+    done
+    for path in include/*.h; do
+        page=$(basename "$path" .h).3
+        echo "644 $path $path"
+        echo "644 share/man/man3/$page tools/install/$page"
+        sed -n 's/^[a-z].*[ *]\(timers_[a-z_]*\)(.*/\1/p' "$path" | sort -u | while read -r function; do
+            echo "link share/man/man3/$function.3 $page"
+        done
+    done
+    for path in bindings/*/timers.*; do
+        echo "644 share/timers/${path#bindings/} $path"
+    done
+    git ls-files examples | grep -v gitignore | while read -r path; do
+        mode=644
+        [ "$path" != examples/serve.py ] || mode=755
+        echo "$mode share/doc/timers/$path $path"
+    done
+}
+# The same list of what stands below a folder, but for sources: a link's target, or `-`.
+found_files() {
+    (cd "$1" && find . -type f -printf '%m %P -\n' -o -type l -printf 'link %P %l\n') | sort
+}
+# has_all_files ROOT TREE: ROOT has the wanted files and no other, each a copy of that of TREE
+has_all_files() {
+    wanted_files > "$work/wanted"
+    awk '{ if ($1 != "link") $3 = "-"; print }' "$work/wanted" | sort | diff - <(found_files "$1")
+    while read -r mode path source; do
+        if [ "$mode" != link ] && [ "$source" != - ]; then
+            cmp "$1/$path" "$2/$source"
+        fi
+    done < "$work/wanted"
+}
+has_folders_for_all() { [ -z "$(find "$1" -type d ! -perm 755)" ]; }
+is_empty() { [ -z "$(find "$1" -type f -o -type l)" ] && [ ! -e "$1/share/doc/timers" ] && [ ! -e "$1/share/timers" ]; }
+
+# names_only_what_is_there ROOT: what the installed pages name of docs/, examples/ and other man pages
+names_only_what_is_there() {
+    local path page section doc=$1/share/doc/timers
+    for path in $(grep -ohE '\b(docs|examples)/[a-zA-Z0-9_/.]*[a-zA-Z0-9_]' "$doc"/docs/*.md "$doc"/*.md "$1"/share/man/man?/*); do
+        echo "$path"
+        [ -e "$doc/$path" ]
+    done
+    while read -r page section; do
+        [ -e "$1/share/man/man$section/$page.$section" ]
+    done < <(sed -n 's/^\.BR \(timers[a-z_]*\) (\([0-9]\)).*/\1 \2/p' "$1"/share/man/man?/*)
+}
+plays() { "$1/bin/timers" < examples/one_timer | diff examples/one_timer.stdout -; }
+pc() { PKG_CONFIG_PATH=$1/lib/pkgconfig pkg-config "${@:2}" timers; }
+
+# A C program by the installed files alone: it needs the soname, so -ltimers found the link and not the archive.
+builds_with_the_shared_object() {
+    needs_compiler
+    # shellcheck disable=SC2046
+    cc -std=c11 -o "$work/first" examples/c/first.c $(pc "$1" --cflags --libs)
+    readelf -d "$work/first" | grep "NEEDED.*\[libtimers.so.${version%%.*}\]"
+    LD_LIBRARY_PATH=$1/lib "$work/first" | diff examples/c/first.stdout -
+}
+# refused WORDS COMMAND..: it fails, and says these words
+refused() {
+    run "${@:2}"
+    [ "$status" -ne 0 ]
+    grep -F "$1" <<< "$output"
+}
+
+# With a mask that hides everything from others, which must not matter.
+@test "make install, without the toolchain" { (umask 077 && in_tree install PREFIX="$work/prefix"); }
+@test "installed: each file, mode and link, and folders that all can read" {
+    has_all_files "$work/prefix" "$work/tree"
+    has_folders_for_all "$work/prefix"
+}
+@test "installed: the pages name only what is installed" { names_only_what_is_there "$work/prefix"; }
+@test "installed: the program plays a script" { plays "$work/prefix"; }
+
+@test "installed: the soname, and the pkg-config file" {
+    needs_compiler
+    readelf -d "$work/prefix/lib/libtimers.so" | grep "SONAME.*\[libtimers.so.${version%%.*}\]"
+    [ "$(pc "$work/prefix" --modversion)" = "$version" ]
+    [ "$(pc "$work/prefix" --variable=prefix)" = "$work/prefix" ]
+    [ "$(pc "$work/prefix" --variable=libdir)" = "$work/prefix/lib" ]
+    [ "$(pc "$work/prefix" --variable=includedir)" = "$work/prefix/include" ]
+}
+
+@test "installed: a C program with the shared object" { builds_with_the_shared_object "$work/prefix"; }
+
+# The archive stands behind no link here, so it is what is linked.
+@test "installed: a C program with the archive" {
+    needs_compiler
+    cc -std=c11 -I"$work/prefix/include" -o "$work/first" examples/c/first.c "$work/prefix/lib/libtimers.a"
+    [ -z "$(readelf -d "$work/first" | grep libtimers)" ]
+    "$work/first" | diff examples/c/first.stdout -
+}
+
+# Without the archive the program still builds: the shared object isn't there in name only.
+@test "installed: a C program where there is no archive" {
+    rm "$work/prefix/lib/libtimers.a"
+    builds_with_the_shared_object "$work/prefix"
+}
+
+@test "installed: the module for Python" {
+    needs python3
+    PYTHONPATH=$work/prefix/share/timers/python LD_LIBRARY_PATH=$work/prefix/lib python3 -B -c "
+from timers import Timers
+with Timers() as timers:
+    timers.start(25, 7)
+    assert timers.advance(100) == [(25, 1, 7)]"
+}
+
+@test "make uninstall, in a tree in which nothing was built, leaves no file and no folder of its own" {
+    in_clone uninstall PREFIX="$work/prefix"
+    is_empty "$work/prefix"
+}
+
+# DESTDIR, from the environment, and folders of their own.
+@test "DESTDIR stands in front of each path, and in no file" {
+    DESTDIR=$work/stage PREFIX=/usr in_tree install LIBDIR=/usr/lib/x86_64-linux-gnu BINDIR=/opt/bin
+    cd "$work/stage"
+    [ -x opt/bin/timers ]
+    [ ! -e usr/bin ]
+    [ -f usr/lib/x86_64-linux-gnu/libtimers.a ]
+    [ ! -e usr/lib/libtimers.a ]
+    # shellcheck disable=SC2016
+    grep -x 'libdir=${prefix}/lib/x86_64-linux-gnu' usr/lib/x86_64-linux-gnu/pkgconfig/timers.pc
+    grep -x 'prefix=/usr' usr/lib/x86_64-linux-gnu/pkgconfig/timers.pc
+    run grep -rF "$work" "$work/stage" --include=*.pc
+    [ "$status" -eq 1 ]
+}
+
+@test "make uninstall with DESTDIR and folders leaves nothing" {
+    DESTDIR=$work/stage PREFIX=/usr in_clone uninstall LIBDIR=/usr/lib/x86_64-linux-gnu BINDIR=/opt/bin
+    is_empty "$work/stage"
+}
+
+@test "a relative PREFIX is made absolute" {
+    in_tree install PREFIX=some/../where/
+    grep -x "prefix=$work/tree/where" "$work/tree/where/lib/pkgconfig/timers.pc"
+}
+
+# shellcheck disable=SC2016,SC2088
+@test "a PREFIX that a shell would read in another way is refused, and so is an unknown variable" {
+    for odd in '' '~/timers' 'a b' 'a;b' 'a$b'; do
+        refused PREFIX "$work/tree/tools/install/install" "PREFIX=$odd"
+    done
+    refused "no such variable" "$work/tree/tools/install/install" "PREFX=/usr"
+}
+
+@test "without the program it says so, and installs the library" {
+    mv "$work/tree/timers" "$work/timers"
+    run in_tree install PREFIX="$work/part"
+    [ "$status" -eq 0 ]
+    grep "timers is missing" <<< "$output"
+    [ ! -e "$work/part/bin" ]
+    [ -e "$work/part/lib/libtimers.a" ]
+}
+
+@test "if nothing was built it says so, fails, and installs nothing" {
+    refused "is missing" in_clone install PREFIX="$work/none"
+    [ ! -e "$work/none" ]
+}
+
+# The tarball: unpacked in a folder with a space, without the toolchain.
+unpacked() { (cd / && "$work/un packed/timers-$version/$1" PREFIX="$work/dist"); }
+
+@test "tools/dist packs a tarball, and the same one of the same files" {
+    tools/dist
+    cp "build/$tarball" "$work/first.tar.gz"
+    tools/dist
+    cmp "$work/first.tar.gz" "build/$tarball"
+}
+
+@test "the tarball unpacks, and BUILT has version, commit, toolchain, processor and gate" {
+    mkdir "$work/un packed"
+    tar -xzf "build/$tarball" -C "$work/un packed"
+    cd "$work/un packed/timers-$version"
+    grep -x "version    $version" BUILT
+    grep -x "$(grep '^toolchain ' "$top/generated/$(uname -m)/PROVENANCE")" BUILT
+    grep -xE "commit     $(git -C "$top" rev-parse HEAD)(, with changes)?" BUILT
+    grep -xE "gate       (not run|[0-9]+ passed, .*)" BUILT
+    grep -x "processor  $(uname -m)" BUILT
+}
+
+@test "the tarball installs itself: each file, mode and link" {
+    (umask 077 && unpacked install)
+    has_all_files "$work/dist" "$top"
+    has_folders_for_all "$work/dist"
+}
+@test "from the tarball: the pages name only what is installed" { names_only_what_is_there "$work/dist"; }
+@test "from the tarball: the program plays a script" { plays "$work/dist"; }
+@test "from the tarball: a C program with the shared object" { builds_with_the_shared_object "$work/dist"; }
+
+@test "the tarball uninstalls itself, and leaves no file" {
+    unpacked uninstall
+    is_empty "$work/dist"
+}

@@ -1,0 +1,66 @@
+#!/usr/bin/env bats
+# One version everywhere, man pages that are made and clean, and links that lead somewhere. TIMERS names the program.
+# shellcheck disable=SC2143  # `! grep` fails no test
+setup_file() {
+    cd "$BATS_TEST_DIRNAME/.." || return
+    VERSION=$(cat tools/install/version)
+    export VERSION
+}
+
+# needs TOOL: skips the test where the machine lacks it
+needs() { command -v "$1" > /dev/null || skip "no $1"; }
+
+@test "the program and all files have one version" {
+    [ "$("$TIMERS" --version < /dev/null)" = "timers $VERSION" ]
+    grep -qx "version: $VERSION" CITATION.cff
+    grep -q "^## $VERSION\b" CHANGELOG.md
+    head -n 1 tools/debian/changelog | grep -q "^timers ($VERSION-"
+    for page in tools/install/*.[13]; do head -n 1 "$page" | grep -q "^\.TH .*\"timers $VERSION\""; done
+}
+
+@test "timers(1) is made from docs/formats.md" {
+    needs lowdown
+    tools/install/man1 | diff tools/install/timers.1 -
+}
+
+@test "timers(3) and timers_desk(3) are made from the headers" {
+    for page in timers timers_desk; do tools/install/man3 $page | diff tools/install/$page.3 -; done
+}
+
+# Lines of a source may be longer than 80 bytes, as elsewhere in this repository.
+@test "mandoc finds nothing in the man pages" {
+    needs mandoc
+    for page in tools/install/*.[13]; do
+        run mandoc -Tlint "$page"
+        [ -z "$(grep -v 'STYLE: input text line longer than 80 bytes' <<< "$output")" ]
+    done
+}
+
+@test "groff finds nothing in the man pages" {
+    needs groff
+    for page in tools/install/*.[13]; do
+        run groff -man -Tutf8 -ww -z "$page"
+        [ "$status" -eq 0 ]
+        [ -z "$output" ]
+    done
+}
+
+# What `whatis` and `apropos` read: a line for each name, with one dash, and what it does.
+@test "whatis reads the man pages" {
+    needs lexgrog
+    for page in tools/install/*.[13]; do
+        run lexgrog "$page"
+        [ "$status" -eq 0 ]
+        [ -z "$(grep -vE '^[^:]*: "timers[a-z_]* - [^"]*"$' <<< "$output"; grep ' - .* - ' <<< "$output")" ]
+    done
+}
+
+# Each path that a page at the top, in docs/ or in bench/ links to is a file or folder here.
+@test "links lead somewhere" {
+    lost=
+    while IFS=: read -r page link; do
+        [ -e "$(dirname "$page")/$link" ] || lost+=" $page:$link"
+    done < <(grep -oE '\]\([^)#:]+' ./*.md docs/*.md bench/*.md | sed 's/](//')
+    echo "no such file:$lost"
+    [ -z "$lost" ]
+}

@@ -1,0 +1,187 @@
+#!/usr/bin/env bats
+# The help and docs/formats.md against each other and against the program, which TIMERS names; and shell completions.
+# docs/formats.md is timers(1), too (tests/man.bats).
+# shellcheck disable=SC2016,SC2034,SC2086
+LAST=1152921504606846975
+
+setup_file() {
+    cd "$BATS_TEST_DIRNAME/.." || return
+    mkdir "$BATS_FILE_TMPDIR/bin"
+    ln -s "$(realpath "$TIMERS")" "$BATS_FILE_TMPDIR/bin/timers"
+    export PATH=$BATS_FILE_TMPDIR/bin:$PATH
+}
+
+# Prints 'OPTION LEAST MOST DEFAULT' for each option of a text whose lines are 'OPTION: what is said of it'. The
+# last tick of the scheme stands for the greatest one.
+numbers_of() {
+    sed -nE -e "s/the last tick of the scheme/$LAST/" \
+        -e 's/^--([a-z-]+): .*[^0-9]([0-9]+) to ([0-9]+).*\[default: ([0-9]+)\].*/\1 \2 \3 \4/p' \
+        -e 's/^--scheme: .*\[default: ([a-z]+)\].*/scheme \1/p' | sort
+}
+help_numbers() { timers "$1" --help | sed -nE 's/^ +(--[a-z-]+) <[A-Z]+> +/\1: /p' | numbers_of; }
+# The rows of the tables of options below the heading of a subcommand.
+formats_numbers() {
+    awk -v heading="### \`timers $1\`" 'index($0, "##") == 1 { here = index($0, heading) == 1 } here' docs/formats.md |
+        sed -nE 's/^\| `(--[a-z-]+)` \|(.*)\|([^|]*)\| *`?([a-z0-9]+)`? *\|$/\1:\2 \3 [default: \4]/p' | numbers_of
+}
+
+# has_status STATUS COMMAND..: on the empty script
+has_status() {
+    run -"$1" timers "${@:2}" < /dev/null
+}
+# Threads get as little work as the other option allows.
+other_option() {
+    case "$1 $2" in
+        "threads clients") echo "--timers 1" ;;
+        "threads timers") echo "--clients 1" ;;
+    esac
+}
+
+bats_require_minimum_version 1.5.0
+
+@test "each option has one range and one default in the help and in docs/formats.md" {
+    for command in play serve show threads; do
+        section=play
+        [ $command != threads ] || section=threads
+        diff <(help_numbers $command) <(formats_numbers $section)
+        [ "$(help_numbers $command | wc -l)" -eq "$(timers $command --help | grep -cE '^ +--[a-z-]+ <')" ]
+    done
+}
+
+@test "each option takes both ends of its range and its default, and refuses the numbers beside them" {
+    for command in play serve show threads; do
+        while read -r option least most default; do
+            [ -n "$default" ] || continue
+            other=$(other_option $command "$option")
+            # shellcheck disable=SC2086  # two words, or none
+            for number in "$least" "$most" "$default"; do has_status 0 $command "--$option=$number" $other; done
+            has_status 2 $command "--$option=$((most + 1))"
+            has_status 2 $command "--$option=$((least - 1))"
+        done < <(help_numbers $command)
+    done
+}
+
+# script_status STATUS LINE: of a script of one line
+script_status() { run -"$1" timers <<< "$2"; }
+
+@test "numbers of a script end where the pages say" {
+    script_status 0 "tick 1"
+    script_status 0 "tick 1000000"
+    script_status 1 "tick 0"
+    script_status 1 "tick 1000001"
+    script_status 0 "start 0 1 5 $LAST"
+    script_status 1 "start 0 1 5 $((LAST + 1))"
+}
+
+# Runs the examples of a text: a line '$ COMMAND' after spaces, and the lines below it up to an empty one or one that is
+# indented less. What follows three spaces in a line is a remark. If the command has no input of its own, the lines that
+# are events are its input. There has to be one.
+run_examples() {
+    local count=0 line="" command="" indent="" input=$BATS_TEST_TMPDIR/input wanted=$BATS_TEST_TMPDIR/wanted
+    while IFS= read -r line; do
+        if [ -z "$command" ] && [[ $line =~ ^(\ *)\$\ (.*timers.*)$ ]]; then
+            indent=${BASH_REMATCH[1]}
+            command=${BASH_REMATCH[2]//.\/timers/timers}
+            : > "$input"
+            : > "$wanted"
+        elif [ -n "$command" ] && [ -n "$line" ] && [[ $line == "$indent"* ]]; then
+            line=$(sed -E 's/([^ ]) {3,}.*/\1/' <<< "${line#"$indent"}")
+            if [[ $line =~ ^(start|stop|restart|tick|close)(\ [0-9]+)*$ ]]; then
+                echo "$line" >> "$input"
+            else
+                echo "$line" >> "$wanted"
+            fi
+        elif [ -n "$command" ]; then
+            count=$((count + 1))
+            echo "$command"
+            diff "$wanted" <(bash -c "$command" < "$input" 2>&1)
+            command=
+        fi
+    done < <(cat; echo)
+    [ "$count" -gt 0 ]
+}
+
+@test "the examples of the help and of docs/formats.md print what stands below them" {
+    for command in "" play show threads check; do
+        # shellcheck disable=SC2086
+        run_examples < <(timers $command --help)
+    done
+    run_examples < docs/formats.md
+}
+
+@test "the example of serve has what is written on the left, and what is read on the right" {
+    example=$(timers serve --help | sed -n '/^For example/,/^$/p')
+    input=$(sed -nE 's/^  ([a-z]+( [0-9]+)*)( {2,}.*)?$/\1/p' <<< "$example")
+    [ -n "$input" ]
+    diff <(sed -nE 's/^  [^ ].* {2,}([a-z]+( [0-9]+)+)$/\1/p' <<< "$example") <(timers serve <<< "$input" 2>&1)
+}
+
+# An example has the words of its row, and numbers and a reason in place of the capitals.
+@test "the examples of lines in docs/formats.md have the form of their rows, and those of a script are played" {
+    reasons=$(sed -n '/^### Reasons/,/^## /s/^| `\([a-z-]*\)`.*/\1/p' docs/formats.md | paste -sd '|')'|clock-end'
+    rows=0
+    while IFS=$'\t' read -r row example; do
+        rows=$((rows + 1))
+        pattern=$(sed -E -e "s/REASON/($reasons)/" -e 's/[A-Z]+/[0-9]+/g' <<< "$row")
+        echo "$row: $example"
+        [[ $example =~ ^$pattern$ ]]
+        if [[ $row =~ ^(start|stop|restart|tick|close)(\ [A-Z]+)*$ ]]; then
+            script_status 0 "$example"
+            timers --help | grep -qE "^  $row( |\$)"
+        fi
+    done < <(sed -nE 's/^\| `([a-z ]+[A-Z ]*)` \|.*\| `([^`]*)` \|$/\1\t\2/p' docs/formats.md)
+    [ "$rows" -gt 0 ]
+}
+
+# completed WORD..: what bash offers for the last one
+completed() {
+    # shellcheck disable=SC2016
+    bash -c '. "$0"; COMP_WORDS=("$@"); COMP_CWORD=$(($# - 1)); _timers "$1" "${@: -1}" "${COMP_WORDS[COMP_CWORD - 1]}"
+        echo "${COMPREPLY[@]}"' tools/install/completions/timers.bash "$@"
+}
+
+@test "bash completes commands, options and values" {
+    [ "$(completed timers s)" = "serve show" ]
+    [ "$(completed timers -)" = "--help --version" ]
+    [ "$(completed timers help th)" = threads ]
+    [ "$(completed timers threads --)" = "--clients --timers --help" ]
+    [ "$(completed timers serve --k)" = --keep-going ]
+    [ "$(completed timers show --scheme h)" = "hashed hier" ]
+    [ -z "$(completed timers show --slots "")" ]
+}
+
+# offered TEXT: what fish offers for it
+offered() {
+    fish -c "source tools/install/completions/timers.fish; complete -C'$1'" | cut -f 1 | sort | paste -sd ' '
+}
+
+@test "fish completes commands, options and values" {
+    command -v fish > /dev/null || skip "no fish"
+    [ "$(offered "timers s")" = "serve show" ]
+    [ "$(offered "timers -")" = "--help --version" ]
+    [ "$(offered "timers help th")" = threads ]
+    [ "$(offered "timers threads --")" = "--clients --help --timers" ]
+    [ "$(offered "timers serve --k")" = --keep-going ]
+    [ "$(offered "timers show --scheme h")" = "hashed hier" ]
+    [ -z "$(offered "timers show --slots ")" ]
+}
+
+# What the function for zsh gives to zsh's own, which take the cursor's place into account.
+@test "zsh gets commands, options and values" {
+    command -v zsh > /dev/null || skip "no zsh"
+    # shellcheck disable=SC2016
+    given='
+        _arguments() {
+            print -rl -- "$@"
+            if [[ $1 == -C ]]; then state=$wanted; [[ $state == argument ]] && shift words; fi
+        }
+        _describe() { print -rl -- ${(P)2}; }
+        wanted=$1; words=(timers $2); source tools/install/completions/_timers'
+    run -0 zsh -f -c "$given" zsh command ""
+    [[ $output == *"play:Plays the script"* ]]
+    run -0 zsh -f -c "$given" zsh argument threads
+    [[ $output == *"--timers=[The number of timers that each client starts, 1 to 10000"*"]:TIMERS:"* ]]
+    [[ $output == *"--help[Print help]"* ]]
+    run -0 zsh -f -c "$given" zsh argument show
+    [[ $output == *"]:SCHEME:(plain hashed hier clock)"* ]]
+}

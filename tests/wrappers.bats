@@ -1,0 +1,67 @@
+#!/usr/bin/env bats
+# Builds the wrappers as the tools of their languages do, and runs a first program with each. cargo, pip and CMake compile
+# the library from generated/. None needs a registry or the toolchain.
+load helpers
+
+setup_file() {
+    cd "$BATS_TEST_DIRNAME/.." || return
+    hide_toolchain
+    export work=$BATS_FILE_TMPDIR
+    if command -v python3 > /dev/null; then python3 -m venv "$work/venv" || rm -rf "$work/venv"; fi
+}
+
+needs_cargo() { { command -v cargo && cargo --version; } > /dev/null 2>&1 || skip "no cargo"; }
+needs_venv() { [ -e "$work/venv" ] || skip "no python3 with venv"; }
+egg_and_tea() { printf '240: egg\n300: tea\n'; }
+pip() { "$work/venv/bin/pip" --disable-pip-version-check "$@"; }
+
+@test "each wrapper has the version of the library" {
+    version=$(cat tools/install/version)
+    for file in bindings/rust/Cargo.toml bindings/python/pyproject.toml; do
+        echo "$file"
+        grep -qx "version = \"$version\"" "$file"
+    done
+}
+
+@test "cargo runs the first program" {
+    needs_cargo
+    cargo run --quiet --offline --manifest-path bindings/rust/Cargo.toml --target-dir "$work/cargo" --example first > "$work/out"
+    egg_and_tea | diff - "$work/out"
+}
+
+@test "a crate that depends on it by its path builds and runs" {
+    needs_cargo
+    mkdir -p "$work/app/src"
+    cp bindings/rust/examples/first.rs "$work/app/src/main.rs"
+    printf '[package]\nname = "app"\nversion = "1.0.0"\nedition = "2021"\n[dependencies]\ntimers = { path = "%s" }\n' "$PWD/bindings/rust" \
+        > "$work/app/Cargo.toml"
+    cargo run --quiet --offline --manifest-path "$work/app/Cargo.toml" > "$work/out"
+    egg_and_tea | diff - "$work/out"
+}
+
+@test "pip installs the module, and the first program runs" {
+    needs_venv
+    top=$PWD
+    pip install --no-index ./bindings/python
+    cd /
+    "$work/venv/bin/python" "$top/examples/c/first.py" > "$work/out"
+    egg_and_tea | diff - "$work/out"
+}
+
+@test "the wheel has the module and each file that its record names, and is removed again" {
+    needs_venv
+    package=$(cd / && "$work/venv/bin/python" -c 'import os, timers; print(os.path.dirname(timers.__file__))')
+    cmp bindings/python/timers.py "$package/timers.py"
+    cmp generated/NOTICE "$package"/../timers-*.dist-info/licenses/NOTICE
+    pip show --files timers | grep timers/libtimers.so.1
+    pip uninstall --yes timers
+    [ ! -e "$package" ]
+}
+
+@test "CMake builds and runs the first program in C++" {
+    needs cmake c++
+    cmake -S bindings/cpp -B "$work/cpp"
+    cmake --build "$work/cpp" --target run > "$work/out"
+    grep -x '2400: egg' "$work/out"
+    grep -x '3000: tea' "$work/out"
+}
