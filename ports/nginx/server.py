@@ -9,6 +9,7 @@ import subprocess
 import tempfile
 import time
 
+LENGTH = 43    # of an answer: that of nginx's empty_gif
 REQUEST = b"GET / HTTP/1.1\r\nHost: here\r\n\r\n"
 
 
@@ -63,9 +64,9 @@ def running(nginx, port, settings, prefix=()):
 
 
 def read_answer(connection):
-    """Reads one answer of empty_gif."""
+    """Reads one answer of LENGTH bytes."""
     text = b""
-    while b"\r\n\r\n" not in text or len(text) < text.index(b"\r\n\r\n") + 4 + 43:
+    while b"\r\n\r\n" not in text or len(text) < text.index(b"\r\n\r\n") + 4 + LENGTH:
         more = connection.recv(4096)
         if not more:
             raise EOFError("the connection was closed")
