@@ -7,6 +7,7 @@
 #include "model.h"
 
 #include <fcntl.h>
+#include <inttypes.h>
 #include <spawn.h>
 #include <stdio.h>
 #include <stdlib.h>
@@ -21,16 +22,24 @@ extern char **environ;
 struct run {
 	const char *arguments[12];
 	struct options options;
+	enum form form;
 };
 
 /* Small limits, both ends of the clock, one bucket and many. */
 static const struct run RUNS[] = {
-	{{"play", "--scheme", "plain"}, {64, 1024, 0, LAST}},
-	{{"play", "--scheme", "hier"}, {64, 1024, 0, LAST}},
-	{{"play", "--scheme", "hashed", "--slots", "1", "--capacity", "3", "--clients", "2"}, {2, 3, 0, LAST}},
-	{{"play", "--scheme", "hier", "--first-tick", "1152921504606846900"}, {64, 1024, LAST - 75, LAST}},
-	{{"play", "--scheme", "hashed", "--slots", "8", "--first-tick", "4090"}, {64, 1024, 4090, LAST}},
-	{{"play", "--scheme", "clock", "--first-tick", "8639000", "--capacity", "5"}, {64, 5, 8639000, LAST_OF_CLOCK}},
+	{{"play", "--scheme", "plain"}, {64, 1024, 0, LAST}, PLAY},
+	{{"play", "--scheme", "hier"}, {64, 1024, 0, LAST}, PLAY},
+	{{"play", "--scheme", "hashed", "--slots", "1", "--capacity", "3", "--clients", "2"}, {2, 3, 0, LAST}, PLAY},
+	{{"play", "--scheme", "hier", "--first-tick", "1152921504606846900"}, {64, 1024, LAST - 75, LAST}, PLAY},
+	{{"play", "--scheme", "hashed", "--slots", "8", "--first-tick", "4090"}, {64, 1024, 4090, LAST}, PLAY},
+	{{"play", "--scheme", "clock", "--first-tick", "8639000", "--capacity", "5"}, {64, 5, 8639000, LAST_OF_CLOCK}, PLAY},
+	{{"serve"}, {64, 1024, 0, LAST}, SERVE},
+	{{"serve", "--keep-going", "--scheme", "plain"}, {64, 1024, 0, LAST}, KEEP_GOING},
+	{{"serve", "--wakeups"}, {64, 1024, 0, LAST}, WAKEUPS},
+	{{"serve", "--wakeups", "--scheme", "clock", "--first-tick", "8639000"}, {64, 1024, 8639000, LAST_OF_CLOCK}, WAKEUPS},
+	{{"serve", "--wakeups", "--scheme", "hashed", "--slots", "8"}, {64, 1024, 0, LAST}, WAKEUPS},
+	{{"show"}, {64, 1024, 0, LAST}, SHOW},
+	{{"check"}, {64, 1024, 0, LAST}, CHECK},
 };
 
 static void fail(const char *what)
@@ -100,6 +109,65 @@ static int same(int fd, const struct text *wanted)
 	return is;
 }
 
+/* Cuts the lines that begin with a space. */
+static void cut_shown(struct text *text)
+{
+	size_t kept = 0;
+	for (size_t at = 0, next; at < text->len; at = next) {
+		const char *feed = memchr(text->at + at, '\n', text->len - at);
+		next = feed ? (size_t)(feed - text->at) + 1 : text->len;
+		if (text->at[at] == ' ')
+			continue;
+		memmove(text->at + kept, text->at + at, next - at);
+		kept += next - at;
+	}
+	text->len = kept;
+}
+
+/* A line of the text is the wanted one, or a wake-up after the present tick and at most at the first deadline. */
+static int line_fits(const char *found, size_t len, const char *wanted, size_t wanted_len)
+{
+	uint64_t now, first, tick;
+	char line[64] = {0}, rest;
+	if (wanted_len < sizeof line)
+		memcpy(line, wanted, wanted_len);
+	if (sscanf(line, "wakeup %" SCNu64 " %" SCNu64, &now, &first) != 2)
+		return len == wanted_len && !memcmp(found, wanted, len);
+	memset(line, 0, sizeof line);
+	if (len >= sizeof line)
+		return 0;
+	memcpy(line, found, len);
+	return sscanf(line, "wakeup %" SCNu64 "%c", &tick, &rest) == 2 && rest == '\n' && now < tick && tick <= first;
+}
+
+static int fits(const struct text *found, const struct text *wanted)
+{
+	size_t at = 0, want = 0;
+	while (at < found->len && want < wanted->len) {
+		const char *feed = memchr(found->at + at, '\n', found->len - at);
+		const char *end = memchr(wanted->at + want, '\n', wanted->len - want);
+		size_t len = feed ? (size_t)(feed - found->at) + 1 - at : found->len - at;
+		size_t wanted_len = (size_t)(end - wanted->at) + 1 - want;
+		if (!line_fits(found->at + at, len, wanted->at + want, wanted_len))
+			return 0;
+		at += len;
+		want += wanted_len;
+	}
+	return at == found->len && want == wanted->len;
+}
+
+/* Whether a run wrote what the model wants. */
+static int is_answer(int fd, const struct text *wanted, enum form form)
+{
+	struct text found = {0};
+	found.at = whole(fd, &found.len);
+	if (form == SHOW)
+		cut_shown(&found);
+	int is = form == WAKEUPS ? fits(&found, wanted) : found.len == wanted->len && (found.len == 0 || !memcmp(found.at, wanted->at, found.len));
+	free(found.at);
+	return is;
+}
+
 int main(int count, char **words)
 {
 	if (count != 2) {
@@ -114,11 +182,11 @@ int main(int count, char **words)
 	size_t len;
 	char *script = whole(in, &len);
 	for (size_t i = 0; i < sizeof RUNS / sizeof *RUNS; i++) {
-		struct answer wanted = play(script, len, RUNS[i].options);
+		struct answer wanted = play(script, len, RUNS[i].options, RUNS[i].form);
 		int status = run(words[1], &RUNS[i], in, out, err);
 		if (status != wanted.status)
 			differ(&RUNS[i], "the status");
-		if (!same(out, &wanted.output))
+		if (!is_answer(out, &wanted.output, RUNS[i].form))
 			differ(&RUNS[i], "the text");
 		if (!same(err, &wanted.faults))
 			differ(&RUNS[i], "the fault");

@@ -226,7 +226,6 @@ static void one(struct facility *f, const struct event *e, struct text *out)
 
 static struct answer fault(struct answer answer, const char *what, uint64_t line)
 {
-	answer.output.len = 0;
 	answer.status = 1;
 	if (line)
 		add(&answer.faults, "%s %" PRIu64 "\n", what, line);
@@ -235,7 +234,54 @@ static struct answer fault(struct answer answer, const char *what, uint64_t line
 	return answer;
 }
 
-struct answer play(const char *script, size_t len, struct options options)
+/* The report of a bad line. */
+static void report(struct text *text, uint64_t n, const char *at, size_t len)
+{
+	struct wrong wrong = diagnose(at, len);
+	add(text, "line %" PRIu64 ", column %zu: ", n, wrong.column);
+	if (wrong.field)
+		add(text, "%s: ", wrong.field);
+	add(text, "%s\n", wrong.reason ? wrong.reason : "nothing");
+}
+
+static void wakeup(const struct facility *f, struct text *out)
+{
+	if (f->len == 0)
+		add(out, "wakeup never\n");
+	else
+		add(out, "wakeup %" PRIu64 " %" PRIu64 "\n", f->now, f->pending[0].deadline);
+}
+
+/* Does the lines in turn, up to one that ends it. Returns whether none did. */
+static bool lines(struct facility *f, const char *script, size_t len, enum form form, struct answer *answer)
+{
+	uint64_t n = 0;
+	for (const char *at = script, *end = script + len; at < end;) {
+		const char *feed = memchr(at, '\n', (size_t)(end - at));
+		const char *next = feed ? feed + 1 : end;
+		size_t all = (size_t)(next - at);
+		struct event e = {0};
+		bool good = feed && line(at, feed, &e);
+		n++;
+		if (good && form != CHECK)
+			one(f, &e, &answer->output);
+		if (good && form == WAKEUPS)
+			wakeup(f, &answer->output);
+		if (!good && form == CHECK)
+			report(&answer->output, n, at, all);
+		if (!good && form == KEEP_GOING)
+			add(&answer->faults, "bad line %" PRIu64 "\n", n);
+		if (!good && form != CHECK && form != KEEP_GOING) {
+			*answer = fault(*answer, "bad line", n);
+			return false;
+		}
+		answer->status |= !good;
+		at = next;
+	}
+	return true;
+}
+
+struct answer play(const char *script, size_t len, struct options options, enum form form)
 {
 	struct answer answer = {0};
 	struct facility f = {.is = options, .now = options.first_tick, .next_serial = 1};
@@ -244,24 +290,13 @@ struct answer play(const char *script, size_t len, struct options options)
 	f.pending = malloc((options.capacity + 1) * sizeof *f.pending);
 	if (!f.pending)
 		exit(3);
-	if (len > 1048576) {
+	if ((form == PLAY || form == CHECK) && len > 1048576) {
 		answer = fault(answer, "too long", 0);
-	} else {
-		uint64_t lines = 0;
-		for (const char *at = script, *end = script + len; at < end;) {
-			const char *feed = memchr(at, '\n', (size_t)(end - at));
-			struct event e = {0};
-			lines++;
-			if (!feed || !line(at, feed, &e)) {
-				answer = fault(answer, "bad line", lines);
-				break;
-			}
-			one(&f, &e, &answer.output);
-			at = feed + 1;
-		}
-		if (answer.status == 0)
-			add(&answer.output, "end %" PRIu64 " %zu\n", f.now, f.len);
-	}
+		answer.status = form == CHECK ? 2 : 1;
+	} else if (lines(&f, script, len, form, &answer) && form != CHECK)
+		add(&answer.output, "end %" PRIu64 " %zu\n", f.now, f.len);
+	if (form == PLAY && answer.status != 0)
+		answer.output.len = 0;
 	free(f.pending);
 	return answer;
 }

@@ -1,6 +1,6 @@
 -- What passes of the bytes of a stream, piece after piece.
 use Rattle.std.proofs.Common.{◌≡◌, zero, suc, ℕ, ◌+◌, ◌≤◌, Bool, true, false, List, [], ◌∷◌, ◌++◌, length, take, refl, sym, ap, subst, ◌∙◌, arith, inl, inr, append-nil, length-append}
-use Rattle.std.specs.Prelude.{◌↔◌, Option}
+use Rattle.std.specs.Prelude.{◌↔◌, Option, None}
 use Rattle.std.proofs.Math.Seq.{take-append_seam, take-append-add}
 use Rattle.std.proofs.lemmas.Grind.{flat_map-append}
 use Rattle.std.proofs.KnownBytes.{Appends-nil, Appends-trans}
@@ -10,9 +10,12 @@ use Rattle.timer_script.specs.declared.intake.OnBadLine.{OnBadLine}
 use Rattle.timer_script.specs.declared.intake.OnBadLine.TheVariants.{Stop, Report}
 use Rattle.timer_script.specs.declared.intake.Intake.{Intake}
 use Rattle.timer_script.specs.declared.watched.Watched.{Watched}
+use Rattle.timer_script.specs.declared.line_fault.LineFault.{LineFault}
+use Rattle.timer_script.specs.declared.line_fault.LineReason.TheVariants.{NoLineEnd}
+use Rattle.timer_script.specs.declared.splitter.TheConstants.{MAX_LINE}
 use Rattle.timer_script.specs.Watched.{inner_of, has_failed}
 use Rattle.timer_script.specs.Script.{IsScript, spelling}
-use Rattle.timer_script.specs.Sieve.{Line, IsCut, events_of, number_after, bad_of, last_bad, all_bad, complaint, complaints, IsHeld, HasSifted}
+use Rattle.timer_script.specs.Sieve.{Line, IsCut, events_of, number_after, Complaint, bad_of, IsLastBad, complaint_line, complaints, IsHeld, HasSifted}
 use Rattle.timer_script.specs.Intake.{Passes, HasReported, AreSoFar, AreFirst, AreAll, HasPassedGood, HasPassed, HasPassedPart, HasEnded, HasSieved, HasTakenBy, HasTakenIn, passed_by, passed_of}
 use Rattle.timer_script.specs.Session.{IsStoppedAt}
 use Rattle.timer_facility.specs.State.{FacilityState}
@@ -38,7 +41,7 @@ take_within zero xs ys l = refl
 take_within (suc k) [] ys l = absurd (omega arith)
 take_within (suc k) (x ∷ xs) ys l = ap (λ t. x ∷ t) (take_within k xs ys (omega arith))
 
-take_length : (xs : List ℕ) → take (length xs) xs ≡ xs
+take_length : {A : Type 0} (xs : List A) → take (length xs) xs ≡ xs
 take_length [] = refl
 take_length (x ∷ xs) = ap (λ t. x ∷ t) (take_length xs)
 
@@ -69,20 +72,20 @@ reported_join {F} contents u v w xs ys a b = elim (either (has_failed v)) [
 
 -- ---- one more piece
 
-no_complaint : (xs : List ℕ) → complaints xs ≡ [] → xs ≡ []
+no_complaint : (xs : List Complaint) → complaints xs ≡ [] → xs ≡ []
 no_complaint [] e = refl
 no_complaint (x ∷ xs) e = absurd cc
 
-nil_left : (xs ys : List ℕ) → xs ++ ys ≡ [] → xs ≡ []
+nil_left : (xs ys : List Complaint) → xs ++ ys ≡ [] → xs ≡ []
 nil_left [] ys e = refl
 nil_left (x ∷ xs) ys e = absurd cc
 
-nil_right : (xs ys : List ℕ) → xs ++ ys ≡ [] → ys ≡ []
+nil_right : (xs ys : List Complaint) → xs ++ ys ≡ [] → ys ≡ []
 nil_right [] ys e = e
 nil_right (x ∷ xs) ys e = absurd cc
 
 -- whether no line was bad so far
-clean_more : (a c : Bool) (numbers more : List ℕ) (said : List ℕ) → said ≡ complaints more
+clean_more : (a c : Bool) (numbers more : List Complaint) (said : List ℕ) → said ≡ complaints more
     → ((a ≡ true) ↔ (numbers ≡ [])) → ((c ≡ true) ↔ ((a ≡ true) × (said ≡ [])))
     → ((c ≡ true) ↔ (numbers ++ more ≡ []))
 clean_more a c numbers more said is h both = (
@@ -95,7 +98,7 @@ good_none : {F : Type 0} (contents : F → Option (List ℕ)) (w : Watched F)
 good_none contents w = record {
   lines = [];
   left = [];
-  numbers = [];
+  bad = [];
   cut = record { parts = refl; each = tt; unended = tt };
   fed_is = refl;
   are = refl;
@@ -129,64 +132,78 @@ pub sieved_more : {F : Type 0} (contents : F → Option (List ℕ)) (w u v : Wat
 sieved_more {F} contents w u v held held' number number' clean clean' came fed piece good said k sifts reports both =
     let p = k.passed in
     let h : HasSifted p.left number piece [] good [] said held' number' = sifts p.left k.held_is in
-    let more : List ℕ = bad_of (number_after 1 p.lines) h.lines in
+    let more : List Complaint = bad_of (number_after 1 p.lines) h.lines in
     let said_is : said ≡ complaints more = h.said_is ∙ ap (λ m. complaints (bad_of m h.lines)) k.counted in
     record {
       passed = record {
         lines = p.lines ++ h.lines;
         left = h.left;
-        numbers = p.numbers ++ more;
+        bad = p.bad ++ more;
         cut = cut_more came p.lines p.left number piece good said held' number' p.cut h;
         fed_is = ap (λ t. t ++ good) p.fed_is ∙ ap (λ t. spelling (events_of p.lines) ++ t) h.good_is
             ∙ sym (spelling-append p.lines h.lines);
         are = ap (λ t. t ++ more) p.are ∙ sym (bad-append 1 p.lines h.lines);
         reported = subst (λ t. HasReported contents w v t)
-            (ap (λ t. complaints p.numbers ++ t) said_is ∙ sym (flat_map-append complaint p.numbers more))
-            (reported_join contents w u v (complaints p.numbers) said p.reported reports);
+            (ap (λ t. complaints p.bad ++ t) said_is ∙ sym (flat_map-append complaint_line p.bad more))
+            (reported_join contents w u v (complaints p.bad) said p.reported reports);
       };
       held_is = h.held;
       counted = h.counted ∙ ap (λ m. number_after m h.lines) k.counted ∙ sym (number-append 1 p.lines h.lines);
-      clean_is = clean_more clean clean' p.numbers more said said_is k.clean_is both;
+      clean_is = clean_more clean clean' p.bad more said said_is k.clean_is both;
     }
 
 -- the end came, and a line that had not ended was reported
 pub sieved_last : {F : Type 0} (contents : F → Option (List ℕ)) (w u v : Watched F) (held : List ℕ) (number : ℕ)
     (clean clean' : Bool) (came fed said : List ℕ) → HasSieved contents w u held number clean came fed
-    → ((front : List ℕ) → IsHeld held front → said ≡ complaints (last_bad number front))
+    → ((front : List ℕ) → IsHeld held front → (last : List Complaint) × IsLastBad number front last × (said ≡ complaints last))
     → HasReported contents u v said → ((clean' ≡ true) ↔ ((clean ≡ true) × (said ≡ [])))
     → HasEnded Report clean' contents w v came fed
 sieved_last {F} contents w u v held number clean clean' came fed said k says reports both =
     let p = k.passed in
-    let more : List ℕ = last_bad (number_after 1 p.lines) p.left in
-    let said_is : said ≡ complaints more =
-    says p.left k.held_is ∙ ap (λ m. complaints (last_bad m p.left)) k.counted in
+    let (more, is_last, said_is) = says p.left k.held_is in
     record {
       lines = p.lines;
       left = p.left;
-      numbers = p.numbers ++ more;
+      bad = p.bad ++ more;
       cut = p.cut;
       fed_is = p.fed_is;
-      are = (ap (λ t. t ++ more) p.are, clean_more clean clean' p.numbers more said said_is k.clean_is both);
+      are = (
+        more,
+        subst (λ m. IsLastBad m p.left more) k.counted is_last,
+        ap (λ t. t ++ more) p.are,
+        clean_more clean clean' p.bad more said said_is k.clean_is both,
+      );
       reported = subst (λ t. HasReported contents w v t)
-          (ap (λ t. complaints p.numbers ++ t) said_is ∙ sym (flat_map-append complaint p.numbers more))
-          (reported_join contents w u v (complaints p.numbers) said p.reported reports);
+          (ap (λ t. complaints p.bad ++ t) said_is ∙ sym (flat_map-append complaint_line p.bad more))
+          (reported_join contents w u v (complaints p.bad) said p.reported reports);
     }
 
 -- ---- what passed, as callers see it
+
+-- a line that has not ended is bad where it ends
+some_last : (n : ℕ) (left : List ℕ) → (last : List Complaint) × IsLastBad n left last
+some_last n [] = ([], refl)
+some_last n (b ∷ left) =
+    let seen : List ℕ = take MAX_LINE (b ∷ left) in
+    let fault : LineFault = record { column = length seen + 1; field = None; reason = NoLineEnd } in
+    ((n, fault) ∷ [], (fault, record { some = omega arith; within = omega arith; reason = omega arith }, refl))
 
 passed_as : {F : Type 0} (contents : F → Option (List ℕ)) (w v : Watched F) (came fed : List ℕ)
     (p : HasPassedGood AreSoFar contents w v came fed) → HasPassedGood AreFirst contents w v came fed
 passed_as contents w v came fed p = record {
   lines = p.lines;
   left = p.left;
-  numbers = p.numbers;
+  bad = p.bad;
   cut = p.cut;
   fed_is = p.fed_is;
-  are = (
-    length p.numbers,
-    p.are ∙ sym (take-append_seam (bad_of 1 p.lines) (last_bad (number_after 1 p.lines) p.left))
-        ∙ ap (λ t. take (length t) (all_bad p.lines p.left)) (sym p.are),
-  );
+  are =
+      let (last, is_last) = some_last (number_after 1 p.lines) p.left in (
+        last,
+        is_last,
+        length p.bad,
+        p.are ∙ sym (take-append_seam (bad_of 1 p.lines) last)
+            ∙ ap (λ t. take (length t) (bad_of 1 p.lines ++ last)) (sym p.are),
+      );
   reported = p.reported;
 }
 
@@ -264,13 +281,15 @@ ended_first contents w v Stop clean came fed h = (h.0, h.1)
 ended_first contents w v Report clean came fed h = record {
   lines = h.lines;
   left = h.left;
-  numbers = h.numbers;
+  bad = h.bad;
   cut = h.cut;
   fed_is = h.fed_is;
   are = (
-    length h.numbers,
-    h.are.0 ∙ sym (take_length (all_bad h.lines h.left))
-        ∙ ap (λ t. take (length t) (all_bad h.lines h.left)) (sym h.are.0),
+    h.are.0,
+    h.are.1,
+    length h.bad,
+    h.are.2 ∙ sym (take_length (bad_of 1 h.lines ++ h.are.0))
+        ∙ ap (λ t. take (length t) (bad_of 1 h.lines ++ h.are.0)) (sym h.are.2),
   );
   reported = h.reported;
 }
@@ -324,7 +343,7 @@ ended_all contents w v Report held number clean came fed is h = absurd cc
 pub ended_good : {F : Type 0} (contents : F → Option (List ℕ)) (w u v : Watched F) (o : OnBadLine) (held : List ℕ)
     (number : ℕ) (clean clean' : Bool) (came fed said : List ℕ) → o ≡ Report
     → HasTakenBy o contents w u held number clean came fed
-    → ((front : List ℕ) → IsHeld held front → said ≡ complaints (last_bad number front))
+    → ((front : List ℕ) → IsHeld held front → (last : List Complaint) × IsLastBad number front last × (said ≡ complaints last))
     → HasReported contents u v said → ((clean' ≡ true) ↔ ((clean ≡ true) × (said ≡ [])))
     → HasEnded o clean' contents w v came fed
 ended_good contents w u v Stop held number clean clean' came fed said is k says reports both = absurd cc

@@ -3,6 +3,7 @@ use Rattle.std.proofs.Common.{◌≡◌, zero, suc, ℕ, ◌+◌, ◌≤◌, Boo
 use Rattle.std.specs.Prelude.{Option, Result, Ok, Err, Some}
 use Rattle.std.specs.Io.KnownBytes.{IsAtEnd}
 use Rattle.std.proofs.lemmas.List.{length-take-le, take-append-le}
+use Rattle.timer_facility.specs.declared.event.Event.{Event}
 use Rattle.timer_facility.specs.State.{FacilityState, IsSound}
 use Rattle.timer_script.specs.declared.fault.ServeFault.{ServeFault}
 use Rattle.timer_script.specs.declared.fault.ServeFault.TheVariants as faults
@@ -19,7 +20,7 @@ use Rattle.timer_script.proofs.SessionLemmas.{fed_nothing, stopped_at, some_more
 use Rattle.timer_script.proofs.IntakeLemmas.{stopped_passed, part_whole, part_none, taken_passes, taken_piece}
 use Rattle.timer_script.proofs.PeerLemmas.{known_prompt, talked_nothing, talked_wrote, talked_sent, came_after, failed_after}
 use Rattle.timer_script.specs.Script.{BeginsNoLine}
-use Rattle.timer_script.proofs.ServicePieces.{plain, answered_join, sent_good, all_sent}
+use Rattle.timer_script.proofs.ServicePieces.{plain, fed_answered, answered_join, sent_good, all_sent}
 
 -- ---- a session and its peer
 
@@ -35,7 +36,7 @@ so_far_none o P A d before p none = record {
   sent = [];
   passed = none;
   talked = talked_nothing (IsAnsweredWith o A (fresh before)) p;
-  answered = record { bytes = []; parts = refl; answer = []; fed = fed_nothing (fresh before) []; added = d.lines [] };
+  answered = fed_answered A d (fresh before) (fresh before) [] [] [] [] [] refl refl refl (fed_nothing (fresh before) []);
 }
 
 -- out of memory before anything was read
@@ -150,26 +151,51 @@ some_count (suc n) e = omega arith
 -- ---- how serving ends
 
 -- what was sent, if no line is held at the end, and the end line, are the answer
-answered_all : (before : FacilityState) (s : SessionState) (q : PeerState) (fed sent : List ℕ) → IsSound before
-    → IsAtEnd q.remaining → IsAnsweredSoFar s → s.held ≡ [] → HasFed (fresh before) fed [] sent s
-    → HasAnsweredAll before q fed (sent ++ last_line s)
-answered_all before s q fed sent sound at_end going whole all =
-    let (events, script, answer) = session_answers before fed sent s sound all going.written whole in
-    record { events = events; at_end = at_end; script = script; answered = answer }
-
-at_end_still : (before : FacilityState) (q r : PeerState) (fed answer : List ℕ) → r.remaining ≡ q.remaining
-    → HasAnsweredAll before q fed answer → HasAnsweredAll before r fed answer
-at_end_still before q r fed answer same h = record {
-  events = h.events;
-  at_end = subst IsAtEnd (sym same) h.at_end;
-  script = h.script;
-  answered = h.answered;
-}
+answered_all : (before : FacilityState) (s : SessionState) (q r : PeerState) (fed sent : List ℕ) → IsSound before
+    → IsAtEnd q.remaining → r.remaining ≡ q.remaining → IsAnsweredSoFar s → s.held ≡ [] → HasFed (fresh before) fed [] sent s
+    → HasAnsweredAll before r fed (sent ++ last_line s)
+answered_all before s q r fed sent sound at_end same going whole all =
+    let told = session_answers before fed sent s sound all going.written whole in
+    record { events = told.0; at_end = subst IsAtEnd (sym same) at_end; script = told.1; answered = told.2 }
 
 answer_written : (o : OnBadLine) (P : Passage) (A : Decoration) (before : FacilityState) (p q : PeerState) (s : SessionState)
-    (unfed : List ℕ) → (h : HasServedSoFar o P A before p q s unfed [] true) → s.unwritten ≡ [] → A h.answered.answer h.sent
-answer_written o P A before p q s unfed h written = subst (λ t. A h.answered.answer t) (append-nil h.sent)
-    (plain A s.unwritten h.answered.answer (h.sent ++ []) written h.answered.added)
+    (unfed : List ℕ) → (h : HasServedSoFar o P A before p q s unfed [] true) → s.unwritten ≡ []
+    → A before h.answered.fed.events s.state h.answered.answer h.sent
+answer_written o P A before p q s unfed h written =
+    let events : List Event = h.answered.fed.events in
+    subst (λ t. A before events s.state h.answered.answer t) (append-nil h.sent)
+    (plain A before s.state events s.unwritten h.answered.answer (h.sent ++ []) written h.answered.added)
+
+-- what was sent is the answer to all that passed, with what is added
+all_added : (A : Decoration) (before : FacilityState) (s : SessionState) (bytes fed answer text : List ℕ) → fed ≡ bytes
+    → (h : HasFed (fresh before) bytes [] answer s) → A before h.events s.state answer text
+    → (all : HasFed (fresh before) fed [] answer s) × A before all.events s.state answer text
+all_added A before s bytes fed answer text is h added =
+    subst (λ z. (all : HasFed (fresh before) z [] answer s) × A before all.events s.state answer text) (sym is) (h, added)
+
+-- and so is it with the end line after both
+end_added : (A : Decoration) (d : IsLawful A) (before : FacilityState) (s : SessionState) (q r : PeerState) (fed answer text : List ℕ)
+    → IsSound before → IsAtEnd q.remaining → r.remaining ≡ q.remaining → IsAnsweredSoFar s → s.held ≡ []
+    → (all : HasFed (fresh before) fed [] answer s) → A before all.events s.state answer text
+    → (whole : HasAnsweredAll before r fed (answer ++ last_line s))
+    × A before whole.events whole.answered.after (answer ++ last_line s) (text ++ last_line s)
+unfolding answered_all session_answers
+end_added A d before s q r fed answer text sound at_end same going none all added = (
+  answered_all before s q r fed answer sound at_end same going none all,
+  subst (λ z. A before z s.state (answer ++ last_line s) (text ++ last_line s)) (append-nil all.events)
+      (d.joins before s.state s.state all.events [] answer (last_line s) text (last_line s) added (d.end s.state)),
+)
+
+-- the line after those that were fed is bad
+stopped_added : (A : Decoration) (before : FacilityState) (s : SessionState) (bytes unfed fed answer text : List ℕ) (n : ℕ)
+    → fed ≡ bytes ++ unfed → (h : HasFed (fresh before) bytes [] answer s) → s.unwritten ≡ []
+    → 1 ≤ length (s.held ++ unfed) → BeginsNoLine (s.held ++ unfed) → n ≡ next_line s
+    → A before h.events s.state answer text
+    → (stopped : IsStoppedAt before fed answer n) × A before stopped.events stopped.after answer text
+unfolding stopped_at
+stopped_added A before s bytes unfed fed answer text n parts h written some bad counted added =
+    subst (λ z. (stopped : IsStoppedAt before z answer n) × A before stopped.events stopped.after answer text) (sym parts)
+    (stopped_at before s bytes unfed answer n h written some bad counted, added)
 
 -- the bytes after those that were fed begin no line
 bad_at : {F : Type 0} (o : OnBadLine) (A : Decoration) (before : FacilityState) (p q : PeerState) (contents : F → Option (List ℕ))
@@ -178,20 +204,12 @@ bad_at : {F : Type 0} (o : OnBadLine) (A : Decoration) (before : FacilityState) 
     → 1 ≤ length (s.held ++ unfed) → BeginsNoLine (s.held ++ unfed) → n ≡ next_line s → AreGood q
     → HasServed o A before p q contents w v (Err (faults.Bad n))
 bad_at {F} o A before p q contents w v s unfed n h written some bad counted good =
-    let stopped : IsStoppedAt before h.fed h.answered.answer n =
-    subst (λ z. IsStoppedAt before z h.answered.answer n) (sym h.answered.parts)
-    (stopped_at before s h.answered.bytes unfed h.answered.answer n h.answered.fed written some bad counted) in
-    let (stops, same, all) = stopped_passed contents w v o before h.came h.fed h.answered.answer n h.passed stopped in (
-      stops,
-      same,
-      h.came,
-      h.answered.answer,
-      h.sent,
-      subst (λ z. IsStoppedAt before z h.answered.answer n) all stopped,
-      answer_written o (HasPassed o AreFirst contents w v) A before p q s unfed h written,
-      h.talked,
-      good,
-    )
+    let a = h.answered in
+    let added = answer_written o (HasPassed o AreFirst contents w v) A before p q s unfed h written in
+    let stopped = stopped_added A before s a.bytes unfed h.fed a.answer h.sent n a.parts a.fed written some bad counted added in
+    let (stops, same, all) = stopped_passed contents w v o before h.came h.fed a.answer n h.passed stopped.0 in
+    let came = stopped_added A before s a.bytes unfed h.came a.answer h.sent n (sym all ∙ a.parts) a.fed written some bad counted added in
+    (stops, same, h.came, a.answer, h.sent, came.0, came.1, h.talked, good)
 
 -- what passed was not all served
 pub served_stopped : {E F : Type 0} (o : OnBadLine) (P : Passage) (A : Decoration) (d : IsLawful A) (fault : ServeFault)
@@ -235,11 +253,17 @@ served_stopped {E} {F} o P A d faults.Write before p q r t contents w v s new n 
 served_stopped {E} {F} o P A d faults.TooLong before p q r t contents w v s new n piece good within short passes more h going gives stops =
     absurd stops
 
--- all that passed was fed
-fed_whole : (o : OnBadLine) (P : Passage) (A : Decoration) (before : FacilityState) (p q : PeerState) (s : SessionState)
-    → (h : HasServedSoFar o P A before p q s [] [] true) → HasFed (fresh before) h.fed [] h.answered.answer s
-fed_whole o P A before p q s h = subst (λ x. HasFed (fresh before) x [] h.answered.answer s)
-    (sym (h.answered.parts ∙ append-nil h.answered.bytes)) h.answered.fed
+-- all that passed was fed, and then the end line comes
+whole_added : (o : OnBadLine) (P : Passage) (A : Decoration) (d : IsLawful A) (before : FacilityState) (p q r : PeerState)
+    (s : SessionState) → (h : HasServedSoFar o P A before p q s [] [] true) → IsSound before → IsAtEnd q.remaining
+    → r.remaining ≡ q.remaining → IsAnsweredSoFar s → s.held ≡ []
+    → (whole : HasAnsweredAll before r h.fed (h.answered.answer ++ last_line s))
+    × A before whole.events whole.answered.after (h.answered.answer ++ last_line s) (h.sent ++ last_line s)
+whole_added o P A d before p q r s h sound at_end same going none =
+    let a = h.answered in
+    let all = all_added A before s a.bytes h.fed a.answer h.sent (a.parts ∙ append-nil a.bytes) a.fed
+    (answer_written o P A before p q s [] h going.written) in
+    end_added A d before s q r h.fed a.answer h.sent sound at_end same going none all.0 all.1
 
 -- the end line was not written, or not completely
 pub served_end : {F : Type 0} (o : OnBadLine) (A : Decoration) (d : IsLawful A) (fault : ServeFault) (before : FacilityState)
@@ -265,10 +289,7 @@ served_end {F} o A d faults.Write before s p q r contents w v sound at_end going
     let h : HasSentPart q (last_line s) r = stops.1 in
     let end : List ℕ = last_line s in
     let answer : List ℕ = f.answered.answer ++ end in
-    let all : HasAnsweredAll before q f.fed answer = answered_all before s q f.fed f.answered.answer sound at_end going stops.0
-    (fed_whole o P A before p q s f) in
-    let text : A answer (f.sent ++ end) = d.joins f.answered.answer end f.sent end
-    (answer_written o P A before p q s [] f going.written) (d.end s.state.now (length s.state.pending)) in
+    let all = whole_added o P A d before p q r s f sound at_end h.written.remaining going stops.0 in
     let cut : f.sent ++ end ≡ (f.sent ++ take h.count end) ++ drop h.count end =
     ap (λ x. f.sent ++ x) (sym (take-append-drop h.count end)) ∙ sym (append_assoc f.sent (take h.count end) (drop h.count end)) in (
       inr (
@@ -279,8 +300,8 @@ served_end {F} o A d faults.Write before s p q r contents w v sound at_end going
         drop h.count end,
         is_flushed true h.written.moments,
         f.passed,
-        at_end_still before q r f.fed answer h.written.remaining all,
-        subst (A answer) cut text,
+        all.0,
+        subst (A before all.0.events all.0.answered.after answer) cut all.1,
         talked_wrote (IsAnsweredWith o A (fresh before)) p q r f.came f.sent (take h.count end) true f.talked h.written,
       ),
       h.written.reading ∙ good.reading,
@@ -297,16 +318,14 @@ pub served_finish : {F : Type 0} (o : OnBadLine) (clean : Bool) (A : Decoration)
 served_finish {F} o clean A d before s p q r contents w v sound at_end going good f whole h =
     let P : Passage = HasEnded o clean contents w v in
     let end : List ℕ = last_line s in
-    let answer : List ℕ = f.answered.answer ++ end in (
+    let all = whole_added o P A d before p q r s f sound at_end h.written.remaining going whole in (
       f.came,
       f.fed,
-      answer,
+      f.answered.answer ++ end,
       f.sent ++ end,
       f.passed,
-      at_end_still before q r f.fed answer h.written.remaining
-          (answered_all before s q f.fed f.answered.answer sound at_end going whole (fed_whole o P A before p q s f)),
-      d.joins f.answered.answer end f.sent end (answer_written o P A before p q s [] f going.written)
-          (d.end s.state.now (length s.state.pending)),
+      all.0,
+      all.1,
       talked_sent (IsAnsweredWith o A (fresh before)) p q r f.came f.sent end true f.talked h,
       sent_good q r end good.reading h,
     )
@@ -383,7 +402,8 @@ nothing_added : (o : OnBadLine) (start : SessionState) (came gone : List ℕ) �
     → IsAnsweredOf o start came gone
 nothing_added o start came gone h =
     let f = h.answered in
-    let same : gone ≡ f.answer = plain AddsNothing h.session.unwritten f.answer gone h.going.written f.added in
+    let same : gone ≡ f.answer = plain AddsNothing start.state h.session.state f.fed.events h.session.unwritten f.answer gone
+    h.going.written f.added in
     let whole : f.bytes ≡ h.fed = sym (f.parts ∙ append-nil f.bytes) in (
       h.fed,
       h.passes,

@@ -3,7 +3,9 @@ use Rattle.std.proofs.Common.{◌≡◌, ℕ, Bool, true, false, List, [], ◌++
 use Rattle.std.specs.Prelude.{Result, Ok, Err, OnOk, IfErr}
 use Rattle.std.specs.Result.{IsErrAnd}
 use Rattle.std.proofs.Math.Seq.{take-append_seam}
+use Rattle.timer_facility.specs.declared.event.Event.{Event}
 use Rattle.timer_facility.specs.declared.event.Out.{Out}
+use Rattle.timer_facility.specs.State.{FacilityState}
 use Rattle.timer_script.specs.declared.fault.ServeFault.{ServeFault}
 use Rattle.timer_script.specs.declared.fault.ServeFault.TheVariants as faults
 use Rattle.timer_script.specs.declared.fault.SessionFault.{SessionFault}
@@ -24,32 +26,38 @@ not_ended_before fault a b why going is = let ended = subst (λ f. WhyStopped f 
 -- ---- one line
 
 -- nothing is unwritten
-pub plain : (A : Decoration) (u : List Out) (x y : List ℕ) → u ≡ [] → A (x ++ lines_of u) (y ++ lines_of u) → A x y
-plain A u x y none h =
-    subst (λ t. A t y) (append-nil x) (subst (λ t. A (x ++ []) t) (append-nil y)
-    (subst (λ v. A (x ++ lines_of v) (y ++ lines_of v)) none h))
+pub plain : (A : Decoration) (s t : FacilityState) (events : List Event) (u : List Out) (x y : List ℕ) → u ≡ []
+    → A s events t (x ++ lines_of u) (y ++ lines_of u) → A s events t x y
+plain A s t events u x y none h =
+    subst (λ z. A s events t z y) (append-nil x) (subst (λ z. A s events t (x ++ []) z) (append-nil y)
+    (subst (λ v. A s events t (x ++ lines_of v) (y ++ lines_of v)) none h))
 
-unplain : (A : Decoration) (u : List Out) (x y : List ℕ) → u ≡ [] → A x y → A (x ++ lines_of u) (y ++ lines_of u)
-unplain A u x y none h =
-    subst (λ v. A (x ++ lines_of v) (y ++ lines_of v)) (sym none)
-    (subst (λ t. A (x ++ []) t) (sym (append-nil y)) (subst (λ t. A t y) (sym (append-nil x)) h))
+unplain : (A : Decoration) (s t : FacilityState) (events : List Event) (u : List Out) (x y : List ℕ) → u ≡ []
+    → A s events t x y → A s events t (x ++ lines_of u) (y ++ lines_of u)
+unplain A s t events u x y none h =
+    subst (λ v. A s events t (x ++ lines_of v) (y ++ lines_of v)) (sym none)
+    (subst (λ z. A s events t (x ++ []) z) (sym (append-nil y)) (subst (λ z. A s events t z y) (sym (append-nil x)) h))
 
 -- what a session writes for some bytes is the answer to them, with nothing added
+fed_whole : (A : Decoration) (d : IsLawful A) (a b : SessionState) (piece bytes unfed text : List ℕ)
+    → a.unwritten ≡ [] → piece ≡ bytes ++ unfed → HasFed a bytes [] text b → HasAnswered A a piece text b unfed
+fed_whole A d a b piece bytes unfed text written parts fed =
+    let whole : lines_of fed.outs ≡ text ++ lines_of b.unwritten =
+    ap (λ u. lines_of u ++ lines_of fed.outs) (sym written) ∙ fed.written ∙ ap (λ t. t ++ lines_of b.unwritten) (sym fed.grows) in
+    record {
+      bytes = bytes;
+      parts = parts;
+      answer = text;
+      fed = fed;
+      added = subst (λ t. A a.state fed.events b.state t t) whole (d.lines a.state b.state fed.events fed.outs fed.runs);
+    }
+
 pub fed_answered : (A : Decoration) (d : IsLawful A) (a b : SessionState) (piece bytes unfed before text : List ℕ) → before ≡ []
     → a.unwritten ≡ [] → piece ≡ bytes ++ unfed
     → HasFed a bytes before text b
     → HasAnswered A a piece text b unfed
 fed_answered A d a b piece bytes unfed before text none written parts fed =
-    let added : fed.added ≡ text = ap (λ t. t ++ fed.added) (sym none) ∙ sym fed.grows in
-    let whole : lines_of fed.outs ≡ text ++ lines_of b.unwritten =
-    ap (λ u. lines_of u ++ lines_of fed.outs) (sym written) ∙ fed.written ∙ ap (λ t. t ++ lines_of b.unwritten) added in
-    record {
-      bytes = bytes;
-      parts = parts;
-      answer = text;
-      fed = subst (λ t. HasFed a bytes t text b) none fed;
-      added = subst (λ t. A t t) whole (d.lines fed.outs);
-    }
+    fed_whole A d a b piece bytes unfed text written parts (subst (λ t. HasFed a bytes t text b) none fed)
 
 -- feeding stopped
 pub feed_stopped : (A : Decoration) (d : IsLawful A) (fault : SessionFault) (a b : SessionState) (line before text : List ℕ) (taken : ℕ)
@@ -69,31 +77,43 @@ feed_stopped A d fault a b line before text taken none going fed why =
 -- what is added after it
 pub line_decorated : (A : Decoration) (d : IsLawful A) (a b : SessionState) (piece text text' : List ℕ) → HasAnswered A a piece text b []
     → b.unwritten ≡ []
-    → HasGrownBy A text text' → HasAnswered A a piece text' b []
+    → HasGrownBy A b.state text text' → HasAnswered A a piece text' b []
 line_decorated A d a b piece text text' h written grown =
-    let both : A (h.answer ++ []) (text ++ grown.0) =
-    d.joins h.answer [] text grown.0 (plain A b.unwritten h.answer text written h.added) grown.2 in
-    let added : A h.answer text' = subst (λ t. A t text') (append-nil h.answer)
-    (subst (λ t. A (h.answer ++ []) t) (sym grown.1) both) in
-    record { bytes = h.bytes; parts = h.parts; answer = h.answer; fed = h.fed; added = unplain A b.unwritten h.answer text' written added }
+    let s : FacilityState = a.state in
+    let t : FacilityState = b.state in
+    let events : List Event = h.fed.events in
+    let both : A s (events ++ []) t (h.answer ++ []) (text ++ grown.0) =
+    d.joins s t t events [] h.answer [] text grown.0 (plain A s t events b.unwritten h.answer text written h.added) grown.2 in
+    let added : A s events t h.answer text' =
+    subst (λ z. A s z t h.answer text') (append-nil events) (subst (λ z. A s (events ++ []) t z text') (append-nil h.answer)
+    (subst (λ z. A s (events ++ []) t (h.answer ++ []) z) (sym grown.1) both)) in
+    record {
+      bytes = h.bytes;
+      parts = h.parts;
+      answer = h.answer;
+      fed = h.fed;
+      added = unplain A s t events b.unwritten h.answer text' written added;
+    }
 
 -- one text after another
 pub answered_join : (A : Decoration) (d : IsLawful A) (a b c : SessionState) (x y t u unfed : List ℕ) → HasAnswered A a x t b []
     → b.unwritten ≡ [] → HasAnswered A b y u c unfed
     → HasAnswered A a (x ++ y) (t ++ u) c unfed
+unfolding fed_join fed_shift
 answered_join A d a b c x y t u unfed f written g =
     let left : List ℕ = lines_of c.unwritten in
-    let later : HasFed b g.bytes f.answer (f.answer ++ g.answer) c =
-    subst (λ z. HasFed b g.bytes z (f.answer ++ g.answer) c) (append-nil f.answer) (fed_shift b c g.bytes f.answer [] g.answer g.fed) in
-    let both : A (f.answer ++ (g.answer ++ left)) (t ++ (u ++ left)) =
-    d.joins f.answer (g.answer ++ left) t (u ++ left) (plain A b.unwritten f.answer t written f.added) g.added in
+    let events : List Event = f.fed.events ++ g.fed.events in
+    let later : HasFed b g.bytes f.answer (f.answer ++ g.answer) c = fed_shift b c g.bytes f.answer g.answer g.fed in
+    let both : A a.state events c.state (f.answer ++ (g.answer ++ left)) (t ++ (u ++ left)) =
+    d.joins a.state b.state c.state f.fed.events g.fed.events f.answer (g.answer ++ left) t (u ++ left)
+    (plain A a.state b.state f.fed.events b.unwritten f.answer t written f.added) g.added in
     record {
       bytes = f.bytes ++ g.bytes;
       parts = ap (λ z. z ++ y) (f.parts ∙ append-nil f.bytes) ∙ ap (λ z. f.bytes ++ z) g.parts ∙ sym (append_assoc f.bytes g.bytes unfed);
       answer = f.answer ++ g.answer;
       fed = fed_join a b c f.bytes g.bytes [] f.answer (f.answer ++ g.answer) f.fed later;
-      added = subst (λ z. A z ((t ++ u) ++ left)) (sym (append_assoc f.answer g.answer left))
-          (subst (λ z. A (f.answer ++ (g.answer ++ left)) z) (sym (append_assoc t u left)) both);
+      added = subst (λ z. A a.state events c.state z ((t ++ u) ++ left)) (sym (append_assoc f.answer g.answer left))
+          (subst (λ z. A a.state events c.state (f.answer ++ (g.answer ++ left)) z) (sym (append_assoc t u left)) both);
     }
 
 -- more bytes that were not fed
@@ -187,10 +207,11 @@ sent_err A (Err fault) a b q r piece text k good s = line_stopped A fault a b q 
 
 -- ---- line after line
 
-pub piece_none : (A : Decoration) (d : IsLawful A) (s : SessionState) (p : PeerState) → HasServedPiece A s [] p p s [] [] true
-piece_none A d s p = record {
+pub piece_none : (A : Decoration) (d : IsLawful A) (s : SessionState) (p : PeerState) → s.unwritten ≡ []
+    → HasServedPiece A s [] p p s [] [] true
+piece_none A d s p written = record {
   sent = [];
-  answered = record { bytes = []; parts = refl; answer = []; fed = fed_nothing s []; added = d.lines s.unwritten };
+  answered = fed_answered A d s s [] [] [] [] [] refl written refl (fed_nothing s []);
   written = written_none p;
   flush = flushed_none p;
 }
@@ -254,8 +275,9 @@ pub record HasServedUpTo (A : Decoration) (old : SessionState) (bytes : List ℕ
   pub parts : bytes ≡ front ++ rest
   pub served : HasServedPiece A old front peer peer' new [] [] true
 
-pub up_to_none : (A : Decoration) (d : IsLawful A) (s : SessionState) (p : PeerState) (bytes : List ℕ) → HasServedUpTo A s bytes p p s bytes
-up_to_none A d s p bytes = record { front = []; parts = refl; served = piece_none A d s p }
+pub up_to_none : (A : Decoration) (d : IsLawful A) (s : SessionState) (p : PeerState) (bytes : List ℕ) → s.unwritten ≡ []
+    → HasServedUpTo A s bytes p p s bytes
+up_to_none A d s p bytes written = record { front = []; parts = refl; served = piece_none A d s p written }
 
 pub up_to_more : (A : Decoration) (d : IsLawful A) (a b c : SessionState) (p q r : PeerState) (bytes rest line after : List ℕ)
     → HasServedUpTo A a bytes p q b rest

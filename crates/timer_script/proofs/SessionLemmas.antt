@@ -87,11 +87,11 @@ fed_line a old new bytes text event is fits whole run held lines = subst (λ (s 
 
 -- ---- one step after another
 
-all-join : (xs ys : List Event) → AllByRecursion IsInRange xs → AllByRecursion IsInRange ys → AllByRecursion IsInRange (xs ++ ys)
+pub all-join : (xs ys : List Event) → AllByRecursion IsInRange xs → AllByRecursion IsInRange ys → AllByRecursion IsInRange (xs ++ ys)
 all-join [] ys a b = b
 all-join (x ∷ xs) ys a b = (a.0, all-join xs ys a.1 b)
 
-pub fed_join : (a b c : SessionState) (bs cs x y z : List ℕ) → HasFed a bs x y b → HasFed b cs y z c → HasFed a (bs ++ cs) x z c
+unfoldable pub fed_join : (a b c : SessionState) (bs cs x y z : List ℕ) → HasFed a bs x y b → HasFed b cs y z c → HasFed a (bs ++ cs) x z c
 fed_join a b c bs cs x y z f g = record {
   events = f.events ++ g.events;
   parts = sym (append_assoc a.held bs cs) ∙ ap (λ t. t ++ cs) f.parts ∙ append_assoc (spelling f.events) b.held cs
@@ -175,21 +175,21 @@ stopped_going faults.OutOfMemory old new h = h
 stopped_going faults.Ended old new h = absurd h
 
 -- with more text before
-pub fed_shift : (a b : SessionState) (bytes front x z : List ℕ) → HasFed a bytes x z b → HasFed a bytes (front ++ x) (front ++ z) b
-fed_shift a b bytes front x z f = record {
+unfoldable pub fed_shift : (a b : SessionState) (bytes front z : List ℕ) → HasFed a bytes [] z b → HasFed a bytes front (front ++ z) b
+fed_shift a b bytes front z f = record {
   events = f.events;
   parts = f.parts;
   in_range = f.in_range;
   outs = f.outs;
   runs = f.runs;
   added = f.added;
-  grows = ap (λ t. front ++ t) f.grows ∙ sym (append_assoc front x f.added);
+  grows = ap (λ t. front ++ t) f.grows;
   written = f.written;
   counted = f.counted;
 }
 
 -- the line after those of a session is the first bad one of its bytes
-pub stopped_at : (before : FacilityState) (s : SessionState) (bytes more txt : List ℕ) (n : ℕ) → HasFed (fresh before) bytes [] txt s
+unfoldable pub stopped_at : (before : FacilityState) (s : SessionState) (bytes more txt : List ℕ) (n : ℕ) → HasFed (fresh before) bytes [] txt s
     → s.unwritten ≡ [] → 1 ≤ length (s.held ++ more) → BeginsNoLine (s.held ++ more) → n ≡ next_line s
     → IsStoppedAt before (bytes ++ more) txt n
 stopped_at before s bytes more txt n fed written some bad counted = record {
@@ -210,7 +210,7 @@ pub some_more : (held more : List ℕ) → 1 ≤ length held → 1 ≤ length (h
 some_more held more some = let h = length-append held more in omega arith
 
 -- the text of fed bytes and the end line are the answer to the events of the bytes
-pub session_answers : (s : FacilityState) (bytes txt : List ℕ) (end : SessionState) → IsSound s → HasFed (fresh s) bytes [] txt end
+unfoldable pub session_answers : (s : FacilityState) (bytes txt : List ℕ) (end : SessionState) → IsSound s → HasFed (fresh s) bytes [] txt end
     → end.unwritten ≡ [] → end.held ≡ []
     → (events : List Event) × IsScript events bytes × IsAnswer s events (txt ++ end_line end.state.now (length end.state.pending))
 session_answers s bytes txt end sound fed written whole =

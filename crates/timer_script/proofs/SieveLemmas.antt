@@ -1,9 +1,8 @@
 -- The lines of an input, one after another.
-use Rattle.std.proofs.Common.{◌≡◌, zero, suc, ℕ, ◌+◌, ◌-◌, ◌<◌, ◌≤◌, List, [], ◌∷◌, ◌++◌, length, get_or, take, drop, Some, None, refl, sym, ap, subst, ◌∙◌, arith, append_assoc, append-nil, length-append, take-append-drop}
+use Rattle.std.proofs.Common.{◌≡◌, lit≤, zero, suc, ℕ, ◌+◌, ◌-◌, ◌<◌, ◌≤◌, List, [], ◌∷◌, ◌++◌, length, get_or, take, drop, Some, None, refl, sym, ap, subst, ◌∙◌, arith, append_assoc, append-nil, length-append, take-append-drop}
 use Rattle.std.specs.Prelude.{min, Result, Ok, Err, OnOk}
 use Rattle.std.specs.List.{flat_map, AllByRecursion}
 use Rattle.std.proofs.lemmas.Grind.{flat_map-append}
-use Rattle.std.proofs.lemmas.Option.{none-some}
 use Rattle.std.proofs.lemmas.List.{take_rest}
 use Rattle.std.proofs.Math.Seq.{take-add}
 use Rattle.timer_facility.specs.declared.event.Event.{Event}
@@ -11,7 +10,9 @@ use Rattle.timer_script.specs.declared.splitter.TheConstants.{MAX_LINE}
 use Rattle.timer_script.specs.Splitter.{HasNoFeed}
 use Rattle.timer_script.specs.Script.{IsInRange, line, spelling, BeginsNoLine}
 use Rattle.timer_script.specs.Lines.{line_at}
-use Rattle.timer_script.specs.Sieve.{Line, Good, Bad, bytes_of, IsGoodOrBad, events_of, number_after_line, number_after, bad_of, IsCut, complaint, complaints, IsHeld, HasEndedLine, HasSifted}
+use Rattle.timer_script.specs.Diagnosis.{IsLine, IsFaultOf}
+use Rattle.timer_script.specs.declared.line_fault.LineFault.{LineFault}
+use Rattle.timer_script.specs.Sieve.{Line, Good, Bad, bytes_of, IsGoodOrBad, events_of, number_after_line, number_after, Complaint, bad_of, IsLastBad, IsCut, complaint_line, complaints, IsHeld, HasEndedLine, HasSifted}
 use Rattle.timer_script.proofs.LineLemmas.{line_again, line_sound}
 use Rattle.timer_script.proofs.SplitterLemmas.{IsFed, line_fed, first_feed, no_feed-append, no_feed-take, feed-take}
 
@@ -20,7 +21,7 @@ use Rattle.timer_script.proofs.SplitterLemmas.{IsFed, line_fed, first_feed, no_f
 events-append : (xs ys : List Line) → events_of (xs ++ ys) ≡ events_of xs ++ events_of ys
 events-append [] ys = refl
 events-append (Good event ∷ xs) ys = ap (λ t. event ∷ t) (events-append xs ys)
-events-append (Bad front ∷ xs) ys = events-append xs ys
+events-append (Bad front fault ∷ xs) ys = events-append xs ys
 
 pub spelling-append : (xs ys : List Line) → spelling (events_of (xs ++ ys)) ≡ spelling (events_of xs) ++ spelling (events_of ys)
 spelling-append xs ys = ap spelling (events-append xs ys) ∙ flat_map-append line (events_of xs) (events_of ys)
@@ -32,11 +33,11 @@ number-append n (x ∷ xs) ys = number-append (number_after_line n) xs ys
 pub bad-append : (n : ℕ) (xs ys : List Line) → bad_of n (xs ++ ys) ≡ bad_of n xs ++ bad_of (number_after n xs) ys
 bad-append n [] ys = refl
 bad-append n (Good event ∷ xs) ys = bad-append (number_after_line n) xs ys
-bad-append n (Bad front ∷ xs) ys = ap (λ t. n ∷ t) (bad-append (number_after_line n) xs ys)
+bad-append n (Bad front fault ∷ xs) ys = ap (λ t. (n, fault) ∷ t) (bad-append (number_after_line n) xs ys)
 
 complaints-append : (n : ℕ) (xs ys : List Line) → complaints (bad_of n (xs ++ ys))
     ≡ complaints (bad_of n xs) ++ complaints (bad_of (number_after n xs) ys)
-complaints-append n xs ys = ap complaints (bad-append n xs ys) ∙ flat_map-append complaint (bad_of n xs) (bad_of (number_after n xs) ys)
+complaints-append n xs ys = ap complaints (bad-append n xs ys) ∙ flat_map-append complaint_line (bad_of n xs) (bad_of (number_after n xs) ys)
 
 pub lines-join : (xs ys : List Line) → AllByRecursion IsGoodOrBad xs → AllByRecursion IsGoodOrBad ys → AllByRecursion IsGoodOrBad (xs ++ ys)
 lines-join [] ys a b = b
@@ -46,7 +47,7 @@ lines-join (x ∷ xs) ys a b = (a.0, lines-join xs ys a.1 b)
 pub good_script : (xs : List Line) → AllByRecursion IsGoodOrBad xs → AllByRecursion IsInRange (events_of xs)
 good_script [] a = tt
 good_script (Good event ∷ xs) a = (a.0, good_script xs a.1)
-good_script (Bad front ∷ xs) a = good_script xs a.1
+good_script (Bad front fault ∷ xs) a = good_script xs a.1
 
 -- ---- the end of a line
 
@@ -77,23 +78,23 @@ take_short zero (x ∷ xs) l = absurd (omega arith)
 take_short (suc m) [] l = refl
 take_short (suc m) (x ∷ xs) l = ap (λ t. x ∷ t) (take_short m xs (omega arith))
 
--- if nothing can be read of the front of a line, it is that of no event
-read_none : (front held : List ℕ) → HasNoFeed front → held ≡ take MAX_LINE (front ++ 10 ∷ []) → line_at held ≡ None
+-- if the front of a line is no line, it is that of no event
+read_none : (front held : List ℕ) → HasNoFeed front → held ≡ take MAX_LINE (front ++ 10 ∷ []) → ¬ (IsLine held)
     → BeginsNoLine (front ++ 10 ∷ [])
-read_none front held none is unread event rest fits e =
+read_none front held none is no_line event rest fits e =
     let f : IsFed (line event) = line_fed event fits in
     let same = first_feed front f.front [] rest none f.no_feed (e ∙ ap (λ t. t ++ rest) f.is ∙ at_feed f.front rest) in
     let whole : front ++ 10 ∷ [] ≡ line event = ap (λ t. t ++ 10 ∷ []) same.0 ∙ sym f.is in
     let short : length (front ++ 10 ∷ []) ≤ MAX_LINE = (let s = f.short in let l = length-append f.front (10 ∷ [])
     in let w = ap length (whole ∙ f.is) in omega arith) in
-    let read : held ≡ line event ++ [] = is ∙ take_short MAX_LINE (front ++ 10 ∷ []) short ∙ whole ∙ sym (append-nil (line event)) in
-    none-some _ (sym unread ∙ ap line_at read ∙ line_again event [] fits)
+    no_line (event, fits, is ∙ take_short MAX_LINE (front ++ 10 ∷ []) short ∙ whole)
 
-pub ended_good : (front held after : List ℕ) (event : Event) (n : ℕ) (good good' said : List ℕ) → HasNoFeed front
-    → held ≡ take MAX_LINE (front ++ 10 ∷ []) → line_at held ≡ Some (event, after) → good' ≡ good ++ held
+pub ended_good : (front held : List ℕ) (n : ℕ) (good good' said : List ℕ) → HasNoFeed front
+    → held ≡ take MAX_LINE (front ++ 10 ∷ []) → IsLine held → good' ≡ good ++ held
     → HasEndedLine (front ++ 10 ∷ []) n good good' said said
-ended_good front held after event n good good' said none is some grows =
-    let (fits, whole, same) = read_all front held after event none is some in
+ended_good front held n good good' said none is (event, fits, spelt) grows =
+    let read : line_at held ≡ Some (event, []) = ap line_at (spelt ∙ sym (append-nil (line event))) ∙ line_again event [] fits in
+    let (fits', whole, same) = read_all front held [] event none is read in
     record {
       line = Good event;
       bytes_is = whole;
@@ -102,22 +103,50 @@ ended_good front held after event n good good' said none is some grows =
       said_is = sym (append-nil said);
     }
 
-pub ended_bad : (front held : List ℕ) (n : ℕ) (good said said' : List ℕ) → HasNoFeed front → held ≡ take MAX_LINE (front ++ 10 ∷ [])
-    → line_at held ≡ None → said' ≡ said ++ complaint n
+pub ended_bad : (front held : List ℕ) (n : ℕ) (fault : LineFault) (good said said' : List ℕ) → HasNoFeed front
+    → held ≡ take MAX_LINE (front ++ 10 ∷ []) → (¬ (IsLine held)) × IsFaultOf fault held → said' ≡ said ++ complaint_line (n, fault)
     → HasEndedLine (front ++ 10 ∷ []) n good good said said'
-ended_bad front held n good said said' none is unread grows = record {
-  line = Bad front;
+ended_bad front held n fault good said said' none is wrong grows = record {
+  line = Bad front fault;
   bytes_is = refl;
-  is_line = (none, read_none front held none is unread);
+  is_line = (none, read_none front held none is wrong.0, subst (IsFaultOf fault) is wrong.1);
   good_is = sym (append-nil good);
-  said_is = grows ∙ ap (λ t. said ++ t) (sym (append-nil (complaint n)));
+  said_is = grows ∙ ap (λ t. said ++ t) (sym (append-nil (complaint_line (n, fault))));
 }
 
--- ---- pieces of a line
+-- ---- a line that has not ended
 
 take_nil : (m : ℕ) → take {A = ℕ} m [] ≡ []
 take_nil zero = refl
 take_nil (suc m) = refl
+
+take_some : (m b : ℕ) (xs : List ℕ) → 1 ≤ m → take m (b ∷ xs) ≡ [] → ⊥
+take_some zero b xs some e = omega arith
+take_some (suc m) b xs some e = cc
+
+none_held : (held front : List ℕ) → IsHeld held front → held ≡ [] → front ≡ []
+none_held held [] h none = refl
+none_held held (b ∷ front) h none = absurd (take_some MAX_LINE b front (lit≤ tt) (sym h.kept ∙ none))
+
+some_held : (held : List ℕ) → 1 ≤ length held → held ≡ [] → ⊥
+some_held [] h e = omega arith
+some_held (x ∷ xs) h e = cc
+
+pub last_none : (held : List ℕ) (n : ℕ) (said : List ℕ) → held ≡ [] → said ≡ [] → (front : List ℕ) → IsHeld held front
+    → (last : List Complaint) × IsLastBad n front last × (said ≡ complaints last)
+last_none held n said none empty front h = ([], subst (λ t. IsLastBad n t []) (sym (none_held held front h none)) refl, empty)
+
+pub last_some : (held : List ℕ) (n : ℕ) (fault : LineFault) (said : List ℕ) → 1 ≤ length held → IsFaultOf fault held
+    → said ≡ complaint_line (n, fault) → (front : List ℕ) → IsHeld held front
+    → (last : List Complaint) × IsLastBad n front last × (said ≡ complaints last)
+last_some held n fault said some wrong told [] h = absurd (some_held held some (h.kept ∙ take_nil MAX_LINE))
+last_some held n fault said some wrong told (b ∷ front) h = (
+  (n, fault) ∷ [],
+  (fault, subst (IsFaultOf fault) h.kept wrong, refl),
+  told ∙ sym (append-nil (complaint_line (n, fault))),
+)
+
+-- ---- pieces of a line
 
 take_take : (m n : ℕ) (xs : List ℕ) → take (min n m) xs ≡ take m (take n xs)
 take_take m zero xs =

@@ -7,7 +7,7 @@ use Rattle.timer_script.specs.declared.intake.Intake.{Intake}
 use Rattle.timer_script.specs.declared.watched.Watched.{Watched}
 use Rattle.timer_script.specs.Watched.{inner_of, has_failed}
 use Rattle.timer_script.specs.Script.{spelling}
-use Rattle.timer_script.specs.Sieve.{Line, IsCut, events_of, number_after, bad_of, all_bad, complaints, IsHeld}
+use Rattle.timer_script.specs.Sieve.{Line, IsCut, events_of, number_after, Complaint, bad_of, IsLastBad, complaints, IsHeld}
 
 -- these bytes came, and those passed
 abbrev pub Passes : OnBadLine → (came fed : List ℕ) → Type 0
@@ -25,35 +25,37 @@ pub record HasReported {F : Type 0} (contents : F → Option (List ℕ)) (old ne
   pub whole : has_failed new ≡ false → count ≡ length text
   pub failed : has_failed old ≡ true → new ≡ old
 
--- which numbers are reported of these lines, after which come the bytes of one that has not ended
-abbrev pub Numbers : Type 1
-Numbers = List Line → List ℕ → List ℕ → Type 0
+-- what is reported of these lines, after which come the bytes of one that has not ended
+abbrev pub BadLines : Type 1
+BadLines = List Line → List ℕ → List Complaint → Type 0
 
--- those of the bad lines that ended
-abbrev pub AreSoFar : Numbers
-AreSoFar lines left numbers = numbers ≡ bad_of 1 lines
+-- the bad lines that ended
+abbrev pub AreSoFar : BadLines
+AreSoFar lines left bad = bad ≡ bad_of 1 lines
 
--- the first of those of all bad lines
-abbrev pub AreFirst : Numbers
-AreFirst lines left numbers = (j : ℕ) × (numbers ≡ take j (all_bad lines left))
+-- the first of all bad lines
+abbrev pub AreFirst : BadLines
+AreFirst lines left bad = (last : List Complaint) × IsLastBad (number_after 1 lines) left last
+    × (j : ℕ) × (bad ≡ take j (bad_of 1 lines ++ last))
 
 -- all of them, and whether there are none
-abbrev pub AreAll : Bool → Numbers
-AreAll clean lines left numbers = (numbers ≡ all_bad lines left) × ((clean ≡ true) ↔ (numbers ≡ []))
+abbrev pub AreAll : Bool → BadLines
+AreAll clean lines left bad = (last : List Complaint) × IsLastBad (number_after 1 lines) left last
+    × (bad ≡ bad_of 1 lines ++ last) × ((clean ≡ true) ↔ (bad ≡ []))
 
 -- the good lines passed, and of the bad ones these were reported
-pub record HasPassedGood {F : Type 0} (Are : Numbers) (contents : F → Option (List ℕ)) (writer writer' : Watched F)
+pub record HasPassedGood {F : Type 0} (Are : BadLines) (contents : F → Option (List ℕ)) (writer writer' : Watched F)
     (came fed : List ℕ) : Type 0 where
   pub lines : List Line
   pub left : List ℕ
-  pub numbers : List ℕ
+  pub bad : List Complaint
   pub cut : IsCut came lines left
   pub fed_is : fed ≡ spelling (events_of lines)
-  pub are : Are lines left numbers
-  pub reported : HasReported contents writer writer' (complaints numbers)
+  pub are : Are lines left bad
+  pub reported : HasReported contents writer writer' (complaints bad)
 
 -- what passed of the bytes that came, and what was reported
-abbrev pub HasPassed : {F : Type 0} → OnBadLine → Numbers → (contents : F → Option (List ℕ))
+abbrev pub HasPassed : {F : Type 0} → OnBadLine → BadLines → (contents : F → Option (List ℕ))
     → (writer writer' : Watched F) → (came fed : List ℕ) → Type 0
 HasPassed Stop Are contents writer writer' came fed = (fed ≡ came) × (writer' ≡ writer)
 HasPassed Report Are contents writer writer' came fed = HasPassedGood Are contents writer writer' came fed
@@ -87,7 +89,7 @@ pub record HasSieved {F : Type 0} (contents : F → Option (List ℕ)) (writer w
   pub passed : HasPassedGood AreSoFar contents writer writer' came fed
   pub held_is : IsHeld held passed.left
   pub counted : number ≡ number_after 1 passed.lines
-  pub clean_is : ((clean ≡ true) ↔ (passed.numbers ≡ []))
+  pub clean_is : ((clean ≡ true) ↔ (passed.bad ≡ []))
 
 -- bytes were taken in by a server that does this at a bad line
 abbrev pub HasTakenBy : {F : Type 0} → OnBadLine → (contents : F → Option (List ℕ)) → (writer writer' : Watched F)

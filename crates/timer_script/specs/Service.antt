@@ -120,14 +120,14 @@ serve_fault sessions.OutOfMemory = faults.OutOfMemory
 serve_fault sessions.Ended = faults.OutOfMemory
 
 -- A session was fed these bytes except for the last ones, and the text is the answer to them with what is
--- added; so it is too with the lines after both that the session has still to write.
+-- added to the run of their events; so it is too with the lines after both that the session has still to write.
 pub record HasAnswered (Adds : Decoration) (old : SessionState) (piece text : List ℕ)
     (new : SessionState) (unfed : List ℕ) : Type 0 where
   pub bytes : List ℕ
   pub parts : piece ≡ bytes ++ unfed
   pub answer : List ℕ
   pub fed : HasFed old bytes [] answer new
-  pub added : Adds (answer ++ lines_of new.unwritten) (text ++ lines_of new.unwritten)
+  pub added : Adds old.state fed.events new.state (answer ++ lines_of new.unwritten) (text ++ lines_of new.unwritten)
 
 -- why bytes were not answered, or nothing could be added: a line is bad, or out of memory
 abbrev pub StopsAnswer : Decoration → ServeFault → SessionState → (piece text : List ℕ)
@@ -219,7 +219,7 @@ abbrev pub HasServed : {F : Type 0} → OnBadLine → Decoration → FacilitySta
 -- the whole answer, with what is added, was written and flushed, and nothing else; all bad lines were reported
 HasServed on_bad Adds before peer peer' contents writer writer' (Ok clean) =
     (came fed answer text : List ℕ) × HasEnded on_bad clean contents writer writer' came fed
-    × HasAnsweredAll before peer' fed answer × Adds answer text
+    × (all : HasAnsweredAll before peer' fed answer) × Adds before all.events all.answered.after answer text
     × HasTalked on_bad Adds before peer peer' came text true × AreGood peer'
 -- a read failed, each complete line that came is answered, or was reported
 HasServed on_bad Adds before peer peer' contents writer writer' (Err faults.Read) =
@@ -229,8 +229,9 @@ HasServed on_bad Adds before peer peer' contents writer writer' (Err faults.Read
 -- a bad line ends it: the n-th line is the first bad one, each line before it is answered, and nothing else was
 -- written but what is added
 HasServed on_bad Adds before peer peer' contents writer writer' (Err (faults.Bad n)) =
-    (on_bad ≡ Stop) × (writer' ≡ writer) × (bytes answer text : List ℕ) × IsStoppedAt before bytes answer n
-    × Adds answer text × HasTalked on_bad Adds before peer peer' bytes text true × AreGood peer'
+    (on_bad ≡ Stop) × (writer' ≡ writer) × (bytes answer text : List ℕ)
+    × (stopped : IsStoppedAt before bytes answer n) × Adds before stopped.events stopped.after answer text
+    × HasTalked on_bad Adds before peer peer' bytes text true × AreGood peer'
 -- out of memory: all the text so far was written
 HasServed on_bad Adds before peer peer' contents writer writer' (Err faults.OutOfMemory) =
     (s : SessionState) × (unfed : List ℕ)
@@ -242,8 +243,9 @@ HasServed on_bad Adds before peer peer' contents writer writer' (Err faults.Writ
     × HasServedSoFar on_bad (HasPassed on_bad AreFirst contents writer writer') Adds before peer peer' s unfed
     unsent flushed)
     ⊎ ((came fed answer sent unsent : List ℕ) × (flushed : Bool)
-    × HasPassed on_bad AreFirst contents writer writer' came fed × HasAnsweredAll before peer' fed answer
-    × Adds answer (sent ++ unsent) × HasTalked on_bad Adds before peer peer' came sent flushed))
+    × HasPassed on_bad AreFirst contents writer writer' came fed × (all : HasAnsweredAll before peer' fed answer)
+    × Adds before all.events all.answered.after answer (sent ++ unsent)
+    × HasTalked on_bad Adds before peer peer' came sent flushed))
     × (peer'.read_failed ≡ false) × (peer'.write_failed ≡ true)
 -- more bytes came than a u64 counts, and each complete line of them is answered, or was reported
 HasServed on_bad Adds before peer peer' contents writer writer' (Err faults.TooLong) =

@@ -1,31 +1,40 @@
 -- The lines of an input, good and bad.
-use Rattle.std.specs.Prelude.{◌≡◌, ℕ, ◌+◌, ◌-◌, ◌^◌, List, [], ◌∷◌, ◌++◌, take, min, codes, decimal}
+use Rattle.std.specs.Prelude.{◌≡◌, ℕ, ◌+◌, ◌-◌, ◌^◌, List, [], ◌∷◌, ◌++◌, take, min, codes}
 use Rattle.std.specs.List.{flat_map, AllByRecursion}
 use Rattle.timer_facility.specs.declared.event.Event.{Event}
+use Rattle.timer_script.specs.declared.line_fault.LineFault.{LineFault}
 use Rattle.timer_script.specs.declared.splitter.TheConstants.{MAX_LINE}
 use Rattle.timer_script.specs.Splitter.{HasNoFeed}
 use Rattle.timer_script.specs.Script.{IsInRange, line, spelling, BeginsNoLine}
+use Rattle.timer_script.specs.Diagnosis.{IsFaultOf}
+use Rattle.timer_script.specs.ScriptReport.{fault_line}
 
--- a line of an input: that of an event, or a bad one, which is given without its line feed
+-- a line of an input: that of an event, or a bad one, which is given without its line feed, and what is wrong
+-- with it
 pub data Line : Type 0 where
   Good : Event → Line
-  Bad : List ℕ → Line
+  Bad : List ℕ → LineFault → Line
 
 -- the bytes of a line
 abbrev pub bytes_of : Line → List ℕ
 bytes_of (Good event) = line event
-bytes_of (Bad front) = front ++ 10 ∷ []
+bytes_of (Bad front fault) = front ++ 10 ∷ []
 
--- the numbers of a good line are in range, and a bad one is the line of no event
+-- the fault is in these bytes, of which no more are looked at than a line may have
+abbrev pub IsFaultIn : LineFault → List ℕ → Type 0
+IsFaultIn fault bytes = IsFaultOf fault (take MAX_LINE bytes)
+
+-- the numbers of a good line are in range, and a bad one is the line of no event, and has this fault
 abbrev pub IsGoodOrBad : Line → Type 0
 IsGoodOrBad (Good event) = IsInRange event
-IsGoodOrBad (Bad front) = HasNoFeed front × BeginsNoLine (front ++ 10 ∷ [])
+IsGoodOrBad (Bad front fault) =
+    HasNoFeed front × BeginsNoLine (front ++ 10 ∷ []) × IsFaultIn fault (front ++ 10 ∷ [])
 
 -- the events of the good lines, in order
 abbrev pub events_of : List Line → List Event
 events_of [] = []
 events_of (Good event ∷ lines) = event ∷ events_of lines
-events_of (Bad front ∷ lines) = events_of lines
+events_of (Bad front fault ∷ lines) = events_of lines
 
 -- the number of the line after the n-th; 2^64 - 1 stands for any later one
 abbrev pub number_after_line : ℕ → ℕ
@@ -36,11 +45,15 @@ abbrev pub number_after : ℕ → List Line → ℕ
 number_after n [] = n
 number_after n (line ∷ lines) = number_after (number_after_line n) lines
 
--- the numbers of the bad ones of these lines, of which the first is the n-th
-abbrev pub bad_of : ℕ → List Line → List ℕ
+-- what is reported of a bad line: its number, and what is wrong with it
+abbrev pub Complaint : Type 0
+Complaint = ℕ × LineFault
+
+-- what is reported of the bad ones of these lines, of which the first is the n-th
+abbrev pub bad_of : ℕ → List Line → List Complaint
 bad_of n [] = []
 bad_of n (Good event ∷ lines) = bad_of (number_after_line n) lines
-bad_of n (Bad front ∷ lines) = n ∷ bad_of (number_after_line n) lines
+bad_of n (Bad front fault ∷ lines) = (n, fault) ∷ bad_of (number_after_line n) lines
 
 -- the bytes are these lines and the front of one more
 pub record IsCut (bytes : List ℕ) (lines : List Line) (left : List ℕ) : Type 0 where
@@ -49,21 +62,17 @@ pub record IsCut (bytes : List ℕ) (lines : List Line) (left : List ℕ) : Type
   pub unended : HasNoFeed left
 
 -- bytes after the last line feed are a bad line, the n-th
-abbrev pub last_bad : ℕ → List ℕ → List ℕ
-last_bad n [] = []
-last_bad n (b ∷ left) = n ∷ []
+abbrev pub IsLastBad : ℕ → List ℕ → List Complaint → Type 0
+IsLastBad n [] last = last ≡ []
+IsLastBad n (b ∷ left) last = (fault : LineFault) × IsFaultIn fault (b ∷ left) × (last ≡ (n, fault) ∷ [])
 
--- the numbers of all bad lines of an input, counted from 1
-abbrev pub all_bad : List Line → List ℕ → List ℕ
-all_bad lines left = bad_of 1 lines ++ last_bad (number_after 1 lines) left
+-- the report of a bad line
+abbrev pub complaint_line : Complaint → List ℕ
+complaint_line bad = codes "bad " ++ fault_line bad.0 bad.1
 
--- what is reported of a bad line
-abbrev pub complaint : ℕ → List ℕ
-complaint n = codes "bad line " ++ decimal n ++ codes "\n"
-
--- what is reported of bad lines
-abbrev pub complaints : List ℕ → List ℕ
-complaints numbers = flat_map complaint numbers
+-- the reports of bad lines
+abbrev pub complaints : List Complaint → List ℕ
+complaints bad = flat_map complaint_line bad
 
 -- of the front of a line as much is held as a line may have
 pub record IsHeld (held front : List ℕ) : Type 0 where

@@ -13,7 +13,8 @@ use timer_facility::Facility;
 
 /// Adds text to the answers of a session.
 pub trait Decorator<W: Wheel + Drop> {
-    /// The text is the answer, with what may be added.
+    /// The text is the answer to some events, with what may be added after them. What may be added depends on
+    /// the facility's state at that place.
     ghost adds: { Decoration };
 
     /// Whether the text for each line is written before the next line is played. If not, that for all lines
@@ -22,7 +23,7 @@ pub trait Decorator<W: Wheel + Drop> {
 
     /// Appends what comes after the answer to a line. The only error is out of memory.
     fn decorate(&self, text: &mut Vec<u8>, facility: &Facility<W>) -> Result<(), OutOfMemory>
-        ensures added { OnOk result (HasGrownBy adds text.old.items text.new.items) }
+        ensures added { OnOk result (HasGrownBy adds facility.now.state text.old.items text.new.items) }
         ensures kept { HasGrown text.old.items text.new.items };
 
     /// Texts may be joined, and an answer may be left as it is.

@@ -64,7 +64,7 @@ fn is_line(line: &[u8]) -> bool
 }
 
 /// What is wrong with bytes that are not the line of an event.
-fn fault_of_bad(line: &[u8]) -> LineFault
+pub fn fault_of_bad(line: &[u8]) -> LineFault
     ensures { IsFaultOf result line.now }
 {
     let word = word_len(line);

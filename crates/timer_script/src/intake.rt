@@ -2,7 +2,7 @@
 //!
 //!     on a bad line   what passes       what is reported
 //!     Stop            all bytes         nothing: the session fails at the line
-//!     Report          the good lines    the number of each bad line
+//!     Report          the good lines    each bad line: its number, the column and the reason
 ghost use Rattle.std.specs.Prelude.{◌≡◌, ◌↔◌, ◌++◌, [], ℕ, List, true, OnOk, OnErr};
 ghost use Rattle.timer_script.specs.Intake.{HasReported, HasTakenIn, HasEnded, passed_of};
 
@@ -18,7 +18,7 @@ use timer_base::OutOfMemory;
 pub enum OnBadLine {
     /// It ends there, with an error that names the line.
     Stop,
-    /// It reports the line by its number, and goes on.
+    /// It reports the line by its number, with the column and the reason, and goes on.
     Report,
 }
 

@@ -41,7 +41,7 @@ fn push_field(text: &mut Vec<u8>, field: Option<Field>) -> Result<(), OutOfMemor
 }
 
 /// Adds the report of a fault in the n-th line.
-fn push_fault(text: &mut Vec<u8>, n: u64, fault: LineFault) -> Result<(), OutOfMemory>
+pub fn push_fault(text: &mut Vec<u8>, n: u64, fault: LineFault) -> Result<(), OutOfMemory>
     ensures { OnOk result (text.new.items ≡ text.old.items ++ fault_line n fault) }
 {
     text.extend_from_slice(b"line ")?;

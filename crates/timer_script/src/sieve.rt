@@ -1,20 +1,22 @@
 //! Cuts a stream of bytes, which arrives in pieces of any size, into lines, and keeps the good ones.
 //!
-//! A bad line is reported by its number, and its bytes are dropped. At most `MAX_LINE` bytes of a line that
-//! has not ended are held. A longer line is bad: its other bytes are skipped, up to its line feed.
+//! A bad line is reported by its number, its column and the reason, and its bytes are dropped. At most
+//! `MAX_LINE` bytes of a line that has not ended are held. A longer line is bad: its other bytes are skipped, up
+//! to its line feed, and the reason is that of its front.
 //!
-//!     piece                 good             complaints       held
-//!     "start 0 1"                                             "start 0 1"
-//!     " 3 7\ntikc 3\ntick"  "start 0 1 3 7\n" "bad line 2\n"  "tick"
+//!     piece                 good             complaints                             held
+//!     "start 0 1"                                                                   "start 0 1"
+//!     " 3 7\ntikc 3\ntick"  "start 0 1 3 7\n" "bad line 2, column 3: unknown word\n"  "tick"
 //!     " 3\n"                "tick 3\n"
-ghost use Rattle.std.specs.Prelude.{◌≡◌, ◌<◌, ◌≤◌, ◌++◌, ◌∷◌, [], ℕ, List, length, take, IfOk, OnOk};
+ghost use Rattle.std.specs.Prelude.{◌≡◌, ◌<◌, ◌≤◌, ◌++◌, ◌∷◌, [], ℕ, List, length, take, true, false, IfOk, OnOk};
 ghost use Rattle.timer_script.specs.declared.splitter.TheConstants.{MAX_LINE};
 ghost use Rattle.timer_script.specs.Splitter.{HasNoFeed};
-ghost use Rattle.timer_script.specs.Sieve.{number_after_line, complaint, complaints, last_bad, IsHeld, HasEndedLine, HasSifted};
+ghost use Rattle.timer_script.specs.Sieve.{Complaint, number_after_line, complaint_line, complaints, IsLastBad, IsHeld, HasEndedLine, HasSifted};
 
-use crate::lines::read_line;
+use crate::diagnosis::{fault_in_line, fault_of_bad};
+use crate::line_fault::LineFault;
+use crate::script_report::push_fault;
 use crate::splitter::{MAX_LINE, line_len};
-use itoa::Buffer;
 use std::alloc::Global;
 use timer_base::OutOfMemory;
 
@@ -32,13 +34,15 @@ pub struct Sieve {
 }
 
 /// Appends the report of a bad line.
-fn push_complaint(complaints: &mut Vec<u8>, number: u64) -> Result<(), OutOfMemory>
-    ensures { OnOk result (complaints.new.items ≡ complaints.old.items ++ complaint number) }
+fn push_complaint(
+    complaints: &mut Vec<u8>,
+    number: u64,
+    fault: LineFault,
+) -> Result<(), OutOfMemory>
+    ensures { OnOk result (complaints.new.items ≡ complaints.old.items ++ complaint_line (number, fault)) }
 {
-    let mut buffer = Buffer::new();
-    complaints.extend_from_slice(b"bad line ")?;
-    complaints.extend_from_slice(buffer.format(number).as_bytes())?;
-    complaints.push(b'\n')?;
+    complaints.extend_from_slice(b"bad ")?;
+    push_fault(complaints, number, fault)?;
     Ok(())
 }
 
@@ -53,13 +57,12 @@ fn sort_line(
         → HasEndedLine (front ++ 10 ∷ []) number good.old.items good.new.items
         complaints.old.items complaints.new.items) }
 {
-    match read_line(held) {
-        Some((event, _)) => {
-            let _ = event;
+    match fault_in_line(held) {
+        None => {
             good.extend_from_slice(held)?;
             Ok(())
         }
-        None => push_complaint(complaints, number),
+        Some(fault) => push_complaint(complaints, number, fault),
     }
 }
 
@@ -100,14 +103,24 @@ impl Sieve {
         ensures held { self.new.held.items ≡ self.old.held.items }
         ensures number { self.new.number ≡ self.old.number }
         ensures said { OnOk result ((front : List ℕ) → IsHeld self.old.held.items front
-            → self.new.complaints.items ≡ complaints (last_bad self.old.number front)) }
+            → (last : List Complaint) × IsLastBad self.old.number front last
+            × (self.new.complaints.items ≡ complaints last)) }
     {
         self.good.clear();
         self.complaints.clear();
-        if !self.held.is_empty() {
-            push_complaint(&mut self.complaints, self.number)?;
+        if self.holds_bytes() {
+            let fault = fault_of_bad(&self.held);
+            return push_complaint(&mut self.complaints, self.number, fault);
         }
         Ok(())
+    }
+
+    /// Whether bytes of a line that has not ended are held.
+    fn holds_bytes(&self) -> bool
+        ensures some { result ≡ true → 1 ≤ length self.now.held.items }
+        ensures none { result ≡ false → self.now.held.items ≡ [] }
+    {
+        !self.held.is_empty()
     }
 
     /// Consumes bytes up to the end of a line, and returns how many.

@@ -1,4 +1,5 @@
 use Rattle.std.proofs.Common.{[], append-nil, sym, subst, rules}
+use Rattle.timer_script.specs.Decorator.{HasGrownBy}
 use Rattle.timer_script.specs.Session.{IsAnsweredSoFar}
 use Rattle.timer_script.specs.Service.{HasAnswered, StopsAnswer}
 use Rattle.timer_script.proofs.ServicePieces.{fed_answered, feed_stopped, line_decorated, cut_back}
@@ -29,7 +30,7 @@ returns-in-Ok-clause-text g c =
     c.feed.new.text.items
     c.requires.empty c.requires.answered.written (sym (append-nil c.args.bytes.now)) (search rules) in
     line_decorated A d c.args.session.now c.feed.new.self c.args.bytes.now c.feed.new.text.items c.decorate.new.text.items fed going.written
-    c.in-Ok.ensures.added
+    (subst (λ s. HasGrownBy A s c.feed.new.text.items c.decorate.new.text.items) c.facility.ensures.state c.in-Ok.ensures.added)
 
 pub returns-in-Err-decorate-clause-fault : goal.returns-in-Err-decorate-clause-fault
 returns-in-Err-decorate-clause-fault g c =

@@ -10,7 +10,7 @@ loop-rest-init g c =
     let A = g.D.Decorator.adds in
     let d = g.met.D.Decorator.is_lawful in
     record {
-      served = up_to_none A d c.args.session.now (g.P.Peer.state c.args.peer.now) c.args.piece.now;
+      served = up_to_none A d c.args.session.now (g.P.Peer.state c.args.peer.now) c.args.piece.now c.requires.answered.written;
       good = c.requires.good;
       answered = c.requires.answered;
     }
