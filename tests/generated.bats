@@ -84,6 +84,14 @@ functions() { grep -hoE 'extern "C" fn timers_[a-z_]*' crates/timer_c/src/*.rt c
 @test "gcc builds the shared object, which exports the API" { exports gcc -DTIMERS_SHARED "$(functions)"; }
 @test "clang builds the shared object, which exports the API" { exports clang -DTIMERS_SHARED "$(functions)"; }
 
+@test "musl-gcc builds static programs of it" {
+    needs musl-gcc
+    musl-gcc -static -O2 -Wall -Wextra -Iinclude -o "$work/first" examples/c/first.c $sources
+    prints_first "$work/first"
+    CC=musl-gcc LDFLAGS=-static tools/program "$work/static"
+    "$work/static" < examples/retransmission | diff examples/retransmission.stdout -
+}
+
 @test "g++ builds a program in C++ of it" {
     needs g++
     g++ -std=c++17 -Wall -Wextra -Iinclude -o "$work/cpp" examples/c/first.cpp $sources
