@@ -78,8 +78,19 @@ exports() {
 @test "clang builds a program of generated/, in five ways" { builds_by_hand clang; }
 @test "gcc builds a shared object that exports nothing" { exports gcc "" 0; }
 @test "clang builds a shared object that exports nothing" { exports clang "" 0; }
-@test "gcc builds the shared object, which exports the API" { exports gcc -DTIMERS_SHARED 46; }
-@test "clang builds the shared object, which exports the API" { exports clang -DTIMERS_SHARED 46; }
+# How many functions the crates export; tools/c_tests compares their names with those of the headers.
+functions() { grep -hoE 'extern "C" fn timers_[a-z_]*' crates/timer_c/src/*.rt crates/timer_desk_c/src/*.rt | wc -l; }
+
+@test "gcc builds the shared object, which exports the API" { exports gcc -DTIMERS_SHARED "$(functions)"; }
+@test "clang builds the shared object, which exports the API" { exports clang -DTIMERS_SHARED "$(functions)"; }
+
+@test "musl-gcc builds static programs of it" {
+    needs musl-gcc
+    musl-gcc -static -O2 -Wall -Wextra -Iinclude -o "$work/first" examples/c/first.c $sources
+    prints_first "$work/first"
+    CC=musl-gcc LDFLAGS=-static tools/program "$work/static"
+    "$work/static" < examples/retransmission | diff examples/retransmission.stdout -
+}
 
 @test "g++ builds a program in C++ of it" {
     needs g++
