@@ -7,6 +7,7 @@
  *     cost idle COUNT N      COUNT turns of a loop that always has input, beside N timers 10 to 20 minutes ahead
  *     cost periodic COUNT N  the same, and each turn starts a timer of 100 ms and stops it after the poll
  *     cost memory N          prints the bytes of the heap that one of N timers takes
+ *     cost loop 1            prints the bytes of the heap that a loop takes
  */
 #include <malloc.h>
 #include <stdio.h>
@@ -109,7 +110,15 @@ static void memory(size_t count)
 	make_timers(count);
 	size_t before = heap_bytes();
 	start_all(60000, 1000);
-	printf("%zu bytes\n", (heap_bytes() - before) / count);
+	printf("%zu\n", (heap_bytes() - before) / count);
+}
+
+static void second_loop(void)
+{
+	static uv_loop_t other;
+	size_t before = heap_bytes();
+	check(uv_loop_init(&other));
+	printf("%zu\n", heap_bytes() - before);
 }
 
 int main(int argc, char **argv)
@@ -132,6 +141,8 @@ int main(int argc, char **argv)
 		turns(count, idle, 1);
 	else if (strcmp(argv[1], "memory") == 0)
 		memory(count);
+	else if (strcmp(argv[1], "loop") == 0)
+		second_loop();
 	else
 		return 2;
 	return 0;

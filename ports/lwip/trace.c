@@ -142,6 +142,15 @@ static void check(void)
 	printf("%" PRIu32 ": sleep %" PRIu32 "\n", clock_ms, sys_timeouts_sleeptime());
 }
 
+/* Each timeout that is held has taken one from lwIP's pool. */
+static void print_free(void)
+{
+	int count = 0;
+	while (memp_malloc(MEMP_SYS_TIMEOUT) != NULL)
+		count++;
+	printf("%d held, %d free\n", held_in_all, count);
+}
+
 int main(int argc, char **argv)
 {
 	int left;
@@ -161,6 +170,6 @@ int main(int argc, char **argv)
 			sys_restart_timeouts();
 		check();
 	}
-	printf("%d held\n", held_in_all);
+	print_free();
 	return 0;
 }

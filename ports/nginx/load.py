@@ -62,7 +62,7 @@ def main():
         os.chmod(folder, 0o755)
         with open(os.path.join(folder, "index.html"), "wb") as file:
             file.write(b"x" * server.LENGTH)
-        settings = SETTINGS.format(port=port, most=idle + 64, folder=folder)
+        settings = SETTINGS.format(port=port, most=idle * 5 // 4 + 64, folder=folder)
         counts = os.path.join(folder, "counts")
         prefix = CALLGRIND + ["--callgrind-out-file=" + counts] if "--count" in sys.argv else []
         with server.running(nginx, port, settings, prefix):
