@@ -174,7 +174,8 @@ with Timers() as timers:
 
 @test "make uninstall with DESTDIR and folders leaves nothing" {
     DESTDIR=$work/stage PREFIX=/usr in_clone uninstall LIBDIR=/usr/lib/x86_64-linux-gnu BINDIR=/opt/bin
-    is_empty "$work/stage"
+    is_empty "$work/stage/usr"
+    [ -z "$(find "$work/stage" -type f -o -type l)" ]
 }
 
 @test "a relative PREFIX is made absolute" {

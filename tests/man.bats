@@ -1,14 +1,15 @@
 #!/usr/bin/env bats
-# One version everywhere, man pages that are made and clean, and links that lead somewhere. TIMERS names the program.
+# One version everywhere, man pages that are made and clean, and links that lead somewhere. TIMERS names the program, by
+# default ./timers.
 # shellcheck disable=SC2143  # `! grep` fails no test
+load helpers
+
 setup_file() {
     cd "$BATS_TEST_DIRNAME/.." || return
     VERSION=$(cat tools/install/version)
-    export VERSION
+    TIMERS=$(realpath "${TIMERS:-timers}")
+    export VERSION TIMERS
 }
-
-# needs TOOL: skips the test where the machine lacks it
-needs() { command -v "$1" > /dev/null || skip "no $1"; }
 
 @test "the program and all files have one version" {
     [ "$("$TIMERS" --version < /dev/null)" = "timers $VERSION" ]

@@ -1,13 +1,15 @@
 #!/usr/bin/env bats
-# The help and docs/formats.md against each other and against the program, which TIMERS names; and shell completions.
-# docs/formats.md is timers(1), too (tests/man.bats).
+# The help and docs/formats.md against each other and against the program, which TIMERS names (by default ./timers); and
+# shell completions. docs/formats.md is timers(1), too (tests/man.bats).
 # shellcheck disable=SC2016,SC2034,SC2086
+load helpers
+bats_require_minimum_version 1.5.0
 LAST=1152921504606846975
 
 setup_file() {
     cd "$BATS_TEST_DIRNAME/.." || return
     mkdir "$BATS_FILE_TMPDIR/bin"
-    ln -s "$(realpath "$TIMERS")" "$BATS_FILE_TMPDIR/bin/timers"
+    ln -s "$(realpath "${TIMERS:-timers}")" "$BATS_FILE_TMPDIR/bin/timers"
     export PATH=$BATS_FILE_TMPDIR/bin:$PATH
 }
 
@@ -36,8 +38,6 @@ other_option() {
         "threads timers") echo "--clients 1" ;;
     esac
 }
-
-bats_require_minimum_version 1.5.0
 
 @test "each option has one range and one default in the help and in docs/formats.md" {
     for command in play serve show threads; do
@@ -156,7 +156,7 @@ offered() {
 }
 
 @test "fish completes commands, options and values" {
-    command -v fish > /dev/null || skip "no fish"
+    needs fish
     [ "$(offered "timers s")" = "serve show" ]
     [ "$(offered "timers -")" = "--help --version" ]
     [ "$(offered "timers help th")" = threads ]
@@ -168,7 +168,7 @@ offered() {
 
 # What the function for zsh gives to zsh's own, which take the cursor's place into account.
 @test "zsh gets commands, options and values" {
-    command -v zsh > /dev/null || skip "no zsh"
+    needs zsh
     # shellcheck disable=SC2016
     given='
         _arguments() {
