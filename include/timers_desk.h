@@ -176,7 +176,10 @@ enum timers_desk_status {
 
 #define TIMERS_DESK_CLIENTS 64   /* the most clients */
 
-/* The kinds of words, and the members of a word that each one sets. */
+/* The kinds of words, and the members of a word that each one sets. A request gets the first reason that
+ * holds: CLOSED and NUMBERS_SPENT before all others. Then a start is tested for ZERO_INTERVAL, TOO_LATE,
+ * SERIALS_SPENT and CAPACITY; a restart for NOT_PENDING, ZERO_INTERVAL, TOO_LATE and SERIALS_SPENT; and a stop
+ * for NOT_PENDING. */
 enum timers_word_kind {
 	TIMERS_WORD_STARTED = 1,     /* number, handle, deadline */
 	TIMERS_WORD_RESTARTED = 2,   /* number, handle and deadline of the new timer, the old serial in `other` */
@@ -240,8 +243,8 @@ void timers_desk_free(struct timers_desk *d);
  * TIMERS_DESK_NO_MEMORY: the request is held, and is retried first. */
 enum timers_desk_status timers_desk_serve(struct timers_desk *d, size_t client);
 
-/* Serves each client in turn, until `most` of its requests were done or a serve did none. Allocates only for
- * starts.
+/* Serves each client once, from client 0 on, until `most` of its requests were done or a serve did none.
+ * Allocates only for starts.
  * TIMERS_DESK_NOT_OPEN.
  * TIMERS_DESK_NO_MEMORY: memory ran out for at least one client, whose request is held; others may have
  * been done.
@@ -257,7 +260,7 @@ size_t timers_desk_flush(struct timers_desk *d, size_t client);
 
 /* Advances the clock by one tick. A word for each timer with that deadline goes to the outbox of its
  * client. Does not allocate.
- * TIMERS_DESK_NOT_OPEN, TIMERS_DESK_CLOSED, TIMERS_DESK_CLOCK_END. */
+ * TIMERS_DESK_NOT_OPEN, TIMERS_DESK_CLOSED, TIMERS_DESK_CLOCK_END: nothing has changed. */
 enum timers_desk_status timers_desk_tick(struct timers_desk *d);
 
 /* Passes at most `most` ticks, up to the first at which a timer expires. At TIMERS_DESK_OK it writes to
@@ -267,11 +270,11 @@ enum timers_desk_status timers_desk_tick(struct timers_desk *d);
  * TIMERS_DESK_NOT_OPEN, TIMERS_DESK_CLOSED, TIMERS_DESK_CLOCK_END. */
 enum timers_desk_status timers_desk_advance(struct timers_desk *d, uint64_t most, uint64_t *passed);
 
-/* Closes the desk: each pending timer is returned by a word to its client. From then on each request is
- * answered by TIMERS_WORD_NOT_TAKEN. At TIMERS_DESK_OK it writes to `*returned` how many timers were
- * returned.
- * TIMERS_DESK_NOT_OPEN, TIMERS_DESK_CLOSED.
- * TIMERS_DESK_NO_MEMORY: nothing has changed, and it may be repeated. */
+/* Closes the desk: each pending timer is returned by a word to its client, by deadline, and by serial among
+ * equal ones. From then on each request is answered by TIMERS_WORD_NOT_TAKEN. At TIMERS_DESK_OK it writes to
+ * `*returned` how many timers were returned.
+ * TIMERS_DESK_NOT_OPEN, TIMERS_DESK_CLOSED, TIMERS_DESK_NO_MEMORY: nothing has changed. After
+ * TIMERS_DESK_NO_MEMORY it may be repeated. */
 TIMERS_CHECKED
 enum timers_desk_status timers_desk_close(struct timers_desk *d, uint64_t *returned);
 
@@ -306,7 +309,8 @@ enum timers_desk_status timers_desk_end(struct timers_desk *d, size_t client, st
  * nothing has changed.
  * Otherwise it writes to `*client` the first client whose words have not ended, and returns why. That
  * client's line is as it was. TIMERS_DESK_OTHER_LINE (its client has another number), TIMERS_DESK_NOT_FINISHED,
- * TIMERS_DESK_OTHER_LINE (it is of a desk that was freed), TIMERS_DESK_LEFT. */
+ * TIMERS_DESK_OTHER_LINE (it is of a desk that was freed), TIMERS_DESK_LEFT. A struct that was moved out of
+ * `lines` counts as freed: its words have not ended, and this call does not say so. */
 TIMERS_CHECKED
 enum timers_desk_status timers_desk_end_all(struct timers_desk *d, struct timers_line *lines, size_t clients,
                                             size_t *client);
@@ -329,7 +333,8 @@ uint64_t timers_desk_next(const struct timers_desk *d);
 
 /* Whether a client's line was freed. False if there is no such client, or it holds no desk. Once true it
  * stays true. Nothing changes: what the client sent before is still taken, and its timers stay pending.
- * Words to it are lost once they are in the line. Constant time. Does not allocate. */
+ * Words to it are lost once they are in the line. A line that is full takes no more, so they wait in the
+ * outbox, and once that has no room a serve returns TIMERS_DESK_NO_ROOM. Constant time. Does not allocate. */
 bool timers_desk_line_freed(const struct timers_desk *d, size_t client);
 
 /* How many words wait in a client's outbox. 0 if there is no such client, or it holds no desk. */
@@ -374,7 +379,8 @@ bool timers_line_ended(const struct timers_line *line);
  * received. Nothing changes. Constant time. */
 bool timers_line_abandoned(const struct timers_line *line);
 
-/* Frees the client's end, if it holds one. What it sent is still taken, and words to it are lost. */
+/* Frees the client's end, if it holds one. What it sent is still taken while its outbox has room, and words
+ * to it are lost. */
 void timers_line_free(struct timers_line *line);
 
 /* The layout that the library was built for. */
