@@ -133,8 +133,10 @@ static void sleep_to_first(void)
 		ngx_msec_t wait = ngx_event_find_timer();
 		check_wait(wait);
 		ngx_current_msec += wait;
-		if (turns > MOST_TURNS)
-			printf("%d turns\n", turns);
+		if (turns > MOST_TURNS) {
+			printf("%d turns up to the first timer\n", turns);
+			exit(1);
+		}
 		if (ngx_current_msec >= at)
 			break;
 		expire();
