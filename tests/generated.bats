@@ -169,10 +169,12 @@ EOT
 }
 
 needs_cross() { needs $cross qemu-aarch64-static; }
-# builds PROGRAM FLAGS..: one of examples/c
+# builds PROGRAM FLAGS..: one of examples/c or tests/c
 builds() {
     needs_cross
-    $cross -std=c11 -O2 -Wall -Wextra -Werror -Iinclude -pthread -o "$work/$1" "examples/c/$1.c" $sources "${@:2}"
+    local source=tests/c/$1.c
+    [ -e "$source" ] || source=examples/c/$1.c
+    $cross -std=c11 -O2 -Wall -Wextra -Werror -Iinclude -pthread -o "$work/$1" "$source" $sources "${@:2}"
 }
 # runs PROGRAM ARGUMENTS..
 runs() { $qemu "$work/$1" "${@:2}"; }

@@ -21,6 +21,8 @@ setup_file() {
 
 @test "timers(1) is made from docs/formats.md" {
     needs lowdown
+    # Another version may write the same text with other macros.
+    [[ $(dpkg-query -W -f='${Version}' lowdown) == 1.0.* ]] || skip "no lowdown 1.0, Debian 12's"
     tools/install/man1 | diff tools/install/timers.1 -
 }
 
