@@ -12,6 +12,7 @@
 # make bench-scale measures an operation with 1,000 to 10,000,000 timers pending (bench/build/results)
 # make bench-tail  measures how long single ticks and starts take (bench/build/results)
 # make bench-desk  measures client threads over a desk, over C++ rings and around a mutex (bench/build/results)
+# make ports       libuv, nginx and lwIP on these timers: their tests, traces, memory, instructions (ports/README.md)
 # make clean       removes what was built
 #
 # CC is the C compiler, by default cc: CC=aarch64-linux-gnu-gcc builds for another processor. CFLAGS and LDFLAGS are its flags.
@@ -106,8 +107,11 @@ docs: all
 	tools/install/man3 timers > tools/install/timers.3
 	tools/install/man3 timers_desk > tools/install/timers_desk.3
 
+ports:
+	ports/run $(PORTS)
+
 clean:
 	rm -rf crates/*/out build timers
 	$(MAKE) -C bench clean
 
-.PHONY: all lib run test prove try generate install uninstall dist deb bench bench-lines bench-scale bench-tail bench-desk hostile fuzz soak docs clean
+.PHONY: all lib run test prove try generate install uninstall dist deb bench bench-lines bench-scale bench-tail bench-desk hostile fuzz soak docs ports clean
