@@ -70,7 +70,7 @@ static ROWS: [Row; 10] = [
         fails_at: u64::MAX,
         room: usize::MAX,
         log: "<tikc 2\ntick 3\n!<!>end 3 0\n!",
-        reports: "bad line 1\n",
+        reports: "bad line 1, column 3: unknown word\n",
         end: Ok(false),
     },
     Row {
@@ -79,7 +79,7 @@ static ROWS: [Row; 10] = [
         fails_at: u64::MAX,
         room: usize::MAX,
         log: "<tick 2\n\ntick 3\n!<!>end 5 0\n!",
-        reports: "bad line 2\n",
+        reports: "bad line 2, column 1: empty line\n",
         end: Ok(false),
     },
     Row {
@@ -88,7 +88,8 @@ static ROWS: [Row; 10] = [
         fails_at: u64::MAX,
         room: usize::MAX,
         log: "<a\nb\nclose\nc\nd\n>closed 0\n!<!>end 0 0\n!",
-        reports: "bad line 1\nbad line 2\nbad line 4\nbad line 5\n",
+        reports: "bad line 1, column 1: unknown word\nbad line 2, column 1: unknown word\n\
+            bad line 4, column 2: unknown word\nbad line 5, column 1: unknown word\n",
         end: Ok(false),
     },
     Row {
@@ -97,7 +98,7 @@ static ROWS: [Row; 10] = [
         fails_at: u64::MAX,
         room: usize::MAX,
         log: "<tick 2\r\ntick 3\n!<!>end 3 0\n!",
-        reports: "bad line 1\n",
+        reports: "bad line 1, column 7: carriage return\n",
         end: Ok(false),
     },
     Row {
@@ -106,7 +107,7 @@ static ROWS: [Row; 10] = [
         fails_at: u64::MAX,
         room: usize::MAX,
         log: "<tick 2\ntick 3!<!>end 2 0\n!",
-        reports: "bad line 2\n",
+        reports: "bad line 2, column 7: no line end\n",
         end: Ok(false),
     },
     Row {
@@ -115,7 +116,7 @@ static ROWS: [Row; 10] = [
         fails_at: u64::MAX,
         room: usize::MAX,
         log: "<c!<l!<o!<s!<e!<\n>closed 0\n!<x!<\n!<c!<l!<o!<s!<e!<\n>close refused closed\n!<!>end 0 0\n!",
-        reports: "bad line 2\n",
+        reports: "bad line 2, column 1: unknown word\n",
         end: Ok(false),
     },
     Row {
@@ -124,7 +125,7 @@ static ROWS: [Row; 10] = [
         fails_at: 3,
         room: usize::MAX,
         log: "<x\nclose\n>closed 0\n!",
-        reports: "bad line 1\n",
+        reports: "bad line 1, column 1: unknown word\n",
         end: Err(ServeFault::Read),
     },
     Row {
@@ -175,7 +176,7 @@ static LONG: Row = Row {
     fails_at: u64::MAX,
     room: usize::MAX,
     log: ">end 5 0\n!",
-    reports: "bad line 1\n",
+    reports: "bad line 1, column 1: unknown word\n",
     end: Ok(false),
 };
 

@@ -2,11 +2,17 @@
 #![tactic(auto)]
 
 #[cfg(test)]
+mod fault_tests;
+#[cfg(test)]
+mod fields_tests;
+#[cfg(test)]
 mod good_lines_tests;
 #[cfg(test)]
 mod prompt_tests;
 #[cfg(test)]
 mod recorded_peer;
+#[cfg(test)]
+mod report_order_tests;
 #[cfg(test)]
 mod script_report_tests;
 #[cfg(test)]
