@@ -20,7 +20,7 @@ numbers_of() {
         -e 's/^--([a-z-]+): .*[^0-9]([0-9]+) to ([0-9]+).*\[default: ([0-9]+)\].*/\1 \2 \3 \4/p' \
         -e 's/^--scheme: .*\[default: ([a-z]+)\].*/scheme \1/p' | sort
 }
-help_numbers() { timers "$1" --help | sed -nE 's/^ +(--[a-z-]+) <[A-Z]+> +/\1: /p' | numbers_of; }
+help_numbers() { timers "$1" -h | sed -nE 's/^ +(--[a-z-]+) <[A-Z]+> +/\1: /p' | numbers_of; }
 # The rows of the tables of options below the heading of a subcommand.
 formats_numbers() {
     awk -v heading="### \`timers $1\`" 'index($0, "##") == 1 { here = index($0, heading) == 1 } here' docs/formats.md |
@@ -44,7 +44,7 @@ other_option() {
         section=play
         [ $command != threads ] || section=threads
         diff <(help_numbers $command) <(formats_numbers $section)
-        [ "$(help_numbers $command | wc -l)" -eq "$(timers $command --help | grep -cE '^ +--[a-z-]+ <')" ]
+        [ "$(help_numbers $command | wc -l)" -eq "$(timers $command -h | grep -cE '^ +--[a-z-]+ <')" ]
     done
 }
 
@@ -181,7 +181,7 @@ offered() {
     [[ $output == *"play:Plays the script"* ]]
     run -0 zsh -f -c "$given" zsh argument threads
     [[ $output == *"--timers=[The number of timers that each client starts, 1 to 10000"*"]:TIMERS:"* ]]
-    [[ $output == *"--help[Print help]"* ]]
+    [[ $output == *"--help[Print help"* ]]
     run -0 zsh -f -c "$given" zsh argument show
     [[ $output == *"]:SCHEME:(plain hashed hier clock)"* ]]
 }

@@ -38,7 +38,7 @@ static const struct run RUNS[] = {
 	{{"serve", "--wakeups"}, {64, 1024, 0, LAST}, WAKEUPS},
 	{{"serve", "--wakeups", "--scheme", "clock", "--first-tick", "8639000"}, {64, 1024, 8639000, LAST_OF_CLOCK}, WAKEUPS},
 	{{"serve", "--wakeups", "--scheme", "hashed", "--slots", "8"}, {64, 1024, 0, LAST}, WAKEUPS},
-	{{"show"}, {64, 1024, 0, LAST}, SHOW},
+	{{"show", "--counts"}, {64, 1024, 0, LAST}, SHOW},
 	{{"check"}, {64, 1024, 0, LAST}, CHECK},
 };
 

@@ -235,10 +235,10 @@ static struct answer fault(struct answer answer, const char *what, uint64_t line
 }
 
 /* The report of a bad line. */
-static void report(struct text *text, uint64_t n, const char *at, size_t len)
+static void report(struct text *text, const char *front, uint64_t n, const char *at, size_t len)
 {
 	struct wrong wrong = diagnose(at, len);
-	add(text, "line %" PRIu64 ", column %zu: ", n, wrong.column);
+	add(text, "%sline %" PRIu64 ", column %zu: ", front, n, wrong.column);
 	if (wrong.field)
 		add(text, "%s: ", wrong.field);
 	add(text, "%s\n", wrong.reason ? wrong.reason : "nothing");
@@ -268,9 +268,9 @@ static bool lines(struct facility *f, const char *script, size_t len, enum form 
 		if (good && form == WAKEUPS)
 			wakeup(f, &answer->output);
 		if (!good && form == CHECK)
-			report(&answer->output, n, at, all);
+			report(&answer->output, "", n, at, all);
 		if (!good && form == KEEP_GOING)
-			add(&answer->faults, "bad line %" PRIu64 "\n", n);
+			report(&answer->faults, "bad ", n, at, all < 108 ? all : 108);
 		if (!good && form != CHECK && form != KEEP_GOING) {
 			*answer = fault(*answer, "bad line", n);
 			return false;

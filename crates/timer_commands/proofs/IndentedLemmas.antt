@@ -1,21 +1,22 @@
 -- Text that grows by indented lines.
 use Rattle.std.proofs.Common.{◌≡◌, ℕ, ◌==◌, true, List, [], ◌∷◌, ◌++◌, decimal, refl, sym, ap, ◌∙◌, append_assoc, append-nil}
-use Rattle.std.specs.Prelude.{Option, None, Some, codes, Result, Ok, Err, OnOk}
-use Rattle.timer_facility.specs.State.{FacilityState}
-use Rattle.timer_facility.specs.WakeUps.{IsQuietUntil}
-use Rattle.timer_script.specs.Decorator.{HasGrownBy}
+use Rattle.std.specs.Prelude.{Result, Ok, Err, OnOk}
 use Rattle.timer_script.specs.Splitter.{HasNoFeed}
 use Rattle.timer_script.proofs.SplitterLemmas.{no_feed-append, is_bare, bare}
-use Rattle.timer_commands.specs.Indented.{AddsWakeups, wakeup_line, AddsIndented, HasGrownByIndented, HasGrownByFront}
-use Rattle.timer_commands.specs.IndentedLaws.{decimal_bare, adds_join}
+use Rattle.timer_commands.specs.Indented.{AddsMarked, HasGrownByIndented, HasGrownByFront}
+use Rattle.timer_commands.specs.IndentedLaws.{decimal_bare, adds_nothing, adds_join}
 
-adds_line : (front : List ℕ) → HasNoFeed front → AddsIndented [] (32 ∷ front ++ 10 ∷ [])
+adds_line : (front : List ℕ) → HasNoFeed front → AddsMarked 32 [] (32 ∷ front ++ 10 ∷ [])
 adds_line front free = record {
   lines = (32 ∷ front ++ 10 ∷ []) ∷ [];
   each = (record { front = 32 ∷ front; is = refl; no_feed = (λ e. absurd cc, free) }, tt);
   text_is = sym (append-nil (32 ∷ front ++ 10 ∷ []));
   answer_is = refl;
 }
+
+-- nothing was added
+pub grown_none : (text : List ℕ) → HasGrownByIndented text text
+grown_none text = ([], sym (append-nil text), adds_nothing 32)
 
 pub grown_join : (a b c : List ℕ) → HasGrownByIndented a b → HasGrownByIndented b c → HasGrownByIndented a c
 grown_join a b c f g = (f.0 ++ g.0, g.1 ∙ ap (λ t. t ++ g.0) f.1 ∙ append_assoc a f.0 g.0, adds_join 32 [] [] f.0 g.0 f.2 g.2)
@@ -55,29 +56,3 @@ pub grown_ok : {A E : Type 0} (result : Result A E) (a b c : List ℕ) → HasGr
     → OnOk result (HasGrownByIndented a c)
 grown_ok (Ok x) a b c f g = grown_join a b c f g
 grown_ok (Err e) a b c f g = tt
-
--- ---- wake-ups
-
-wakeup_marked : (front : List ℕ) → HasNoFeed front → AddsWakeups [] (119 ∷ front ++ 10 ∷ [])
-wakeup_marked front free = record {
-  lines = (119 ∷ front ++ 10 ∷ []) ∷ [];
-  each = (record { front = 119 ∷ front; is = refl; no_feed = (λ e. absurd cc, free) }, tt);
-  text_is = sym (append-nil (119 ∷ front ++ 10 ∷ []));
-  answer_is = refl;
-}
-
-wakeup_lawful : (quiet : Option ℕ) → AddsWakeups [] (wakeup_line quiet)
-wakeup_lawful None = wakeup_marked (codes "akeup never") (bare (codes "akeup never") refl)
-wakeup_lawful (Some tick) = wakeup_marked (codes "akeup " ++ decimal tick)
-    (no_feed-append (codes "akeup ") (decimal tick) (bare (codes "akeup ") refl) (decimal_bare tick))
-
-pub wakeup_added : {A E : Type 0} (result : Result A E) (old new : List ℕ) (quiet : Option ℕ)
-    → OnOk result (new ≡ old ++ wakeup_line quiet) → OnOk result (HasGrownBy AddsWakeups old new)
-wakeup_added (Ok x) old new quiet h = (wakeup_line quiet, h, wakeup_lawful quiet)
-wakeup_added (Err e) old new quiet h = tt
-
-pub wakeup_known : {A E : Type 0} (result : Result A E) (old new : List ℕ) (quiet : Option ℕ) (s : FacilityState)
-    → IsQuietUntil quiet s → OnOk result (new ≡ old ++ wakeup_line quiet)
-    → OnOk result ((quiet : Option ℕ) × IsQuietUntil quiet s × (new ≡ old ++ wakeup_line quiet))
-wakeup_known (Ok x) old new quiet s k h = (quiet, k, h)
-wakeup_known (Err e) old new quiet s k h = tt

@@ -1,2 +1,3 @@
 pub mod IndentedLemmas
+mod WakeupLemmas
 mod VerbLemmas

@@ -16,8 +16,10 @@ use Rattle.timer_script.specs.Streams.{streams_state}
 use Rattle.timer_script.proofs.ServiceLemmas.{served_nothing}
 use Rattle.timer_commands.specs.declared.verbs.Verb.{Verb}
 use Rattle.timer_commands.specs.declared.verbs.Verb.TheVariants as verbs
-use Rattle.timer_commands.specs.Indented.{AddsIndented, AddsWakeups}
-use Rattle.timer_commands.specs.IndentedLaws.{indented_is_lawful, wakeups_are_lawful}
+use Rattle.timer_commands.specs.Indented.{AddsIndented}
+use Rattle.timer_commands.specs.IndentedLaws.{indented_is_lawful}
+use Rattle.timer_commands.specs.Wakeups.{AddsWakeups}
+use Rattle.timer_commands.specs.WakeupLaws.{wakeups_are_lawful}
 use Rattle.timer_commands.specs.Subcommands.{Bytes, Channels, Ends, HasServedStreams, serving_status, HasAnswered, HasDone}
 
 unserved : {R S F : Type 0} (on_bad : OnBadLine) (A : Decoration) (d : IsLawful A) (before : FacilityState) (bytes : Bytes R S F)
@@ -46,7 +48,7 @@ undone bytes streams faults faults' reading writing (verbs.Serve on_bad true) be
     unserved on_bad AddsWakeups wakeups_are_lawful before bytes streams faults faults' reading writing
 undone bytes streams faults faults' reading writing (verbs.Serve on_bad false) before =
     unserved on_bad AddsNothing nothing_is_lawful before bytes streams faults faults' reading writing
-undone bytes streams faults faults' reading writing verbs.Show before =
+undone bytes streams faults faults' reading writing (verbs.Show counts) before =
     unserved Stop AddsIndented indented_is_lawful before bytes streams faults faults' reading writing
 
 -- serving ended, and then its failure may have been reported

@@ -1,6 +1,6 @@
 -- Which bytes are lines, and the laws of text to which marked lines are added. They are in specs/ since the
 -- decorators of `show` and `serve` cite them.
-use Rattle.std.proofs.Common.{◌≡◌, ℕ, zero, suc, ◌+◌, ◌/◌, ◌%◌, ◌==◌, ◌&&◌, not, Bool, true, false, cond, nat_lt, List, [], ◌∷◌, ◌++◌, inl, inr, decimal, codes, refl, sym, ap, subst, ◌∙◌, arith, append-nil}
+use Rattle.std.proofs.Common.{◌≡◌, ℕ, zero, suc, ◌+◌, ◌/◌, ◌%◌, ◌==◌, ◌&&◌, not, Bool, true, false, cond, nat_lt, List, [], ◌∷◌, ◌++◌, length, inl, inr, decimal, codes, refl, sym, ap, subst, ◌∙◌, arith, append-nil}
 use Rattle.std.specs.List.{filter, concat, AllByRecursion}
 use Rattle.std.specs.Fmt.{digits, digits_onto, digit_glyph}
 use Rattle.std.proofs.lemmas.List.Elements.{filter-append}
@@ -20,7 +20,7 @@ use Rattle.timer_script.specs.Decorator.{IsLawful}
 use Rattle.timer_script.specs.Session.{lines_of}
 use Rattle.timer_script.specs.Text.{numbers, reason_word, refusal_word, out_line, end_line}
 use Rattle.timer_script.proofs.SplitterLemmas.{no_feed-append, is_bare, bare}
-use Rattle.timer_commands.specs.Indented.{EndsWithFeed, is_unmarked, AddsMarked, AddsIndented, AddsWakeups}
+use Rattle.timer_commands.specs.Indented.{EndsWithFeed, is_unmarked, AddsMarked, AddsIndented}
 
 -- ---- bytes without a line feed
 
@@ -160,11 +160,11 @@ adds_outs mark u [] = adds_nothing mark
 adds_outs mark u (o ∷ outs) = adds_join mark (out_line o) (lines_of outs) (out_line o) (lines_of outs) (adds_out mark u o)
     (adds_outs mark u outs)
 
-marked_is_lawful : (mark : ℕ) → IsUnused mark → IsLawful (AddsMarked mark)
-marked_is_lawful mark u = record { joins = adds_join mark; lines = adds_outs mark u; end = adds_end mark u }
-
 pub indented_is_lawful : IsLawful AddsIndented
-indented_is_lawful = marked_is_lawful 32 (record { s = refl; r = refl; e = refl; c = refl; t = refl })
-
-pub wakeups_are_lawful : IsLawful AddsWakeups
-wakeups_are_lawful = marked_is_lawful 119 (record { s = refl; r = refl; e = refl; c = refl; t = refl })
+indented_is_lawful =
+    let unused : IsUnused 32 = record { s = refl; r = refl; e = refl; c = refl; t = refl } in
+    record {
+      joins = λ s t u events more. adds_join 32;
+      lines = λ s t events outs run. adds_outs 32 unused outs;
+      end = λ s. adds_end 32 unused s.now (length s.pending);
+    }

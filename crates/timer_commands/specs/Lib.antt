@@ -3,4 +3,6 @@ pub mod Schemes
 pub mod Clients
 pub mod Indented
 pub mod IndentedLaws
+pub mod Wakeups
+pub mod WakeupLaws
 pub mod Subcommands

@@ -18,7 +18,8 @@ use Rattle.timer_commands.specs.declared.options.OptionsFault.{OptionsFault}
 use Rattle.timer_commands.specs.declared.verbs.Verb.{Verb}
 use Rattle.timer_commands.specs.declared.verbs.Verb.TheVariants as verbs
 use Rattle.timer_commands.specs.Options.{config_of, scheme_last, IsPlayable, IsRefused}
-use Rattle.timer_commands.specs.Indented.{AddsIndented, AddsWakeups}
+use Rattle.timer_commands.specs.Indented.{AddsIndented}
+use Rattle.timer_commands.specs.Wakeups.{AddsWakeups}
 
 -- how the bytes of a reader, of a writer and of a writer of reports are known
 pub record Bytes (R S F : Type 0) : Type 0 where
@@ -85,7 +86,7 @@ HasDone (verbs.Serve on_bad false) before bytes old new status =
     HasAnswered on_bad AddsNothing before bytes old new status
 HasDone (verbs.Serve on_bad true) before bytes old new status =
     HasAnswered on_bad AddsWakeups before bytes old new status
-HasDone verbs.Show before bytes old new status = HasAnswered Stop AddsIndented before bytes old new status
+HasDone (verbs.Show counts) before bytes old new status = HasAnswered Stop AddsIndented before bytes old new status
 
 -- that was done over the facility of the options, or the options are refused and nothing was read or written
 pub record HasEnded {R S F : Type 0} (verb : Verb) (options : RunOptions) (bytes : Bytes R S F)
@@ -95,10 +96,14 @@ pub record HasEnded {R S F : Type 0} (verb : Verb) (options : RunOptions) (bytes
   pub refused : status ≡ 2 → ((fault : OptionsFault) × IsRefused fault options) × (new.streams ≡ old.streams)
 
 -- a script was checked: 0: no line is bad, and the report, which is empty, was written; 1: some line is bad, and
--- the whole report was written; or the check failed
-abbrev pub HasCheckedScript : {R S F : Type 0} → Bytes R S F → (streams streams' : Streams R S) → ℕ → Type 0
-HasCheckedScript {R} {S} {F} bytes streams streams' status =
-    let Checked : Result ℕ RunFault → Type 0 = HasChecked bytes.remaining bytes.contents streams.reader
-    streams'.reader streams.writer streams'.writer in
-    Ends (Checked (Ok 0))
-    (((lines : ℕ) × (1 ≤ lines) × Checked (Ok lines)) ⊎ ((fault : RunFault) × Checked (Err fault))) status
+-- the whole report was written; 2: the check failed, by its input, its output or memory
+pub record HasCheckedScript {R S F : Type 0} (bytes : Bytes R S F) (streams streams' : Streams R S) (status : ℕ)
+    : Type 0 where
+  pub in_range : status ≤ 2
+  pub good : status ≡ 0
+      → HasChecked bytes.remaining bytes.contents streams.reader streams'.reader streams.writer streams'.writer (Ok 0)
+  pub bad : status ≡ 1 → (lines : ℕ) × (1 ≤ lines)
+      × HasChecked bytes.remaining bytes.contents streams.reader streams'.reader streams.writer streams'.writer (Ok lines)
+  pub failed : status ≡ 2 → (fault : RunFault)
+      × HasChecked bytes.remaining bytes.contents streams.reader streams'.reader streams.writer streams'.writer
+      (Err fault)

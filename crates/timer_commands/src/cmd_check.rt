@@ -3,7 +3,6 @@ ghost use Rattle.std.specs.Prelude.{◌≡◌, false};
 ghost use Rattle.timer_commands.specs.Subcommands.{HasCheckedScript};
 ghost use Rattle.timer_script.specs.Watched.{has_failed};
 
-use crate::error_report::report;
 use std::alloc::Global;
 use std::io::{Read, Write};
 use timer_script::{Streams, check};
@@ -11,7 +10,7 @@ use timer_script::{Streams, check};
 /// Reports the bad lines of the script of the reader, and returns the exit status.
 ///
 /// 0: no line is bad, and nothing is written. 1: a line is bad, and each that is bad is reported on the
-/// writer; or an error, reported in one line on `faults`.
+/// writer. 2: an error of input or output, or out of memory, reported in one line on `faults`.
 pub fn check_script<R: Read, W: Write, F: Write>(
     alloc: Global,
     streams: &mut Streams<R, W>,
@@ -25,6 +24,9 @@ pub fn check_script<R: Read, W: Write, F: Write>(
 {
     match check(alloc, &mut streams.reader, &mut streams.writer) {
         Ok(bad) => { if bad == 0 { 0 } else { 1 } }
-        Err(fault) => report(fault, faults),
+        Err(fault) => {
+            let _ = writeln!(faults, "{fault}");
+            2
+        }
     }
 }

@@ -6,10 +6,13 @@
 //!     clock     minute 15: 1
 //!
 //! Each line begins with two spaces. A bucket without a timer has none. What is due is not shown: between
-//! two lines of a script nothing is.
+//! two lines of a script nothing is. A wheel that counts its work may show what it counted:
+//!
+//!     hier      starts 3 moves 1 visits 128     timers started, moves to a lower wheel, slots visited
 ghost use Rattle.std.specs.Prelude.{◌≡◌, ◌<◌, ◌++◌, length, decimal, OnOk};
 ghost use Rattle.timer_script.specs.Decorator.{HasGrown};
-ghost use Rattle.timer_commands.specs.Indented.{HasGrownByIndented, HasGrownByFront, wakeup_line};
+ghost use Rattle.timer_commands.specs.Indented.{HasGrownByIndented, HasGrownByFront};
+ghost use Rattle.timer_commands.specs.Wakeups.{wakeup_line};
 
 use itoa::Buffer;
 use timer_base::{OutOfMemory, PlainWheel, Wheel};
@@ -33,6 +36,11 @@ pub trait Placement {
     fn push_placement(&self, text: &mut Vec<u8>) -> Result<(), OutOfMemory>
         ensures indented { OnOk result (HasGrownByIndented text.old.items text.new.items) }
         ensures kept { HasGrown text.old.items text.new.items };
+
+    /// Appends a line of what the wheel counted, if it counts. The only error is out of memory.
+    fn push_counts(&self, text: &mut Vec<u8>) -> Result<(), OutOfMemory>
+        ensures indented { OnOk result (HasGrownByIndented text.old.items text.new.items) }
+        ensures kept { HasGrown text.old.items text.new.items };
 }
 
 impl Placement for PlainWheel {
@@ -49,11 +57,19 @@ impl Placement for PlainWheel {
         text.push(b'\n')?;
         Ok(())
     }
+
+    fn push_counts(&self, _text: &mut Vec<u8>) -> Result<(), OutOfMemory> {
+        Ok(())
+    }
 }
 
 impl Placement for HashedWheel {
     fn push_placement(&self, text: &mut Vec<u8>) -> Result<(), OutOfMemory> {
         push_lists(text, self.links(), Naming::Slots)
+    }
+
+    fn push_counts(&self, _text: &mut Vec<u8>) -> Result<(), OutOfMemory> {
+        Ok(())
     }
 }
 
@@ -64,6 +80,14 @@ impl Placement for HierWheel {
             Table::Clock => Naming::Clock,
         };
         push_lists(text, self.links(), naming)
+    }
+
+    fn push_counts(&self, text: &mut Vec<u8>) -> Result<(), OutOfMemory> {
+        push_number(text, b"  starts ", self.starts())?;
+        push_number(text, b" moves ", self.moves())?;
+        push_number(text, b" visits ", self.visits())?;
+        text.push(b'\n')?;
+        Ok(())
     }
 }
 
@@ -164,13 +188,35 @@ fn push_number(text: &mut Vec<u8>, word: &[u8], n: u64) -> Result<(), OutOfMemor
     Ok(())
 }
 
-/// Appends the line of the clock, and a line for each bucket that has a timer.
-pub fn push_shown<W: Wheel + Placement>(text: &mut Vec<u8>, wheel: &W) -> Result<(), OutOfMemory>
+/// Appends a line of what the wheel counted, if it counts, and if that is wanted.
+fn push_wanted_counts<W: Placement>(
+    text: &mut Vec<u8>,
+    wheel: &W,
+    wanted: bool,
+) -> Result<(), OutOfMemory>
+    ensures indented { OnOk result (HasGrownByIndented text.old.items text.new.items) }
+    ensures kept { HasGrown text.old.items text.new.items }
+{
+    if wanted {
+        wheel.push_counts(text)
+    } else {
+        Ok(())
+    }
+}
+
+/// Appends the line of the clock, that of the counts if they are wanted, and a line for each bucket that has a
+/// timer.
+pub fn push_shown<W: Wheel + Placement>(
+    text: &mut Vec<u8>,
+    wheel: &W,
+    counts: bool,
+) -> Result<(), OutOfMemory>
     ensures indented { OnOk result (HasGrownByIndented text.old.items text.new.items) }
     ensures kept { HasGrown text.old.items text.new.items }
 {
     push_number(text, b"  now ", wheel.now())?;
     text.push(b'\n')?;
+    push_wanted_counts(text, wheel, counts)?;
     wheel.push_placement(text)
 }
 

@@ -23,12 +23,17 @@ pub enum Verb {
     Play,
     /// Answers lines as they come, and with `wakeups` reports after each when to wake up next.
     Serve { on_bad: OnBadLine, wakeups: bool },
-    /// Answers lines as they come, and shows after each where the timers are.
-    Show,
+    /// Answers lines as they come, and shows after each where the timers are, and with `counts` what the wheel
+    /// counted.
+    Show { counts: bool },
 }
 
-/// Shows where the timers are. An answer is followed by the clock and the placement, which `render` draws.
-struct Placements;
+/// Shows where the timers are. An answer is followed by the clock, the counts if they are wanted, and the
+/// placement, which `render` draws.
+#[derive(Drop)]
+struct Placements {
+    counts: bool,
+}
 
 impl<W: Wheel + Placement + Drop> Decorator<W> for Placements {
     ghost use Rattle.timer_commands.specs.Indented.{AddsIndented};
@@ -42,7 +47,7 @@ impl<W: Wheel + Placement + Drop> Decorator<W> for Placements {
     }
 
     fn decorate(&self, text: &mut Vec<u8>, facility: &Facility<W>) -> Result<(), OutOfMemory> {
-        push_shown(text, facility.wheel())
+        push_shown(text, facility.wheel(), self.counts)
     }
 
     ghost is_lawful = { indented_is_lawful };
@@ -56,8 +61,8 @@ impl<W: Wheel + Drop> Decorator<W> for Wakeups {
     ghost use Rattle.std.specs.Prelude.{◌≡◌, ◌++◌, ℕ, Option, OnOk};
     ghost use Rattle.timer_facility.specs.WakeUps.{IsQuietUntil};
     ghost use Rattle.timer_script.specs.Decorator.{HasGrown, HasGrownBy};
-    ghost use Rattle.timer_commands.specs.Indented.{AddsWakeups, wakeup_line};
-    ghost use Rattle.timer_commands.specs.IndentedLaws.{wakeups_are_lawful};
+    ghost use Rattle.timer_commands.specs.Wakeups.{AddsWakeups, wakeup_line};
+    ghost use Rattle.timer_commands.specs.WakeupLaws.{wakeups_are_lawful};
 
     ghost adds = { AddsWakeups };
 
@@ -67,7 +72,7 @@ impl<W: Wheel + Drop> Decorator<W> for Wakeups {
     }
 
     fn decorate(&self, text: &mut Vec<u8>, facility: &Facility<W>) -> Result<(), OutOfMemory>
-        ensures added { OnOk result (HasGrownBy AddsWakeups text.old.items text.new.items) }
+        ensures added { OnOk result (HasGrownBy AddsWakeups facility.now.state text.old.items text.new.items) }
         ensures kept { HasGrown text.old.items text.new.items }
         // The tick is after the present one, and at most the first pending deadline.
         ensures wakeup { OnOk result ((quiet : Option ℕ) × IsQuietUntil quiet facility.now.state
@@ -112,12 +117,12 @@ pub fn do_verb<R: Read, S: Write, F: Write, W: Wheel + Placement + Drop>(
             let served = serve(alloc, streams, facility, &Undecorated, on_bad, faults);
             end_serving(served, faults)
         }
-        Verb::Show => {
+        Verb::Show { counts } => {
             let served = serve(
                 alloc,
                 streams,
                 facility,
-                &Placements,
+                &Placements { counts },
                 OnBadLine::Stop,
                 faults,
             );

@@ -233,6 +233,91 @@ static PLAIN: Row = (
     ],
 );
 
+/// The same migration with the counts. Of many ticks at once those at a multiple of 64 visit a bucket, and the
+/// last one if a timer is due.
+static COUNTS: Row = (
+    USUAL,
+    "start 0 1 130 1\ntick 64\ntick 64\nstart 0 2 2 2\nrestart 0 3 2 2 3\ntick 2\n",
+    &[
+        "started 0 1 1 130",
+        "  now 0",
+        "  starts 1 moves 0 visits 0",
+        "  wheel 1 slot 2: 1",
+        "  now 64",
+        "  starts 1 moves 0 visits 1",
+        "  wheel 1 slot 2: 1",
+        "  now 128",
+        "  starts 1 moves 1 visits 2",
+        "  wheel 0 slot 2: 1",
+        "started 0 2 2 130",
+        "  now 128",
+        "  starts 2 moves 1 visits 2",
+        "  wheel 0 slot 2: 1 2",
+        "restarted 0 3 2 3 130",
+        "  now 128",
+        "  starts 3 moves 1 visits 2",
+        "  wheel 0 slot 2: 1 3",
+        "expired 130 0 1 1",
+        "expired 130 0 3 3",
+        "  now 130",
+        "  starts 3 moves 1 visits 3",
+        "end 130 0",
+    ],
+);
+
+/// The paper's own example: 36 minutes begin up to 11 o'clock, and 15 more up to 11:15.
+static COUNTS_OF_CLOCK: Row = (
+    RunOptions {
+        scheme: Scheme::Clock,
+        first_tick: 987870,
+        ..USUAL
+    },
+    "start 0 1 3045 5\ntick 2130\ntick 900\ntick 15\n",
+    &[
+        "started 0 1 1 990915",
+        "  now 987870",
+        "  starts 1 moves 0 visits 0",
+        "  hour 11: 1",
+        "  now 990000",
+        "  starts 1 moves 1 visits 36",
+        "  minute 15: 1",
+        "  now 990900",
+        "  starts 1 moves 2 visits 51",
+        "  second 15: 1",
+        "expired 990915 0 1 5",
+        "  now 990915",
+        "  starts 1 moves 2 visits 52",
+        "end 990915 0",
+    ],
+);
+
+/// A wheel that counts nothing has no line of counts.
+static NO_COUNTS: Row = (
+    RunOptions {
+        scheme: Scheme::Hashed,
+        slots: 8,
+        ..USUAL
+    },
+    "start 0 1 1 0\ntick 1\n",
+    &[
+        "started 0 1 1 1",
+        "  now 0",
+        "  slot 1: 1:0",
+        "expired 1 0 1 0",
+        "  now 1",
+        "end 1 0",
+    ],
+);
+
+static NO_COUNTS_OF_PLAIN: Row = (
+    RunOptions {
+        scheme: Scheme::Plain,
+        ..USUAL
+    },
+    "start 0 1 1 0\n",
+    &["started 0 1 1 1", "  now 0", "  pending: 1:1", "end 0 1"],
+);
+
 /// Nothing came.
 static EMPTY: Row = (USUAL, "", &["end 0 0"]);
 
@@ -248,6 +333,23 @@ fn text_of(alloc: Global, lines: &[&str]) -> Vec<u8> {
         let _ = text.push(b'\n');
     }
     text
+}
+
+#[test]
+fn the_counts_are_shown_after_the_clock(rt: HostRuntime) {
+    let alloc = rt.alloc();
+    for (options, script, lines) in [COUNTS, COUNTS_OF_CLOCK, NO_COUNTS, NO_COUNTS_OF_PLAIN] {
+        let text = text_of(alloc, lines);
+        let source = Source::of(script.as_bytes());
+        let ended = call(
+            alloc,
+            Reading::ShowCounts,
+            options,
+            source,
+            Sink::new(alloc),
+        );
+        has_left(&rt, script, &ended, 0, &text, b"");
+    }
 }
 
 #[test]

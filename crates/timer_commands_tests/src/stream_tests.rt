@@ -7,6 +7,7 @@ use crate::support::{
 use std::alloc::Global;
 use std::io::ErrorKind;
 use std::process::Abort;
+use timer_base::MakeFault;
 use timer_commands::{OptionsFault, RunOptions, Scheme};
 use timer_facility::ConfigFault;
 
@@ -29,7 +30,7 @@ static FAULTS: [Fault; 3] = [
 type Row = (Reading, &'static str, u8, &'static str, &'static str);
 
 /// Scripts without a bad line, and with some.
-static ROWS: [Row; 11] = [
+static ROWS: [Row; 12] = [
     (Reading::Play, MIGRATION, 0, MIGRATION_TEXT, ""),
     (Reading::Play, "close\ntick 0\n", 1, "", "bad line 2\n"),
     (Reading::Serve, MIGRATION, 0, MIGRATION_TEXT, ""),
@@ -53,7 +54,15 @@ static ROWS: [Row; 11] = [
         "tick 0\nstart 0 1 5 0\nstart 0 01 5 0\ntick 5\ntick 5",
         1,
         "started 0 1 1 5\nexpired 5 0 1 0\nend 5 0\n",
-        "bad line 1\nbad line 3\nbad line 5\n",
+        "bad line 1, column 6: count: out of range 1 to 1000000\n\
+         bad line 3, column 10: number: leading zero\nbad line 5, column 7: no line end\n",
+    ),
+    (
+        Reading::ServeWakeups,
+        "start 0 1 130 7\ntick 128\nclose\n",
+        0,
+        "started 0 1 1 130\nwakeup 128\nwakeup 130\nclosed 1\nreturned 0 1 130 7\nwakeup never\nend 128 0\n",
+        "",
     ),
     (
         Reading::Show,
@@ -148,7 +157,7 @@ static FAILED_READS: [(usize, Row); 7] = [
             "tick 0\ntick 1\n",
             1,
             "",
-            "bad line 1\nread failed\n",
+            "bad line 1, column 6: count: out of range 1 to 1000000\nread failed\n",
         ),
     ),
     (
@@ -161,8 +170,8 @@ static FAILED_READS: [(usize, Row); 7] = [
             "read failed\n",
         ),
     ),
-    (3, (Reading::Check, "tick 0\n", 1, "", "read failed\n")),
-    (7, (Reading::Check, "tick 0\n", 1, "", "read failed\n")),
+    (3, (Reading::Check, "tick 0\n", 2, "", "read failed\n")),
+    (7, (Reading::Check, "tick 0\n", 2, "", "read failed\n")),
 ];
 
 #[test]
@@ -193,7 +202,11 @@ fn write_fails(
             .with_fault_after(room, fault);
         let source = Source::of(script.as_bytes()).in_pieces(7);
         let ended = call(alloc, subcommand, options, source, sink);
-        has_left(rt, room, &ended, 1, front, b"write failed\n");
+        let status = match subcommand {
+            Reading::Check => 2,
+            _ => 1,
+        };
+        has_left(rt, room, &ended, status, front, b"write failed\n");
         let failed = (ended.reader_failed, ended.writer_failed);
         same_in(rt, room, failed, (false, true));
     }
@@ -373,11 +386,33 @@ fn each_refusal_of_options_has_its_text(rt: HostRuntime) {
             OptionsFault::Config(ConfigFault::FirstTick),
             "the first tick is out of range",
         ),
+        (
+            OptionsFault::Config(ConfigFault::FirstSerial),
+            "the first serial is out of range",
+        ),
+        (
+            OptionsFault::Config(ConfigFault::FirstNumber),
+            "the first request number is out of range",
+        ),
         (OptionsFault::Slots, slots),
         (
             OptionsFault::FirstTick { last: 8639999 },
             "first tick above 8639999",
         ),
+    ] {
+        let Ok(found) = format!(in rt.alloc(); "{fault}") else {
+            panic!(&rt; "out of memory");
+        };
+        same_in(&rt, text, found.as_str(), text);
+    }
+}
+
+#[test]
+fn each_refusal_of_a_wheel_has_its_text(rt: HostRuntime) {
+    for (fault, text) in [
+        (MakeFault::Slots, "the number of slots is out of range"),
+        (MakeFault::FirstTick, "the first tick is out of range"),
+        (MakeFault::OutOfMemory, "out of memory"),
     ] {
         let Ok(found) = format!(in rt.alloc(); "{fault}") else {
             panic!(&rt; "out of memory");

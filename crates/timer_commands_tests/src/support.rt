@@ -186,7 +186,9 @@ pub enum Reading {
     Play,
     Serve,
     ServeGood,
+    ServeWakeups,
     Show,
+    ShowCounts,
     Check,
 }
 
@@ -224,7 +226,12 @@ pub fn call(
             on_bad: OnBadLine::Report,
             wakeups: false,
         }),
-        Reading::Show => Some(Verb::Show),
+        Reading::ServeWakeups => Some(Verb::Serve {
+            on_bad: OnBadLine::Stop,
+            wakeups: true,
+        }),
+        Reading::Show => Some(Verb::Show { counts: false }),
+        Reading::ShowCounts => Some(Verb::Show { counts: true }),
         Reading::Check => None,
     };
     let status = match verb {

@@ -109,6 +109,29 @@ static SHOW: [&str; 6] = [
     "--first-tick=4",
 ];
 
+static SHOW_COUNTS: [&str; 7] = [
+    "show",
+    "--scheme=hashed",
+    "--slots=8",
+    "--counts",
+    "--clients=2",
+    "--capacity=3",
+    "--first-tick=4",
+];
+
+static SERVE_WAKEUPS: [&str; 2] = ["serve", "--wakeups"];
+
+static SERVE_ALL: [&str; 3] = ["serve", "--wakeups", "--keep-going"];
+
+/// A server with the usual options that reports when to wake up.
+const fn serve_usual(on_bad: OnBadLine) -> Subcommand {
+    let verb = Verb::Serve {
+        on_bad,
+        wakeups: true,
+    };
+    Subcommand::Run(verb, USUAL)
+}
+
 static LEAST: [&str; 4] = ["play", "--slots=1", "--clients=1", "--capacity=1"];
 
 static MOST: [&str; 5] = [
@@ -119,7 +142,7 @@ static MOST: [&str; 5] = [
     "--first-tick=1152921504606846975",
 ];
 
-fn rows() -> [Row; 17] {
+fn rows() -> [Row; 20] {
     [
         (NO_ARGUMENTS.as_slice(), Subcommand::Run(Verb::Play, USUAL)),
         (&["play"], Subcommand::Run(Verb::Play, USUAL)),
@@ -151,7 +174,13 @@ fn rows() -> [Row; 17] {
                 OTHER,
             ),
         ),
-        (&SHOW, Subcommand::Run(Verb::Show, OTHER)),
+        (&SHOW, Subcommand::Run(Verb::Show { counts: false }, OTHER)),
+        (
+            &SHOW_COUNTS,
+            Subcommand::Run(Verb::Show { counts: true }, OTHER),
+        ),
+        (&SERVE_WAKEUPS, serve_usual(OnBadLine::Stop)),
+        (&SERVE_ALL, serve_usual(OnBadLine::Report)),
         (&["threads"], threads(4, 1000)),
         (&["threads", "--clients", "1"], threads(1, 1000)),
         (
@@ -172,7 +201,7 @@ fn arguments_are_read_as_a_subcommand_with_its_options(rt: HostRuntime) {
 
 #[test]
 fn refused_arguments_read_nothing_and_write_nothing(rt: HostRuntime) {
-    let lines: [&[&str]; 31] = [
+    let lines: [&[&str]; 36] = [
         &["play", "--slots", "0"],
         &["play", "--slots", "65537"],
         &["play", "--clients", "0"],
@@ -192,6 +221,11 @@ fn refused_arguments_read_nothing_and_write_nothing(rt: HostRuntime) {
         &["serve", "x"],
         &["play", "--keep-going"],
         &["show", "--keep-going"],
+        &["show", "--wakeups"],
+        &["show", "--counts=1"],
+        &["serve", "--counts"],
+        &["serve", "--wakeups=1"],
+        &["play", "--wakeups"],
         &["show", "--slots", "0"],
         &["show", "script"],
         &["threads", "--clients", "0"],
@@ -213,13 +247,212 @@ fn refused_arguments_read_nothing_and_write_nothing(rt: HostRuntime) {
     }
 }
 
+/// Arguments, the input, and what they leave: the exit status, the output and the reports.
+type Use = (
+    &'static [&'static str],
+    &'static str,
+    u8,
+    &'static str,
+    &'static str,
+);
+
+/// Each option changes what the same input gives.
+static USES: [Use; 17] = [
+    (
+        &["play"],
+        "start 1 1 11 7\n",
+        0,
+        "started 1 1 1 11\nend 0 1\n",
+        "",
+    ),
+    (
+        &["play", "--clients=1"],
+        "start 1 1 11 7\n",
+        0,
+        "refused 1 1 no-client\nend 0 0\n",
+        "",
+    ),
+    (
+        &["play", "--clients=2"],
+        "start 1 1 11 7\n",
+        0,
+        "started 1 1 1 11\nend 0 1\n",
+        "",
+    ),
+    (
+        &["play", "--capacity=1"],
+        "start 0 1 5 0\nstart 0 2 5 0\n",
+        0,
+        "started 0 1 1 5\nrefused 0 2 full\nend 0 1\n",
+        "",
+    ),
+    (
+        &["play", "--capacity=2"],
+        "start 0 1 5 0\nstart 0 2 5 0\n",
+        0,
+        "started 0 1 1 5\nstarted 0 2 2 5\nend 0 2\n",
+        "",
+    ),
+    (&["play", "--first-tick=9"], "tick 1\n", 0, "end 10 0\n", ""),
+    (
+        &["show"],
+        "start 0 1 11 7\n",
+        0,
+        "started 0 1 1 11\n  now 0\n  wheel 0 slot 11: 1\nend 0 1\n",
+        "",
+    ),
+    (
+        &["show", "--scheme=plain"],
+        "start 0 1 11 7\n",
+        0,
+        "started 0 1 1 11\n  now 0\n  pending: 1:11\nend 0 1\n",
+        "",
+    ),
+    (
+        &["show", "--scheme=clock"],
+        "start 0 1 11 7\n",
+        0,
+        "started 0 1 1 11\n  now 0\n  second 11: 1\nend 0 1\n",
+        "",
+    ),
+    (
+        &["show", "--scheme=hashed"],
+        "start 0 1 11 7\n",
+        0,
+        "started 0 1 1 11\n  now 0\n  slot 11: 1:0\nend 0 1\n",
+        "",
+    ),
+    (
+        &["show", "--scheme=hashed", "--slots=8"],
+        "start 0 1 11 7\n",
+        0,
+        "started 0 1 1 11\n  now 0\n  slot 3: 1:1\nend 0 1\n",
+        "",
+    ),
+    (
+        &["show", "--slots=8"],
+        "start 0 1 11 7\n",
+        0,
+        "started 0 1 1 11\n  now 0\n  wheel 0 slot 11: 1\nend 0 1\n",
+        "",
+    ),
+    (
+        &["show", "--counts"],
+        "start 0 1 11 7\n",
+        0,
+        "started 0 1 1 11\n  now 0\n  starts 1 moves 0 visits 0\n  wheel 0 slot 11: 1\nend 0 1\n",
+        "",
+    ),
+    (
+        &["serve"],
+        "close\ntick 0\nclose\n",
+        1,
+        "closed 0\n",
+        "bad line 2\n",
+    ),
+    (
+        &["serve", "--keep-going"],
+        "close\ntick 0\nclose\n",
+        1,
+        "closed 0\nclose refused closed\nend 0 0\n",
+        "bad line 2, column 6: count: out of range 1 to 1000000\n",
+    ),
+    (
+        &["serve", "--wakeups"],
+        "start 0 1 11 7\ntick 11\n",
+        0,
+        "started 0 1 1 11\nwakeup 11\nexpired 11 0 1 7\nwakeup never\nend 11 0\n",
+        "",
+    ),
+    (
+        &["check"],
+        "close\ntick 0\nclose\n",
+        1,
+        "line 2, column 6: count: out of range 1 to 1000000\n",
+        "",
+    ),
+];
+
+#[test]
+fn each_option_that_is_read_is_used(rt: HostRuntime) {
+    for (arguments, input, status, output, faults) in USES {
+        let ended = call(&rt, arguments, input.as_bytes(), usize::MAX);
+        has_left(
+            &rt,
+            arguments,
+            &ended,
+            status,
+            output.as_bytes(),
+            faults.as_bytes(),
+        );
+    }
+}
+
+/// Arguments that ask for the short help, the most lines of it, and lines that are in it.
+type Short = (&'static [&'static str], usize, &'static [&'static str]);
+
+static SHORT: [Short; 6] = [
+    (
+        &["-h"],
+        16,
+        &[
+            "Usage: timers < FILE\n       timers COMMAND [OPTIONS] < FILE\n",
+            "  play     Plays the script",
+            "  serve    Answers each line",
+            "  show     Answers lines",
+            "  threads  Runs clients",
+            "  check    Reports every bad line",
+        ],
+    ),
+    (
+        &["play", "-h"],
+        11,
+        &[
+            "Usage: timers play [OPTIONS] < FILE\n",
+            "--scheme <SCHEME> ",
+            "--slots <SLOTS> ",
+            "--clients <CLIENTS> ",
+            "--capacity <TIMERS> ",
+            "--first-tick <TICK> ",
+        ],
+    ),
+    (
+        &["serve", "-h"],
+        13,
+        &["Usage: timers serve", "--keep-going ", "--wakeups "],
+    ),
+    (&["show", "-h"], 12, &["Usage: timers show", "--counts "]),
+    (
+        &["threads", "-h"],
+        8,
+        &["Usage: timers threads", "--timers <TIMERS> "],
+    ),
+    (&["check", "-h"], 6, &["Usage: timers check < FILE\n"]),
+];
+
+#[test]
+fn the_short_help_has_the_options_in_few_lines(rt: HostRuntime) {
+    for (arguments, most, parts) in SHORT {
+        let ended = call(&rt, arguments, b"x", usize::MAX);
+        same_in(&rt, arguments, (ended.status, ended.unread), (0, 1));
+        let lines = ended.output.iter().filter(|byte| **byte == b'\n').count();
+        same_in(&rt, arguments, lines <= most, true);
+        let Ok(text) = std::str::from_utf8(&ended.output) else {
+            panic!(&rt; "a help that is not UTF-8");
+        };
+        for part in parts {
+            same_in(&rt, *part, text.contains(*part), true);
+        }
+        same_in(&rt, arguments, text.contains("-h, --help"), true);
+    }
+}
+
 /// Arguments, and how the text that they ask for begins and ends.
 type Text = (&'static [&'static str], &'static str, &'static str);
 
-fn texts() -> [Text; 12] {
+fn texts() -> [Text; 11] {
     [
         (&["--help"], "Plays a script of timers", SCRIPTS),
-        (&["-h"], "Plays a script of timers", SCRIPTS),
         (&["help"], "Plays a script of timers", SCRIPTS),
         (
             &["play", "--help"],

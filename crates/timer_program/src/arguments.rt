@@ -61,7 +61,7 @@ static RUN_NUMBERS: [NumberOption; 4] = [
         value_name: "SLOTS",
         range: (1, 65536),
         default: "256",
-        help: "The buckets of the hashed wheel, 1 to 65536; ignored by the other schemes",
+        help: "The buckets of `hashed`, 1 to 65536; the other schemes have none, and ignore it",
     },
     NumberOption {
         name: "clients",
@@ -140,7 +140,7 @@ fn playing_command<'a>(
     let command = Command::new(alloc, name)
         .override_usage(usage)
         .about(about)
-        .after_help(after_help)
+        .after_long_help(after_help)
         .arg(scheme)?;
     add_numbers(alloc, command, &RUN_NUMBERS)
 }
@@ -150,7 +150,7 @@ fn serve_command<'a>(alloc: Global) -> Result<Command<'a>, AllocError> {
     let keep_going = Arg::new(alloc, "keep-going")
         .long("keep-going")
         .action(ArgAction::SetTrue)
-        .help("Report each bad line on standard error, and go on with the next line");
+        .help("Report each bad line on standard error, as `check` does, and go on");
     let wakeups = Arg::new(alloc, "wakeups")
         .long("wakeups")
         .action(ArgAction::SetTrue)
@@ -160,11 +160,20 @@ fn serve_command<'a>(alloc: Global) -> Result<Command<'a>, AllocError> {
         .arg(wakeups)
 }
 
+/// The subcommand `show` with the options of `play` and its own.
+fn show_command<'a>(alloc: Global) -> Result<Command<'a>, AllocError> {
+    let counts = Arg::new(alloc, "counts")
+        .long("counts")
+        .action(ArgAction::SetTrue)
+        .help("Show the starts, moves and visits that `hier` and `clock` count");
+    playing_command(alloc, "show", SHOW_USAGE, SHOW_ABOUT, PLACEMENTS)?.arg(counts)
+}
+
 /// The subcommand `threads` with its options.
 fn threads_command<'a>(alloc: Global) -> Result<Command<'a>, AllocError> {
     let command = Command::new(alloc, "threads")
         .about(THREADS_ABOUT)
-        .after_help(THREADS);
+        .after_long_help(THREADS);
     add_numbers(alloc, command, &THREADS_NUMBERS)
 }
 
@@ -173,7 +182,7 @@ fn check_command<'a>(alloc: Global) -> Command<'a> {
     Command::new(alloc, "check")
         .override_usage(CHECK_USAGE)
         .about(CHECK_ABOUT)
-        .after_help(CHECKS)
+        .after_long_help(CHECKS)
 }
 
 /// The subcommands, in the order of the help.
@@ -184,7 +193,7 @@ fn command_line<'a>(alloc: Global, name: &str) -> Result<Command<'a>, AllocError
     match name {
         "play" => playing_command(alloc, "play", PLAY_USAGE, PLAY_ABOUT, SCHEMES),
         "serve" => serve_command(alloc),
-        "show" => playing_command(alloc, "show", SHOW_USAGE, SHOW_ABOUT, PLACEMENTS),
+        "show" => show_command(alloc),
         "threads" => threads_command(alloc),
         _ => Ok(check_command(alloc)),
     }
@@ -197,7 +206,7 @@ fn program<'a>(alloc: Global) -> Result<Command<'a>, AllocError> {
         .version(VERSION)
         .override_usage(USAGE)
         .about(ABOUT)
-        .after_help(SCRIPTS)
+        .after_long_help(SCRIPTS)
         .no_binary_name(true);
     for name in SUBCOMMANDS {
         whole = whole.subcommand(command_line(alloc, name)?)?;
@@ -257,7 +266,10 @@ fn subcommand_of(name: &str, options: &ArgMatches) -> Option<Subcommand>
             let wakeups = options.get_flag("wakeups");
             Some(Subcommand::Run(Verb::Serve { on_bad, wakeups }, run_options(options)?))
         }
-        "show" => Some(Subcommand::Run(Verb::Show, run_options(options)?)),
+        "show" => {
+            let counts = options.get_flag("counts");
+            Some(Subcommand::Run(Verb::Show { counts }, run_options(options)?))
+        }
         "threads" => Some(Subcommand::Threads(threads_options(options)?)),
         "check" => Some(Subcommand::Check),
         _ => None,

@@ -22,7 +22,8 @@ use timer_script::{RunFault, Streams, Watched, write_text};
 /// 1: an error, reported in one line on `faults`. Or a checked script has a bad line, and each is reported on
 /// standard output. Or a stream that is served past bad lines has one, and each is reported on `faults`.
 ///
-/// 2: the arguments are refused, and `faults` gets the reason. Nothing is read or written.
+/// 2: the arguments are refused, and `faults` gets the reason. Nothing is read or written. Or a script could
+/// not be checked, which is reported in one line on `faults`.
 ///
 /// An error in writing to `faults` is ignored. Neither the reader nor the writer may have failed before.
 /// Waits if clients run in threads.

@@ -89,8 +89,8 @@ you write: when the pipe of the answers is full, no more lines are read.
 
 A bad line ends the stream: the lines before it have been answered, and `bad line L`
 is reported. A last line without its line feed is a bad line. With `--keep-going` the
-stream continues after a bad line. Each one is reported and skipped, the others are
-answered, and the exit status is 1 at the end.
+stream continues after a bad line. Each one is reported, as `bad` and what `check` says
+of it, and skipped. The others are answered, and the exit status is 1 at the end.
 
 With `--wakeups` the answers to each line are followed by `wakeup TICK`: no timer expires
 before that tick. The line is `wakeup never` if no timer is pending.
@@ -133,6 +133,8 @@ A bucket is shown as
   hashed  slot 2: 1:16 3:0             serial:rounds
   hier    wheel 1 slot 2: 1 3
   clock   minute 15: 1                 or second, hour, day
+With `--counts` the schemes `hier` and `clock` show after the tick what they counted:
+  starts 1 moves 1 visits 3            timers started, moves, buckets emptied
 Without the lines that begin with a space the output is that of `timers serve`:
   timers show < script | grep -v '^ '
 
@@ -175,5 +177,5 @@ they no longer can. Columns are counted in bytes, from 1. For example:
 such as a start with interval 0, is good.
 
 The exit status is 0 if no line is bad, and then nothing is written. It is 1 if a line is
-bad. It is 1 also after an error, which is one line on standard error (`too long`,
-`read failed`, `write failed` or `out of memory`). It is 2 if the arguments are refused.";
+bad. It is 2 after an error, which is one line on standard error (`too long`,
+`read failed`, `write failed` or `out of memory`), and if the arguments are refused.";

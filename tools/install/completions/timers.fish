@@ -1,17 +1,17 @@
 # Completes the arguments of timers(1) in fish: commands and options come from its help.
 function __timers_commands
-    timers --help 2> /dev/null | sed -nE '/^Commands:/,/^$/s/^  ([a-z]+) +(.*)/\1\t\2/p'
+    timers -h 2> /dev/null | sed -nE '/^Commands:/,/^$/s/^  ([a-z]+) +(.*)/\1\t\2/p'
 end
 
 function __timers_options
     set -l command (commandline -opc)[2]
-    timers $command --help 2> /dev/null | sed -nE 's/^ +(-., )?(--[a-z-]+)( <[A-Z]+>)? +([^[]*).*/\2\t\4/p'
+    timers $command -h 2> /dev/null | sed -nE 's/^ +(-., )?(--[a-z-]+)( <[A-Z]+>)? +([^[]*).*/\2\t\4/p'
 end
 
 # The values of the option before the cursor, if its help lists them; fails if it takes none.
 function __timers_values
     set -l words (commandline -opc)
-    set -l help (timers $words[2] --help 2> /dev/null | string match -r -- "^ +$words[-1] <.*")
+    set -l help (timers $words[2] -h 2> /dev/null | string match -r -- "^ +$words[-1] <.*")
     or return
     string match -rg '\[possible values: (.*)\]' -- $help | string split ', '
     true

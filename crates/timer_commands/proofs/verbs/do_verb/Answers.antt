@@ -1,7 +1,8 @@
 use Rattle.std.proofs.Common.{sym, subst}
 use Rattle.timer_script.specs.declared.intake.OnBadLine.TheVariants.{Stop}
 use Rattle.timer_script.specs.Decorator.{AddsNothing}
-use Rattle.timer_commands.specs.Indented.{AddsIndented, AddsWakeups}
+use Rattle.timer_commands.specs.Indented.{AddsIndented}
+use Rattle.timer_commands.specs.Wakeups.{AddsWakeups}
 use Rattle.timer_commands.specs.declared.verbs.Verb.TheVariants.{Serve}
 use Rattle.timer_commands.specs.Subcommands.{Bytes, Channels, HasDone}
 use Rattle.timer_commands.proofs.VerbLemmas.{ended_serving}
