@@ -116,7 +116,7 @@ fn goes_wrong(
         panic!(rt; "out of memory");
     };
     let mut line = front;
-    let column = line.len() + wrong.1 + 1;
+    let column = line.len().wrapping_add(wrong.1).wrapping_add(1);
     let Ok(()) = line.extend_from_slice(&end) else {
         panic!(rt; "out of memory");
     };

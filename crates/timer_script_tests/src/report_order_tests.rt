@@ -23,11 +23,8 @@ impl Read for Asking<'_> {
                 n = at + 1;
             }
         }
-        let n = if n == 0 {
-            self.rest.len().min(buf.len())
-        } else {
-            n
-        };
+        let wanted = if n == 0 { buf.len() } else { n };
+        let n = wanted.min(self.rest.len()).min(buf.len());
         let (front, rest) = self.rest.split_at(n);
         buf[..n].copy_from_slice(front);
         self.rest = rest;
