@@ -62,6 +62,8 @@ def steps_of(text, lines):
             line, passed = lines[len(steps)]
             steps.append(Step(line, passed, int(row[6:]), answers))
             answers = []
+        elif row.startswith("  starts "):
+            continue  # what the wheel counted, with --counts: a page shows no counts
         elif row.startswith("  "):
             name, timers = row.strip().split(": ")
             steps[-1].buckets[Scheme.place(name)] = timers.split()
