@@ -3,7 +3,7 @@
  *     cost start COUNT N     starts and stops one beside N others
  *     cost cycle COUNT N     COUNT times the first of N timers runs, and starts itself again
  *     cost sleep COUNT N     COUNT calls of sys_timeouts_sleeptime() with N timers
- *     cost memory N          prints the bytes of the heap that one of N timers takes; lwIP's pool is beside it
+ *     cost memory N          prints the bytes of the heap that N timers take; lwIP's pool is beside it
  */
 #include <malloc.h>
 #include <stdio.h>
@@ -14,7 +14,7 @@
 #include "lwip/timeouts.h"
 
 static u32_t clock_ms;
-static int names[12000];
+static int names[MEMP_NUM_SYS_TIMEOUT];
 
 u32_t sys_now(void) { return clock_ms; }
 int lose_packet(struct pbuf *p) { (void)p; return 0; }
@@ -60,7 +60,7 @@ static void memory(size_t count)
 	sys_timeouts_init();
 	start_all(count, nothing);
 	after = mallinfo2();
-	printf("%zu\n", (after.uordblks + after.hblkhd - before.uordblks - before.hblkhd) / MEMP_NUM_SYS_TIMEOUT);
+	printf("%zu\n", after.uordblks + after.hblkhd - before.uordblks - before.hblkhd);
 }
 
 int main(int argc, char **argv)

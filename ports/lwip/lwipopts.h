@@ -11,7 +11,7 @@
 #define IP_REASSEMBLY 0
 #define LWIP_HAVE_LOOPIF 1
 #define LWIP_TESTMODE 1                   /* shows lwip_cyclic_timer */
-#define MEMP_NUM_SYS_TIMEOUT 12000
+#define MEMP_NUM_SYS_TIMEOUT 128
 #define MEMP_NUM_TCP_PCB 64
 #define MEMP_NUM_TCP_SEG 256
 #define MEM_SIZE 1000000

@@ -11,7 +11,7 @@
 #include "lwip/memp.h"
 #include "lwip/timeouts.h"
 
-enum { ARGUMENTS = 20, MOST_HELD = 300, CYCLES = 4 };
+enum { ARGUMENTS = 20, MOST_HELD = 100, CYCLES = 4 };
 
 static uint64_t random_state;
 static u32_t clock_ms;

@@ -56,7 +56,7 @@ def running(nginx, port, settings, prefix=()):
         connect(port).close()
         yield process, folder
         process.send_signal(signal.SIGQUIT)
-        process.wait(60)
+        process.wait(300)
     finally:
         process.kill()
         process.wait()
