@@ -1,14 +1,14 @@
 /* Loaded before a program (LD_PRELOAD), refuses the Nth allocation by malloc or realloc, N being REFUSE, and the Nth
  * start of a thread, N being REFUSE_THREAD. As the program ends, it writes into the file GROWTHS how many allocations
  * and how many starts of threads there were, and into the file SIZES the size of each allocation, one a line. Those
- * before main are not counted. A program that runs for a minute is ended by SIGALRM.
+ * before main are not counted. A program that runs for ten minutes is ended by SIGALRM.
  *
  * It includes no header, so that a compiler without the C library's headers builds it: the toolchain's own is one.
  * The numbers are those of Linux on x86-64. */
 typedef __SIZE_TYPE__ size_t;
 
 enum { SYS_EXIT_GROUP = 231, O_WRONLY_CREAT_TRUNC = 01 | 0100 | 01000, EAGAIN = 11 };
-enum { LIMIT = 60 };
+enum { LIMIT = 600 };
 
 void *dlsym(void *, const char *);
 char *getenv(const char *);
