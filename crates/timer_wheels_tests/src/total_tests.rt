@@ -195,7 +195,7 @@ const ROWS: [Row; 9] = [
             Call::Advance(10, Ok(2)),
             Call::Shows(LAST, 0, false, None),
             Call::Tick(Err(AdvanceFault::ClockEnd)),
-            Call::Advance(0, Err(AdvanceFault::ClockEnd)),
+            Call::Advance(1, Err(AdvanceFault::ClockEnd)),
             Call::Stop(1, false),
         ],
     ),
