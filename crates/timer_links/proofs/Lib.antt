@@ -5,6 +5,7 @@ pub mod NodeAt
 pub mod Rings
 pub mod RingJoins
 pub mod UniqueLists
+pub mod Room
 pub mod LinksCalls
 pub mod AloneIn
 pub mod PopFront

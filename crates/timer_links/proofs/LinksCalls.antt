@@ -209,8 +209,8 @@ grown n nodes s t v h g f =
       numbered = f;
     }
 
--- nor does more room in the slab
-pub roomier : (n c : ℕ) (nodes : Slab Node) (s : List Neighbours) (v : KeyedLists) → IsLinked n nodes s v
+-- nor does memory that was reserved for more nodes and more indexes
+roomier : (n c : ℕ) (nodes : Slab Node) (s : List Neighbours) (v : KeyedLists) → IsLinked n nodes s v
     → IsLinked n (record nodes { capacity = c }) s v
 roomier n c nodes s v h = record {
   many = h.many;
@@ -223,9 +223,12 @@ roomier n c nodes s v h = record {
   numbered = h.numbered;
 }
 
-pub refused : (n : ℕ) (nodes same : Slab Node) (s : List Neighbours) (v : KeyedLists) → IsLinked n nodes s v
-    → same ≡ record nodes { capacity = same.capacity } → IsLinked n same s v
-refused n nodes same s v h e = let P : Slab Node → Type 0 = λ x. IsLinked n x s v in subst P (sym e) (roomier n same.capacity nodes s v h)
+pub reserved : (n : ℕ) (nodes same : Slab Node) (s t : List Neighbours) (v : KeyedLists) → IsLinked n nodes s v
+    → same ≡ record nodes { capacity = same.capacity } → t ≡ s → IsLinked n same t v
+reserved n nodes same s t v h e k =
+    let P : Slab Node → Type 0 = λ x. IsLinked n x t v in
+    let Q : List Neighbours → Type 0 = λ x. IsLinked n nodes x v in
+    subst P (sym e) (roomier n same.capacity nodes t v (subst Q (sym k) h))
 
 pub pushed : (n : ℕ) (nodes more : Slab Node) (s u : List Neighbours) (v : KeyedLists) (key l : ℕ) (node : Node)
     → IsLinked n nodes s v → l < length v → get nodes key ≡ None → Updates nodes more key (Some node) → slab_len more ≡ slab_len nodes + 1

@@ -1,9 +1,9 @@
 -- The nodes and links represent one value alone: whatever lists satisfy `IsLinked` are `lists_of`.
-use Rattle.std.proofs.Common.{inl, inr, ◌⊎◌, ◌≡◌, ◌<◌, ◌≤◌, ◌+◌, ℕ, zero, suc, true, false, List, [], ◌∷◌, ◌++◌, length, refl, sym, ◌∙◌, ap, subst, arith, Vec}
+use Rattle.std.proofs.Common.{◌≡◌, ◌<◌, ◌≤◌, ◌+◌, ℕ, zero, suc, true, false, List, [], ◌∷◌, ◌++◌, length, refl, sym, ◌∙◌, ap, subst, arith, Vec}
 use Rattle.std.specs.Prelude.{Some, None, nat_lt, ◌-◌}
 use Rattle.std.proofs.lemmas.Bool.Decides.{nat_tests}
 use Rattle.std.proofs.lemmas.List.{ext_get_or, append_assoc, with_items_is}
-use Rattle.std.specs.Vec.{with_items}
+use Rattle.std.specs.Vec.{with_items, vec_capacity}
 use Rattle.std.proofs.lemmas.List.FromFn.{length-map-range_with_len, get_or-map-range_with_len}
 use Rattle.slab.specs.Slab.{Slab, get, slab_len}
 use Rattle.timer_links.specs.declared.node.Node.{Node}
@@ -67,7 +67,7 @@ closed n nodes s v h = let P : KeyedLists → Type 0 = λ x. IsLinked n nodes s 
 -- the lists of a value, which is open
 pub opened : (s : Inside) (v : LinksState) → record { lists = lists_of s.lists s.nodes s.neighbours.items; room = s.room } ≡ v
     → IsLinked s.lists s.nodes s.neighbours.items (lists_of s.lists s.nodes s.neighbours.items) × HasRoom s.room s.lists s.nodes
-    s.neighbours.items
+    (vec_capacity s.neighbours)
     → IsLinked s.lists s.nodes s.neighbours.items v.lists
 opened s v e h = let P : KeyedLists → Type 0 = λ x. IsLinked s.lists s.nodes s.neighbours.items x in
     subst P (ap (λ (r : LinksState). r.lists) e) h.0
@@ -78,38 +78,9 @@ pub written : {Z : Type 0} (n : ℕ) (nodes : Slab Node) (neighbours : Vec Neigh
 written n nodes neighbours ws v e h = let P : List Neighbours → Type 0 = λ x. IsLinked n nodes x v in subst P (sym (with_items_is
     neighbours ws e)) h
 
--- room that was made stays: the nodes' memory is as large, and no index is gone
-pub room_stays : (room n : ℕ) (old new : Slab Node) (s t : List Neighbours) → HasRoom room n old s → new.capacity ≡ old.capacity
-    → length s ≤ length t → HasRoom room n new t
-room_stays room n old new s t h e l = record {
-  fits = let k : room ≤ old.capacity = h.fits in omega arith;
-  indexes = λ p. let k : n + old.capacity ≤ length s = h.indexes p in omega arith;
-}
-
-pub room_written : {Z : Type 0} (room n : ℕ) (old new : Slab Node) (neighbours : Vec Neighbours Z) (ws : List Neighbours)
-    → HasRoom room n old neighbours.items → new.capacity ≡ old.capacity → length ws ≡ neighbours.len
-    → HasRoom room n new (with_items neighbours ws).items
-room_written room n old new neighbours ws h e k = let P : List Neighbours → Type 0 = λ x. HasRoom room n new x in
-    let m = neighbours.ok in
-    subst P (sym (with_items_is neighbours ws k)) (room_stays room n old new neighbours.items ws h e (omega arith))
-
--- no room was made yet
-pub no_room : (n : ℕ) (nodes : Slab Node) (s : List Neighbours) → HasRoom 0 n nodes s
-no_room n nodes s = record {
-  fits = omega arith;
-  indexes = λ p. absurd (omega arith);
-}
-
 -- the value of these fields is the state with these lists and this room
 pub state_is : (w : LinksState) (x : KeyedLists) (room : ℕ) → x ≡ w.lists → room ≡ w.room → record { lists = x; room = room } ≡ w
 state_is w x room e k =
     let f : KeyedLists → LinksState = λ y. record { lists = y; room = room } in
     let g : ℕ → LinksState = λ y. record { lists = w.lists; room = y } in
     ap f e ∙ ap g k
-
--- a key that was given out in this room has its index
-pub has_index : (room n key : ℕ) (nodes : Slab Node) (s : List Neighbours) → HasRoom room n nodes s → key < nodes.capacity → key ≡
-    nodes.vacant_key
-    → (0 < room) ⊎ (n + nodes.vacant_key < length s) → n + key < length s
-has_index room n key nodes s h b e (inl p) = let k : n + nodes.capacity ≤ length s = h.indexes p in omega arith
-has_index room n key nodes s h b e (inr l) = rw e l

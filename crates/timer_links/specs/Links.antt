@@ -1,5 +1,5 @@
 -- How `Links` represents its lists by nodes and links: its invariant. No public clause cites this file.
-use Rattle.std.specs.Prelude.{◌≡◌, ℕ, ◌+◌, ◌<◌, ◌≤◌, zero, suc, List, [], ◌∷◌, ◌++◌, length, map, Option, Some, None}
+use Rattle.std.specs.Prelude.{◌≡◌, ℕ, ◌+◌, ◌<◌, ◌≤◌, ◌⊎◌, zero, suc, List, [], ◌∷◌, ◌++◌, length, map, Option, Some, None}
 use Rattle.std.specs.List.{range_with_len}
 use Rattle.slab.specs.Slab.{Slab, get, slab_len, ContainsKey}
 use Rattle.timer_links.specs.declared.node.Node.{Node}
@@ -52,7 +52,14 @@ pub record IsLinked (lists : ℕ) (nodes : Slab Node) (neighbours : List Neighbo
   pub reached : (key : ℕ) → ContainsKey nodes key → lists + key < length neighbours
   pub numbered : length neighbours ≤ INDEXES
 
--- there is memory for this many nodes, and an index for each key that they can get
-pub record HasRoom (room lists : ℕ) (nodes : Slab Node) (neighbours : List Neighbours) : Type 0 where
+-- there is memory for this many nodes, and memory is reserved for the index of each key that they can get
+pub record HasRoom (room lists : ℕ) (nodes : Slab Node) (reserved : ℕ) : Type 0 where
   pub fits : room ≤ nodes.capacity
-  pub indexes : 0 < room → lists + nodes.capacity ≤ length neighbours
+  pub indexes : 0 < room → lists + nodes.capacity ≤ reserved
+  -- each of these indexes has a number
+  pub numbered : 0 < room → lists + nodes.capacity ≤ INDEXES
+
+-- the next key has an index, or each key below the capacity has one
+abbrev pub HasIndex : ℕ → Slab Node → List Neighbours → Type 0
+HasIndex lists nodes neighbours =
+    (lists + nodes.vacant_key < length neighbours) ⊎ (lists + nodes.capacity ≤ length neighbours)

@@ -12,13 +12,17 @@
 ghost use Rattle.std.specs.Prelude.{◌≡◌, ◌≢◌, ◌<◌, ◌≤◌, ◌↔◌, ◌+◌, ◌⊎◌, max, IsTrue, Some, None, IfOk, OnOk, OnErr, IfErr, IfSome, IsSome, length, map, [], replicate};
 ghost use Rattle.timer_links.specs.Lists.{node_at, first_key, with_row, row_count, list_at, without_key, front_moved, appended, PopsFront, AreApart, IsNext, SetsRounds, SetsNode, MovesBack, IsAloneIn, HasRounds};
 ghost use Rattle.timer_links.specs.Keys.{IsFirstUsed};
+ghost use Rattle.std.specs.Vec.{vec_capacity};
 ghost use Rattle.slab.specs.Slab.{HasRoomFor, slab_len};
-ghost use Rattle.timer_links.specs.Links.{HasRoom};
+ghost use Rattle.timer_links.specs.Links.{HasRoom, HasIndex};
 ghost use Rattle.timer_links.specs.Ring.{IsGrown};
 ghost use Rattle.timer_links.specs.declared.ring.TheConstants.{INDEXES};
 
 use crate::node::Node;
-use crate::ring::{INDEXES, Neighbours, join, join_last, key_at, only_neighbour, reserve_index};
+use crate::ring::{
+    INDEXES, Neighbours, add_index, join, join_last, key_at, only_neighbour, reserve_index,
+    reserve_indexes,
+};
 use slab::Slab;
 use std::alloc::Global;
 use std::marker::Model;
@@ -46,6 +50,8 @@ pub struct RemovedNode {
 #[derive(Drop)]
 pub struct Links {
     nodes: Slab<Node>,
+    // The links of the roots, and of the keys that were ever in use. Room is capacity alone, so that
+    // `used_from` does not walk along it.
     neighbours: Vec<Neighbours>,
     lists: usize,
     // For how many nodes `reserve` made room. It stays when the nodes grow beyond it.
@@ -53,6 +59,7 @@ pub struct Links {
 }
 
 impl Model for Links {
+    ghost use Rattle.std.specs.Vec.{vec_capacity};
     ghost use Rattle.timer_links.specs.Lists.{LinksState};
     ghost use Rattle.timer_links.specs.Links.{IsLinked, HasRoom, lists_of};
 
@@ -65,7 +72,7 @@ impl Model for Links {
 
     ghost invariant = { λ s. IsLinked s.lists s.nodes s.neighbours.items
         (lists_of s.lists s.nodes s.neighbours.items)
-        × HasRoom s.room s.lists s.nodes s.neighbours.items };
+        × HasRoom s.room s.lists s.nodes (vec_capacity s.neighbours) };
 }
 
 impl Links {
@@ -186,6 +193,9 @@ impl Links {
     /// While fewer nodes are here, `push_back` then does not fail, also after others were removed. The
     /// error is out of memory, as that of `push_back`. What was allocated is kept, after an error too. Room
     /// that an earlier call made is not looked at again: then nothing is allocated.
+    ///
+    /// It may copy the nodes and the links, and takes time for the most nodes that were ever here at one time.
+    /// The room itself is only allocated: nothing is written to it.
     pub fn reserve(&mut self, most: usize) -> Result<(), OutOfMemory>
         ensures ok { OnOk result (self.new ≡ record self.old { room = max self.old.room most }) }
         ensures err { OnErr result (self.new ≡ self.old) }
@@ -379,7 +389,8 @@ impl Links {
 
     /// The first key in use from this one on, or None when no such key is in use. Does not allocate.
     ///
-    /// It looks at each key on the way: there are no more keys than there ever were nodes at one time.
+    /// It looks at each key on the way. There are as many as the most nodes that were ever here at one time, and
+    /// up to 63 more, whatever `reserve` made room for.
     pub fn used_from(&self, from: usize) -> Option<usize>
         ensures found { IsFirstUsed from self.now.lists result }
         ensures in_range { IfSome result (λ key. key < INDEXES) }
@@ -394,9 +405,6 @@ impl Links {
 }
 
 /// Makes room for one more node and its index. On an error no node and no link changes.
-///
-/// Where room was promised, there is none only if all that is there is in use, and then it grows at once
-/// for all the nodes that fit.
 #[inline(always)]
 fn make_way(
     nodes: &mut Slab<Node>,
@@ -406,22 +414,23 @@ fn make_way(
 ) -> Result<(), OutOfMemory>
     requires roots { lists ≤ length neighbours.old.items }
     requires few { length neighbours.old.items ≤ INDEXES }
-    requires room { HasRoom room lists nodes.old neighbours.old.items }
+    requires room { HasRoom room lists nodes.old (vec_capacity neighbours.old) }
     ensures nodes { nodes.new ≡ record nodes.old { capacity = nodes.new.capacity } }
     ensures kept { IsGrown neighbours.old.items neighbours.new.items }
     ensures few { length neighbours.new.items ≤ INDEXES }
-    ensures room { HasRoom room lists nodes.new neighbours.new.items }
+    ensures room { HasRoom room lists nodes.new (vec_capacity neighbours.new) }
     ensures fits { OnOk result (HasRoomFor nodes.new 1) }
-    ensures index { OnOk result ((0 < room) ⊎ (lists + nodes.new.vacant_key < length neighbours.new.items)) }
+    ensures index { OnOk result (HasIndex lists nodes.new neighbours.new.items) }
     ensures full { OnErr result (room ≤ slab_len nodes.old) }
 {
+    let key = nodes.vacant_key();
     if room > 0 {
-        if nodes.len() < nodes.capacity() {
+        // An unused key below the capacity: so one more node fits.
+        if key < nodes.capacity() && lists + key < neighbours.len() {
             return Ok(());
         }
-        return make_room(nodes, neighbours, lists, 1);
+        return make_way_in_room(nodes, neighbours, lists);
     }
-    let key = nodes.vacant_key();
     if key >= INDEXES - lists {
         return Err(OutOfMemory);
     }
@@ -430,8 +439,41 @@ fn make_way(
     Ok(())
 }
 
-/// Makes room for this many nodes more, and an index for each key that they can get: a key is below the
-/// capacity of the nodes. On an error no node and no link changes.
+/// Makes way where room was promised, and either the next key has no index yet or all nodes that fit are in use.
+///
+/// In the latter case it grows at once for all the nodes that fit then.
+#[cold]
+#[inline(never)]
+fn make_way_in_room(
+    nodes: &mut Slab<Node>,
+    neighbours: &mut Vec<Neighbours>,
+    lists: usize,
+) -> Result<(), OutOfMemory>
+    requires roots { lists ≤ length neighbours.old.items }
+    requires few { length neighbours.old.items ≤ INDEXES }
+    requires reserved { lists + nodes.old.capacity ≤ vec_capacity neighbours.old }
+    requires numbered { lists + nodes.old.capacity ≤ INDEXES }
+    ensures nodes { nodes.new ≡ record nodes.old { capacity = nodes.new.capacity } }
+    ensures larger { nodes.old.capacity ≤ nodes.new.capacity }
+    ensures kept { IsGrown neighbours.old.items neighbours.new.items }
+    ensures few { length neighbours.new.items ≤ INDEXES }
+    ensures reserved { lists + nodes.new.capacity ≤ vec_capacity neighbours.new }
+    ensures numbered { lists + nodes.new.capacity ≤ INDEXES }
+    ensures fits { OnOk result (HasRoomFor nodes.new 1) }
+    ensures index { OnOk result (HasIndex lists nodes.new neighbours.new.items) }
+    ensures full { OnErr result (slab_len nodes.old ≡ nodes.old.capacity) }
+{
+    if nodes.len() == nodes.capacity() {
+        make_room(nodes, neighbours, lists, 1)?;
+    }
+    // The slab's contract says only of a key that was given out that it is below the capacity. If the next one were
+    // not, all indexes would be added.
+    add_index(neighbours, lists, nodes.capacity(), nodes.vacant_key());
+    Ok(())
+}
+
+/// Makes room for this many nodes more, and reserves memory for the index of each key that they can get: a key
+/// is below the capacity of the nodes. No node and no link changes.
 ///
 /// The nodes are copied to grow, so that they are as they were if the indexes can't grow with them.
 #[cold]
@@ -442,15 +484,15 @@ fn make_room(
     lists: usize,
     more: usize,
 ) -> Result<(), OutOfMemory>
-    requires roots { lists ≤ length neighbours.old.items }
-    requires few { length neighbours.old.items ≤ INDEXES }
+    requires roots { lists ≤ INDEXES }
     ensures nodes { nodes.new ≡ record nodes.old { capacity = nodes.new.capacity } }
     ensures larger { nodes.old.capacity ≤ nodes.new.capacity }
-    ensures kept { IsGrown neighbours.old.items neighbours.new.items }
-    ensures few { length neighbours.new.items ≤ INDEXES }
+    ensures kept { neighbours.new.items ≡ neighbours.old.items }
     ensures fits { OnOk result (HasRoomFor nodes.new more) }
-    ensures indexes { OnOk result (lists + nodes.new.capacity ≤ length neighbours.new.items) }
+    ensures reserved { OnOk result (lists + nodes.new.capacity ≤ vec_capacity neighbours.new) }
+    ensures numbered { OnOk result (lists + nodes.new.capacity ≤ INDEXES) }
     ensures err { OnErr result (nodes.new ≡ nodes.old) }
+    ensures err_reserved { OnErr result (vec_capacity neighbours.new ≡ vec_capacity neighbours.old) }
 {
     if nodes.capacity() - nodes.len() >= more {
         return reserve_indexes(neighbours, lists, nodes.capacity());
@@ -460,25 +502,4 @@ fn make_room(
     reserve_indexes(neighbours, lists, larger.capacity())?;
     *nodes = larger;
     Ok(())
-}
-
-/// Makes the array long enough for the roots and this many keys. On an error no link in it changes.
-fn reserve_indexes(
-    neighbours: &mut Vec<Neighbours>,
-    lists: usize,
-    keys: usize,
-) -> Result<(), OutOfMemory>
-    requires roots { lists ≤ length neighbours.old.items }
-    requires few { length neighbours.old.items ≤ INDEXES }
-    ensures kept { IsGrown neighbours.old.items neighbours.new.items }
-    ensures few { length neighbours.new.items ≤ INDEXES }
-    ensures indexes { OnOk result (lists + keys ≤ length neighbours.new.items) }
-{
-    if keys > INDEXES - lists {
-        return Err(OutOfMemory);
-    }
-    if keys == 0 {
-        return Ok(());
-    }
-    reserve_index(neighbours, lists + keys - 1)
 }

@@ -26,7 +26,10 @@
 //!
 //! In a ring of no nodes the root is its own neighbour on both sides. The links at the index of a key
 //! that is not in use mean nothing.
-ghost use Rattle.std.specs.Prelude.{◌<◌, ◌≤◌, ◌≡◌, IsOk, OnOk, length};
+//!
+//! Memory may be reserved for more indexes than there are. One is added when its key is used for the first time.
+ghost use Rattle.std.specs.Prelude.{◌<◌, ◌≤◌, ◌≡◌, ◌+◌, max, IsOk, OnOk, OnErr, length};
+ghost use Rattle.std.specs.Vec.{vec_capacity};
 ghost use Rattle.timer_links.specs.declared.ring.TheConstants.{INDEXES};
 
 use timer_base::OutOfMemory;
@@ -129,4 +132,48 @@ fn grow(neighbours: &mut Vec<Neighbours>, index: usize) -> Result<(), OutOfMemor
     };
     neighbours.resize(index / 64 * 64 + 64, none)?;
     Ok(())
+}
+
+/// Reserves memory for the roots and for the indexes of this many keys. No index is added, and no link changes.
+/// The error is out of memory: an allocation failed, or no link can name the last index.
+pub fn reserve_indexes(
+    neighbours: &mut Vec<Neighbours>,
+    lists: usize,
+    keys: usize,
+) -> Result<(), OutOfMemory>
+    requires roots { lists ≤ INDEXES }
+    ensures kept { neighbours.new.items ≡ neighbours.old.items }
+    ensures reserved { OnOk result (lists + keys ≤ vec_capacity neighbours.new) }
+    ensures numbered { OnOk result (lists + keys ≤ INDEXES) }
+    ensures err { OnErr result (vec_capacity neighbours.new ≡ vec_capacity neighbours.old) }
+{
+    if keys > INDEXES - lists {
+        return Err(OutOfMemory);
+    }
+    neighbours.reserve_exact((lists + keys).saturating_sub(neighbours.len()))?;
+    Ok(())
+}
+
+/// Adds the index of a key, if it is one of those that memory was reserved for. For a later key it adds all of
+/// theirs. It adds up to 63 more than it has to, so that it is rarely called. Does not allocate.
+pub fn add_index(neighbours: &mut Vec<Neighbours>, lists: usize, keys: usize, key: usize)
+    requires reserved { lists + keys ≤ vec_capacity neighbours.old }
+    requires numbered { lists + keys ≤ INDEXES }
+    requires few { length neighbours.old.items ≤ INDEXES }
+    ensures kept { IsGrown neighbours.old.items neighbours.new.items }
+    ensures few { length neighbours.new.items ≤ INDEXES }
+    ensures capacity { vec_capacity neighbours.old ≤ vec_capacity neighbours.new }
+    ensures added { key < keys → lists + key < length neighbours.new.items }
+    ensures all { keys ≤ key → lists + keys ≤ length neighbours.new.items }
+    ensures at_most { length neighbours.new.items ≤ max (length neighbours.old.items) (lists + key + 64) }
+{
+    let none = Neighbours {
+        before: 0,
+        after: 0,
+    };
+    let wanted = (lists + key.min(keys)) / 64 * 64 + 64;
+    let end = wanted.min(lists + keys).max(neighbours.len());
+    let Ok(()) = neighbours.resize(end, none) else {
+        unreachable!()
+    };
 }

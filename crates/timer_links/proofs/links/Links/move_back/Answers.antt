@@ -1,5 +1,6 @@
 use Rattle.std.proofs.Common.{◌∙◌, refl}
-use Rattle.timer_links.proofs.UniqueLists.{opened, closed, written, lists_are, room_written}
+use Rattle.timer_links.proofs.UniqueLists.{opened, closed, written, lists_are}
+use Rattle.timer_links.proofs.Room.{room_stays}
 use Rattle.timer_links.proofs.LinksCalls.{used, held, read_node, joins_read, back_after, moved, size_last}
 use Rattle.timer_links.proofs.links.Links.move_back.Goals as goal
 
@@ -33,8 +34,7 @@ invariant_of-self c =
           ∙ (c.join.ensures.size ∙ c.as_mut_slice-neighbours.ensures.len))
           (moved _ _ _ _ _ _ c.args.key c.args.list x.node h x.is c.requires.list
           (joins_read _ _ _ _ _ c.as_mut_slice-neighbours.ensures.value r.is c.join.ensures) c.join_last.ensures)),
-      room_written _ _ _ _ c.self.inside.neighbours _ c.self.invariant.1 refl (size_last _ _ _ _ c.join_last.ensures
-          ∙ (c.join.ensures.size ∙ c.as_mut_slice-neighbours.ensures.len)),
+      room_stays _ _ _ _ _ _ c.self.invariant.1 refl refl,
     )
 
 pub returns-clause-moved : goal.returns-clause-moved

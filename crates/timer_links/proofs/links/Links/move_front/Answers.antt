@@ -1,5 +1,6 @@
 use Rattle.std.proofs.Common.{◌∙◌, sym, refl}
-use Rattle.timer_links.proofs.UniqueLists.{opened, closed, written, lists_are, room_written}
+use Rattle.timer_links.proofs.UniqueLists.{opened, closed, written, lists_are}
+use Rattle.timer_links.proofs.Room.{room_stays}
 use Rattle.timer_links.proofs.LinksCalls.{read_node, back_after, moved, size_last}
 use Rattle.timer_links.proofs.PopFront.{front_of, joins_front, moves_front}
 use Rattle.timer_links.proofs.links.Links.move_front.Goals as goal
@@ -28,8 +29,7 @@ invariant_of-self c =
           ∙ (c.join.ensures.size ∙ c.as_mut_slice-neighbours.ensures.len))
           (moved _ _ _ _ _ _ c.in-Some.key c.args.to f.node h f.held c.requires.to
           (joins_front _ _ _ _ _ _ c.as_mut_slice-neighbours.ensures.value r.is f.before c.join.ensures) c.join_last.ensures)),
-      room_written _ _ _ _ c.self.inside.neighbours _ c.self.invariant.1 refl (size_last _ _ _ _ c.join_last.ensures
-          ∙ (c.join.ensures.size ∙ c.as_mut_slice-neighbours.ensures.len)),
+      room_stays _ _ _ _ _ _ c.self.invariant.1 refl refl,
     )
 
 pub returns-clause-moved : goal.returns-clause-moved

@@ -1,6 +1,7 @@
 use Rattle.std.proofs.Common.{ap}
 use Rattle.timer_links.specs.Lists.{LinksState, KeyedLists}
-use Rattle.timer_links.proofs.UniqueLists.{closed, lists_are, no_room}
+use Rattle.timer_links.proofs.UniqueLists.{closed, lists_are}
+use Rattle.timer_links.proofs.Room.{no_room}
 use Rattle.timer_links.proofs.NewLinks.{no_roots, one_more, empty_linked}
 use Rattle.timer_links.proofs.links.Links.new.Goals as goal
 

@@ -1,7 +1,8 @@
-use Rattle.std.proofs.Common.{◌∙◌, ◌++◌, ◌∷◌, ap, refl, arith}
+use Rattle.std.proofs.Common.{◌∙◌, ◌++◌, ◌∷◌, ap, refl}
 use Rattle.std.specs.Prelude.{slice_set}
 use Rattle.timer_links.specs.declared.node.Node.{Node}
-use Rattle.timer_links.proofs.UniqueLists.{opened, closed, lists_are, room_stays}
+use Rattle.timer_links.proofs.UniqueLists.{opened, closed, lists_are}
+use Rattle.timer_links.proofs.Room.{room_stays}
 use Rattle.timer_links.proofs.LinksCalls.{seat}
 use Rattle.timer_links.proofs.SetNode.{node_set, node_was}
 use Rattle.timer_links.proofs.links.Links.set_rounds.Goals as goal
@@ -14,7 +15,7 @@ invariant_of-self c =
         rounds =
             c.args.rounds;
       }) f.rest h f.below f.is),
-      room_stays _ _ _ _ _ _ c.self.invariant.1 refl (omega arith),
+      room_stays _ _ _ _ _ _ c.self.invariant.1 refl refl,
     )
 
 pub returns-clause-set : goal.returns-clause-set

@@ -1,0 +1,58 @@
+-- Lemmas about the room that was made: for nodes, and for the index of each key that they can get.
+use Rattle.std.proofs.Common.{◌≡◌, ◌<◌, ◌≤◌, ◌+◌, ℕ, zero, suc, List, [], ◌∷◌, length, inl, inr, arith}
+use Rattle.std.specs.Prelude.{Option, Some, None, is_some, count_by, slice_index_or}
+use Rattle.std.proofs.Common.{cond}
+use Rattle.std.proofs.lemmas.Bool.{cases_lt}
+use Rattle.std.proofs.lemmas.List.Sums.{count_by-le-length, sum_by-cons}
+use Rattle.slab.specs.Slab.{Slab, get, HasRoomFor}
+use Rattle.timer_links.specs.declared.node.Node.{Node}
+use Rattle.timer_links.specs.declared.ring.Neighbours.{Neighbours}
+use Rattle.timer_links.specs.declared.ring.TheConstants.{INDEXES}
+use Rattle.timer_links.specs.Links.{HasRoom, HasIndex}
+use Rattle.timer_links.proofs.Rows.{some_none}
+
+-- room that was made stays: the nodes' memory is as large, and so is that of the indexes
+pub room_stays : (room n more reserved : ℕ) (old new : Slab Node) → HasRoom room n old reserved → new.capacity ≡ old.capacity
+    → more ≡ reserved → HasRoom room n new more
+room_stays room n more reserved old new h e k = record {
+  fits = let f : room ≤ old.capacity = h.fits in omega arith;
+  indexes = λ p. let f : n + old.capacity ≤ reserved = h.indexes p in omega arith;
+  numbered = λ p. let f : n + old.capacity ≤ INDEXES = h.numbered p in omega arith;
+}
+
+-- no room was made yet
+pub no_room : (n reserved : ℕ) (nodes : Slab Node) → HasRoom 0 n nodes reserved
+no_room n reserved nodes = record {
+  fits = omega arith;
+  indexes = λ p. absurd (omega arith);
+  numbered = λ p. absurd (omega arith);
+}
+
+-- a key that was given out has its index
+pub has_index : (n key : ℕ) (nodes : Slab Node) (s : List Neighbours) → HasIndex n nodes s → key < nodes.capacity → key ≡ nodes.vacant_key
+    → n + key < length s
+has_index n key nodes s (inl l) b e = rw e l
+has_index n key nodes s (inr m) b e = omega arith
+
+abbrev counted : Option Node → ℕ
+counted slot = cond (is_some slot) 1 0
+
+-- an unused slot is not counted
+not_all : (slots : List (Option Node)) (key : ℕ) → slice_index_or slots key None ≡ None → key < length slots
+    → count_by is_some slots < length slots
+not_all [] key e b = absurd (omega arith)
+not_all (Some x ∷ xs) zero e b = absurd (some_none x e)
+not_all (None ∷ xs) zero e b =
+    omega (arith, count_by-le-length is_some xs, sum_by-cons counted None xs)
+not_all (None ∷ xs) (suc key) e b =
+    omega (arith, not_all xs key e (omega arith), sum_by-cons counted None xs)
+not_all (Some x ∷ xs) (suc key) e b =
+    omega (arith, not_all xs key e (omega arith), sum_by-cons counted (Some x) xs)
+
+-- while a key below the capacity is not in use, one more node fits
+pub fits_one : (nodes : Slab Node) (key : ℕ) → get nodes key ≡ None → key < nodes.capacity → length nodes.slots ≤ nodes.capacity
+    → HasRoomFor nodes 1
+fits_one nodes key e b c = elim (cases_lt key (length nodes.slots)) [
+  | inl low ↦ omega (arith, not_all nodes.slots key e low)
+  | inr past ↦ omega (arith, count_by-le-length is_some nodes.slots)
+]
