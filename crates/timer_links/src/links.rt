@@ -109,6 +109,14 @@ impl Links {
         let _nodes = &self.nodes;
     }
 
+    /// Does nothing at run time. Its contract is a lemma: the nodes of all lists can be counted in 64 bits.
+    #[inline]
+    pub fn lemma_countable(&self)
+        ensures { row_count self.now.lists < 18446744073709551616 }
+    {
+        let _len = self.len();
+    }
+
     /// The node under this key, or None if the key is not in use. Does not allocate.
     #[inline]
     pub fn get(&self, key: usize) -> Option<Node>

@@ -17,6 +17,8 @@ use Rattle.timer_links.specs.Lists.{first_key, list_at, node_at, AreApart, Keyed
 use Rattle.timer_wheels.specs.BucketLists.{timer_in, timers_in, entry_of, pending_in, rows_below}
 use Rattle.timer_wheels.specs.Buckets.{state_of}
 use Rattle.timer_wheels.specs.Deadlines.{HasDeadline, IsLeast, IsLeastDeadline}
+use Rattle.timer_wheels.specs.declared.first.First.{First}
+use Rattle.timer_wheels.specs.FirstDeadline.{deadline_count, IsFirstOf, IsKnownOf}
 use Rattle.timer_wheels.specs.declared.buckets.Buckets.{Buckets}
 use Rattle.timer_wheels.specs.declared.table.Table.{Table}
 use Rattle.timer_wheels.specs.Digits.{IsTable, bucket, slots, lowest_radix}
@@ -25,6 +27,8 @@ use Rattle.timer_wheels.specs.Leap.{list_visit}
 use Rattle.timer_wheels.specs.Occupied.{IsFirstSet}
 use Rattle.timer_wheels.specs.Placement.{IsPlaced}
 use Rattle.timer_wheels.specs.Tables.{radices}
+use Rattle.timer_wheels.proofs.FirstLemmas.{count-few, not_before-both, not_before-less}
+use Rattle.timer_wheels.proofs.FirstsLemmas.{length-timers}
 use Rattle.timer_wheels.proofs.ClockDigits.{bucket_near, bucket_far, visit_here}
 use Rattle.timer_wheels.proofs.HierLeaps.{first_in, filled_some}
 use Rattle.timer_wheels.proofs.OccupiedLemmas.{no_rows_there}
@@ -43,15 +47,6 @@ has-front d (x ∷ xs) ys (inr h) = inr (has-front d xs ys h)
 has-rest : (d : ℕ) (xs ys : List Timer) → HasDeadline d ys → HasDeadline d (xs ++ ys)
 has-rest d [] ys h = h
 has-rest d (x ∷ xs) ys h = inr (has-rest d xs ys h)
-
-not_before-both : (d : ℕ) (xs ys : List Timer) → AllByRecursion (λ t. d ≤ t.deadline) xs → AllByRecursion (λ t. d ≤ t.deadline) ys
-    → AllByRecursion (λ t. d ≤ t.deadline) (xs ++ ys)
-not_before-both d [] ys a b = b
-not_before-both d (x ∷ xs) ys a b = (a.0, not_before-both d xs ys a.1 b)
-
-not_before-less : (c d : ℕ) (ts : List Timer) → c ≤ d → AllByRecursion (λ t. d ≤ t.deadline) ts → AllByRecursion (λ t. c ≤ t.deadline) ts
-not_before-less c d [] h a = tt
-not_before-less c d (t ∷ ts) h a = (let x : d ≤ t.deadline = a.0 in omega arith, not_before-less c d ts h a.1)
 
 least-first : (a b : ℕ) (xs ys : List Timer) → a ≤ b → IsLeast a xs → IsLeast b ys → IsLeast a (xs ++ ys)
 least-first a b xs ys h l m = record {
@@ -79,36 +74,54 @@ least-one t = record { has = inl refl; none_earlier = (omega arith, tt) }
 
 -- The walk along one list.
 
-pub record IsSeeking (l step : ℕ) (lists : KeyedLists) (at least : Option ℕ) : Type 0 where
+pub record IsSeeking (l step : ℕ) (lists : KeyedLists) (at : Option ℕ) (first : First) : Type 0 where
   pub past : List (ℕ × Node)
   pub walk : IsWalking l step lists at past
-  pub is_least : IsLeastDeadline least (timers_in past)
+  pub first_of : IsFirstOf first (timers_in past)
+  -- the first timer is at most the bound
+  pub begun_at : first.count ≡ 0 → (past ≡ []) × (first.bound ≡ 18446744073709551615)
 
-pub seeking-begun : (l : ℕ) (lists : KeyedLists) (at : Option ℕ) → at ≡ first_key (list_at l lists) → IsSeeking l 0 lists at None
-seeking-begun l lists at e = record { past = []; walk = begun l lists at e; is_least = refl }
+pub seeking-begun : (l : ℕ) (lists : KeyedLists) (at : Option ℕ) (first : First) → at ≡ first_key (list_at l lists)
+    → IsFirstOf first [] → first.bound ≡ 18446744073709551615 → IsSeeking l 0 lists at first
+seeking-begun l lists at first e f b = record { past = []; walk = begun l lists at e; first_of = f; begun_at = λ z. (refl, b) }
+
+-- it can count one more
+pub seeking-few : (l step most : ℕ) (lists : KeyedLists) (at : Option ℕ) (first : First) → IsSeeking l step lists at first
+    → step < most → most < 18446744073709551616 → first.count < 18446744073709551615
+seeking-few l step most lists at first s h m =
+    let a : first.count ≡ deadline_count first.bound (timers_in s.past) = s.first_of.counted in
+    let b : deadline_count first.bound (timers_in s.past) ≤ length (timers_in s.past) = count-few first.bound (timers_in s.past) in
+    let c : length (timers_in s.past) ≡ length s.past = length-timers s.past in
+    let d : length s.past ≡ step = s.walk.count in
+    omega arith
 
 pub seeking-one : (l step : ℕ) (lists : KeyedLists) (b : l < length lists) (a : AreApart lists) (key : ℕ)
-    (at next least more : Option ℕ) (node : Node) → (s : IsSeeking l step lists at least) → at ≡ Some key → Some node ≡ node_at key lists
-    → more ≡ earliest least (Some node.timer.deadline)
+    (at next : Option ℕ) (first more : First) (node : Node) → (s : IsSeeking l step lists at first) → at ≡ Some key
+    → Some node ≡ node_at key lists
+    → ((ts : List Timer) (t : Timer) → t.deadline ≡ node.timer.deadline → IsFirstOf first ts → IsFirstOf more (ts ++ t ∷ []))
+    → (0 < first.count → 0 < more.count) → (first.bound ≡ 18446744073709551615 → 0 < more.count)
     → ((w : IsNextRow l step lists key s.past) → next ≡ first_key w.rest) → IsSeeking l (step + 1) lists next more
-seeking-one l step lists b a key at next least more node s e f m n =
+seeking-one l step lists b a key at next first more node s e f m k z n =
     let w : IsNextRow l step lists key s.past = next_row l step lists at key s.past s.walk e in
     let same : node ≡ w.node = same_node node w.node (f ∙ found l step lists b a key s.past w) in
-    let one : IsLeastDeadline (Some node.timer.deadline) (timers_in ((key, w.node) ∷ [])) =
-    subst (λ (y : Node). IsLeast node.timer.deadline (y.timer ∷ [])) same (least-one node.timer) in
-    let both : IsLeastDeadline (earliest least (Some node.timer.deadline)) (timers_in s.past ++ timers_in ((key, w.node) ∷ [])) =
-    least-append least (Some node.timer.deadline) (timers_in s.past) (timers_in ((key, w.node) ∷ [])) s.is_least one in
+    let some : 0 < more.count = elim (cases_eq first.count 0) [
+      | inl c ↦ z (s.begun_at c).1
+      | inr c ↦ k (omega arith)
+    ] in
     record {
       past = s.past ++ (key, w.node) ∷ [];
       walk = walked l step lists b a key s.past w next (n w);
-      is_least = subst (λ (o : Option ℕ). IsLeastDeadline o (timers_in (s.past ++ (key, w.node) ∷ []))) (sym m)
-          (subst (λ (ts : List Timer). IsLeastDeadline (earliest least (Some node.timer.deadline)) ts)
-          (sym (timers-append s.past ((key, w.node) ∷ []))) both);
+      first_of = subst (IsFirstOf more) (sym (timers-append s.past ((key, w.node) ∷ [])))
+          (m (timers_in s.past) w.node.timer (ap (λ (y : Node). y.timer.deadline) (sym same)) s.first_of);
+      begun_at = λ c. absurd (omega arith);
     }
 
-pub sought : (l step : ℕ) (lists : KeyedLists) (at least : Option ℕ) → (s : IsSeeking l step lists at least)
-    → list_at l lists ≡ s.past → IsLeastDeadline least (timers_in (list_at l lists))
-sought l step lists at least s e = subst (λ (rows : List (ℕ × Node)). IsLeastDeadline least (timers_in rows)) (sym e) s.is_least
+pub sought : (l step : ℕ) (lists : KeyedLists) (at : Option ℕ) (first : First) → (s : IsSeeking l step lists at first)
+    → list_at l lists ≡ s.past → IsKnownOf first (timers_in (list_at l lists))
+sought l step lists at first s e = subst (λ (rows : List (ℕ × Node)). IsKnownOf first (timers_in rows)) (sym e) (record {
+  first_of = s.first_of;
+  some = λ z. ap (λ (rows : List (ℕ × Node)). timers_in rows) (s.begun_at z).0;
+})
 
 -- Several lists.
 

@@ -335,6 +335,12 @@ module _ {n last_tick now last : ℕ} {lists : KeyedLists} (b : AreBuckets n las
         let Q : Timer → Type 0 = λ u. u.serial ≤ last in
         subst Q pending_node.timer (in_all P handle.place pending_node.node rows b.pending there).serial
 
+    pub pending_in_range : t.deadline ≤ last_tick
+    pending_in_range =
+        let P : ℕ × Node → Type 0 = λ row. IsPending last_tick now last (timer_in row) in
+        let Q : Timer → Type 0 = λ u. u.deadline ≤ last_tick in
+        subst Q pending_node.timer (in_all P handle.place pending_node.node rows b.pending there).in_range
+
     pub pending_positive : 0 < t.serial
     pending_positive =
         let P : ℕ × Node → Type 0 = λ row. 0 < (timer_in row).serial in

@@ -7,7 +7,7 @@ use Rattle.timer_base.specs.declared.timer.Handle.{Handle}
 use Rattle.timer_base.specs.declared.limits.TheConstants.{LAST}
 use Rattle.timer_base.specs.OrderLaws.{either}
 use Rattle.timer_base.specs.Pending.{Entry, put, without_found}
-use Rattle.timer_base.specs.WheelState.{WheelState, empty_wheel, after_start, after_stop, timer_at, after_withdrawal, after_made_due}
+use Rattle.timer_base.specs.WheelState.{WheelState, empty_wheel, after_start, timer_at}
 use Rattle.timer_links.specs.Lists.{list_at}
 use Rattle.timer_wheels.specs.declared.buckets.Buckets.{Buckets}
 use Rattle.timer_wheels.specs.Buckets.{state_of}

@@ -1,5 +1,7 @@
 -- The lemmas that the proofs of this crate share.
 pub mod DigitLaws
+pub mod FirstLemmas
+pub mod FirstsLemmas
 pub mod RowLemmas
 pub mod BucketLemmas
 pub mod Handles

@@ -149,7 +149,7 @@ marked_all n words l lists e t = (
 )
 
 -- the first row of a list moves to another
-moved_same : (l to s : ℕ) (lists : KeyedLists) (rows : List (ℕ × Node)) → s ≢ l → s ≢ to
+pub moved_same : (l to s : ℕ) (lists : KeyedLists) (rows : List (ℕ × Node)) → s ≢ l → s ≢ to
     → list_at s (first_row_moved l to lists rows) ≡ list_at s lists
 moved_same l to s lists [] n m = refl
 moved_same l to s lists (row ∷ rest) n m = get_or-set_other (slice_set lists l rest) to s (list_at to (slice_set lists l rest)

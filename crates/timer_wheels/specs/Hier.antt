@@ -4,7 +4,9 @@ use Rattle.std.proofs.Props.{props}
 use Rattle.timer_wheels.specs.Buckets.{state_of}
 use Rattle.timer_wheels.specs.declared.buckets.Buckets.{Buckets}
 use Rattle.timer_wheels.specs.declared.table.Table.{Table}
-use Rattle.timer_wheels.specs.Digits.{slots, last_of}
+use Rattle.timer_wheels.specs.declared.first.First.{First}
+use Rattle.timer_wheels.specs.Digits.{slots, last_of, lowest_radix}
+use Rattle.timer_wheels.specs.Firsts.{AreFirsts, AreFirsts-prop}
 use Rattle.timer_wheels.specs.Occupied.{AreMarked, AreMarked-prop}
 use Rattle.timer_wheels.specs.Placement.{IsPlaced, IsPlaced-prop, levels_of}
 use Rattle.timer_wheels.specs.Tables.{radices}
@@ -33,3 +35,10 @@ pub record IsHier (table : Table) (b : Buckets) (words : List ℕ) : Type 0 wher
 
 pub IsHier-prop : (table : Table) (b : Buckets) (words : List ℕ) → IsProp (IsHier table b words)
 IsHier-prop table b words = hlevel (props, ArePlaced-prop table b, AreMarked-prop b.slots words b.links.lists)
+
+-- the first deadline of each bucket above the lowest wheel
+abbrev pub HasFirsts : Table → Buckets → List First → Type 0
+HasFirsts table b firsts = AreFirsts (lowest_radix (radices table)) b.slots firsts b.links.lists
+
+pub HasFirsts-prop : (table : Table) (b : Buckets) (firsts : List First) → IsProp (HasFirsts table b firsts)
+HasFirsts-prop table b firsts = AreFirsts-prop (lowest_radix (radices table)) b.slots firsts b.links.lists

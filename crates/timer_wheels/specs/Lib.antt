@@ -16,4 +16,6 @@ pub mod Hier
 pub mod Tables
 pub mod HierWheel
 pub mod Deadlines
+pub mod FirstDeadline
+pub mod Firsts
 pub mod HeldPlaces

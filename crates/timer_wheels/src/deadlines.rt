@@ -10,8 +10,10 @@ ghost use Rattle.timer_links.specs.Lists.{list_at};
 ghost use Rattle.timer_wheels.specs.BucketLists.{rows_below, timers_in};
 ghost use Rattle.timer_wheels.specs.Buckets.{state_of};
 ghost use Rattle.timer_wheels.specs.Deadlines.{IsLeastDeadline};
+ghost use Rattle.timer_wheels.specs.FirstDeadline.{IsKnownOf};
 
 use crate::buckets::Buckets;
+use crate::first::First;
 use timer_links::Links;
 
 /// The first pending deadline, found by a walk along every bucket. Does not allocate.
@@ -28,18 +30,18 @@ fn least_below(links: &Links, count: usize) -> Option<u64>
 {
     let mut least = None;
     for list in 0..count {
-        least = earlier(least, least_in(links, list));
+        least = earlier(least, first_in(links, list).known());
     }
     least
 }
 
-/// The least deadline of the timers in one list. It walks the whole list.
-pub fn least_in(links: &Links, list: usize) -> Option<u64>
+/// The first deadline of the timers in one list, and how many have it. It walks the whole list.
+pub fn first_in(links: &Links, list: usize) -> First
     requires { list < length links.now.lists }
-    ensures { IsLeastDeadline result (timers_in (list_at list links.now.lists)) }
+    ensures { IsKnownOf result (timers_in (list_at list links.now.lists)) }
 {
     links.lemma_keys_unique();
-    let mut least = None;
+    let mut first = First::none();
     let mut at = links.front(list);
     for step in 0..links.len() {
         let Some(key) = at else {
@@ -48,10 +50,10 @@ pub fn least_in(links: &Links, list: usize) -> Option<u64>
         let Some(node) = links.get(key) else {
             break;
         };
-        least = earlier(least, Some(node.timer.deadline));
+        first.enter(node.timer.deadline);
         at = links.next(key);
     }
-    least
+    first
 }
 
 /// The earlier one of two deadlines, each of which may be missing.

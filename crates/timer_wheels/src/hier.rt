@@ -52,7 +52,7 @@ ghost use Rattle.std.specs.Option.{IfSome};
 ghost use Rattle.timer_base.specs.declared.limits.TheConstants.{LAST};
 ghost use Rattle.timer_base.specs.Order.{AreBelow};
 ghost use Rattle.timer_base.specs.Pending.{timers_of};
-ghost use Rattle.timer_base.specs.WakeUps.{IsQuietUntil};
+ghost use Rattle.timer_base.specs.WakeUps.{IsQuietUntil, next_deadline};
 ghost use Rattle.timer_base.specs.WheelState.{empty_wheel, timer_at, first_due, after_start, after_reserve, held_count, after_stop, after_tick, after_expiry, after_clear, after_restart, after_made_due, after_withdrawal, after_revival, due_at, old_timer, Advances};
 ghost use Rattle.timer_wheels.specs.Buckets.{state_of, state_of-well_formed};
 ghost use Rattle.timer_wheels.specs.Leap.{IsNextVisit};
@@ -359,9 +359,21 @@ impl Wheel for HierWheel {
     }
 
     /// Found in the first bucket with a timer: on wheel 0 without a look at its timers, and on a higher wheel
-    /// by a walk along that bucket alone.
+    /// by a walk along that bucket alone, unless its first deadline is known.
     fn next_deadline(&self) -> Option<u64> {
         self.wheels.next_deadline()
+    }
+
+    /// The first deadline of a bucket is known from then on, until the last timer that has it leaves the bucket.
+    ///
+    /// It is known from the start for a timer that comes to an empty bucket, or has an earlier deadline than all
+    /// that the bucket had since it was known.
+    fn find_next(&mut self) -> Option<u64>
+        ensures first { result ≡ next_deadline (hier_state self.old).pending }
+        ensures same { hier_state self.new ≡ hier_state self.old }
+        ensures counts { counts_of self.new ≡ counts_of self.old }
+    {
+        self.wheels.find_next()
     }
 
     fn expire(&mut self) -> Option<Timer>

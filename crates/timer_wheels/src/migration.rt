@@ -1,13 +1,16 @@
 //! The bucket that one tick of a hierarchy of wheels empties.
-ghost use Rattle.std.specs.Prelude.{◌≡◌, ◌+◌, ◌<◌, length};
+ghost use Rattle.std.specs.Prelude.{◌≡◌, ◌+◌, ◌<◌, [], length};
 ghost use Rattle.std.specs.List.{AllByRecursion};
 ghost use Rattle.timer_links.specs.Lists.{list_at};
 ghost use Rattle.timer_wheels.specs.Digits.{slots, lowest_radix};
+ghost use Rattle.timer_wheels.specs.FirstDeadline.{IsFirstOf};
+ghost use Rattle.timer_wheels.specs.Firsts.{first_at, AreFirsts, AreFirstsBut};
 ghost use Rattle.timer_wheels.specs.Migration.{MayMigrate, IsOfTick, migrated, left_rows, first_deadline, second_deadline};
 ghost use Rattle.timer_wheels.specs.Occupied.{bit_of, AreMarked, AreMarkedBut};
 ghost use Rattle.timer_wheels.specs.Tables.{radices};
 
 use crate::digits::{bucket_of, buckets_of, lowest_slots};
+use crate::firsts::Firsts;
 use crate::occupied::Occupied;
 use crate::table::Table;
 use timer_links::Links;
@@ -23,6 +26,7 @@ pub fn empty_bucket(
     table: Table,
     links: &mut Links,
     occupied: &mut Occupied,
+    firsts: &mut Firsts,
     list: usize,
     tick: u64,
 ) -> u64
@@ -32,10 +36,12 @@ pub fn empty_bucket(
     requires lowest { list < lowest_radix (radices table)
         → AllByRecursion (IsOfTick tick) (list_at list links.old.lists) }
     requires marked { AreMarked (slots (radices table)) occupied.old links.old.lists }
+    requires foretold { AreFirsts (lowest_radix (radices table)) (slots (radices table)) firsts.old links.old.lists }
     ensures migrated { links.new.lists ≡ migrated (radices table) tick list links.old.lists }
     ensures room { links.new.room ≡ links.old.room }
     ensures moves { result ≡ length (left_rows tick (list_at list links.old.lists)) }
     ensures marked { AreMarked (slots (radices table)) occupied.new links.new.lists }
+    ensures foretold { AreFirsts (lowest_radix (radices table)) (slots (radices table)) firsts.new links.new.lists }
 {
     if links.is_empty(list) {
         return 0;
@@ -45,7 +51,8 @@ pub fn empty_bucket(
         links.append(list, buckets_of(table));
         0
     } else {
-        migrate(table, links, occupied, list, tick)
+        firsts.empty(list);
+        migrate(table, links, occupied, firsts, list, tick)
     }
 }
 
@@ -54,20 +61,31 @@ pub fn empty_bucket(
 /// There is one loop for each table, and in it all that depends on the table is constant.
 // Kept out of line, since a tick seldom needs it.
 #[inline(never)]
-fn migrate(table: Table, links: &mut Links, occupied: &mut Occupied, list: usize, tick: u64) -> u64
+fn migrate(
+    table: Table,
+    links: &mut Links,
+    occupied: &mut Occupied,
+    firsts: &mut Firsts,
+    list: usize,
+    tick: u64,
+) -> u64
     requires lists { length links.old.lists ≡ slots (radices table) + 1 }
     requires list { list < slots (radices table) }
     requires rows { AllByRecursion (MayMigrate (radices table) tick list) (list_at list links.old.lists) }
     requires clear { bit_of occupied.old list ≡ 0 }
     requires marked { AreMarkedBut (slots (radices table)) list occupied.old links.old.lists }
+    requires none { IsFirstOf (first_at list firsts.old) [] }
+    requires foretold { AreFirstsBut list (lowest_radix (radices table)) (slots (radices table)) firsts.old
+        links.old.lists }
     ensures migrated { links.new.lists ≡ migrated (radices table) tick list links.old.lists }
     ensures room { links.new.room ≡ links.old.room }
     ensures moves { result ≡ length (left_rows tick (list_at list links.old.lists)) }
     ensures marked { AreMarked (slots (radices table)) occupied.new links.new.lists }
+    ensures foretold { AreFirsts (lowest_radix (radices table)) (slots (radices table)) firsts.new links.new.lists }
 {
     match table {
-        Table::Wide => migrate_one_by_one(Table::Wide, links, occupied, list, tick),
-        Table::Clock => migrate_one_by_one(Table::Clock, links, occupied, list, tick),
+        Table::Wide => migrate_one_by_one(Table::Wide, links, occupied, firsts, list, tick),
+        Table::Clock => migrate_one_by_one(Table::Clock, links, occupied, firsts, list, tick),
     }
 }
 
@@ -78,6 +96,7 @@ fn migrate_one_by_one(
     table: Table,
     links: &mut Links,
     occupied: &mut Occupied,
+    firsts: &mut Firsts,
     list: usize,
     tick: u64,
 ) -> u64
@@ -86,10 +105,14 @@ fn migrate_one_by_one(
     requires rows { AllByRecursion (MayMigrate (radices table) tick list) (list_at list links.old.lists) }
     requires clear { bit_of occupied.old list ≡ 0 }
     requires marked { AreMarkedBut (slots (radices table)) list occupied.old links.old.lists }
+    requires none { IsFirstOf (first_at list firsts.old) [] }
+    requires foretold { AreFirstsBut list (lowest_radix (radices table)) (slots (radices table)) firsts.old
+        links.old.lists }
     ensures migrated { links.new.lists ≡ migrated (radices table) tick list links.old.lists }
     ensures room { links.new.room ≡ links.old.room }
     ensures moves { result ≡ length (left_rows tick (list_at list links.old.lists)) }
     ensures marked { AreMarked (slots (radices table)) occupied.new links.new.lists }
+    ensures foretold { AreFirsts (lowest_radix (radices table)) (slots (radices table)) firsts.new links.new.lists }
 {
     let due = buckets_of(table);
     let mut moves = 0;
@@ -105,7 +128,9 @@ fn migrate_one_by_one(
         } else {
             let to = bucket_of(table, tick, deadline);
             links.move_front(list, to);
+            links.lemma_countable();
             occupied.insert(to);
+            firsts.enter(table, to, deadline);
             moves += 1;
         }
     }

@@ -6,9 +6,9 @@
 //!
 //! The lowest bit that is set is that of the bucket that the clock empties next, of those with a timer:
 //! a lower wheel comes before a higher one, and in a wheel the slots come in turn.
-ghost use Rattle.std.specs.Prelude.{◌≡◌, ◌≢◌, ◌<◌, ℕ, List, length, true, false, MatchOption};
+ghost use Rattle.std.specs.Prelude.{◌≡◌, ◌≢◌, ◌<◌, ℕ, List, length, true, false};
 ghost use Rattle.timer_wheels.specs.declared.occupied.TheConstants.{BUCKETS, WORDS};
-ghost use Rattle.timer_wheels.specs.Occupied.{bit_of, IsFirstSet, IsLowestSet, Clears};
+ghost use Rattle.timer_wheels.specs.Occupied.{bit_of, IsFirstSet, IsLowestSet};
 
 use std::marker::Model;
 
@@ -102,15 +102,4 @@ fn lowest_bit(word: u64) -> usize
     ensures { IsLowestSet word result }
 {
     word.trailing_zeros() as usize
-}
-
-/// Clears the bit of a bucket that was emptied, if one was.
-#[inline]
-pub fn clear_emptied(occupied: &mut Occupied, emptied: Option<usize>)
-    requires { MatchOption emptied (Unit {0}) (λ list. list < BUCKETS) }
-    ensures { Clears emptied occupied.old occupied.new }
-{
-    if let Some(list) = emptied {
-        occupied.remove(list);
-    }
 }

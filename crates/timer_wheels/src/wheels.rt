@@ -1,27 +1,35 @@
-//! A hierarchy of wheels: the buckets of a table of radices, and a bit for each bucket that has a timer.
+//! A hierarchy of wheels: the buckets of a table of radices, a bit for each bucket that has a timer, and the first
+//! deadline of each bucket.
 //!
 //! A call that puts a timer into a bucket sets the bucket's bit, and one that takes the last timer out of it clears it.
 //! So the clock finds the next bucket with a timer among the bits, and looks at no other (`leap`). One tick is in
-//! `migration`.
-ghost use Rattle.std.specs.Prelude.{◌≡◌, ◌<◌, ◌≤◌, ◌+◌, [], IfOk, OnErr, MatchOption};
+//! `migration`. The first deadline of that bucket is the first of all: it is known until the last timer that has it
+//! leaves its bucket (`firsts`).
+ghost use Rattle.std.specs.Prelude.{◌≡◌, ◌<◌, ◌≤◌, ◌+◌, [], IfOk, OnErr, MatchOption, length};
 ghost use Rattle.timer_base.specs.declared.limits.TheConstants.{LAST};
 ghost use Rattle.timer_base.specs.Order.{AreBelow};
 ghost use Rattle.timer_base.specs.Pending.{timers_of};
 ghost use Rattle.timer_base.specs.WakeUps.{next_deadline};
 ghost use Rattle.timer_base.specs.WheelState.{empty_wheel, timer_at, after_start, held_count, after_stop, after_tick, after_clear, after_restart, after_made_due, after_withdrawal, after_revival, due_at, old_timer};
 ghost use Rattle.timer_wheels.specs.Buckets.{state_of};
-ghost use Rattle.timer_wheels.specs.Hier.{IsHier, IsHier-prop, potential};
+ghost use Rattle.timer_wheels.specs.Digits.{bucket, slots, last_of, lowest_radix};
+ghost use Rattle.timer_wheels.specs.Firsts.{first_at, Leaves, Empties};
+ghost use Rattle.timer_wheels.specs.Occupied.{Clears};
+ghost use Rattle.timer_wheels.specs.Tables.{radices};
+ghost use Rattle.timer_wheels.specs.Hier.{IsHier, IsHier-prop, HasFirsts, HasFirsts-prop, potential};
 
 use crate::buckets::Buckets;
-use crate::deadlines::least_in;
+use crate::deadlines::first_in;
 use crate::digits::{bucket_of, buckets_of, emptied_at, last_tick_of, lowest_slots, visit_of};
+use crate::first::First;
+use crate::firsts::Firsts;
 use crate::migration::empty_bucket;
-use crate::occupied::{Occupied, clear_emptied};
+use crate::occupied::Occupied;
 use crate::table::Table;
 use std::alloc::Global;
 use timer_base::{Handle, OutOfMemory, Timer};
 
-/// The buckets of a table, and which of them have a timer.
+/// The buckets of a table, which of them have a timer, and their first deadlines.
 #[derive(Drop)]
 pub struct Wheels {
     /// The radices, which no call changes.
@@ -30,12 +38,18 @@ pub struct Wheels {
     pub buckets: Buckets,
     /// Which buckets have a timer.
     pub occupied: Occupied,
+    /// The first deadline of each bucket above the lowest wheel.
+    pub firsts: Firsts,
     ghost hier: { IsHier table buckets occupied } by { IsHier-prop table buckets occupied },
+    ghost foretold: { HasFirsts table buckets firsts } by { HasFirsts-prop table buckets firsts },
 }
 
 impl Wheels {
+    ghost use Rattle.timer_links.specs.Lists.{list_at};
+    ghost use Rattle.timer_wheels.specs.BucketLists.{timers_in};
+    ghost use Rattle.timer_wheels.specs.FirstDeadline.{IsKnownOf};
     ghost use Rattle.timer_wheels.specs.Placement.{hops_of};
-    ghost use Rattle.timer_wheels.specs.Tables.{radices, last_of_table, slots_of_table};
+    ghost use Rattle.timer_wheels.specs.Tables.{last_of_table, slots_of_table};
 
     /// Makes the empty buckets of a table.
     pub fn new(alloc: Global, table: Table, first_tick: u64) -> Result<Wheels, OutOfMemory>
@@ -44,11 +58,14 @@ impl Wheels {
             ≡ empty_wheel (slots_of_table table) (last_of_table table) first_tick) }
         ensures table { IfOk result (λ wheels. wheels.table ≡ table) }
     {
-        let buckets = Buckets::new(alloc, buckets_of(table), last_tick_of(table), first_tick)?;
+        let slots = buckets_of(table);
+        let buckets = Buckets::new(alloc, slots, last_tick_of(table), first_tick)?;
+        let firsts = Firsts::new(alloc, slots)?;
         Ok(Wheels {
             table,
             buckets,
             occupied: Occupied::new(),
+            firsts,
         })
     }
 
@@ -69,7 +86,9 @@ impl Wheels {
     {
         let bucket = bucket_of(self.table, self.buckets.tick, timer.deadline);
         let handle = self.buckets.start(bucket, timer, 0)?;
+        self.buckets.lemma_countable();
         self.occupied.insert(bucket);
+        self.firsts.enter(self.table, bucket, timer.deadline);
         Ok(handle)
     }
 
@@ -82,7 +101,14 @@ impl Wheels {
     {
         self.buckets.links.lemma_keys_unique();
         let (timer, emptied) = self.buckets.take(handle)?;
-        clear_emptied(&mut self.occupied, emptied);
+        leave_bucket(
+            self.table,
+            &mut self.occupied,
+            &mut self.firsts,
+            self.buckets.tick,
+            timer.deadline,
+            emptied,
+        );
         Some(timer)
     }
 
@@ -101,11 +127,20 @@ impl Wheels {
     {
         self.buckets.links.lemma_keys_unique();
         let bucket = bucket_of(self.table, self.buckets.tick, timer.deadline);
-        self.buckets.look(handle)?;
+        let old = self.buckets.look(handle)?;
         let emptied = self.buckets.links.alone_in(handle.place);
         let restarted = self.buckets.restart(handle, bucket, timer, 0)?;
-        clear_emptied(&mut self.occupied, emptied);
+        leave_bucket(
+            self.table,
+            &mut self.occupied,
+            &mut self.firsts,
+            self.buckets.tick,
+            old.deadline,
+            emptied,
+        );
+        self.buckets.lemma_countable();
         self.occupied.insert(bucket);
+        self.firsts.enter(self.table, bucket, timer.deadline);
         Some(restarted)
     }
 
@@ -118,10 +153,17 @@ impl Wheels {
         ensures table { self.new.table ≡ self.old.table }
     {
         self.buckets.links.lemma_keys_unique();
-        self.buckets.look(handle)?;
+        let old = self.buckets.look(handle)?;
         let emptied = self.buckets.links.alone_in(handle.place);
         let timer = self.buckets.make_due(handle)?;
-        clear_emptied(&mut self.occupied, emptied);
+        leave_bucket(
+            self.table,
+            &mut self.occupied,
+            &mut self.firsts,
+            self.buckets.tick,
+            old.deadline,
+            emptied,
+        );
         Some(timer)
     }
 
@@ -152,7 +194,9 @@ impl Wheels {
         self.buckets.links.lemma_keys_unique();
         let bucket = bucket_of(self.table, self.buckets.tick, timer.deadline);
         let revived = self.buckets.revive(handle, bucket, timer, 0)?;
+        self.buckets.lemma_countable();
         self.occupied.insert(bucket);
+        self.firsts.enter(self.table, bucket, timer.deadline);
         Some(revived)
     }
 
@@ -178,6 +222,7 @@ impl Wheels {
             self.table,
             &mut buckets.links,
             &mut self.occupied,
+            &mut self.firsts,
             list,
             tick,
         );
@@ -187,7 +232,8 @@ impl Wheels {
 
     /// The first pending deadline, found in the first bucket with a timer. Does not allocate.
     ///
-    /// A slot of wheel 0 is one tick, and so its deadline needs no walk.
+    /// A slot of wheel 0 is one tick, and so its deadline needs no walk. Nor does that of a higher wheel, if it is
+    /// known.
     pub fn next_deadline(&self) -> Option<u64>
         ensures { result ≡ next_deadline (state_of self.now.buckets).pending }
     {
@@ -197,7 +243,38 @@ impl Wheels {
         if list < lowest_slots(self.table) {
             return Some(visit_of(self.table, list, self.buckets.tick));
         }
-        least_in(&self.buckets.links, list)
+        self.first_of(list).known()
+    }
+
+    /// The first pending deadline, which is known from then on. Does not allocate.
+    pub fn find_next(&mut self) -> Option<u64>
+        ensures first { result ≡ next_deadline (state_of self.old.buckets).pending }
+        ensures buckets { self.new.buckets ≡ self.old.buckets }
+        ensures table { self.new.table ≡ self.old.table }
+    {
+        let Some(list) = self.occupied.first() else {
+            return None;
+        };
+        if list < lowest_slots(self.table) {
+            return Some(visit_of(self.table, list, self.buckets.tick));
+        }
+        let first = self.first_of(list);
+        self.firsts.set(list, first);
+        first.known()
+    }
+
+    /// The first deadline of a bucket above the lowest wheel. It walks the bucket if it is not known.
+    fn first_of(&self, list: usize) -> First
+        requires list { list < self.now.buckets.slots }
+        requires above { lowest_radix (radices self.now.table) ≤ list }
+        ensures { IsKnownOf result (timers_in (list_at list self.now.buckets.links.lists)) }
+    {
+        let first = self.firsts.at(list);
+        if first.count == 0 {
+            first_in(&self.buckets.links, list)
+        } else {
+            first
+        }
     }
 
     /// Drops the pending timers. Does not allocate.
@@ -207,5 +284,36 @@ impl Wheels {
     {
         self.buckets.clear();
         self.occupied = Occupied::new();
+        self.firsts.clear();
+    }
+}
+
+/// A timer with this deadline left its bucket: it is no longer counted there. If it left a bucket empty, the
+/// bucket's bit is cleared.
+#[inline]
+fn leave_bucket(
+    table: Table,
+    occupied: &mut Occupied,
+    firsts: &mut Firsts,
+    tick: u64,
+    deadline: u64,
+    emptied: Option<usize>,
+)
+    requires later { tick < deadline }
+    requires deadline { deadline ≤ last_of (radices table) }
+    requires size { length firsts.old ≡ slots (radices table) }
+    requires emptied { MatchOption emptied (Unit {0}) (λ list. list < slots (radices table)) }
+    requires counted { lowest_radix (radices table) ≤ bucket (radices table) tick deadline
+        → (first_at (bucket (radices table) tick deadline) firsts.old).bound ≡ deadline
+        → 0 < (first_at (bucket (radices table) tick deadline) firsts.old).count }
+    ensures bits { Clears emptied occupied.old occupied.new }
+    ensures firsts { MatchOption emptied (Leaves (lowest_radix (radices table)) (bucket (radices table) tick deadline)
+        deadline firsts.old firsts.new) (λ list. Empties list firsts.old firsts.new) }
+{
+    if let Some(list) = emptied {
+        occupied.remove(list);
+        firsts.empty(list);
+    } else {
+        firsts.leave(table, bucket_of(table, tick, deadline), deadline);
     }
 }

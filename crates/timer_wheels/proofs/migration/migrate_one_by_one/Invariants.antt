@@ -1,5 +1,7 @@
-use Rattle.std.proofs.Common.{◌≡◌}
-use Rattle.timer_wheels.specs.Digits.{slots}
+use Rattle.std.proofs.Common.{◌≡◌, []}
+use Rattle.timer_wheels.specs.Digits.{slots, lowest_radix}
+use Rattle.timer_wheels.specs.FirstDeadline.{IsFirstOf}
+use Rattle.timer_wheels.specs.Firsts.{first_at, AreFirstsBut}
 use Rattle.timer_wheels.specs.Tables.{radices}
 use Rattle.timer_wheels.specs.Occupied.{bit_of, AreMarkedBut}
 use Rattle.timer_links.specs.Lists.{list_at}
@@ -14,4 +16,6 @@ invariant-loop-step l = record {
   ahead : l.ahead ≡ first_deadline (list_at l.list l.links.lists);
   clear : bit_of l.occupied l.list ≡ 0;
   marked : AreMarkedBut (slots (radices l.table)) l.list l.occupied l.links.lists;
+  none : IsFirstOf (first_at l.list l.firsts) [];
+  foretold : AreFirstsBut l.list (lowest_radix (radices l.table)) (slots (radices l.table)) l.firsts l.links.lists;
 }

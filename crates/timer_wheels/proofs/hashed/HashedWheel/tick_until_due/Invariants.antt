@@ -1,7 +1,5 @@
-use Rattle.std.proofs.Common.{◌≡◌}
 use Rattle.timer_base.specs.TickLaws.{IsPassing}
 use Rattle.timer_wheels.specs.Buckets.{state_of}
-use Rattle.timer_wheels.specs.HashedWheel.{slots_of}
 use Rattle.timer_wheels.proofs.hashed.HashedWheel.tick_until_due.Given as goal
 
 abbrev pub invariant-loop-passed : goal.invariant-loop-passed

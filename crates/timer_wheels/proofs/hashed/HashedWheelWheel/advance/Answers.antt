@@ -1,4 +1,4 @@
-use Rattle.std.proofs.Common.{◌≡◌, ◌≤◌, ◌+◌, ◌-◌, ◌∙◌, arith}
+use Rattle.std.proofs.Common.{◌≡◌, ◌≤◌, ◌+◌, ◌-◌, arith}
 use Rattle.std.specs.Prelude.{[], min}
 use Rattle.timer_base.specs.TickLaws.{IsPassing, not_due}
 use Rattle.timer_wheels.specs.Buckets.{state_of}

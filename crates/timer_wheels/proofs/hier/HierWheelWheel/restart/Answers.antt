@@ -1,8 +1,7 @@
-use Rattle.std.proofs.Common.{◌+◌, refl, arith}
+use Rattle.std.proofs.Common.{◌+◌, refl}
 use Rattle.timer_base.specs.WheelState.{timer_at, after_stop}
 use Rattle.timer_wheels.specs.Buckets.{state_of}
 use Rattle.timer_wheels.specs.Digits.{last_of}
-use Rattle.timer_wheels.specs.Placement.{levels_of}
 use Rattle.timer_wheels.specs.Tables.{radices}
 use Rattle.timer_wheels.proofs.HierLemmas.{levels-without, paid_at, paid_start, few_starts}
 use Rattle.timer_wheels.proofs.TableLaws.{of_table, at_most}

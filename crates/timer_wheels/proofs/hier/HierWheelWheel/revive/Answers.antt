@@ -2,7 +2,6 @@ use Rattle.std.proofs.Common.{◌+◌, refl, arith}
 use Rattle.timer_base.specs.WheelState.{after_withdrawal}
 use Rattle.timer_wheels.specs.Buckets.{state_of}
 use Rattle.timer_wheels.specs.Digits.{last_of}
-use Rattle.timer_wheels.specs.Placement.{levels_of}
 use Rattle.timer_wheels.specs.Tables.{radices}
 use Rattle.timer_wheels.proofs.HierLemmas.{paid_at, paid_start, few_starts}
 use Rattle.timer_wheels.proofs.TableLaws.{of_table, at_most}

@@ -1,7 +1,9 @@
-use Rattle.std.proofs.Common.{◌+◌, ap, ◌∙◌}
+use Rattle.std.proofs.Common.{◌+◌, ◌<◌, ℕ, sym, ap, ◌∙◌}
 use Rattle.timer_base.specs.WheelState.{WheelState}
 use Rattle.timer_links.specs.Lists.{list_at}
 use Rattle.timer_wheels.specs.Tables.{radices}
+use Rattle.timer_wheels.specs.Digits.{lowest_radix}
+use Rattle.timer_wheels.proofs.FirstsLemmas.{no_firsts}
 use Rattle.timer_wheels.proofs.BucketLemmas.{list_at-replicate}
 use Rattle.timer_wheels.proofs.HierLemmas.{new_placed}
 use Rattle.timer_wheels.proofs.OccupiedLemmas.{marked_none}
@@ -10,12 +12,16 @@ use Rattle.timer_wheels.proofs.wheels.Wheels.new.Goals as goal
 pub invariant_of-result : goal.invariant_of-result
 invariant_of-result c =
     let b = c.in_ok-buckets.buckets in
+    let empty = λ (s : ℕ) (h : s < b.slots). ap (list_at s) c.in_ok-buckets.ensures.lists
+    ∙ list_at-replicate (c.buckets_of-slots.result + 1) s in
     record {
       hier = record {
-        has_slots = c.in_ok-buckets.ensures.slots ∙ c.buckets_of.ensures.value;
+        has_slots = c.in_ok-buckets.ensures.slots ∙ c.buckets_of-slots.ensures.value;
         clock = ap (λ (w : WheelState). w.last_tick) c.in_ok-buckets.ensures.state ∙ c.last_tick_of.ensures.value;
-        placed = new_placed (radices c.args.table) b (c.buckets_of.result + 1) c.in_ok-buckets.ensures.lists;
-        marked = marked_none b.slots c.new-2.result b.links.lists c.new-2.ensures
-            (λ s h. ap (list_at s) c.in_ok-buckets.ensures.lists ∙ list_at-replicate (c.buckets_of.result + 1) s);
+        placed = new_placed (radices c.args.table) b (c.buckets_of-slots.result + 1) c.in_ok-buckets.ensures.lists;
+        marked = marked_none b.slots c.new-3.result b.links.lists c.new-3.ensures empty;
       };
+      foretold = no_firsts (lowest_radix (radices c.args.table)) b.slots c.in_ok-firsts.firsts b.links.lists
+          (c.in_ok-firsts.ensures.size ∙ sym c.in_ok-buckets.ensures.slots)
+          (λ (s : ℕ) (h : s < b.slots). c.in_ok-firsts.ensures.none s (rw (← c.in_ok-buckets.ensures.slots) h)) empty;
     }

@@ -1,7 +1,9 @@
-use Rattle.std.proofs.Common.{◌≡◌, ◌<◌, arith}
+use Rattle.std.proofs.Common.{◌≡◌, ◌<◌, ◌≤◌, arith}
+use Rattle.timer_links.specs.Lists.{list_at}
+use Rattle.timer_wheels.specs.BucketLists.{timers_in}
 use Rattle.timer_wheels.specs.Digits.{lowest_radix}
 use Rattle.timer_wheels.specs.Tables.{radices}
-use Rattle.timer_wheels.proofs.DeadlineLemmas.{none_is_next, first_is_next, visit_is_next}
+use Rattle.timer_wheels.proofs.DeadlineLemmas.{none_is_next, first_below, first_is_next, visit_is_next}
 use Rattle.timer_wheels.proofs.wheels.Wheels.next_deadline.Goals as goal
 
 pub returns-in_default : goal.returns-in_default
@@ -14,6 +16,17 @@ returns-then-list-lowest_slots c =
     visit_is_next c.args.self.now.table c.args.self.now.buckets c.args.self.now.occupied c.args.self.now.hier c.in-Some.list c.in-Some.ensures c.visit_of.result
     c.visit_of.ensures (omega arith)
 
+pub first_of-requires : goal.first_of-requires
+first_of-requires c =
+    let e : c.lowest_slots.result ≡ lowest_radix (radices c.args.self.now.table) = c.lowest_slots.ensures.value in
+    let k : c.lowest_slots.result ≤ c.in-Some.list = c.if-list-lowest_slots.false in
+    record {
+      list = first_below c.args.self.now.table c.args.self.now.buckets c.args.self.now.occupied c.args.self.now.hier c.in-Some.list
+          c.in-Some.ensures;
+      above = omega arith;
+    }
+
 pub returns : goal.returns
-returns c = first_is_next c.args.self.now.table c.args.self.now.buckets c.args.self.now.occupied c.args.self.now.hier c.in-Some.list c.in-Some.ensures c.least_in.result
-    c.least_in.ensures
+returns c = first_is_next c.args.self.now.table c.args.self.now.buckets c.args.self.now.occupied c.args.self.now.hier c.in-Some.list
+    c.in-Some.ensures c.known.result (c.known.ensures (timers_in (list_at c.in-Some.list c.args.self.now.buckets.links.lists))
+    c.first_of.ensures)

@@ -1,6 +1,9 @@
 use Rattle.std.proofs.Common.{ℕ, ap, subst, sym}
 use Rattle.timer_base.specs.WheelState.{with_room}
+use Rattle.timer_wheels.specs.Digits.{lowest_radix}
+use Rattle.timer_wheels.specs.Firsts.{AreFirsts}
 use Rattle.timer_wheels.specs.Occupied.{AreMarked}
+use Rattle.timer_wheels.specs.Tables.{radices}
 use Rattle.timer_wheels.proofs.MigrationTick.{may_migrate_at, all_of_tick_at, next_at}
 use Rattle.timer_wheels.proofs.wheels.Wheels.next_tick.Goals as goal
 
@@ -26,6 +29,10 @@ invariant_of-self c =
         placed = n.placed;
         marked = subst P (sym w.hier.has_slots) c.empty_bucket-moves.ensures.marked;
       };
+      foretold =
+          let Q : ℕ → Type 0 = λ k. AreFirsts (lowest_radix (radices w.table)) k c.empty_bucket-moves.new.firsts
+          c.empty_bucket-moves.new.links.lists in
+          subst Q (sym w.hier.has_slots) c.empty_bucket-moves.ensures.foretold;
     }
 
 pub invariant_of-buckets : goal.invariant_of-buckets
@@ -52,3 +59,9 @@ pub returns-clause-falls : goal.returns-clause-falls
 returns-clause-falls c = (next_at c.args.self.now.table c.args.self.now.buckets c.args.self.now.occupied c.args.self.now.hier c.requires.nothing_due
     c.requires.before_last c.emptied_at-list.result c.empty_bucket-moves.result c.empty_bucket-moves.new.links.lists
     c.emptied_at-list.ensures.value c.empty_bucket-moves.ensures.migrated c.empty_bucket-moves.ensures.moves).pays
+
+pub empty_bucket-moves-requires-clause-foretold : goal.empty_bucket-moves-requires-clause-foretold
+empty_bucket-moves-requires-clause-foretold c =
+    let w = c.args.self.now in
+    let Q : ℕ → Type 0 = λ k. AreFirsts (lowest_radix (radices w.table)) k w.firsts w.buckets.links.lists in
+    subst Q w.hier.has_slots w.foretold

@@ -31,6 +31,7 @@ invariant_of-self c =
             c.requires.not_before).placed;
         marked = w.hier.marked;
       };
+      foretold = w.foretold;
     }
 
 pub returns-clause-leaps : goal.returns-clause-leaps

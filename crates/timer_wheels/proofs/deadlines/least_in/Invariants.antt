@@ -1,5 +1,0 @@
-use Rattle.timer_wheels.proofs.DeadlineLemmas.{IsSeeking}
-use Rattle.timer_wheels.proofs.deadlines.least_in.Given as goal
-
-abbrev pub invariant-loop-step : goal.invariant-loop-step
-invariant-loop-step l = IsSeeking l.list l.step l.links.lists l.at l.least

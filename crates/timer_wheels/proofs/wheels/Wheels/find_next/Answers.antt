@@ -1,0 +1,22 @@
+use Rattle.std.proofs.Common.{◌≡◌, ◌<◌, arith}
+use Rattle.timer_links.specs.Lists.{list_at}
+use Rattle.timer_wheels.specs.BucketLists.{timers_in}
+use Rattle.timer_wheels.specs.Digits.{lowest_radix}
+use Rattle.timer_wheels.specs.Tables.{radices}
+use Rattle.timer_wheels.proofs.DeadlineLemmas.{none_is_next, first_is_next, visit_is_next}
+use Rattle.timer_wheels.proofs.wheels.Wheels.find_next.Goals as goal
+
+pub returns-in_default-clause-first : goal.returns-in_default-clause-first
+returns-in_default-clause-first c = none_is_next c.args.self.now.table c.args.self.now.buckets c.args.self.now.occupied c.args.self.now.hier c.in_default.ensures
+
+pub returns-then-list-lowest_slots-clause-first : goal.returns-then-list-lowest_slots-clause-first
+returns-then-list-lowest_slots-clause-first c =
+    let e : c.lowest_slots.result ≡ lowest_radix (radices c.args.self.now.table) = c.lowest_slots.ensures.value in
+    let k : c.in-Some.list < c.lowest_slots.result = c.if-list-lowest_slots.true in
+    visit_is_next c.args.self.now.table c.args.self.now.buckets c.args.self.now.occupied c.args.self.now.hier c.in-Some.list c.in-Some.ensures c.visit_of.result
+    c.visit_of.ensures (omega arith)
+
+pub returns-clause-first : goal.returns-clause-first
+returns-clause-first c = first_is_next c.args.self.now.table c.args.self.now.buckets c.args.self.now.occupied c.args.self.now.hier c.in-Some.list
+    c.in-Some.ensures c.known.result (c.known.ensures (timers_in (list_at c.in-Some.list c.args.self.now.buckets.links.lists))
+    c.first_of-first.ensures)

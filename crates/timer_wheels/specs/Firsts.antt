@@ -1,0 +1,52 @@
+-- The first deadline of each bucket above the lowest wheel.
+use Rattle.std.specs.Prelude.{◌≡◌, ◌≢◌, ◌<◌, ◌≤◌, ℕ, List, [], ◌∷◌, ◌++◌, length, slice_index_or}
+use Rattle.std.specs.Coded.{Π_prop}
+use Rattle.std.proofs.Props.{props}
+use Rattle.timer_base.specs.declared.timer.Timer.{Timer}
+use Rattle.timer_links.specs.Lists.{list_at, KeyedLists}
+use Rattle.timer_wheels.specs.BucketLists.{timers_in}
+use Rattle.timer_wheels.specs.declared.first.First.{First}
+use Rattle.timer_wheels.specs.FirstDeadline.{IsFirstOf, IsFirstOf-prop}
+
+-- that of list s
+abbrev pub first_at : ℕ → List First → First
+first_at s firsts = slice_index_or firsts s (record { bound = 0; count = 0 })
+
+-- but for one list, all are as they were
+pub record ChangesOne (l : ℕ) (old new : List First) : Type 0 where
+  pub size : length new ≡ length old
+  pub others : (s : ℕ) → s ≢ l → first_at s new ≡ first_at s old
+
+-- a timer with this deadline came to the back of a list, of which one is kept if it is not below `lowest`
+pub record Enters (lowest l deadline : ℕ) (old new : List First) : Type 0 where
+  pub one : ChangesOne l old new
+  pub here : lowest ≤ l → (ts : List Timer) (t : Timer) → t.deadline ≡ deadline → IsFirstOf (first_at l old) ts
+      → IsFirstOf (first_at l new) (ts ++ t ∷ [])
+
+-- a timer with this deadline left the list
+pub record Leaves (lowest l deadline : ℕ) (old new : List First) : Type 0 where
+  pub one : ChangesOne l old new
+  pub here : lowest ≤ l → (front rest : List Timer) (t : Timer) → t.deadline ≡ deadline
+      → IsFirstOf (first_at l old) (front ++ t ∷ rest) → IsFirstOf (first_at l new) (front ++ rest)
+
+-- the list was emptied
+pub record Empties (l : ℕ) (old new : List First) : Type 0 where
+  pub one : ChangesOne l old new
+  pub here : IsFirstOf (first_at l new) []
+
+-- there is one for each of n lists, and from `lowest` on each is that of the timers in its list
+pub record AreFirsts (lowest n : ℕ) (firsts : List First) (lists : KeyedLists) : Type 0 where
+  pub size : length firsts ≡ n
+  pub each : (s : ℕ) → lowest ≤ s → s < n → IsFirstOf (first_at s firsts) (timers_in (list_at s lists))
+
+-- the same but for that of one list
+pub record AreFirstsBut (l lowest n : ℕ) (firsts : List First) (lists : KeyedLists) : Type 0 where
+  pub size : length firsts ≡ n
+  pub each : (s : ℕ) → lowest ≤ s → s < n → s ≢ l → IsFirstOf (first_at s firsts) (timers_in (list_at s lists))
+
+pub AreFirsts-prop : (lowest n : ℕ) (firsts : List First) (lists : KeyedLists) → IsProp (AreFirsts lowest n firsts lists)
+AreFirsts-prop lowest n firsts lists = hlevel (
+  props,
+  Π_prop (λ (s : ℕ). Π_prop (λ (a : lowest ≤ s). Π_prop (λ (b : s < n). IsFirstOf-prop (first_at s firsts)
+      (timers_in (list_at s lists))))),
+)

@@ -1,0 +1,106 @@
+//! The first deadline of each bucket above the lowest wheel of a hierarchy.
+//!
+//! A timer that comes to such a bucket is counted there if no other is earlier, and is no longer counted once it
+//! leaves (`first`). A slot of the lowest wheel is one tick, which is the deadline of all its timers: nothing is
+//! kept of it. A tick changes that of the bucket that it empties and of the buckets that its timers move to.
+ghost use Rattle.std.specs.Prelude.{◌≡◌, ◌<◌, ◌≤◌, [], ℕ, IfOk, length};
+ghost use Rattle.timer_wheels.specs.Digits.{lowest_radix};
+ghost use Rattle.timer_wheels.specs.FirstDeadline.{IsFirstOf};
+ghost use Rattle.timer_wheels.specs.Firsts.{first_at, ChangesOne, Enters, Leaves, Empties};
+ghost use Rattle.timer_wheels.specs.Tables.{radices};
+
+use crate::digits::lowest_slots;
+use crate::first::First;
+use crate::table::Table;
+use std::alloc::Global;
+use std::marker::Model;
+use timer_base::OutOfMemory;
+
+/// A first deadline for each bucket of a table.
+#[derive(Drop)]
+pub struct Firsts {
+    firsts: Vec<First>,
+}
+
+impl Model for Firsts {
+    ghost use Rattle.std.specs.Prelude.{List};
+    ghost use Rattle.timer_wheels.specs.declared.first.First.{First};
+
+    ghost Value = { List First };
+
+    ghost view = { λ f. f.firsts.items };
+}
+
+impl Firsts {
+    /// Those of so many empty buckets.
+    pub fn new(alloc: Global, buckets: usize) -> Result<Firsts, OutOfMemory>
+        ensures size { IfOk result (λ firsts. length firsts ≡ buckets) }
+        ensures none { IfOk result (λ firsts. (s : ℕ) → s < buckets → IsFirstOf (first_at s firsts) []) }
+    {
+        Ok(Firsts {
+            firsts: vec![in alloc; First::none(); buckets]?,
+        })
+    }
+
+    /// That of a bucket.
+    #[inline]
+    pub fn at(&self, list: usize) -> First
+        requires { list < length self.now }
+        ensures { result ≡ first_at list self.now }
+    {
+        self.firsts[list]
+    }
+
+    /// Replaces that of a bucket.
+    #[inline]
+    pub fn set(&mut self, list: usize, first: First)
+        requires { list < length self.old }
+        ensures here { first_at list self.new ≡ first }
+        ensures one { ChangesOne list self.old self.new }
+    {
+        self.firsts[list] = first;
+    }
+
+    /// A timer with this deadline comes to the back of a bucket.
+    #[inline]
+    pub fn enter(&mut self, table: Table, list: usize, deadline: u64)
+        requires list { list < length self.old }
+        requires few { lowest_radix (radices table) ≤ list
+            → (first_at list self.old).count < 18446744073709551615 }
+        ensures { Enters (lowest_radix (radices table)) list deadline self.old self.new }
+    {
+        if list >= lowest_slots(table) {
+            self.firsts[list].enter(deadline);
+        }
+    }
+
+    /// A timer with this deadline leaves a bucket, wherever it stands there.
+    #[inline]
+    pub fn leave(&mut self, table: Table, list: usize, deadline: u64)
+        requires list { list < length self.old }
+        requires counted { lowest_radix (radices table) ≤ list → (first_at list self.old).bound ≡ deadline
+            → 0 < (first_at list self.old).count }
+        ensures { Leaves (lowest_radix (radices table)) list deadline self.old self.new }
+    {
+        if list >= lowest_slots(table) {
+            self.firsts[list].leave(deadline);
+        }
+    }
+
+    /// A bucket was emptied.
+    #[inline]
+    pub fn empty(&mut self, list: usize)
+        requires { list < length self.old }
+        ensures { Empties list self.old self.new }
+    {
+        self.set(list, First::none());
+    }
+
+    /// All buckets were emptied.
+    pub fn clear(&mut self)
+        ensures size { length self.new ≡ length self.old }
+        ensures none { (s : ℕ) → s < length self.old → IsFirstOf (first_at s self.new) [] }
+    {
+        self.firsts.fill(First::none());
+    }
+}
