@@ -32,3 +32,4 @@ pub mod WakeUpLemmas
 pub mod SlotLaws
 pub mod DeadlineLemmas
 pub mod IterationLemmas
+pub mod ExactWakeUps

@@ -17,3 +17,4 @@ pub mod Tables
 pub mod HierWheel
 pub mod Deadlines
 pub mod HeldPlaces
+pub mod WakeUps
