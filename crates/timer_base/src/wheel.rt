@@ -16,11 +16,11 @@
 //! and T. Lauck, "Hashed and Hierarchical Timing Wheels" (SOSP 1987), are `start` (START_TIMER),
 //! `stop` (STOP_TIMER), `per_tick` (PER_TICK_BOOKKEEPING) and `expire` (the timers that their
 //! EXPIRY_PROCESSING is for).
-ghost use Rattle.std.specs.Prelude.{◌≡◌, ◌<◌, ◌≤◌, ◌-◌, ◌↔◌, [], length, IsTrue, IfOk, OnOk, OnErr, MatchOption};
+ghost use Rattle.std.specs.Prelude.{◌≡◌, ◌<◌, ◌≤◌, ◌-◌, ◌↔◌, ℕ, List, [], Option, length, IsTrue, IfOk, OnOk, OnErr, MatchOption};
 ghost use Rattle.timer_base.specs.declared.limits.TheConstants.{LAST};
 ghost use Rattle.timer_base.specs.Names.{NamesOne};
 ghost use Rattle.timer_base.specs.Order.{AreBelow};
-ghost use Rattle.timer_base.specs.Pending.{timers_of};
+ghost use Rattle.timer_base.specs.Pending.{Entry, timers_of};
 ghost use Rattle.timer_base.specs.WakeUps.{IsQuietUntil, next_deadline};
 ghost use Rattle.timer_base.specs.WheelState.{WheelState, IsWellFormed, timer_at, first_due, after_start, after_reserve, held_count, after_stop, after_tick, after_expiry, after_clear, after_restart, old_timer, after_made_due, due_at, after_withdrawal, after_revival, Advances};
 
@@ -31,6 +31,10 @@ use crate::timer::{Handle, Timer};
 pub trait Wheel {
     /// The abstract state of the wheel, however it keeps its timers.
     ghost state: { Self → WheelState };
+
+    /// The tick that `quiet_until` returns, from the number of slots, the present tick and the pending timers:
+    /// each wheel says which it is.
+    ghost wake_up: { ℕ → ℕ → List Entry → Option ℕ };
 
     /// The last tick of the wheel's clock: constant, and at most `LAST`.
     fn last_tick(&self) -> u64
@@ -153,9 +157,10 @@ pub trait Wheel {
     ///
     /// It is after the present tick and at most the first pending deadline, so an owner sleeps until
     /// then, calls `advance`, and calls this again. A wheel may wake its owner before the first deadline
-    /// rather than search for it. Does not allocate.
+    /// rather than search for it: `wake_up` is exactly when. Does not allocate.
     fn quiet_until(&self) -> Option<u64>
-        ensures { IsQuietUntil result (state self.now) };
+        ensures quiet { IsQuietUntil result (state self.now) }
+        ensures exact { result ≡ wake_up (state self.now).slots (state self.now).now (state self.now).pending };
 
     /// Returns the first pending deadline, or None exactly when nothing is pending.
     ///

@@ -7,11 +7,11 @@ use Rattle.timer_base.specs.declared.timer.Handle as base
 use Rattle.timer_base.specs.WakeUps.{IsWakeUp, next_deadline}
 use Rattle.timer_base.specs.WheelState.{WheelState, empty_wheel, after_start, after_tick}
 use Rattle.timer_wheels.specs.declared.table.Table.TheVariants.{Wide, Clock}
-use Rattle.timer_wheels.specs.Leap.{IsNextVisit}
-use Rattle.timer_wheels.specs.Tables.{radices, slots_of_table}
+use Rattle.timer_wheels.specs.Tables.{slots_of_table}
 use Rattle.timer_wheels.specs.HeldPlaces.{AreBefore, AreElsewhere}
-use Rattle.timer_wheels.specs.HierWheel.{WheelCounts, counts_of, hier_state, table_of}
+use Rattle.timer_wheels.specs.HierWheel.{WheelCounts, counts_of, hier_state}
 use Rattle.timer_wheels.specs.declared.hier.HierWheel.{HierWheel}
+use Rattle.timer_wheels.specs.WakeUps.{next_visit, radices_by_slots}
 use Rattle.timer_wheels.specs.declared.table.TheConstants.{LAST_OF_CLOCK}
 use Rattle.timer_total.specs.Deadlines.{interval_until, after_start_at, after_start_due}
 use Rattle.timer_total.specs.Refusals.{next_timer, left_until, held_at, after_removal, IsStartable, IsRoomUsed, IsAt}
@@ -196,20 +196,14 @@ IsSeen handle w out = told (held_at (base_handle handle) w) ≡ Some out
 abbrev pub after_expiries : ℕ → WheelState → WheelState
 after_expiries count w = record w { due = drop count w.due }
 
--- the first tick ahead at which a timer of a wheel in this state expires or moves to a lower wheel. There is one
--- such tick for each state, since that has the number of slots, by which the table is known.
-pub record IsVisitOf (tick : ℕ) (w : WheelState) : Type 0 where
-  pub wheel : HierWheel
-  pub held : numbered w.last_serial (hier_state wheel) ≡ w
-  pub next : IsNextVisit (radices (table_of wheel)) tick (hier_state wheel)
-
 -- the tick until which the caller may sleep: now if an expired timer waits, else the first at which one expires or
 -- moves to a lower wheel, before which nothing expires
 abbrev pub IsNextCall : ℕ → WheelState → Type 0
 IsNextCall tick w =
     ((tick ≡ w.now) × (0 < length w.due))
     ⊎ ((tick ≡ NEVER) × (w.due ≡ []) × (w.pending ≡ []))
-    ⊎ ((w.due ≡ []) × IsWakeUp tick w × IsVisitOf tick w)
+    ⊎ ((w.due ≡ []) × IsWakeUp tick w
+    × (next_visit (radices_by_slots w.slots) w.now w.pending ≡ Some tick))
 
 -- the deadline of the timer that is taken next: now if an expired one waits, else the first pending one
 abbrev pub IsNextDeadline : ℕ → WheelState → Type 0

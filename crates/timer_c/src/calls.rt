@@ -307,7 +307,7 @@ pub(crate) fn wakeup(timers: &Timers<HierWheel>) -> u64
     if timers.has_due() {
         return timers.now();
     }
-    match timers.wheel().quiet_until() {
+    match timers.quiet_until() {
         Some(tick) => tick,
         None => NEVER,
     }

@@ -2,7 +2,9 @@
 use Rattle.std.specs.Prelude.{ℕ, ◌≡◌, ◌≢◌, ◌<◌, ◌≤◌, ◌⊎◌, ◌==◌, true, false, List, [], ◌∷◌, length, get_or, map, Ok, Err, Some, None, Result, IfOk, if◌then◌else◌}
 use Rattle.timer_base.specs.declared.limits.TheConstants.{LAST}
 use Rattle.timer_base.specs.WakeUps.{next_deadline}
+use Rattle.timer_wheels.specs.declared.table.Table.TheVariants.{Wide, Clock}
 use Rattle.timer_wheels.specs.declared.table.TheConstants.{LAST_OF_CLOCK}
+use Rattle.timer_wheels.specs.Tables.{slots_of_table}
 use Rattle.timer_facility.specs.declared.config.Config as facility
 use Rattle.timer_facility.specs.declared.request.TickFault.{TickFault}
 use Rattle.timer_facility.specs.declared.request.CloseFault.{CloseFault}
@@ -43,6 +45,10 @@ config_of clients c = record {
 -- the last tick of the clock with this table
 abbrev pub last_of : ℕ → ℕ
 last_of table = if table == WIDE then LAST else LAST_OF_CLOCK
+
+-- how many slots the wheels with this table have
+abbrev pub slots_of : ℕ → ℕ
+slots_of table = if table == WIDE then slots_of_table Wide else slots_of_table Clock
 
 -- there is such a table, and it has the first tick
 abbrev pub HasTable : DeskConfig → Type 0
@@ -102,7 +108,7 @@ pub record IsOneHeld (lines : List CLine) : Type 0 where
 
 -- a new desk of this configuration over these lines
 abbrev pub IsNewDesk : ℕ → DeskConfig → DeskState → Type 0
-IsNewDesk clients c d = (d ≡ opened_desk (opened (config_of clients c) (last_of c.table)) d.inlets c.room)
+IsNewDesk clients c d = (d ≡ opened_desk (opened (config_of clients c) (last_of c.table) (slots_of c.table)) d.inlets c.room)
     × (clients_of d ≡ clients)
 
 -- a new desk, and its lines at C

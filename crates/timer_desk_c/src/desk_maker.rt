@@ -3,8 +3,8 @@ ghost use Rattle.std.specs.Prelude.{◌≡◌, ◌<◌, ◌≤◌, ◌⊎◌, []
 ghost use Rattle.timer_facility.specs.Facility.{with_nothing_waiting};
 ghost use Rattle.timer_facility.specs.Opened.{opened};
 ghost use Rattle.timer_desk.specs.Desk.{clients_of};
-ghost use Rattle.timer_wheels.specs.Tables.{last_of_table};
-ghost use Rattle.timer_desk_c.specs.Desks.{config_of, last_of, IsFit, AreNewLines, IsNewDesk, WhyNotMade};
+ghost use Rattle.timer_wheels.specs.Tables.{last_of_table, slots_of_table};
+ghost use Rattle.timer_desk_c.specs.Desks.{config_of, last_of, slots_of, IsFit, AreNewLines, IsNewDesk, WhyNotMade};
 ghost use Rattle.timer_desk_c.specs.declared.status.TheConstants.{CLOCK};
 
 use crate::layout::DeskConfig;
@@ -99,7 +99,8 @@ fn last_of(table: u32) -> u64
 
 /// The table with this number.
 fn table_of(number: u32) -> Table
-    ensures { last_of_table result ≡ last_of number }
+    ensures last { last_of_table result ≡ last_of number }
+    ensures slots { slots_of_table result ≡ slots_of number }
 {
     if number == WIDE {
         Table::Wide
@@ -115,7 +116,8 @@ fn new_facility(
     table: u32,
 ) -> Result<Facility<HierWheel>, OutOfMemory>
     requires { checked.first_serial ≡ 1 }
-    ensures { IfOk result (λ f. f ≡ with_nothing_waiting (opened checked (last_of table))) }
+    ensures { IfOk result (λ f. f ≡ with_nothing_waiting (opened checked (last_of table)
+        (slots_of table))) }
 {
     let config = checked.config();
     let Ok(wheel) = HierWheel::with_table(alloc, table_of(table), config.first_tick) else {

@@ -223,11 +223,12 @@ take-replicate zero k x h = refl
 take-replicate (suc n) zero x h = absurd (omega arith)
 take-replicate (suc n) (suc k) x h = ap (λ xs. x ∷ xs) (take-replicate n k x (omega arith))
 
-opened_is : (capacity last next : ℕ) (now now' : ℕ) (pending pending' : List Entry) (numbers numbers' : List ℕ) (xs ys : List Notice)
+opened_is : (capacity last slots next : ℕ) (now now' : ℕ) (pending pending' : List Entry) (numbers numbers' : List ℕ) (xs ys : List Notice)
     → now ≡ now' → pending ≡ pending' → numbers ≡ numbers' → xs ≡ ys
     → let s : FacilityState = record {
       capacity = capacity;
       last = last;
+      slots = slots;
       now = now;
       next_serial = next;
       pending = pending;
@@ -238,6 +239,7 @@ opened_is : (capacity last next : ℕ) (now now' : ℕ) (pending pending' : List
     let s' : FacilityState = record {
       capacity = capacity;
       last = last;
+      slots = slots;
       now = now';
       next_serial = next;
       pending = pending';
@@ -247,7 +249,7 @@ opened_is : (capacity last next : ℕ) (now now' : ℕ) (pending pending' : List
     } in
     let a : FacilityView = record { state = s; waiting = xs } in
     let b : FacilityView = record { state = s'; waiting = ys } in a ≡ b
-opened_is capacity last next now now' pending pending' numbers numbers' xs ys e f g h = cc
+opened_is capacity last slots next now now' pending pending' numbers numbers' xs ys e f g h = cc
 
 -- the parts that a facility is opened with
 abbrev pub first_parts : Wheels.WheelState → Config → List Timer → Parts
@@ -266,9 +268,9 @@ first_parts w c returned = record {
 
 pub view-open : (w : Wheels.WheelState) (c : Config) (returned : List Timer) → w.pending ≡ [] → w.due ≡ [] → w.now ≡ c.first_tick
     → c.clients ≤ 64 → returned ≡ []
-    → view_of (first_parts w c returned) ≡ with_nothing_waiting (opened c w.last_tick)
+    → view_of (first_parts w c returned) ≡ with_nothing_waiting (opened c w.last_tick w.slots)
 view-open w c returned p d n few r =
-    opened_is c.capacity w.last_tick c.first_serial w.now c.first_tick w.pending [] (take c.clients (replicate 64 c.first_number))
+    opened_is c.capacity w.last_tick w.slots c.first_serial w.now c.first_tick w.pending [] (take c.clients (replicate 64 c.first_number))
     (replicate c.clients c.first_number)
     (map (λ t. Expired t) (timers_of w.due) ++ map (λ t. Returned t) (drop 0 returned)) [] n p
     (take-replicate c.clients 64 c.first_number few)

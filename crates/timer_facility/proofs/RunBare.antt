@@ -91,6 +91,7 @@ after_start-bare : (v : Option Reason) (place : ℕ) (t : Timer) (s : FacilitySt
 after_start-bare None place t s = ap (λ es. record s {
   pending = es;
   next_serial = s.next_serial + 1;
+  slots = 0;
   has_room = false;
 }) (put-bare (record { place = place; timer = t }) s.pending)
 after_start-bare (Some reason) place t s = refl
@@ -100,7 +101,7 @@ answer_to_stop-bare None = refl
 answer_to_stop-bare (Some t) = refl
 
 after_stop-bare : (found : Option Timer) (s : FacilityState) → bare_state (after_stop found s) ≡ after_stop found (bare_state s)
-after_stop-bare found s = ap (λ es. record s { pending = es; has_room = false }) (without_found-bare found s.pending)
+after_stop-bare found s = ap (λ es. record s { slots = 0; pending = es; has_room = false }) (without_found-bare found s.pending)
 
 answer_to_restart-bare : (found : Option Timer) (v : Option Reason) (place : ℕ) (t : Timer)
     → bare_answer (answer_to_restart found v place t) ≡ answer_to_restart found v 0 t
@@ -155,7 +156,7 @@ tick-bare s (Some fault) = (refl, refl)
 tick-bare s None = (
   notices-bare (λ t. Expired t) (filter (is_due_at (s.now + 1)) (timers_of s.pending))
       ∙ ap (λ ts. map (λ t. Outs.Notice (Expired t)) (filter (is_due_at (s.now + 1)) ts)) (sym (timers_of-bare s.pending)),
-  ap (λ es. record s { now = s.now + 1; pending = es; has_room = false }) (filter-bare (λ t. not (is_due_at (s.now + 1) t)) s.pending),
+  ap (λ es. record s { slots = 0; now = s.now + 1; pending = es; has_room = false }) (filter-bare (λ t. not (is_due_at (s.now + 1) t)) s.pending),
 )
 
 close-bare : (s : FacilityState) (b : Bool) → IsBareStep (step_of_close s b) (step_of_close (bare_state s) b)

@@ -60,6 +60,11 @@ quiet_ticks tick (suc n) s a h =
     let rest : notices (history st.state (ticks n)) ≡ [] = quiet_ticks tick n st.state q.from q.before in
     notices_in-append st.outs (outs_of (history st.state (ticks n))) ∙ ap (λ ns. ns ++ notices (history st.state (ticks n))) q.none ∙ rest
 
+-- the exact wake-up of a wheel, over the state of its facility
+pub exact_until : {p : Parts} {v : FacilityView} → AreParts p → view_of p ≡ v → (wake_up : ℕ → ℕ → List Entry → Option ℕ) (result : Option ℕ)
+    → result ≡ wake_up p.wheel.slots p.wheel.now p.wheel.pending → result ≡ wake_up v.state.slots v.state.now v.state.pending
+exact_until {p} {v} a e wake_up result h = h ∙ ap (λ (u : FacilityView). wake_up u.state.slots u.state.now u.state.pending) e
+
 -- a wheel's wake-up is its facility's
 pub quiet_until_is : {p : Parts} {v : FacilityView} → AreParts p → view_of p ≡ v → (result : Option ℕ) → Wheels.IsQuietUntil result p.wheel
     → IsQuietUntil result v.state

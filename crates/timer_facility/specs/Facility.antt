@@ -102,6 +102,7 @@ view_of p = record {
   state = record {
     capacity = p.capacity;
     last = p.wheel.last_tick;
+    slots = p.wheel.slots;
     now = p.wheel.now;
     next_serial = p.next_serial;
     pending = p.wheel.pending;

@@ -3,11 +3,12 @@ use Rattle.std.specs.Prelude.{ℕ, false, [], replicate}
 use Rattle.timer_facility.specs.declared.config.Config.{Config}
 use Rattle.timer_facility.specs.State.{FacilityState}
 
--- the state of a configuration over a clock with this last tick
-abbrev pub opened : Config → ℕ → FacilityState
-opened config last = record {
+-- the state of a configuration over a clock with this last tick, and a wheel with so many slots
+abbrev pub opened : Config → ℕ → ℕ → FacilityState
+opened config last slots = record {
   capacity = config.capacity;
   last = last;
+  slots = slots;
   now = config.first_tick;
   next_serial = config.first_serial;
   pending = [];

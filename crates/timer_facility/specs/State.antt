@@ -13,6 +13,8 @@ pub record FacilityState : Type 0 where
   pub capacity : ℕ
   -- the last tick of the clock; constant
   pub last : ℕ
+  -- how many slots the wheel has, 0 if it has none; constant
+  pub slots : ℕ
   -- the present tick
   pub now : ℕ
   -- the serial of the next timer

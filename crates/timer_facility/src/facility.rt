@@ -84,7 +84,8 @@ impl<W: Wheel + Drop> Facility<W> {
         requires due { (W.state wheel).due ≡ [] }
         requires now { (W.state wheel).now ≡ checked.first_tick }
         requires serial { (W.state wheel).last_serial < checked.first_serial }
-        ensures { result ≡ with_nothing_waiting (opened checked (W.state wheel).last_tick) }
+        ensures { result ≡ with_nothing_waiting (opened checked (W.state wheel).last_tick
+            (W.state wheel).slots) }
     {
         let config = checked.config();
         Facility {
@@ -130,6 +131,7 @@ impl<W: Wheel + Drop> Facility<W> {
         ensures now { (W.state result.now).now ≡ self.now.state.now }
         ensures pending { (W.state result.now).pending ≡ self.now.state.pending }
         ensures last { (W.state result.now).last_tick ≡ self.now.state.last }
+        ensures slots { (W.state result.now).slots ≡ self.now.state.slots }
     {
         &self.wheel
     }
@@ -285,10 +287,11 @@ impl<W: Wheel + Drop> Facility<W> {
     /// Returns a tick until which nothing is handed out, or None exactly if nothing is pending.
     ///
     /// It is after the present tick and at most the first pending deadline, so an owner sleeps until
-    /// then, calls `ticks`, and calls this again. Timers that wait to be handed out do not count. Does
-    /// not allocate.
+    /// then, calls `ticks`, and calls this again. It is exactly the wheel's `wake_up`. Timers that wait to
+    /// be handed out do not count. Does not allocate.
     pub fn quiet_until(&self) -> Option<u64>
-        ensures { IsQuietUntil result self.now.state }
+        ensures quiet { IsQuietUntil result self.now.state }
+        ensures exact { result ≡ W.wake_up self.now.state.slots self.now.state.now self.now.state.pending }
     {
         self.wheel.quiet_until()
     }

@@ -14,6 +14,8 @@ impl<W: Wheel> Wheel for RefusingWheel<W> {
     // With no room: a start may be refused at any time.
     ghost state = { λ w. with_room 0 (W.state w.wheel) };
 
+    ghost wake_up = { W.wake_up };
+
     fn last_tick(&self) -> u64 {
         self.wheel.last_tick()
     }

@@ -15,12 +15,12 @@ use Rattle.timer_script.specs.declared.line_fault.LineReason.TheVariants.{NoLine
 use Rattle.timer_script.specs.declared.splitter.TheConstants.{MAX_LINE}
 use Rattle.timer_script.specs.Watched.{inner_of, has_failed}
 use Rattle.timer_script.specs.Script.{IsScript, spelling}
-use Rattle.timer_script.specs.Sieve.{Line, IsCut, events_of, number_after, Complaint, bad_of, IsLastBad, complaint_line, complaints, IsHeld, HasSifted}
+use Rattle.timer_script.specs.Sieve.{Line, IsCut, events_of, number_after, number_next, Complaint, bad_among, bad_of, IsLastBad, complaint_line, complaints, IsHeld, HasSifted}
 use Rattle.timer_script.specs.Intake.{Passes, HasReported, AreSoFar, AreFirst, AreAll, HasPassedGood, HasPassed, HasPassedPart, HasEnded, HasSieved, HasTakenBy, HasTakenIn, passed_by, passed_of}
 use Rattle.timer_script.specs.Session.{IsStoppedAt}
 use Rattle.timer_facility.specs.State.{FacilityState}
 use Rattle.timer_script.proofs.ScriptLemmas.{no_bad_line}
-use Rattle.timer_script.proofs.SieveLemmas.{spelling-append, number-append, bad-append, good_script, cut_more}
+use Rattle.timer_script.proofs.SieveLemmas.{spelling-append, number-append, bad-append, among_is, next_is, good_script, cut_more}
 
 -- ---- reports
 
@@ -142,7 +142,8 @@ sieved_more {F} contents w u v held held' number number' clean clean' came fed p
         cut = cut_more came p.lines p.left number piece good said held' number' p.cut h;
         fed_is = ap (λ t. t ++ good) p.fed_is ∙ ap (λ t. spelling (events_of p.lines) ++ t) h.good_is
             ∙ sym (spelling-append p.lines h.lines);
-        are = ap (λ t. t ++ more) p.are ∙ sym (bad-append 1 p.lines h.lines);
+        are = ap (λ t. t ++ more) (p.are ∙ among_is p.lines) ∙ sym (bad-append 1 p.lines h.lines)
+            ∙ sym (among_is (p.lines ++ h.lines));
         reported = subst (λ t. HasReported contents w v t)
             (ap (λ t. complaints p.bad ++ t) said_is ∙ sym (flat_map-append complaint_line p.bad more))
             (reported_join contents w u v (complaints p.bad) said p.reported reports);
@@ -169,7 +170,7 @@ sieved_last {F} contents w u v held number clean clean' came fed said k says rep
       fed_is = p.fed_is;
       are = (
         more,
-        subst (λ m. IsLastBad m p.left more) k.counted is_last,
+        subst (λ m. IsLastBad m p.left more) (k.counted ∙ sym (next_is p.lines)) is_last,
         ap (λ t. t ++ more) p.are,
         clean_more clean clean' p.bad more said said_is k.clean_is both,
       );
@@ -197,12 +198,12 @@ passed_as contents w v came fed p = record {
   cut = p.cut;
   fed_is = p.fed_is;
   are =
-      let (last, is_last) = some_last (number_after 1 p.lines) p.left in (
+      let (last, is_last) = some_last (number_next p.lines) p.left in (
         last,
         is_last,
         length p.bad,
-        p.are ∙ sym (take-append_seam (bad_of 1 p.lines) last)
-            ∙ ap (λ t. take (length t) (bad_of 1 p.lines ++ last)) (sym p.are),
+        p.are ∙ sym (take-append_seam (bad_among p.lines) last)
+            ∙ ap (λ t. take (length t) (bad_among p.lines ++ last)) (sym p.are),
       );
   reported = p.reported;
 }
@@ -288,8 +289,8 @@ ended_first contents w v Report clean came fed h = record {
     h.are.0,
     h.are.1,
     length h.bad,
-    h.are.2 ∙ sym (take_length (bad_of 1 h.lines ++ h.are.0))
-        ∙ ap (λ t. take (length t) (bad_of 1 h.lines ++ h.are.0)) (sym h.are.2),
+    h.are.2 ∙ sym (take_length (bad_among h.lines ++ h.are.0))
+        ∙ ap (λ t. take (length t) (bad_among h.lines ++ h.are.0)) (sym h.are.2),
   );
   reported = h.reported;
 }

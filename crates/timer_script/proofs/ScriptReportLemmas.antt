@@ -1,11 +1,14 @@
 -- Bytes are cut into lines, and the report grows line by line.
 use Rattle.std.proofs.Common.{◌≡◌, ◌==◌, ◌+◌, ◌-◌, ◌<◌, ◌≤◌, ◌⊎◌, inl, inr, Bool, true, false, if◌then◌else◌, ℕ, List, [], ◌∷◌, ◌++◌, length, get_or, take, drop, Option, Some, None, refl, sym, ap, subst, ◌∙◌, arith, append_assoc, append-nil, take-append-drop, eqb-true, eq-eqb, ne_eqb}
+use Rattle.std.specs.List.{flat_map, enumerate_from, count_by}
+use Rattle.std.specs.Prelude.{cond}
+use Rattle.std.proofs.lemmas.List.Sums.{sum_by-cons}
 use Rattle.std.proofs.lemmas.Bool.{both_ways, cases_lt}
 use Rattle.std.proofs.lemmas.List.{nil_from_length, length-drop, take_rest}
 use Rattle.timer_script.specs.declared.line_fault.LineFault.{LineFault}
 use Rattle.timer_script.specs.Splitter.{HasNoFeed}
 use Rattle.timer_script.specs.Diagnosis.{IsVerdict}
-use Rattle.timer_script.specs.ScriptReport.{push_front, cut_lines, AreVerdicts, fault_line, report_from, bad_lines, IsReport}
+use Rattle.timer_script.specs.ScriptReport.{push_front, cut_lines, AreVerdicts, fault_line, verdict_line, is_bad, IsReport}
 use Rattle.timer_script.proofs.SplitterLemmas.{no_feed-take, feed-take}
 
 -- ---- one line
@@ -58,6 +61,22 @@ cut_at bytes n some within free whole =
 
 -- ---- the report
 
+-- the report of the lines from the n-th on
+abbrev pub report_from : ℕ → List (Option LineFault) → List ℕ
+report_from n verdicts = flat_map (λ numbered. verdict_line numbered.0 numbered.1) (enumerate_from n verdicts)
+
+-- how many of them are bad
+abbrev pub bad_lines : List (Option LineFault) → ℕ
+bad_lines verdicts = count_by is_bad verdicts
+
+pub bad-good : (rest : List (Option LineFault)) → bad_lines (None ∷ rest) ≡ bad_lines rest
+bad-good rest =
+    let e : bad_lines (None ∷ rest) ≡ 0 + bad_lines rest = sum_by-cons (λ x. cond (is_bad x) 1 0) None rest in omega arith
+
+pub bad-bad : (fault : LineFault) (rest : List (Option LineFault)) → bad_lines (Some fault ∷ rest) ≡ bad_lines rest + 1
+bad-bad fault rest =
+    let e : bad_lines (Some fault ∷ rest) ≡ 1 + bad_lines rest = sum_by-cons (λ x. cond (is_bad x) 1 0) (Some fault) rest in omega arith
+
 -- the verdicts on all lines, if these are on those that are left
 pub record Leads (script : List ℕ) (others : List (Option LineFault)) (lines bad : ℕ) (text : List ℕ) : Type 0 where
   pub all : List (Option LineFault)
@@ -90,7 +109,7 @@ pub reported_good : (script rest line after : List ℕ) (lines bad : ℕ) (text 
 reported_good script rest line after lines bad text h cut verdict shorter = record {
   leads = λ others right.
       let l = h.leads (None ∷ others) (subst (AreVerdicts (None ∷ others)) (sym cut) (verdict, right)) in
-      record { all = l.all; right = l.right; text_is = l.text_is; counted = l.counted };
+      record { all = l.all; right = l.right; text_is = l.text_is; counted = let k = l.counted in omega (arith, bad-good others) };
   short = let s = h.short in omega arith;
   few = let f = h.few in omega arith;
 }
@@ -109,7 +128,7 @@ reported_bad script rest line after lines bad text new fault h cut verdict short
         right = l.right;
         text_is = ap (λ t. t ++ report_from (lines + 1 + 1) others) joined
             ∙ append_assoc text (fault_line (lines + 1) fault) (report_from (lines + 1 + 1) others) ∙ l.text_is;
-        counted = let k = l.counted in omega arith;
+        counted = let k = l.counted in omega (arith, bad-bad fault others);
       };
   short = let s = h.short in omega arith;
   few = let f = h.few in omega arith;

@@ -1,7 +1,7 @@
 -- The lines of an input, one after another.
-use Rattle.std.proofs.Common.{◌≡◌, lit≤, zero, suc, ℕ, ◌+◌, ◌-◌, ◌<◌, ◌≤◌, List, [], ◌∷◌, ◌++◌, length, get_or, take, drop, Some, None, refl, sym, ap, subst, ◌∙◌, arith, append_assoc, append-nil, length-append, take-append-drop}
+use Rattle.std.proofs.Common.{◌≡◌, lit≤, zero, suc, ℕ, ◌+◌, ◌-◌, ◌^◌, ◌<◌, ◌≤◌, List, [], ◌∷◌, ◌++◌, length, get_or, take, drop, Some, None, refl, sym, ap, subst, ◌∙◌, arith, append_assoc, append-nil, length-append, take-append-drop}
 use Rattle.std.specs.Prelude.{min, Result, Ok, Err, OnOk}
-use Rattle.std.specs.List.{flat_map, AllByRecursion}
+use Rattle.std.specs.List.{flat_map, enumerate_from, AllByRecursion}
 use Rattle.std.proofs.lemmas.Grind.{flat_map-append}
 use Rattle.std.proofs.lemmas.List.{take_rest}
 use Rattle.std.proofs.Math.Seq.{take-add}
@@ -12,7 +12,7 @@ use Rattle.timer_script.specs.Script.{IsInRange, line, spelling, BeginsNoLine}
 use Rattle.timer_script.specs.Lines.{line_at}
 use Rattle.timer_script.specs.Diagnosis.{IsLine, IsFaultOf}
 use Rattle.timer_script.specs.declared.line_fault.LineFault.{LineFault}
-use Rattle.timer_script.specs.Sieve.{Line, Good, Bad, bytes_of, IsGoodOrBad, events_of, number_after_line, number_after, Complaint, bad_of, IsLastBad, IsCut, complaint_line, complaints, IsHeld, HasEndedLine, HasSifted}
+use Rattle.timer_script.specs.Sieve.{Line, Good, Bad, bytes_of, IsGoodOrBad, events_of, number_after_line, number_after, number_next, Complaint, complaint_of, bad_among, bad_of, IsLastBad, IsCut, complaint_line, complaints, IsHeld, HasEndedLine, HasSifted}
 use Rattle.timer_script.proofs.LineLemmas.{line_again, line_sound}
 use Rattle.timer_script.proofs.SplitterLemmas.{IsFed, line_fed, first_feed, no_feed-append, no_feed-take, feed-take}
 
@@ -34,6 +34,35 @@ pub bad-append : (n : ℕ) (xs ys : List Line) → bad_of n (xs ++ ys) ≡ bad_o
 bad-append n [] ys = refl
 bad-append n (Good event ∷ xs) ys = bad-append (number_after_line n) xs ys
 bad-append n (Bad front fault ∷ xs) ys = ap (λ t. (n, fault) ∷ t) (bad-append (number_after_line n) xs ys)
+
+-- the lines of an input one after another are reported as all of them are
+
+same_complaint : (k m : ℕ) (fault : LineFault) (xs ys : List Complaint) → k ≡ m → xs ≡ ys → (k, fault) ∷ xs ≡ (m, fault) ∷ ys
+same_complaint k m fault xs ys e h = cc
+
+among_from : (n m : ℕ) (xs : List Line) → min n (2 ^ 64 - 1) ≡ m
+    → flat_map (λ numbered. complaint_of numbered.0 numbered.1) (enumerate_from n xs) ≡ bad_of m xs
+among_from n m [] e = refl
+among_from n m (Good event ∷ xs) e =
+    among_from (n + 1) (number_after_line m) xs (let h : min (n + 1) (2 ^ 64 - 1) ≡ min (m + 1) (2 ^ 64 - 1) = omega arith in h)
+among_from n m (Bad front fault ∷ xs) e =
+    let h : min (n + 1) (2 ^ 64 - 1) ≡ min (m + 1) (2 ^ 64 - 1) = omega arith in
+    same_complaint (min n (2 ^ 64 - 1)) m fault
+    (flat_map (λ numbered. complaint_of numbered.0 numbered.1) (enumerate_from (n + 1) xs)) (bad_of (number_after_line m) xs) e
+    (among_from (n + 1) (number_after_line m) xs h)
+
+next_from : (n m : ℕ) (xs : List Line) → min n (2 ^ 64 - 1) ≡ m → min (length xs + n) (2 ^ 64 - 1) ≡ number_after m xs
+next_from n m [] e = omega arith
+next_from n m (x ∷ xs) e =
+    let h : min (n + 1) (2 ^ 64 - 1) ≡ min (m + 1) (2 ^ 64 - 1) = omega arith in
+    let k : length (x ∷ xs) + n ≡ length xs + (n + 1) = omega arith in
+    ap (λ j. min j (2 ^ 64 - 1)) k ∙ next_from (n + 1) (number_after_line m) xs h
+
+pub among_is : (xs : List Line) → bad_among xs ≡ bad_of 1 xs
+among_is xs = among_from 1 1 xs (omega arith)
+
+pub next_is : (xs : List Line) → number_next xs ≡ number_after 1 xs
+next_is xs = next_from 1 1 xs (omega arith)
 
 complaints-append : (n : ℕ) (xs ys : List Line) → complaints (bad_of n (xs ++ ys))
     ≡ complaints (bad_of n xs) ++ complaints (bad_of (number_after n xs) ys)

@@ -7,7 +7,7 @@ use Rattle.timer_script.specs.declared.intake.Intake.{Intake}
 use Rattle.timer_script.specs.declared.watched.Watched.{Watched}
 use Rattle.timer_script.specs.Watched.{inner_of, has_failed}
 use Rattle.timer_script.specs.Script.{spelling}
-use Rattle.timer_script.specs.Sieve.{Line, IsCut, events_of, number_after, Complaint, bad_of, IsLastBad, complaints, IsHeld}
+use Rattle.timer_script.specs.Sieve.{Line, IsCut, events_of, number_after, number_next, Complaint, bad_among, IsLastBad, complaints, IsHeld}
 
 -- these bytes came, and those passed
 abbrev pub Passes : OnBadLine → (came fed : List ℕ) → Type 0
@@ -31,17 +31,17 @@ BadLines = List Line → List ℕ → List Complaint → Type 0
 
 -- the bad lines that ended
 abbrev pub AreSoFar : BadLines
-AreSoFar lines left bad = bad ≡ bad_of 1 lines
+AreSoFar lines left bad = bad ≡ bad_among lines
 
 -- the first of all bad lines
 abbrev pub AreFirst : BadLines
-AreFirst lines left bad = (last : List Complaint) × IsLastBad (number_after 1 lines) left last
-    × (j : ℕ) × (bad ≡ take j (bad_of 1 lines ++ last))
+AreFirst lines left bad = (last : List Complaint) × IsLastBad (number_next lines) left last
+    × (j : ℕ) × (bad ≡ take j (bad_among lines ++ last))
 
 -- all of them, and whether there are none
 abbrev pub AreAll : Bool → BadLines
-AreAll clean lines left bad = (last : List Complaint) × IsLastBad (number_after 1 lines) left last
-    × (bad ≡ bad_of 1 lines ++ last) × ((clean ≡ true) ↔ (bad ≡ []))
+AreAll clean lines left bad = (last : List Complaint) × IsLastBad (number_next lines) left last
+    × (bad ≡ bad_among lines ++ last) × ((clean ≡ true) ↔ (bad ≡ []))
 
 -- the good lines passed, and of the bad ones these were reported
 pub record HasPassedGood {F : Type 0} (Are : BadLines) (contents : F → Option (List ℕ)) (writer writer' : Watched F)

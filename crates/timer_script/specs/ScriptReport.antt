@@ -1,6 +1,7 @@
 -- The report of a script: one line for each of its bad lines.
-use Rattle.std.specs.Prelude.{◌≡◌, ◌==◌, ℕ, ◌+◌, ◌<◌, ◌≤◌, true, false, if◌then◌else◌, List, [], ◌∷◌, ◌++◌, length, take, Option, None, Some, Result, Ok, Err, codes, decimal}
+use Rattle.std.specs.Prelude.{◌≡◌, ◌==◌, ℕ, ◌+◌, ◌<◌, ◌≤◌, Bool, true, false, if◌then◌else◌, List, [], ◌∷◌, ◌++◌, length, take, Option, None, Some, Result, Ok, Err, codes, decimal}
 use Rattle.std.specs.Io.KnownBytes.{Appends}
+use Rattle.std.specs.List.{flat_map, enumerate_from, count_by}
 use Rattle.timer_script.specs.declared.line_fault.Field.{Field}
 use Rattle.timer_script.specs.declared.line_fault.LineFault.{LineFault}
 use Rattle.timer_script.specs.declared.input.TheConstants.{MAX_BYTES}
@@ -41,24 +42,23 @@ fault_line n fault =
     ++ of_field fault.field
     ++ reason_words fault.reason ++ codes "\n"
 
--- the report of the lines from the n-th on: one line for each fault, and nothing for a good line
-abbrev pub report_from : ℕ → List (Option LineFault) → List ℕ
-report_from n [] = []
-report_from n (None ∷ rest) = report_from (n + 1) rest
-report_from n (Some fault ∷ rest) = fault_line n fault ++ report_from (n + 1) rest
+-- what is reported of a line under its number, by the verdict on it: nothing of a good one
+abbrev pub verdict_line : ℕ → Option LineFault → List ℕ
+verdict_line n None = []
+verdict_line n (Some fault) = fault_line n fault
 
--- how many lines are bad
-abbrev pub bad_lines : List (Option LineFault) → ℕ
-bad_lines [] = 0
-bad_lines (None ∷ rest) = bad_lines rest
-bad_lines (Some fault ∷ rest) = bad_lines rest + 1
+-- the line is bad
+abbrev pub is_bad : Option LineFault → Bool
+is_bad None = false
+is_bad (Some fault) = true
 
 -- the text reports each bad line of the bytes, in order, and `bad` is their number
 pub record IsReport (bytes text : List ℕ) (bad : ℕ) : Type 0 where
   pub verdicts : List (Option LineFault)
   pub right : AreVerdicts verdicts (cut_lines bytes)
-  pub text_is : text ≡ report_from 1 verdicts
-  pub counted : bad ≡ bad_lines verdicts
+  -- the lines are numbered from 1
+  pub text_is : text ≡ flat_map (λ numbered. verdict_line numbered.0 numbered.1) (enumerate_from 1 verdicts)
+  pub counted : bad ≡ count_by is_bad verdicts
 
 -- the reader was read to its end, its bytes are within the limit, and this reports their bad lines
 pub record IsReported (old new : Option (List ℕ)) (text : List ℕ) (bad : ℕ) : Type 0 where

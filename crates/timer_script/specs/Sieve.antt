@@ -1,6 +1,6 @@
 -- The lines of an input, good and bad.
-use Rattle.std.specs.Prelude.{◌≡◌, ℕ, ◌+◌, ◌-◌, ◌^◌, List, [], ◌∷◌, ◌++◌, take, min, codes}
-use Rattle.std.specs.List.{flat_map, AllByRecursion}
+use Rattle.std.specs.Prelude.{◌≡◌, ℕ, ◌+◌, ◌-◌, ◌^◌, List, [], ◌∷◌, ◌++◌, length, take, min, codes}
+use Rattle.std.specs.List.{flat_map, enumerate_from, AllByRecursion}
 use Rattle.timer_facility.specs.declared.event.Event.{Event}
 use Rattle.timer_script.specs.declared.line_fault.LineFault.{LineFault}
 use Rattle.timer_script.specs.declared.splitter.TheConstants.{MAX_LINE}
@@ -40,20 +40,35 @@ events_of (Bad front fault ∷ lines) = events_of lines
 abbrev pub number_after_line : ℕ → ℕ
 number_after_line n = min (n + 1) (2 ^ 64 - 1)
 
--- the number of the line after these, of which the first is the n-th
-abbrev pub number_after : ℕ → List Line → ℕ
-number_after n [] = n
-number_after n (line ∷ lines) = number_after (number_after_line n) lines
-
 -- what is reported of a bad line: its number, and what is wrong with it
 abbrev pub Complaint : Type 0
 Complaint = ℕ × LineFault
 
--- what is reported of the bad ones of these lines, of which the first is the n-th
+-- what is reported of a line under this number, of which 2^64 - 1 stands for any later one: nothing of a good one
+abbrev pub complaint_of : ℕ → Line → List Complaint
+complaint_of n (Good event) = []
+complaint_of n (Bad front fault) = (min n (2 ^ 64 - 1), fault) ∷ []
+
+-- what is reported of the lines of an input, each under its number, counted from 1
+abbrev pub bad_among : List Line → List Complaint
+bad_among lines = flat_map (λ numbered. complaint_of numbered.0 numbered.1) (enumerate_from 1 lines)
+
+-- the number of the line after those of an input
+abbrev pub number_next : List Line → ℕ
+number_next lines = min (length lines + 1) (2 ^ 64 - 1)
+
+-- The same, line by line: what a piece of the input adds, of whose lines the first is the n-th.
+
+-- what is reported of the bad ones
 abbrev pub bad_of : ℕ → List Line → List Complaint
 bad_of n [] = []
 bad_of n (Good event ∷ lines) = bad_of (number_after_line n) lines
 bad_of n (Bad front fault ∷ lines) = (n, fault) ∷ bad_of (number_after_line n) lines
+
+-- the number of the line after them
+abbrev pub number_after : ℕ → List Line → ℕ
+number_after n [] = n
+number_after n (line ∷ lines) = number_after (number_after_line n) lines
 
 -- the bytes are these lines and the front of one more
 pub record IsCut (bytes : List ℕ) (lines : List Line) (left : List ℕ) : Type 0 where

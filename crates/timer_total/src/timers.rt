@@ -79,9 +79,10 @@ impl<W: Wheel + Drop> Timers<W> {
     }
 
     /// A tick until which nothing expires, or None exactly if nothing is pending. It is after the
-    /// present tick and at most the first pending deadline.
+    /// present tick and at most the first pending deadline, and exactly the wheel's `wake_up`.
     pub fn quiet_until(&self) -> Option<u64>
-        ensures { IsQuietUntil result self.now }
+        ensures quiet { IsQuietUntil result self.now }
+        ensures exact { result ≡ W.wake_up self.now.slots self.now.now self.now.pending }
     {
         self.wheel.quiet_until()
     }

@@ -8,33 +8,35 @@ use Rattle.std.proofs.lemmas.Nat.{le-div}
 use Rattle.timer_base.specs.declared.timer.Timer.{Timer}
 use Rattle.timer_base.specs.Order.{insert_in_order, is_before}
 use Rattle.timer_base.specs.OrderLaws.{either, All-weaken}
-use Rattle.timer_base.specs.Pending.{Entry, timer_of}
+use Rattle.timer_base.specs.Pending.{Entry, timer_of, timers_of}
 use Rattle.timer_base.specs.PlainState.{earliest}
 use Rattle.timer_base.specs.WakeUps.{next_deadline}
 use Rattle.timer_base.specs.WheelState.{IsPending}
 use Rattle.timer_links.specs.declared.node.Node.{Node}
 use Rattle.timer_links.specs.Lists.{first_key, list_at, node_at, AreApart, KeyedLists}
 use Rattle.timer_wheels.specs.BucketLists.{timer_in, timers_in, entry_of, pending_in, rows_below}
-use Rattle.timer_wheels.specs.Buckets.{state_of}
+use Rattle.timer_wheels.specs.Buckets.{state_of, state_of-well_formed}
 use Rattle.timer_wheels.specs.Deadlines.{HasDeadline, IsLeast, IsLeastDeadline}
 use Rattle.timer_wheels.specs.declared.first.First.{First}
 use Rattle.timer_wheels.specs.FirstDeadline.{deadline_count, IsFirstOf, IsKnownOf}
 use Rattle.timer_wheels.specs.declared.buckets.Buckets.{Buckets}
 use Rattle.timer_wheels.specs.declared.table.Table.{Table}
-use Rattle.timer_wheels.specs.Digits.{IsTable, bucket, slots, lowest_radix}
+use Rattle.timer_wheels.specs.Digits.{IsTable, HasDigits, bucket, slots, lowest_radix}
 use Rattle.timer_wheels.specs.Hier.{IsHier}
-use Rattle.timer_wheels.specs.Leap.{list_visit}
+use Rattle.timer_wheels.specs.Leap.{list_visit, timer_visit}
 use Rattle.timer_wheels.specs.Occupied.{IsFirstSet}
 use Rattle.timer_wheels.specs.Placement.{IsPlaced}
 use Rattle.timer_wheels.specs.Tables.{radices}
+use Rattle.timer_wheels.specs.WakeUps.{next_visit}
 use Rattle.timer_wheels.proofs.FirstLemmas.{count-few, not_before-both, not_before-less}
 use Rattle.timer_wheels.proofs.FirstsLemmas.{length-timers}
 use Rattle.timer_wheels.proofs.ClockDigits.{bucket_near, bucket_far, visit_here}
-use Rattle.timer_wheels.proofs.HierLeaps.{first_in, filled_some}
+use Rattle.timer_wheels.proofs.DigitLaws.{digits_down}
+use Rattle.timer_wheels.proofs.HierLeaps.{first_in, filled_some, last_digits}
 use Rattle.timer_wheels.proofs.OccupiedLemmas.{no_rows_there}
 use Rattle.timer_wheels.proofs.RowLemmas.{all-list_at, all-rows_below, append-nil, timers-append, around, rows_below-more, rows_below-none}
 use Rattle.timer_wheels.proofs.TableLaws.{of_table}
-use Rattle.timer_wheels.proofs.VisitLaws.{less_quotient}
+use Rattle.timer_wheels.proofs.VisitLaws.{less_quotient, list_is}
 use Rattle.timer_wheels.proofs.WalkLemmas.{IsWalking, IsNextRow, begun, next_row, found, walked, same_node}
 
 -- The least deadline of two lists together.
@@ -383,3 +385,43 @@ module _ (t : Table) (b : Buckets) (words : List ℕ) (h : IsHier t b words) (l 
       lowest_visit (radices t) b.tick (timer_in row).deadline l (of_table t).is_table (of_table t).more_wheels w.later w.placed k
       in sym (e ∙ x))
       (standing l first_below)))
+
+  -- The visit of the first bucket with a timer is that of the first pending timer.
+
+  first_deadline_is : (d : ℕ) (es : List Entry) → Some d ≡ next_deadline es
+      → AllByRecursion (IsPending b.last_tick b.tick b.last_serial) (timers_of es)
+      → (d ≤ b.last_tick) × (Some (timer_visit (radices t) b.tick d) ≡ next_visit (radices t) b.tick es)
+  first_deadline_is d [] e a = absurd (cc)
+  first_deadline_is d (x ∷ xs) e a =
+      let f : d ≡ x.timer.deadline = cc in
+      let r : x.timer.deadline ≤ b.last_tick = a.0.in_range in
+      (omega arith, ap (λ (k : ℕ). Some (timer_visit (radices t) b.tick k)) f)
+
+  visit_by : (o : Option ℕ) (visit : ℕ) → visit ≡ list_visit (radices t) l b.tick
+      → IsLeastDeadline o (timers_in (list_at l b.links.lists)) → Some visit ≡ next_visit (radices t) b.tick (state_of b).pending
+  visit_by None visit e m = absurd (some_rows (list_at l b.links.lists) some_there m)
+  visit_by (Some d) visit e m =
+      let u = deadline_in d (λ (u : Timer). (b.tick < u.deadline)
+      × (bucket (radices t) b.tick u.deadline ≡ l)) (timers_in (list_at l b.links.lists))
+      (timers_standing (radices t) b.tick l (list_at l b.links.lists) (standing l first_below)) m.has in
+      let same : u.0.deadline ≡ d = u.2 in
+      let later : b.tick < u.0.deadline = u.1.0 in
+      let here : bucket (radices t) b.tick d ≡ l = ap (λ (k : ℕ). bucket (radices t) b.tick k) (sym same) ∙ u.1.1 in
+      let first = first_deadline_is d (state_of b).pending (least_of_first d m) (state_of-well_formed b).each in
+      let digits : HasDigits (radices t) d =
+      digits_down (radices t) d b.last_tick (of_table t).is_table first.0 (last_digits t b words h) in
+      let is : list_visit (radices t) (bucket (radices t) b.tick d) b.tick ≡ timer_visit (radices t) b.tick d =
+      list_is (radices t) b.tick d (of_table t).is_table digits (omega arith) in
+      let at : visit ≡ timer_visit (radices t) b.tick d = e ∙ (ap (λ (k : ℕ). list_visit (radices t) k b.tick) (sym here) ∙ is) in
+      ap Some at ∙ first.1
+
+  pub visit_is_first : (visit : ℕ) → visit ≡ list_visit (radices t) l b.tick
+      → Some visit ≡ next_visit (radices t) b.tick (state_of b).pending
+  visit_is_first visit e = visit_by (next_deadline (pending_in (list_at l b.links.lists))) visit e (next_is_least (list_at l b.links.lists))
+
+no_visit : (table : List ℕ) (now : ℕ) (es : List Entry) → es ≡ [] → None ≡ next_visit table now es
+no_visit table now es e = ap (next_visit table now) (sym e)
+
+-- and none is visited if no bit is set
+pub none_visited : (t : Table) (b : Buckets) → (state_of b).pending ≡ [] → None ≡ next_visit (radices t) b.tick (state_of b).pending
+none_visited t b e = no_visit (radices t) b.tick (state_of b).pending e

@@ -37,7 +37,7 @@ pub remainder_is : (n q r x : ℕ) → r < n → x ≡ n * q + r → x % n ≡ r
 remainder_is n q r x h e = let f : x ≡ q * n + r = omega arith in ap (λ (y : ℕ). y % n) f ∙ mod-mul-add q n r h
 
 -- the slot some steps after that of a tick is another one, unless there are none
-no_step : (n t r : ℕ) → r < n → (t + r) % n ≡ t % n → r ≡ 0
+pub no_step : (n t r : ℕ) → r < n → (t + r) % n ≡ t % n → r ≡ 0
 no_step n t r h e = elim (cases_lt (t % n + r) n) [
   | inl k ↦ (let a : (t + r) % n ≡ t % n + r = remainder_is n (t / n) (t % n + r) (t + r) k (omega arith) in omega arith)
   | inr k ↦ (
@@ -46,7 +46,7 @@ no_step n t r h e = elim (cases_lt (t % n + r) n) [
       omega arith)
 ]
 
-same_slot : (n now d q r : ℕ) → IsDistance n now d q r → d % n ≡ (now + 1 + r) % n
+pub same_slot : (n now d q r : ℕ) → IsDistance n now d q r → d % n ≡ (now + 1 + r) % n
 same_slot n now d q r h =
     let e : d ≡ (now + 1 + r) + n * q = (let i : d ≡ now + 1 + (n * q + r) = h.is in omega arith) in
     ap (λ (y : ℕ). y % n) e ∙ add-mul-mod_self_left (now + 1 + r) n q

@@ -34,3 +34,4 @@ pub mod WakeUpLemmas
 pub mod SlotLaws
 pub mod DeadlineLemmas
 pub mod IterationLemmas
+pub mod ExactWakeUps

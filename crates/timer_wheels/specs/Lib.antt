@@ -19,3 +19,4 @@ pub mod Deadlines
 pub mod FirstDeadline
 pub mod Firsts
 pub mod HeldPlaces
+pub mod WakeUps

@@ -25,6 +25,7 @@ ghost use Rattle.timer_base.specs.Pending.{timers_of};
 ghost use Rattle.timer_base.specs.WakeUps.{IsQuietUntil};
 ghost use Rattle.timer_base.specs.WheelState.{empty_wheel, first_due, timer_at, after_start, after_reserve, held_count, after_stop, after_tick, after_expiry, after_clear, after_restart, after_made_due, after_withdrawal, after_revival, due_at, old_timer, Advances};
 ghost use Rattle.timer_wheels.specs.Hashed.{slot_of, rounds_of, IsHashed, AreInBuckets, AreInBuckets-prop, IsNextSweep};
+ghost use Rattle.timer_wheels.specs.WakeUps.{earliest_sweep};
 
 use crate::buckets::Buckets;
 use crate::deadlines::first_of_all;
@@ -139,6 +140,8 @@ impl Wheel for HashedWheel {
 
     ghost state = { λ wheel. hashed_state wheel };
 
+    ghost wake_up = { λ slots now pending. earliest_sweep slots now pending };
+
     ghost well_formed = { λ wheel. state_of-well_formed wheel.buckets };
 
     fn last_tick(&self) -> u64 {
@@ -214,6 +217,8 @@ impl Wheel for HashedWheel {
     fn quiet_until(&self) -> Option<u64>
         ensures next { IfSome result (λ tick. IsNextSweep (slots_of self.now) tick (hashed_state self.now)) }
         ensures quiet { IsQuietUntil result (hashed_state self.now) }
+        ensures exact { result ≡ earliest_sweep (hashed_state self.now).slots (hashed_state self.now).now
+            (hashed_state self.now).pending }
     {
         next_sweep(&self.buckets, self.slot)
     }

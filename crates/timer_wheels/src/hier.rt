@@ -60,6 +60,7 @@ ghost use Rattle.timer_wheels.specs.Tables.{radices, last_of_table, slots_of_tab
 ghost use Rattle.timer_wheels.specs.declared.table.Table.TheVariants.{Wide};
 ghost use Rattle.timer_wheels.specs.HeldPlaces.{IsFirstHeld};
 ghost use Rattle.timer_wheels.specs.Placement.{ShowsWheels, IsPaid, most_moves};
+ghost use Rattle.timer_wheels.specs.WakeUps.{next_visit, radices_by_slots};
 
 use crate::digits::last_tick_of;
 use crate::iteration::held_from;
@@ -228,6 +229,8 @@ impl Wheel for HierWheel {
 
     ghost state = { λ wheel. hier_state wheel };
 
+    ghost wake_up = { λ slots now pending. next_visit (radices_by_slots slots) now pending };
+
     fn last_tick(&self) -> u64 {
         self.wheels.buckets.last_tick
     }
@@ -354,6 +357,8 @@ impl Wheel for HierWheel {
         ensures next { IfSome result (λ tick. IsNextVisit (radices (table_of self.now)) tick
             (hier_state self.now)) }
         ensures quiet { IsQuietUntil result (hier_state self.now) }
+        ensures exact { result ≡ next_visit (radices_by_slots (hier_state self.now).slots)
+            (hier_state self.now).now (hier_state self.now).pending }
     {
         self.wheels.first_visit()
     }

@@ -15,6 +15,7 @@ ghost use Rattle.timer_wheels.specs.Placement.{visited_between, most_moves};
 ghost use Rattle.timer_wheels.specs.Buckets.{state_of};
 ghost use Rattle.timer_wheels.specs.Hier.{potential};
 ghost use Rattle.timer_wheels.specs.Leap.{AreNotVisitedBefore, IsVisitBound, IsNextVisit, Leaps};
+ghost use Rattle.timer_wheels.specs.WakeUps.{next_visit};
 
 use crate::digits::{is_rollover, revolutions, visit_of};
 use crate::table::Table;
@@ -89,6 +90,8 @@ impl Wheels {
             (state_of self.now.buckets)) }
         ensures not_before { IsVisitBound (radices self.now.table) self.now.buckets.slots
             self.now.buckets.tick result self.now.buckets.links.lists }
+        ensures exact { result ≡ next_visit (radices self.now.table) self.now.buckets.tick
+            (state_of self.now.buckets).pending }
     {
         match self.occupied.first() {
             Some(list) => Some(visit_of(self.table, list, self.buckets.tick)),

@@ -3,6 +3,7 @@ use Rattle.timer_wheels.specs.Digits.{last_of}
 use Rattle.timer_wheels.specs.Tables.{radices}
 use Rattle.timer_wheels.proofs.HierLeaps.{none_ahead, first_ahead, first_in_range, first_wakes, none_wakes}
 use Rattle.timer_wheels.proofs.NextVisitLemmas.{first_next}
+use Rattle.timer_wheels.proofs.DeadlineLemmas.{visit_is_first, none_visited}
 use Rattle.timer_wheels.proofs.wheels.Wheels.first_visit.Goals as goal
 
 pub visit_of-requires-clause-list : goal.visit_of-requires-clause-list
@@ -34,3 +35,11 @@ returns-in-None-clause-quiet c = none_wakes c.args.self.now.table c.args.self.no
 pub returns-in-None-clause-not_before : goal.returns-in-None-clause-not_before
 returns-in-None-clause-not_before c = λ visit. none_ahead c.args.self.now.table c.args.self.now.buckets c.args.self.now.occupied c.args.self.now.hier visit
     c.in-None.ensures
+
+pub returns-in-Some-clause-exact : goal.returns-in-Some-clause-exact
+returns-in-Some-clause-exact c = visit_is_first c.args.self.now.table c.args.self.now.buckets c.args.self.now.occupied c.args.self.now.hier c.in-Some.list
+    c.in-Some.ensures c.visit_of.result c.visit_of.ensures
+
+pub returns-in-None-clause-exact : goal.returns-in-None-clause-exact
+returns-in-None-clause-exact c = none_visited c.args.self.now.table c.args.self.now.buckets
+    (none_wakes c.args.self.now.table c.args.self.now.buckets c.args.self.now.occupied c.args.self.now.hier c.in-None.ensures)

@@ -1,0 +1,27 @@
+-- Exactly when the owner of a wheel wakes up: at the next tick that visits or sweeps a slot with a pending timer.
+use Rattle.std.specs.Prelude.{ℕ, ◌+◌, ◌-◌, ◌%◌, ◌==◌, if◌then◌else◌, List, [], ◌∷◌, Option, Some, None}
+use Rattle.timer_base.specs.Pending.{Entry}
+use Rattle.timer_base.specs.PlainState.{earliest}
+use Rattle.timer_wheels.specs.declared.table.Table.TheVariants.{Wide, Clock}
+use Rattle.timer_wheels.specs.Leap.{timer_visit}
+use Rattle.timer_wheels.specs.Tables.{radices, slots_of_table}
+
+-- the radices of the table with this many slots
+abbrev pub radices_by_slots : ℕ → List ℕ
+radices_by_slots slots = if slots == slots_of_table Wide then radices Wide else radices Clock
+
+-- the next tick at which a hierarchy visits a bucket with a pending timer: that of the first timer's bucket, since
+-- no later deadline has an earlier visit
+abbrev pub next_visit : List ℕ → ℕ → List Entry → Option ℕ
+next_visit table now [] = None
+next_visit table now (entry ∷ entries) = Some (timer_visit table now entry.timer.deadline)
+
+-- the next tick that sweeps the slot of this deadline, one of n slots: at most n ticks ahead
+abbrev pub sweep_of : ℕ → ℕ → ℕ → ℕ
+sweep_of n now deadline = now + 1 + (deadline - now - 1) % n
+
+-- the earliest of the next sweeps of these timers' slots
+abbrev pub earliest_sweep : ℕ → ℕ → List Entry → Option ℕ
+earliest_sweep n now [] = None
+earliest_sweep n now (entry ∷ entries) = earliest (Some (sweep_of n now entry.timer.deadline))
+    (earliest_sweep n now entries)
