@@ -2,6 +2,7 @@
 ghost use Rattle.std.specs.Prelude.{◌≡◌, ◌≤◌, [], false, IfOk};
 ghost use Rattle.timer_desk.specs.Ring.{line_of_end, line_of_inlet, submitted, received_by_end, next_of, free_of, got_of, given_of, is_settled, free_of_inlet};
 
+use crate::looks::Looks;
 use crate::ring::{ClientEnd, RingInlet};
 use rtrb::RingBuffer;
 use std::alloc::Global;
@@ -31,11 +32,13 @@ pub fn ring_line(
         requests: requests_in,
         words: words_out,
         next: first_number,
+        looks: Looks::new(),
     };
     let inlet = RingInlet {
         requests: requests_out,
         words: words_in,
         settled: false,
+        looks: Looks::new(),
     };
     Ok((end, inlet))
 }
