@@ -120,9 +120,12 @@ impl<W: Wheel + Drop, I: Inlet + Drop> Desk<W, I> {
 
     /// Advances the clock by one tick, and pushes each notice to the back of its client's outbox. Does
     /// not allocate.
+    ///
+    /// A refusal changes nothing.
     pub fn tick(&mut self) -> Result<(), TickFault>
-        ensures { let report = Done.Ticked result ∷ map Done.Noticed (tick_notices self.old.facility) in
+        ensures told { let report = Done.Ticked result ∷ map Done.Noticed (tick_notices self.old.facility) in
             ReportHolds I.kind report self.old self.new }
+        ensures err { OnErr result (self.new ≡ self.old) }
     {
         what_is_handed_out_was_pending();
         let result = self.facility.tick();
@@ -133,11 +136,12 @@ impl<W: Wheel + Drop, I: Inlet + Drop> Desk<W, I> {
     /// Closes the facility, pushes each notice to the back of its client's outbox, and returns how many
     /// timers are returned.
     ///
-    /// After `OutOfMemory`, which a closed facility never returns, nothing has changed.
+    /// A refusal changes nothing: after `OutOfMemory`, which a closed facility never returns, it may be repeated.
     pub fn close(&mut self) -> Result<u64, CloseFault>
-        ensures { let report = Done.Closed result ∷ map Done.Noticed (close_notices self.old.facility result)
+        ensures told { let report = Done.Closed result ∷ map Done.Noticed (close_notices self.old.facility result)
             in
             ReportHolds I.kind report self.old self.new }
+        ensures err { OnErr result (self.new ≡ self.old) }
     {
         what_is_handed_out_was_pending();
         let result = self.facility.close();

@@ -31,7 +31,7 @@ pub struct Looks {
 }
 
 impl Looks {
-    ghost use Rattle.std.specs.Prelude.{◌≡◌, ◌==◌, ◌↔◌, ◌≢◌, true, length};
+    ghost use Rattle.std.specs.Prelude.{◌≡◌, ◌==◌, ◌↔◌, ◌≢◌, [], true, length};
     ghost use Rattle.rtrb.specs.Ring.{ConsumerLooked, ProducerLooked, known_items};
     ghost use Rattle.timer_desk.specs.Looks.{found_in, found_after, MayFind};
 
@@ -58,8 +58,20 @@ impl Looks {
         matches!(self.found, Found::GoneThenEmpty)
     }
 
+    /// Looks whether the end that pushes is gone, and then whether an item stands in the ring. Returns whether none
+    /// comes any more.
+    pub fn none_comes<T>(&mut self, items: &mut Consumer<T>) -> bool
+        ensures order { result ≡ true ↔ (found_in self.new ≡ Found.GoneThenEmpty) }
+        ensures yes { result ≡ true → (known_items items.old ≡ []) × (known_items items.new ≡ []) }
+        ensures looked { ConsumerLooked items.old items.new }
+    {
+        self.at_producer(items);
+        self.at_items(items);
+        self.is_over()
+    }
+
     /// Looks whether the end that pushes is gone. An end that was seen to be gone is not looked at again.
-    pub fn at_producer<T>(&mut self, items: &mut Consumer<T>)
+    fn at_producer<T>(&mut self, items: &mut Consumer<T>)
         ensures found { MayFind (found_in self.old) (found_in self.new) }
         ensures looked { ConsumerLooked items.old items.new }
     {

@@ -135,9 +135,7 @@ impl ClientEnd {
         ensures sent { (submitted self.new ≡ submitted self.old)
             × (next_of self.new ≡ next_of self.old) × (free_of self.new ≡ free_of self.old) }
     {
-        self.looks.at_producer(&mut self.words);
-        self.looks.at_items(&mut self.words);
-        self.looks.is_over()
+        self.looks.none_comes(&mut self.words)
     }
 
     /// Ends the client's requests. The first result is None only if the owner's end was dropped.
@@ -372,9 +370,7 @@ impl ClientReader {
         if self.settled {
             return false;
         }
-        self.looks.at_producer(&mut self.words);
-        self.looks.at_items(&mut self.words);
-        self.looks.is_over()
+        self.looks.none_comes(&mut self.words)
     }
 
     /// Whether the line is settled and all words that stood in it were received.

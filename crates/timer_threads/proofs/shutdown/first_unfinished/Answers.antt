@@ -3,7 +3,7 @@ use Rattle.std.specs.Prelude.{IfSome}
 use Rattle.timer_desk.specs.Desk.{AllIdle}
 use Rattle.timer_desk.specs.Shutdown.{AllGot}
 use Rattle.timer_threads.specs.Threads.{AllRead}
-use Rattle.timer_threads.proofs.EndedLines.{read_out}
+use Rattle.timer_threads.proofs.EndedLines.{read_out, first_to_read}
 use Rattle.timer_threads.proofs.shutdown.first_unfinished.Goals as goal
 
 pub returns-in-Ok-clause-none : goal.returns-in-Ok-clause-none
