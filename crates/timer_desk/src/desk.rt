@@ -1,12 +1,12 @@
 //! The owner's desk: one facility, and for each client its line and its backlog.
-ghost use Rattle.std.specs.Prelude.{◌≡◌, ◌<◌, ◌≤◌, ◌+◌, ◌⊎◌, ◌++◌, [], ◌∷◌, length, get_or, true, map, IfOk, IfErr, OnErr, replicate, vec_len, vec_capacity, ℕ};
+ghost use Rattle.std.specs.Prelude.{◌≡◌, ◌<◌, ◌≤◌, ◌+◌, ◌⊎◌, ◌++◌, [], ◌∷◌, length, get_or, true, map, IfOk, IfErr, OnErr, replicate, slice_set, vec_len, vec_capacity, ℕ};
 ghost use Rattle.timer_facility.specs.State.{FacilityState, IsSound};
 ghost use Rattle.timer_facility.specs.Facility.{with_nothing_waiting};
 ghost use Rattle.timer_desk.specs.Forward.{RanOutOfMemory};
 ghost use Rattle.timer_desk.specs.Backlog.{BacklogState, empty_backlog, HasRoom};
 ghost use Rattle.timer_desk.specs.Report.{HeldIsLast};
 ghost use Rattle.timer_desk.specs.Flush.{Flushes};
-ghost use Rattle.timer_desk.specs.Desk.{DeskState, opened_desk, clients_of, backlog_at, AllIdle, account_at, TakesNothing, ReportHolds, tick_notices, close_notices};
+ghost use Rattle.timer_desk.specs.Desk.{DeskState, opened_desk, clients_of, backlog_at, IsIdle, AllIdle, account_at, TakesNothing, ReportHolds, tick_notices, close_notices};
 
 use crate::backlog::Backlog;
 use crate::dispatch::hand_out;
@@ -15,6 +15,7 @@ use crate::report::{Done, Served};
 use crate::word::Numbered;
 use std::alloc::{AllocError, Global};
 use std::marker::Model;
+use std::mem;
 use timer_base::Wheel;
 use timer_facility::laws::what_is_handed_out_was_pending;
 use timer_facility::{CloseFault, Facility, TickFault};
@@ -147,6 +148,17 @@ impl<W: Wheel + Drop, I: Inlet + Drop> Desk<W, I> {
         let result = self.facility.close();
         hand_out(&mut self.facility, &mut self.backlogs);
         result
+    }
+
+    /// Gives client c another line, and returns the one that it had. Nothing may be held of the client, and its
+    /// outbox must be empty. Its timers stay pending, and its request numbers go on. Does not allocate.
+    pub fn replace_line(&mut self, c: usize, inlet: I) -> I
+        requires client { c < clients_of self.old }
+        requires idle { IsIdle (backlog_at self.old c) }
+        ensures desk { self.new ≡ record self.old { inlets = slice_set self.old.inlets c inlet } }
+        ensures old { (i : I) → result ≡ get_or self.old.inlets c i }
+    {
+        mem::replace(&mut self.inlets[c], inlet)
     }
 
     /// Gives back the facility and the lines, unchanged. Nothing may be held, and all outboxes must be empty.

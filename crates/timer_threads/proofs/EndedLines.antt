@@ -14,7 +14,7 @@ use Rattle.timer_desk.specs.declared.driver.DriveEnd.TheVariants as DriveEnds
 use Rattle.timer_threads.specs.declared.fault.ThreadsFault.{ThreadsFault}
 use Rattle.timer_threads.specs.declared.outcome.Worked.{Worked}
 use Rattle.timer_threads.specs.Results.{has_failed, NoneFailed, AllEnded, IsFirstFailed, lower_of, AreUnzipped}
-use Rattle.timer_threads.specs.Threads.{AreOfLines, AllRead, NoneUnread, IsFirstWithWords, IsFirstToRead, IsServed, AllServed, IsWoundUp, IsUnfinished, IsFirstClient, IsFirstFault, drive_fault}
+use Rattle.timer_threads.specs.Threads.{AreOfLines, AllRead, NoneUnread, AreSettled, IsFirstWithWords, IsFirstToRead, IsServed, AllServed, IsWoundUp, IsUnfinished, IsFirstClient, IsFirstFault, drive_fault}
 use Rattle.timer_threads.proofs.ResultsLemmas.{unzipped_lengths, unzipped_at, ended_at, reader_at, all_ended}
 
 pub ends_of : (inlets : List RingInlet) (ws : List Worked) (es : List RequestsEnded) (rs : List ClientReader) → AreUnzipped ws es rs
@@ -110,6 +110,18 @@ read_out inlets before after told long none c i r l =
     let x = told c i r l in
     let left : unread_by (get_or after c r) ≡ [] = none c r (omega (arith, l, long)) in
     sym x.read ∙ sym (append-nil (read_by (get_or after c r))) ∙ ap (λ us. read_by (get_or after c r) ++ us) (sym left) ∙ x.all
+
+-- readers that were read out are settled
+pub are_settled : (inlets : List RingInlet) (before after : List ClientReader) → AllReadOut inlets before after
+    → length after ≡ length inlets → AreSettled after
+are_settled inlets before after told long c r l = (told c (some_inlet inlets c low) r low).settled
+  where
+    low : c < length inlets
+    low = omega (arith, l, long)
+
+    some_inlet : (ys : List RingInlet) → (j : ℕ) → j < length ys → RingInlet
+    some_inlet [] j h = absurd (omega arith)
+    some_inlet (y ∷ ys) j h = y
 
 -- of settled readers the first for which a word is left is the first that had not read all that was given
 pub first_to_read : (desk : DeskState RingInlet) (ended : List RequestsEnded) (before after : List ClientReader) (c : ℕ)
