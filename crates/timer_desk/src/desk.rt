@@ -1,6 +1,6 @@
 //! The owner's desk: one facility, and for each client its line and its backlog.
-ghost use Rattle.std.specs.Prelude.{◌≡◌, ◌<◌, ◌≤◌, ◌+◌, ◌⊎◌, ◌++◌, [], ◌∷◌, length, get_or, true, map, IfOk, IfErr, OnErr, replicate, slice_set, vec_len, vec_capacity, ℕ};
-ghost use Rattle.timer_facility.specs.State.{FacilityState, IsSound};
+ghost use Rattle.std.specs.Prelude.{◌≡◌, ◌<◌, ◌≤◌, ◌+◌, ◌⊎◌, ◌++◌, [], ◌∷◌, length, get_or, true, map, IfOk, IfErr, OnOk, OnErr, replicate, slice_set, vec_len, vec_capacity, ℕ};
+ghost use Rattle.timer_facility.specs.State.{FacilityState, IsSound, with_room};
 ghost use Rattle.timer_facility.specs.Facility.{with_nothing_waiting};
 ghost use Rattle.timer_desk.specs.Forward.{RanOutOfMemory};
 ghost use Rattle.timer_desk.specs.Backlog.{BacklogState, empty_backlog, HasRoom};
@@ -16,7 +16,7 @@ use crate::word::Numbered;
 use std::alloc::{AllocError, Global};
 use std::marker::Model;
 use std::mem;
-use timer_base::Wheel;
+use timer_base::{OutOfMemory, Wheel};
 use timer_facility::laws::what_is_handed_out_was_pending;
 use timer_facility::{CloseFault, Facility, TickFault};
 
@@ -71,6 +71,15 @@ impl<W: Wheel + Drop, I: Inlet + Drop> Desk<W, I> {
         ensures { result ≡ clients_of self.now }
     {
         self.inlets.len()
+    }
+
+    /// Makes room for as many timers as the facility may hold, as `Facility::reserve` does. The only error is out of
+    /// memory, and then nothing changes. After it no serve over lines that don't allocate runs out of memory.
+    pub fn reserve(&mut self) -> Result<(), OutOfMemory>
+        ensures ok { OnOk result (self.new ≡ record self.old { facility = with_room self.old.facility }) }
+        ensures err { OnErr result (self.new ≡ self.old) }
+    {
+        self.facility.reserve()
     }
 
     /// The number of words in the outbox of client c. Does not allocate.
