@@ -281,6 +281,7 @@ impl RingInlet {
     pub fn is_over(&mut self) -> bool
         ensures looked { HasLooked self.old self.new }
         ensures order { result ≡ true ↔ (found_by_inlet self.new ≡ Found.GoneThenEmpty) }
+        ensures stays { found_by_inlet self.old ≢ Found.Nothing → found_by_inlet self.new ≢ Found.Nothing }
         ensures yes { result ≡ true → (seen_by_inlet self.old ≡ []) × (seen_by_inlet self.new ≡ []) }
     {
         self.looks.at_consumer(&mut self.words);

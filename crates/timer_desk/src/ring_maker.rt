@@ -15,7 +15,7 @@ pub fn ring_line(
     first_number: u64,
 ) -> Result<(ClientEnd, RingInlet), OutOfMemory>
     requires capacity { (1 ≤ capacity) × (capacity ≤ 65536) }
-    requires first { (1 ≤ first_number) × (first_number ≤ LAST) }
+    requires first { first_number ≤ LAST }
     ensures line { IfOk result (λ r. line_of_end r.0 ≡ line_of_inlet r.1) }
     ensures end { IfOk result (λ r. (submitted r.0 ≡ []) × (received_by_end r.0 ≡ [])
         × (next_of r.0 ≡ first_number)) }

@@ -1,6 +1,6 @@
 //! A desk over ring lines settles a line whose client has finished: its requests, and its words. It drops the words
 //! to a client that is gone.
-ghost use Rattle.std.specs.Prelude.{◌≡◌, ◌<◌, ◌↔◌, ◌++◌, ◌≢◌, [], ℕ, true, length, get_or};
+ghost use Rattle.std.specs.Prelude.{◌≡◌, ◌+◌, ◌<◌, ◌↔◌, ◌++◌, ◌≢◌, [], ℕ, true, length, get_or};
 ghost use Rattle.timer_desk.specs.Backlog.{BacklogState};
 ghost use Rattle.timer_desk.specs.Desk.{clients_of, backlog_at};
 ghost use Rattle.timer_desk.specs.Ring.{line_of_inlet, got_of, standing_of, given_of, is_settled, seen_by_inlet, found_by_inlet, requests_ring_of, all_submitted, words_ring_of_reader, read_by, unread_by, is_settled_reader};
@@ -66,6 +66,8 @@ impl<W: Wheel + Drop> Desk<W, RingInlet> {
             (get_or self.new.inlets c i) }
         ensures order { (i : RingInlet) → result ≡ true ↔ (found_by_inlet (get_or self.new.inlets c i)
             ≡ Found.GoneThenEmpty) }
+        ensures stays { (i : RingInlet) → found_by_inlet (get_or self.old.inlets c i) ≢ Found.Nothing
+            → found_by_inlet (get_or self.new.inlets c i) ≢ Found.Nothing }
         ensures yes { (i : RingInlet) → result ≡ true → seen_by_inlet (get_or self.new.inlets c i) ≡ [] }
     {
         self.inlets[c].is_over()
@@ -85,12 +87,14 @@ impl<W: Wheel + Drop> Desk<W, RingInlet> {
             → get_or self.new.backlogs k b ≡ get_or self.old.backlogs k b }
         ensures as_many { length self.new.backlogs ≡ length self.old.backlogs }
 
+        ensures count { result + length (backlog_at self.new c).outbox
+            ≡ length (backlog_at self.old c).outbox }
+
         // All of them if the client was seen to be gone, and none otherwise.
         ensures gone { (i : RingInlet) → found_by_inlet (get_or self.new.inlets c i) ≢ Found.Nothing
-            → (result ≡ length (backlog_at self.old c).outbox)
-            × (backlog_at self.new c ≡ record (backlog_at self.old c) { outbox = [] }) }
+            → backlog_at self.new c ≡ record (backlog_at self.old c) { outbox = [] } }
         ensures there { (i : RingInlet) → found_by_inlet (get_or self.new.inlets c i) ≡ Found.Nothing
-            → (result ≡ 0) × (backlog_at self.new c ≡ backlog_at self.old c) }
+            → backlog_at self.new c ≡ backlog_at self.old c }
     {
         if !self.inlets[c].is_abandoned() {
             return 0;
