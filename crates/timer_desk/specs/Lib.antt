@@ -4,6 +4,7 @@ pub mod Desk
 pub mod Extends
 pub mod Held
 pub mod Inlet
+pub mod Looks
 pub mod Memory
 pub mod Report
 pub mod Right

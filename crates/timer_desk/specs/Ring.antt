@@ -17,6 +17,8 @@ use Rattle.timer_desk.specs.declared.ring.WordsEnded.{WordsEnded}
 use Rattle.timer_desk.specs.declared.ring.ClientReader.{ClientReader}
 use Rattle.timer_desk.specs.declared.ring.Unsent.{Unsent}
 use Rattle.timer_desk.specs.declared.ring.Unsent.TheVariants.{Spent, Full}
+use Rattle.timer_desk.specs.declared.looks.Found.{Found}
+use Rattle.timer_desk.specs.Looks.{found_in}
 use Rattle.timer_desk.specs.Inlet.{LineKind}
 use Rattle.timer_desk.specs.Extends.{Extends, Extends-refl, Extends-trans}
 
@@ -62,6 +64,10 @@ free_of e = known_free e.requests
 abbrev pub seen_by_end : ClientEnd → List Word
 seen_by_end e = known_items e.words
 
+-- what the client's looks have found of the owner's end
+abbrev pub found_by_end : ClientEnd → Found
+found_by_end e = found_in e.looks
+
 abbrev pub next_of : ClientEnd → ℕ
 next_of e = e.next
 
@@ -99,6 +105,10 @@ seen_by_inlet i = known_items i.requests
 -- how many slots for words the owner knows to be free
 abbrev pub free_of_inlet : RingInlet → ℕ
 free_of_inlet i = known_free i.words
+
+-- what the owner's looks have found of the client's end
+abbrev pub found_by_inlet : RingInlet → Found
+found_by_inlet i = found_in i.looks
 
 -- The line is the same one, and more may have been got and given. Once settled it stays settled, and what was
 -- got followed by what stands stays the same.
@@ -150,6 +160,10 @@ is_settled_reader r = r.settled
 -- the words known to the reader to stand in the line
 abbrev pub seen_by_reader : ClientReader → List Word
 seen_by_reader r = known_items r.words
+
+-- what the reader's looks have found of the owner's end
+abbrev pub found_by_reader : ClientReader → Found
+found_by_reader r = found_in r.looks
 
 -- the words standing in the line, known once it is settled
 abbrev pub unread_by : ClientReader → List Word

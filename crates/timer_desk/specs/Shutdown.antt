@@ -1,5 +1,5 @@
 -- The end of a desk over ring lines.
-use Rattle.std.specs.Prelude.{◌≡◌, ◌<◌, ◌++◌, ◌⊎◌, ℕ, true, List, length, get_or, Option, Some, None}
+use Rattle.std.specs.Prelude.{◌≡◌, ◌<◌, ◌++◌, ◌⊎◌, ℕ, true, List, length, get_or}
 use Rattle.timer_desk.specs.declared.ring.RingInlet.{RingInlet}
 use Rattle.timer_desk.specs.declared.ring.RequestsEnded.{RequestsEnded}
 use Rattle.timer_desk.specs.declared.ring.ClientReader.{ClientReader}
@@ -55,35 +55,11 @@ pub record KeepsLines (old new : DeskState RingInlet) : Type 0 where
 abbrev pub IsWaiting : BacklogState → List Numbered → List Numbered → Type 0
 IsWaiting backlog got submitted = (¬ IsIdle backlog) ⊎ (length got < length submitted)
 
--- the line can be finished: a reader of it can be settled
-pub record CanBeReadOut (inlet : RingInlet) (reader : ClientReader) : Type 0 where
-  pub settled : ClientReader
-  pub read_out : IsReadOut inlet reader settled
-
--- so for each client before c
-abbrev pub AreReadOutBefore : List RingInlet → List ClientReader → ℕ → Type 0
-AreReadOutBefore inlets readers c = (k : ℕ) (i : RingInlet) (r : ClientReader) → k < c
-    → CanBeReadOut (get_or inlets k i) (get_or readers k r)
-
--- something of this client waits; or nothing of any client does, and it is its line that could not be
--- finished. Nothing of a client before it waits.
+-- something of this client waits, and nothing of a client before it
 pub record IsBlamed (desk : DeskState RingInlet) (ended : List RequestsEnded) (c : ℕ) : Type 0 where
   pub client : c < clients_of desk
+  pub waiting : (i : RingInlet) (e : RequestsEnded)
+      → IsWaiting (backlog_at desk c) (got_of (get_or desk.inlets c i)) (all_submitted (get_or ended c e))
   pub idle_before : (k : ℕ) → k < c → IsIdle (backlog_at desk k)
   pub got_before : (k : ℕ) (i : RingInlet) (e : RequestsEnded) → k < c
       → all_submitted (get_or ended k e) ≡ got_of (get_or desk.inlets k i)
-  pub waiting : ((i : RingInlet) (e : RequestsEnded)
-      → IsWaiting (backlog_at desk c) (got_of (get_or desk.inlets c i)) (all_submitted (get_or ended c e)))
-      ⊎ (AllIdle desk × AllGot desk.inlets ended)
-
--- something of this client waits; or its line is the first that could not be finished
-abbrev pub IsFirstBlamed : DeskState RingInlet → List RequestsEnded → List ClientReader → ℕ → Type 0
-IsFirstBlamed desk ended readers c =
-    ((i : RingInlet) (e : RequestsEnded)
-    → IsWaiting (backlog_at desk c) (got_of (get_or desk.inlets c i)) (all_submitted (get_or ended c e)))
-    ⊎ AreReadOutBefore desk.inlets readers c
-
--- how many of the first clients come before the one that is named; all of them if none is
-abbrev pub before : ℕ → Option ℕ → ℕ
-before clients None = clients
-before clients (Some c) = c

@@ -135,6 +135,16 @@ impl Backlog {
         count
     }
 
+    /// Drops all words of the outbox, and returns how many.
+    pub fn discard(&mut self) -> usize
+        ensures count { result ≡ length self.old.outbox }
+        ensures left { self.new ≡ record self.old { outbox = [] } }
+    {
+        let count = self.outbox.len();
+        self.outbox.clear();
+        count
+    }
+
     /// Serves the client once: a request is made at the facility, and its word pushed to the outbox.
     pub fn serve<I: Inlet, W: Wheel + Drop>(
         &mut self,

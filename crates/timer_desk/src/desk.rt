@@ -1,12 +1,12 @@
 //! The owner's desk: one facility, and for each client its line and its backlog.
-ghost use Rattle.std.specs.Prelude.{◌≡◌, ◌<◌, ◌≤◌, ◌+◌, ◌⊎◌, ◌++◌, [], ◌∷◌, length, get_or, true, map, IfOk, IfErr, OnErr, replicate, vec_len, vec_capacity, ℕ};
-ghost use Rattle.timer_facility.specs.State.{FacilityState, IsSound};
+ghost use Rattle.std.specs.Prelude.{◌≡◌, ◌<◌, ◌≤◌, ◌+◌, ◌⊎◌, ◌++◌, [], ◌∷◌, length, get_or, true, map, IfOk, IfErr, OnOk, OnErr, replicate, slice_set, vec_len, vec_capacity, ℕ};
+ghost use Rattle.timer_facility.specs.State.{FacilityState, IsSound, with_room};
 ghost use Rattle.timer_facility.specs.Facility.{with_nothing_waiting};
 ghost use Rattle.timer_desk.specs.Forward.{RanOutOfMemory};
 ghost use Rattle.timer_desk.specs.Backlog.{BacklogState, empty_backlog, HasRoom};
 ghost use Rattle.timer_desk.specs.Report.{HeldIsLast};
 ghost use Rattle.timer_desk.specs.Flush.{Flushes};
-ghost use Rattle.timer_desk.specs.Desk.{DeskState, opened_desk, clients_of, backlog_at, AllIdle, account_at, TakesNothing, ReportHolds, tick_notices, close_notices};
+ghost use Rattle.timer_desk.specs.Desk.{DeskState, opened_desk, clients_of, backlog_at, IsIdle, AllIdle, account_at, TakesNothing, ReportHolds, tick_notices, close_notices};
 
 use crate::backlog::Backlog;
 use crate::dispatch::hand_out;
@@ -15,7 +15,8 @@ use crate::report::{Done, Served};
 use crate::word::Numbered;
 use std::alloc::{AllocError, Global};
 use std::marker::Model;
-use timer_base::Wheel;
+use std::mem;
+use timer_base::{OutOfMemory, Wheel};
 use timer_facility::laws::what_is_handed_out_was_pending;
 use timer_facility::{CloseFault, Facility, TickFault};
 
@@ -72,6 +73,15 @@ impl<W: Wheel + Drop, I: Inlet + Drop> Desk<W, I> {
         self.inlets.len()
     }
 
+    /// Makes room for as many timers as the facility may hold, as `Facility::reserve` does. The only error is out of
+    /// memory, and then nothing changes. After it no serve over lines that don't allocate runs out of memory.
+    pub fn reserve(&mut self) -> Result<(), OutOfMemory>
+        ensures ok { OnOk result (self.new ≡ record self.old { facility = with_room self.old.facility }) }
+        ensures err { OnErr result (self.new ≡ self.old) }
+    {
+        self.facility.reserve()
+    }
+
     /// The number of words in the outbox of client c. Does not allocate.
     pub fn outbox_len(&self, c: usize) -> usize
         requires { c < clients_of self.now }
@@ -120,9 +130,12 @@ impl<W: Wheel + Drop, I: Inlet + Drop> Desk<W, I> {
 
     /// Advances the clock by one tick, and pushes each notice to the back of its client's outbox. Does
     /// not allocate.
+    ///
+    /// A refusal changes nothing.
     pub fn tick(&mut self) -> Result<(), TickFault>
-        ensures { let report = Done.Ticked result ∷ map Done.Noticed (tick_notices self.old.facility) in
+        ensures told { let report = Done.Ticked result ∷ map Done.Noticed (tick_notices self.old.facility) in
             ReportHolds I.kind report self.old self.new }
+        ensures err { OnErr result (self.new ≡ self.old) }
     {
         what_is_handed_out_was_pending();
         let result = self.facility.tick();
@@ -133,16 +146,28 @@ impl<W: Wheel + Drop, I: Inlet + Drop> Desk<W, I> {
     /// Closes the facility, pushes each notice to the back of its client's outbox, and returns how many
     /// timers are returned.
     ///
-    /// After `OutOfMemory`, which a closed facility never returns, nothing has changed.
+    /// A refusal changes nothing: after `OutOfMemory`, which a closed facility never returns, it may be repeated.
     pub fn close(&mut self) -> Result<u64, CloseFault>
-        ensures { let report = Done.Closed result ∷ map Done.Noticed (close_notices self.old.facility result)
+        ensures told { let report = Done.Closed result ∷ map Done.Noticed (close_notices self.old.facility result)
             in
             ReportHolds I.kind report self.old self.new }
+        ensures err { OnErr result (self.new ≡ self.old) }
     {
         what_is_handed_out_was_pending();
         let result = self.facility.close();
         hand_out(&mut self.facility, &mut self.backlogs);
         result
+    }
+
+    /// Gives client c another line, and returns the one that it had. Nothing may be held of the client, and its
+    /// outbox must be empty. Its timers stay pending, and its request numbers go on. Does not allocate.
+    pub fn replace_line(&mut self, c: usize, inlet: I) -> I
+        requires client { c < clients_of self.old }
+        requires idle { IsIdle (backlog_at self.old c) }
+        ensures desk { self.new ≡ record self.old { inlets = slice_set self.old.inlets c inlet } }
+        ensures old { (i : I) → result ≡ get_or self.old.inlets c i }
+    {
+        mem::replace(&mut self.inlets[c], inlet)
     }
 
     /// Gives back the facility and the lines, unchanged. Nothing may be held, and all outboxes must be empty.

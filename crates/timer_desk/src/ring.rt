@@ -8,6 +8,7 @@
 //! lock, does not allocate, and returns. Neither end knows what the other has done meanwhile. Once one
 //! end has finished, the other settles the line, and from then on knows all that stands in the ring.
 use crate::inlet::{Inlet, Put, Taken};
+use crate::looks::Looks;
 use crate::word::{Numbered, Word};
 use rtrb::{Consumer, Finished, Producer, PushError};
 use timer_base::LAST;
@@ -28,6 +29,8 @@ pub struct ClientEnd {
     pub(crate) requests: Producer<Numbered>,
     pub(crate) words: Consumer<Word>,
     pub(crate) next: u64,
+    // What was seen of the owner's end.
+    pub(crate) looks: Looks,
 }
 
 /// The owner's end of a line. No call of it waits or allocates.
@@ -36,6 +39,8 @@ pub struct RingInlet {
     pub(crate) requests: Consumer<Numbered>,
     pub(crate) words: Producer<Word>,
     pub(crate) settled: bool,
+    // What was seen of the client's end.
+    pub(crate) looks: Looks,
 }
 
 /// What is left of the requests' end of a client that has finished.
@@ -55,11 +60,14 @@ pub struct WordsEnded {
 pub struct ClientReader {
     words: Consumer<Word>,
     settled: bool,
+    // What was seen of the owner's end.
+    looks: Looks,
 }
 
 impl ClientEnd {
-    ghost use Rattle.std.specs.Prelude.{◌≡◌, ◌+◌, ◌<◌, ◌≤◌, [], ◌∷◌, ◌++◌, true, false, Err, IsOk, OnOk, IfOk, OnErr, IfErr, IfSome, IsNone};
-    ghost use Rattle.timer_desk.specs.Ring.{line_of_end, submitted, received_by_end, free_of, seen_by_end, next_of, numbered, IsUnsent, requests_ring_of, words_ring_of_reader, all_submitted, read_by, is_settled_reader};
+    ghost use Rattle.std.specs.Prelude.{◌≡◌, ◌+◌, ◌<◌, ◌≤◌, ◌↔◌, [], ◌∷◌, ◌++◌, true, false, Err, IsOk, OnOk, IfOk, OnErr, IfErr, IfSome, IsNone};
+    ghost use Rattle.timer_desk.specs.Ring.{line_of_end, submitted, received_by_end, free_of, seen_by_end, next_of, numbered, IsUnsent, requests_ring_of, words_ring_of_reader, all_submitted, read_by, is_settled_reader, found_by_end};
+    ghost use Rattle.timer_desk.specs.declared.looks.Found.TheVariants as Found;
 
     /// The next request's number.
     pub fn next_number(&self) -> u64
@@ -116,16 +124,18 @@ impl ClientEnd {
 
     /// Whether the owner's end was dropped, and no word stands in the line.
     ///
-    /// Whether it was dropped is the ring's answer, of which no contract speaks. The ring is asked before the
-    /// words are looked for, so that each word that was put before the drop is received first.
+    /// Whether it was dropped is the ring's answer, of which no contract speaks. True is returned only if the end
+    /// was seen to be gone, and no word stood in the line after that: so each word that was put before the drop is
+    /// received first.
     pub fn is_abandoned(&mut self) -> bool
         ensures line { line_of_end self.new ≡ line_of_end self.old }
+        ensures order { result ≡ true ↔ (found_by_end self.new ≡ Found.GoneThenEmpty) }
         ensures yes { result ≡ true → (seen_by_end self.old ≡ []) × (seen_by_end self.new ≡ []) }
         ensures received { received_by_end self.new ≡ received_by_end self.old }
         ensures sent { (submitted self.new ≡ submitted self.old)
             × (next_of self.new ≡ next_of self.old) × (free_of self.new ≡ free_of self.old) }
     {
-        self.words.is_abandoned() && self.words.slots() == 0
+        self.looks.none_comes(&mut self.words)
     }
 
     /// Ends the client's requests. The first result is None only if the owner's end was dropped.
@@ -139,6 +149,7 @@ impl ClientEnd {
             requests,
             words,
             next: _,
+            looks,
         } = self;
         let ended = match requests.finish() {
             Some(finished) => Some(RequestsEnded { finished }),
@@ -147,6 +158,7 @@ impl ClientEnd {
         let reader = ClientReader {
             words,
             settled: false,
+            looks,
         };
         (ended, reader)
     }
@@ -227,9 +239,11 @@ impl Inlet for RingInlet {
 }
 
 impl RingInlet {
-    ghost use Rattle.std.specs.Prelude.{◌≡◌, ◌++◌, true, length, IfSome};
-    ghost use Rattle.timer_desk.specs.Ring.{line_of_inlet, got_of, standing_of, given_of, is_settled, free_of_inlet, requests_ring_of, words_ring_of, all_submitted, all_given};
+    ghost use Rattle.std.specs.Prelude.{◌≡◌, ◌≢◌, ◌↔◌, [], ◌++◌, true, length, IfSome};
+    ghost use Rattle.timer_desk.specs.Ring.{line_of_inlet, got_of, standing_of, given_of, is_settled, free_of_inlet, seen_by_inlet, found_by_inlet, requests_ring_of, words_ring_of, all_submitted, all_given};
     ghost use Rattle.timer_desk.specs.Settlement.{HasLooked};
+    ghost use Rattle.timer_desk.specs.Looks.{MayFind};
+    ghost use Rattle.timer_desk.specs.declared.looks.Found.TheVariants as Found;
 
     /// Settles the line once its client has finished, and returns how many requests stand in it.
     pub fn settle(&mut self, ended: &mut RequestsEnded) -> usize
@@ -248,11 +262,35 @@ impl RingInlet {
         self.requests.slots_after(&mut ended.finished)
     }
 
-    /// Whether the client's end was dropped. That is the ring's answer, of which no contract speaks.
+    /// Whether the client's end was dropped. Once true it stays true.
+    ///
+    /// That is the ring's answer, of which no contract speaks.
     pub fn is_abandoned(&mut self) -> bool
-        ensures { HasLooked self.old self.new }
+        ensures looked { HasLooked self.old self.new }
+        ensures gone { result ≡ true ↔ (found_by_inlet self.new ≢ Found.Nothing) }
+        ensures stays { MayFind (found_by_inlet self.old) (found_by_inlet self.new) }
     {
-        self.words.is_abandoned()
+        self.looks.at_consumer(&mut self.words);
+        self.looks.is_gone()
+    }
+
+    /// Whether the client's end was dropped, and no request stands in the line: then none comes any more.
+    ///
+    /// True is returned only if the end was seen to be gone, and no request stood in the line after that: so each
+    /// request that was sent before the drop is taken first.
+    pub fn is_over(&mut self) -> bool
+        ensures looked { HasLooked self.old self.new }
+        ensures order { result ≡ true ↔ (found_by_inlet self.new ≡ Found.GoneThenEmpty) }
+        ensures stays { found_by_inlet self.old ≢ Found.Nothing → found_by_inlet self.new ≢ Found.Nothing }
+        ensures yes { result ≡ true → (seen_by_inlet self.old ≡ []) × (seen_by_inlet self.new ≡ []) }
+    {
+        self.looks.at_consumer(&mut self.words);
+        if self.settled {
+            self.looks.at_known_items(&self.requests);
+        } else {
+            self.looks.at_items(&mut self.requests);
+        }
+        self.looks.is_over()
     }
 
     /// Ends the owner's words. None only if the client's end was dropped.
@@ -264,6 +302,7 @@ impl RingInlet {
             requests: _,
             words,
             settled: _,
+            looks: _,
         } = self;
         match words.finish() {
             Some(finished) => Some(WordsEnded { finished }),
@@ -273,8 +312,9 @@ impl RingInlet {
 }
 
 impl ClientReader {
-    ghost use Rattle.std.specs.Prelude.{◌≡◌, ◌<◌, ◌⊎◌, [], ◌∷◌, ◌++◌, true, false, length, IfSome, IsNone};
-    ghost use Rattle.timer_desk.specs.Ring.{words_ring_of_reader, words_ring_of, read_by, unread_by, seen_by_reader, is_settled_reader, all_given, line_of_inlet};
+    ghost use Rattle.std.specs.Prelude.{◌≡◌, ◌<◌, ◌↔◌, ◌⊎◌, [], ◌∷◌, ◌++◌, true, false, length, IfSome, IsNone};
+    ghost use Rattle.timer_desk.specs.Ring.{words_ring_of_reader, words_ring_of, read_by, unread_by, seen_by_reader, is_settled_reader, found_by_reader, all_given, line_of_inlet};
+    ghost use Rattle.timer_desk.specs.declared.looks.Found.TheVariants as Found;
     ghost use Rattle.timer_desk.specs.Shutdown.{IsReadOut};
     ghost use Rattle.timer_desk.specs.Settlement.{HasLooked};
 
@@ -317,10 +357,12 @@ impl ClientReader {
 
     /// Whether the owner's end was dropped before the line was settled, and no word stands in the line.
     ///
-    /// No contract speaks of the ring's answer, as in `ClientEnd::is_abandoned`. If the line is settled, the
-    /// ring is not asked.
+    /// No contract speaks of the ring's answer, and the looks are made in the same order, as in
+    /// `ClientEnd::is_abandoned`. If the line is settled, the ring is not asked.
     pub fn is_abandoned(&mut self) -> bool
         ensures line { words_ring_of_reader self.new ≡ words_ring_of_reader self.old }
+        ensures order { is_settled_reader self.old ≡ false
+            → (result ≡ true ↔ (found_by_reader self.new ≡ Found.GoneThenEmpty)) }
         ensures yes { result ≡ true → (is_settled_reader self.old ≡ false)
             × (seen_by_reader self.old ≡ []) × (seen_by_reader self.new ≡ []) }
         ensures read { (read_by self.new ≡ read_by self.old) × (unread_by self.new ≡ unread_by self.old) }
@@ -329,7 +371,7 @@ impl ClientReader {
         if self.settled {
             return false;
         }
-        self.words.is_abandoned() && self.words.is_empty()
+        self.looks.none_comes(&mut self.words)
     }
 
     /// Whether the line is settled and all words that stood in it were received.

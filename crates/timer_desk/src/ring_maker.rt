@@ -2,6 +2,7 @@
 ghost use Rattle.std.specs.Prelude.{◌≡◌, ◌≤◌, [], false, IfOk};
 ghost use Rattle.timer_desk.specs.Ring.{line_of_end, line_of_inlet, submitted, received_by_end, next_of, free_of, got_of, given_of, is_settled, free_of_inlet};
 
+use crate::looks::Looks;
 use crate::ring::{ClientEnd, RingInlet};
 use rtrb::RingBuffer;
 use std::alloc::Global;
@@ -14,7 +15,7 @@ pub fn ring_line(
     first_number: u64,
 ) -> Result<(ClientEnd, RingInlet), OutOfMemory>
     requires capacity { (1 ≤ capacity) × (capacity ≤ 65536) }
-    requires first { (1 ≤ first_number) × (first_number ≤ LAST) }
+    requires first { first_number ≤ LAST }
     ensures line { IfOk result (λ r. line_of_end r.0 ≡ line_of_inlet r.1) }
     ensures end { IfOk result (λ r. (submitted r.0 ≡ []) × (received_by_end r.0 ≡ [])
         × (next_of r.0 ≡ first_number)) }
@@ -31,11 +32,13 @@ pub fn ring_line(
         requests: requests_in,
         words: words_out,
         next: first_number,
+        looks: Looks::new(),
     };
     let inlet = RingInlet {
         requests: requests_out,
         words: words_in,
         settled: false,
+        looks: Looks::new(),
     };
     Ok((end, inlet))
 }

@@ -1,7 +1,11 @@
-//! A desk over ring lines settles a line whose client has finished: its requests, and its words.
-ghost use Rattle.std.specs.Prelude.{◌≡◌, ◌<◌, ◌++◌, ◌≢◌, ℕ, true, length, get_or};
-ghost use Rattle.timer_desk.specs.Desk.{clients_of};
-ghost use Rattle.timer_desk.specs.Ring.{line_of_inlet, got_of, standing_of, given_of, is_settled, requests_ring_of, all_submitted, words_ring_of_reader, read_by, unread_by, is_settled_reader};
+//! A desk over ring lines settles a line whose client has finished: its requests, and its words. It drops the words
+//! to a client that is gone.
+ghost use Rattle.std.specs.Prelude.{◌≡◌, ◌+◌, ◌<◌, ◌↔◌, ◌++◌, ◌≢◌, [], ℕ, true, length, get_or};
+ghost use Rattle.timer_desk.specs.Backlog.{BacklogState};
+ghost use Rattle.timer_desk.specs.Desk.{clients_of, backlog_at};
+ghost use Rattle.timer_desk.specs.Ring.{line_of_inlet, got_of, standing_of, given_of, is_settled, seen_by_inlet, found_by_inlet, requests_ring_of, all_submitted, words_ring_of_reader, read_by, unread_by, is_settled_reader};
+ghost use Rattle.timer_desk.specs.Looks.{MayFind};
+ghost use Rattle.timer_desk.specs.declared.looks.Found.TheVariants as Found;
 ghost use Rattle.timer_desk.specs.Shutdown.{IsReadOut};
 
 use crate::desk::Desk;
@@ -29,9 +33,9 @@ impl<W: Wheel + Drop> Desk<W, RingInlet> {
         self.inlets[c].settle(ended)
     }
 
-    /// Whether client c has dropped its end of its line. Does not allocate.
+    /// Whether client c has dropped its end of its line. Once true it stays true. Does not allocate.
     ///
-    /// That is the ring's answer, of which no contract speaks; and nothing changes.
+    /// That is the ring's answer, of which no contract speaks; and nothing changes but what is known of the line.
     pub fn is_abandoned(&mut self, c: usize) -> bool
         requires { c < clients_of self.old }
         ensures others { (k : ℕ) (i : RingInlet) → k ≢ c
@@ -41,8 +45,61 @@ impl<W: Wheel + Drop> Desk<W, RingInlet> {
         ensures backlogs { self.new.backlogs ≡ self.old.backlogs }
         ensures looked { (i : RingInlet) → HasLooked (get_or self.old.inlets c i)
             (get_or self.new.inlets c i) }
+        ensures gone { (i : RingInlet) → result ≡ true ↔ (found_by_inlet (get_or self.new.inlets c i)
+            ≢ Found.Nothing) }
+        ensures stays { (i : RingInlet) → MayFind (found_by_inlet (get_or self.old.inlets c i))
+            (found_by_inlet (get_or self.new.inlets c i)) }
     {
         self.inlets[c].is_abandoned()
+    }
+
+    /// Whether client c has dropped its end of its line, and no request stands in the line: then none comes any
+    /// more. Does not allocate.
+    pub fn is_over(&mut self, c: usize) -> bool
+        requires { c < clients_of self.old }
+        ensures others { (k : ℕ) (i : RingInlet) → k ≢ c
+            → get_or self.new.inlets k i ≡ get_or self.old.inlets k i }
+        ensures clients { clients_of self.new ≡ clients_of self.old }
+        ensures facility { self.new.facility ≡ self.old.facility }
+        ensures backlogs { self.new.backlogs ≡ self.old.backlogs }
+        ensures looked { (i : RingInlet) → HasLooked (get_or self.old.inlets c i)
+            (get_or self.new.inlets c i) }
+        ensures order { (i : RingInlet) → result ≡ true ↔ (found_by_inlet (get_or self.new.inlets c i)
+            ≡ Found.GoneThenEmpty) }
+        ensures stays { (i : RingInlet) → found_by_inlet (get_or self.old.inlets c i) ≢ Found.Nothing
+            → found_by_inlet (get_or self.new.inlets c i) ≢ Found.Nothing }
+        ensures yes { (i : RingInlet) → result ≡ true → seen_by_inlet (get_or self.new.inlets c i) ≡ [] }
+    {
+        self.inlets[c].is_over()
+    }
+
+    /// Drops the words in the outbox of client c if the client has dropped its end of its line, and returns how
+    /// many. Does not allocate.
+    pub fn discard(&mut self, c: usize) -> usize
+        requires { c < clients_of self.old }
+        ensures others { (k : ℕ) (i : RingInlet) → k ≢ c
+            → get_or self.new.inlets k i ≡ get_or self.old.inlets k i }
+        ensures clients { clients_of self.new ≡ clients_of self.old }
+        ensures facility { self.new.facility ≡ self.old.facility }
+        ensures looked { (i : RingInlet) → HasLooked (get_or self.old.inlets c i)
+            (get_or self.new.inlets c i) }
+        ensures other_backlogs { (k : ℕ) (b : BacklogState) → k ≢ c
+            → get_or self.new.backlogs k b ≡ get_or self.old.backlogs k b }
+        ensures as_many { length self.new.backlogs ≡ length self.old.backlogs }
+
+        ensures count { result + length (backlog_at self.new c).outbox
+            ≡ length (backlog_at self.old c).outbox }
+
+        // All of them if the client was seen to be gone, and none otherwise.
+        ensures gone { (i : RingInlet) → found_by_inlet (get_or self.new.inlets c i) ≢ Found.Nothing
+            → backlog_at self.new c ≡ record (backlog_at self.old c) { outbox = [] } }
+        ensures there { (i : RingInlet) → found_by_inlet (get_or self.new.inlets c i) ≡ Found.Nothing
+            → backlog_at self.new c ≡ backlog_at self.old c }
+    {
+        if !self.inlets[c].is_abandoned() {
+            return 0;
+        }
+        self.backlogs[c].discard()
     }
 
     /// Settles the reader of client c, and returns how many words stand in its line: with what it has

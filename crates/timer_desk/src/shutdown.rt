@@ -2,19 +2,19 @@
 ghost use Rattle.std.specs.Prelude.{◌≡◌, ◌<◌, ℕ, get_or, vec_len, false, IsTrue, IfOk, IfErr};
 ghost use Rattle.timer_facility.specs.Facility.{with_nothing_waiting};
 ghost use Rattle.timer_desk.specs.Desk.{clients_of, backlog_at, IsIdle, AllIdle};
-ghost use Rattle.timer_desk.specs.Ring.{line_of_inlet, got_of, requests_ring_of, words_ring_of_reader, all_submitted};
-ghost use Rattle.timer_desk.specs.Shutdown.{AreEndsOf, AreReadersOf, AllGot, IsReadOut, AllReadOut};
-ghost use Rattle.timer_desk.specs.Shutdown.{KeepsLines, IsWaiting, IsBlamed, IsFirstBlamed};
+ghost use Rattle.timer_desk.specs.Ring.{line_of_inlet, got_of, requests_ring_of, all_submitted};
+ghost use Rattle.timer_desk.specs.Shutdown.{AreEndsOf, AreReadersOf, AllGot, AllReadOut};
+ghost use Rattle.timer_desk.specs.Shutdown.{KeepsLines, IsWaiting, IsBlamed};
 
 use crate::desk::Desk;
 use crate::ring::{ClientReader, RequestsEnded, RingInlet};
 use timer_base::Wheel;
 use timer_facility::Facility;
 
-/// Settles each line, ends the desk, and settles the readers.
+/// Settles each line and each reader, and ends the desk.
 ///
 /// An error drops all of them. It is the first client with a held request, a request left in its line or a
-/// word in its outbox; or, if there is no such client, the first one whose line could not be finished.
+/// word in its outbox; and then no reader was settled.
 pub fn wind_up<W: Wheel + Drop>(
     desk: Desk<W, RingInlet>,
     ended: Vec<RequestsEnded>,
@@ -28,7 +28,6 @@ pub fn wind_up<W: Wheel + Drop>(
     ensures as_many { IfOk result (λ done. vec_len done.1 ≡ clients_of desk) }
     ensures words { IfOk result (λ done. AllReadOut desk.inlets readers.items done.1.items) }
     ensures err { IfErr result (λ c. IsBlamed desk ended.items c) }
-    ensures first { IfErr result (λ c. IsFirstBlamed desk ended.items readers.items c) }
 {
     let mut desk = desk;
     let mut ended = ended;
@@ -37,21 +36,12 @@ pub fn wind_up<W: Wheel + Drop>(
             return Err(c);
         }
     }
-    let (facility, inlets) = desk.end();
-    let mut inlets = inlets;
     let mut readers = readers;
-    // The lines are finished from the last one down, so the last failure is that of the first client.
-    let mut unfinished = None;
-    while let Some(inlet) = inlets.pop() {
-        let c = inlets.len();
-        if !finish_line(inlet, &mut readers[c]) {
-            unfinished = Some(c);
-        }
+    for k in 0..readers.len() {
+        desk.settle_reader(k, &mut readers[k]);
     }
-    match unfinished {
-        Some(c) => Err(c),
-        None => Ok((facility, readers)),
-    }
+    let (facility, _) = desk.end();
+    Ok((facility, readers))
 }
 
 /// Settles the line of client c, and returns whether the client is done: no request is held, none stands
@@ -78,19 +68,4 @@ fn is_done<W: Wheel + Drop>(
         return false;
     }
     desk.settle(c, ended) == 0
-}
-
-/// Finishes a line and settles its reader, and returns whether it could.
-fn finish_line(inlet: RingInlet, reader: &mut ClientReader) -> bool
-    requires { words_ring_of_reader reader.old ≡ (line_of_inlet inlet).1 }
-    ensures { IsTrue result → IsReadOut inlet reader.old reader.new }
-{
-    match inlet.finish() {
-        Some(ended) => {
-            let mut ended = ended;
-            reader.settle(&mut ended);
-            true
-        }
-        None => false,
-    }
 }

@@ -21,7 +21,8 @@ use Rattle.timer_desk.specs.Flush.{IsGiven, Flushes, without_words}
 use Rattle.timer_desk.proofs.ReportConcatenation.{ReportHolds-joined, ReportHolds-nothing}
 use Rattle.timer_desk_c.specs.DeskSlots.{DeskState}
 use Rattle.timer_desk_c.specs.Desks.{Says}
-use Rattle.timer_desk_c.specs.Rounds.{did, starved, did_request, ran_out, served_none, flushed_one, moved_a_word, IsServe, IsFlush, IsServedOut, IsEmptied, round_status, HasServedAll, HasFlushedAll}
+use Rattle.timer_desk_c.specs.Rounds.{did, starved, did_request, ran_out, served_none, flushed_one, moved_a_word, AreInOrder, IsFlush, IsServedOut, IsEmptied, round_status, HasServedAll, HasFlushedEach}
+use Rattle.timer_desk_c.specs.Dropped.{IsDropped, HasDropped, HasDroppedEach, waiting_at}
 use Rattle.timer_desk_c.specs.ClientServes.{HasServedClient}
 
 either : (b : Bool) → (b ≡ true) ⊎ (b ≡ false)
@@ -40,6 +41,43 @@ or_true false = refl
 or_false : (a : Bool) → (a || false) ≡ a
 or_false true = refl
 or_false false = refl
+
+-- Serves in the order of their clients.
+
+below_more : (low high more : ℕ) (r : List Done) → high ≤ more → AreInOrder low high r → AreInOrder low more r
+below_more low high more [] l h = tt
+below_more low high more (Dones.Served c x ∷ r) l h = (h.0, (let k = h.1 in omega (arith, k, l)), below_more c high more r l h.2)
+below_more low high more (Dones.Ticked x ∷ r) l h = absurd h
+below_more low high more (Dones.Passed n x ∷ r) l h = absurd h
+below_more low high more (Dones.Closed x ∷ r) l h = absurd h
+below_more low high more (Dones.Noticed x ∷ r) l h = absurd h
+below_more low high more (Dones.Flushed c n ∷ r) l h = absurd h
+
+from_lower : (low m high : ℕ) (r : List Done) → low ≤ m → AreInOrder m high r → AreInOrder low high r
+from_lower low m high [] l h = tt
+from_lower low m high (Dones.Served c x ∷ r) l h = ((let k = h.0 in omega (arith, k, l)), h.1, h.2)
+from_lower low m high (Dones.Ticked x ∷ r) l h = absurd h
+from_lower low m high (Dones.Passed n x ∷ r) l h = absurd h
+from_lower low m high (Dones.Closed x ∷ r) l h = absurd h
+from_lower low m high (Dones.Noticed x ∷ r) l h = absurd h
+from_lower low m high (Dones.Flushed c n ∷ r) l h = absurd h
+
+in_order_both : (low m high : ℕ) (r q : List Done) → low ≤ m → m < high → AreInOrder low (m + 1) r → AreInOrder m high q
+    → AreInOrder low high (r ++ q)
+in_order_both low m high [] q l k h g = from_lower low m high q l g
+in_order_both low m high (Dones.Served c x ∷ r) q l k h g =
+    let n = h.1 in (h.0, omega (arith, n, k), in_order_both c m high r q (omega (arith, n)) k h.2 g)
+in_order_both low m high (Dones.Ticked x ∷ r) q l k h g = absurd h
+in_order_both low m high (Dones.Passed n x ∷ r) q l k h g = absurd h
+in_order_both low m high (Dones.Closed x ∷ r) q l k h g = absurd h
+in_order_both low m high (Dones.Noticed x ∷ r) q l k h g = absurd h
+in_order_both low m high (Dones.Flushed c n ∷ r) q l k h g = absurd h
+
+one_in_order : (c : ℕ) (s : Served) → AreInOrder c (c + 1) (Dones.Served c s ∷ [])
+one_in_order c s = (omega arith, omega arith, tt)
+
+more_in_order : (c : ℕ) (s : Served) (r : List Done) → AreInOrder c (c + 1) r → AreInOrder c (c + 1) (r ++ Dones.Served c s ∷ [])
+more_in_order c s r h = in_order_both c c (c + 1) r (Dones.Served c s ∷ []) (omega arith) (omega arith) h (one_in_order c s)
 
 -- One serve.
 
@@ -76,7 +114,7 @@ fed (Did n w) h = refl
 pub record IsServing (c n : ℕ) (busy : Bool) (old now : DeskState) : Type 0 where
   pub report : List Done
   pub says : Says report old now
-  pub serves : All IsServe report
+  pub in_order : AreInOrder c (c + 1) report
   pub others : (k : ℕ) → k ≢ c → asked k report ≡ []
   pub count : length (asked c report) ≡ n
   pub busy_is : busy ≡ list_any did_request report
@@ -89,7 +127,7 @@ pub serving_nothing : (c : ℕ) (x : DeskState) → IsHeldRight x → IsServing 
 serving_nothing c x last = record {
   report = [];
   says = ReportHolds-nothing ring_lines x last;
-  serves = search rules;
+  in_order = tt;
   others = λ k h. refl;
   count = refl;
   busy_is = refl;
@@ -115,7 +153,7 @@ serving_more c n busy x y z s f h says =
     let count = f.count in record {
       report = f.report ++ d;
       says = ReportHolds-joined ring_lines f.report d x y z f.says says;
-      serves = All-append IsServe f.report d f.serves (search rules);
+      in_order = more_in_order c s f.report f.in_order;
       others = λ k other. asked_nil k f.report d (f.others k other) (asked_other c k s other);
       count = omega (arith, m, one, count);
       busy_is = sym (list_any-append did_request f.report d ∙ ap (λ b. list_any did_request f.report || (b || false)) h
@@ -135,7 +173,7 @@ serving_ends c n most busy out x y z s f few h e says =
     ∙ ap (λ b. not b || false) h in record {
       report = f.report ++ d;
       says = ReportHolds-joined ring_lines f.report d x y z f.says says;
-      serves = All-append IsServe f.report d f.serves (search rules);
+      in_order = more_in_order c s f.report f.in_order;
       others = λ k other. asked_nil k f.report d (f.others k other) (asked_other c k s other);
       served = record {
         at_most = omega (arith, m, one, count, few);
@@ -152,7 +190,7 @@ serving_full c most busy x y f =
     let count = f.count in record {
       report = f.report;
       says = f.says;
-      serves = f.serves;
+      in_order = f.in_order;
       others = f.others;
       served = record { at_most = omega (arith, count); through = inl count };
       busy_is = f.busy_is;
@@ -165,7 +203,7 @@ serving_full c most busy x y f =
 pub record IsRound (most k : ℕ) (busy out : Bool) (old now : DeskState) : Type 0 where
   pub report : List Done
   pub says : Says report old now
-  pub serves : All IsServe report
+  pub in_order : AreInOrder 0 k report
   pub each : (c : ℕ) → c < k → IsServedOut c most report
   pub later : (c : ℕ) → k ≤ c → asked c report ≡ []
   pub busy_is : busy ≡ list_any did_request report
@@ -178,7 +216,7 @@ pub round_nothing : (most : ℕ) (x : DeskState) → IsHeldRight x → IsRound m
 round_nothing most x last = record {
   report = [];
   says = ReportHolds-nothing ring_lines x last;
-  serves = search rules;
+  in_order = tt;
   each = λ c low. absurd (none_below c low);
   later = λ c high. refl;
   busy_is = refl;
@@ -227,7 +265,7 @@ round_more most k busy out b o x y z f g =
     let q = g.report in record {
       report = r ++ q;
       says = ReportHolds-joined ring_lines r q x y z f.says g.says;
-      serves = All-append IsServe r q f.serves g.serves;
+      in_order = in_order_both 0 k (k + 1) r q (omega arith) (omega arith) (below_more 0 k (k + 1) r (omega arith) f.in_order) g.in_order;
       each = λ c low. elim (below_or_same c k low) [
         | inl under ↦ out_before c most r q (f.each c under) (g.others c (less_is_other c k under))
         | inr same ↦ subst (λ v. IsServedOut v most (r ++ q)) (sym same) (out_after k most r q g.served (f.later k (omega arith)))
@@ -237,14 +275,14 @@ round_more most k busy out b o x y z f g =
       memory_is = ap (λ v. v || o) f.memory_is ∙ ap (λ v. list_any ran_out r || v) g.memory_is ∙ sym (list_any-append ran_out r q);
     }
 
-pub round_done : (most k status : ℕ) (busy out : Bool) (x y : DeskState) → IsRound most k busy out x y → clients_of x ≤ k
+pub round_done : (most k status : ℕ) (busy out : Bool) (x y : DeskState) → IsRound most k busy out x y → k ≡ clients_of x
     → status ≡ round_status out busy
     → HasServedAll most status x y
 round_done most k status busy out x y f all e = record {
   report = f.report;
   says = f.says;
-  serves = f.serves;
-  each = λ c low. f.each c (omega (arith, all, low));
+  in_order = subst (λ n. AreInOrder 0 n f.report) all f.in_order;
+  each = λ c low. f.each c (let same = all in omega (arith, same, low));
   status_is = e ∙ ap (λ v. round_status v busy) f.memory_is ∙ ap (λ v. round_status (list_any ran_out f.report) v) f.busy_is;
 }
 
@@ -394,7 +432,7 @@ flushing_more k count moved b x y z f says e g low few stopped =
     }
 
 pub flushing_done : (k : ℕ) (moved : Bool) (x y : DeskState) → IsFlushing k moved x y → clients_of x ≤ k → clients_of y ≡ clients_of x
-    → HasFlushedAll moved x y
+    → HasFlushedEach moved x y
 flushing_done k moved x y f all as_many = record {
   report = f.report;
   says = f.says;
@@ -405,4 +443,100 @@ flushing_done k moved x y f all as_many = record {
   same_clients = as_many;
   as_many_backlogs = f.as_many_backlogs;
   emptied = λ c i low. f.emptied c i (omega (arith, all, low));
+}
+
+-- A round that drops the words to clients that are gone.
+
+-- so for each client below k, and the others are as they were
+pub record IsDropping (k : ℕ) (dropped : Bool) (old now : DeskState) : Type 0 where
+  pub same_facility : now.facility ≡ old.facility
+  pub same_clients : clients_of now ≡ clients_of old
+  pub as_many_backlogs : length now.backlogs ≡ length old.backlogs
+  pub each : (c : ℕ) (i : RingInlet) → c < k → IsDropped (get_or old.inlets c i) (get_or now.inlets c i) (backlog_at old c)
+      (backlog_at now c)
+  pub later_inlets : (c : ℕ) (i : RingInlet) → k ≤ c → get_or now.inlets c i ≡ get_or old.inlets c i
+  pub later_backlogs : (c : ℕ) → k ≤ c → backlog_at now c ≡ backlog_at old c
+  pub some : dropped ≡ true → (c : ℕ) × (c < k) × (waiting_at now c < waiting_at old c)
+  pub none : dropped ≡ false → (c : ℕ) → c < k → waiting_at now c ≡ waiting_at old c
+
+pub dropping_nothing : (x : DeskState) → IsDropping 0 false x x
+dropping_nothing x = record {
+  same_facility = refl;
+  same_clients = refl;
+  as_many_backlogs = refl;
+  each = λ c i low. absurd (none_below c low);
+  later_inlets = λ c i high. refl;
+  later_backlogs = λ c high. refl;
+  some = λ e. absurd (cc);
+  none = λ e c low. absurd (none_below c low);
+}
+
+or_is : (a b : Bool) → a || b ≡ true → (a ≡ true) ⊎ (b ≡ true)
+or_is true b h = inl refl
+or_is false b h = inr h
+
+or_is_not : (a b : Bool) → a || b ≡ false → (a ≡ false) × (b ≡ false)
+or_is_not true b h = absurd (cc)
+or_is_not false b h = (refl, h)
+
+some_left : (n count : ℕ) (a b : ℕ) → count + a ≡ b → nat_lt 0 count ≡ true → a < b
+some_left n count a b e h = grind (arith, nat_tests)
+
+none_left : (n count : ℕ) (a b : ℕ) → count + a ≡ b → nat_lt 0 count ≡ false → a ≡ b
+none_left n count a b e h = grind (arith, nat_tests)
+
+pub dropping_more : (k count : ℕ) (dropped b : Bool) (x y z : DeskState) → IsDropping k dropped x y → HasDropped k y z
+    → count + waiting_at z k ≡ waiting_at y k → b ≡ nat_lt 0 count → IsDropping (k + 1) (dropped || b) x z
+dropping_more k count dropped b x y z f g e is = record {
+  same_facility = g.same_facility ∙ f.same_facility;
+  same_clients = g.same_clients ∙ f.same_clients;
+  as_many_backlogs = g.as_many_backlogs ∙ f.as_many_backlogs;
+  each = λ c i below. elim (below_or_same c k below) [
+    | inl under ↦ subst (λ (j : RingInlet). IsDropped (get_or x.inlets c i) j (backlog_at x c) (backlog_at z c))
+        (sym (g.other_inlets c i (less_is_other c k under)))
+        (subst (λ (d : BacklogState). IsDropped (get_or x.inlets c i) (get_or y.inlets c i) (backlog_at x c) d)
+        (sym (same_backlog c (less_is_other c k under))) (f.each c i under))
+    | inr same ↦ subst (λ (n : ℕ). IsDropped (get_or x.inlets n i) (get_or z.inlets n i) (backlog_at x n) (backlog_at z n)) (sym same)
+        (subst (λ (j : RingInlet). IsDropped j (get_or z.inlets k i) (backlog_at x k) (backlog_at z k)) (f.later_inlets k i (omega arith))
+        (subst (λ (d : BacklogState). IsDropped (get_or y.inlets k i) (get_or z.inlets k i) d (backlog_at z k))
+        (f.later_backlogs k (omega arith)) (g.at i)))
+  ];
+  later_inlets = λ c i high. g.other_inlets c i (more_is_other c k high) ∙ f.later_inlets c i (omega (arith, high));
+  later_backlogs = λ c high. same_backlog c (more_is_other c k high) ∙ f.later_backlogs c (omega (arith, high));
+  some = λ h. elim (or_is dropped b h) [
+    | inl before ↦ before_k (f.some before)
+    | inr here ↦ (k, omega arith, subst (λ (n : ℕ). waiting_at z k < n) was
+        (some_left k count (waiting_at z k) (waiting_at y k) e (sym is ∙ here)))
+  ];
+  none = λ h c below. elim (below_or_same c k below) [
+    | inl under ↦ ap (λ (d : BacklogState). length d.outbox) (same_backlog c (less_is_other c k under))
+        ∙ f.none (or_is_not dropped b h).0 c under
+    | inr same ↦ subst (λ (n : ℕ). waiting_at z n ≡ waiting_at x n) (sym same)
+        (none_left k count (waiting_at z k) (waiting_at y k) e (sym is ∙ (or_is_not dropped b h).1) ∙ was)
+  ];
+}
+  where
+    same_backlog : (c : ℕ) → c ≢ k → backlog_at z c ≡ backlog_at y c
+    same_backlog c other = g.other_backlogs c (empty_backlog 0) other
+
+    was : waiting_at y k ≡ waiting_at x k
+    was = ap (λ (d : BacklogState). length d.outbox) (f.later_backlogs k (omega arith))
+
+    before_k : ((c : ℕ) × (c < k) × (waiting_at y c < waiting_at x c)) → (c : ℕ) × (c < k + 1) × (waiting_at z c < waiting_at x c)
+    before_k one =
+        let low = one.1 in (
+          one.0,
+          omega (arith, low),
+          subst (λ (n : ℕ). n < waiting_at x one.0)
+              (sym (ap (λ (d : BacklogState). length d.outbox) (same_backlog one.0 (less_is_other one.0 k low)))) one.2,
+        )
+
+pub dropping_done : (k : ℕ) (dropped : Bool) (x y : DeskState) → IsDropping k dropped x y → k ≡ clients_of x → HasDroppedEach dropped x y
+dropping_done k dropped x y f all = record {
+  same_facility = f.same_facility;
+  same_clients = f.same_clients;
+  as_many_backlogs = f.as_many_backlogs;
+  each = λ c i low. f.each c i (omega (arith, all, low));
+  some = λ h. let one = f.some h in (one.0, (let low = one.1 in omega (arith, all, low)), one.2);
+  none = λ h c low. f.none h c (omega (arith, all, low));
 }

@@ -8,14 +8,16 @@ use Rattle.timer_desk.specs.declared.word.Numbered.{Numbered}
 use Rattle.timer_desk.specs.declared.ring.RingInlet.{RingInlet}
 use Rattle.timer_desk.specs.Backlog.{BacklogState, empty_backlog}
 use Rattle.timer_desk.specs.Desk.{clients_of, backlog_at, IsIdle}
-use Rattle.timer_desk.specs.Ring.{line_of_inlet, got_of, given_of}
+use Rattle.timer_desk.specs.declared.looks.Found.TheVariants.{Nothing}
+use Rattle.timer_desk.specs.Ring.{line_of_inlet, got_of, given_of, found_by_inlet}
+use Rattle.timer_desk.specs.Settlement.{HasLooked}
 use Rattle.timer_desk.specs.Shutdown.{KeepsLines, IsWaiting}
 use Rattle.timer_desk_c.specs.declared.c_structs.CLine.{CLine}
 use Rattle.timer_desk_c.specs.declared.shutdown_all.Left.{Left}
 use Rattle.timer_desk_c.specs.declared.line.Line.{Line}
 use Rattle.timer_desk_c.specs.declared.status.TheConstants.{OK, LEFT}
 use Rattle.timer_desk_c.specs.DeskSlots.{DeskState}
-use Rattle.timer_desk_c.specs.Frames.{HasNoLine, with_line}
+use Rattle.timer_desk_c.specs.Frames.{HasLine, HasNoLine, with_line}
 use Rattle.timer_desk_c.specs.Lines.{submitted_on}
 use Rattle.timer_desk_c.specs.Shutdown.{IsLeft, OnlySettles, WhyNotEnded}
 use Rattle.timer_desk_c.specs.ShutdownAll.{IsEndedAt, IsOverAt, IsLeftAt, IsTriedAt}
@@ -94,9 +96,27 @@ ended_before c d y x v was low h = record {
   };
 }
 
-over_before : (c : ℕ) (d y : DeskState) (x v : CLine) → KeepsLines d y → c < clients_of d → IsOverAt c y x v → IsOverAt c d x v
-over_before c d y x v was low (inl none) = inl none
-over_before c d y x v was low (inr ended) = inr (ended_before c d y x v was low ended)
+over_before : (c : ℕ) (d y z : DeskState) (x v : CLine) → KeepsLines d y → c < clients_of d → IsOverAt c y z x v → IsOverAt c d z x v
+over_before c d y z x v was low (inl freed) = inl freed
+over_before c d y z x v was low (inr ended) = inr (ended_before c d y x v was low ended)
+
+-- what was seen of a client stays, once a later one was settled
+over_still : (k c : ℕ) (d y z : DeskState) (u v : CLine) → c < k → OnlySettles k y z → IsOverAt c d y u v → IsOverAt c d z u v
+over_still k c d y z u v under s (inl freed) = inl (record {
+  none_held = freed.none_held;
+  gone = λ i. subst (λ (j : RingInlet). found_by_inlet j ≢ Nothing) (sym (s.others c i (less_is_other c k under))) (freed.gone i);
+})
+over_still k c d y z u v under s (inr ended) = inr ended
+
+left_still : (k c status : ℕ) (d y z : DeskState) (u v : CLine) → c < k → OnlySettles k y z → IsLeftAt c status d y u v
+    → IsLeftAt c status d z u v
+left_still k c status d y z u v under s (inl back) = inl back
+left_still k c status d y z u v under s (inr away) = inr (record {
+  none_held = away.none_held;
+  not_freed = away.not_freed;
+  there = λ i. subst (λ (j : RingInlet). found_by_inlet j ≡ Nothing) (sym (s.others c i (less_is_other c k under))) (away.there i);
+  same = away.same;
+})
 
 is_left_before : (c : ℕ) (d y : DeskState) (submitted : List Numbered) → KeepsLines d y → c < clients_of d → IsLeft c y submitted
     → IsLeft c d submitted
@@ -114,23 +134,24 @@ why_before c number status d y l was low (inr (inr (inr (inl why)))) = inr (inr 
 why_before c number status d y l was low (inr (inr (inr (inr why)))) =
     inr (inr (inr (inr (why.0, low, why.2, is_left_before c d y (submitted_on l) was low why.3))))
 
-left_before : (c status : ℕ) (d y : DeskState) (x v : CLine) → KeepsLines d y → c < clients_of d → IsLeftAt c status y x v
-    → IsLeftAt c status d x v
-left_before c status d y x v was low h = record {
+left_before : (c status : ℕ) (d y z : DeskState) (x v : CLine) → KeepsLines d y → c < clients_of d → IsLeftAt c status y z x v
+    → IsLeftAt c status d z x v
+left_before c status d y z x v was low (inl h) = inl (record {
   held = h.held;
   why = why_before c x.client status d y x.slot.state was low h.why;
   as_before = h.as_before;
-}
+})
+left_before c status d y z x v was low (inr away) = inr away
 
 -- The clients that were tried.
 
 -- the first of the clients below k that was left; or the words of all of them have ended
-abbrev pub IsFirst : Option Left → ℕ → DeskState → List CLine → List CLine → Type 0
-IsFirst None k d old now = (c : ℕ) (x : CLine) → c < k → IsOverAt c d (get_or old c x) (get_or now c x)
-IsFirst (Some l) k d old now =
+abbrev pub IsFirst : Option Left → ℕ → DeskState → DeskState → List CLine → List CLine → Type 0
+IsFirst None k d y old now = (c : ℕ) (x : CLine) → c < k → IsOverAt c d y (get_or old c x) (get_or now c x)
+IsFirst (Some l) k d y old now =
     (l.client < k) × (0 < l.status)
-    × ((c : ℕ) (x : CLine) → c < l.client → IsOverAt c d (get_or old c x) (get_or now c x))
-    × ((x : CLine) → IsLeftAt l.client l.status d (get_or old l.client x) (get_or now l.client x))
+    × ((c : ℕ) (x : CLine) → c < l.client → IsOverAt c d y (get_or old c x) (get_or now c x))
+    × ((x : CLine) → IsLeftAt l.client l.status d y (get_or old l.client x) (get_or now l.client x))
 
 -- each client below k was tried, and the others' lines are as they were
 pub record IsEnding (k : ℕ) (left : Option Left) (d y : DeskState) (old now : List CLine) : Type 0 where
@@ -140,7 +161,7 @@ pub record IsEnding (k : ℕ) (left : Option Left) (d y : DeskState) (old now : 
   pub only : (c : ℕ) (x : CLine) → c < k → get_or now c x ≡ with_line (get_or old c x) (get_or now c x).slot.state
   pub later : (c : ℕ) (x : CLine) → k ≤ c → get_or now c x ≡ get_or old c x
   pub later_inlets : (c : ℕ) (i : RingInlet) → k ≤ c → get_or y.inlets c i ≡ get_or d.inlets c i
-  pub first : IsFirst left k d old now
+  pub first : IsFirst left k d y old now
 
 pub ending_nothing : (d : DeskState) (lines : List CLine) → IsEnding 0 None d d lines lines
 ending_nothing d lines = record {
@@ -156,10 +177,11 @@ ending_nothing d lines = record {
 -- client k was tried, with this status, its line is now this one, and the desk z
 pub record IsTried (k status : ℕ) (d z : DeskState) (old now : List CLine) (line : CLine) : Type 0 where
   pub low : k < length now
-  pub ended : status ≡ OK → (x : CLine) → IsOverAt k d (get_or old k x) line
-  pub left : 0 < status → (x : CLine) → IsLeftAt k status d (get_or old k x) line
-  pub same_inlet : 0 < status → status ≢ LEFT → (i : RingInlet) → get_or z.inlets k i ≡ get_or d.inlets k i
-  pub skipped : (x : CLine) → HasNoLine (get_or old k x) → (i : RingInlet) → get_or z.inlets k i ≡ get_or d.inlets k i
+  pub ended : status ≡ OK → (x : CLine) → IsOverAt k d z (get_or old k x) line
+  pub left : 0 < status → (x : CLine) → IsLeftAt k status d z (get_or old k x) line
+  pub same_inlet : 0 < status → status ≢ LEFT → (x : CLine) → HasLine (get_or old k x) → (i : RingInlet)
+      → get_or z.inlets k i ≡ get_or d.inlets k i
+  pub skipped : (x : CLine) → HasNoLine (get_or old k x) → (i : RingInlet) → HasLooked (get_or d.inlets k i) (get_or z.inlets k i)
 
 at_other : (k c : ℕ) (x line : CLine) (now : List CLine) → c ≢ k → get_or (slice_set now k line) c x ≡ get_or now c x
 at_other k c x line now other = get_or-set_other now k c line x other
@@ -184,47 +206,61 @@ up_to P k c x line old now low below was new = elim (below_or_same c k below) [
       (here (P k (get_or old k x)) k x line now low new)
 ]
 
-first_more : (k status : ℕ) (left result : Option Left) (d z : DeskState) (old now : List CLine) (line : CLine)
-    → IsTried k status d z old now line → IsFirst left k d old now
+first_more : (k status : ℕ) (left result : Option Left) (d y z : DeskState) (old now : List CLine) (line : CLine)
+    → OnlySettles k y z → IsTried k status d z old now line → IsFirst left k d y old now
     → (left ≢ None → result ≡ left) → (left ≡ None → status ≡ OK → result ≡ None)
     → (left ≡ None → 0 < status → result ≡ Some (record { client = k; status = status }))
-    → IsFirst result (k + 1) d old (slice_set now k line)
-first_more k status None result d z old now line t was before ended refused = elim (zero_or_more status) [
-  | inl ok ↦ subst (λ r. IsFirst r (k + 1) d old (slice_set now k line)) (sym (ended refl ok))
-      (λ c x below. up_to (λ n. IsOverAt n d) k c x line old now t.low below (was c x) (t.ended ok x))
-  | inr more ↦ subst (λ r. IsFirst r (k + 1) d old (slice_set now k line)) (sym (refused refl more)) (
+    → IsFirst result (k + 1) d z old (slice_set now k line)
+first_more k status None result d y z old now line s t was before ended refused = elim (zero_or_more status) [
+  | inl ok ↦ subst (λ r. IsFirst r (k + 1) d z old (slice_set now k line)) (sym (ended refl ok))
+      (λ c x below. up_to (λ n. IsOverAt n d z) k c x line old now t.low below (still c x) (t.ended ok x))
+  | inr more ↦ subst (λ r. IsFirst r (k + 1) d z old (slice_set now k line)) (sym (refused refl more)) (
     omega arith,
     more,
-    (λ c x under. earlier (IsOverAt c d (get_or old c x)) k c x line now under (was c x under)),
-    (λ x. here (IsLeftAt k status d (get_or old k x)) k x line now t.low (t.left more x)),
+    (λ c x under. earlier (IsOverAt c d z (get_or old c x)) k c x line now under (still c x under)),
+    (λ x. here (IsLeftAt k status d z (get_or old k x)) k x line now t.low (t.left more x)),
   )
 ]
-first_more k status (Some l) result d z old now line t was before ended refused =
+  where
+    still : (c : ℕ) (x : CLine) → c < k → IsOverAt c d z (get_or old c x) (get_or now c x)
+    still c x under = over_still k c d y z (get_or old c x) (get_or now c x) under s (was c x under)
+first_more k status (Some l) result d y z old now line s t was before ended refused =
     let under = was.0 in
-    subst (λ r. IsFirst r (k + 1) d old (slice_set now k line)) (sym (before (λ e. absurd (cc)))) (
+    subst (λ r. IsFirst r (k + 1) d z old (slice_set now k line)) (sym (before (λ e. absurd (cc)))) (
       omega (arith, under),
       was.1,
-      (λ c x low. earlier (IsOverAt c d (get_or old c x)) k c x line now (omega (arith, under, low)) (was.2 c x low)),
-      (λ x. earlier (IsLeftAt l.client l.status d (get_or old l.client x)) k l.client x line now under (was.3 x)),
+      (λ c x low. earlier (IsOverAt c d z (get_or old c x)) k c x line now (omega (arith, under, low))
+      (over_still k c d y z (get_or old c x) (get_or now c x) (omega (arith, under, low)) s (was.2 c x low))),
+      (λ x. earlier (IsLeftAt l.client l.status d z (get_or old l.client x)) k l.client x line now under
+      (left_still k l.client l.status d y z (get_or old l.client x) (get_or now l.client x) under s (was.3 x))),
     )
 
 tried_at : (k status : ℕ) (d z : DeskState) (old now : List CLine) (line x : CLine) → IsTried k status d z old now line
-    → IsOverAt k d (get_or old k x) line → IsTriedAt k d z (get_or old k x) line
-tried_at k status d z old now line x t (inl none) = inl (record { none_held = none; same_inlet = t.skipped x none })
+    → IsOverAt k d z (get_or old k x) line → IsTriedAt k d z (get_or old k x) line
+tried_at k status d z old now line x t (inl freed) =
+    inl (record { none_held = freed.none_held; looked = t.skipped x freed.none_held })
 tried_at k status d z old now line x t (inr ended) = inr (inl ended)
+
+left_at : (k status : ℕ) (d z : DeskState) (old now : List CLine) (line x : CLine) → 0 < status → IsTried k status d z old now line
+    → IsLeftAt k status d z (get_or old k x) line → IsTriedAt k d z (get_or old k x) line
+left_at k status d z old now line x more t (inl back) =
+    inr (inr (record { status = status; refused = more; left = back; same_inlet = λ other. t.same_inlet more other x back.held }))
+left_at k status d z old now line x more t (inr away) =
+    inl (record { none_held = away.none_held; looked = t.skipped x away.none_held })
 
 kept_at : (k status : ℕ) (d z : DeskState) (old now : List CLine) (line x : CLine) → IsTried k status d z old now line
     → IsTriedAt k d z (get_or old k x) line
 kept_at k status d z old now line x t = elim (zero_or_more status) [
   | inl ok ↦ tried_at k status d z old now line x t (t.ended ok x)
-  | inr more ↦ inr (inr (record { status = status; refused = more; left = t.left more x; same_inlet = t.same_inlet more }))
+  | inr more ↦ left_at k status d z old now line x more t (t.left more x)
 ]
 
 -- what was found of a client stays, once a later one was settled
 still_tried : (k c : ℕ) (d y z : DeskState) (u v : CLine) → c < k → OnlySettles k y z → IsTriedAt c d y u v → IsTriedAt c d z u v
 still_tried k c d y z u v under s (inl skipped) = inl (record {
   none_held = skipped.none_held;
-  same_inlet = λ i. s.others c i (less_is_other c k under) ∙ skipped.same_inlet i;
+  looked = λ i. subst (λ (j : RingInlet). HasLooked (get_or d.inlets c i) j) (sym (s.others c i (less_is_other c k under)))
+      (skipped.looked i);
 })
 still_tried k c d y z u v under s (inr (inl ended)) = inr (inl ended)
 still_tried k c d y z u v under s (inr (inr kept)) = inr (inr (record {
@@ -237,8 +273,9 @@ still_tried k c d y z u v under s (inr (inr kept)) = inr (inr (record {
 pub ending_more : (k status : ℕ) (left result : Option Left) (d y z : DeskState) (old now : List CLine) (line new : CLine)
     → IsEnding k left d y old now → k < length now → length old ≡ clients_of d
     → ((x : CLine) → line ≡ get_or now k x)
-    → (status ≡ OK → IsOverAt k y line new) → (HasNoLine line → z ≡ y)
-    → (0 < status → IsLeftAt k status y line new) → (0 < status → status ≢ LEFT → z ≡ y)
+    → (status ≡ OK → IsOverAt k y z line new)
+    → (HasNoLine line → (i : RingInlet) → HasLooked (get_or y.inlets k i) (get_or z.inlets k i))
+    → (0 < status → IsLeftAt k status y z line new) → (0 < status → status ≢ LEFT → HasLine line → z ≡ y)
     → OnlySettles k y z → new ≡ with_line line new.slot.state
     → (left ≢ None → result ≡ left) → (left ≡ None → status ≡ OK → result ≡ None)
     → (left ≡ None → 0 < status → result ≡ Some (record { client = k; status = status }))
@@ -249,11 +286,12 @@ ending_more k status left result d y z old now line new was low clients is ended
     let same : (x : CLine) → line ≡ get_or old k x = λ x. is x ∙ was.later k x (omega arith) in
     let t : IsTried k status d z old now new = record {
       low = low;
-      ended = λ e x. subst (λ v. IsOverAt k d v new) (same x) (over_before k d y line new was.keeps client (ended e));
-      left = λ e x. subst (λ v. IsLeftAt k status d v new) (same x) (left_before k status d y line new was.keeps client (refused e));
-      same_inlet = λ e other i. ap (λ (w : DeskState). get_or w.inlets k i) (same_desk e other) ∙ was.later_inlets k i (omega arith);
-      skipped = λ x none i. ap (λ (w : DeskState). get_or w.inlets k i) (skipped (subst HasNoLine (sym (same x)) none))
-          ∙ was.later_inlets k i (omega arith);
+      ended = λ e x. subst (λ v. IsOverAt k d z v new) (same x) (over_before k d y z line new was.keeps client (ended e));
+      left = λ e x. subst (λ v. IsLeftAt k status d z v new) (same x) (left_before k status d y z line new was.keeps client (refused e));
+      same_inlet = λ e other x held i. ap (λ (w : DeskState). get_or w.inlets k i)
+          (same_desk e other (subst HasLine (sym (same x)) held)) ∙ was.later_inlets k i (omega arith);
+      skipped = λ x none i. subst (λ (j : RingInlet). HasLooked j (get_or z.inlets k i)) (was.later_inlets k i (omega arith))
+          (skipped (subst HasNoLine (sym (same x)) none) i);
     } in record {
       keeps = keeps_more k d y z was.keeps settles;
       as_many = length-set now k new ∙ was.as_many;
@@ -265,5 +303,5 @@ ending_more k status left result d y z old now line new was low clients is ended
           (subst (λ v. new ≡ with_line v new.slot.state) (same x) only);
       later = λ c x high. at_other k c x new now (more_is_other c k high) ∙ was.later c x (omega (arith, high));
       later_inlets = λ c i high. settles.others c i (more_is_other c k high) ∙ was.later_inlets c i (omega (arith, high));
-      first = first_more k status left result d z old now new t was.first before ok more;
+      first = first_more k status left result d y z old now new settles t was.first before ok more;
     }

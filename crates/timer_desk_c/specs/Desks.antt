@@ -12,7 +12,7 @@ use Rattle.timer_facility.specs.declared.request.TickFault.TheVariants as TickFa
 use Rattle.timer_facility.specs.declared.request.CloseFault.TheVariants as CloseFaults
 use Rattle.timer_facility.specs.Config.{config_fault}
 use Rattle.timer_facility.specs.Opened.{opened}
-use Rattle.timer_facility.specs.State.{FacilityState}
+use Rattle.timer_facility.specs.State.{FacilityState, with_room}
 use Rattle.timer_facility.specs.WakeUps.{IsWakeUp}
 use Rattle.timer_desk.specs.declared.constructor.TheConstants.{MIN_ROOM, MAX_ROOM}
 use Rattle.timer_desk.specs.declared.report.Served.{Served}
@@ -24,6 +24,7 @@ use Rattle.timer_desk.specs.Ring.{line_of_inlet, got_of, given_of, is_settled, f
 use Rattle.timer_desk.specs.Settlement.{HasSettled}
 use Rattle.timer_desk.specs.Desk.{opened_desk, clients_of, ReportHolds, TakesNothing, tick_notices, close_notices}
 use Rattle.timer_desk_c.specs.declared.layout.DeskConfig.{DeskConfig}
+use Rattle.timer_desk_c.specs.declared.layout.TheConstants.{CONFIG_SIZE}
 use Rattle.timer_desk_c.specs.declared.c_structs.CLine.{CLine}
 use Rattle.timer_desk_c.specs.declared.line.Line.{Line}
 use Rattle.timer_desk_c.specs.declared.desk_maker.TheConstants.{MIN_LINE, MAX_LINE}
@@ -57,7 +58,7 @@ HasTable c = (c.table ≤ CLOCK) × (c.first_tick ≤ last_of c.table)
 -- each number is in its range
 abbrev pub IsFit : ℕ → DeskConfig → Type 0
 IsFit clients c =
-    (config_fault (config_of clients c) ≡ None) × HasTable c × (MIN_ROOM ≤ c.room) × (c.room ≤ MAX_ROOM)
+    (c.size ≡ CONFIG_SIZE) × (config_fault (config_of clients c) ≡ None) × HasTable c × (MIN_ROOM ≤ c.room) × (c.room ≤ MAX_ROOM)
     × (MIN_LINE ≤ c.line) × (c.line ≤ MAX_LINE)
 
 -- the client's end is of this inlet's line
@@ -150,6 +151,7 @@ pub record HasTicked (status : ℕ) (old new : DeskState) : Type 0 where
   pub result : Result (Unit {0}) TickFault
   pub status_is : status ≡ tick_status result
   pub says : Says (Dones.Ticked result ∷ map Dones.Noticed (tick_notices old.facility)) old new
+  pub refused : 0 < status → new ≡ old
 
 abbrev pub close_status : Result ℕ CloseFault → ℕ
 close_status (Ok count) = OK
@@ -163,6 +165,11 @@ pub record HasClosed (status returned : ℕ) (old new : DeskState) : Type 0 wher
   pub status_is : status ≡ close_status result
   pub returned_is : IfOk result (λ count. returned ≡ count)
   pub says : Says (Dones.Closed result ∷ map Dones.Noticed (close_notices old.facility result)) old new
+  pub refused : 0 < status → new ≡ old
+
+-- the same desk, and room was made for as many timers as may be pending
+abbrev pub with_reserve : DeskState → DeskState
+with_reserve d = record d { facility = with_room d.facility }
 
 -- the tick until which nothing expires
 abbrev pub IsNextTick : ℕ → FacilityState → Type 0

@@ -7,8 +7,10 @@ pub mod LineLent
 pub mod Frames
 pub mod Desks
 pub mod Ticks
+pub mod Dropped
 pub mod Rounds
 pub mod ClientServes
 pub mod Shutdown
 pub mod ShutdownAll
 pub mod Freed
+pub mod Opening

@@ -1,5 +1,5 @@
 -- Rounds of the owner over all clients: each is served, each outbox is flushed.
-use Rattle.std.specs.Prelude.{ℕ, ◌≡◌, ◌<◌, ◌≤◌, ◌⊎◌, ◌==◌, Bool, true, false, not, List, [], length, get_or, All, nat_lt, if◌then◌else◌}
+use Rattle.std.specs.Prelude.{ℕ, ◌≡◌, ◌<◌, ◌≤◌, ◌⊎◌, ◌==◌, ◌||◌, Bool, true, false, not, List, [], length, get_or, All, nat_lt, if◌then◌else◌}
 use Rattle.std.specs.List.{list_any}
 use Rattle.timer_desk.specs.declared.report.Served.{Served}
 use Rattle.timer_desk.specs.declared.report.Served.TheVariants as Serveds
@@ -14,6 +14,7 @@ use Rattle.timer_desk.specs.Flush.{IsGiven, without_words}
 use Rattle.timer_desk_c.specs.declared.status.TheConstants.{OK, NO_MEMORY, IDLE}
 use Rattle.timer_desk_c.specs.DeskSlots.{DeskState}
 use Rattle.timer_desk_c.specs.Desks.{Says}
+use Rattle.timer_desk_c.specs.Dropped.{HasDroppedEach}
 
 -- a request was done
 abbrev pub did : Served → Bool
@@ -74,15 +75,6 @@ moved_a_word (Dones.Closed result) = false
 moved_a_word (Dones.Noticed notice) = false
 moved_a_word (Dones.Flushed client count) = nat_lt 0 count
 
--- the member is a serve
-abbrev pub IsServe : Done → Type 0
-IsServe (Dones.Served client served) = Unit {0}
-IsServe (Dones.Ticked result) = ⊥
-IsServe (Dones.Passed limit passed) = ⊥
-IsServe (Dones.Closed result) = ⊥
-IsServe (Dones.Noticed notice) = ⊥
-IsServe (Dones.Flushed client count) = ⊥
-
 -- the member is a flush
 abbrev pub IsFlush : Done → Type 0
 IsFlush (Dones.Served client served) = ⊥
@@ -91,6 +83,17 @@ IsFlush (Dones.Passed limit passed) = ⊥
 IsFlush (Dones.Closed result) = ⊥
 IsFlush (Dones.Noticed notice) = ⊥
 IsFlush (Dones.Flushed client count) = Unit {0}
+
+-- the serves of clients from `low` on and below `high`, none of a client lower than the one before
+abbrev pub AreInOrder : ℕ → ℕ → List Done → Type 0
+AreInOrder low high [] = Unit {0}
+AreInOrder low high (Dones.Served client served ∷ later) =
+    (low ≤ client) × (client < high) × AreInOrder client high later
+AreInOrder low high (Dones.Ticked result ∷ later) = ⊥
+AreInOrder low high (Dones.Passed limit passed ∷ later) = ⊥
+AreInOrder low high (Dones.Closed result ∷ later) = ⊥
+AreInOrder low high (Dones.Noticed notice ∷ later) = ⊥
+AreInOrder low high (Dones.Flushed client count ∷ later) = ⊥
 
 -- at most so many requests of client c were done, and fewer only if a serve of it did none
 pub record IsServedOut (c most : ℕ) (report : List Done) : Type 0 where
@@ -101,11 +104,11 @@ pub record IsServedOut (c most : ℕ) (report : List Done) : Type 0 where
 abbrev pub round_status : Bool → Bool → ℕ
 round_status ran_out busy = if ran_out then NO_MEMORY else if busy then OK else IDLE
 
--- each client was served, up to `most` times, with this status in all
+-- each client was served once, in the order of the clients, up to `most` times, with this status in all
 pub record HasServedAll (most status : ℕ) (old new : DeskState) : Type 0 where
   pub report : List Done
   pub says : Says report old new
-  pub serves : All IsServe report
+  pub in_order : AreInOrder 0 (clients_of old) report
   pub each : (c : ℕ) → c < clients_of old → IsServedOut c most report
   pub status_is : status ≡ round_status (list_any ran_out report) (list_any did_request report)
 
@@ -117,7 +120,7 @@ pub record IsEmptied (count : ℕ) (i j : RingInlet) (b d : BacklogState) : Type
   pub stopped : (d.outbox ≡ []) ⊎ (free_of_inlet j ≡ 0)
 
 -- each client was flushed, and whether a word was moved; nothing but the outboxes and the lines has changed
-pub record HasFlushedAll (moved : Bool) (old new : DeskState) : Type 0 where
+pub record HasFlushedEach (moved : Bool) (old new : DeskState) : Type 0 where
   pub report : List Done
   pub says : Says report old new
   pub flushes : All IsFlush report
@@ -129,3 +132,12 @@ pub record HasFlushedAll (moved : Bool) (old new : DeskState) : Type 0 where
   pub emptied : (c : ℕ) (i : RingInlet) → c < clients_of old
       → IsEmptied (flushed c report) (get_or old.inlets c i) (get_or new.inlets c i) (backlog_at old c)
       (backlog_at new c)
+
+-- each client was flushed, and the words that its line did not take were dropped if the client is gone
+pub record HasFlushedAll (moved : Bool) (old new : DeskState) : Type 0 where
+  pub put : Bool
+  pub between : DeskState
+  pub flushed : HasFlushedEach put old between
+  pub dropped : Bool
+  pub rest : HasDroppedEach dropped between new
+  pub moved_is : moved ≡ put || dropped

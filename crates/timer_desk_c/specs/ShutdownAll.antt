@@ -1,9 +1,12 @@
 -- The end of every client's words at the owner's desk.
 use Rattle.std.specs.Prelude.{ℕ, ◌≡◌, ◌≢◌, ◌<◌, ◌⊎◌, List, length, get_or}
 use Rattle.timer_desk.specs.declared.ring.RingInlet.{RingInlet}
+use Rattle.timer_desk.specs.declared.looks.Found.TheVariants.{Nothing}
 use Rattle.timer_desk.specs.Desk.{clients_of}
+use Rattle.timer_desk.specs.Ring.{found_by_inlet}
+use Rattle.timer_desk.specs.Settlement.{HasLooked}
 use Rattle.timer_desk_c.specs.declared.c_structs.CLine.{CLine}
-use Rattle.timer_desk_c.specs.declared.status.TheConstants.{LEFT, OUT_OF_RANGE}
+use Rattle.timer_desk_c.specs.declared.status.TheConstants.{LEFT, OUT_OF_RANGE, NOT_FREED}
 use Rattle.timer_desk_c.specs.DeskSlots.{DeskState}
 use Rattle.timer_desk_c.specs.Frames.{HasLine, HasNoLine, with_line}
 use Rattle.timer_desk_c.specs.Lines.{unread_on}
@@ -27,27 +30,43 @@ pub record IsEndedAt (c : ℕ) (d : DeskState) (old new : CLine) : Type 0 where
   pub number : old.client ≡ c
   pub ended : HasEnded c (length (unread_on new.slot.state)) d old.slot.state new.slot.state
 
--- C's line holds none, as one that was freed, so that nobody reads the client's words; or these have ended
-abbrev pub IsOverAt : ℕ → DeskState → CLine → CLine → Type 0
-IsOverAt c d old new = HasNoLine old ⊎ IsEndedAt c d old new
+-- C's line holds none, and the client was seen to have freed its end
+pub record IsFreedAt (c : ℕ) (d' : DeskState) (old : CLine) : Type 0 where
+  pub none_held : HasNoLine old
+  pub gone : (i : RingInlet) → found_by_inlet (get_or d'.inlets c i) ≢ Nothing
+
+-- the line was freed, so that nobody reads the client's words; or these have ended
+abbrev pub IsOverAt : ℕ → DeskState → DeskState → CLine → CLine → Type 0
+IsOverAt c d d' old new = IsFreedAt c d' old ⊎ IsEndedAt c d old new
 
 -- this is why the words of C's line were not ended, and the line is as it was
-pub record IsLeftAt (c status : ℕ) (d : DeskState) (old new : CLine) : Type 0 where
+pub record IsHeldBackAt (c status : ℕ) (d : DeskState) (old new : CLine) : Type 0 where
   pub held : HasLine old
   pub why : WhyNotEnded c old.client d old.slot.state status
   pub as_before : IsAsBefore old.slot.state new.slot.state
 
--- C's line holds none, and the owner's end of it in the desk d' is as it was
+-- C's line holds none, and the client was not seen to have freed its end: it is elsewhere
+pub record IsElsewhereAt (c status : ℕ) (d' : DeskState) (old new : CLine) : Type 0 where
+  pub none_held : HasNoLine old
+  pub not_freed : status ≡ NOT_FREED
+  pub there : (i : RingInlet) → found_by_inlet (get_or d'.inlets c i) ≡ Nothing
+  pub same : new ≡ old
+
+-- why the words of the client have not ended
+abbrev pub IsLeftAt : ℕ → ℕ → DeskState → DeskState → CLine → CLine → Type 0
+IsLeftAt c status d d' old new = IsHeldBackAt c status d old new ⊎ IsElsewhereAt c status d' old new
+
+-- C's line holds none, and of the owner's end of it in the desk d' only more is known
 pub record IsSkippedAt (c : ℕ) (d d' : DeskState) (old : CLine) : Type 0 where
   pub none_held : HasNoLine old
-  pub same_inlet : (i : RingInlet) → get_or d'.inlets c i ≡ get_or d.inlets c i
+  pub looked : (i : RingInlet) → HasLooked (get_or d.inlets c i) (get_or d'.inlets c i)
 
 -- for some reason its words were not ended, and the line is as it was; so is the owner's end of it in the
 -- desk d', unless something of the client is left
 pub record IsKeptAt (c : ℕ) (d d' : DeskState) (old new : CLine) : Type 0 where
   pub status : ℕ
   pub refused : 0 < status
-  pub left : IsLeftAt c status d old new
+  pub left : IsHeldBackAt c status d old new
   pub same_inlet : status ≢ LEFT → (i : RingInlet) → get_or d'.inlets c i ≡ get_or d.inlets c i
 
 -- the client was skipped, since it has no line, or its words have ended, or else there is a reason and its
@@ -60,19 +79,19 @@ abbrev pub AllTried : DeskState → DeskState → List CLine → List CLine → 
 AllTried d d' old new = (c : ℕ) (x : CLine) → c < clients_of d
     → IsTriedAt c d d' (get_or old c x) (get_or new c x)
 
--- there is one of C's lines for each client, and the words of all that hold a line have ended
-pub record AllEnded (d : DeskState) (old new : List CLine) : Type 0 where
+-- there is one of C's lines for each client, and each was freed or its words have ended
+pub record AllEnded (d d' : DeskState) (old new : List CLine) : Type 0 where
   pub as_many : length old ≡ clients_of d
-  pub each : (c : ℕ) (x : CLine) → c < clients_of d → IsOverAt c d (get_or old c x) (get_or new c x)
+  pub each : (c : ℕ) (x : CLine) → c < clients_of d → IsOverAt c d d' (get_or old c x) (get_or new c x)
 
--- each client before this one has no line, or its words have ended; and this is why its own have not
-pub record IsFirstLeft (client status : ℕ) (d : DeskState) (old new : List CLine) : Type 0 where
+-- each client before this one has freed its line, or its words have ended; and this is why its own have not
+pub record IsFirstLeft (client status : ℕ) (d d' : DeskState) (old new : List CLine) : Type 0 where
   pub as_many : length old ≡ clients_of d
   pub client_in_range : client < clients_of d
-  pub before : (c : ℕ) (x : CLine) → c < client → IsOverAt c d (get_or old c x) (get_or new c x)
-  pub left : (x : CLine) → IsLeftAt client status d (get_or old client x) (get_or new client x)
+  pub before : (c : ℕ) (x : CLine) → c < client → IsOverAt c d d' (get_or old c x) (get_or new c x)
+  pub left : (x : CLine) → IsLeftAt client status d d' (get_or old client x) (get_or new client x)
 
 -- why the words of not all clients have ended: the first that holds
-abbrev pub WhyNotAllEnded : ℕ → ℕ → DeskState → List CLine → List CLine → Type 0
-WhyNotAllEnded client status d old new =
-    ((status ≡ OUT_OF_RANGE) × (length old ≢ clients_of d)) ⊎ IsFirstLeft client status d old new
+abbrev pub WhyNotAllEnded : ℕ → ℕ → DeskState → DeskState → List CLine → List CLine → Type 0
+WhyNotAllEnded client status d d' old new =
+    ((status ≡ OUT_OF_RANGE) × (length old ≢ clients_of d)) ⊎ IsFirstLeft client status d d' old new

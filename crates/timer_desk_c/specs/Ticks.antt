@@ -1,5 +1,5 @@
 -- Many ticks of the owner's desk, and the flush of one client.
-use Rattle.std.specs.Prelude.{ℕ, ◌≡◌, ◌<◌, ◌⊎◌, [], ◌∷◌, Some, get_or}
+use Rattle.std.specs.Prelude.{ℕ, ◌≡◌, ◌<◌, ◌+◌, ◌⊎◌, [], ◌∷◌, Some, get_or}
 use Rattle.timer_facility.specs.declared.request.TickFault.TheVariants as TickFaults
 use Rattle.timer_facility.specs.State.{FacilityState}
 use Rattle.timer_facility.specs.Verdict.{tick_refusal}
@@ -12,6 +12,7 @@ use Rattle.timer_desk.specs.Ticks.{ticks_report, HasPassed}
 use Rattle.timer_desk_c.specs.declared.status.TheConstants.{CLOSED, CLOCK_END}
 use Rattle.timer_desk_c.specs.DeskSlots.{DeskState}
 use Rattle.timer_desk_c.specs.Desks.{Says}
+use Rattle.timer_desk_c.specs.Dropped.{HasDropped, waiting_at}
 
 -- this many ticks were passed: none if none was asked for
 abbrev pub HasAdvanced : ℕ → ℕ → DeskState → DeskState → Type 0
@@ -25,10 +26,15 @@ WhyNotAdvanced most s status =
     (0 < most) × (((status ≡ CLOSED) × (tick_refusal s ≡ Some TickFaults.Closed))
     ⊎ ((status ≡ CLOCK_END) × (tick_refusal s ≡ Some TickFaults.ClockEnd)))
 
--- the first `count` words of a client's outbox were put into its line, and nothing else has changed: all of
--- its outbox, or no slot of the line is known to be free
+-- The first `put` words of a client's outbox were put into its line: all of its outbox, or no slot of the line is
+-- known to be free. The others were dropped if the client was seen to have freed its end. In all `count` words
+-- have left the outbox, and nothing else has changed.
 pub record HasFlushed (client count : ℕ) (old new : DeskState) : Type 0 where
-  pub says : Says (Dones.Flushed client count ∷ []) old new
-  pub flushes : Flushes ring_lines client count old new
-  pub stopped : (i : RingInlet) → ((backlog_at new client).outbox ≡ [])
-      ⊎ (free_of_inlet (get_or new.inlets client i) ≡ 0)
+  pub put : ℕ
+  pub between : DeskState
+  pub says : Says (Dones.Flushed client put ∷ []) old between
+  pub flushes : Flushes ring_lines client put old between
+  pub stopped : (i : RingInlet) → ((backlog_at between client).outbox ≡ [])
+      ⊎ (free_of_inlet (get_or between.inlets client i) ≡ 0)
+  pub rest : HasDropped client between new
+  pub counted : count + waiting_at new client ≡ waiting_at old client

@@ -1,9 +1,10 @@
 //! The owner's calls on a desk, over any wheel, with C's statuses.
 ghost use Rattle.std.specs.Prelude.{◌≡◌, ◌<◌, ◌≤◌, length, false};
 ghost use Rattle.timer_desk.specs.Desk.{clients_of, backlog_at};
-ghost use Rattle.timer_desk_c.specs.Desks.{status_of, HasServed, HasTicked, HasClosed, IsNextTick, IsFirstDeadline};
+ghost use Rattle.timer_facility.specs.State.{pending_of};
+ghost use Rattle.timer_desk_c.specs.Desks.{with_reserve, status_of, HasServed, HasTicked, HasClosed, IsNextTick, IsFirstDeadline};
 ghost use Rattle.timer_desk_c.specs.Freed.{OnlyLooks};
-ghost use Rattle.timer_desk_c.specs.declared.status.TheConstants.{NO_CLIENT};
+ghost use Rattle.timer_desk_c.specs.declared.status.TheConstants.{OK, NO_CLIENT, NO_MEMORY};
 
 use crate::status::{CLOCK_END, CLOSED, IDLE, NEVER, NO_CLIENT, NO_MEMORY, NO_ROOM, OK};
 use timer_base::Wheel;
@@ -87,6 +88,28 @@ pub(crate) fn line_freed<W: Wheel + Drop>(desk: &mut Desk<W, RingInlet>, client:
         return false;
     }
     desk.is_abandoned(client)
+}
+
+/// Makes room for as many timers as may be pending.
+pub(crate) fn reserve<W: Wheel + Drop>(desk: &mut Desk<W, RingInlet>) -> u32
+    ensures ok { result ≡ OK → desk.new ≡ with_reserve desk.old }
+    ensures err { 0 < result → (result ≡ NO_MEMORY) × (desk.new ≡ desk.old) }
+{
+    match desk.reserve() {
+        Ok(()) => OK,
+        Err(_) => NO_MEMORY,
+    }
+}
+
+/// How many timers of a client are pending. 0 if there is no such client.
+pub(crate) fn pending<W: Wheel + Drop>(desk: &Desk<W, RingInlet>, client: usize) -> usize
+    ensures pending { client < clients_of desk.now → result ≡ pending_of desk.now.facility client }
+    ensures none { clients_of desk.now ≤ client → result ≡ 0 }
+{
+    if client >= desk.clients() {
+        return 0;
+    }
+    desk.facility().pending_of(client as u64)
 }
 
 /// How many words wait in a client's outbox. 0 if there is no such client.

@@ -4,23 +4,25 @@
 //! in `timer_desk`: each member with its exact result, the words for each client in order, and the facility
 //! before and after.
 ghost use Rattle.std.specs.Prelude.{◌≡◌, ◌≢◌, ◌<◌, ◌≤◌, ◌⊎◌, [], length, get_or, true, false};
-ghost use Rattle.timer_facility.specs.State.{FacilityState};
+ghost use Rattle.timer_facility.specs.State.{FacilityState, pending_of};
 ghost use Rattle.timer_desk.specs.declared.ring.RingInlet.{RingInlet};
 ghost use Rattle.timer_desk.specs.Desk.{clients_of, backlog_at};
 ghost use Rattle.timer_desk.specs.Ring.{line_of_inlet};
 ghost use Rattle.timer_desk.specs.Shutdown.{KeepsLines};
 ghost use Rattle.timer_desk_c.specs.Frames.{IsOpen, IsShut, with_desk, HasLine, HasNoLine, with_line};
-ghost use Rattle.timer_desk_c.specs.Desks.{IsFit, IsMade, AllEmpty, IsOneHeld, WhyNotMade, HasServed, HasTicked, HasClosed, IsNextTick, IsFirstDeadline, IsSettled, IsGivenAs, IsAsBefore, WhyNotSettled};
+ghost use Rattle.timer_desk_c.specs.Desks.{IsFit, IsMade, AllEmpty, IsOneHeld, WhyNotMade, with_reserve, HasServed, HasTicked, HasClosed, IsNextTick, IsFirstDeadline, IsSettled, IsGivenAs, IsAsBefore, WhyNotSettled};
 ghost use Rattle.timer_desk_c.specs.Rounds.{HasServedAll, HasFlushedAll};
 ghost use Rattle.timer_desk_c.specs.Ticks.{HasAdvanced, WhyNotAdvanced, HasFlushed};
 ghost use Rattle.timer_desk_c.specs.Shutdown.{IsTied, OnlySettles, HasEnded, WhyNotEnded};
 ghost use Rattle.timer_desk_c.specs.ShutdownAll.{AreTied, OnlyStates, AllTried, AllEnded, WhyNotAllEnded};
 ghost use Rattle.timer_desk_c.specs.Freed.{OnlyLooks};
-ghost use Rattle.timer_desk_c.specs.declared.status.TheConstants.{OK, NOT_OPEN, OPEN, NO_CLIENT, LEFT, NEVER};
+ghost use Rattle.timer_desk_c.specs.Opening.{HasOpened, WhyNotOpened};
+ghost use Rattle.timer_desk_c.specs.declared.status.TheConstants.{OK, NOT_OPEN, OPEN, NO_CLIENT, NO_MEMORY, LEFT, NEVER};
 
 use crate::c_structs::{CDesk, CLine};
 use crate::desk_maker::{Made, make};
 use crate::layout::DeskConfig;
+use crate::opening::open;
 use crate::placement::{are_empty, place};
 use crate::settlement::settle;
 use crate::shutdown::end;
@@ -104,7 +106,8 @@ pub extern "C" fn timers_desk_serve_all(d: &mut CDesk, most: u64) -> u32
     rounds::serve_all(d.slot.desk(), most)
 }
 
-/// Moves words from each client's outbox into its line, as many as it takes. Returns whether one was moved.
+/// Moves words from each client's outbox into its line, as many as it takes. Those that are left of a client whose
+/// line was freed are dropped. Returns whether a word has left its outbox.
 #[unsafe(no_mangle)]
 pub extern "C" fn timers_desk_flush_all(d: &mut CDesk) -> bool
     ensures flushed { IsOpen d.old → HasFlushedAll result d.old.slot.state d.new.slot.state }
@@ -147,7 +150,8 @@ pub extern "C" fn timers_desk_advance(d: &mut CDesk, most: u64, passed: &mut u64
     ticks::advance(d.slot.desk(), most, passed)
 }
 
-/// Moves words from a client's outbox into its line, as many as it takes, and returns how many.
+/// Moves words from a client's outbox into its line, as many as it takes, and drops those that are left if the line
+/// was freed. Returns how many have left the outbox.
 #[unsafe(no_mangle)]
 pub extern "C" fn timers_desk_flush(d: &mut CDesk, client: usize) -> usize
     ensures flushed { IsOpen d.old → client < clients_of d.old.slot.state
@@ -249,6 +253,73 @@ pub extern "C" fn timers_desk_line_freed(d: &mut CDesk, client: usize) -> bool
     calls::line_freed(d.slot.desk(), client)
 }
 
+/// Opens a new line for a client whose line was freed and of which nothing is left at the desk. `line` holds the
+/// client's end from then on. The numbers of its requests go on from those before.
+#[unsafe(no_mangle)]
+pub extern "C" fn timers_desk_open(
+    alloc: Global,
+    d: &mut CDesk,
+    client: usize,
+    line: &mut CLine,
+    room: usize,
+) -> u32
+    ensures opened { result ≡ OK → IsOpen d.old × HasNoLine line.old × HasLine line.new
+        × (line.new.client ≡ client)
+        × HasOpened client room d.old.slot.state d.new.slot.state line.new.slot.state }
+    ensures refused { 0 < result → ((result ≡ NOT_OPEN) × IsShut d.old)
+        ⊎ ((result ≡ OPEN) × IsOpen d.old × HasLine line.old)
+        ⊎ (IsOpen d.old × HasNoLine line.old
+        × WhyNotOpened client room d.old.slot.state d.new.slot.state result) }
+    ensures kept { 0 < result → (line.new ≡ line.old) × ((d.new ≡ d.old)
+        ⊎ OnlyLooks client d.old.slot.state d.new.slot.state) }
+    ensures only { d.new ≡ with_desk d.old d.new.slot.state }
+{
+    if !d.slot.holds() {
+        return NOT_OPEN;
+    }
+    if line.slot.holds() {
+        return OPEN;
+    }
+    match open(alloc, d.slot.desk(), client, room) {
+        Ok(end) => {
+            line.slot.put(RawBox::park(end));
+            line.client = client as u64;
+            OK
+        }
+        Err(status) => status,
+    }
+}
+
+/// Makes room for as many timers as may be pending: no serve runs out of memory from then on.
+#[unsafe(no_mangle)]
+pub extern "C" fn timers_desk_reserve(d: &mut CDesk) -> u32
+    ensures reserved { result ≡ OK → IsOpen d.old × (d.new.slot.state ≡ with_reserve d.old.slot.state) }
+    ensures refused { 0 < result → ((result ≡ NOT_OPEN) × IsShut d.old)
+        ⊎ ((result ≡ NO_MEMORY) × IsOpen d.old) }
+    ensures kept { 0 < result → d.new.slot.state ≡ d.old.slot.state }
+    ensures only { d.new ≡ with_desk d.old d.new.slot.state }
+{
+    if !d.slot.holds() {
+        return NOT_OPEN;
+    }
+    calls::reserve(d.slot.desk())
+}
+
+/// How many timers of a client are pending. 0 if there is no such client or no desk.
+#[unsafe(no_mangle)]
+pub extern "C" fn timers_desk_pending(d: &mut CDesk, client: usize) -> usize
+    ensures pending { IsOpen d.old → client < clients_of d.old.slot.state
+        → result ≡ pending_of d.old.slot.state.facility client }
+    ensures none { IsOpen d.old → clients_of d.old.slot.state ≤ client → result ≡ 0 }
+    ensures not_open { IsShut d.old → result ≡ 0 }
+    ensures same { d.new ≡ d.old }
+{
+    if !d.slot.holds() {
+        return 0;
+    }
+    calls::pending(d.slot.desk(), client)
+}
+
 /// How many words wait in a client's outbox. 0 if there is no such client or no desk.
 #[unsafe(no_mangle)]
 pub extern "C" fn timers_desk_outbox(d: &mut CDesk, client: usize) -> usize
@@ -334,14 +405,17 @@ pub extern "C" fn timers_desk_end(
 ///
 /// Returns `OK` if the words of all have ended. Otherwise it returns the reason of the first client for which
 /// they have not, as `timers_desk_end` does, and writes its number. The others have ended if they could. A
-/// line that was freed is skipped: no client waits for its words.
+/// line that was freed is skipped: no client waits for its words. If a struct holds no line, and that of its client
+/// was not freed, the reason is `NOT_FREED`.
 #[unsafe(no_mangle)]
 pub extern "C" fn timers_desk_end_all(d: &mut CDesk, lines: &mut [CLine], client: &mut usize) -> u32
     requires lines { IsOpen d.old → length lines.old ≡ clients_of d.old.slot.state
         → AreTied d.old.slot.state lines.old }
-    ensures ended { result ≡ OK → IsOpen d.old × AllEnded d.old.slot.state lines.old lines.new }
+    ensures ended { result ≡ OK → IsOpen d.old × AllEnded d.old.slot.state d.new.slot.state lines.old
+        lines.new }
     ensures refused { 0 < result → ((result ≡ NOT_OPEN) × IsShut d.old)
-        ⊎ (IsOpen d.old × WhyNotAllEnded client.new result d.old.slot.state lines.old lines.new) }
+        ⊎ (IsOpen d.old × WhyNotAllEnded client.new result d.old.slot.state d.new.slot.state lines.old
+        lines.new) }
     ensures tried { IsOpen d.old → length lines.old ≡ clients_of d.old.slot.state
         → AllTried d.old.slot.state d.new.slot.state lines.old lines.new }
 

@@ -7,7 +7,7 @@ ghost use Rattle.timer_wheels.specs.Tables.{last_of_table, slots_of_table};
 ghost use Rattle.timer_desk_c.specs.Desks.{config_of, last_of, slots_of, IsFit, AreNewLines, IsNewDesk, WhyNotMade};
 ghost use Rattle.timer_desk_c.specs.declared.status.TheConstants.{CLOCK};
 
-use crate::layout::DeskConfig;
+use crate::layout::{CONFIG_SIZE, DeskConfig};
 use crate::line::Line;
 use crate::status::{CLOCK, NO_MEMORY, OUT_OF_RANGE, WIDE};
 use std::alloc::Global;
@@ -68,6 +68,9 @@ fn checked(clients: usize, config: DeskConfig) -> Option<Checked>
     ensures some { (c : _) → result ≡ Some c → (c ≡ config_of clients config) × IsFit clients config }
     ensures none { result ≡ None → IsFit clients config → ⊥ }
 {
+    if config.size != CONFIG_SIZE {
+        return None;
+    }
     if config.room < MIN_ROOM || config.room > MAX_ROOM {
         return None;
     }

@@ -31,10 +31,15 @@ pub struct Message {
     pub other: u64,
 }
 
+/// How many bytes a `DeskConfig` has.
+pub const CONFIG_SIZE: usize = 48;
+
 /// The numbers that a desk is made with: `struct timers_desk_config`.
 #[repr(C)]
 #[derive(Clone, Copy, Debug, PartialEq, Eq)]
 pub struct DeskConfig {
+    /// How many bytes this struct has, `CONFIG_SIZE`: so that a later version can tell it from one with more fields.
+    pub size: usize,
     /// The tick at which its clock begins.
     pub first_tick: u64,
     /// The most timers that may be pending at a time.

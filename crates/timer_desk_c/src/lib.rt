@@ -6,7 +6,8 @@
 //!
 //!     desk_exports   the owner's calls: each tests whether a desk is held, and passes the call on
 //!     line_exports   a client's calls, the same for its line
-//!     calls, rounds, ticks, settlement, shutdown, shutdown_all    what they do to a desk, with C's statuses
+//!     calls, rounds, ticks, dropping, settlement, shutdown, shutdown_all, opening
+//!                    what they do to a desk, with C's statuses
 //!     line           a client's end, before and after it has finished
 //!     messages       words as C's struct
 //!     desk_maker, placement    a new desk, and its lines put into C's structs
@@ -20,11 +21,13 @@ mod calls;
 mod desk_cell;
 mod desk_exports;
 mod desk_maker;
+mod dropping;
 mod layout;
 mod line;
 mod line_cell;
 mod line_exports;
 mod messages;
+mod opening;
 mod placement;
 mod rounds;
 mod settlement;

@@ -1,9 +1,11 @@
 //! Rounds of the owner: each client is served, or each outbox flushed.
 ghost use Rattle.std.specs.Prelude.{◌≡◌, ◌<◌, ◌||◌, nat_lt};
 ghost use Rattle.timer_desk.specs.Desk.{clients_of};
-ghost use Rattle.timer_desk_c.specs.Rounds.{did, starved, round_status, HasServedAll, HasFlushedAll};
+ghost use Rattle.timer_desk_c.specs.Rounds.{did, starved, round_status, HasServedAll, HasFlushedEach, HasFlushedAll};
+ghost use Rattle.timer_desk_c.specs.Dropped.{HasDroppedEach};
 ghost use Rattle.timer_desk_c.specs.ClientServes.{HasServedClient};
 
+use crate::dropping::drop_rest;
 use crate::status::{IDLE, NO_MEMORY, OK};
 use timer_base::Wheel;
 use timer_desk::{Desk, RingInlet, Served};
@@ -53,9 +55,30 @@ fn serve_up_to<W: Wheel + Drop>(desk: &mut Desk<W, RingInlet>, client: usize, mo
     }
 }
 
-/// Flushes each client's outbox. Returns whether a word was moved.
+/// Flushes each client's outbox, and then drops the words that are left of clients whose line was freed. Returns
+/// whether a word has left its outbox.
 pub(crate) fn flush_all<W: Wheel + Drop>(desk: &mut Desk<W, RingInlet>) -> bool
     ensures { HasFlushedAll result desk.old desk.new }
+{
+    let put = flush_each(desk);
+    let dropped = drop_each(desk);
+    either(put, dropped)
+}
+
+/// Drops the words of each client whose line was freed. Returns whether a word was dropped.
+fn drop_each<W: Wheel + Drop>(desk: &mut Desk<W, RingInlet>) -> bool
+    ensures { HasDroppedEach result desk.old desk.new }
+{
+    let mut dropped = false;
+    for client in 0..desk.clients() {
+        dropped = either(dropped, is_some(drop_rest(desk, client)));
+    }
+    dropped
+}
+
+/// Flushes each client's outbox. Returns whether a word was moved.
+fn flush_each<W: Wheel + Drop>(desk: &mut Desk<W, RingInlet>) -> bool
+    ensures { HasFlushedEach result desk.old desk.new }
 {
     desk.lemma_invariant();
     let mut busy = false;

@@ -1,15 +1,20 @@
 //! Ends the words of every client: each is tried in turn, and the first that is left is reported.
-ghost use Rattle.std.specs.Prelude.{◌≡◌, ◌≢◌, ◌<◌, length, Some, None, IsNone, IfSome};
+ghost use Rattle.std.specs.Prelude.{◌≡◌, ◌≢◌, ◌<◌, ◌⊎◌, length, get_or, Some, None, IsNone, IfSome};
 ghost use Rattle.timer_desk.specs.Desk.{clients_of};
+ghost use Rattle.timer_desk.specs.declared.ring.RingInlet.{RingInlet};
+ghost use Rattle.timer_desk.specs.declared.looks.Found.TheVariants as Found;
+ghost use Rattle.timer_desk.specs.Ring.{found_by_inlet};
+ghost use Rattle.timer_desk.specs.Settlement.{HasLooked};
 ghost use Rattle.timer_desk.specs.Shutdown.{KeepsLines};
 ghost use Rattle.timer_desk_c.specs.Frames.{HasLine, HasNoLine, with_line};
+ghost use Rattle.timer_desk_c.specs.Freed.{OnlyLooks};
 ghost use Rattle.timer_desk_c.specs.Shutdown.{IsTied, OnlySettles};
 ghost use Rattle.timer_desk_c.specs.ShutdownAll.{AreTied, OnlyStates, IsOverAt, IsLeftAt, AllTried, AllEnded, IsFirstLeft, WhyNotAllEnded};
-ghost use Rattle.timer_desk_c.specs.declared.status.TheConstants.{OK, LEFT};
+ghost use Rattle.timer_desk_c.specs.declared.status.TheConstants.{OK, LEFT, NOT_FREED};
 
 use crate::c_structs::CLine;
 use crate::shutdown::end;
-use crate::status::{OK, OUT_OF_RANGE};
+use crate::status::{NOT_FREED, OK, OUT_OF_RANGE};
 use timer_base::Wheel;
 use timer_desk::{Desk, RingInlet};
 
@@ -21,7 +26,7 @@ pub struct Left {
     pub status: u32,
 }
 
-/// Ends the words of each client whose words can be ended, and passes over those whose line was freed. Fails
+/// Ends the words of each client whose words can be ended, and skips those whose line was freed. Fails
 /// with the status of the first client for which they can't, and writes its number.
 pub(crate) fn end_all<W: Wheel + Drop>(
     desk: &mut Desk<W, RingInlet>,
@@ -29,8 +34,8 @@ pub(crate) fn end_all<W: Wheel + Drop>(
     client: &mut usize,
 ) -> u32
     requires lines { length lines.old ≡ clients_of desk.old → AreTied desk.old lines.old }
-    ensures ended { result ≡ OK → AllEnded desk.old lines.old lines.new }
-    ensures refused { 0 < result → WhyNotAllEnded client.new result desk.old lines.old lines.new }
+    ensures ended { result ≡ OK → AllEnded desk.old desk.new lines.old lines.new }
+    ensures refused { 0 < result → WhyNotAllEnded client.new result desk.old desk.new lines.old lines.new }
     ensures tried { length lines.old ≡ clients_of desk.old → AllTried desk.old desk.new lines.old lines.new }
     ensures client { result ≡ OK → client.new ≡ client.old }
     ensures kept { length lines.old ≢ clients_of desk.old → (desk.new ≡ desk.old) × (lines.new ≡ lines.old)
@@ -54,9 +59,9 @@ pub(crate) fn end_all<W: Wheel + Drop>(
 fn end_each<W: Wheel + Drop>(desk: &mut Desk<W, RingInlet>, lines: &mut [CLine]) -> Option<Left>
     requires as_many { length lines.old ≡ clients_of desk.old }
     requires lines { AreTied desk.old lines.old }
-    ensures none { IsNone result → AllEnded desk.old lines.old lines.new }
+    ensures none { IsNone result → AllEnded desk.old desk.new lines.old lines.new }
     ensures some { IfSome result (λ left. (0 < left.status)
-        × IsFirstLeft left.client left.status desk.old lines.old lines.new) }
+        × IsFirstLeft left.client left.status desk.old desk.new lines.old lines.new) }
     ensures tried { AllTried desk.old desk.new lines.old lines.new }
     ensures desk { KeepsLines desk.old desk.new }
     ensures only { OnlyStates lines.old lines.new }
@@ -69,23 +74,42 @@ fn end_each<W: Wheel + Drop>(desk: &mut Desk<W, RingInlet>, lines: &mut [CLine])
     left
 }
 
-/// Ends the words of a client, if they can be ended. Nobody reads the words of a client whose line was freed.
+/// Ends the words of a client, if they can be ended. Nobody reads the words of a client whose line was freed. A struct
+/// that holds no line was freed, or it was moved, and then the client may still wait for words.
 fn end_held<W: Wheel + Drop>(desk: &mut Desk<W, RingInlet>, client: usize, line: &mut CLine) -> u32
+    requires client { client < clients_of desk.old }
     requires line { HasLine line.old → client < clients_of desk.old → line.old.client ≡ client
         → IsTied client desk.old line.old.slot.state }
-    ensures ended { result ≡ OK → IsOverAt client desk.old line.old line.new }
-    ensures skipped { HasNoLine line.old → desk.new ≡ desk.old }
-    ensures left { 0 < result → IsLeftAt client result desk.old line.old line.new }
-    ensures same { 0 < result → result ≢ LEFT → desk.new ≡ desk.old }
+    ensures ended { result ≡ OK → IsOverAt client desk.old desk.new line.old line.new }
+    ensures skipped { HasNoLine line.old → (i : RingInlet) → HasLooked (get_or desk.old.inlets client i)
+        (get_or desk.new.inlets client i) }
+    ensures left { 0 < result → IsLeftAt client result desk.old desk.new line.old line.new }
+    ensures same { 0 < result → result ≢ LEFT → HasLine line.old → desk.new ≡ desk.old }
     ensures desk { OnlySettles client desk.old desk.new }
     ensures only { line.new ≡ with_line line.old line.new.slot.state }
 {
     if !line.slot.holds() {
-        return OK;
+        return freed(desk, client);
     }
     let number = line.client;
     let mut unread = 0;
     end(desk, client, number, line.slot.line(), &mut unread)
+}
+
+/// `OK` if the line of a client was freed.
+fn freed<W: Wheel + Drop>(desk: &mut Desk<W, RingInlet>, client: usize) -> u32
+    requires { client < clients_of desk.old }
+    ensures status { (result ≡ OK) ⊎ (result ≡ NOT_FREED) }
+    ensures gone { result ≡ OK → (i : RingInlet) → found_by_inlet (get_or desk.new.inlets client i)
+        ≢ Found.Nothing }
+    ensures there { 0 < result → (i : RingInlet) → found_by_inlet (get_or desk.new.inlets client i)
+        ≡ Found.Nothing }
+    ensures looked { OnlyLooks client desk.old desk.new }
+{
+    if desk.is_abandoned(client) {
+        return OK;
+    }
+    NOT_FREED
 }
 
 /// The first client that was left, after this one.

@@ -69,6 +69,9 @@ pub const NOT_FINISHED: u32 = 23;
 /// Something of the client is left at the desk.
 pub const LEFT: u32 = 24;
 
+/// The client's line was not freed.
+pub const NOT_FREED: u32 = 25;
+
 /// Ten wheels of 64 slots: a clock of 2^60 ticks.
 pub const WIDE: u32 = 0;
 

@@ -4,6 +4,7 @@ ghost use Rattle.timer_desk.specs.Desk.{clients_of};
 ghost use Rattle.timer_desk_c.specs.Ticks.{HasAdvanced, WhyNotAdvanced, HasFlushed};
 ghost use Rattle.timer_desk_c.specs.declared.status.TheConstants.{OK};
 
+use crate::dropping::drop_rest;
 use crate::status::{CLOCK_END, CLOSED, OK};
 use timer_base::Wheel;
 use timer_desk::{Desk, RingInlet};
@@ -33,7 +34,8 @@ pub(crate) fn advance<W: Wheel + Drop>(
     }
 }
 
-/// Flushes a client's outbox, and returns how many words were moved: 0 if there is no such client.
+/// Flushes a client's outbox, drops the words that are left if its line was freed, and returns how many words have
+/// left the outbox: 0 if there is no such client.
 pub(crate) fn flush<W: Wheel + Drop>(desk: &mut Desk<W, RingInlet>, client: usize) -> usize
     ensures flushed { client < clients_of desk.old → HasFlushed client result desk.old desk.new }
     ensures none { clients_of desk.old ≤ client → (result ≡ 0) × (desk.new ≡ desk.old) }
@@ -41,5 +43,8 @@ pub(crate) fn flush<W: Wheel + Drop>(desk: &mut Desk<W, RingInlet>, client: usiz
     if client >= desk.clients() {
         return 0;
     }
-    desk.flush(client)
+    let before = desk.outbox_len(client);
+    desk.flush(client);
+    drop_rest(desk, client);
+    before - desk.outbox_len(client)
 }

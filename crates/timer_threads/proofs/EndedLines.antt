@@ -1,6 +1,7 @@
 -- The lines of the ends and of the readers that clients left.
-use Rattle.std.proofs.Common.{◌≡◌, ◌<◌, ◌≤◌, ◌⊎◌, inl, inr, true, ◌++◌, ℕ, min, List, [], ◌∷◌, length, get_or, refl, sym, ◌∙◌, ap, subst, arith, append-nil}
+use Rattle.std.proofs.Common.{◌≡◌, ◌<◌, ◌≤◌, ◌+◌, ◌⊎◌, inl, inr, true, ◌++◌, ℕ, min, List, [], ◌∷◌, length, get_or, refl, sym, ◌∙◌, ap, subst, arith, append-nil}
 use Rattle.std.proofs.lemmas.Bool.{cases_lt}
+use Rattle.std.proofs.lemmas.List.{length-append}
 use Rattle.std.specs.Prelude.{Option, Some, None, IfSome, IsNone}
 use Rattle.timer_desk.specs.declared.ring.RingInlet.{RingInlet}
 use Rattle.timer_desk.specs.declared.ring.RequestsEnded.{RequestsEnded}
@@ -13,7 +14,7 @@ use Rattle.timer_desk.specs.declared.driver.DriveEnd.TheVariants as DriveEnds
 use Rattle.timer_threads.specs.declared.fault.ThreadsFault.{ThreadsFault}
 use Rattle.timer_threads.specs.declared.outcome.Worked.{Worked}
 use Rattle.timer_threads.specs.Results.{has_failed, NoneFailed, AllEnded, IsFirstFailed, lower_of, AreUnzipped}
-use Rattle.timer_threads.specs.Threads.{AreOfLines, AllRead, NoneUnread, IsServed, AllServed, IsWoundUp, IsUnfinished, IsFirstClient, IsFirstFault, drive_fault}
+use Rattle.timer_threads.specs.Threads.{AreOfLines, AllRead, NoneUnread, AreSettled, IsFirstWithWords, IsFirstToRead, IsServed, AllServed, IsWoundUp, IsUnfinished, IsFirstClient, IsFirstFault, drive_fault}
 use Rattle.timer_threads.proofs.ResultsLemmas.{unzipped_lengths, unzipped_at, ended_at, reader_at, all_ended}
 
 pub ends_of : (inlets : List RingInlet) (ws : List Worked) (es : List RequestsEnded) (rs : List ClientReader) → AreUnzipped ws es rs
@@ -110,6 +111,42 @@ read_out inlets before after told long none c i r l =
     let left : unread_by (get_or after c r) ≡ [] = none c r (omega (arith, l, long)) in
     sym x.read ∙ sym (append-nil (read_by (get_or after c r))) ∙ ap (λ us. read_by (get_or after c r) ++ us) (sym left) ∙ x.all
 
+-- readers that were read out are settled
+pub are_settled : (inlets : List RingInlet) (before after : List ClientReader) → AllReadOut inlets before after
+    → length after ≡ length inlets → AreSettled after
+are_settled inlets before after told long c r l = (told c (some_inlet inlets c low) r low).settled
+  where
+    low : c < length inlets
+    low = omega (arith, l, long)
+
+    some_inlet : (ys : List RingInlet) → (j : ℕ) → j < length ys → RingInlet
+    some_inlet [] j h = absurd (omega arith)
+    some_inlet (y ∷ ys) j h = y
+
+-- of settled readers the first for which a word is left is the first that had not read all that was given
+pub first_to_read : (desk : DeskState RingInlet) (ended : List RequestsEnded) (before after : List ClientReader) (c : ℕ)
+    → AllIdle desk → AllGot desk.inlets ended → AllReadOut desk.inlets before after → length after ≡ length desk.inlets
+    → IsFirstWithWords after c → IsFirstToRead desk ended before c
+first_to_read desk ended before after c idle got told long first = record {
+  client = low;
+  idle = idle;
+  got = got;
+  unread = λ i r.
+      let x = told c i r low in
+      let some = first.unread r in
+      let read : length (read_by (get_or before c r)) ≡ length (read_by (get_or after c r)) = ap length (sym x.read) in
+      let sum : length (read_by (get_or after c r)) + length (unread_by (get_or after c r)) ≡ length (given_of (get_or desk.inlets c i)) =
+          sym (length-append (read_by (get_or after c r)) (unread_by (get_or after c r))) ∙ ap length x.all in
+      omega (arith, some, read, sum);
+  before = λ k i r l.
+      let x = told k i r (omega (arith, l, low)) in
+      sym x.read ∙ sym (append-nil (read_by (get_or after k r))) ∙ ap (λ us. read_by (get_or after k r) ++ us) (sym (first.before k r l))
+      ∙ x.all;
+}
+  where
+    low : c < length desk.inlets
+    low = let l = first.client in omega (arith, l, long)
+
 pub IfSome-map : {X : Type 0} (P Q : X → Type 0) (o : Option X) → ((x : X) → P x → Q x) → IfSome o P → IfSome o Q
 IfSome-map P Q None f h = h
 IfSome-map P Q (Some x) f h = f x h
@@ -138,31 +175,42 @@ pub record IsFirstHeld (desk : DeskState RingInlet) (all : List Worked) (c : ℕ
 pub unfinished_by : {X : Type 0} (es : X → List RequestsEnded) (rs : X
     → List ClientReader) (desk : DeskState RingInlet) (all : List Worked) (parts : Option X) (held : Option ℕ)
     → AreOfLines desk.inlets all → IfSome parts (λ p. AreUnzipped all (es p) (rs p)) → (IsNone parts → IsNone held)
-    → IfSome held (λ c. IfSome parts (λ p. IsBlamed desk (es p) c)) → IfSome held (λ c. IsFirstHeld desk all c)
+    → IfSome held (λ c. IfSome parts (λ p. IsBlamed desk (es p) c ⊎ IsFirstToRead desk (es p) (rs p) c))
+    → IfSome held (λ c. IsFirstHeld desk all c)
 unfinished_by es rs desk all parts None lines unzipped missing told = tt
 unfinished_by es rs desk all None (Some c) lines unzipped missing told = let none = missing refl in absurd (cc)
-unfinished_by es rs desk all (Some p) (Some c) lines unzipped missing told = record {
-  client = low;
-  back = reason told.waiting;
-  before = before;
-}
+unfinished_by es rs desk all (Some p) (Some c) lines unzipped missing told = go told
   where
-    low : c < length all
-    low = let m = lines.as_many in let l = told.client in omega (arith, l, m)
+    low : c < length desk.inlets → c < length all
+    low l = let m = lines.as_many in omega (arith, l, m)
 
-    reason : (((i : RingInlet) (e : RequestsEnded) → IsWaiting (backlog_at desk c) (got_of (get_or desk.inlets c i))
-        (all_submitted (get_or (es p) c e)))
-        ⊎ (AllIdle desk × AllGot desk.inlets (es p))) → IsUnfinished desk all c
-    reason (inl waits) = inl (λ i w e is. subst (λ x. IsWaiting (backlog_at desk c) (got_of (get_or desk.inlets c i)) (all_submitted x))
-        (ended_at all (es p) (rs p) unzipped c w e e low is) (waits i e))
-    reason (inr done) = inr (all_served desk all (es p) (rs p) unzipped lines done.0 done.1)
-
-    before : (k : ℕ) → k < c → IsServed desk all k
-    before k l = record {
-      idle = told.idle_before k l;
-      got = λ i w e is. ap all_submitted (sym (ended_at all (es p) (rs p) unzipped k w e e (let z = low in omega (arith, z, l)) is))
-          ∙ told.got_before k i e l;
+    go : (IsBlamed desk (es p) c ⊎ IsFirstToRead desk (es p) (rs p) c) → IsFirstHeld desk all c
+    go (inl blamed) = record {
+      client = low blamed.client;
+      back = inl (λ i w e is. subst (λ x. IsWaiting (backlog_at desk c) (got_of (get_or desk.inlets c i)) (all_submitted x))
+          (ended_at all (es p) (rs p) unzipped c w e e (low blamed.client) is) (blamed.waiting i e));
+      before = λ k l. record {
+        idle = blamed.idle_before k l;
+        got = λ i w e is. ap all_submitted
+            (sym (ended_at all (es p) (rs p) unzipped k w e e (let z = low blamed.client in omega (arith, z, l)) is))
+            ∙ blamed.got_before k i e l;
+      };
     }
+    go (inr last) =
+        let served : AllServed desk all = all_served desk all (es p) (rs p) unzipped lines last.idle last.got in record {
+          client = low last.client;
+          back = inr (record {
+            served = served;
+            unread = λ i w.
+                let at : (get_or all c w).reader ≡ get_or (rs p) c w.reader =
+                    reader_at all (es p) (rs p) unzipped c w w.reader (low last.client) in
+                subst (λ r. length (read_by r) < length (given_of (get_or desk.inlets c i))) (sym at) (last.unread i w.reader);
+            before = λ k i w l.
+                let z = low last.client in
+                ap read_by (reader_at all (es p) (rs p) unzipped k w w.reader (omega (arith, z, l))) ∙ last.before k i w.reader l;
+          });
+          before = λ k l. served k (let z = low last.client in omega (arith, z, l));
+        }
 
 pub first_client : (desk : DeskState RingInlet) (all : List Worked) (failed held : Option ℕ) (c : ℕ) → lower_of failed held ≡ Some c
     → IfSome failed (λ k. IsFirstFailed all k) → (IsNone failed → NoneFailed all) → IfSome held (λ k. IsFirstHeld desk all k)

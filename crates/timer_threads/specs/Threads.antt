@@ -5,9 +5,9 @@ use Rattle.timer_desk.specs.declared.ring.RequestsEnded.{RequestsEnded}
 use Rattle.timer_desk.specs.declared.ring.ClientReader.{ClientReader}
 use Rattle.timer_desk.specs.declared.driver.DriveEnd.{DriveEnd}
 use Rattle.timer_desk.specs.declared.driver.DriveEnd.TheVariants as DriveEnds
-use Rattle.timer_desk.specs.Desk.{DeskState, IsIdle, backlog_at}
-use Rattle.timer_desk.specs.Shutdown.{IsWaiting}
-use Rattle.timer_desk.specs.Ring.{line_of_end, line_of_inlet, got_of, given_of, all_submitted, read_by, unread_by}
+use Rattle.timer_desk.specs.Desk.{DeskState, IsIdle, AllIdle, backlog_at}
+use Rattle.timer_desk.specs.Shutdown.{IsWaiting, AllGot}
+use Rattle.timer_desk.specs.Ring.{line_of_end, line_of_inlet, got_of, given_of, all_submitted, read_by, unread_by, is_settled_reader}
 use Rattle.timer_threads.specs.declared.child.Child.{Child}
 use Rattle.timer_threads.specs.declared.fault.ThreadsFault.{ThreadsFault}
 use Rattle.timer_threads.specs.declared.fault.ThreadsFault.TheVariants as Faults
@@ -54,6 +54,27 @@ AllRead inlets readers = (c : ℕ) (i : RingInlet) (r : ClientReader) → c < le
 abbrev pub NoneUnread : List ClientReader → Type 0
 NoneUnread readers = (c : ℕ) (r : ClientReader) → c < length readers → unread_by (get_or readers c r) ≡ []
 
+-- each of these readers is settled
+abbrev pub AreSettled : List ClientReader → Type 0
+AreSettled readers = (c : ℕ) (r : ClientReader) → c < length readers → is_settled_reader (get_or readers c r) ≡ true
+
+-- a word is left for this reader, and none for those before it
+pub record IsFirstWithWords (readers : List ClientReader) (c : ℕ) : Type 0 where
+  pub client : c < length readers
+  pub unread : (r : ClientReader) → 0 < length (unread_by (get_or readers c r))
+  pub before : (k : ℕ) (r : ClientReader) → k < c → unread_by (get_or readers k r) ≡ []
+
+-- nothing of any client waits at the desk, and this is the first whose reader has not read all that was given
+pub record IsFirstToRead (desk : DeskState RingInlet) (ended : List RequestsEnded)
+    (readers : List ClientReader) (c : ℕ) : Type 0 where
+  pub client : c < length desk.inlets
+  pub idle : AllIdle desk
+  pub got : AllGot desk.inlets ended
+  pub unread : (i : RingInlet) (r : ClientReader)
+      → length (read_by (get_or readers c r)) < length (given_of (get_or desk.inlets c i))
+  pub before : (k : ℕ) (i : RingInlet) (r : ClientReader) → k < c
+      → read_by (get_or readers k r) ≡ given_of (get_or desk.inlets k i)
+
 -- no request of this client is held, all that it submitted was taken from its line, and its outbox is empty
 pub record IsServed (desk : DeskState RingInlet) (all : List Worked) (c : ℕ) : Type 0 where
   pub idle : IsIdle (backlog_at desk c)
@@ -76,12 +97,20 @@ pub record HasSucceeded (desk : DeskState RingInlet) (outcome : DriveEnd) (all :
   pub good : NoneFailed all
   pub wound : IsWoundUp desk all
 
--- a request or a word of this client waits; or none of any client does
+-- nothing of any client waits, and this is the first that has not read all that it was given
+pub record IsFirstUnread (desk : DeskState RingInlet) (all : List Worked) (c : ℕ) : Type 0 where
+  pub served : AllServed desk all
+  pub unread : (i : RingInlet) (w : Worked)
+      → length (read_by (get_or all c w).reader) < length (given_of (get_or desk.inlets c i))
+  pub before : (k : ℕ) (i : RingInlet) (w : Worked) → k < c
+      → read_by (get_or all k w).reader ≡ given_of (get_or desk.inlets k i)
+
+-- a request or a word of this client waits; or it is the first that has not read all
 abbrev pub IsUnfinished : DeskState RingInlet → List Worked → ℕ → Type 0
 IsUnfinished desk all c =
     ((i : RingInlet) (w : Worked) (e : RequestsEnded) → (get_or all c w).ended ≡ Some e
     → IsWaiting (backlog_at desk c) (got_of (get_or desk.inlets c i)) (all_submitted e))
-    ⊎ AllServed desk all
+    ⊎ IsFirstUnread desk all c
 
 -- this client failed or is unfinished. None before it failed; and if the requests of each client could be
 -- ended, each before it is served.

@@ -1,9 +1,8 @@
 //! The end of a run of clients in threads, once each of them has finished.
-ghost use Rattle.std.specs.Prelude.{◌≡◌, ◌<◌, [], length, IfOk, IfErr, IfSome, IsNone, IsTrue, vec_len};
+ghost use Rattle.std.specs.Prelude.{◌≡◌, ◌⊎◌, IfOk, IfErr, IfSome, IsNone, vec_len};
 ghost use Rattle.timer_desk.specs.Desk.{AllIdle};
-ghost use Rattle.timer_desk.specs.Ring.{unread_by};
 ghost use Rattle.timer_desk.specs.Shutdown.{AreEndsOf, AreReadersOf, AllGot, IsBlamed};
-ghost use Rattle.timer_threads.specs.Threads.{AreOfLines, AllWhole, AllRead, NoneUnread, HasSucceeded, IsFirstFault, drive_fault, whole_text};
+ghost use Rattle.timer_threads.specs.Threads.{AreOfLines, AllWhole, AllRead, NoneUnread, AreSettled, IsFirstWithWords, IsFirstToRead, HasSucceeded, IsFirstFault, drive_fault, whole_text};
 ghost use Rattle.timer_threads.specs.Results.{lower_of};
 
 use crate::fault::ThreadsFault;
@@ -19,8 +18,8 @@ use timer_wheels::HierWheel;
 ///
 /// Errors in their order: out of memory, a client, and the desk's limit. The client failed, or something of
 /// it is left: a held request, a request in its line or a word in its outbox. If nothing is left of any
-/// client, its line could not be finished, or its words were not all read. No client before it failed, and
-/// nothing of one before it is left. If the requests of a client could not be ended, the desk is not
+/// client, it is the first whose words were not all read. No client before it failed, and nothing of one before
+/// it is left. If the requests of a client could not be ended, the desk is not
 /// wound up, and the error names the first client that failed.
 pub fn end_all(
     alloc: Global,
@@ -71,22 +70,23 @@ fn first_fault(
 }
 
 /// Winds the desk up if all its parts are there, and returns the client that blocked it. That is the first
-/// with a held request, or with a request or a word that waits. If there is none, it is the first whose line
-/// could not be finished, or the first with a word left to read.
+/// with a held request, or with a request or a word that waits. If there is none, it is the first with a word left
+/// to read.
 fn first_unfinished(
     desk: Desk<HierWheel, RingInlet>,
     parts: Option<(Vec<RequestsEnded>, Vec<ClientReader>)>,
 ) -> Option<usize>
     requires ends { IfSome parts (λ p. AreEndsOf desk.inlets p.0.items) }
     requires readers { IfSome parts (λ p. AreReadersOf desk.inlets p.1.items) }
-    ensures some { IfSome result (λ c. IfSome parts (λ p. IsBlamed desk p.0.items c)) }
+    ensures some { IfSome result (λ c. IfSome parts (λ p. IsBlamed desk p.0.items c
+        ⊎ IsFirstToRead desk p.0.items p.1.items c)) }
     ensures no_parts { IsNone parts → IsNone result }
     ensures none { IsNone result → IfSome parts (λ p. AllIdle desk × AllGot desk.inlets p.0.items
         × AllRead desk.inlets p.1.items) }
 {
     match parts {
         Some((ends, readers)) => match wind_up(desk, ends, readers) {
-            Ok((_, readers)) => first_unread(readers),
+            Ok((_, readers)) => first_unread(&readers),
             Err(c) => Some(c),
         },
         None => None,
@@ -94,25 +94,15 @@ fn first_unfinished(
 }
 
 /// The first of the settled readers with an unread word.
-fn first_unread(readers: Vec<ClientReader>) -> Option<usize>
-    ensures some { IfSome result (λ c. c < vec_len readers) }
-    ensures none { IsNone result → NoneUnread readers.items }
+fn first_unread(readers: &[ClientReader]) -> Option<usize>
+    requires { AreSettled readers.now }
+    ensures some { IfSome result (λ c. IsFirstWithWords readers.now c) }
+    ensures none { IsNone result → NoneUnread readers.now }
 {
-    let mut readers = readers;
-    for c in 0..readers.len() {
-        if !is_read_out(&mut readers[c]) {
+    for (c, reader) in readers.iter().enumerate() {
+        if !reader.is_read_out() {
             return Some(c);
         }
     }
     None
-}
-
-/// Whether a settled reader has read all its words.
-fn is_read_out(reader: &mut ClientReader) -> bool
-    ensures { IsTrue result → unread_by reader.old ≡ [] }
-{
-    match reader.receive() {
-        Some(_) => false,
-        None => true,
-    }
 }

@@ -1,10 +1,10 @@
-use Rattle.std.proofs.Common.{◌≡◌, ◌<◌, ◌≤◌, ℕ, Some, length, get_or, take, vec_len}
+use Rattle.std.proofs.Common.{◌≡◌, ◌<◌, ◌≤◌, ℕ, get_or, vec_len}
 use Rattle.timer_desk.specs.declared.ring.RingInlet.{RingInlet}
 use Rattle.timer_desk.specs.declared.ring.RequestsEnded.{RequestsEnded}
 use Rattle.timer_desk.specs.declared.ring.ClientReader.{ClientReader}
 use Rattle.timer_desk.specs.Desk.{IsIdle, backlog_at}
 use Rattle.timer_desk.specs.Ring.{got_of, all_submitted}
-use Rattle.timer_desk.specs.Shutdown.{KeepsLines, IsReadOut, before}
+use Rattle.timer_desk.specs.Shutdown.{KeepsLines, IsReadOut}
 use Rattle.timer_desk.proofs.shutdown.wind_up.Given as goal
 
 -- the ends from c on are unchanged, and the clients below c are done
@@ -18,18 +18,12 @@ invariant-loop-c g l = record {
       ≡ got_of (get_or l.fn.desk.inlets k i);
 }
 
--- the lines left are the first ones, with their readers unchanged; of the others, the readers before the client that is named
--- are settled
-abbrev pub invariant-loop-inlet : goal.invariant-loop-inlet
-invariant-loop-inlet g l = record {
-  first : l.inlets.items ≡ take (vec_len l.inlets) l.initial.inlets.items;
-  fewer : vec_len l.inlets ≤ length l.initial.inlets.items;
+-- the readers from k on are unchanged, and those below k are settled
+abbrev pub invariant-loop-k : goal.invariant-loop-k
+invariant-loop-k g l = record {
+  keeps : KeepsLines l.fn.desk l.desk;
   as_many : vec_len l.readers ≡ vec_len l.fn.readers;
-  below : (k : ℕ) (r : ClientReader) → k < vec_len l.inlets → get_or l.readers.items k r ≡ get_or l.fn.readers.items k r;
-  named : (c : ℕ) → l.unfinished ≡ Some c → c < length l.initial.inlets.items;
-  read : (k : ℕ) (i : RingInlet) (r : ClientReader) → vec_len l.inlets ≤ k → k < before (length l.initial.inlets.items) l.unfinished
-      → IsReadOut (get_or l.initial.inlets.items k i) (get_or l.fn.readers.items k r) (get_or l.readers.items k r);
+  later : (k : ℕ) (r : ClientReader) → l.k ≤ k → get_or l.readers.items k r ≡ get_or l.fn.readers.items k r;
+  read : (k : ℕ) (i : RingInlet) (r : ClientReader) → k < l.k
+      → IsReadOut (get_or l.fn.desk.inlets k i) (get_or l.fn.readers.items k r) (get_or l.readers.items k r);
 }
-
-abbrev pub decreases-loop-inlet : goal.decreases-loop-inlet
-decreases-loop-inlet g l = vec_len l.inlets

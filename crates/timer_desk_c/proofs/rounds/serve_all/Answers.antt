@@ -30,4 +30,4 @@ returns g c =
     let was = c.loop-client.invariant in
     let all = was.all in
     round_done c.args.most c.loop-client.client c.round_status.result c.loop-client.busy c.loop-client.starved c.args.desk.now
-    c.loop-client.desk was.done (omega (arith, all)) c.round_status.ensures
+    c.loop-client.desk was.done (omega (arith, all, c.loop-client-test.false, c.loop-client.auto.client-end)) c.round_status.ensures

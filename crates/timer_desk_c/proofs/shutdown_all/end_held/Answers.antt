@@ -1,4 +1,4 @@
-use Rattle.std.proofs.Common.{◌≡◌, ◌∙◌, ap, sym, subst}
+use Rattle.std.proofs.Common.{◌≡◌, ◌∙◌, ap, sym, subst, inl}
 use Rattle.timer_desk_c.specs.declared.line.Line.{Line}
 use Rattle.timer_desk_c.specs.declared.line_cell.LineCell.{LineCell}
 use Rattle.timer_desk_c.specs.Desks.{IsAsBefore}
@@ -10,10 +10,10 @@ pub returns-then-not-holds-clause-only : goal.returns-then-not-holds-clause-only
 returns-then-not-holds-clause-only g c = looked_line c.args.line.now c.holds.new.self c.holds.ensures.same
 
 pub returns-clause-left : goal.returns-clause-left
-returns-clause-left g c = λ refused.
+returns-clause-left g c = λ refused. inl (
     let old = c.args.line.now in
     let same : c.line.result.now ≡ old.slot.state = c.line.ensures.value ∙ ap (λ (s : LineCell). s.state) c.holds.ensures.same in record {
       held = sym c.holds.ensures.value ∙ c.if-not-holds.false;
       why = subst (λ (l : Line). WhyNotEnded c.args.client old.client c.args.desk.now l c.end.result) same (c.end.ensures.refused refused);
       as_before = subst (λ (l : Line). IsAsBefore l c.end.new.line) same (c.end.ensures.kept refused).1;
-    }
+    })

@@ -15,8 +15,8 @@ invariant_of-self g c =
     (event_of_close c.self.inside.facility c.close-result.new.self c.close-result.result c.self.invariant.nothing_waits closed)
     c.self.invariant handed.facility handed.noted handed.room
 
-pub returns : goal.returns
-returns g c =
+pub returns-clause-told : goal.returns-clause-told
+returns-clause-told g c =
     let handed = c.hand_out.ensures in
     let e = c.close-result.ensures in
     let r = c.close-result.result in

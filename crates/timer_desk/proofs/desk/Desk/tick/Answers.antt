@@ -11,8 +11,8 @@ invariant_of-self g c =
     c.self.inside.backlogs.items c.hand_out.new.backlogs.items
     c.self.invariant c.tick-result.ensures.ticked handed.facility handed.noted handed.room
 
-pub returns : goal.returns
-returns g c =
+pub returns-clause-told : goal.returns-clause-told
+returns-clause-told g c =
     let handed = c.hand_out.ensures in
     let ticked = c.tick-result.ensures in
     let r = c.tick-result.result in
