@@ -11,6 +11,7 @@
 # make fuzz        an hour of scripts, against a model of docs/formats.md (MINUTES=N)
 # make bench-scale measures an operation with 1,000 to 10,000,000 timers pending (bench/build/results)
 # make bench-tail  measures how long single ticks and starts take (bench/build/results)
+# make bench-next  measures turns of an event loop that asks for its next deadline (bench/build/results)
 # make bench-desk  measures client threads over a desk, over C++ rings and around a mutex (bench/build/results)
 # make ports       libuv, nginx and lwIP on these timers: their tests, traces, memory, instructions (ports/README.md)
 # make clean       removes what was built
@@ -87,7 +88,7 @@ bench-lines: timers
 	cd crates/timer_desk_bench && rt run
 	$(MAKE) -C bench lines WORK=$(CURDIR)/$(DESK_BENCH) TIMERS=$(CURDIR)/timers LINE_OPTIONS="$(LINE_OPTIONS)"
 
-bench-scale bench-tail bench-desk: bench-%: lib
+bench-scale bench-tail bench-next bench-desk: bench-%: lib
 	$(MAKE) -C bench $* TIMERS_C=$(CURDIR)/build/lib/libtimers.a RUN_OPTIONS="$(RUN_OPTIONS)"
 
 hostile: all

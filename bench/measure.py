@@ -33,6 +33,7 @@ SCRIPTS = {
     "wrappers": ["wrappers.py"],
     "tail": ["runs.py", "tail"],
     "scale": ["runs.py", "scale", "--repeats", "3", "--count", "500000"],
+    "next": ["runs.py", "next", "--repeats", "3"],
     "desk": ["desk.py", "--repeats", "7"],
 }
 

@@ -1,8 +1,10 @@
 #!/usr/bin/env python3
-"""Runs build/scale or build/tail over facilities, in turns: ns, medians of the repeats with the least and the greatest.
+"""Runs build/scale, build/tail or build/next over facilities, in turns: ns, medians of the repeats with the least and
+the greatest.
 
     runs.py scale [--repeats N] [--facilities A,B] [--sizes 1000,10000] [--count N]
     runs.py tail [--repeats N] [--facilities A,B] [--sizes 1000000] [--count N]
+    runs.py next [--repeats N] [--facilities A,B] [--sizes 10000,100000]
 
 --sizes are numbers of pending timers, --count is how many operations or ticks are timed. Facilities that the program
 doesn't have are left out. Status 1: a run failed, or there is nothing to run.
@@ -14,9 +16,11 @@ import subprocess
 import figures
 from figures import fail, spread
 
-FACILITIES = ["timers-c", "ref-hier", "ref-apart", "ref-hash-64k", "libuv"]
-SIZES = {"scale": "1000,10000,100000,1000000,10000000", "tail": "1000000"}
+WHEELS = "timers-c,ref-hier,ref-apart,ref-hash-64k,libuv"
+FACILITIES = {"scale": WHEELS, "tail": WHEELS, "next": "timers_find_next,timers_next,timers_wakeup,libuv"}
+SIZES = {"scale": "1000,10000,100000,1000000,10000000", "tail": "1000000", "next": "10000,100000,1000000"}
 OPERATIONS = ["stop", "start", "restart", "tick", "expiry", "start_at", "look", "next", "wakeup", "each"]
+TURNS = ["same", "minute", "minutes", "kept", "expiry", "short", "first"]
 RANKS = ["p50", "p99", "p99.9", "p99.99", "longest"]
 TAILS = {"ticks": "a tick", "growth": "a start, the table grows", "room": "a start, with room", "moves": "the tick that moves all"}
 
@@ -64,16 +68,28 @@ def tail(options, facilities):
     figures.write("tail", ["what", "facility", *RANKS], [row for row in rows if any(row[2:])])
 
 
+def next_deadlines(options, facilities):
+    found = turns(options, TURNS)
+    rows = [
+        [turn, facility, *(found.get((facility, size, turn, "turn"), "") for size in options.sizes)]
+        for turn in TURNS
+        for facility in facilities
+    ]
+    figures.write("next", ["turn", "facility", *options.sizes], [row for row in rows if any(row[2:])])
+
+
 def main():
     parser = argparse.ArgumentParser()
-    parser.add_argument("program", choices=["scale", "tail"])
+    parser.add_argument("program", choices=list(SIZES))
     parser.add_argument("--repeats", type=int, default=5)
-    parser.add_argument("--facilities", default=",".join(FACILITIES))
+    parser.add_argument("--facilities")
     parser.add_argument("--sizes")
     parser.add_argument("--count", type=int, default=1_000_000)
     options = parser.parse_args()
     options.sizes = [int(size) for size in (options.sizes or SIZES[options.program]).split(",")]
-    (scale if options.program == "scale" else tail)(options, options.facilities.split(","))
+    options.facilities = options.facilities or FACILITIES[options.program]
+    table = {"scale": scale, "tail": tail, "next": next_deadlines}[options.program]
+    table(options, options.facilities.split(","))
 
 
 main()

@@ -14,6 +14,7 @@
  *     timers_now, timers_len, timers_has_due, timers_wakeup, timers_next - read the state
  *     timers_counts - read what the wheels have done so far
  *     timers_message, timers_version - return the text of a status, and the version of the library
+ *     timers_set_allocator - take memory from functions other than malloc, realloc and free
  *
  * SYNOPSIS
  *     #include <timers.h>
@@ -57,7 +58,8 @@
  *     The clock of TIMERS_CLOCK ends after 100 days. Before that, free the timers, make them again at tick
  *     0 and start what is left. That of TIMERS_WIDE has ticks for 36 million years of milliseconds.
  *
- *     The library is proved, but for the inline functions of this header. Each function meets the contract
+ *     The library is proved, but for timers_set_allocator and the inline functions of this header, which are
+ *     tested. Each other function meets the contract
  *     that the sources state for it (crates/timer_c/src/exports.rt), for every call that keeps the rules below.
  *     Nothing checks that a caller keeps them.
  *
@@ -104,6 +106,9 @@
  *     at the place that its handle has. A caller that wants it back starts what is left in a second `struct
  *     timers`, and frees the first.
  *
+ *     timers_set_allocator gives the library other functions than malloc, realloc and free, once for the
+ *     process: for all its timers, and for its desks (timers_desk.h).
+ *
  * PORTING
  *     What stands for the calls of a heap or of libuv's timers, if `now` is the real time in ticks:
  *
@@ -132,8 +137,8 @@
  *        written exactly if the function's description says so, and otherwise unchanged. The handle of
  *        timers_set_at and the cursor of timers_each are read too.
  *     4. Calls on one `struct timers` come one at a time, but for those that THREADS names.
- *     5. malloc, realloc and free are one allocator, and align as C requires. The timers are freed in a
- *        process that has the allocator which they came from.
+ *     5. malloc, realloc and free, or what timers_set_allocator was given in their place, are one allocator,
+ *        and align as C requires. The timers are freed in a process that has the allocator which they came from.
  *     6. No call comes from a signal handler. THREADS says which calls a forked child may make.
  *
  *     Nothing else is required. A call before timers_new, after timers_free, or in the wrong order returns
@@ -149,7 +154,8 @@
  *     loads with acquire order.
  *
  *     No call waits for another thread, unless the allocator does. malloc, realloc and free are called only by
- *     the calls that MEMORY names, and by timers_free. No call is a cancellation point.
+ *     the calls that MEMORY names, and by timers_free. No call is a cancellation point. timers_set_allocator
+ *     comes before other threads call.
  *
  *     A call has to run to its end. One that is left by a longjmp out of a signal handler, or by an
  *     asynchronous cancellation, may leave the timers half changed: then no call may use them any more,
@@ -226,7 +232,7 @@ extern "C" {
 enum timers_status {
 	TIMERS_OK = 0,
 	TIMERS_NOT_OPEN = 1,       /* not open: timers_new was not called, or timers_free was since */
-	TIMERS_OPEN = 2,           /* already open */
+	TIMERS_OPEN = 2,           /* already open; of timers_set_allocator, memory is in use already */
 	TIMERS_NO_TABLE = 3,       /* the table is none of enum timers_table */
 	TIMERS_NO_MEMORY = 4,      /* no memory for it: malloc or realloc returned NULL, or some 4.29 billion are held */
 	TIMERS_DUE = 5,            /* an expired timer was not yet taken: call timers_expire */
@@ -273,6 +279,18 @@ struct timers_counters {
 	uint64_t moves;      /* how often a timer moved to a lower wheel */
 	uint64_t visits;     /* buckets that were visited */
 };
+
+/* Has the library allocate by these functions from now on: in place of malloc, realloc and free, of which they
+ * keep the promises. Each gives a block that is aligned for every type, or NULL if there is no memory, and then
+ * leaves the one that it was given as it was. `resize` may be NULL: a block that grows is then a new one, into
+ * which the bytes are copied. No function is given NULL, a size of 0, or a block that another made. None may call
+ * the library. `allocate` and `release` must not be NULL.
+ * Comes before the first timers_new and timers_desk_new of the process, and may be called again until then.
+ * Afterwards it returns TIMERS_OPEN and changes nothing. Does not allocate. */
+TIMERS_CHECKED
+enum timers_status timers_set_allocator(void *(*allocate)(size_t size),
+                                        void *(*resize)(void *block, size_t size),
+                                        void (*release)(void *block));
 
 /* Makes timers with this table (enum timers_table), none of them pending, at the first tick. `t` holds them
  * until timers_free. It must begin as TIMERS_INIT or as 0 bytes (rule 1).

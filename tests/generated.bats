@@ -79,7 +79,10 @@ exports() {
 @test "gcc builds a shared object that exports nothing" { exports gcc "" 0; }
 @test "clang builds a shared object that exports nothing" { exports clang "" 0; }
 # How many functions the crates export; tools/c_tests compares their names with those of the headers.
-functions() { grep -hoE 'extern "C" fn timers_[a-z_]*' crates/timer_c/src/*.rt crates/timer_desk_c/src/*.rt | wc -l; }
+# The API: what the crates export, and what heap.c does.
+functions() {
+    grep -hoE '(extern "C" fn|^enum timers_status) timers_[a-z_]*' crates/timer_c/src/*.rt crates/timer_desk_c/src/*.rt generated/heap.c | wc -l
+}
 
 @test "gcc builds the shared object, which exports the API" { exports gcc -DTIMERS_SHARED "$(functions)"; }
 @test "clang builds the shared object, which exports the API" { exports clang -DTIMERS_SHARED "$(functions)"; }
