@@ -326,6 +326,20 @@ pub(crate) fn next<W: Wheel + Drop>(timers: &Timers<W>) -> u64
     }
 }
 
+/// The same, and the wheel keeps what it found.
+pub(crate) fn find_next<W: Wheel + Drop>(timers: &mut Timers<W>) -> u64
+    ensures deadline { IsNextDeadline result timers.old }
+    ensures same { timers.new ≡ timers.old }
+{
+    if timers.has_due() {
+        return timers.now();
+    }
+    match timers.find_next() {
+        Some(deadline) => deadline,
+        None => NEVER,
+    }
+}
+
 /// Writes the first timer from the cursor's place on, with its handle, and moves the cursor past it.
 pub(crate) fn each(
     timers: &Timers<HierWheel>,

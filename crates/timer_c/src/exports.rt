@@ -408,6 +408,20 @@ pub extern "C" fn timers_next(t: &mut CTimers) -> u64
     calls::next(t.slot.timers())
 }
 
+/// The same as `timers_next`. The wheel keeps what it found, so that the next call needs no walk until the last
+/// timer with that deadline is gone. C sees no other change.
+#[unsafe(no_mangle)]
+pub extern "C" fn timers_find_next(t: &mut CTimers) -> u64
+    ensures deadline { IsOpen t.old → IsNextDeadline result t.old.slot.state }
+    ensures not_open { IsShut t.old → result ≡ NEVER }
+    ensures same { t.new ≡ t.old }
+{
+    if !t.slot.holds() {
+        return NEVER;
+    }
+    calls::find_next(t.slot.timers())
+}
+
 /// Writes the first timer from the cursor's place on, pending or expired and not yet taken, with its handle,
 /// and moves the cursor past it. Returns whether there was one.
 #[unsafe(no_mangle)]

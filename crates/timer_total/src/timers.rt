@@ -95,6 +95,15 @@ impl<W: Wheel + Drop> Timers<W> {
         self.wheel.next_deadline()
     }
 
+    /// The first pending deadline, as `next_deadline` returns it. Nothing changes, but the wheel may keep what it
+    /// found, so that the next call needs no walk. Does not allocate.
+    pub fn find_next(&mut self) -> Option<u64>
+        ensures first { result ≡ next_deadline self.old.pending }
+        ensures same { self.new ≡ self.old }
+    {
+        self.wheel.find_next()
+    }
+
     /// Makes room for `most` timers at one time, pending ones and those that expired and were not yet taken.
     /// No timer changes. The only error is out of memory, and what was allocated is kept then too.
     ///
