@@ -11,9 +11,3 @@ pub wakeup_added : {A E : Type 0} (result : Result A E) (old new : List ℕ) (qu
     → IsQuietUntil quiet s → OnOk result (new ≡ old ++ wakeup_line quiet) → OnOk result (HasGrownBy AddsWakeups s old new)
 wakeup_added (Ok x) old new quiet s is h = (wakeup_line quiet, h, wakeup_lawful quiet s is)
 wakeup_added (Err e) old new quiet s is h = tt
-
-pub wakeup_known : {A E : Type 0} (result : Result A E) (old new : List ℕ) (quiet : Option ℕ) (s : FacilityState)
-    → IsQuietUntil quiet s → OnOk result (new ≡ old ++ wakeup_line quiet)
-    → OnOk result ((quiet : Option ℕ) × IsQuietUntil quiet s × (new ≡ old ++ wakeup_line quiet))
-wakeup_known (Ok x) old new quiet s is h = (quiet, is, h)
-wakeup_known (Err e) old new quiet s is h = tt

@@ -58,8 +58,7 @@ impl<W: Wheel + Placement + Drop> Decorator<W> for Placements {
 struct Wakeups;
 
 impl<W: Wheel + Drop> Decorator<W> for Wakeups {
-    ghost use Rattle.std.specs.Prelude.{◌≡◌, ◌++◌, ℕ, Option, OnOk};
-    ghost use Rattle.timer_facility.specs.WakeUps.{IsQuietUntil};
+    ghost use Rattle.std.specs.Prelude.{◌≡◌, ◌++◌, OnOk};
     ghost use Rattle.timer_script.specs.Decorator.{HasGrown, HasGrownBy};
     ghost use Rattle.timer_commands.specs.Wakeups.{AddsWakeups, wakeup_line};
     ghost use Rattle.timer_commands.specs.WakeupLaws.{wakeups_are_lawful};
@@ -75,8 +74,8 @@ impl<W: Wheel + Drop> Decorator<W> for Wakeups {
         ensures added { OnOk result (HasGrownBy AddsWakeups facility.now.state text.old.items text.new.items) }
         ensures kept { HasGrown text.old.items text.new.items }
         // The tick is after the present one, and at most the first pending deadline.
-        ensures wakeup { OnOk result ((quiet : Option ℕ) × IsQuietUntil quiet facility.now.state
-            × (text.new.items ≡ text.old.items ++ wakeup_line quiet)) }
+        ensures wakeup { OnOk result (text.new.items ≡ text.old.items
+            ++ wakeup_line (W.wake_up facility.now.state.slots facility.now.state.now facility.now.state.pending)) }
     {
         push_wakeup(text, facility.quiet_until())
     }
