@@ -5,3 +5,4 @@ pub mod DeskMakerLemmas
 pub mod RoundLemmas
 pub mod PlacementLemmas
 pub mod ShutdownLemmas
+pub mod OpeningLemmas

@@ -1,0 +1,23 @@
+use Rattle.std.proofs.Common.{◌+◌, Bool, sym, subst, arith}
+use Rattle.timer_desk_c.proofs.RoundLemmas.{IsDropping, dropping_nothing, dropping_more, dropping_done}
+use Rattle.timer_desk_c.proofs.rounds.drop_each.Goals as goal
+
+pub loop-client-init : goal.loop-client-init
+loop-client-init g c = record { done = dropping_nothing c.args.desk.now; all = c.clients-client-end.ensures }
+
+pub loop-client-preserved : goal.loop-client-preserved
+loop-client-preserved g c =
+    let was = c.loop-client.invariant in
+    let k = c.loop-client.client in record {
+      done = subst (λ (b : Bool). IsDropping (k + 1) b c.args.desk.now c.drop_rest.new.desk) (sym c.either-dropped.ensures)
+          (dropping_more k c.drop_rest.result c.loop-client.dropped c.is_some.result c.args.desk.now c.loop-client.desk
+          c.drop_rest.new.desk was.done c.drop_rest.ensures.dropped c.drop_rest.ensures.count c.is_some.ensures);
+      all = was.all;
+    }
+
+pub returns : goal.returns
+returns g c =
+    let was = c.loop-client.invariant in
+    let all = was.all in
+    dropping_done c.loop-client.client c.loop-client.dropped c.args.desk.now c.loop-client.desk was.done
+    (omega (arith, all, c.loop-client-test.false, c.loop-client.auto.client-end))

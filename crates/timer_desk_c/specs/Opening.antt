@@ -1,0 +1,68 @@
+-- The line of a client that is gone, opened again.
+use Rattle.std.specs.Prelude.{ℕ, ◌≡◌, ◌≢◌, ◌<◌, ◌≤◌, ◌⊎◌, true, [], get_or}
+use Rattle.timer_base.specs.declared.limits.TheConstants.{LAST}
+use Rattle.timer_facility.specs.State.{number_of, pending_of}
+use Rattle.timer_desk.specs.declared.ring.RingInlet.{RingInlet}
+use Rattle.timer_desk.specs.declared.looks.Found.TheVariants.{Nothing, GoneThenEmpty}
+use Rattle.timer_desk.specs.Desk.{clients_of, backlog_at, IsIdle}
+use Rattle.timer_desk.specs.Ring.{found_by_inlet}
+use Rattle.timer_desk_c.specs.declared.line.Line.{Line}
+use Rattle.timer_desk_c.specs.declared.desk_maker.TheConstants.{MIN_LINE, MAX_LINE}
+use Rattle.timer_desk_c.specs.declared.status.TheConstants.{NO_CLIENT, OUT_OF_RANGE, NOT_FREED, LEFT, NUMBERS_SPENT, NO_MEMORY}
+use Rattle.timer_desk_c.specs.DeskSlots.{DeskState}
+use Rattle.timer_desk_c.specs.Desks.{IsNewInlet, IsEndOf}
+use Rattle.timer_desk_c.specs.Freed.{OnlyLooks}
+use Rattle.timer_desk_c.specs.Lines.{submitted_on, received_on, next_on, free_on, is_open_line}
+
+-- a line has room for this many items each way
+abbrev pub IsRoom : ℕ → Type 0
+IsRoom room = (MIN_LINE ≤ room) × (room ≤ MAX_LINE)
+
+-- a new end whose first request has this number, with room for this many requests
+pub record IsEndFrom (number room : ℕ) (l : Line) : Type 0 where
+  pub open_yet : is_open_line l ≡ true
+  pub submitted : submitted_on l ≡ []
+  pub received : received_on l ≡ []
+  pub next : next_on l ≡ number
+  pub free : free_on l ≡ room
+
+-- nothing is held of the client, no word waits for it, and no timer of it is pending
+pub record IsClear (client : ℕ) (d : DeskState) : Type 0 where
+  pub idle : IsIdle (backlog_at d client)
+  pub none_pending : pending_of d.facility client ≡ 0
+
+-- The client was seen to have freed its end, and then no request to stand in its line: so nothing of it was left.
+-- It has another line, with new ends, whose first request has the number after that of its last; nothing else has
+-- changed.
+pub record HasOpened (client room : ℕ) (old new : DeskState) (line : Line) : Type 0 where
+  pub client_in_range : client < clients_of old
+  pub room_in_range : IsRoom room
+  pub clear : IsClear client old
+  pub between : DeskState
+  pub looked : OnlyLooks client old between
+  pub over : (i : RingInlet) → found_by_inlet (get_or between.inlets client i) ≡ GoneThenEmpty
+  pub number_in_range : number_of old.facility client ≤ LAST
+  pub inlet : RingInlet
+  pub new_inlet : IsNewInlet room inlet
+  pub new_end : IsEndFrom (number_of old.facility client) room line
+  pub tied : IsEndOf inlet line
+  pub same_clients : clients_of new ≡ clients_of old
+  pub same_facility : new.facility ≡ old.facility
+  pub same_backlogs : new.backlogs ≡ old.backlogs
+  pub others : (k : ℕ) (i : RingInlet) → k ≢ client → get_or new.inlets k i ≡ get_or old.inlets k i
+  pub opened : (i : RingInlet) → get_or new.inlets client i ≡ inlet
+
+-- why no line was opened: the first that holds
+abbrev pub WhyNotOpened : ℕ → ℕ → DeskState → DeskState → ℕ → Type 0
+WhyNotOpened client room old new status =
+    ((status ≡ NO_CLIENT) × (clients_of old ≤ client))
+    ⊎ ((status ≡ OUT_OF_RANGE) × (client < clients_of old) × (IsRoom room → ⊥))
+    ⊎ ((status ≡ NOT_FREED) × (client < clients_of old) × IsRoom room
+    × ((i : RingInlet) → found_by_inlet (get_or new.inlets client i) ≡ Nothing))
+    ⊎ ((status ≡ LEFT) × (client < clients_of old) × IsRoom room
+    × ((i : RingInlet) → found_by_inlet (get_or new.inlets client i) ≢ Nothing)
+    × (IsClear client old → (i : RingInlet) → found_by_inlet (get_or new.inlets client i) ≢ GoneThenEmpty))
+    ⊎ ((status ≡ NUMBERS_SPENT) × (client < clients_of old) × IsRoom room × IsClear client old
+    × (LAST < number_of old.facility client))
+    ⊎ ((status ≡ NO_MEMORY) × (client < clients_of old) × IsRoom room × IsClear client old
+    × (number_of old.facility client ≤ LAST))
