@@ -8,7 +8,7 @@ use Rattle.slab.specs.Slab.{Slab, get, HasRoomFor}
 use Rattle.timer_links.specs.declared.node.Node.{Node}
 use Rattle.timer_links.specs.declared.ring.Neighbours.{Neighbours}
 use Rattle.timer_links.specs.declared.ring.TheConstants.{INDEXES}
-use Rattle.timer_links.specs.Links.{HasRoom, HasIndex}
+use Rattle.timer_links.specs.Links.{HasRoom, HasIndex, IsReady}
 use Rattle.timer_links.proofs.Rows.{some_none}
 
 -- room that was made stays: the nodes' memory is as large, and so is that of the indexes
@@ -19,6 +19,18 @@ room_stays room n more reserved old new h e k = record {
   indexes = λ p. let f : n + old.capacity ≤ reserved = h.indexes p in omega arith;
   numbered = λ p. let f : n + old.capacity ≤ INDEXES = h.numbered p in omega arith;
 }
+
+-- keys that are ready stay so: there is no less memory, and there are no fewer indexes
+pub ready_kept : (ready n added was : ℕ) (old new : Slab Node) → IsReady ready n old was → old.capacity ≤ new.capacity
+    → was ≤ added → IsReady ready n new added
+ready_kept ready n added was old new h e k = record {
+  fits = let f : ready ≤ old.capacity = h.fits in omega arith;
+  indexed = let f : n + ready ≤ was = h.indexed in omega arith;
+}
+
+pub ready_stays : (ready n added was : ℕ) (old new : Slab Node) → IsReady ready n old was → new.capacity ≡ old.capacity
+    → was ≤ added → IsReady ready n new added
+ready_stays ready n added was old new h e k = ready_kept ready n added was old new h (omega arith) k
 
 -- no room was made yet
 pub no_room : (n reserved : ℕ) (nodes : Slab Node) → HasRoom 0 n nodes reserved

@@ -3,7 +3,7 @@ use Rattle.std.proofs.Common.{◌≡◌, ◌<◌, ◌≤◌, ◌+◌, ℕ, zero,
 use Rattle.std.specs.Prelude.{Some, None, nat_lt, ◌-◌}
 use Rattle.std.proofs.lemmas.Bool.Decides.{nat_tests}
 use Rattle.std.proofs.lemmas.List.{ext_get_or, append_assoc, with_items_is}
-use Rattle.std.specs.Vec.{with_items, vec_capacity}
+use Rattle.std.specs.Vec.{with_items, vec_len, vec_capacity}
 use Rattle.std.proofs.lemmas.List.FromFn.{length-map-range_with_len, get_or-map-range_with_len}
 use Rattle.slab.specs.Slab.{Slab, get, slab_len}
 use Rattle.timer_links.specs.declared.node.Node.{Node}
@@ -11,7 +11,7 @@ use Rattle.timer_links.specs.declared.ring.Neighbours.{Neighbours}
 use Rattle.timer_links.specs.declared.links.Links.TheInside.{Inside}
 use Rattle.timer_links.specs.Lists.{LinksState, list_at, row_count, KeyedLists}
 use Rattle.timer_links.specs.Ring.{neighbours_at, key_of, IsChain}
-use Rattle.timer_links.specs.Links.{indexes, walk, lists_of, IsLinked, HasRoom}
+use Rattle.timer_links.specs.Links.{indexes, walk, lists_of, IsLinked, HasRoom, IsReady}
 use Rattle.timer_links.proofs.Rows.{length_list_at}
 use Rattle.timer_links.proofs.Rings.{node_at-here}
 
@@ -67,7 +67,7 @@ closed n nodes s v h = let P : KeyedLists → Type 0 = λ x. IsLinked n nodes s 
 -- the lists of a value, which is open
 pub opened : (s : Inside) (v : LinksState) → record { lists = lists_of s.lists s.nodes s.neighbours.items; room = s.room } ≡ v
     → IsLinked s.lists s.nodes s.neighbours.items (lists_of s.lists s.nodes s.neighbours.items) × HasRoom s.room s.lists s.nodes
-    (vec_capacity s.neighbours)
+    (vec_capacity s.neighbours) × IsReady s.ready s.lists s.nodes (vec_len s.neighbours)
     → IsLinked s.lists s.nodes s.neighbours.items v.lists
 opened s v e h = let P : KeyedLists → Type 0 = λ x. IsLinked s.lists s.nodes s.neighbours.items x in
     subst P (ap (λ (r : LinksState). r.lists) e) h.0

@@ -63,3 +63,8 @@ pub record HasRoom (room lists : ℕ) (nodes : Slab Node) (reserved : ℕ) : Typ
 abbrev pub HasIndex : ℕ → Slab Node → List Neighbours → Type 0
 HasIndex lists nodes neighbours =
     (lists + nodes.vacant_key < length neighbours) ⊎ (lists + nodes.capacity ≤ length neighbours)
+
+-- each key below this one has memory for its node, and an index
+pub record IsReady (ready lists : ℕ) (nodes : Slab Node) (added : ℕ) : Type 0 where
+  pub fits : ready ≤ nodes.capacity
+  pub indexed : lists + ready ≤ added

@@ -12,9 +12,9 @@
 ghost use Rattle.std.specs.Prelude.{◌≡◌, ◌≢◌, ◌<◌, ◌≤◌, ◌↔◌, ◌+◌, ◌⊎◌, max, IsTrue, Some, None, IfOk, OnOk, OnErr, IfErr, IfSome, IsSome, length, map, [], replicate};
 ghost use Rattle.timer_links.specs.Lists.{node_at, first_key, with_row, row_count, list_at, without_key, front_moved, appended, PopsFront, AreApart, IsNext, SetsRounds, SetsNode, MovesBack, IsAloneIn, HasRounds};
 ghost use Rattle.timer_links.specs.Keys.{IsFirstUsed};
-ghost use Rattle.std.specs.Vec.{vec_capacity};
+ghost use Rattle.std.specs.Vec.{vec_len, vec_capacity};
 ghost use Rattle.slab.specs.Slab.{HasRoomFor, slab_len};
-ghost use Rattle.timer_links.specs.Links.{HasRoom, HasIndex};
+ghost use Rattle.timer_links.specs.Links.{HasRoom, HasIndex, IsReady};
 ghost use Rattle.timer_links.specs.Ring.{IsGrown};
 ghost use Rattle.timer_links.specs.declared.ring.TheConstants.{INDEXES};
 
@@ -56,12 +56,15 @@ pub struct Links {
     lists: usize,
     // For how many nodes `reserve` made room. It stays when the nodes grow beyond it.
     room: usize,
+    // Keys below this one have memory for their node, and an index. So a key that is given out is compared with
+    // this number, and with the length of neither array.
+    ready: usize,
 }
 
 impl Model for Links {
-    ghost use Rattle.std.specs.Vec.{vec_capacity};
+    ghost use Rattle.std.specs.Vec.{vec_len, vec_capacity};
     ghost use Rattle.timer_links.specs.Lists.{LinksState};
-    ghost use Rattle.timer_links.specs.Links.{IsLinked, HasRoom, lists_of};
+    ghost use Rattle.timer_links.specs.Links.{IsLinked, HasRoom, IsReady, lists_of};
 
     ghost Value = { LinksState };
 
@@ -72,7 +75,8 @@ impl Model for Links {
 
     ghost invariant = { λ s. IsLinked s.lists s.nodes s.neighbours.items
         (lists_of s.lists s.nodes s.neighbours.items)
-        × HasRoom s.room s.lists s.nodes (vec_capacity s.neighbours) };
+        × HasRoom s.room s.lists s.nodes (vec_capacity s.neighbours)
+        × IsReady s.ready s.lists s.nodes (vec_len s.neighbours) };
 }
 
 impl Links {
@@ -97,6 +101,7 @@ impl Links {
             neighbours,
             lists,
             room: 0,
+            ready: 0,
         })
     }
 
@@ -245,7 +250,13 @@ impl Links {
         ensures handed_back { IfErr result (λ failed. failed.0 ≡ node) }
     {
         // All that can fail comes before the first change that a caller could see.
-        let Ok(()) = make_way(&mut self.nodes, &mut self.neighbours, self.lists, self.room) else {
+        let Ok(()) = make_way(
+            &mut self.nodes,
+            &mut self.neighbours,
+            &mut self.ready,
+            self.lists,
+            self.room,
+        ) else {
             return Err((node, OutOfMemory));
         };
         let key = self.nodes.insert_reserved(node);
@@ -413,8 +424,44 @@ impl Links {
 }
 
 /// Makes room for one more node and its index. On an error no node and no link changes.
+///
+/// The keys below `ready` have both, so that it is mostly one comparison.
 #[inline(always)]
 fn make_way(
+    nodes: &mut Slab<Node>,
+    neighbours: &mut Vec<Neighbours>,
+    ready: &mut usize,
+    lists: usize,
+    room: usize,
+) -> Result<(), OutOfMemory>
+    requires roots { lists ≤ length neighbours.old.items }
+    requires few { length neighbours.old.items ≤ INDEXES }
+    requires room { HasRoom room lists nodes.old (vec_capacity neighbours.old) }
+    requires ready { IsReady ready.old lists nodes.old (vec_len neighbours.old) }
+    ensures nodes { nodes.new ≡ record nodes.old { capacity = nodes.new.capacity } }
+    ensures kept { IsGrown neighbours.old.items neighbours.new.items }
+    ensures few { length neighbours.new.items ≤ INDEXES }
+    ensures room { HasRoom room lists nodes.new (vec_capacity neighbours.new) }
+    ensures ready { IsReady ready.new lists nodes.new (vec_len neighbours.new) }
+    ensures fits { OnOk result (HasRoomFor nodes.new 1) }
+    ensures index { OnOk result (HasIndex lists nodes.new neighbours.new.items) }
+    ensures full { OnErr result (room ≤ slab_len nodes.old) }
+{
+    // Read, so that the prover knows that no key in use is past it.
+    let _capacity = nodes.capacity();
+    if nodes.vacant_key() < *ready {
+        return Ok(());
+    }
+    make_ready(nodes, neighbours, lists, room)?;
+    *ready = nodes.capacity().min(neighbours.len() - lists);
+    Ok(())
+}
+
+/// Makes way for a key that is not ready yet. It is rarely called, and kept out of line, which keeps the callers of
+/// `make_way` small.
+#[cold]
+#[inline(never)]
+fn make_ready(
     nodes: &mut Slab<Node>,
     neighbours: &mut Vec<Neighbours>,
     lists: usize,
@@ -424,6 +471,7 @@ fn make_way(
     requires few { length neighbours.old.items ≤ INDEXES }
     requires room { HasRoom room lists nodes.old (vec_capacity neighbours.old) }
     ensures nodes { nodes.new ≡ record nodes.old { capacity = nodes.new.capacity } }
+    ensures larger { nodes.old.capacity ≤ nodes.new.capacity }
     ensures kept { IsGrown neighbours.old.items neighbours.new.items }
     ensures few { length neighbours.new.items ≤ INDEXES }
     ensures room { HasRoom room lists nodes.new (vec_capacity neighbours.new) }
@@ -431,14 +479,10 @@ fn make_way(
     ensures index { OnOk result (HasIndex lists nodes.new neighbours.new.items) }
     ensures full { OnErr result (room ≤ slab_len nodes.old) }
 {
-    let key = nodes.vacant_key();
     if room > 0 {
-        // An unused key below the capacity: so one more node fits.
-        if key < nodes.capacity() && lists + key < neighbours.len() {
-            return Ok(());
-        }
         return make_way_in_room(nodes, neighbours, lists);
     }
+    let key = nodes.vacant_key();
     if key >= INDEXES - lists {
         return Err(OutOfMemory);
     }
@@ -450,8 +494,6 @@ fn make_way(
 /// Makes way where room was promised, and either the next key has no index yet or all nodes that fit are in use.
 ///
 /// In the latter case it grows at once for all the nodes that fit then.
-#[cold]
-#[inline(never)]
 fn make_way_in_room(
     nodes: &mut Slab<Node>,
     neighbours: &mut Vec<Neighbours>,
@@ -484,8 +526,6 @@ fn make_way_in_room(
 /// is below the capacity of the nodes. No node and no link changes.
 ///
 /// The nodes are copied to grow, so that they are as they were if the indexes can't grow with them.
-#[cold]
-#[inline(never)]
 fn make_room(
     nodes: &mut Slab<Node>,
     neighbours: &mut Vec<Neighbours>,

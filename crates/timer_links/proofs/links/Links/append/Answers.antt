@@ -1,6 +1,6 @@
-use Rattle.std.proofs.Common.{◌∙◌, sym, refl}
+use Rattle.std.proofs.Common.{◌∙◌, sym, refl, arith}
 use Rattle.timer_links.proofs.UniqueLists.{opened, closed, written, lists_are}
-use Rattle.timer_links.proofs.Room.{room_stays}
+use Rattle.timer_links.proofs.Room.{room_stays, ready_stays}
 use Rattle.timer_links.proofs.LinksCalls.{read_root}
 use Rattle.timer_links.proofs.Append.{appended_linked, joins_between, joins_behind}
 use Rattle.timer_links.proofs.links.Links.append.Goals as goal
@@ -35,6 +35,7 @@ invariant_of-self c =
           (joins_between _ _ _ _ _ _ _ c.as_mut_slice-neighbours.ensures.value x.is y.is c.join.ensures)
           (joins_behind c.self.inside.neighbours.items _ _ c.args.from _ _ x.is c.join-2.ensures) c.join-3.ensures)),
       room_stays _ _ _ _ _ _ c.self.invariant.1 refl refl,
+      ready_stays _ _ _ _ _ _ c.self.invariant.2 refl (omega arith),
     )
 
 pub returns-clause-appended : goal.returns-clause-appended

@@ -1,11 +1,11 @@
-use Rattle.std.proofs.Common.{◌≡◌, ◌≤◌, ◌+◌, ◌∙◌, ap, arith}
+use Rattle.std.proofs.Common.{rules, ◌≡◌, ◌≤◌, ◌+◌, ◌∙◌, ap, arith}
 use Rattle.std.proofs.Math.Nat.{max-le}
 use Rattle.std.specs.Prelude.{max, ◌-◌}
 use Rattle.slab.specs.Slab.{Slab, slab_len}
 use Rattle.timer_links.specs.declared.node.Node.{Node}
 use Rattle.timer_links.specs.Lists.{LinksState}
 use Rattle.timer_links.proofs.UniqueLists.{opened, closed, lists_are, state_is}
-use Rattle.timer_links.proofs.Room.{room_stays}
+use Rattle.timer_links.proofs.Room.{room_stays, ready_kept}
 use Rattle.timer_links.proofs.LinksCalls.{reserved}
 use Rattle.timer_links.proofs.links.Links.grow_room.Goals as goal
 
@@ -15,6 +15,7 @@ invariant_of-self c =
       closed _ _ _ _ (reserved _ _ _ _ _ _ h c.make_room.ensures.nodes c.make_room.ensures.kept),
       room_stays _ _ _ _ _ _ c.self.invariant.1 (ap (λ (x : Slab Node). x.capacity) c.in_default.ensures.err)
           c.in_default.ensures.err_reserved,
+      ready_kept _ _ _ _ _ _ c.self.invariant.2 c.make_room.ensures.larger (search rules),
     )
 
 pub returns-in_default-clause-err : goal.returns-in_default-clause-err
@@ -41,6 +42,7 @@ invariant_of-self-2 c =
         indexes = λ p. c.in-Ok.ensures.reserved;
         numbered = λ p. c.in-Ok.ensures.numbered;
       },
+      ready_kept _ _ _ _ _ _ c.self.invariant.2 c.make_room.ensures.larger (search rules),
     )
 
 pub returns-clause-ok : goal.returns-clause-ok

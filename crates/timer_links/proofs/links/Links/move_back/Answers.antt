@@ -1,6 +1,6 @@
-use Rattle.std.proofs.Common.{◌∙◌, refl}
+use Rattle.std.proofs.Common.{◌∙◌, refl, arith}
 use Rattle.timer_links.proofs.UniqueLists.{opened, closed, written, lists_are}
-use Rattle.timer_links.proofs.Room.{room_stays}
+use Rattle.timer_links.proofs.Room.{room_stays, ready_stays}
 use Rattle.timer_links.proofs.LinksCalls.{used, held, read_node, joins_read, back_after, moved, size_last}
 use Rattle.timer_links.proofs.links.Links.move_back.Goals as goal
 
@@ -35,6 +35,7 @@ invariant_of-self c =
           (moved _ _ _ _ _ _ c.args.key c.args.list x.node h x.is c.requires.list
           (joins_read _ _ _ _ _ c.as_mut_slice-neighbours.ensures.value r.is c.join.ensures) c.join_last.ensures)),
       room_stays _ _ _ _ _ _ c.self.invariant.1 refl refl,
+      ready_stays _ _ _ _ _ _ c.self.invariant.2 refl (omega arith),
     )
 
 pub returns-clause-moved : goal.returns-clause-moved

@@ -1,6 +1,6 @@
-use Rattle.std.proofs.Common.{◌∙◌, sym, refl}
+use Rattle.std.proofs.Common.{◌∙◌, sym, refl, arith}
 use Rattle.timer_links.proofs.UniqueLists.{opened, closed, written, lists_are}
-use Rattle.timer_links.proofs.Room.{room_stays}
+use Rattle.timer_links.proofs.Room.{room_stays, ready_stays}
 use Rattle.timer_links.proofs.LinksCalls.{read_node, back_after, moved, size_last}
 use Rattle.timer_links.proofs.PopFront.{front_of, joins_front, moves_front}
 use Rattle.timer_links.proofs.links.Links.move_front.Goals as goal
@@ -30,6 +30,7 @@ invariant_of-self c =
           (moved _ _ _ _ _ _ c.in-Some.key c.args.to f.node h f.held c.requires.to
           (joins_front _ _ _ _ _ _ c.as_mut_slice-neighbours.ensures.value r.is f.before c.join.ensures) c.join_last.ensures)),
       room_stays _ _ _ _ _ _ c.self.invariant.1 refl refl,
+      ready_stays _ _ _ _ _ _ c.self.invariant.2 refl (omega arith),
     )
 
 pub returns-clause-moved : goal.returns-clause-moved

@@ -1,4 +1,4 @@
-use Rattle.std.proofs.Common.{ap}
+use Rattle.std.proofs.Common.{ap, arith, rules}
 use Rattle.timer_links.specs.Lists.{LinksState, KeyedLists}
 use Rattle.timer_links.proofs.UniqueLists.{closed, lists_are}
 use Rattle.timer_links.proofs.Room.{no_room}
@@ -17,6 +17,7 @@ invariant_of-result c = (
   closed _ _ _ _ (empty_linked c.args.lists c.loop-list.list c.new.result c.loop-list.neighbours.items c.new.ensures.empty
       c.loop-list.invariant c.loop-list.auto.list-end c.loop-list-test.false c.requires),
   no_room _ _ _,
+  record { fits = omega arith; indexed = search rules },
 )
 
 pub returns : goal.returns

@@ -1,6 +1,6 @@
-use Rattle.std.proofs.Common.{◌∙◌, sym, refl}
+use Rattle.std.proofs.Common.{◌∙◌, sym, refl, arith}
 use Rattle.timer_links.proofs.UniqueLists.{opened, closed, written, lists_are}
-use Rattle.timer_links.proofs.Room.{room_stays}
+use Rattle.timer_links.proofs.Room.{room_stays, ready_stays}
 use Rattle.timer_links.proofs.LinksCalls.{read_node, unlinked}
 use Rattle.timer_links.proofs.PopFront.{front_of, joins_front, node_popped}
 use Rattle.timer_links.proofs.links.Links.pop_front.Goals as goal
@@ -20,6 +20,7 @@ invariant_of-self c =
           (unlinked _ _ _ _ _ _ c.in_ok-key.key h f.used c.remove-node.ensures.updates c.remove-node.ensures.len
           (joins_front _ _ _ _ _ _ c.as_mut_slice.ensures.value r.is f.before c.join.ensures))),
       room_stays _ _ _ _ _ _ c.self.invariant.1 c.remove-node.ensures.capacity refl,
+      ready_stays _ _ _ _ _ _ c.self.invariant.2 c.remove-node.ensures.capacity (omega arith),
     )
 
 pub returns-clause-popped : goal.returns-clause-popped

@@ -1,15 +1,18 @@
 use Rattle.std.proofs.Common.{◌<◌, ◌+◌, ◌∙◌, ap, refl, arith, length}
 use Rattle.timer_links.specs.Lists.{LinksState}
 use Rattle.timer_links.proofs.UniqueLists.{opened, closed, written, lists_are, state_is}
-use Rattle.timer_links.proofs.Room.{room_stays, has_index}
+use Rattle.timer_links.proofs.Room.{room_stays, ready_stays, has_index}
 use Rattle.timer_links.proofs.LinksCalls.{low, back_in, grown, reserved, pushed, size_last, joins_last_read}
 use Rattle.timer_links.proofs.links.Links.push_back.Goals as goal
 
 pub invariant_of-self : goal.invariant_of-self
 invariant_of-self c =
     let h = opened c.self.inside c.args.self.now c.self.view_is c.self.invariant in
-    let g = grown _ _ _ _ _ h c.make_way.ensures.kept c.make_way.ensures.few in
-    (closed _ _ _ _ (reserved _ _ _ _ _ _ g c.make_way.ensures.nodes refl), c.make_way.ensures.room)
+    let g = grown _ _ _ _ _ h c.make_way.ensures.kept c.make_way.ensures.few in (
+      closed _ _ _ _ (reserved _ _ _ _ _ _ g c.make_way.ensures.nodes refl),
+      c.make_way.ensures.room,
+      c.make_way.ensures.ready,
+    )
 
 pub returns-in_default-clause-err : goal.returns-in_default-clause-err
 returns-in_default-clause-err c =
@@ -36,6 +39,7 @@ invariant_of-self-2 c =
           c.insert_reserved-key.ensures.updates c.insert_reserved-key.ensures.len index
           (joins_last_read _ _ _ _ _ c.as_mut_slice.ensures.value c.join_last.ensures))),
       room_stays _ _ _ _ _ _ c.make_way.ensures.room c.insert_reserved-key.ensures.capacity refl,
+      ready_stays _ _ _ _ _ _ c.make_way.ensures.ready c.insert_reserved-key.ensures.capacity (omega arith),
     )
 
 pub returns-clause-pushed : goal.returns-clause-pushed

@@ -1,6 +1,6 @@
-use Rattle.std.proofs.Common.{refl}
+use Rattle.std.proofs.Common.{refl, arith}
 use Rattle.timer_links.proofs.UniqueLists.{opened, closed, lists_are}
-use Rattle.timer_links.proofs.Room.{room_stays}
+use Rattle.timer_links.proofs.Room.{room_stays, ready_stays}
 use Rattle.timer_links.proofs.LinksCalls.{seat}
 use Rattle.timer_links.proofs.SetNode.{node_set}
 use Rattle.timer_links.proofs.links.Links.set_node.Goals as goal
@@ -11,6 +11,7 @@ invariant_of-self c =
     let f = seat _ _ _ _ h c.args.key _ c.index_mut.ensures.value in (
       closed _ _ _ _ (node_set _ _ _ _ c.args.key f.l f.front _ c.args.node f.rest h f.below f.is),
       room_stays _ _ _ _ _ _ c.self.invariant.1 refl refl,
+      ready_stays _ _ _ _ _ _ c.self.invariant.2 refl (omega arith),
     )
 
 pub returns-clause-set : goal.returns-clause-set

@@ -1,8 +1,8 @@
-use Rattle.std.proofs.Common.{◌∙◌, ◌++◌, ◌∷◌, ap, refl}
+use Rattle.std.proofs.Common.{◌∙◌, ◌++◌, ◌∷◌, ap, refl, arith}
 use Rattle.std.specs.Prelude.{slice_set}
 use Rattle.timer_links.specs.declared.node.Node.{Node}
 use Rattle.timer_links.proofs.UniqueLists.{opened, closed, lists_are}
-use Rattle.timer_links.proofs.Room.{room_stays}
+use Rattle.timer_links.proofs.Room.{room_stays, ready_stays}
 use Rattle.timer_links.proofs.LinksCalls.{seat}
 use Rattle.timer_links.proofs.SetNode.{node_set, node_was}
 use Rattle.timer_links.proofs.links.Links.set_rounds.Goals as goal
@@ -16,6 +16,7 @@ invariant_of-self c =
             c.args.rounds;
       }) f.rest h f.below f.is),
       room_stays _ _ _ _ _ _ c.self.invariant.1 refl refl,
+      ready_stays _ _ _ _ _ _ c.self.invariant.2 refl (omega arith),
     )
 
 pub returns-clause-set : goal.returns-clause-set

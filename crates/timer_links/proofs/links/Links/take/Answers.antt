@@ -1,8 +1,8 @@
-use Rattle.std.proofs.Common.{ℕ, ◌∙◌, sym, refl, subst}
+use Rattle.std.proofs.Common.{ℕ, ◌∙◌, sym, refl, subst, arith}
 use Rattle.std.specs.Prelude.{Option}
 use Rattle.timer_links.specs.Lists.{IsAloneIn}
 use Rattle.timer_links.proofs.UniqueLists.{opened, closed, written, lists_are}
-use Rattle.timer_links.proofs.Room.{room_stays}
+use Rattle.timer_links.proofs.Room.{room_stays, ready_stays}
 use Rattle.timer_links.proofs.LinksCalls.{some_is, read_node, joins_read, unlinked}
 use Rattle.timer_links.proofs.AloneIn.{is_alone_in}
 use Rattle.timer_links.proofs.links.Links.take.Goals as goal
@@ -28,6 +28,7 @@ invariant_of-self c =
           (unlinked _ _ _ _ _ _ c.args.key h i c.remove-node.ensures.updates c.remove-node.ensures.len
           (joins_read _ _ _ _ _ c.as_mut_slice.ensures.value r.is c.join.ensures))),
       room_stays _ _ _ _ _ _ c.self.invariant.1 c.remove-node.ensures.capacity refl,
+      ready_stays _ _ _ _ _ _ c.self.invariant.2 c.remove-node.ensures.capacity (omega arith),
     )
 
 pub returns-clause-taken : goal.returns-clause-taken
