@@ -12,6 +12,7 @@
  *     timers_clear - drop all timers
  *     timers_look, timers_each - read one timer, iterate over all of them
  *     timers_now, timers_len, timers_has_due, timers_wakeup, timers_next - read the state
+ *     timers_find_next - read the next deadline, and keep it for later calls
  *     timers_counts - read what the wheels have done so far
  *     timers_message, timers_version - return the text of a status, and the version of the library
  *     timers_set_allocator - take memory from functions other than malloc, realloc and free
@@ -79,13 +80,19 @@
  *         clear                   each timer that is held, and the buckets
  *         wakeup, has_due, now    constant
  *         counts, version         constant
- *         next                    constant, or each timer of one bucket
+ *         next, find_next         constant, or each timer of one bucket
  *         len                     each expired timer that waits
  *         each                    each place up to the next timer
  *         reserve                 each timer that there is room for
- *         new, free               constant: the buckets, three blocks of memory
+ *         new, free               constant: the buckets, four blocks of memory
  *
  *     A move takes a timer to a lower wheel. A tick moves the timers of its bucket, unless they expire.
+ *
+ *     Of each bucket above the lowest wheel the first deadline is kept, and how many timers have it. A start, a
+ *     restart, a stop and a move update that in constant time. It is lost if the last timer that has it is
+ *     stopped or restarted, and others are left in the bucket. If that is the bucket of the next deadline,
+ *     timers_next and timers_find_next look at each of its timers. timers_find_next keeps what it found: then
+ *     both are constant until it is lost again.
  *
  *     Two of these are proved. No start returns TIMERS_NO_MEMORY while fewer timers are held than
  *     timers_reserve made room for. And there are at most 9 moves for each start and restart. (With
@@ -97,8 +104,8 @@
  *     timer has the handle. A start does so only if more timers are held than ever before, and more than
  *     timers_reserve made room for. One that re-arms a timer which was just taken does not.
  *
- *     timers_new allocates some 5 KB for the buckets, and the first start or reserve as much again (with
- *     TIMERS_CLOCK 2 KB each). A timer takes 64 bytes, in two arrays. An array that is full grows, the
+ *     timers_new allocates some 15 KB for the buckets, and the first start or reserve some 5 KB more (with
+ *     TIMERS_CLOCK 6 KB and 2 KB). A timer takes 64 bytes, in two arrays. An array that is full grows, the
  *     larger one to twice its length. So above some 1,000 timers there are 64 to 130 bytes for each, of the
  *     most that were ever held. With timers_reserve there are 64.
  *
@@ -118,7 +125,7 @@
  *         repeat                       the same, once it is taken
  *         uv_timer_get_due_in          timers_look(t, handle, &timer); timer.deadline - now, or 0
  *         uv_is_active                 timers_look(t, handle, &timer) == TIMERS_OK
- *         uv_backend_timeout           timers_next(t) - now, or 0; TIMERS_NEVER if none is held
+ *         uv_backend_timeout           timers_find_next(t) - now, or 0; TIMERS_NEVER if none is held
  *         run what is due by now       while (timers_take(t, now, &timer)) run(timer.action);
  *         drop them all                timers_clear(t)
  *
@@ -251,7 +258,7 @@ enum timers_table {
 
 #define TIMERS_LAST UINT64_C(1152921504606846975)   /* 2^60 - 1 */
 #define TIMERS_CLOCK_LAST UINT64_C(8639999)         /* day 99, 23:59:59 */
-#define TIMERS_NEVER UINT64_MAX                     /* of timers_wakeup and timers_next: nothing is pending */
+#define TIMERS_NEVER UINT64_MAX                     /* of timers_wakeup, timers_next and timers_find_next */
 
 /* Private: see rule 1. */
 struct timers {
@@ -434,9 +441,17 @@ uint64_t timers_wakeup(const struct timers *t);
 
 /* The deadline of the timer that is taken next, exactly. It is the present tick if an expired timer waits to
  * be taken, and TIMERS_NEVER if nothing is pending or `t` is not open. Otherwise it is the first pending
- * deadline. Takes constant time if that comes before the next multiple of 64 ticks (of TIMERS_CLOCK, 60), and
- * otherwise walks the timers of one bucket. A loop that only sleeps can use timers_wakeup. */
+ * deadline. Takes constant time if that comes before the next multiple of 64 ticks (of TIMERS_CLOCK, 60), or
+ * if the first deadline of its bucket is kept. Otherwise it walks the timers of that bucket. Does not allocate.
+ * A loop that asks in each turn calls timers_find_next. */
 uint64_t timers_next(const struct timers *t);
+
+/* Returns what timers_next returns, and keeps it for later calls, none of which returns anything else for that.
+ * It walks the timers of one bucket if timers_next would. Then both take constant time until the last timer
+ * with that deadline is stopped or restarted, and others are left in its bucket. A loop that pushes back the
+ * first timer in each turn may walk in each turn. It can sleep until timers_wakeup, which never walks. Does not
+ * allocate. */
+uint64_t timers_find_next(struct timers *t);
 
 /* Writes `*counts`, what the wheels have done since timers_new, at TIMERS_OK. `starts` counts each start and
  * restart that returned TIMERS_OK. `moves` is at most 9 times `starts` (of TIMERS_CLOCK, 3 times). `visits`

@@ -282,9 +282,11 @@ public:
 	/* How many timers are pending. */
 	std::size_t size() const noexcept { return timers_len(&raw_); }
 
-	/* A tick until which the caller may sleep, and the exact first deadline; nothing if no timer is held. */
+	/* A tick until which the caller may sleep, and the exact first deadline; nothing if no timer is held.
+	 * find_next keeps what it found: it is for a loop that asks in each turn. */
 	std::optional<ticks> wakeup() const noexcept { return unless_never(timers_wakeup(&raw_)); }
 	std::optional<ticks> next() const noexcept { return unless_never(timers_next(&raw_)); }
+	std::optional<ticks> find_next() noexcept { return unless_never(timers_find_next(&raw_)); }
 
 	/* timers_counts: the starts, moves and visits since the timers were made. Throws error: TIMERS_NOT_OPEN. */
 	timers_counters counts() const

@@ -86,6 +86,7 @@ CALLS = {
     "len": (c_size_t, [POINTER(Held)]),
     "wakeup": (c_uint64, [POINTER(Held)]),
     "next": (c_uint64, [POINTER(Held)]),
+    "find_next": (c_uint64, [POINTER(Held)]),
     "each": (c_bool, [POINTER(Held), POINTER(c_size_t), POINTER(Handle), POINTER(Expired)]),
     "counts": (c_uint32, [POINTER(Held), POINTER(Counts)]),
 }
@@ -270,6 +271,11 @@ class Timers:
     def next(self):
         """The deadline of the timer that is taken next, exactly, or None if no timer is held."""
         tick = self._call["next"](self._held)
+        return None if tick == NEVER else tick
+
+    def find_next(self):
+        """The same as next. What it found is kept for later calls, for a loop that asks in each turn."""
+        tick = self._call["find_next"](self._held)
         return None if tick == NEVER else tick
 
     def counts(self):

@@ -86,7 +86,8 @@ def compare(library, calls=20000):
                 assert wakeup == now and refused(timers.tick) == DUE
             else:
                 assert wakeup is None if first is None else now < wakeup <= first
-            assert timers.next() == first and timers.has_due() == (due > 0) and timers
+            assert timers.next() == timers.find_next() == timers.next() == first
+            assert timers.has_due() == (due > 0) and timers
             assert timers.now() == now and len(timers) == len(held) - due
         visited = {handle.serial: (deadline, action) for handle, (deadline, _, action) in timers}
         assert visited == {serial: (deadline, action) for serial, (deadline, action, _) in held.items()}
@@ -126,7 +127,7 @@ def meet_the_edges(library):
             assert raises(TypeError, owned, timers)
         assert timers.look(handle) == (2**60 - 1, 1, 2**64 - 1) and len(timers) == 1
         assert timers.stop(handle) == 2**64 - 1
-        assert timers and len(timers) == 0 and timers.next() is None and timers.wakeup() is None
+        assert timers and len(timers) == 0 and timers.next() is timers.find_next() is timers.wakeup() is None
     assert timers and refused(timers.start, 1, 1) == refused(timers.set_at, handle, 1, 1) == NOT_OPEN
     assert refused(timers.advance, 0) == refused(timers.advance, 1) == refused(timers.advance_to, 1) == NOT_OPEN
     assert refused(timers.catch_up, 0, print) == refused(timers.tick) == NOT_OPEN

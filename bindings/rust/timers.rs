@@ -174,6 +174,7 @@ unsafe extern "C" {
     fn timers_len(t: *const Held) -> usize;
     fn timers_wakeup(t: *const Held) -> u64;
     fn timers_next(t: *const Held) -> u64;
+    fn timers_find_next(t: *mut Held) -> u64;
     fn timers_counts(t: *const Held, counts: *mut Counts) -> c_uint;
 }
 
@@ -371,6 +372,12 @@ impl Timers {
     /// The deadline of the timer that is taken next, exactly; `None` if no timer is held.
     pub fn next_deadline(&self) -> Option<u64> {
         Some(unsafe { timers_next(&self.held) }).filter(|&tick| tick != NEVER)
+    }
+
+    /// The same deadline as that of `next_deadline`. What was found is kept for later calls, so that a loop which
+    /// asks in each turn seldom waits for a walk along timers.
+    pub fn find_next(&mut self) -> Option<u64> {
+        Some(unsafe { timers_find_next(&mut self.held) }).filter(|&tick| tick != NEVER)
     }
 
     /// How often timers were started and moved to a lower wheel, and how many buckets were visited, since the

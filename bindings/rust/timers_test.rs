@@ -121,10 +121,11 @@ fn pass_some(random: &mut Random, timers: &mut Timers, model: &mut Model) {
     assert_eq!((timers.advance_to(now), timers.now()), (Ok(()), here));
 }
 
-fn compare_state(timers: &Timers, model: &Model) {
+fn compare_state(timers: &mut Timers, model: &Model) {
     let (now, first) = (timers.now(), model.first());
     let due = model.held.range(..(now + 1, 0)).count();
     assert_eq!((timers.pending(), timers.next_deadline()), (model.held.len() - due, first));
+    assert_eq!((timers.find_next(), timers.next_deadline()), (first, first));
     assert_eq!(timers.has_due(), due > 0);
     let wakeup = timers.wakeup();
     assert_eq!(wakeup.is_some(), first.is_some());
@@ -147,7 +148,7 @@ fn compare(calls: u32) {
             timers.clear();
             model.held.clear();
         }
-        compare_state(&timers, &model);
+        compare_state(&mut timers, &model);
     }
     let visited: Vec<(Handle, Timer)> = timers.iter().collect();
     assert!(visited.iter().all(|&(handle, timer)| timers.look(handle) == Some(timer)));
@@ -165,6 +166,7 @@ fn meet_the_edges() {
     assert_eq!(timers.start(10, 1), Err(Error::TooLate));
     assert_eq!(timers.reserve(usize::MAX), Err(Error::NoMemory));
     assert_eq!((timers.wakeup(), timers.next_deadline(), timers.expire()), (None, None, None));
+    assert_eq!(timers.find_next(), None);
 
     // What is due at once goes to the back: the first is restarted, so that the second comes out before it.
     let (first, second) = (timers.start_at(timers.now(), 1).unwrap(), timers.start_at(0, 2).unwrap());

@@ -106,7 +106,7 @@ int main(void)
 		start(job);
 	}
 	while (first_second + timers_now(&timers) < end) {
-		uint64_t tick = least(timers_next(&timers), least(end - first_second, (uint64_t)DAYS_OF_CLOCK * DAY));
+		uint64_t tick = least(timers_find_next(&timers), least(end - first_second, (uint64_t)DAYS_OF_CLOCK * DAY));
 		catch_up(tick);                   /* a daemon sleeps until then first */
 		if (tick == (uint64_t)DAYS_OF_CLOCK * DAY)
 			begin_anew();

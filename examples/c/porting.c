@@ -64,7 +64,7 @@ static void run_timers(struct loop *loop)
 
 static int patience(struct loop *loop)
 {
-	uint64_t next = timers_next(&loop->timers), now = clock_now(loop);
+	uint64_t next = timers_find_next(&loop->timers), now = clock_now(loop);
 	if (next == TIMERS_NEVER)
 		return -1;
 	return next <= now ? 0 : next - now < INT_MAX ? (int)(next - now) : INT_MAX;

@@ -181,7 +181,7 @@ static void pass_some(Timers &timers, model &m)
 	HOLDS(timers.now() >= now);
 }
 
-static void compare_state(const Timers &timers, const model &m)
+static void compare_state(Timers &timers, const model &m)
 {
 	const auto next = timers.next(), wakeup = timers.wakeup();
 	const auto later = m.held.lower_bound({ timers.now() + ticks(1), 0 });
@@ -189,6 +189,7 @@ static void compare_state(const Timers &timers, const model &m)
 	HOLDS(timers.has_due() == (later != m.held.begin()));
 	HOLDS(next.has_value() == !m.held.empty() && wakeup.has_value() == !m.held.empty());
 	HOLDS(!next || *next == m.held.begin()->first.first);
+	HOLDS(timers.find_next() == next && timers.next() == next);
 	HOLDS(!next || (timers.has_due() ? *wakeup == timers.now() : timers.now() < *wakeup && *wakeup <= *next));
 }
 

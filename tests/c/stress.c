@@ -556,6 +556,10 @@ static void look(struct timers *t)
 	else
 		WANT("wake-up", wakeup, next_call_of(&list[0]));
 	WANT("next deadline", next, count == 0 ? TIMERS_NEVER : list[0].deadline);
+	if (below(2)) {
+		WANT("next deadline, found", timers_find_next(t), next);
+		WANT("next deadline, kept", timers_next(t), next);
+	}
 	occurs(EARLY_WAKEUPS, wakeup < next);
 }
 
@@ -654,6 +658,7 @@ static void want_closed(struct timers *t)
 	WANT("len, not open", timers_len(t), 0);
 	WANT("wake-up, not open", timers_wakeup(t), TIMERS_NEVER);
 	WANT("next, not open", timers_next(t), TIMERS_NEVER);
+	WANT("find next, not open", timers_find_next(t), TIMERS_NEVER);
 	WANT("visit, not open", timers_each(t, &place, &handle, &e), false);
 	WANT("counts, not open", timers_counts(t, &counts), TIMERS_NOT_OPEN);
 	WANT("counts kept, not open", counts.starts == 7 && counts.moves == 7 && counts.visits == 7, 1);

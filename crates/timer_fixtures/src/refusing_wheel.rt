@@ -80,6 +80,10 @@ impl<W: Wheel> Wheel for RefusingWheel<W> {
         self.wheel.next_deadline()
     }
 
+    fn find_next(&mut self) -> Option<u64> {
+        self.wheel.find_next()
+    }
+
     fn lemma_names_one(&self, handle: Handle) {
         self.wheel.lemma_names_one(handle)
     }

@@ -28,7 +28,7 @@ use Rattle.timer_wheels.specs.Occupied.{IsFirstSet}
 use Rattle.timer_wheels.specs.Placement.{IsPlaced}
 use Rattle.timer_wheels.specs.Tables.{radices}
 use Rattle.timer_wheels.specs.WakeUps.{next_visit}
-use Rattle.timer_wheels.proofs.FirstLemmas.{count-few, not_before-both, not_before-less}
+use Rattle.timer_wheels.proofs.FirstLemmas.{count-few, enter_known, not_before-both, not_before-less}
 use Rattle.timer_wheels.proofs.FirstsLemmas.{length-timers}
 use Rattle.timer_wheels.proofs.ClockDigits.{bucket_near, bucket_far, visit_here}
 use Rattle.timer_wheels.proofs.DigitLaws.{digits_down}
@@ -101,15 +101,13 @@ pub seeking-one : (l step : ℕ) (lists : KeyedLists) (b : l < length lists) (a 
     (at next : Option ℕ) (first more : First) (node : Node) → (s : IsSeeking l step lists at first) → at ≡ Some key
     → Some node ≡ node_at key lists
     → ((ts : List Timer) (t : Timer) → t.deadline ≡ node.timer.deadline → IsFirstOf first ts → IsFirstOf more (ts ++ t ∷ []))
-    → (0 < first.count → 0 < more.count) → (first.bound ≡ 18446744073709551615 → 0 < more.count)
+    → more.bound ≡ min first.bound node.timer.deadline → node.timer.deadline < 18446744073709551616
     → ((w : IsNextRow l step lists key s.past) → next ≡ first_key w.rest) → IsSeeking l (step + 1) lists next more
-seeking-one l step lists b a key at next first more node s e f m k z n =
+seeking-one l step lists b a key at next first more node s e f m k r n =
     let w : IsNextRow l step lists key s.past = next_row l step lists at key s.past s.walk e in
     let same : node ≡ w.node = same_node node w.node (f ∙ found l step lists b a key s.past w) in
-    let some : 0 < more.count = elim (cases_eq first.count 0) [
-      | inl c ↦ z (s.begun_at c).1
-      | inr c ↦ k (omega arith)
-    ] in
+    let some : 0 < more.count = enter_known first more (timers_in s.past) node.timer (m (timers_in s.past) node.timer refl s.first_of)
+    s.first_of k (λ c. (let u : first.bound ≡ 18446744073709551615 = (s.begun_at c).1 in omega arith)) in
     record {
       past = s.past ++ (key, w.node) ∷ [];
       walk = walked l step lists b a key s.past w next (n w);

@@ -1,8 +1,8 @@
 -- Lemmas for `first`: a first deadline follows the timers that come and go, and a known one is the least.
-use Rattle.std.proofs.Common.{◌≡◌, ◌≢◌, ◌<◌, ◌≤◌, ◌+◌, ◌-◌, ℕ, true, false, List, [], ◌∷◌, ◌++◌, length, refl, sym, ◌∙◌, inl, inr, arith}
-use Rattle.std.specs.Prelude.{◌==◌}
+use Rattle.std.proofs.Common.{◌≡◌, ◌≢◌, ◌<◌, ◌≤◌, ◌+◌, ◌-◌, ℕ, true, false, List, [], ◌∷◌, ◌++◌, length, refl, sym, ◌∙◌, ap, inl, inr, arith}
+use Rattle.std.specs.Prelude.{◌==◌, min}
 use Rattle.std.specs.List.{AllByRecursion}
-use Rattle.std.proofs.lemmas.Bool.{cases_eq}
+use Rattle.std.proofs.lemmas.Bool.{cases_eq, cases_lt}
 use Rattle.std.proofs.lemmas.Bool.Decides.{nat_tests}
 use Rattle.timer_base.specs.declared.timer.Timer.{Timer}
 use Rattle.timer_wheels.specs.declared.first.First.{First}
@@ -98,6 +98,30 @@ module _ (f : First) (d : ℕ) (ts : List Timer) (t : Timer) (e : t.deadline ≡
         let c = h.counted in
         omega arith;
   }
+
+-- and is counted, if none was earlier
+counts_last : (d : ℕ) (ts : List Timer) (t : Timer) → t.deadline ≡ d → 0 < deadline_count d (ts ++ t ∷ [])
+counts_last d ts t e =
+    let a = count-last d ts t in
+    let b = has_own d t e in
+    omega arith
+
+pub enter_known : (old new : First) (ts : List Timer) (t : Timer) → IsFirstOf new (ts ++ t ∷ []) → IsFirstOf old ts
+    → new.bound ≡ min old.bound t.deadline → (old.count ≡ 0 → t.deadline ≤ old.bound) → 0 < new.count
+enter_known old new ts t h f e k = elim (cases_lt old.bound t.deadline) [
+  | inl l ↦
+      let some : old.count ≢ 0 = λ z. (let x : t.deadline ≤ old.bound = k z in omega arith) in
+      let same : new.bound ≡ old.bound = omega arith in
+      let a : new.count ≡ deadline_count old.bound (ts ++ t ∷ []) = h.counted ∙ ap (λ (b : ℕ). deadline_count b (ts ++ t ∷ [])) same in
+      let b = count-last old.bound ts t in
+      let c : old.count ≡ deadline_count old.bound ts = f.counted in
+      omega arith
+  | inr l ↦
+      let same : new.bound ≡ t.deadline = omega arith in
+      let a : new.count ≡ deadline_count t.deadline (ts ++ t ∷ []) = h.counted ∙ ap (λ (b : ℕ). deadline_count b (ts ++ t ∷ [])) same in
+      let b = counts_last t.deadline ts t refl in
+      omega arith
+]
 
 -- A timer goes.
 

@@ -1,5 +1,5 @@
 -- The first deadline of each bucket above the lowest wheel.
-use Rattle.std.specs.Prelude.{◌≡◌, ◌≢◌, ◌<◌, ◌≤◌, ℕ, List, [], ◌∷◌, ◌++◌, length, slice_index_or}
+use Rattle.std.specs.Prelude.{◌≡◌, ◌≢◌, ◌<◌, ◌≤◌, ℕ, List, [], ◌∷◌, ◌++◌, length, min, slice_index_or}
 use Rattle.std.specs.Coded.{Π_prop}
 use Rattle.std.proofs.Props.{props}
 use Rattle.timer_base.specs.declared.timer.Timer.{Timer}
@@ -20,12 +20,14 @@ pub record ChangesOne (l : ℕ) (old new : List First) : Type 0 where
 -- a timer with this deadline came to the back of a list, of which one is kept if it is not below `lowest`
 pub record Enters (lowest l deadline : ℕ) (old new : List First) : Type 0 where
   pub one : ChangesOne l old new
+  pub bound : lowest ≤ l → (first_at l new).bound ≡ min (first_at l old).bound deadline
   pub here : lowest ≤ l → (ts : List Timer) (t : Timer) → t.deadline ≡ deadline → IsFirstOf (first_at l old) ts
       → IsFirstOf (first_at l new) (ts ++ t ∷ [])
 
 -- a timer with this deadline left the list
 pub record Leaves (lowest l deadline : ℕ) (old new : List First) : Type 0 where
   pub one : ChangesOne l old new
+  pub bound : lowest ≤ l → (first_at l new).bound ≡ (first_at l old).bound
   pub here : lowest ≤ l → (front rest : List Timer) (t : Timer) → t.deadline ≡ deadline
       → IsFirstOf (first_at l old) (front ++ t ∷ rest) → IsFirstOf (first_at l new) (front ++ rest)
 

@@ -11,7 +11,7 @@
 //!     9          5, 0                   not known, after another
 //!     9 7        5, 0                   not known, after a start: 7 is above the bound
 //!     9 7        7, 1                   7, after a walk
-ghost use Rattle.std.specs.Prelude.{◌≡◌, ◌<◌, ◌∷◌, ◌++◌, [], List};
+ghost use Rattle.std.specs.Prelude.{◌≡◌, ◌<◌, ◌∷◌, ◌++◌, [], List, min};
 ghost use Rattle.timer_base.specs.declared.timer.Timer.{Timer};
 ghost use Rattle.timer_wheels.specs.Deadlines.{IsLeastDeadline};
 ghost use Rattle.timer_wheels.specs.FirstDeadline.{IsFirstOf, IsKnownOf};
@@ -42,11 +42,9 @@ impl First {
     #[inline]
     pub fn enter(&mut self, deadline: u64)
         requires few { self.old.count < 18446744073709551615 }
+        ensures bound { self.new.bound ≡ min self.old.bound deadline }
         ensures first { (ts : List Timer) (t : Timer) → t.deadline ≡ deadline → IsFirstOf self.old ts
             → IsFirstOf self.new (ts ++ t ∷ []) }
-        // The count is above 0 from the first timer of an empty bucket on.
-        ensures known { 0 < self.old.count → 0 < self.new.count }
-        ensures begun { self.old.bound ≡ 18446744073709551615 → 0 < self.new.count }
     {
         if deadline < self.bound {
             self.bound = deadline;
@@ -60,7 +58,8 @@ impl First {
     #[inline]
     pub fn leave(&mut self, deadline: u64)
         requires counted { self.old.bound ≡ deadline → 0 < self.old.count }
-        ensures { (front rest : List Timer) (t : Timer) → t.deadline ≡ deadline
+        ensures bound { self.new.bound ≡ self.old.bound }
+        ensures first { (front rest : List Timer) (t : Timer) → t.deadline ≡ deadline
             → IsFirstOf self.old (front ++ t ∷ rest) → IsFirstOf self.new (front ++ rest) }
     {
         if deadline == self.bound {

@@ -369,10 +369,8 @@ impl Wheel for HierWheel {
         self.wheels.next_deadline()
     }
 
-    /// The first deadline of a bucket is known from then on, until the last timer that has it leaves the bucket.
-    ///
-    /// It is known from the start for a timer that comes to an empty bucket, or has an earlier deadline than all
-    /// that the bucket had since it was known.
+    /// What was found is kept, so that the next call needs no walk. It is lost if the last timer with the first
+    /// deadline is stopped or restarted, and others are left in its bucket.
     fn find_next(&mut self) -> Option<u64>
         ensures first { result ≡ next_deadline (hier_state self.old).pending }
         ensures same { hier_state self.new ≡ hier_state self.old }

@@ -11,6 +11,8 @@ mod hier_tests;
 #[cfg(test)]
 mod links_tests;
 #[cfg(test)]
+mod next_tests;
+#[cfg(test)]
 mod plain_tests;
 #[cfg(test)]
 mod support;

@@ -271,7 +271,7 @@ fn handle_of(handles: &[Handle], serial: u64) -> Handle {
 fn shows<W: Wheel + Drop>(
     rt: &impl Abort,
     name: &str,
-    timers: &Timers<W>,
+    timers: &mut Timers<W>,
     shown: (u64, usize, bool, Option<u64>),
 ) {
     same(
@@ -285,6 +285,7 @@ fn shows<W: Wheel + Drop>(
         ),
         shown,
     );
+    same(rt, name, timers.find_next(), shown.3);
     same(rt, name, timers.quiet_until().is_some(), shown.3.is_some());
     same(rt, name, timers.wheel().now(), shown.0);
 }

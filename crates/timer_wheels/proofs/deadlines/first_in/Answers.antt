@@ -18,9 +18,10 @@ enter-requires c =
 
 pub loop-step-preserved : goal.loop-step-preserved
 loop-step-preserved c =
+    let r : c.in-Some-get.node.timer.deadline < 18446744073709551616 = search rules in
     seeking-one c.args.list c.loop-step.step c.args.links.now.lists c.requires c.lemma_keys_unique.ensures c.in-Some.key c.loop-step.at
     c.next-at.result c.loop-step.first c.enter.new.self c.in-Some-get.node c.loop-step.invariant c.in-Some.is
-    c.in-Some-get.ensures c.enter.ensures.first c.enter.ensures.known c.enter.ensures.begun
+    c.in-Some-get.ensures c.enter.ensures.first c.enter.ensures.bound r
     (λ w. c.next-at.ensures c.args.list c.loop-step.invariant.past w.node w.rest c.requires w.rows)
 
 pub returns-after-loop-step : goal.returns-after-loop-step
