@@ -4,6 +4,7 @@ use crate::fault::Fault;
 use crate::links::push_beyond;
 use crate::players::{close_all, expire_all, pass_ticks};
 use crate::scripts::{play_script, read_script, write_text};
+use crate::totals::fill_total;
 use crate::wheels::{FEW, MOST, clock, fill, hashed, hier, plain};
 use std::alloc::Global;
 
@@ -22,6 +23,8 @@ pub enum Limit {
     /// A wheel of 1,048,576 timers: room for all at once, each start, the list, and all of them due at one tick.
     /// Of the plain wheel a few are taken then, since it looks at all of them for each.
     Wheel(Kind),
+    /// The same through total calls.
+    Total(Kind),
     /// A facility of 1,048,576 timers, which its close returns.
     Facility(Kind),
     /// A player of 1,048,576 timers that expire at one tick.
@@ -41,11 +44,15 @@ pub enum Limit {
 }
 
 /// Each limit with its name.
-pub static LIMITS: [(&str, Limit); 30] = [
+pub static LIMITS: [(&str, Limit); 34] = [
     ("wheel-plain", Limit::Wheel(Kind::Plain)),
     ("wheel-hashed", Limit::Wheel(Kind::Hashed)),
     ("wheel-hier", Limit::Wheel(Kind::Hier)),
     ("wheel-clock", Limit::Wheel(Kind::Clock)),
+    ("total-plain", Limit::Total(Kind::Plain)),
+    ("total-hashed", Limit::Total(Kind::Hashed)),
+    ("total-hier", Limit::Total(Kind::Hier)),
+    ("total-clock", Limit::Total(Kind::Clock)),
     ("facility-plain", Limit::Facility(Kind::Plain)),
     ("facility-hashed", Limit::Facility(Kind::Hashed)),
     ("facility-hier", Limit::Facility(Kind::Hier)),
@@ -78,6 +85,7 @@ pub static LIMITS: [(&str, Limit); 30] = [
 pub fn reach(alloc: Global, limit: Limit) -> Result<(), Fault> {
     match limit {
         Limit::Wheel(kind) => wheel(alloc, kind),
+        Limit::Total(kind) => total(alloc, kind),
         Limit::Facility(kind) => facility(alloc, kind),
         Limit::Tick(kind) => tick(alloc, kind),
         Limit::Close(kind) => close(alloc, kind),
@@ -95,6 +103,15 @@ fn wheel(alloc: Global, kind: Kind) -> Result<(), Fault> {
         Kind::Hashed => fill(&mut hashed(alloc)?, MOST),
         Kind::Hier => fill(&mut hier(alloc)?, MOST),
         Kind::Clock => fill(&mut clock(alloc)?, MOST),
+    }
+}
+
+fn total(alloc: Global, kind: Kind) -> Result<(), Fault> {
+    match kind {
+        Kind::Plain => fill_total(plain(alloc)?, FEW),
+        Kind::Hashed => fill_total(hashed(alloc)?, MOST),
+        Kind::Hier => fill_total(hier(alloc)?, MOST),
+        Kind::Clock => fill_total(clock(alloc)?, MOST),
     }
 }
 

@@ -13,6 +13,7 @@ mod limit;
 mod links;
 mod players;
 mod scripts;
+mod totals;
 mod wheels;
 
 use fault::Fault;

@@ -5,6 +5,8 @@
 #![tactic(auto)]
 
 #[cfg(test)]
+mod fault_tests;
+#[cfg(test)]
 mod hashed_tests;
 #[cfg(test)]
 mod hier_tests;
