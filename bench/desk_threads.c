@@ -64,7 +64,7 @@ static void own_desk(struct client *all, pthread_t *threads, size_t line, size_t
 {
 	struct timers_desk d = TIMERS_DESK_INIT;
 	struct timers_line lines[MAX_CLIENTS] = { TIMERS_LINE_INIT };
-	struct timers_desk_config config = { .first_tick = 0, .capacity = 1 << 20, .room = room, .line = line };
+	struct timers_desk_config config = { .size = sizeof(struct timers_desk_config), .capacity = 1 << 20, .room = room, .line = line };
 	CHECK(timers_desk_new(&d, lines, clients, &config) == TIMERS_DESK_OK);
 	for (size_t c = 0; c < clients; c++)
 		all[c].line = &lines[c];

@@ -7,7 +7,9 @@
  *     timers_desk_tick, timers_desk_advance - pass ticks
  *     timers_desk_close, timers_desk_settle - close, settle a finished line
  *     timers_desk_end, timers_desk_end_all - end the words of finished lines
- *     timers_desk_now, timers_desk_len, timers_desk_outbox - read the state
+ *     timers_desk_open - open the line of a client that is gone again
+ *     timers_desk_reserve - make room for all timers
+ *     timers_desk_now, timers_desk_len, timers_desk_pending, timers_desk_outbox - read the state
  *     timers_desk_wakeup, timers_desk_next - learn until when the owner may sleep
  *     timers_desk_line_freed - learn that a client's line was freed
  *     timers_line_start, timers_line_stop, timers_line_restart - send a request
@@ -15,6 +17,7 @@
  *     timers_line_finish, timers_line_ended - end the requests, learn that no word comes any more
  *     timers_line_abandoned - learn that the desk was freed
  *     timers_line_free - free a client's end
+ *     timers_desk_message - the text of a status
  *
  * SYNOPSIS
  *     #include <timers_desk.h>
@@ -43,14 +46,22 @@
  *     true. timers_desk_end_all does the same for all clients at once.
  *
  *     Either end may be freed while the other goes on. The owner learns by timers_desk_line_freed that a
- *     client's line was freed. A client learns by timers_line_abandoned that the desk was freed, once it
- *     has received all words that came before. So a client's loop ends if timers_line_ended or
- *     timers_line_abandoned returns true.
+ *     client's line was freed. What the client sent before is still taken; words to it are dropped by the
+ *     flushes. A client learns by timers_line_abandoned that the desk was freed, once it has received all
+ *     words that a flush had moved into its line before; words that waited in its outbox are lost. So a
+ *     client's loop ends if timers_line_ended or timers_line_abandoned returns true.
+ *
+ *     Clients come and go. Once a client has freed its line, all that it sent was taken, and none of its
+ *     timers is pending, timers_desk_open opens a line under the same number for another client. The numbers
+ *     of its requests go on from those of the client before, since the desk counts them. The new line shares
+ *     nothing with the old one, which is gone with all that stood in it. So no word of the old client reaches
+ *     the new one, and each word that the new one receives is of its own requests.
  *
  *     Words wait in the client's outbox at the owner until a flush moves them into the line. A request is
  *     taken only if the outbox has room for its answer, a word of each of the client's pending timers, and
  *     one more. So no word is lost unless an end is freed. A client that does not read stops only its own
- *     requests. If memory runs out for a request, it is held, and retried first when its client is served
+ *     requests. A stop needs that room too: a client at its room can cancel nothing until it reads, or until
+ *     one of its timers expires. `room` in struct timers_desk_config says how much is enough. If memory runs out for a request, it is held, and retried first when its client is served
  *     the next time.
  *
  *     The owner's loop:
@@ -81,7 +92,9 @@
  *     crates/timer_desk_c/src/desk_exports.rt or line_exports.rt, for every call that keeps the rules
  *     below. Nothing checks that a caller keeps them. Nothing is proved about time: when a thread runs, and
  *     when a word arrives. Nor is what timers_desk_line_freed and timers_line_abandoned return about the
- *     other end. It is proved that they change nothing, and that no word stands in a line that is abandoned.
+ *     other end. It is proved that they change nothing, and that they look in the right order: only once the
+ *     desk was seen to be gone do words that are missing count, so that none that was put before is lost. The
+ *     same holds of a client's requests before its line is opened again.
  *
  * RULES
  *     1. A `struct timers_desk` begins as TIMERS_DESK_INIT and a `struct timers_line` as TIMERS_LINE_INIT,
@@ -90,7 +103,8 @@
  *     2. A pointer argument is not NULL. It points to an object of its type that this call alone uses;
  *        `lines` points to as many as are passed. No two arguments of one call overlap.
  *     3. An object that a call only writes (number, word, passed, returned, standing, unread, client) may
- *        be uninitialised.
+ *        be uninitialised. It is written only if the call returns TIMERS_DESK_OK or true; `client` of
+ *        timers_desk_end_all only if a client is to blame.
  *     4. Calls on one struct come one at a time, but for those that THREADS names. A struct may be handed from
  *        thread to thread: by a lock, by a thread's start or join, by an atomic with release and acquire order.
  *        Calls on two structs are independent: those of the owner and of its clients may overlap in every way.
@@ -105,11 +119,11 @@
  *
  * THREADS
  *     Calls whose only struct is const only read it, so that they may run beside each other while no other call
- *     uses the struct. timers_line_abandoned is none of them: it keeps what it found out about the other end.
+ *     uses the struct.
  *
  *     No call waits for another thread, unless the allocator does. malloc, realloc and free are called only by
- *     timers_desk_new, timers_desk_close, the serves, timers_line_finish and the frees. No call is a cancellation
- *     point, and none calls back.
+ *     timers_desk_new, timers_desk_open, timers_desk_reserve, timers_desk_close, the serves, timers_line_finish
+ *     and the frees. No call is a cancellation point, and none calls back.
  *
  *     A call has to run to its end. One that is left by a longjmp out of a signal handler, or by an
  *     asynchronous cancellation, may leave its struct half changed: then no call may use that any more, its free
@@ -141,6 +155,9 @@
 #define TIMERS_OLD_C
 #pragma GCC diagnostic push
 #pragma GCC diagnostic ignored "-Wpedantic"
+#define TIMERS_INLINE __inline
+#else
+#define TIMERS_INLINE inline
 #endif
 
 #ifdef __cplusplus
@@ -171,7 +188,8 @@ enum timers_desk_status {
 	TIMERS_DESK_NO_ROOM = 21,        /* the outbox has no room for the words of another request */
 	TIMERS_DESK_OTHER_LINE = 22,     /* the line is not this client's line at this desk */
 	TIMERS_DESK_NOT_FINISHED = 23,   /* the line has not finished */
-	TIMERS_DESK_LEFT = 24            /* something of the client is left at the desk */
+	TIMERS_DESK_LEFT = 24,           /* something of the client is left at the desk */
+	TIMERS_DESK_NOT_FREED = 25       /* the client's line was not freed */
 };
 
 #define TIMERS_DESK_CLIENTS 64   /* the most clients */
@@ -203,7 +221,15 @@ struct timers_line {
 #define TIMERS_DESK_INIT { NULL, 0 }
 #define TIMERS_LINE_INIT { NULL, 0, 0 }
 
+/* What a desk is made with. `size` is sizeof(struct timers_desk_config), by which a library tells the struct from one
+ * of a later header that has more members: { .size = sizeof config, .capacity = 1000, .. }.
+ *
+ * `room`: a serve takes no request of a client, not even a stop, while its pending timers and the words in its outbox
+ * are more than room - 2. That cannot happen to a client that keeps at most k timers and has at most q requests without
+ * an answer if room is k + q + 1 or more. There a timer counts from the request that starts it until its last word is
+ * received, and a request until its answer is. With room 2 no timer can ever be stopped. */
 struct timers_desk_config {
+	size_t size;           /* sizeof(struct timers_desk_config) */
 	uint64_t first_tick;   /* the clock begins at it: up to TIMERS_LAST, of TIMERS_CLOCK TIMERS_CLOCK_LAST */
 	uint64_t capacity;     /* the most timers that may be pending at a time: 1 to 1,048,576 */
 	size_t room;           /* how many words each client's outbox has room for: 2 to 65,536 */
@@ -226,8 +252,8 @@ struct timers_word {
 
 /* Makes a desk with `clients` clients, 1 to 64, over wheels with the slots of a table. From then on
  * lines[0] to lines[clients - 1] hold the clients' ends. `lines` must not be NULL, even if `clients` is 0.
- * TIMERS_DESK_OPEN, TIMERS_DESK_OUT_OF_RANGE (also: no such table, or the first tick is after the table's
- * last tick), TIMERS_DESK_NO_MEMORY: nothing has changed then. */
+ * TIMERS_DESK_OPEN, TIMERS_DESK_OUT_OF_RANGE (also: another size, no such table, or the first tick is after the
+ * table's last tick), TIMERS_DESK_NO_MEMORY: nothing has changed then. */
 TIMERS_CHECKED
 enum timers_desk_status timers_desk_new(struct timers_desk *d, struct timers_line *lines, size_t clients,
                                         const struct timers_desk_config *config);
@@ -252,10 +278,11 @@ enum timers_desk_status timers_desk_serve(struct timers_desk *d, size_t client);
 enum timers_desk_status timers_desk_serve_all(struct timers_desk *d, uint64_t most);
 
 /* Moves words from each client's outbox into its line, in order, until the outbox is empty or the line
- * full. Returns whether a word was moved. Nothing else changes. Does not allocate. */
+ * full. Words that are left for a client whose line was freed are dropped. Returns whether a word has left its
+ * outbox. Nothing else changes. Does not allocate. */
 bool timers_desk_flush_all(struct timers_desk *d);
 
-/* Does the same for one client, and returns how many words were moved. 0 if there is no such client. */
+/* Does the same for one client, and returns how many words have left the outbox. 0 if there is no such client. */
 size_t timers_desk_flush(struct timers_desk *d, size_t client);
 
 /* Advances the clock by one tick. A word for each timer with that deadline goes to the outbox of its
@@ -282,18 +309,19 @@ enum timers_desk_status timers_desk_close(struct timers_desk *d, uint64_t *retur
  * TIMERS_DESK_OK it writes to `*standing` how many of the client's requests still stand in the line.
  * Suppose it is 0, the last serve did not return TIMERS_DESK_NO_MEMORY, and the outbox is empty. Then only
  * pending timers of this client are left at the desk. Does not allocate.
- * TIMERS_DESK_NOT_OPEN (either struct), TIMERS_DESK_NO_CLIENT, TIMERS_DESK_OTHER_LINE (its client has another
- * number), TIMERS_DESK_NOT_FINISHED, TIMERS_DESK_OTHER_LINE (it is of a desk that was freed). */
+ * TIMERS_DESK_NOT_OPEN (either struct), TIMERS_DESK_NO_CLIENT, TIMERS_DESK_OTHER_LINE (it is not this client's at
+ * this desk: its number is another, or its desk was freed before it finished), TIMERS_DESK_NOT_FINISHED: nothing has
+ * changed. */
 TIMERS_CHECKED
 enum timers_desk_status timers_desk_settle(struct timers_desk *d, size_t client,
-                                           const struct timers_line *line, size_t *standing);
+                                           struct timers_line *line, size_t *standing);
 
 /* Ends the words of a client that has finished, once its thread has handed the line over (rule 4). At
  * TIMERS_DESK_OK it writes to `*unread` how many words stand in the line. With those that were received
  * they are all that the client was given. The line may then be handed back and read to its end. Does not
  * allocate.
- * TIMERS_DESK_NOT_OPEN (either struct), TIMERS_DESK_NO_CLIENT, TIMERS_DESK_OTHER_LINE (its client has another
- * number), TIMERS_DESK_NOT_FINISHED, TIMERS_DESK_OTHER_LINE (it is of a desk that was freed).
+ * TIMERS_DESK_NOT_OPEN (either struct), TIMERS_DESK_NO_CLIENT, TIMERS_DESK_OTHER_LINE (as above),
+ * TIMERS_DESK_NOT_FINISHED.
  * TIMERS_DESK_LEFT: a request is held or stands in the line, a word waits in the outbox, or a timer is
  * pending. */
 TIMERS_CHECKED
@@ -304,22 +332,40 @@ enum timers_desk_status timers_desk_end(struct timers_desk *d, size_t client, st
  * clients' lines, all of them handed over. Those that can be ended are ended, whatever is left of the
  * others, and the call may be repeated. A line that was freed is skipped, since no one reads its words.
  * Does not allocate.
- * TIMERS_DESK_OK: the words of all whose line was not freed have ended.
+ * TIMERS_DESK_OK: each line was freed, or its words have ended.
  * TIMERS_DESK_NOT_OPEN (the desk), TIMERS_DESK_OUT_OF_RANGE (`clients` is not the number of clients):
  * nothing has changed.
  * Otherwise it writes to `*client` the first client whose words have not ended, and returns why. That
- * client's line is as it was. TIMERS_DESK_OTHER_LINE (its client has another number), TIMERS_DESK_NOT_FINISHED,
- * TIMERS_DESK_OTHER_LINE (it is of a desk that was freed), TIMERS_DESK_LEFT. A struct that was moved out of
- * `lines` counts as freed: its words have not ended, and this call does not say so. */
+ * client's line is as it was. TIMERS_DESK_NOT_FREED (the struct holds no line, and the client's was not freed: it was
+ * moved elsewhere), TIMERS_DESK_OTHER_LINE (as above), TIMERS_DESK_NOT_FINISHED, TIMERS_DESK_LEFT. */
 TIMERS_CHECKED
 enum timers_desk_status timers_desk_end_all(struct timers_desk *d, struct timers_line *lines, size_t clients,
                                             size_t *client);
+
+/* Opens a line for another client under the number of one that is gone: its line was freed, each request that it sent
+ * was taken, no word waits for it (a flush drops them), and no timer of it is pending. `line` holds the new client's
+ * end from then on, and has room for `room` requests and as many words, as `line` in struct timers_desk_config. The
+ * numbers of the client's requests go on: the first is one above the last that was taken. Waits for no thread.
+ * TIMERS_DESK_NOT_OPEN (the desk), TIMERS_DESK_OPEN (`line` holds one), TIMERS_DESK_NO_CLIENT, TIMERS_DESK_OUT_OF_RANGE
+ * (the room), TIMERS_DESK_NOT_FREED, TIMERS_DESK_LEFT (something of the client that is gone: serve and flush it, and
+ * pass ticks until its timers have expired), TIMERS_DESK_NUMBERS_SPENT, TIMERS_DESK_NO_MEMORY: nothing has changed. */
+TIMERS_CHECKED
+enum timers_desk_status timers_desk_open(struct timers_desk *d, size_t client, struct timers_line *line, size_t room);
+
+/* Makes room for as many timers as may be pending, so that no serve allocates or runs out of memory from then on.
+ * timers_desk_close still allocates.
+ * TIMERS_DESK_NOT_OPEN, TIMERS_DESK_NO_MEMORY: nothing has changed. */
+TIMERS_CHECKED
+enum timers_desk_status timers_desk_reserve(struct timers_desk *d);
 
 /* The present tick. 0 if it holds no desk. */
 uint64_t timers_desk_now(const struct timers_desk *d);
 
 /* How many timers are pending, of all clients. 0 if it holds no desk. */
 size_t timers_desk_len(const struct timers_desk *d);
+
+/* How many timers of one client are pending. 0 if there is no such client, or it holds no desk. */
+size_t timers_desk_pending(const struct timers_desk *d, size_t client);
 
 /* A tick after the present one and at most the first deadline, before which nothing expires. TIMERS_NEVER
  * if nothing is pending, or it holds no desk. */
@@ -332,10 +378,10 @@ uint64_t timers_desk_wakeup(const struct timers_desk *d);
 uint64_t timers_desk_next(const struct timers_desk *d);
 
 /* Whether a client's line was freed. False if there is no such client, or it holds no desk. Once true it
- * stays true. Nothing changes: what the client sent before is still taken, and its timers stay pending.
- * Words to it are lost once they are in the line. A line that is full takes no more, so they wait in the
- * outbox, and once that has no room a serve returns TIMERS_DESK_NO_ROOM. Constant time. Does not allocate. */
-bool timers_desk_line_freed(const struct timers_desk *d, size_t client);
+ * stays true until timers_desk_open opens the line again. Nothing changes: what the client sent before is still
+ * taken, and its timers stay pending. Words to it are lost in its line, or dropped by a flush if the line is full.
+ * Constant time. Does not allocate. */
+bool timers_desk_line_freed(struct timers_desk *d, size_t client);
 
 /* How many words wait in a client's outbox. 0 if there is no such client, or it holds no desk. */
 size_t timers_desk_outbox(const struct timers_desk *d, size_t client);
@@ -377,11 +423,45 @@ bool timers_line_ended(const struct timers_line *line);
  * any more. Words that waited at the desk were dropped with it. Once true it stays true. False if it holds
  * no line, or if its words were ended by timers_desk_end: then timers_line_ended returns true once all were
  * received. Nothing changes. Constant time. */
-bool timers_line_abandoned(const struct timers_line *line);
+bool timers_line_abandoned(struct timers_line *line);
 
-/* Frees the client's end, if it holds one. What it sent is still taken while its outbox has room, and words
- * to it are lost. */
+/* Frees the client's end, if it holds one. What it sent is still taken. Words to it are lost, and dropped by the flushes,
+ * so that they keep no room. */
 void timers_line_free(struct timers_line *line);
+
+/* The text of a status, for messages. */
+static TIMERS_INLINE const char *timers_desk_message(enum timers_desk_status status)
+{
+	const uint32_t number = status;   /* that of no status has a text too */
+
+	switch (number) {
+	case TIMERS_DESK_OK: return "done";
+	case TIMERS_DESK_NOT_OPEN: return "no desk or no line is held";
+	case TIMERS_DESK_OPEN: return "a desk or a line is held already";
+	case TIMERS_DESK_NO_MEMORY: return "out of memory";
+	case TIMERS_DESK_NOT_PENDING: return "no timer of the client has this handle";
+	case TIMERS_DESK_ZERO_INTERVAL: return "the interval is 0";
+	case TIMERS_DESK_TOO_LATE: return "after the last tick";
+	case TIMERS_DESK_SERIALS_SPENT: return "every serial was used";
+	case TIMERS_DESK_CLOCK_END: return "the clock is at its last tick";
+	case TIMERS_DESK_CLOSED: return "the desk was closed";
+	case TIMERS_DESK_CAPACITY: return "as many timers are pending as may be";
+	case TIMERS_DESK_NO_CLIENT: return "no such client";
+	case TIMERS_DESK_NUMBERS_SPENT: return "every number of the client was used";
+	case TIMERS_DESK_REPEATED: return "the number was taken before";
+	case TIMERS_DESK_AHEAD: return "an earlier number is missing";
+	case TIMERS_DESK_LINE_FULL: return "the line is full";
+	case TIMERS_DESK_FINISHED: return "the line has finished";
+	case TIMERS_DESK_OUT_OF_RANGE: return "a number is out of its range";
+	case TIMERS_DESK_IDLE: return "no request was found";
+	case TIMERS_DESK_NO_ROOM: return "the outbox has no room";
+	case TIMERS_DESK_OTHER_LINE: return "the line is not this client's";
+	case TIMERS_DESK_NOT_FINISHED: return "the line has not finished";
+	case TIMERS_DESK_LEFT: return "something of the client is left";
+	case TIMERS_DESK_NOT_FREED: return "the client's line was not freed";
+	default: return "no status";
+	}
+}
 
 /* The layout that the library was built for. */
 #if defined(__cplusplus)
@@ -400,13 +480,15 @@ TIMERS_DESK_ASSERT(sizeof(struct timers_word) == 56 && offsetof(struct timers_wo
                    && offsetof(struct timers_word, deadline) == 32
                    && offsetof(struct timers_word, action) == 40
                    && offsetof(struct timers_word, other) == 48, "struct timers_word");
-TIMERS_DESK_ASSERT(sizeof(struct timers_desk_config) == 40
-                   && offsetof(struct timers_desk_config, capacity) == 8
-                   && offsetof(struct timers_desk_config, room) == 16
-                   && offsetof(struct timers_desk_config, line) == 24
-                   && offsetof(struct timers_desk_config, table) == 32, "struct timers_desk_config");
+TIMERS_DESK_ASSERT(sizeof(struct timers_desk_config) == 48
+                   && offsetof(struct timers_desk_config, first_tick) == 8
+                   && offsetof(struct timers_desk_config, capacity) == 16
+                   && offsetof(struct timers_desk_config, room) == 24
+                   && offsetof(struct timers_desk_config, line) == 32
+                   && offsetof(struct timers_desk_config, table) == 40, "struct timers_desk_config");
 #undef TIMERS_DESK_ASSERT
 #undef TIMERS_CHECKED
+#undef TIMERS_INLINE
 
 #ifdef __cplusplus
 }

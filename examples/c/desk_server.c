@@ -208,7 +208,7 @@ static void own(uint64_t began)
 int main(void)
 {
 	struct timers_line lines[WORKERS] = { TIMERS_LINE_INIT };
-	struct timers_desk_config config = { .first_tick = 0, .capacity = 1000, .room = 16, .line = 8 };
+	struct timers_desk_config config = { .size = sizeof config, .capacity = 1000, .room = 16, .line = 8 };
 	if (timers_desk_new(&desk, lines, WORKERS, &config) != TIMERS_DESK_OK)
 		fail("no desk");
 	owners_bell = make_bell();

@@ -61,7 +61,7 @@ int main(void)
 	CALL(timers_reserve(&t, 10 * TIMERS));
 	timers_free(&t);
 
-	struct timers_desk_config config = { 0, TIMERS, 16, 16, TIMERS_WIDE };
+	struct timers_desk_config config = { sizeof(struct timers_desk_config), 0, TIMERS, 16, 16, TIMERS_WIDE };
 	CALL(timers_desk_new(&desk, lines, CLIENTS, &config));
 	for (uint64_t request = 0; request < REQUESTS; request++) {
 		uint64_t number;

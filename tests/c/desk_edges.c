@@ -40,6 +40,8 @@ static void empty_structs(void)
 	CHECK(timers_desk_close(&d, &n) == TIMERS_DESK_NOT_OPEN && n == 77 && timers_desk_settle(&d, 0, &l, &s) == TIMERS_DESK_NOT_OPEN && s == 78);
 	CHECK(timers_desk_now(&d) == 0 && timers_desk_len(&d) == 0 && timers_desk_outbox(&d, 0) == 0 && timers_desk_wakeup(&d) == TIMERS_NEVER);
 	CHECK(timers_desk_next(&d) == TIMERS_NEVER && !timers_desk_line_freed(&d, 0) && !timers_line_abandoned(&l));
+	CHECK(timers_desk_pending(&d, 0) == 0 && timers_desk_reserve(&d) == TIMERS_DESK_NOT_OPEN);
+	CHECK(timers_desk_open(&d, 0, &l, 4) == TIMERS_DESK_NOT_OPEN && l.mark == 0);
 	CHECK(timers_line_start(&l, 1, 2, &n) == TIMERS_DESK_NOT_OPEN && n == 77);
 	CHECK(timers_line_stop(&l, h, &n) == TIMERS_DESK_NOT_OPEN && timers_line_restart(&l, h, 1, 2, &n) == TIMERS_DESK_NOT_OPEN && n == 77);
 	CHECK(!timers_line_receive(&l, &w) && timers_line_finish(&l) == TIMERS_DESK_NOT_OPEN);
@@ -53,8 +55,10 @@ static void configurations(void)
 {
 	struct timers_desk d = TIMERS_DESK_INIT;
 	struct timers_line l[65] = { TIMERS_LINE_INIT };
-	struct timers_desk_config good = { 5, 100, 8, 4, TIMERS_WIDE }, c;
+	struct timers_desk_config good = { sizeof(struct timers_desk_config), 5, 100, 8, 4, TIMERS_WIDE }, c;
 	CHECK(timers_desk_new(&d, l, 0, &good) == TIMERS_DESK_OUT_OF_RANGE && timers_desk_new(&d, l, 65, &good) == TIMERS_DESK_OUT_OF_RANGE);
+	c = good, c.size--; CHECK(timers_desk_new(&d, l, 1, &c) == TIMERS_DESK_OUT_OF_RANGE);
+	c = good, c.size = 0; CHECK(timers_desk_new(&d, l, 1, &c) == TIMERS_DESK_OUT_OF_RANGE && d.mark == 0 && l[0].mark == 0);
 	c = good, c.capacity = 0; CHECK(timers_desk_new(&d, l, 1, &c) == TIMERS_DESK_OUT_OF_RANGE);
 	c = good, c.capacity = 1048577; CHECK(timers_desk_new(&d, l, 1, &c) == TIMERS_DESK_OUT_OF_RANGE);
 	c = good, c.first_tick = TIMERS_LAST + 1; CHECK(timers_desk_new(&d, l, 1, &c) == TIMERS_DESK_OUT_OF_RANGE);
@@ -78,7 +82,7 @@ static void tables(void)
 {
 	struct timers_desk d = TIMERS_DESK_INIT;
 	struct timers_line l = TIMERS_LINE_INIT;
-	struct timers_desk_config c = { .first_tick = TIMERS_CLOCK_LAST + 1, .capacity = 100, .room = 8, .line = 4 };
+	struct timers_desk_config c = { .size = sizeof(struct timers_desk_config), .first_tick = TIMERS_CLOCK_LAST + 1, .capacity = 100, .room = 8, .line = 4 };
 	struct timers_word w;
 	uint64_t n;
 	CHECK(c.table == TIMERS_WIDE && timers_desk_new(&d, &l, 1, &c) == TIMERS_DESK_OK && timers_desk_now(&d) == TIMERS_CLOCK_LAST + 1);
@@ -118,7 +122,7 @@ static void frees(void)
 {
 	struct timers_desk d = TIMERS_DESK_INIT;
 	struct timers_line l[4] = { TIMERS_LINE_INIT, TIMERS_LINE_INIT, TIMERS_LINE_INIT, TIMERS_LINE_INIT };
-	struct timers_desk_config config = { 0, 100, 8, 4, TIMERS_WIDE };
+	struct timers_desk_config config = { sizeof(struct timers_desk_config), 0, 100, 8, 4, TIMERS_WIDE };
 	struct timers_word w;
 	uint64_t n;
 	size_t unread;
@@ -164,7 +168,7 @@ static void clients_ask_for_nothing(void)
 {
 	struct timers_desk d = TIMERS_DESK_INIT;
 	struct timers_line l = TIMERS_LINE_INIT;
-	struct timers_desk_config config = { 0, 100, 16, 4, TIMERS_WIDE };
+	struct timers_desk_config config = { sizeof(struct timers_desk_config), 0, 100, 16, 4, TIMERS_WIDE };
 	struct timers_word w = { 0, 0, 0, { 0, 0 }, 0, 0, 0 };
 	uint64_t n;
 	size_t unread;
@@ -204,7 +208,7 @@ static bool story(void)
 {
 	struct timers_desk d = TIMERS_DESK_INIT;
 	struct timers_line l[2] = { TIMERS_LINE_INIT, TIMERS_LINE_INIT };
-	struct timers_desk_config config = { 0, 100, 8, 4, TIMERS_WIDE };
+	struct timers_desk_config config = { sizeof(struct timers_desk_config), 0, 100, 8, 4, TIMERS_WIDE };
 	struct timers_word w, first;
 	uint64_t n;
 	size_t standing;
@@ -318,7 +322,7 @@ static void slow_client(void)
 {
 	struct timers_desk d = TIMERS_DESK_INIT;
 	struct timers_line l[2] = { TIMERS_LINE_INIT, TIMERS_LINE_INIT };
-	struct timers_desk_config config = { 0, 1000, 16, 4, TIMERS_WIDE };
+	struct timers_desk_config config = { sizeof(struct timers_desk_config), 0, 1000, 16, 4, TIMERS_WIDE };
 	struct timers_word w;
 	uint64_t n, sent = 0, started = 0, expired = 0, full = 0, held_up = 0;
 	CHECK(timers_desk_new(&d, l, 2, &config) == TIMERS_DESK_OK);
@@ -360,7 +364,7 @@ static bool ends(void)
 {
 	struct timers_desk d = TIMERS_DESK_INIT;
 	struct timers_line l[2] = { TIMERS_LINE_INIT, TIMERS_LINE_INIT };
-	struct timers_desk_config config = { 0, 100, 8, 4, TIMERS_WIDE };
+	struct timers_desk_config config = { sizeof(struct timers_desk_config), 0, 100, 8, 4, TIMERS_WIDE };
 	struct timers_word w;
 	uint64_t n;
 	size_t unread = 55;
@@ -415,7 +419,7 @@ static void ends_all(void)
 {
 	struct timers_desk d = TIMERS_DESK_INIT;
 	struct timers_line l[3] = { TIMERS_LINE_INIT, TIMERS_LINE_INIT, TIMERS_LINE_INIT };
-	struct timers_desk_config config = { 0, 100, 8, 4, TIMERS_WIDE };
+	struct timers_desk_config config = { sizeof(struct timers_desk_config), 0, 100, 8, 4, TIMERS_WIDE };
 	struct timers_word w;
 	uint64_t n;
 	size_t c = 77;
@@ -445,6 +449,12 @@ static void ends_all(void)
 	c = 77;
 	CHECK(timers_desk_end_all(&d, l, 3, &c) == TIMERS_DESK_OK && c == 77 && !timers_line_ended(&l[1]));
 	CHECK(timers_line_receive(&l[1], &w) && timers_line_receive(&l[1], &w) && w.action == 2 && timers_line_ended(&l[1]));
+	/* a line that was moved away is not taken for one that was freed: its words have not ended */
+	struct timers_line away = l[1], none = TIMERS_LINE_INIT;
+	l[1] = none;
+	CHECK(timers_desk_end_all(&d, l, 3, &c) == TIMERS_DESK_NOT_FREED && c == 1);
+	l[1] = away, c = 77;
+	CHECK(timers_desk_end_all(&d, l, 3, &c) == TIMERS_DESK_OK && c == 77);
 	/* a line that was freed is skipped, and no client is named if there is no desk */
 	timers_line_free(&l[1]);
 	CHECK(timers_desk_end(&d, 1, &l[1], &c) == TIMERS_DESK_NOT_OPEN && c == 77);
@@ -456,9 +466,160 @@ static void ends_all(void)
 	timers_line_free(&l[2]);
 }
 
+/* Requests of a freed line are all taken, however little room there is for their words: the flush drops these. */
+static void freed_lines(size_t room, size_t line, unsigned requests)
+{
+	struct timers_desk d = TIMERS_DESK_INIT;
+	struct timers_line l[2] = { TIMERS_LINE_INIT, TIMERS_LINE_INIT };
+	struct timers_desk_config config = { sizeof config, 0, 100, room, line, TIMERS_WIDE };
+	struct timers_word w;
+	uint64_t n;
+	unsigned done = 0;
+	CHECK(timers_desk_new(&d, l, 2, &config) == TIMERS_DESK_OK);
+	for (unsigned i = 1; i <= requests; i++)
+		CHECK(timers_line_start(&l[0], 1, i, &n) == TIMERS_DESK_OK && n == i);
+	timers_line_free(&l[0]);
+	/* nothing is dropped of a client that is there and does not read, even if its line is full */
+	CHECK(timers_line_start(&l[1], 1, 1, &n) == TIMERS_DESK_OK);
+	for (int round = 0; round < 100; round++) {
+		while (timers_desk_serve(&d, 0) == TIMERS_DESK_OK)
+			done++;
+		timers_desk_serve(&d, 1);
+		size_t left = timers_desk_outbox(&d, 0);
+		CHECK(round % 2 || timers_desk_flush(&d, 0) == left);   /* all words have left, moved or dropped */
+		CHECK((timers_desk_flush_all(&d) || left == 0 || round % 2 == 0) && timers_desk_outbox(&d, 0) == 0);
+		timers_desk_tick(&d);
+	}
+	timers_desk_flush_all(&d);
+	CHECK(done == requests && timers_desk_len(&d) == 0 && timers_desk_outbox(&d, 0) == 0);
+	CHECK(timers_desk_serve(&d, 0) == TIMERS_DESK_IDLE && !timers_desk_flush_all(&d));
+	unsigned words = 0;
+	do {
+		while (timers_line_receive(&l[1], &w))
+			words++;
+	} while (timers_desk_flush_all(&d));
+	CHECK(words == 2);
+	timers_desk_free(&d), timers_line_free(&l[1]);
+}
+
+/* Clients come and go: under one number a line is opened again once nothing of the client before is left. */
+static void clients_come_and_go(void)
+{
+	struct timers_desk d = TIMERS_DESK_INIT;
+	struct timers_line l[2] = { TIMERS_LINE_INIT, TIMERS_LINE_INIT }, next = TIMERS_LINE_INIT;
+	struct timers_desk_config config = { sizeof config, 0, 100, 8, 4, TIMERS_WIDE };
+	struct timers_word w;
+	uint64_t n, first = 1;
+	CHECK(timers_desk_new(&d, l, 2, &config) == TIMERS_DESK_OK);
+	CHECK(timers_desk_open(&d, 0, &l[0], 4) == TIMERS_DESK_OPEN && timers_desk_open(&d, 2, &next, 4) == TIMERS_DESK_NO_CLIENT);
+	CHECK(timers_desk_open(&d, 0, &next, 0) == TIMERS_DESK_OUT_OF_RANGE && timers_desk_open(&d, 0, &next, 65537) == TIMERS_DESK_OUT_OF_RANGE);
+	CHECK(timers_desk_open(&d, 0, &next, 4) == TIMERS_DESK_NOT_FREED && next.mark == 0);
+	for (unsigned life = 0; life < 200; life++) {
+		unsigned starts = life % 5, room = 4 + life % 3;
+		for (unsigned i = 0; i < starts; i++)
+			CHECK(timers_line_start(&l[0], 3, life, &n) == TIMERS_DESK_OK && n == first + i);
+		if (life % 2) {                 /* it finishes, and its words stand in its line or at the desk */
+			timers_desk_serve_all(&d, 9), timers_desk_flush_all(&d);
+			CHECK(timers_line_finish(&l[0]) == TIMERS_DESK_OK);
+		}
+		timers_line_free(&l[0]);
+		if (starts) {                   /* first its requests are taken, and then its timers expire */
+			CHECK(timers_desk_open(&d, 0, &l[0], room) == TIMERS_DESK_LEFT && l[0].mark == 0);
+			timers_desk_serve_all(&d, 9);
+			CHECK(timers_desk_pending(&d, 0) == starts && timers_desk_open(&d, 0, &l[0], room) == TIMERS_DESK_LEFT);
+			while (timers_desk_pending(&d, 0))
+				CHECK(timers_desk_advance(&d, 3, &n) == TIMERS_DESK_OK);
+			CHECK(timers_desk_outbox(&d, 0) > 0 && timers_desk_open(&d, 0, &l[0], room) == TIMERS_DESK_LEFT);
+			CHECK(timers_desk_flush(&d, 0) > 0 && timers_desk_outbox(&d, 0) == 0);
+		}
+		first += starts;
+		CHECK(timers_desk_line_freed(&d, 0) && timers_desk_open(&d, 0, &l[0], room) == TIMERS_DESK_OK);
+		CHECK(!timers_desk_line_freed(&d, 0) && l[0].client == 0 && !timers_line_abandoned(&l[0]));
+		CHECK(!timers_line_receive(&l[0], &w));         /* no word of the client before */
+		for (unsigned i = 0; i < room; i++)
+			CHECK(timers_line_stop(&l[0], (struct timers_handle){ 1, 1 }, &n) == TIMERS_DESK_OK && n == first + i);
+		CHECK(timers_line_stop(&l[0], (struct timers_handle){ 1, 1 }, &n) == TIMERS_DESK_LINE_FULL);
+		timers_desk_serve_all(&d, 99), timers_desk_flush_all(&d);
+		for (unsigned i = 0; i < room; i++) {
+			CHECK(timers_line_receive(&l[0], &w) && w.kind == TIMERS_WORD_REFUSED && w.number == first + i);
+			CHECK(w.reason == TIMERS_DESK_NOT_PENDING);
+		}
+		first += room;
+	}
+	/* the other client was there all the time */
+	CHECK(timers_line_start(&l[1], 1, 1, &n) == TIMERS_DESK_OK && n == 1);
+	owner_turn(&d);
+	CHECK(timers_line_receive(&l[1], &w) && w.kind == TIMERS_WORD_STARTED && w.number == 1);
+	timers_desk_free(&d), timers_line_free(&l[0]), timers_line_free(&l[1]);
+}
+
+/* With room for k timers, q requests without an answer and 1 no request is ever held back, stops among them. With one
+ * less it may be. */
+static void room_enough(size_t k, size_t q)
+{
+	for (size_t less = 0; less < 2; less++) {
+		struct timers_desk d = TIMERS_DESK_INIT;
+		struct timers_line l = TIMERS_LINE_INIT;
+		struct timers_desk_config config = { sizeof config, 0, 100, k + q + 1 - less, 16, TIMERS_WIDE };
+		struct timers_word w;
+		struct timers_handle handle = { 0, 0 };
+		uint64_t n;
+		CHECK(timers_desk_new(&d, &l, 1, &config) == TIMERS_DESK_OK);
+		for (size_t i = 0; i < k; i++) {        /* k timers, of all of which the client knows */
+			CHECK(timers_line_start(&l, 50, i, &n) == TIMERS_DESK_OK);
+			owner_turn(&d);
+			CHECK(timers_line_receive(&l, &w) && w.kind == TIMERS_WORD_STARTED);
+			handle = w.handle;
+		}
+		for (size_t i = 0; i < q; i++)          /* and q requests, the last of which is a stop */
+			CHECK(timers_line_stop(&l, i + 1 < q ? (struct timers_handle){ 9, 99 } : handle, &n) == TIMERS_DESK_OK);
+		for (size_t i = 0; i < q; i++)
+			CHECK(timers_desk_serve(&d, 0) == (less && i + 1 == q ? TIMERS_DESK_NO_ROOM : TIMERS_DESK_OK));
+		timers_desk_free(&d), timers_line_free(&l);
+	}
+}
+
+/* A desk with room for all its timers runs out of memory at no start. */
+static void reserves(void)
+{
+	struct timers_desk d = TIMERS_DESK_INIT;
+	struct timers_line l = TIMERS_LINE_INIT;
+	struct timers_desk_config config = { sizeof config, 0, 200, 500, 256, TIMERS_WIDE };
+	uint64_t n;
+	CHECK(timers_desk_new(&d, &l, 1, &config) == TIMERS_DESK_OK && timers_desk_reserve(&d) == TIMERS_DESK_OK);
+	for (uint64_t i = 1; i <= 201; i++)
+		CHECK(timers_line_start(&l, i, i, &n) == TIMERS_DESK_OK);
+	long before = asked;
+	CHECK(timers_desk_serve_all(&d, 300) == TIMERS_DESK_OK && timers_desk_pending(&d, 0) == 200 && timers_desk_len(&d) == 200);
+	CHECK(asked == before && timers_desk_pending(&d, 1) == 0);
+	timers_desk_free(&d), timers_line_free(&l);
+}
+
+/* each status has a text of its own */
+static void messages(void)
+{
+	const char *none = timers_desk_message((enum timers_desk_status)3);
+	CHECK(strcmp(none, "no status") == 0 && timers_desk_message((enum timers_desk_status)26) == none);
+	for (int a = 0; a <= 25; a++) {
+		const char *text = timers_desk_message((enum timers_desk_status)a);
+		CHECK((text == none) == (a == 3 || a == 5));
+		for (int b = 0; b < a; b++)
+			CHECK(text == none || strcmp(text, timers_desk_message((enum timers_desk_status)b)) != 0);
+	}
+}
+
 int main(void)
 {
 	empty_structs();
+	freed_lines(2, 4, 4);
+	freed_lines(16, 8, 8);
+	freed_lines(3, 1, 1);
+	clients_come_and_go();
+	for (size_t k = 1; k < 6; k++)
+		for (size_t q = 1; q < 6; q++)
+			room_enough(k, q);
+	reserves();
+	messages();
 	CHECK(!ends());
 	ends_all();
 	slow_client();

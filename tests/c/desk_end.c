@@ -98,7 +98,7 @@ int main(int argc, char **argv)
 	static struct client all[TIMERS_DESK_CLIENTS];
 	struct timers_line lines[TIMERS_DESK_CLIENTS] = { TIMERS_LINE_INIT };
 	struct timers_desk d = TIMERS_DESK_INIT;
-	struct timers_desk_config config = { .first_tick = 0, .capacity = 1 << 20, .room = 64, .line = 16 };
+	struct timers_desk_config config = { .size = sizeof(struct timers_desk_config), .first_tick = 0, .capacity = 1 << 20, .room = 64, .line = 16 };
 	pthread_t threads[TIMERS_DESK_CLIENTS];
 	uint64_t words = 0;
 	CHECK(argc == 3);

@@ -63,7 +63,7 @@ int main(int argc, char **argv)
 	for (unsigned long r = 0; r < rounds; r++) {
 		struct timers_desk d = TIMERS_DESK_INIT;
 		struct timers_line lines[64] = { TIMERS_LINE_INIT };
-		struct timers_desk_config config = { draw(&seed) % 3, 1 + draw(&seed) % 200, 2 + draw(&seed) % 40, 1 + draw(&seed) % 16,
+		struct timers_desk_config config = { sizeof(struct timers_desk_config), draw(&seed) % 3, 1 + draw(&seed) % 200, 2 + draw(&seed) % 40, 1 + draw(&seed) % 16,
 			draw(&seed) % 2 };
 		struct client all[64] = { { NULL, 0, 0, false } };
 		pthread_t threads[64];

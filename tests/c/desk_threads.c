@@ -174,7 +174,7 @@ static void own(struct client *all, pthread_t *threads)
 {
 	struct timers_desk d = TIMERS_DESK_INIT;
 	struct timers_line lines[TIMERS_DESK_CLIENTS] = { TIMERS_LINE_INIT };
-	struct timers_desk_config config = { .first_tick = 0, .capacity = 1 << 20, .room = size("ROOM", 1024), .line = size("LINE", 64) };
+	struct timers_desk_config config = { .size = sizeof(struct timers_desk_config), .first_tick = 0, .capacity = 1 << 20, .room = size("ROOM", 1024), .line = size("LINE", 64) };
 	CHECK(timers_desk_new(&d, lines, clients, &config) == TIMERS_DESK_OK);
 	for (size_t c = 0; c < clients; c++) {
 		all[c].line = &lines[c];

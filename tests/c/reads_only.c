@@ -1,5 +1,5 @@
 /* Calls with a const pointer write nothing but what they are given to write, so that several threads may make them at
- * once: all those of timers, and those of a desk and its lines but timers_line_abandoned. Here they are in memory that
+ * once: all those of timers, and those of a desk and its lines. Here they are in memory that
  * can't be written, and four threads read them.
  * Link with -pthread and -Wl,--wrap=malloc,--wrap=realloc,--wrap=free. With -DWRITES a call that writes is among them, and
  * the program is ended by a signal. */
@@ -75,7 +75,6 @@ static void *read_all(void *unused)
 	wrong += timers_desk_now(&all->desk) != 7 || timers_desk_len(&all->desk) != 3;
 	wrong += timers_desk_wakeup(&all->desk) != 12 || timers_desk_next(&all->desk) != 12;
 	wrong += timers_desk_outbox(&all->desk, 0) != 3 || timers_desk_outbox(&all->desk, 1) != 0;
-	wrong += timers_desk_line_freed(&all->desk, 0) || !timers_desk_line_freed(&all->desk, 1);
 	wrong += timers_line_ended(&all->lines[0]) || timers_line_ended(&all->lines[1]);
 #ifdef WRITES
 	wrong += timers_expire(t, &e);
@@ -86,7 +85,7 @@ static void *read_all(void *unused)
 /* Three timers of client 0, whose answers wait in its outbox. Client 1 has freed its line. */
 static bool open_desk(void)
 {
-	struct timers_desk_config config = { 7, 100, 16, 8, TIMERS_WIDE };
+	struct timers_desk_config config = { sizeof(struct timers_desk_config), 7, 100, 16, 8, TIMERS_WIDE };
 	uint64_t number;
 	if (timers_desk_new(&all->desk, all->lines, 2, &config) != TIMERS_DESK_OK)
 		return false;

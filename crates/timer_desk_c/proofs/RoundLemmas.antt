@@ -505,8 +505,12 @@ dropping_more k count dropped b x y z f g e is = record {
   later_backlogs = λ c high. same_backlog c (more_is_other c k high) ∙ f.later_backlogs c (omega (arith, high));
   some = λ h. elim (or_is dropped b h) [
     | inl before ↦ before_k (f.some before)
-    | inr here ↦ (k, omega arith, subst (λ (n : ℕ). waiting_at z k < n) was
-        (some_left k count (waiting_at z k) (waiting_at y k) e (sym is ∙ here)))
+    | inr here ↦ (
+      k,
+      omega arith,
+      subst (λ (n : ℕ). waiting_at z k < n) was
+          (some_left k count (waiting_at z k) (waiting_at y k) e (sym is ∙ here)),
+    )
   ];
   none = λ h c below. elim (below_or_same c k below) [
     | inl under ↦ ap (λ (d : BacklogState). length d.outbox) (same_backlog c (less_is_other c k under))

@@ -230,9 +230,9 @@ first_more k status (Some l) result d y z old now line s t was before ended refu
       omega (arith, under),
       was.1,
       (λ c x low. earlier (IsOverAt c d z (get_or old c x)) k c x line now (omega (arith, under, low))
-      (over_still k c d y z (get_or old c x) (get_or now c x) (omega (arith, under, low)) s (was.2 c x low))),
+          (over_still k c d y z (get_or old c x) (get_or now c x) (omega (arith, under, low)) s (was.2 c x low))),
       (λ x. earlier (IsLeftAt l.client l.status d z (get_or old l.client x)) k l.client x line now under
-      (left_still k l.client l.status d y z (get_or old l.client x) (get_or now l.client x) under s (was.3 x))),
+          (left_still k l.client l.status d y z (get_or old l.client x) (get_or now l.client x) under s (was.3 x))),
     )
 
 tried_at : (k status : ℕ) (d z : DeskState) (old now : List CLine) (line x : CLine) → IsTried k status d z old now line

@@ -1,5 +1,10 @@
 //! Worked examples of lines under a lock.
+ghost use Rattle.std.specs.Prelude.{◌≤◌};
+
 use crate::support::{numbered, same, start, started};
+use std::alloc::Global;
+use std::process::Abort;
+use std::sync::Wait;
 use std::test::Fail;
 use timer_base::LAST;
 use timer_desk::{Inlet, Put, Taken, Unsent, locked_line};
@@ -55,4 +60,31 @@ fn two_requests_in_a_locked_line_are_taken_one_after_the_other(
     same(&rt, end.receive(&rt), Some(started(2, 2, 1)));
     same(&rt, end.receive(&rt), None);
     Ok(())
+}
+
+/// Fills a locked line with as many requests and as many words as its capacity; it takes no more of either.
+fn fill<R: Abort + Wait>(rt: &R, alloc: Global, capacity: usize) -> Result<(), Fail>
+    requires { (1 ≤ capacity) × (capacity ≤ 65536) }
+{
+    let (mut end, mut inlet) = locked_line(rt, alloc, capacity, 1)?;
+    let request = start(1, 7);
+    let word = started(1, 1, 1);
+    for _ in 0..capacity {
+        same(rt, end.submit(rt, request).is_ok(), true);
+        same(rt, inlet.put(word), Put::Done);
+    }
+    same(rt, end.submit(rt, request), Err(Unsent::Full(request)));
+    same(rt, inlet.put(word), Put::Full(word));
+    Ok(())
+}
+
+#[test]
+fn a_locked_line_has_room_for_its_capacity_each_way(rt: HostRuntime) -> Result<(), Fail> {
+    let alloc = rt.alloc();
+    fill(&rt, alloc, 1)?;
+    fill(&rt, alloc, 2)?;
+    fill(&rt, alloc, 3)?;
+    fill(&rt, alloc, 64)?;
+    fill(&rt, alloc, 1000)?;
+    fill(&rt, alloc, 65536)
 }

@@ -136,7 +136,7 @@ first_to_read desk ended before after c idle got told long first = record {
       let some = first.unread r in
       let read : length (read_by (get_or before c r)) ≡ length (read_by (get_or after c r)) = ap length (sym x.read) in
       let sum : length (read_by (get_or after c r)) + length (unread_by (get_or after c r)) ≡ length (given_of (get_or desk.inlets c i)) =
-          sym (length-append (read_by (get_or after c r)) (unread_by (get_or after c r))) ∙ ap length x.all in
+      sym (length-append (read_by (get_or after c r)) (unread_by (get_or after c r))) ∙ ap length x.all in
       omega (arith, some, read, sum);
   before = λ k i r l.
       let x = told k i r (omega (arith, l, low)) in
@@ -203,7 +203,7 @@ unfinished_by es rs desk all (Some p) (Some c) lines unzipped missing told = go 
             served = served;
             unread = λ i w.
                 let at : (get_or all c w).reader ≡ get_or (rs p) c w.reader =
-                    reader_at all (es p) (rs p) unzipped c w w.reader (low last.client) in
+                reader_at all (es p) (rs p) unzipped c w w.reader (low last.client) in
                 subst (λ r. length (read_by r) < length (given_of (get_or desk.inlets c i))) (sym at) (last.unread i w.reader);
             before = λ k i w l.
                 let z = low last.client in

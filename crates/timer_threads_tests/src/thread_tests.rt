@@ -33,6 +33,19 @@ impl Gate for Door {
     }
 }
 
+/// Counts how often it is asked, and lets nothing go.
+#[derive(Drop)]
+struct Counted {
+    asked: Arc<AtomicU64, Global>,
+}
+
+impl Gate for Counted {
+    fn may_send(&mut self, _number: u64, _expired: u64) -> bool {
+        self.asked.fetch_add(1, Ordering::SeqCst);
+        false
+    }
+}
+
 /// Lets requests go once the other gate was asked too: at its first ask it looks for the other, and
 /// if it never sees it, nothing goes. So clients that run one after another fail.
 #[derive(Drop)]
@@ -138,6 +151,23 @@ fn clients_that_may_not_send_come_to_their_limit(rt: HostRuntime) -> Result<(), 
     let alloc = rt.alloc();
     let shut = Door { is_open: false };
     fails(&rt, alloc, vec![in alloc; shut, shut]?, 100, 1000, 0);
+    Ok(())
+}
+
+#[test]
+fn each_gate_is_asked_in_every_turn_up_to_the_limit(rt: HostRuntime) -> Result<(), Fail> {
+    let alloc = rt.alloc();
+    let one = Arc::new(alloc, AtomicU64::new(0))?;
+    let two = Arc::new(alloc, AtomicU64::new(0))?;
+    let first = Counted {
+        asked: Arc::try_clone(&one)?,
+    };
+    let second = Counted {
+        asked: Arc::try_clone(&two)?,
+    };
+    fails(&rt, alloc, vec![in alloc; first, second]?, 1, 1000, 0);
+    same(&rt, one.load(Ordering::SeqCst), 1000);
+    same(&rt, two.load(Ordering::SeqCst), 1000);
     Ok(())
 }
 

@@ -33,7 +33,6 @@ returns-then-not-is_done-clause-err g c =
           (c.if-not-is_done.ensures.waiting refl);
     }
 
-
 pub loop-k-preserved : goal.loop-k-preserved
 loop-k-preserved g c =
     let was = c.loop-k.invariant in

@@ -1,0 +1,437 @@
+//! timers_desk.h for Rust: a safe wrapper over the C library, in one file that may be taken along.
+//!
+//! A [`Desk`] is the owner's, and stays in the thread that made it. A [`Line`] is a client's end: it can be sent to the
+//! client's thread, and not be shared by two. Both are freed when they are dropped, in any order. timers_desk(3) says
+//! what each call does, and how threads wake each other.
+//!
+//! A call that is refused returns an [`Error`], and has changed nothing but where its text says so. Rust 1.82 or later.
+
+// SPDX-License-Identifier: MIT OR Apache-2.0
+#![allow(dead_code)]
+
+use std::error;
+use std::ffi::{c_uint, c_void};
+use std::fmt;
+use std::marker::PhantomData;
+use std::mem::MaybeUninit;
+use std::ptr;
+
+const OK: c_uint = 0;
+const NEVER: u64 = u64::MAX;
+
+/// Why a call was refused, or a request.
+#[derive(Clone, Copy, Debug, Eq, PartialEq)]
+#[non_exhaustive]
+pub enum Error {
+    NotOpen,
+    Open,
+    NoMemory,
+    NotPending,
+    ZeroInterval,
+    TooLate,
+    SerialsSpent,
+    ClockEnd,
+    Closed,
+    Capacity,
+    NoClient,
+    NumbersSpent,
+    LineFull,
+    Finished,
+    OutOfRange,
+    Idle,
+    NoRoom,
+    OtherLine,
+    NotFinished,
+    Left,
+    NotFreed,
+    /// A status of a later library.
+    Other(c_uint),
+}
+
+impl Error {
+    fn of(status: c_uint) -> Error {
+        match status {
+            1 => Error::NotOpen,
+            2 => Error::Open,
+            4 => Error::NoMemory,
+            6 => Error::NotPending,
+            7 => Error::ZeroInterval,
+            8 => Error::TooLate,
+            9 => Error::SerialsSpent,
+            10 => Error::ClockEnd,
+            11 => Error::Closed,
+            12 => Error::Capacity,
+            13 => Error::NoClient,
+            14 => Error::NumbersSpent,
+            17 => Error::LineFull,
+            18 => Error::Finished,
+            19 => Error::OutOfRange,
+            20 => Error::Idle,
+            21 => Error::NoRoom,
+            22 => Error::OtherLine,
+            23 => Error::NotFinished,
+            24 => Error::Left,
+            25 => Error::NotFreed,
+            other => Error::Other(other),
+        }
+    }
+}
+
+impl fmt::Display for Error {
+    fn fmt(&self, f: &mut fmt::Formatter<'_>) -> fmt::Result {
+        write!(f, "libtimers: {self:?}")
+    }
+}
+
+impl error::Error for Error {}
+
+fn done<T>(status: c_uint, value: T) -> Result<T, Error> {
+    if status == OK { Ok(value) } else { Err(Error::of(status)) }
+}
+
+/// What a desk is made with. [`Config::new`] gives room enough for clients that keep to its numbers.
+#[derive(Clone, Copy, Debug, Eq, PartialEq)]
+pub struct Config {
+    pub first_tick: u64,
+    /// The most timers that may be pending at a time, of all clients.
+    pub capacity: u64,
+    /// How many words each client's outbox has room for.
+    pub room: usize,
+    /// How many requests, and how many words, a line has room for.
+    pub line: usize,
+    /// 0: ten wheels of 64 slots; 1: seconds, minutes, hours, 100 days.
+    pub table: u32,
+}
+
+impl Config {
+    /// For clients that keep at most `timers` timers each, and have at most `requests` requests without an answer: none
+    /// of their requests is ever held back for want of room.
+    pub fn new(capacity: u64, timers: usize, requests: usize) -> Config {
+        Config { first_tick: 0, capacity, room: timers + requests + 1, line: requests, table: 0 }
+    }
+}
+
+/// The name of a client's timer.
+#[repr(C)]
+#[derive(Clone, Copy, Debug, Default, Eq, Hash, PartialEq)]
+pub struct Handle {
+    place: usize,
+    serial: u64,
+}
+
+impl Handle {
+    /// Counts the starts and restarts of the desk, from 1.
+    pub fn serial(self) -> u64 {
+        self.serial
+    }
+}
+
+/// A timer that was handed out. `number` is that of the request that started it.
+#[derive(Clone, Copy, Debug, Eq, PartialEq)]
+pub struct Timer {
+    pub number: u64,
+    pub serial: u64,
+    pub deadline: u64,
+    pub action: u64,
+}
+
+/// A word to a client. Each request has one, in their order, and each timer that ran to its end one more.
+#[derive(Clone, Copy, Debug, Eq, PartialEq)]
+#[non_exhaustive]
+pub enum Word {
+    Started { number: u64, handle: Handle, deadline: u64 },
+    Restarted { number: u64, handle: Handle, deadline: u64, old: u64 },
+    Stopped { number: u64, serial: u64 },
+    Refused { number: u64, reason: Error },
+    NotTaken { number: u64, reason: Error },
+    Expired(Timer),
+    Returned(Timer),
+}
+
+#[repr(C)]
+struct RawWord {
+    kind: u32,
+    reason: u32,
+    number: u64,
+    handle: Handle,
+    deadline: u64,
+    action: u64,
+    other: u64,
+}
+
+impl RawWord {
+    fn word(&self) -> Word {
+        let RawWord { number, handle, deadline, action, .. } = *self;
+        let timer = Timer { number, serial: handle.serial, deadline, action };
+        match self.kind {
+            1 => Word::Started { number, handle, deadline },
+            2 => Word::Restarted { number, handle, deadline, old: self.other },
+            3 => Word::Stopped { number, serial: handle.serial },
+            4 => Word::Refused { number, reason: Error::of(self.reason) },
+            6 => Word::Expired(timer),
+            7 => Word::Returned(timer),
+            _ => Word::NotTaken { number, reason: Error::of(self.reason) },
+        }
+    }
+}
+
+#[repr(C)]
+struct RawConfig {
+    size: usize,
+    first_tick: u64,
+    capacity: u64,
+    room: usize,
+    line: usize,
+    table: u32,
+}
+
+/// `struct timers_desk`. It may be moved.
+#[repr(C)]
+struct RawDesk {
+    at: *mut c_void,
+    mark: u64,
+}
+
+/// `struct timers_line`. It may be moved.
+#[repr(C)]
+struct RawLine {
+    at: *mut c_void,
+    mark: u64,
+    client: u64,
+}
+
+impl RawLine {
+    fn none() -> RawLine {
+        RawLine { at: ptr::null_mut(), mark: 0, client: 0 }
+    }
+}
+
+#[link(name = "timers")]
+unsafe extern "C" {
+    fn timers_desk_new(d: *mut RawDesk, lines: *mut RawLine, clients: usize, config: *const RawConfig) -> c_uint;
+    fn timers_desk_free(d: *mut RawDesk);
+    fn timers_desk_serve(d: *mut RawDesk, client: usize) -> c_uint;
+    fn timers_desk_serve_all(d: *mut RawDesk, most: u64) -> c_uint;
+    fn timers_desk_flush(d: *mut RawDesk, client: usize) -> usize;
+    fn timers_desk_flush_all(d: *mut RawDesk) -> bool;
+    fn timers_desk_advance(d: *mut RawDesk, most: u64, passed: *mut u64) -> c_uint;
+    fn timers_desk_close(d: *mut RawDesk, returned: *mut u64) -> c_uint;
+    fn timers_desk_end(d: *mut RawDesk, client: usize, line: *mut RawLine, unread: *mut usize) -> c_uint;
+    fn timers_desk_open(d: *mut RawDesk, client: usize, line: *mut RawLine, room: usize) -> c_uint;
+    fn timers_desk_reserve(d: *mut RawDesk) -> c_uint;
+    fn timers_desk_now(d: *const RawDesk) -> u64;
+    fn timers_desk_len(d: *const RawDesk) -> usize;
+    fn timers_desk_pending(d: *const RawDesk, client: usize) -> usize;
+    fn timers_desk_outbox(d: *const RawDesk, client: usize) -> usize;
+    fn timers_desk_wakeup(d: *const RawDesk) -> u64;
+    fn timers_desk_next(d: *const RawDesk) -> u64;
+    fn timers_desk_line_freed(d: *mut RawDesk, client: usize) -> bool;
+    fn timers_line_start(line: *mut RawLine, interval: u64, action: u64, number: *mut u64) -> c_uint;
+    fn timers_line_stop(line: *mut RawLine, handle: Handle, number: *mut u64) -> c_uint;
+    fn timers_line_restart(line: *mut RawLine, handle: Handle, interval: u64, action: u64, number: *mut u64) -> c_uint;
+    fn timers_line_receive(line: *mut RawLine, word: *mut RawWord) -> bool;
+    fn timers_line_finish(line: *mut RawLine) -> c_uint;
+    fn timers_line_ended(line: *const RawLine) -> bool;
+    fn timers_line_abandoned(line: *mut RawLine) -> bool;
+    fn timers_line_free(line: *mut RawLine);
+}
+
+/// The owner's desk. It is neither sent to another thread nor shared.
+pub struct Desk {
+    held: RawDesk,
+    clients: usize,
+}
+
+/// A client's end of its line. It can be sent to another thread, and not be shared by two.
+pub struct Line {
+    held: RawLine,
+    alone: PhantomData<*mut ()>,
+}
+
+// A line is used by one thread at a time, which may change: nothing of it belongs to a thread.
+unsafe impl Send for Line {}
+
+impl Line {
+    fn of(held: RawLine) -> Line {
+        Line { held, alone: PhantomData }
+    }
+}
+
+impl Desk {
+    /// A desk with `clients` clients, and the end of each.
+    pub fn new(clients: usize, config: Config) -> Result<(Desk, Vec<Line>), Error> {
+        let Config { first_tick, capacity, room, line, table } = config;
+        let raw = RawConfig { size: size_of::<RawConfig>(), first_tick, capacity, room, line, table };
+        let mut desk = Desk { held: RawDesk { at: ptr::null_mut(), mark: 0 }, clients };
+        let mut lines: Vec<RawLine> = (0..clients).map(|_| RawLine::none()).collect();
+        let status = unsafe { timers_desk_new(&mut desk.held, lines.as_mut_ptr(), clients, &raw) };
+        done(status, ())?;
+        Ok((desk, lines.into_iter().map(Line::of).collect()))
+    }
+
+    /// How many clients there are.
+    pub fn clients(&self) -> usize {
+        self.clients
+    }
+
+    /// Serves a client once.
+    pub fn serve(&mut self, client: usize) -> Result<(), Error> {
+        done(unsafe { timers_desk_serve(&mut self.held, client) }, ())
+    }
+
+    /// Serves each client up to `most` times. `Err(Idle)` if no request was done, `Err(NoMemory)` if one is held.
+    pub fn serve_all(&mut self, most: u64) -> Result<(), Error> {
+        done(unsafe { timers_desk_serve_all(&mut self.held, most) }, ())
+    }
+
+    /// Moves a client's words into its line, and returns how many have left its outbox.
+    pub fn flush(&mut self, client: usize) -> usize {
+        unsafe { timers_desk_flush(&mut self.held, client) }
+    }
+
+    /// The same for all clients: whether a word has left its outbox.
+    pub fn flush_all(&mut self) -> bool {
+        unsafe { timers_desk_flush_all(&mut self.held) }
+    }
+
+    /// Passes at most `most` ticks, up to the first at which a timer expires, and returns how many.
+    pub fn advance(&mut self, most: u64) -> Result<u64, Error> {
+        let mut passed = 0;
+        let status = unsafe { timers_desk_advance(&mut self.held, most, &mut passed) };
+        done(status, passed)
+    }
+
+    /// Passes the ticks up to this one. Does nothing if it has passed.
+    pub fn advance_to(&mut self, tick: u64) -> Result<(), Error> {
+        while self.now() < tick {
+            self.advance(tick - self.now())?;
+        }
+        Ok(())
+    }
+
+    /// Closes the desk, and returns how many timers were returned.
+    pub fn close(&mut self) -> Result<u64, Error> {
+        let mut returned = 0;
+        let status = unsafe { timers_desk_close(&mut self.held, &mut returned) };
+        done(status, returned)
+    }
+
+    /// Ends the words of a client that has finished, and returns how many it has still to receive.
+    pub fn end(&mut self, client: usize, line: &mut Line) -> Result<usize, Error> {
+        let mut unread = 0;
+        let status = unsafe { timers_desk_end(&mut self.held, client, &mut line.held, &mut unread) };
+        done(status, unread)
+    }
+
+    /// Opens a line for another client, under the number of one whose line was dropped and of which nothing is left.
+    pub fn open(&mut self, client: usize, room: usize) -> Result<Line, Error> {
+        let mut line = RawLine::none();
+        let status = unsafe { timers_desk_open(&mut self.held, client, &mut line, room) };
+        done(status, line).map(Line::of)
+    }
+
+    /// Makes room for as many timers as may be pending.
+    pub fn reserve(&mut self) -> Result<(), Error> {
+        done(unsafe { timers_desk_reserve(&mut self.held) }, ())
+    }
+
+    /// The present tick.
+    pub fn now(&self) -> u64 {
+        unsafe { timers_desk_now(&self.held) }
+    }
+
+    /// How many timers are pending.
+    pub fn pending(&self) -> usize {
+        unsafe { timers_desk_len(&self.held) }
+    }
+
+    /// How many timers of a client are pending.
+    pub fn pending_of(&self, client: usize) -> usize {
+        unsafe { timers_desk_pending(&self.held, client) }
+    }
+
+    /// How many words wait for a client.
+    pub fn outbox(&self, client: usize) -> usize {
+        unsafe { timers_desk_outbox(&self.held, client) }
+    }
+
+    /// A tick until which nothing expires, or None if nothing is pending.
+    pub fn wakeup(&self) -> Option<u64> {
+        Some(unsafe { timers_desk_wakeup(&self.held) }).filter(|tick| *tick != NEVER)
+    }
+
+    /// The first deadline, or None if nothing is pending.
+    pub fn next(&self) -> Option<u64> {
+        Some(unsafe { timers_desk_next(&self.held) }).filter(|tick| *tick != NEVER)
+    }
+
+    /// Whether a client's line was dropped.
+    pub fn line_freed(&mut self, client: usize) -> bool {
+        unsafe { timers_desk_line_freed(&mut self.held, client) }
+    }
+}
+
+impl Drop for Desk {
+    fn drop(&mut self) {
+        unsafe { timers_desk_free(&mut self.held) }
+    }
+}
+
+impl Line {
+    /// The number of its client.
+    pub fn client(&self) -> usize {
+        self.held.client as usize
+    }
+
+    /// Sends the request to start a timer, and returns the request's number.
+    pub fn start(&mut self, interval: u64, action: u64) -> Result<u64, Error> {
+        let mut number = 0;
+        let status = unsafe { timers_line_start(&mut self.held, interval, action, &mut number) };
+        done(status, number)
+    }
+
+    /// Sends the request to stop a timer.
+    pub fn stop(&mut self, handle: Handle) -> Result<u64, Error> {
+        let mut number = 0;
+        let status = unsafe { timers_line_stop(&mut self.held, handle, &mut number) };
+        done(status, number)
+    }
+
+    /// Sends the request to stop a timer and start another in its place.
+    pub fn restart(&mut self, handle: Handle, interval: u64, action: u64) -> Result<u64, Error> {
+        let mut number = 0;
+        let status = unsafe { timers_line_restart(&mut self.held, handle, interval, action, &mut number) };
+        done(status, number)
+    }
+
+    /// Receives the next word, if one is there.
+    pub fn receive(&mut self) -> Option<Word> {
+        let mut word = MaybeUninit::<RawWord>::uninit();
+        if unsafe { timers_line_receive(&mut self.held, word.as_mut_ptr()) } {
+            Some(unsafe { word.assume_init() }.word())
+        } else {
+            None
+        }
+    }
+
+    /// Ends the requests. Words are still received.
+    pub fn finish(&mut self) -> Result<(), Error> {
+        done(unsafe { timers_line_finish(&mut self.held) }, ())
+    }
+
+    /// Whether the owner has ended the words, and all were received.
+    pub fn ended(&self) -> bool {
+        unsafe { timers_line_ended(&self.held) }
+    }
+
+    /// Whether the desk was dropped, and all words that it had put into the line were received.
+    pub fn abandoned(&mut self) -> bool {
+        unsafe { timers_line_abandoned(&mut self.held) }
+    }
+}
+
+impl Drop for Line {
+    fn drop(&mut self) {
+        unsafe { timers_line_free(&mut self.held) }
+    }
+}
