@@ -10,6 +10,7 @@ import os
 import signal
 import socket
 import sys
+import tempfile
 import threading
 import time
 
@@ -157,14 +158,15 @@ def main():
     server.raise_limit()
     silent = socket.create_server(("127.0.0.1", 0))
     port = server.free_ports(1)[0]
-    here = os.path.dirname(os.path.abspath(sys.argv[1]))
-    os.makedirs(os.path.join(here, "slow"), exist_ok=True)
-    with open(os.path.join(here, "slow", "file"), "wb") as file:
-        file.write(b"x" * 60000)
-    settings = SETTINGS.format(port=port, silent=silent.getsockname()[1], folder=here)
-    with server.running(sys.argv[1], port, settings) as (process, _):
-        results = run_all(port)
-        results.append(("end_beside_a_slow_client", end_beside_a_slow_client(port, process)))
+    with tempfile.TemporaryDirectory() as folder:
+        os.chmod(folder, 0o755)
+        os.mkdir(os.path.join(folder, "slow"))
+        with open(os.path.join(folder, "slow", "file"), "wb") as file:
+            file.write(b"x" * 60000)
+        settings = SETTINGS.format(port=port, silent=silent.getsockname()[1], folder=folder)
+        with server.running(sys.argv[1], port, settings) as (process, _):
+            results = run_all(port)
+            results.append(("end_beside_a_slow_client", end_beside_a_slow_client(port, process)))
     for name, result in results:
         print(name, result)
     return 0 if all(result == "ok" for _, result in results) else 1
