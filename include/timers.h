@@ -83,7 +83,7 @@
  *         next, find_next         constant, or each timer of one bucket
  *         len                     each expired timer that waits
  *         each                    each place up to the next timer
- *         reserve                 each timer that there is room for
+ *         reserve                 the most timers that were held at once
  *         new, free               constant: the buckets, four blocks of memory
  *
  *     A move takes a timer to a lower wheel. A tick moves the timers of its bucket, unless they expire.
@@ -104,10 +104,10 @@
  *     timer has the handle. A start does so only if more timers are held than ever before, and more than
  *     timers_reserve made room for. One that re-arms a timer which was just taken does not.
  *
- *     timers_new allocates some 15 KB for the buckets, and the first start or reserve some 5 KB more (with
- *     TIMERS_CLOCK 6 KB and 2 KB). A timer takes 64 bytes, in two arrays. An array that is full grows, the
- *     larger one to twice its length. So above some 1,000 timers there are 64 to 130 bytes for each, of the
- *     most that were ever held. With timers_reserve there are 64.
+ *     timers_new allocates some 15 KB for the buckets, and the first start some 5 KB more, unless timers_reserve
+ *     made room (with TIMERS_CLOCK 6 KB and 2 KB). A timer takes 64 bytes, in two arrays. An array that is full
+ *     grows, the larger one to twice its length. So above some 1,000 timers there are 64 to 130 bytes for each,
+ *     of the most that were ever held. With timers_reserve there are 64.
  *
  *     Memory is kept for later starts until timers_free. It can't be given back in part, since a timer stays
  *     at the place that its handle has. A caller that wants it back starts what is left in a second `struct
@@ -317,9 +317,9 @@ void timers_clear(struct timers *t);
 /* Makes room for `most` timers held at once, pending or expired and not yet taken, those that are held
  * already among them. While fewer are held, a start then allocates nothing and does not return
  * TIMERS_NO_MEMORY, whatever was started, stopped and taken before. The timers and the clock don't change.
- * Takes 64 bytes for each timer, and time for each: it may move those that are held. The memory is kept
- * until timers_free, also what was allocated before a failure. If an earlier timers_reserve made as much room,
- * it allocates nothing and returns TIMERS_OK.
+ * Takes 64 bytes for each timer, and time for the most that were ever held at once, which it may move. The rest
+ * is allocated and not written. The memory is kept until timers_free, also what was allocated before a failure.
+ * If an earlier timers_reserve made as much room, it allocates nothing and returns TIMERS_OK.
  * TIMERS_NO_MEMORY is also returned if `most` is above some 4.29 billion.
  * TIMERS_NOT_OPEN, TIMERS_NO_MEMORY. */
 TIMERS_CHECKED
@@ -384,7 +384,7 @@ enum timers_status timers_look(const struct timers *t, struct timers_handle hand
  * Between two calls timers may be started, stopped, restarted and taken, and ticks may pass. One that is
  * held all the time, under one handle, is found exactly once. One that is restarted is found once as well: it
  * keeps its place, so after it was found it is not met again under its new handle. One that is started may be
- * found or not. A whole iteration takes time for the most timers that were ever held at once, or that
+ * found or not. A whole iteration takes time for the most timers that were ever held at once, whatever
  * timers_reserve made room for. */
 bool timers_each(const struct timers *t, size_t *cursor, struct timers_handle *handle,
                  struct timers_expired *out);
