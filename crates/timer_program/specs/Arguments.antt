@@ -1,6 +1,6 @@
 -- Which subcommand the arguments name, and whether they ask for help or the version.
-use Rattle.std.specs.Prelude.{◌≡◌, ◌⊎◌, ℕ, List, [], ◌∷◌, codes}
-use Rattle.std.specs.List.{slice_index}
+use Rattle.std.specs.Prelude.{◌≡◌, ◌⊎◌, ℕ, true, nat_eq, List, [], ◌∷◌, codes}
+use Rattle.std.specs.List.{starts_with}
 use Rattle.clap.specs.declared.error.kind.ErrorKind.{ErrorKind}
 use Rattle.clap.specs.declared.error.kind.ErrorKind.TheVariants as kinds
 use Rattle.timer_program.specs.declared.arguments.Subcommand.{Subcommand}
@@ -25,10 +25,10 @@ first_or_play text (first ∷ rest) = text first
 abbrev pub IsShown : ErrorKind → Type 0
 IsShown kind = (kind ≡ kinds.DisplayHelp) ⊎ (kind ≡ kinds.DisplayVersion)
 
--- the argument is `-h` or `-V`, alone or before other letters
+-- the argument begins with `-h` or `-V`: alone or before other letters
 abbrev pub IsShortOfText : List ℕ → Type 0
 IsShortOfText argument =
-    (slice_index argument 0 ≡ 45) × ((slice_index argument 1 ≡ 104) ⊎ (slice_index argument 1 ≡ 86))
+    (starts_with nat_eq argument (codes "-h") ≡ true) ⊎ (starts_with nat_eq argument (codes "-V") ≡ true)
 
 -- the argument asks for help or for the version
 abbrev pub AsksForText : List ℕ → Type 0

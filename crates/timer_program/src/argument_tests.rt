@@ -408,7 +408,6 @@ static SHORT: [Short; 6] = [
         &["play", "-h"],
         11,
         &[
-            "Usage: timers play [OPTIONS] < FILE\n",
             "--scheme <SCHEME> ",
             "--slots <SLOTS> ",
             "--clients <CLIENTS> ",
@@ -416,18 +415,10 @@ static SHORT: [Short; 6] = [
             "--first-tick <TICK> ",
         ],
     ),
-    (
-        &["serve", "-h"],
-        13,
-        &["Usage: timers serve", "--keep-going ", "--wakeups "],
-    ),
-    (&["show", "-h"], 12, &["Usage: timers show", "--counts "]),
-    (
-        &["threads", "-h"],
-        8,
-        &["Usage: timers threads", "--timers <TIMERS> "],
-    ),
-    (&["check", "-h"], 6, &["Usage: timers check < FILE\n"]),
+    (&["serve", "-h"], 13, &["--keep-going ", "--wakeups "]),
+    (&["show", "-h"], 12, &["--counts "]),
+    (&["threads", "-h"], 8, &["--timers <TIMERS> "]),
+    (&["check", "-h"], 6, &[]),
 ];
 
 #[test]
@@ -444,6 +435,30 @@ fn the_short_help_has_the_options_in_few_lines(rt: HostRuntime) {
             same_in(&rt, *part, text.contains(*part), true);
         }
         same_in(&rt, arguments, text.contains("-h, --help"), true);
+    }
+}
+
+/// A subcommand, and the line of its help that says how it is called.
+static USAGES: [(&str, &str); 5] = [
+    ("play", "\nUsage: timers play [OPTIONS] < FILE\n"),
+    ("serve", "\nUsage: timers serve [OPTIONS] < FILE\n"),
+    ("show", "\nUsage: timers show [OPTIONS] < FILE\n"),
+    ("threads", "\nUsage: timers threads [OPTIONS]\n"),
+    ("check", "\nUsage: timers check < FILE\n"),
+];
+
+#[test]
+fn each_help_of_a_subcommand_says_how_it_is_called(rt: HostRuntime) {
+    for (name, line) in USAGES {
+        for option in ["-h", "--help"] {
+            let ended = call(&rt, &[name, option], b"x", usize::MAX);
+            let left = (ended.status, ended.unread, ended.faults.is_empty());
+            same_in(&rt, name, left, (0, 1, true));
+            let Ok(text) = std::str::from_utf8(&ended.output) else {
+                panic!(&rt; "a help that is not UTF-8");
+            };
+            same_in(&rt, line, text.contains(line), true);
+        }
     }
 }
 

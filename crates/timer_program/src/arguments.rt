@@ -305,7 +305,7 @@ fn is_short_of_text(argument: &str) -> bool
     ensures { IsTrue result → IsShortOfText argument.now }
 {
     let bytes = argument.as_bytes();
-    bytes.len() > 1 && bytes[0] == b'-' && (bytes[1] == b'h' || bytes[1] == b'V')
+    bytes.starts_with(b"-h") || bytes.starts_with(b"-V")
 }
 
 /// Whether an argument asks for help or for the version.

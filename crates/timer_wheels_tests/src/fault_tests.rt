@@ -20,13 +20,25 @@ fn each_error_has_its_text(rt: HostRuntime) {
     shows(&rt, MakeFault::FirstTick, "the first tick is out of range");
     shows(&rt, MakeFault::OutOfMemory, "out of memory");
     shows(&rt, StartFault::ZeroInterval, "the interval is 0");
-    shows(&rt, StartFault::TooLate, "the deadline is after the last tick");
+    shows(
+        &rt,
+        StartFault::TooLate,
+        "the deadline is after the last tick",
+    );
     shows(&rt, StartFault::SerialsSpent, "every serial was used");
     shows(&rt, StartFault::OutOfMemory, "out of memory");
     shows(&rt, RestartFault::NotPending, "no timer has this handle");
     shows(&rt, RestartFault::ZeroInterval, "the interval is 0");
-    shows(&rt, RestartFault::TooLate, "the deadline is after the last tick");
+    shows(
+        &rt,
+        RestartFault::TooLate,
+        "the deadline is after the last tick",
+    );
     shows(&rt, RestartFault::SerialsSpent, "every serial was used");
-    shows(&rt, AdvanceFault::Due, "a timer that expired was not yet taken");
+    shows(
+        &rt,
+        AdvanceFault::Due,
+        "a timer that expired was not yet taken",
+    );
     shows(&rt, AdvanceFault::ClockEnd, "the clock is at its last tick");
 }
