@@ -118,3 +118,49 @@ fn a_drive_that_passes_a_second_at_once_hands_out_the_same_words(rt: HostRuntime
     // A turn serves both and ends at tick 700, the next at 1,000, and the one that flushes at 2,000.
     same(&rt, drive_two(&rt, alloc, 1000), 2000);
 }
+
+/// A line whose client has asked for three timers of one tick, and the client's end.
+fn line_of_three(rt: &impl Abort, alloc: Global) -> (ClientEnd, RingInlet) {
+    let (mut end, inlet) = line(rt, alloc, 8, 1);
+    same(rt, end.submit(start(1, 7)), Ok(1));
+    same(rt, end.submit(start(1, 7)), Ok(2));
+    same(rt, end.submit(start(1, 7)), Ok(3));
+    (end, inlet)
+}
+
+/// Goes on only if the client receives just the words of its first two timers, with these serials.
+fn receives_two(rt: &impl Abort, end: &mut ClientEnd, client: u64, first: u64, second: u64) {
+    same(rt, end.receive().map(bare), Some(started(1, first, 1)));
+    same(
+        rt,
+        end.receive(),
+        Some(expired(timer(first, client, 1, 1, 7))),
+    );
+    same(rt, end.receive().map(bare), Some(started(2, second, 2)));
+    same(
+        rt,
+        end.receive(),
+        Some(expired(timer(second, client, 2, 2, 7))),
+    );
+    same(rt, end.receive(), None);
+}
+
+#[test]
+fn a_drive_serves_each_client_once_a_turn_in_order_and_none_beyond_the_goal(rt: HostRuntime) {
+    let alloc = rt.alloc();
+    let (mut zero, first) = line_of_three(&rt, alloc);
+    let (mut one, second) = line_of_three(&rt, alloc);
+    let desk = desk(
+        &rt,
+        alloc,
+        plain(&rt, alloc),
+        two(&rt, alloc, first, second),
+        8,
+    );
+    let driven = drive(alloc, desk, 2, 1000);
+    same(&rt, driven.outcome, DriveEnd::Done);
+    // Two turns serve both clients, and a third flushes the last notices.
+    same(&rt, driven.desk.facility().now(), 3);
+    receives_two(&rt, &mut zero, 0, 1, 3);
+    receives_two(&rt, &mut one, 1, 2, 4);
+}
