@@ -24,7 +24,7 @@
 # make generate    as make prove, for each processor, and builds nothing
 # make soak        64 clients of 10,000 timers each in threads, 100 times; prints progress
 # make bench       measures the wheels against others (bench/README.md)
-# make bench-lines measures the owner's desk, ring lines and clients in threads against others
+# make bench-lines measures the owner's desk, its flushes and clients in threads against others
 # make docs        makes docs/pages/plays.js and pictures from the scripts of examples/, timers(1) from docs/formats.md,
 #                  and counts lines for docs/proofs.md
 
