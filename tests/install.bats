@@ -20,7 +20,7 @@ setup_file() {
     mkdir -p "$work/tree/build"
     cp -pR timers "$work/tree/timers"
     cp -pR build/lib "$work/tree/build/lib"
-    cp -p tools/install/*.3 "$work/tree/tools/install"
+    cp -p tools/install/*.[13] "$work/tree/tools/install"
 }
 in_tree() { make --no-print-directory -C "$work/tree" "$@"; }
 in_clone() { make --no-print-directory -C "$work/clone" "$@"; }

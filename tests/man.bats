@@ -1,6 +1,6 @@
 #!/usr/bin/env bats
-# One version everywhere, man pages that are clean, and links that lead somewhere. `make` makes those of the headers. TIMERS
-# names the program, by default ./timers.
+# One version everywhere, man pages, which `make` makes, that are clean, and links that lead somewhere. TIMERS names the
+# program, by default ./timers.
 # shellcheck disable=SC2143  # `! grep` fails no test
 load helpers
 
@@ -17,13 +17,6 @@ setup_file() {
     grep -q "^## $VERSION\b" CHANGELOG.md
     head -n 1 tools/debian/changelog | grep -q "^timers ($VERSION-"
     for page in tools/install/*.[13]; do head -n 1 "$page" | grep -q "^\.TH .*\"timers $VERSION\""; done
-}
-
-@test "timers(1) is made from docs/formats.md" {
-    needs lowdown
-    # Another version may write the same text with other macros.
-    [[ $(dpkg-query -W -f='${Version}' lowdown) == 1.0.* ]] || skip "no lowdown 1.0, Debian 12's"
-    tools/install/man1 | diff tools/install/timers.1 -
 }
 
 # Lines of a source may be longer than 80 bytes, as elsewhere in this repository.
