@@ -89,8 +89,8 @@ class Script:
 
 def dictionary():
     """What afl-fuzz puts into scripts: parts of lines, and numbers."""
-    words = ["start ", "stop ", "restart ", "tick ", "close\\x0a", "\\x0a", " ", "00", "start 0 1 5 1\\x0a", "restart 0 2 1 5 2\\x0a"]
-    for token in [*words, *EDGES, LAST + 1, 2**64 - 1, 2**64]:
+    words = ["start ", "stop ", "restart ", "tick ", "close\\x0a", "\\x0a", " ", "00"]
+    for token in [*words, "start 0 1 5 1\\x0a", "restart 0 2 1 5 2\\x0a", *EDGES, LAST + 1, 2**64 - 1, 2**64]:
         print(f'"{token}"')
 
 
