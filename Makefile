@@ -2,7 +2,7 @@
 # make run         the same, and plays a script of examples/ (SCRIPT=)
 # make test        the whole gate; its last line is 'N passed, 0 failed', or 'N passed, 0 failed, N skipped'. Without the
 #                  toolchain it runs what needs no proof
-# make lib         builds the libraries alone
+# make lib         builds the libraries alone, and the man pages
 # make install     installs what make built, under PREFIX (tools/install/layout has all variables)
 # make uninstall   removes what it installed
 # make dist        a tarball of program and libraries, for machines without a compiler: build/timers-*.tar.gz
@@ -37,14 +37,14 @@ SCRIPT = examples/retransmission
 ARGUMENTS = play
 MINUTES = 60
 
-all: timers lib pages
+all: timers lib
 
 .DELETE_ON_ERROR:
 
-timers: tools/program $(GENERATED)
+timers: tools/program $(GENERATED) | tools/install/timers.1
 	tools/program timers
 
-lib: build/lib/libtimers.a
+lib: build/lib/libtimers.a pages
 
 build/lib/libtimers.a: tools/lib tools/install/version tools/install/timers.map $(GENERATED)
 	tools/lib build/lib
