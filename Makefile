@@ -2,7 +2,7 @@
 # make run         the same, and plays a script of examples/ (SCRIPT=)
 # make test        the whole gate; its last line is 'N passed, 0 failed', or 'N passed, 0 failed, N skipped'. Without the
 #                  toolchain it runs what needs no proof
-# make lib         builds the libraries alone
+# make lib         builds the libraries alone, and the man pages
 # make install     installs what make built, under PREFIX (tools/install/layout has all variables)
 # make uninstall   removes what it installed
 # make dist        a tarball of program and libraries, for machines without a compiler: build/timers-*.tar.gz
@@ -25,9 +25,9 @@
 # make generate    as make prove, for each processor, and builds nothing
 # make soak        64 clients of 10,000 timers each in threads, 100 times; prints progress
 # make bench       measures the wheels against others (bench/README.md)
-# make bench-lines measures the owner's desk, ring lines and clients in threads against others
-# make docs        makes docs/pages and pictures from the scripts of examples/, timers(1) from docs/formats.md and timers(3)
-#                  from the headers, and counts lines for docs/proofs.md
+# make bench-lines measures the owner's desk, its flushes and clients in threads against others
+# make docs        makes docs/pages/plays.js and pictures from the scripts of examples/, and counts lines
+#                  for docs/proofs.md
 
 PROCESSOR := $(shell uname -m)
 GENERATED := $(wildcard generated/* generated/*/*)
@@ -40,13 +40,24 @@ MINUTES = 60
 
 all: timers lib
 
-timers: tools/program $(GENERATED)
+.DELETE_ON_ERROR:
+
+timers: tools/program $(GENERATED) | tools/install/timers.1
 	tools/program timers
 
-lib: build/lib/libtimers.a
+lib: build/lib/libtimers.a pages
 
 build/lib/libtimers.a: tools/lib tools/install/version tools/install/timers.map $(GENERATED)
 	tools/lib build/lib
+
+# The man pages, from docs/formats.md and the headers.
+pages: tools/install/timers.1 tools/install/timers.3 tools/install/timers_desk.3
+
+tools/install/timers.1: docs/formats.md tools/install/man1 tools/install/version tools/debian/changelog
+	tools/install/man1 > $@
+
+tools/install/%.3: include/%.h tools/install/man3 tools/install/timers.1
+	tools/install/man3 $* > $@
 
 run: all
 	./timers < $(SCRIPT)
@@ -104,15 +115,12 @@ soak:
 docs: all
 	TIMERS=$(CURDIR)/timers tools/docs_pages docs
 	tools/line_counts docs/proofs.md
-	tools/install/man1 > tools/install/timers.1
-	tools/install/man3 timers > tools/install/timers.3
-	tools/install/man3 timers_desk > tools/install/timers_desk.3
 
 ports:
 	ports/run $(PORTS)
 
 clean:
-	rm -rf crates/*/out build timers
+	rm -rf crates/*/out build timers tools/install/*.[13]
 	$(MAKE) -C bench clean
 
-.PHONY: all lib run test prove try generate install uninstall dist deb bench bench-lines bench-scale bench-tail bench-desk hostile fuzz soak docs ports clean
+.PHONY: all lib pages run test prove try generate install uninstall dist deb bench bench-lines bench-scale bench-tail bench-desk hostile fuzz soak docs ports clean

@@ -1,11 +1,11 @@
 #!/usr/bin/env python3
-"""Measures the owner's desk, ring lines and flushes, each against its peer: ns of an event, the least of the repeats.
+"""Measures the owner's desk and its flushes, each against its peer: ns of an event, the least of the repeats.
 
-    lines.py PROGRAM [--only desk,lines,flush] [--repeats N]
+    lines.py PROGRAM [--only desk,flush] [--repeats N]
 
-PROGRAM is that of crates/timer_desk_bench. The peers are the same facility without a desk, C++ rings (build/lines_ref),
-and C++ rings with one store for all words or with one for each (build/flush_ref). Programs take turns: each repeat
-gives one ratio, and a row has their median, the least and the greatest.
+PROGRAM is that of crates/timer_desk_bench. The peers are the same facility without a desk, and C++ rings with one
+store for all words or with one for each (build/flush_ref). Programs take turns: each repeat gives one ratio, and a row has
+their median, the least and the greatest.
 
 Status 1: an output differs from the peer's; 2: wrong arguments, or a program is not built.
 """
@@ -13,54 +13,29 @@ import argparse
 import os
 import resource
 import subprocess
-import time
 
 import figures
 from figures import fail, number, spread
 
-LINES_REF, FLUSH_REF = (os.path.join(figures.HERE, "build", name) for name in ("lines_ref", "flush_ref"))
+FLUSH_REF = os.path.join(figures.HERE, "build", "flush_ref")
 ROUND = 65536  # requests in a round at a desk
 ROUNDS, FIRST_ROUNDS = 20, 5
-LINES = {"round trips": ("trips", 1_000_000), "requests one way": ("one_way", 20_000_000)}
 RUNS = [1, 8, 16, 64]  # words in an outbox that is flushed
 OUTBOXES, FLUSHED = 64, 20_000_000
-CORES = sorted(os.sched_getaffinity(0))
+CORE = min(os.sched_getaffinity(0))
 # The allocator keeps what is freed, so that a round takes no pages from the system that the one before it gave back.
 KEEPS_MEMORY = {"MALLOC_TRIM_THRESHOLD_": str(2**32), "MALLOC_MMAP_THRESHOLD_": str(2**32), "MALLOC_TOP_PAD_": str(2**26)}
 
 
-def pin_threads(process, cores):
-    """Gives each thread of the process a core of its own."""
-    folder = f"/proc/{process.pid}/task"
-    for _ in range(1000):
-        try:
-            threads = sorted(int(name) for name in os.listdir(folder))
-            if len(threads) >= len(cores):
-                for thread, core in zip(threads, cores):
-                    os.sched_setaffinity(thread, {core})
-                return
-        except (FileNotFoundError, ProcessLookupError):
-            return
-        time.sleep(0.0001)
-
-
-def run(words, cores, apart=False):
-    """Processor time, elapsed time, and output of a process on these cores."""
-    command = [str(word) for word in words]
-    before, start = resource.getrusage(resource.RUSAGE_CHILDREN), time.perf_counter()
-    process = subprocess.Popen(command, stdin=subprocess.DEVNULL, stdout=subprocess.PIPE, stderr=subprocess.PIPE,
-                               env=os.environ | KEEPS_MEMORY, preexec_fn=lambda: os.sched_setaffinity(0, set(cores)))
-    if apart:
-        pin_threads(process, cores)
-    try:
-        out, faults = process.communicate(timeout=300)
-    except subprocess.TimeoutExpired:
-        process.kill()
-        fail(f"{' '.join(command)}: no end after 300 s")
-    elapsed, after = time.perf_counter() - start, resource.getrusage(resource.RUSAGE_CHILDREN)
-    if process.returncode:
-        fail(f"{' '.join(command)}: status {process.returncode}, {faults.decode(errors='replace')!r}")
-    return after.ru_utime + after.ru_stime - before.ru_utime - before.ru_stime, elapsed, out
+def run(*words):
+    """Processor time and output of a process on one core."""
+    command = ["timeout", "300", "taskset", "-c", str(CORE), *map(str, words)]
+    before = resource.getrusage(resource.RUSAGE_CHILDREN)
+    done = subprocess.run(command, stdin=subprocess.DEVNULL, capture_output=True, env=os.environ | KEEPS_MEMORY, check=False)
+    after = resource.getrusage(resource.RUSAGE_CHILDREN)
+    if done.returncode:
+        fail(f"{' '.join(command)}: status {done.returncode}, {done.stderr.decode(errors='replace')!r}")
+    return after.ru_utime + after.ru_stime - before.ru_utime - before.ru_stime, done.stdout
 
 
 def row(title, mine, peer, count):
@@ -74,8 +49,8 @@ def desk(work, repeats):
         took, outputs = {"calls": [], "desk": [], "facility": []}, set()
         for _ in range(repeats):
             for mode, times in took.items():
-                base = run([work, mode, clients, FIRST_ROUNDS], CORES[:1])[0]
-                used, _, out = run([work, mode, clients, FIRST_ROUNDS + ROUNDS], CORES[:1])
+                base = run(work, mode, clients, FIRST_ROUNDS)[0]
+                used, out = run(work, mode, clients, FIRST_ROUNDS + ROUNDS)
                 times.append(max(used - base, 1e-9))
                 outputs.add(out.split(b" ", 1)[1])
         if len(outputs) != 1:
@@ -83,21 +58,6 @@ def desk(work, repeats):
         for mode, name in (("calls", "single calls"), ("desk", "turns")):
             title = f"desk, {clients} client{'s' if clients > 1 else ''}, {name}"
             yield row(title, took[mode], took["facility"], 2 * ROUNDS * (ROUND // clients * clients))
-
-
-def lines(work, repeats):
-    """One ring line between two threads, each on a core of its own."""
-    if len(CORES) < 2:
-        fail("lines: this takes two cores", 2)
-    for what, (mode, count) in LINES.items():
-        mine, peer = [], []
-        for _ in range(repeats):
-            (_, elapsed, out), (_, of_peer, wanted) = (run([p, mode, count], CORES[:2], apart=True) for p in (work, LINES_REF))
-            if out != wanted:
-                fail(f"{mode}: {out!r}, and the peer {wanted!r}")
-            mine.append(elapsed)
-            peer.append(of_peer)
-        yield row(f"line, {what}", mine, peer, count)
 
 
 def flush(work, repeats):
@@ -108,7 +68,7 @@ def flush(work, repeats):
         took = {"flush": [], "batch": [], "item": []}
         for _ in range(repeats):
             for mode, times in took.items():
-                _, _, out = run([work if mode == "flush" else FLUSH_REF, mode, words, rounds], CORES[:1])
+                _, out = run(work if mode == "flush" else FLUSH_REF, mode, words, rounds)
                 text, ns = out.decode().rsplit(" ns ", 1)
                 if text != f"{mode} served {count} words {count}":
                     fail(f"flush of {words}: {out!r}")
@@ -119,13 +79,13 @@ def flush(work, repeats):
 
 
 def main():
-    parts = {"desk": desk, "lines": lines, "flush": flush}
+    parts = {"desk": desk, "flush": flush}
     parser = argparse.ArgumentParser()
     parser.add_argument("program")
     parser.add_argument("--only", default=",".join(parts))
     parser.add_argument("--repeats", type=int, default=5)
     options = parser.parse_args()
-    for program in (options.program, LINES_REF, FLUSH_REF):
+    for program in (options.program, FLUSH_REF):
         if not os.access(program, os.X_OK):
             fail(f"{program} is not there", 2)
     rows = [made for name in options.only.split(",") for made in parts[name](options.program, options.repeats)]

@@ -30,7 +30,6 @@ SCRIPTS = {
     "instructions": ["instructions.py"],
     "programs": ["programs.py", TIMERS],
     "lines": ["lines.py", WORK],
-    "wrappers": ["wrappers.py"],
     "tail": ["runs.py", "tail"],
     "scale": ["runs.py", "scale", "--repeats", "3", "--count", "500000"],
     "next": ["runs.py", "next", "--repeats", "3"],

@@ -159,13 +159,13 @@ def lines(folder):
     for row in figures.read("threads"):
         cores = f"threads, {row['cores']} core{'' if row['cores'] == '1' else 's'}"
         rows += [(cores, row["to threads_ref"]), (f"{cores}, to a mutex", row["to mutex_ref"])]
-    figure, axes = plt.subplots(figsize=(8.6, 5.6), layout="constrained")
+    figure, axes = plt.subplots(figsize=(8.6, 5.2), layout="constrained")
     draw(axes, range(len(rows)), [cell for _, cell in rows], "product", is_across=True)
     axes.set_yticks(range(len(rows)), [name for name, _ in rows])
     axes.set_ylim(len(rows) - 0.4, -0.6)
     ratio_axis(axes, 0.15, 10, [0.2, 0.5, 1, 2, 3, 5, 10])
     axes.set_xlabel("ratio to the row's peer in C++ (1); less is better\n" + machine("lines"))
-    save(figure, folder, "lines", "The desk, ring lines and client threads beside their peers",
+    save(figure, folder, "lines", "The desk, its flushes and client threads beside their peers",
          "Ratios of time with the least and the greatest of five runs. bench/results/lines.csv and threads.csv have the numbers.")
 
 

@@ -20,6 +20,7 @@ setup_file() {
     mkdir -p "$work/tree/build"
     cp -pR timers "$work/tree/timers"
     cp -pR build/lib "$work/tree/build/lib"
+    cp -p tools/install/*.[13] "$work/tree/tools/install"
 }
 in_tree() { make --no-print-directory -C "$work/tree" "$@"; }
 in_clone() { make --no-print-directory -C "$work/clone" "$@"; }
@@ -43,7 +44,7 @@ link lib/libtimers.so libtimers.so.${version%%.*}
 644 share/fish/vendor_completions.d/timers.fish tools/install/completions/timers.fish
 644 share/doc/timers/NOTICE generated/NOTICE
 EOT
-    for path in CHANGELOG.md LICENSE-APACHE LICENSE-MIT docs/{embedding,formats,porting,server,versions,walkthroughs}.md docs/pages/*.html; do
+    for path in CHANGELOG.md LICENSE-APACHE LICENSE-MIT docs/{embedding,formats,porting,server,versions,walkthroughs}.md docs/pages/*; do
         echo "644 share/doc/timers/$path $path"
     done
     for path in include/*.h; do

@@ -1,6 +1,6 @@
 #!/usr/bin/env bats
-# One version everywhere, man pages that are made and clean, and links that lead somewhere. TIMERS names the program, by
-# default ./timers.
+# One version everywhere, man pages, which `make` makes, that are clean, and links that lead somewhere. TIMERS names the
+# program, by default ./timers.
 # shellcheck disable=SC2143  # `! grep` fails no test
 load helpers
 
@@ -17,17 +17,6 @@ setup_file() {
     grep -q "^## $VERSION\b" CHANGELOG.md
     head -n 1 tools/debian/changelog | grep -q "^timers ($VERSION-"
     for page in tools/install/*.[13]; do head -n 1 "$page" | grep -q "^\.TH .*\"timers $VERSION\""; done
-}
-
-@test "timers(1) is made from docs/formats.md" {
-    needs lowdown
-    # Another version may write the same text with other macros.
-    [[ $(dpkg-query -W -f='${Version}' lowdown) == 1.0.* ]] || skip "no lowdown 1.0, Debian 12's"
-    tools/install/man1 | diff tools/install/timers.1 -
-}
-
-@test "timers(3) and timers_desk(3) are made from the headers" {
-    for page in timers timers_desk; do tools/install/man3 $page | diff tools/install/$page.3 -; done
 }
 
 # Lines of a source may be longer than 80 bytes, as elsewhere in this repository.

@@ -1,7 +1,7 @@
 /* Loaded before a program (LD_PRELOAD), refuses the Nth allocation by malloc or realloc, N being REFUSE, and the Nth
  * start of a thread, N being REFUSE_THREAD. As the program ends, it writes into the file GROWTHS how many allocations
- * and how many starts of threads there were, and into the file SIZES the size of each allocation, one a line. Those
- * before main are not counted. A program that runs for ten minutes is ended by SIGALRM.
+ * and how many starts of threads there were, and the size of each allocation, one a line. Those before main are not
+ * counted. A program that runs for ten minutes is ended by SIGALRM.
  *
  * It includes no header, so that a compiler without the C library's headers builds it: the toolchain's own is one.
  * The numbers are those of Linux on x86-64. */
@@ -57,37 +57,17 @@ __attribute__((constructor)) static void begin(void)
 	counts = 1;
 }
 
-/* Opens the file that this variable names, or returns a negative number. */
-static int opened(const char *name)
-{
-	const char *file = getenv(name);
-	return file && *file ? open(file, O_WRONLY_CREAT_TRUNC, 0600) : -1;
-}
-
-static void report_counts(void)
-{
-	int fd = opened("GROWTHS");
-	if (fd < 0)
-		return;
-	dprintf(fd, "%lu %lu\n", (unsigned long)allocations.count, (unsigned long)threads.count);
-	close(fd);
-}
-
-static void report_sizes(void)
-{
-	int fd = opened("SIZES");
-	if (fd < 0)
-		return;
-	for (unsigned long i = 0; i < allocations.count && i < MAX_SIZES; i++)
-		dprintf(fd, "%zu\n", sizes[i]);
-	close(fd);
-}
-
 static void report(void)
 {
 	counts = 0;
-	report_counts();
-	report_sizes();
+	const char *file = getenv("GROWTHS");
+	int fd = file ? open(file, O_WRONLY_CREAT_TRUNC, 0600) : -1;
+	if (fd < 0)
+		return;
+	dprintf(fd, "%lu %lu\n", (unsigned long)allocations.count, (unsigned long)threads.count);
+	for (unsigned long i = 0; i < allocations.count && i < MAX_SIZES; i++)
+		dprintf(fd, "%zu\n", sizes[i]);
+	close(fd);
 }
 
 __attribute__((destructor)) static void end(void) { report(); }

@@ -1,5 +1,6 @@
 #!/usr/bin/env python3
 """random_scripts.py COMPARE PROGRAM FOLDER SECONDS [SEED]   random scripts against the model
+random_scripts.py                                        writes a dictionary for afl-fuzz
 
 Most lines are such as a client would send, so that timers start, move, expire and are restarted; one in ten
 is wrong in some way. Each script goes to COMPARE, which plays it with every scheme. A script at which they
@@ -11,7 +12,8 @@ import sys
 import time
 
 LAST = 1152921504606846975
-EDGES = [0, 1, 2, 59, 60, 63, 64, 65, 3599, 3600, 4095, 4096, 4097, 86400, 262144, 8639999, 10**6, 10**6 + 1, LAST - 1, LAST]
+# Numbers at which something changes.
+EDGES = [0, 1, 2, 59, 60, 63, 64, 65, 3599, 3600, 4095, 4096, 4097, 86400, 262144, 8639999, 1000000, 1000001, LAST - 1, LAST]
 
 
 class Client:
@@ -85,6 +87,13 @@ class Script:
         return line[:at] + what + line[at + self.chance.choice([0, 1]) :]
 
 
+def dictionary():
+    """What afl-fuzz puts into scripts: parts of lines, and numbers."""
+    words = ["start ", "stop ", "restart ", "tick ", "close\\x0a", "\\x0a", " ", "00"]
+    for token in [*words, "start 0 1 5 1\\x0a", "restart 0 2 1 5 2\\x0a", *EDGES, LAST + 1, 2**64 - 1, 2**64]:
+        print(f'"{token}"')
+
+
 def main():
     compare, program, folder, seconds = sys.argv[1], sys.argv[2], sys.argv[3], float(sys.argv[4])
     seed = int(sys.argv[5]) if len(sys.argv) > 5 else 1
@@ -103,4 +112,7 @@ def main():
     print(f"{scripts} scripts, {lines} lines")
 
 
-main()
+if len(sys.argv) > 1:
+    main()
+else:
+    dictionary()

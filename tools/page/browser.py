@@ -29,14 +29,16 @@ class Browser:
     def __exit__(self, *_):
         self.driver.quit()
 
-    def open(self, path, width=1280, height=900, is_dark=False, is_calm=True):
-        """Loads a file, and waits until it has run."""
+    def open(self, path, width=1280, height=900, is_dark=False, is_calm=True, parts=()):
+        """Loads a file, and waits until it has run. It may load these files beside it, and nothing else."""
         scheme = {"name": "prefers-color-scheme", "value": "dark" if is_dark else "light"}
         motion = {"name": "prefers-reduced-motion", "value": "reduce" if is_calm else "no-preference"}
         size = {"width": width, "height": height, "deviceScaleFactor": 1, "mobile": width < 600}
         self.driver.execute_cdp_cmd("Emulation.setDeviceMetricsOverride", size)
         self.driver.execute_cdp_cmd("Emulation.setEmulatedMedia", {"features": [scheme, motion]})
         self.faults()  # those of an earlier page are not of this one
+        folder = os.path.dirname(os.path.abspath(path))
+        self.parts = {f"file://{folder}/{part}" for part in parts}
         self.driver.get(f"file://{os.path.abspath(path)}")
 
     def run(self, script):
@@ -55,5 +57,6 @@ class Browser:
         for entry in self.driver.get_log("performance"):
             event = json.loads(entry["message"])["message"]
             if event["method"] == "Network.requestWillBeSent" and event["params"].get("type") != "Document":
-                found.append(f"loads {event['params']['request']['url'][:80]}")
+                url = event["params"]["request"]["url"]
+                found += [] if url in self.parts else [f"loads {url[:80]}"]
         return found

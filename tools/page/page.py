@@ -1,14 +1,13 @@
-"""The page: one HTML file with its style, its code and what was played, of one script or of several."""
-import html
+"""The page that plays one script or several: docs/pages/wheels.html with its style, its code and what was played."""
 import json
 import os
+import re
 
-HERE = os.path.dirname(os.path.abspath(__file__))
-CODE = ["model.js", "words.js", "drawing.js", "lines.js", "player.js"]
+PAGES = os.path.join(os.path.dirname(os.path.abspath(__file__)), "../../docs/pages")
 
 
 def read(name):
-    with open(os.path.join(HERE, name), encoding="utf-8") as file:
+    with open(os.path.join(PAGES, name), encoding="utf-8") as file:
         return file.read()
 
 
@@ -49,19 +48,20 @@ def data_of(play, title, name, options):
     }
 
 
+def data(plays):
+    """The file plays.js: plays, each with its title, its name and the options of show. The first is shown at first."""
+    rows = [json.dumps(data_of(*play), ensure_ascii=True, separators=(",", ":")) for play in plays]
+    # Within a script element the text may not end it, nor open a comment.
+    return "const PLAYS = [\n" + ",\n".join(rows).replace("<", "\\u003c") + "\n];\n"
+
+
 def page(plays):
-    """The page of plays, each with its title, its name and the options of show. The first is shown at first."""
-    data = json.dumps([data_of(*play) for play in plays], ensure_ascii=True, separators=(",", ":"))
-    parts = {
-        "TITLE": html.escape(plays[0][1]),
-        "STYLE": read("page.css"),
-        # Within a script element the text may not end it, nor open a comment.
-        "DATA": data.replace("<", "\\u003c"),
-        "CODE": "\n".join(read(file) for file in CODE),
-    }
-    # The places are filled from the last to the first, so that a text that was put in is never searched.
-    text = read("page.html")
-    for key in ("CODE", "DATA", "STYLE", "TITLE"):
-        before, after = text.split("{{" + key + "}}", 1)
-        text = before + parts[key] + after
-    return text
+    """docs/pages/wheels.html with all that it loads in it, and with these plays."""
+
+    def part(found):
+        name = found[1] or found[2]
+        kind = "style" if name.endswith(".css") else "script"
+        return f"<{kind}>\n{data(plays) if name == 'plays.js' else read(name)}</{kind}>"
+
+    # What was put in is not searched again, whatever a script has in it.
+    return re.sub(r'<link rel="stylesheet" href="(\w+\.css)">|<script src="(\w+\.js)"></script>', part, read("wheels.html"))

@@ -44,7 +44,7 @@
     slider.value = step;
     slider.dispatchEvent(new Event("input"));
   };
-  window.follow = (serial) => {
+  window.historyOf = (serial) => {
     const field = document.querySelector("#serial");
     field.value = serial;
     field.dispatchEvent(new Event("input", { bubbles: true }));

@@ -20,7 +20,7 @@ BAD = {
     "no_tick": b"tick 0\n",
     "too_large": b"start 0 1 1152921504606846976 7\n",
     "too_few": b"start 0 1 5\n",
-    "markup": b"start 0 1 5 7\n</script><b>{{CODE}}&amp;\n",
+    "markup": b"start 0 1 5 7\n</script><b><script src=\"model.js\"></script>&amp;\n",
     "not_text": b"start 0 1 5 7\n\xff\x00\x01\n",
 }
 ROOM = ["--capacity", "1048576"]

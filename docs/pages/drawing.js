@@ -1,4 +1,5 @@
 // The wheels: a ring for each, and below it the buckets that have timers.
+"use strict";
 
 const SVG = "http://www.w3.org/2000/svg";
 const INNER = 78;

@@ -1,4 +1,5 @@
 // What stood where after each step, and the history of each timer. Step 0 is before the first line.
+"use strict";
 
 const SNAPSHOT = 64; // the buckets are kept whole after so many steps
 

@@ -1,4 +1,5 @@
 // The page: steps, the script's lines, the followed timer, and the controls.
+"use strict";
 
 const MAX_EVENTS = 20;   // of one timer's history
 const MAX_ARROWS = 12;   // of one step
@@ -7,8 +8,7 @@ const READ_LETTER = 20;   // and for each letter that is said there
 const LONGEST_STEPS = 4;  // whose height is measured
 
 const $ = (id) => document.getElementById(id);
-const plays = JSON.parse($("data").textContent);
-const play = new Play(plays.find(({name}) => location.hash === `#${name}`) ?? plays[0]);
+const play = new Play(PLAYS.find(({name}) => location.hash === `#${name}`) ?? PLAYS[0]);
 const words = new Words(play);
 const shown = {
   step: 0,
@@ -373,7 +373,7 @@ function playLink({name, title}) {
 function fill() {
   $("title").textContent = play.title;
   document.title = `${play.title} · timing wheels`;
-  if (plays.length > 1) $("plays").replaceChildren(...plays.map(playLink));
+  if (PLAYS.length > 1) $("plays").replaceChildren(...PLAYS.map(playLink));
   $("command").textContent = play.command;
   $("scheme").textContent = words.scheme();
   $("opening").textContent = OPENING[play.scheme];

@@ -1,4 +1,5 @@
 // What happened at a step, and why, in sentences.
+"use strict";
 
 const REASONS = {
   "closed": "the facility was closed",

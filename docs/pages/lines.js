@@ -1,5 +1,6 @@
 // The script's lines with their answers. Only the lines around the present one are in the page, so that a
 // long script costs no more than a short one.
+"use strict";
 
 const MAX_ANSWERS = 8; // of one line
 const AROUND = 120;     // lines before and after the present one
