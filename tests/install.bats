@@ -38,6 +38,7 @@ link lib/libtimers.so.${version%%.*} libtimers.so.$version
 link lib/libtimers.so libtimers.so.${version%%.*}
 644 lib/pkgconfig/timers.pc -
 644 include/timers.hpp include/timers.hpp
+644 include/timers_desk.hpp include/timers_desk.hpp
 644 share/man/man1/timers.1 tools/install/timers.1
 644 share/bash-completion/completions/timers tools/install/completions/timers.bash
 644 share/zsh/site-functions/_timers tools/install/completions/_timers
@@ -55,7 +56,7 @@ EOT
             echo "link share/man/man3/$function.3 $page"
         done
     done
-    for path in bindings/*/timers.*; do
+    for path in bindings/*/timers.* bindings/*/timers_desk.*; do
         echo "644 share/timers/${path#bindings/} $path"
     done
     git ls-files examples | grep -v gitignore | while read -r path; do

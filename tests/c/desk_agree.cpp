@@ -10,10 +10,10 @@
 #include <type_traits>
 #include <utility>
 
-#include "timers_desk.hpp"
+#include <timers_desk.hpp>
 
 #define CHECK(fact) do { if (!(fact)) { std::fprintf(stderr, "line %d: %s\n", __LINE__, #fact); std::abort(); } } while (0)
-#define THROWS(says, call) do { try { (void)(call); CHECK(!#call); } catch (const timing::desk_error &e) { CHECK(e.status() == says); } } while (0)
+#define THROWS(says, call) do { try { (void)(call); CHECK(false && #call); } catch (const timing::desk_error &e) { CHECK(e.status() == says); } } while (0)
 
 static_assert(!std::is_copy_constructible_v<timing::desk> && !std::is_copy_assignable_v<timing::desk>);
 static_assert(!std::is_copy_constructible_v<timing::line> && !std::is_copy_assignable_v<timing::line>);
@@ -41,7 +41,7 @@ static void agrees(unsigned seed)
 		if (!model.empty())
 			std::advance(chosen, random() % (model.size() + 1));    /* it may be none */
 		const timers_handle handle = chosen == model.end() ? timers_handle{ 0, 0 } : chosen->second.handle;
-		const unsigned choice = random() % 5;
+		const unsigned choice = static_cast<unsigned>(random() % 5);
 		if (choice < 4) {
 			const auto number = choice < 2 ? line.start(interval, action) : choice == 2 ? line.stop(handle) : line.restart(handle, interval, action);
 			CHECK(number == ++sent && !line.start(1, 1));
@@ -155,7 +155,8 @@ static void threads(std::size_t clients)
 		workers.emplace_back(work, std::move(lines[c]), &counts[c]);
 	std::uint64_t freed = 0;
 	while (freed < clients) {
-		if ((desk.serve_all(64) != TIMERS_DESK_OK) & !desk.flush_all())
+		const bool nothing_served = desk.serve_all(64) != TIMERS_DESK_OK, nothing_flushed = !desk.flush_all();
+		if (nothing_served && nothing_flushed)
 			std::this_thread::yield();
 		desk.advance(1);
 		freed = 0;

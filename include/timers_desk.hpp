@@ -1,6 +1,6 @@
 /* timers_desk.hpp - timers_desk.h for C++17 and later, one header that may be taken along
  *
- *     #include "timers_desk.hpp"
+ *     #include <timers_desk.hpp>
  *     c++ -std=c++17 -pthread prog.cpp $(pkg-config --cflags --libs timers)
  *
  * A `timing::desk` is the owner's, and a `timing::line` a client's end, for the client's thread. Both can be moved and
@@ -10,6 +10,10 @@
 /* SPDX-License-Identifier: MIT OR Apache-2.0 */
 #ifndef TIMERS_DESK_HPP
 #define TIMERS_DESK_HPP
+
+#if __cplusplus < 201703L
+#error "timers_desk.hpp needs C++17 or later: C++11 and C++14 have timers_desk.h"
+#endif
 
 #include <cstddef>
 #include <cstdint>
