@@ -52,7 +52,7 @@ setup_file() {
     lost=
     while IFS=: read -r page link; do
         [ -e "$(dirname "$page")/$link" ] || lost+=" $page:$link"
-    done < <(grep -oE '\]\([^)#:]+' ./*.md docs/*.md bench/*.md | sed 's/](//')
+    done < <(grep -oE '\]\([^)#:]+' ./*.md docs/*.md bench/*.md ports/*.md | sed 's/](//')
     echo "no such file:$lost"
     [ -z "$lost" ]
 }
