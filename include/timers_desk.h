@@ -61,8 +61,8 @@
  *     taken only if the outbox has room for its answer, a word of each of the client's pending timers, and
  *     one more. So no word is lost unless an end is freed. A client that does not read stops only its own
  *     requests. A stop needs that room too: a client at its room can cancel nothing until it reads, or until
- *     one of its timers expires. `room` in struct timers_desk_config says how much is enough. If memory runs out for a request, it is held, and retried first when its client is served
- *     the next time.
+ *     one of its timers expires. `room` in struct timers_desk_config says how much is enough. If memory runs
+ *     out for a request, it is held, and retried first when its client is served the next time.
  *
  *     The owner's loop:
  *
@@ -111,7 +111,8 @@
  *     5. timers_desk_settle, timers_desk_end and timers_desk_end_all are given lines of the same desk. A
  *        line of another client is refused, and so is one of another desk whose client has another number.
  *        A line of another desk whose client has the same number is not detected.
- *     6. malloc, realloc and free are one allocator that threads may share, and align as C requires.
+ *     6. malloc, realloc and free, or what timers_set_allocator (timers.h) was given in their place, are one
+ *        allocator that threads may share, and align as C requires.
  *     7. No call comes from a signal handler. THREADS says which calls a forked child may make.
  *
  *     Nothing else is required. A call before timers_desk_new, after a free, or in the wrong order returns
@@ -425,8 +426,8 @@ bool timers_line_ended(const struct timers_line *line);
  * received. Nothing changes. Constant time. */
 bool timers_line_abandoned(struct timers_line *line);
 
-/* Frees the client's end, if it holds one. What it sent is still taken. Words to it are lost, and dropped by the flushes,
- * so that they keep no room. */
+/* Frees the client's end, if it holds one. What it sent is still taken. Words to it are lost, and dropped by the
+ * flushes, so that they keep no room. */
 void timers_line_free(struct timers_line *line);
 
 /* The text of a status, for messages. */

@@ -28,7 +28,8 @@ namespace timing {
 
 class desk_error : public std::runtime_error {
 public:
-	explicit desk_error(enum timers_desk_status status) : std::runtime_error(timers_desk_message(status)), status_(status) {}
+	explicit desk_error(enum timers_desk_status status)
+		: std::runtime_error(timers_desk_message(status)), status_(status) {}
 	enum timers_desk_status status() const noexcept { return status_; }
 
 private:
