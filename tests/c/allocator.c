@@ -128,7 +128,7 @@ static void run_desk(void)
 {
 	struct timers_desk desk = TIMERS_DESK_INIT;
 	struct timers_line line = TIMERS_LINE_INIT;
-	struct timers_desk_config config = { .capacity = 16, .room = 16, .line = 16 };
+	struct timers_desk_config config = { .size = sizeof config, .capacity = 16, .room = 16, .line = 16 };
 
 	CHECK(timers_desk_new(&desk, &line, 1, &config) == TIMERS_DESK_OK);
 	timers_desk_free(&desk);
