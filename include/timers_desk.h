@@ -61,8 +61,8 @@
  *     taken only if the outbox has room for its answer, a word of each of the client's pending timers, and
  *     one more. So no word is lost unless an end is freed. A client that does not read stops only its own
  *     requests. A stop needs that room too: a client at its room can cancel nothing until it reads, or until
- *     one of its timers expires. `room` in struct timers_desk_config says how much is enough. If memory runs
- *     out for a request, it is held, and retried first when its client is served the next time.
+ *     one of its timers expires. `room` in struct timers_desk_config says how much is enough. A request whose
+ *     allocation failed is held, and retried first when its client is served the next time.
  *
  *     The owner's loop:
  *
@@ -273,7 +273,7 @@ enum timers_desk_status timers_desk_serve(struct timers_desk *d, size_t client);
 /* Serves each client once, from client 0 on, until `most` of its requests were done or a serve did none.
  * Allocates only for starts.
  * TIMERS_DESK_NOT_OPEN.
- * TIMERS_DESK_NO_MEMORY: memory ran out for at least one client, whose request is held; others may have
+ * TIMERS_DESK_NO_MEMORY: an allocation failed for at least one client, whose request is held; others may have
  * been done.
  * TIMERS_DESK_OK: at least one request was done. TIMERS_DESK_IDLE: none was. */
 enum timers_desk_status timers_desk_serve_all(struct timers_desk *d, uint64_t most);
