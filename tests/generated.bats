@@ -8,7 +8,6 @@ load helpers
 sources="generated/timers.S generated/timers_desk.S generated/heap.c"
 cross=aarch64-linux-gnu-gcc
 qemu="qemu-aarch64-static -L /usr/aarch64-linux-gnu"
-wraps=-Wl,--wrap=malloc,--wrap=realloc
 
 setup_file() {
     cd "$BATS_TEST_DIRNAME/.." || return
@@ -78,7 +77,7 @@ exports() {
 @test "clang builds a program of generated/, in five ways" { builds_by_hand clang; }
 @test "gcc builds a shared object that exports nothing" { exports gcc "" 0; }
 @test "clang builds a shared object that exports nothing" { exports clang "" 0; }
-# How many functions the crates export; tools/c_tests compares their names with those of the headers.
+# How many functions the crates export; tests/headers.bats compares their names with those of the headers.
 # The API: what the crates export, and what heap.c does.
 functions() {
     grep -hoE '(extern "C" fn|^enum timers_status) timers_[a-z_]*' crates/timer_c/src/*.rt crates/timer_desk_c/src/*.rt generated/heap.c | wc -l
@@ -171,41 +170,38 @@ EOT
     cmp generated/NOTICE "$work/meson_prefix/share/doc/timers/NOTICE"
 }
 
-needs_cross() { needs $cross qemu-aarch64-static; }
-# builds PROGRAM FLAGS..: one of examples/c or tests/c
-builds() {
-    needs_cross
-    local source=tests/c/$1.c
-    [ -e "$source" ] || source=examples/c/$1.c
-    $cross -std=c11 -O2 -Wall -Wextra -Werror -Iinclude -pthread -o "$work/$1" "$source" $sources "${@:2}"
+needs_cross() {
+    needs $cross qemu-aarch64-static
+    CC=$cross library=$sources emulator=$qemu
 }
-# runs PROGRAM ARGUMENTS..
-runs() { $qemu "$work/$1" "${@:2}"; }
 
 @test "aarch64: programs print what they should" {
+    needs_cross
     for program in first messages expired counts porting desk_server; do
         echo "$program"
-        builds $program
-        runs $program | diff examples/c/$program.stdout -
+        build $program.c
+        prints examples/c/$program.stdout
     done
 }
 
-@test "aarch64: random calls agree with a sorted list" { builds stress && runs stress 100000 1; }
-@test "aarch64: random calls agree when allocations are refused" { builds stress -DREFUSE $wraps && runs stress 100000 2; }
-@test "aarch64: starts allocate nothing if room was made" { builds reserve $wraps && runs reserve; }
-@test "aarch64: timers_free frees every block" { builds leaks $wraps,--wrap=free && runs leaks; }
-@test "aarch64: callers of the library are found from inside it" { builds backtrace $wraps && runs backtrace; }
-@test "aarch64: the desk's edges are as the header says" { builds desk_edges && runs desk_edges; }
-@test "aarch64: a desk whose allocations are refused loses nothing" { builds desk_edges -DREFUSE $wraps,--wrap=free && runs desk_edges; }
-@test "aarch64: 8 threads beside a desk get all their words" { builds desk_threads && runs desk_threads 8 10000; }
-@test "aarch64: 64 threads that stop and restart get all their words" { builds desk_threads && runs desk_threads 64 2000 mixed; }
-@test "aarch64: a client that does not read stops no other" { builds desk_threads && runs desk_threads 8 2000 deaf; }
-@test "aarch64: threads beside an owner without memory get all their words" {
-    builds desk_threads -DREFUSE $wraps
-    runs desk_threads 8 2000 mixed
+@test "aarch64: random calls agree with a sorted list" { needs_cross && build stress.c && runs 100000 1; }
+@test "aarch64: they agree when allocations are refused" { needs_cross && build stress.c -DREFUSE $wraps && runs 100000 2; }
+@test "aarch64: starts allocate nothing if room was made" { needs_cross && build reserve.c $wraps && runs; }
+@test "aarch64: timers_free frees every block" { needs_cross && build leaks.c $wrap && runs; }
+@test "aarch64: callers of the library are found from inside it" { needs_cross && build backtrace.c $wraps && runs; }
+@test "aarch64: the desk's edges are as the header says" { needs_cross && build desk_edges.c && runs; }
+@test "aarch64: a desk whose allocations are refused loses nothing" { needs_cross && build desk_edges.c -DREFUSE $wrap && runs; }
+@test "aarch64: threads beside a desk get all their words" {
+    needs_cross
+    build desk_threads.c
+    runs 8 10000
+    runs 64 2000 mixed
+    runs 8 2000 deaf
+    build desk_threads.c -DREFUSE $wraps
+    runs 8 2000 mixed
 }
-@test "aarch64: clients that do not count see the end of their words" { builds desk_end && runs desk_end 8 10000; }
-@test "aarch64: desks and lines may be freed while the other side calls" { builds desk_frees && runs desk_frees 30 8; }
+@test "aarch64: clients that do not count see the end of their words" { needs_cross && build desk_end.c && runs 8 10000; }
+@test "aarch64: desks and lines may be freed while the other side calls" { needs_cross && build desk_frees.c && runs 30 8; }
 
 # The program, as a script that runs it under qemu.
 @test "aarch64: the program builds" {

@@ -22,3 +22,34 @@ copy_tree() {
     mkdir -p "$1"
     git ls-files -z --cached --others --exclude-standard | xargs -0 cp -pP --parents -t "$1"
 }
+
+# What follows builds with $CC or $CXX over $library, files or an archive, into the folder $work.
+of_c="-std=c11 -O2 -g -Wall -Wextra -Werror -pedantic -Iinclude"
+of_cpp="-std=c++17 -O1 -Wall -Wextra -Werror -pedantic -Iinclude"
+wraps=-Wl,--wrap=malloc,--wrap=realloc
+wrap=$wraps,--wrap=free
+
+# build FILE FLAGS..: a program of examples/c or tests/c, in C or C++
+build() {
+    local source=tests/c/$1 compiler="$CC $of_c"
+    [ -e "$source" ] || source=examples/c/$1
+    [[ $1 != *.cpp ]] || compiler="$CXX $of_cpp"
+    needs "${compiler%% *}"
+    # shellcheck disable=SC2086
+    $compiler -o "$work/program" "$source" -pthread "${@:2}" $library
+}
+
+# runs ARGUMENTS..: the program that was built last, on another processor by $emulator
+runs() {
+    # shellcheck disable=SC2086
+    $emulator "$work/program" "$@"
+}
+
+# prints FILE ARGUMENTS..: it prints the text of the file
+prints() { runs "${@:2}" | diff "$1" -; }
+
+# notices ARGUMENTS..: its status is above 0
+notices() {
+    run runs "$@"
+    [ "$status" -gt 0 ]
+}

@@ -1,5 +1,5 @@
 /* Misuses of timers.hpp that the compiler refuses. With MISUSE=0 it compiles, with the others it must not.
- * tools/c_tests compares what the compiler says with the comment of each. */
+ * tests/headers.bats compares what the compiler says with the comment of each. */
 #include <functional>
 #include <memory>
 #include <string>

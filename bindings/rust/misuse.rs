@@ -1,5 +1,5 @@
 // Misuses of timers.rs that the compiler refuses. It compiles as it is; with one of these names as a cfg it must not.
-// tools/c_tests compares what the compiler says with the comment of each.
+// tests/headers.bats compares what the compiler says with the comment of each.
 mod timers;
 
 use timers::{Table, Timers};

@@ -1,0 +1,265 @@
+#!/usr/bin/env bats
+# What the headers, the libraries in LIB (by default build/lib), the wrappers and the crates say of each other: numbers,
+# layouts, names, the version. And what compilers say of the headers and of misuses.
+# shellcheck disable=SC2086
+load helpers
+
+setup_file() {
+    cd "$BATS_TEST_DIRNAME/.." || return
+    export work=$BATS_FILE_TMPDIR CC=${CC:-cc} CXX=${CXX:-c++} lib=${LIB:-$PWD/build/lib}
+    command -v "$CC" > /dev/null || skip "no C compiler"
+}
+setup() { set -o pipefail; }
+
+# hold COUNT: the assertions on standard input, of which there are so many, hold
+hold() {
+    { echo '#include <timers_desk.h>'; cat; } > "$work/asserts.c"
+    [ "$(grep -c '_Static_assert' "$work/asserts.c")" -eq "$1" ]
+    "$CC" $of_c -fsyntax-only "$work/asserts.c"
+}
+# constants PREFIX: each constant of the Rattle code on standard input is the header's, whose name has the prefix
+constants() {
+    sed -nE -e 's/u64::MAX;$/18446744073709551615;/' -e 's/LAST_OF_CLOCK/CLOCK_LAST/' \
+        -e "s/^pub const ([A-Z_]+): u(32|64) = ([0-9]+);\$/_Static_assert($1\1 == \3u, \"\1\");/p"
+}
+# fields CRATE/FILE STRUCT C-STRUCT FIRST: the struct's fields of eight bytes follow each other in the header's, from FIRST on
+fields() {
+    awk -v struct="$2" -v c="$3" -v at="$4" '
+        $0 == "pub struct " struct " {" { inside = 1; next }
+        /^}/ { inside = 0 }
+        inside && /^    (pub )?[a-z_]+: (\*mut u8|u64|usize),$/ {
+            name = $0; sub(/:.*/, "", name); sub(/^ *(pub )?/, "", name)
+            printf "_Static_assert(offsetof(struct %s, %s) == %d && sizeof((struct %s *)0)->%s == 8, \"%s\");\n", c, name, at, c, name, name
+            at += 8
+        }' "crates/${1%/*}/src/${1#*/}"
+}
+# The enumerators of a header, as NAME NUMBER without a prefix.
+enumerators() { sed -nE 's/^\tTIMERS_((DESK|WORD)_)?([A-Z_]+) = ([0-9]+).*/\3 \4/p' include/$1.h | sort; }
+
+@test "the numbers and layouts of timers.h are the crates', and it has no other number" {
+    {
+        constants TIMERS_ < crates/timer_c/src/status.rt
+        grep '^pub const LAST:' crates/timer_base/src/limits.rt | constants TIMERS_
+        grep '^pub const LAST_OF_CLOCK:' crates/timer_wheels/src/table.rt | constants TIMERS_
+        fields timer_c/owned_cell.rt OwnedCell timers 0
+        fields timer_c/c_timers.rt CTimers timers 16
+        fields timer_c/layout.rt CHandle timers_handle 0
+        fields timer_c/layout.rt Expired timers_expired 0
+        fields timer_c/layout.rt Counts timers_counters 0
+    } | hold $((17 + 11))
+    [ "$(enumerators timers | wc -l)" -eq 13 ]
+}
+
+@test "the numbers and layouts of timers_desk.h are the crate's, and it has no other number" {
+    status=crates/timer_desk_c/src/status.rt
+    {
+        sed '/The kinds of a word/,$d' $status | grep -vE ' (WIDE|CLOCK|NEVER):' | constants TIMERS_DESK_
+        grep -E ' (WIDE|CLOCK|NEVER):' $status | constants TIMERS_
+        sed -n '/The kinds of a word/,$p' $status | constants TIMERS_WORD_
+        fields timer_desk_c/desk_cell.rt DeskCell timers_desk 0
+        fields timer_desk_c/line_cell.rt LineCell timers_line 0
+        fields timer_desk_c/c_structs.rt CLine timers_line 16
+        fields timer_desk_c/layout.rt Message timers_word 8 | sed -e '/"deadline"/,$s/== \([0-9]*\) /== \1 + 16 /'
+        fields timer_desk_c/layout.rt DeskConfig timers_desk_config 0
+        sed -nE 's/^pub const CONFIG_SIZE: usize = ([0-9]+);$/_Static_assert(sizeof(struct timers_desk_config) == \1, "CONFIG_SIZE");/p' \
+            crates/timer_desk_c/src/layout.rt
+    } | hold $((34 + 15))
+    [ "$(enumerators timers_desk | wc -l)" -eq 31 ]
+}
+
+@test "the names and numbers in Python are the headers'" {
+    needs python3
+    for module in timers timers_desk; do
+        diff <(enumerators $module) <(cd bindings/python && python3 -B -c "
+import $module
+for name, value in vars($module).items():
+    if name.isupper() and isinstance(value, int) and value < 100:
+        print(name, value)" | sort)
+    done
+}
+
+# in_rust FILE COUNT: the numbers that it maps to names are the header's, of which it has so many
+in_rust() {
+    sed -nE 's/^ *([0-9]+) => (Err\(Error|Error|Word)::([A-Za-z]+).*/\1 \3/p' bindings/rust/$1.rs |
+        sed -E -e 's/([a-z])([A-Z])/\1_\2/g' -e 's/^([0-9]+) (.*)/\U\2 \1/' | sort > "$work/numbers"
+    [ "$(wc -l < "$work/numbers")" -eq "$2" ]
+    [ -z "$(comm -13 <(enumerators $1) "$work/numbers")" ]
+}
+@test "those in Rust are the headers', too" {
+    in_rust timers 7
+    in_rust timers_desk 27
+}
+
+@test "the version of the header, as a text and as a number, is that of the library" {
+    cat > "$work/version.c" << 'EOT'
+#include <inttypes.h>
+#include <stdio.h>
+#include <timers.h>
+int main(void)
+{
+    printf("%s %d %" PRIu32 "\n", TIMERS_VERSION, TIMERS_VERSION_NUMBER, timers_version());
+    return 0;
+}
+EOT
+    "$CC" $of_c -o "$work/version" "$work/version.c" "$lib/libtimers.a"
+    awk -F. '{ number = $1 * 10000 + $2 * 100 + $3; print $0, number, number }' tools/install/version | diff - <("$work/version")
+}
+
+# The functions that the headers declare.
+declared() {
+    sed -n 's/^[a-z].*[ *]\(timers_[a-z_]*\)(\(\(const \)*struct timers.*\|void \*(\*.*\|void);\)$/\1/p' include/timers.h include/timers_desk.h | sort
+}
+@test "the shared object exports the headers' 56 functions and no more" {
+    [ "$(declared | wc -l)" -eq 56 ]
+    diff <(declared) <(nm -D --defined-only "$lib/libtimers.so" | sed -n 's/.* T \([^@]*\).*/\1/p' | sort)
+}
+@test "only they can be linked with in the archive, and a shared object that embeds it exports none of them" {
+    diff <(declared) <(nm -g --defined-only "$lib/libtimers.a" | sed -n 's/^[0-9a-f]* . //p' | sort)
+    printf '#include <timers.h>\nuint64_t plug_in(struct timers *t);\nuint64_t plug_in(struct timers *t) { return timers_next(t); }\n' > "$work/plug_in.c"
+    "$CC" $of_c -fPIC -shared -o "$work/plug_in.so" "$work/plug_in.c" "$lib/libtimers.a"
+    diff <(echo plug_in) <(nm -D --defined-only "$work/plug_in.so" | sed 's/.* //')
+}
+
+# An archive whose names are not hidden lets a plug-in use the calls, also from inline functions of the program's headers.
+# With the other archive the plug-in can't be loaded.
+@test "plug-ins may use the calls if who builds the archive shows its names" {
+    CFLAGS=-DTIMERS_SHARED tools/lib "$work/visible"
+    cat > "$work/inlined.h" << 'EOT'
+#include <timers.h>
+static inline uint64_t first_deadline(struct timers *t) { return timers_next(t); }
+uint64_t plug_in(struct timers *t);
+EOT
+    printf '#include "inlined.h"\nuint64_t plug_in(struct timers *t) { return first_deadline(t); }\n' > "$work/plugged.c"
+    cat > "$work/host.c" << 'EOT'
+#include <dlfcn.h>
+#include <stdio.h>
+#include "inlined.h"
+int main(int argc, char **argv)
+{
+    struct timers t = TIMERS_INIT;
+    struct timers_handle handle;
+    void *loaded = dlopen(argv[argc - 1], RTLD_NOW);
+    uint64_t (*call)(struct timers *);
+    if (!loaded)
+        return puts(dlerror()), 1;
+    *(void **)&call = dlsym(loaded, "plug_in");
+    if (timers_new(&t, TIMERS_WIDE, 0) != TIMERS_OK || timers_start(&t, 42, 0, &handle) != TIMERS_OK)
+        return 2;
+    return call(&t) != 42;
+}
+EOT
+    "$CC" $of_c -I"$work" -fPIC -shared -o "$work/plugged.so" "$work/plugged.c"
+    for archive in "$work/visible" "$lib"; do
+        "$CC" -std=c11 -I"$work" -Iinclude -rdynamic -o "$work/host" "$work/host.c" "$archive/libtimers.a" -ldl
+        run "$work/host" "$work/plugged.so"
+        [ "$status" -eq "$([ "$archive" = "$lib" ] && echo 1 || echo 0)" ]
+    done
+}
+
+# Each macro and inline function of the headers, in use.
+used=$(cat << 'EOT'
+#include <timers.h>
+#include <timers_desk.h>
+int main(void)
+{
+    struct timers t = TIMERS_INIT;
+    struct timers_desk desk = TIMERS_DESK_INIT;
+    struct timers_line line = TIMERS_LINE_INIT;
+    enum timers_status status = timers_new(&t, TIMERS_CLOCK, TIMERS_CLOCK_LAST);
+    int ended = timers_line_ended(&line);
+    timers_free(&t);
+    timers_desk_free(&desk);
+    ended = ended || timers_desk_message(TIMERS_DESK_OK)[0] != 'd';
+    return timers_message(status)[0] == 'd' || timers_next(&t) == TIMERS_NEVER || ended;
+}
+EOT
+)
+warnings="-Werror -pedantic -Wall -Wextra -Wswitch-default -Wundef -Wshadow -Wconversion -Wsign-conversion"
+# as_header LANGUAGE COMPILER STANDARD FLAGS..
+as_header() {
+    echo "$2 -std=$3"
+    "$2" -x "$1" -std="$3" -Iinclude "${@:4}" -c -o "$work/header.o" - <<< "$used"
+}
+# C of 1989, that of today and all C++ in between
+in_c() {
+    needs "$1"
+    for standard in c89 gnu89 c99 gnu99 c11 gnu17 c2x; do
+        as_header c "$1" $standard $warnings -Wc++-compat -Wstrict-prototypes -Wmissing-prototypes -Wdeclaration-after-statement
+        as_header c "$1" $standard -Werror -O2 -Wpedantic
+    done
+}
+in_cpp() {
+    needs "$1"
+    for standard in c++11 c++14 c++17 gnu++17 c++20 c++2b; do as_header c++ "$1" $standard $warnings -Wold-style-cast; done
+    for standard in c++17 c++20 c++2b; do
+        "$1" -std=$standard $warnings -Wold-style-cast -Iinclude -fsyntax-only tests/c/agree.cpp tests/c/desk_agree.cpp
+    done
+    says "needs C++11" as_header c++ "$1" c++98
+    says "needs C++17" "$1" -std=c++14 -DMISUSE=0 -Iinclude -fsyntax-only bindings/cpp/misuse.cpp
+}
+# says TEXT COMMAND..: the command fails, and what it writes has the text
+says() {
+    run "${@:2}"
+    [ "$status" -ne 0 ]
+    grep -F -- "$1" <<< "$output"
+}
+@test "gcc has no warning about the headers" { in_c gcc; }
+@test "clang has no warning about the headers" { in_c clang; }
+@test "g++ has no warning about any header, and says which C++ they need" { in_cpp g++; }
+@test "clang++ has no warning about any header, and says which C++ they need" { in_cpp clang++; }
+
+# The comment beside each misuse is part of what the compiler says.
+@test "misuses in C++ don't compile" {
+    needs "$CXX"
+    misuse() { "$CXX" -std=c++17 -DMISUSE="$1" -Werror -Wall -Wextra -Iinclude -fsyntax-only bindings/cpp/misuse.cpp; }
+    misuse 0
+    sed -n 's/^#.*if MISUSE == [0-9]* *\/\* \(.*\) \*\/$/\1/p' bindings/cpp/misuse.cpp > "$work/misuses"
+    [ "$(wc -l < "$work/misuses")" -eq 9 ]
+    number=0
+    while read -r text; do says "$text" misuse $((++number)); done < "$work/misuses"
+}
+misuses_rust() { # misuses_rust FILE COUNT
+    needs rustc
+    misuse() { rustc --edition 2021 -A unexpected_cfgs --emit=metadata -o "$work/misuse" "bindings/rust/$file.rs" "$@"; }
+    file=$1
+    misuse
+    sed -n 's/^    #\[cfg(\([a-z_]*\))\] \/\/ \(.*\)$/\1 \2/p' "bindings/rust/$1.rs" > "$work/misuses"
+    [ "$(wc -l < "$work/misuses")" -eq "$2" ]
+    while read -r name text; do says "$text" misuse --cfg "$name"; done < "$work/misuses"
+}
+@test "misuses of timers.rs don't compile" { misuses_rust misuse 6; }
+@test "misuses of timers_desk.rs don't compile" { misuses_rust misuse_desk 4; }
+
+# ignores CALL: compiles a call whose status is not read
+ignores() {
+    echo "$1"
+    "$CC" $of_c -Wno-unused-parameter -Wno-missing-prototypes -c -o /dev/null -x c - << EOT
+#include <timers_desk.h>
+void f(struct timers *t, struct timers_handle *h, struct timers_desk *d, struct timers_line *l, struct timers_word *w, uint64_t *n, size_t *s)
+{ $1; }
+EOT
+}
+@test "the compiler warns if a status that matters is not read" {
+    # Those of ticks and of the owner's rounds may be ignored.
+    ignores 'timers_tick(t)'
+    ignores 'timers_desk_serve_all(d, 9); timers_desk_flush_all(d); timers_desk_advance(d, 9, n); timers_line_finish(l)'
+    while read -r call; do
+        run ignores "$call"
+        [ "$status" -ne 0 ]
+    done << 'EOT'
+timers_start(t, 1, 1, h)
+timers_new(t, 0, 0)
+timers_counts(t, 0)
+timers_desk_new(d, l, 1, NULL)
+timers_desk_close(d, n)
+timers_desk_open(d, 0, l, 1)
+timers_desk_reserve(d)
+timers_desk_settle(d, 0, l, s)
+timers_desk_end(d, 0, l, s)
+timers_desk_end_all(d, l, 1, s)
+timers_line_start(l, 1, 1, n)
+timers_line_stop(l, w->handle, n)
+timers_line_restart(l, w->handle, 1, 1, n)
+timers_line_receive(l, w)
+EOT
+}

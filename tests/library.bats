@@ -1,0 +1,218 @@
+#!/usr/bin/env bats
+# The programs of examples/c and tests/c, and the wrappers, over the libraries in LIB, by default build/lib. CALLS is how
+# many random calls a run makes. tests/headers.bats has what needs no run, tests/generated.bats the same for aarch64.
+# shellcheck disable=SC2086
+load helpers
+
+setup_file() {
+    cd "$BATS_TEST_DIRNAME/.." || return
+    export work=$BATS_FILE_TMPDIR CC=${CC:-cc} CXX=${CXX:-c++} lib=${LIB:-$PWD/build/lib} calls=${CALLS:-100000}
+    export library=$lib/libtimers.a
+    command -v "$CC" > /dev/null || skip "no C compiler"
+}
+setup() { set -o pipefail; }
+
+# sanitizers NAMES: the flags, or a skipped test if the compiler has none
+sanitizers() {
+    sanitize="-fsanitize=$1 -fno-sanitize-recover=all"
+    echo 'int main(void) { return 0; }' > "$work/empty.c"
+    "$CC" $sanitize -o "$work/empty" "$work/empty.c" && "$work/empty" || skip "no -fsanitize=$1"
+}
+by_valgrind() {
+    needs valgrind
+    emulator="valgrind -q --leak-check=full --show-leak-kinds=all --error-exitcode=9" runs "$@"
+}
+
+# What examples/c/reliable_udp.c prints, from its rule for losses alone: a packet arrives at the first attempt that is
+# not lost on its way there, and is acknowledged at the first that is lost neither there nor back.
+udp_model() {
+    awk -v seed="$1" -v text='Timers start, stop and expire in constant time.' '
+        function lost(packet, attempt, back,   x, i) {
+            x = seed * 100000 + packet * 1000 + attempt * 2 + back
+            for (i = 0; i < 3; i++)
+                x = x * 16807 % 2147483647
+            return x % 3 == 0
+        }
+        BEGIN {
+            for (packet = 0; packet < length(text); packet++) {
+                for (arrived = 1; lost(packet, arrived, 0); arrived++)
+                    ;
+                for (last = arrived; lost(packet, last, 0) || lost(packet, last, 1); last++)
+                    ;
+                printf "packet %d: arrived at attempt %d, acknowledged at %d\n", packet, arrived, last
+            }
+            print text
+            print "0 timers left"
+        }'
+}
+# What examples/c/job_scheduler.c prints: each job at its multiples of its period, sorted by the second, then by the
+# second at which it was started, then by its place in the table. All are started at the beginning of day 96, anew at
+# that of day 99, and each when it runs. The dentist is called off. Five of the eight repeat, and wait at the end.
+jobs_model() {
+    awk -v day=86400 '
+        function job(name, first, period,   t, started) {
+            place++
+            started = 96 * day
+            for (t = started + first; t <= 104 * day; t += period) {
+                if (started < 99 * day && t > 99 * day)
+                    started = 99 * day
+                print t, started, place, name
+                started = t
+                if (period == 0)
+                    break
+            }
+        }
+        BEGIN {
+            job("feed the cat", 7.5 * 3600, day / 2)
+            job("turn the page of the calendar", day, day)
+            job("write the report of the day", day - 1, day)
+            job("look after the boiler", 19.5 * 3600, 3 * day)
+            job("take a picture", day / 2 + 20, 33 * 3600 + 33 * 60 + 33)
+            job("renew the certificate", 6 * day + 4 * 3600 + 5 * 60 + 6, 0)
+            job("call the dentist, who is ill", 4 * day + 10 * 3600, 0)
+            print 99 * day, 100 * day, 0, "-- the clock begins anew"
+        }' | sort -k1,1n -k2,2n -k3,3n | awk '{
+            t = $1
+            sub(/^[0-9]+ [0-9]+ [0-9]+ /, "")
+            printf "day %d %02d:%02d:%02d %s\n", t / 86400, t % 86400 / 3600, t % 3600 / 60, t % 60, $0
+        }'
+    echo "5 jobs wait"
+}
+# What examples/c/idle_server.c prints. Who writes at intervals below the time-out is not idle until it stops; who
+# closes is seen to hang up, since that is 100 ms after its last write, and the time-out 200 ms.
+idle_model() {
+    echo "says nothing: 400 idle, 0 hung up, 0 bytes"
+    echo "writes 5 times: 300 idle, 0 hung up, $((300 * 5)) bytes"
+    echo "writes 8 times and closes: 0 idle, 200 hung up, $((200 * 8)) bytes"
+    echo "closes at once: 0 idle, 100 hung up, 0 bytes"
+}
+
+# Each prints what stands in its file.
+prints_its_text() {
+    for program in first messages expired counts porting desk_server desk_sockets; do
+        echo "$program"
+        build $program.c "$@"
+        prints examples/c/$program.stdout
+    done
+    build event_loop.c "$@"
+    runs | grep -v 'bytes of input' | diff examples/c/event_loop.stdout -
+}
+# Each prints what its model, above, prints.
+agrees_with_its_model() {
+    build reliable_udp.c "$@"
+    for seed in 1 2718; do prints <(udp_model $seed) $seed; done
+    build job_scheduler.c "$@"
+    prints <(jobs_model)
+    build idle_server.c "$@"
+    ulimit -n 2048 || skip "fewer than 2048 files may be open"
+    prints <(idle_model)
+}
+# threads [FEWER]: clients in threads beside a desk
+threads() {
+    build desk_threads.c $sanitize
+    runs 8 10000 mixed
+    runs 64 10000 mixed
+    runs 8 2000 deaf
+    build desk_threads.c -DREFUSE $wraps $sanitize
+    runs 8 2000 mixed
+    build desk_end.c $sanitize
+    runs 8 1000
+    runs 64 1000
+    build desk_frees.c $sanitize
+    runs 30 8
+}
+
+@test "the examples in C print what they should" { prints_its_text; }
+@test "so they do under the sanitizers" { sanitizers address,undefined && prints_its_text $sanitize; }
+@test "the protocol, the scheduler and the server with 1,000 connections agree with models" { agrees_with_its_model; }
+@test "so they do under the sanitizers, too" { sanitizers address,undefined && agrees_with_its_model $sanitize; }
+@test "the first program in C++ prints the actions' names" {
+    build first.cpp
+    prints <(printf '2400: egg\n3000: tea\n')
+}
+@test "a program may give NULL for what it does not want" { build unwanted.c && runs; }
+
+@test "random calls agree with a sorted list" { build stress.c && runs $calls 1; }
+@test "they agree when allocations are refused, and no other calls allocate" { build stress.c -DREFUSE $wraps && runs $calls 2; }
+@test "they agree under the sanitizers" {
+    sanitizers address,undefined
+    build stress.c $sanitize
+    runs $calls 3
+}
+@test "valgrind finds no error and no leak in them" { build stress.c && by_valgrind $((calls / 10)) 4; }
+@test "nor if allocations are refused" { build stress.c -DREFUSE $wraps && by_valgrind $((calls / 10)) 5; }
+@test "random calls in C++ agree with a sorted map" { build agree.cpp $wrap && runs; }
+@test "they agree under the sanitizers, too" {
+    sanitizers address,undefined
+    build agree.cpp -O0 $wrap $sanitize
+    runs
+}
+
+# A test and, built with a mistake, that it notices it.
+@test "timers_free frees every block" { build leaks.c $wrap && runs; }
+@test "a free that forgets is noticed" { build leaks.c -DFORGETS $wrap && notices; }
+@test "starts allocate nothing if room was made" { build reserve.c $wraps && runs; }
+@test "that no room was made is noticed" { build reserve.c -DFORGETS $wraps && notices; }
+@test "all memory comes from an allocator that was set, and goes back" {
+    build allocator.c $wrap
+    runs resizes
+    runs copies
+}
+@test "that malloc was called is noticed" { build allocator.c -DFORGETS $wrap && notices resizes; }
+@test "calls with a const pointer write nothing" { build reads_only.c $wrap && runs; }
+@test "a call that writes is noticed" { build reads_only.c -DWRITES $wrap && notices; }
+@test "timers take the memory that the header says" { build memory.c $wrap && runs; }
+@test "callers of the library are found from inside it" { build backtrace.c $wraps && runs; }
+
+@test "the desk's edges are as the header says" { build desk_edges.c && runs; }
+@test "a desk whose allocations are refused in turn loses nothing" { build desk_edges.c -DREFUSE $wrap && runs; }
+@test "random calls to a desk, its lines freed and opened again, agree with a model" {
+    build desk_model.cpp
+    runs 300 $((calls / 30))
+}
+@test "a desk in C++ agrees with a sorted map, and threads get all their words" { build desk_agree.cpp && runs; }
+@test "threads beside a desk get all their words, and the end of them" { threads; }
+@test "desks and lines may be freed while the other side calls" { build desk_frees.c && runs 200 8; }
+@test "valgrind finds no error and no leak in them, either" { build desk_frees.c && by_valgrind 20 4; }
+
+of_desks() {
+    sanitizers $1
+    build desk_edges.c $sanitize
+    runs
+    build desk_model.cpp $sanitize
+    runs 50
+    build desk_agree.cpp $sanitize
+    runs
+    build desk_sockets.c $sanitize
+    prints examples/c/desk_sockets.stdout
+}
+@test "desks do the same under the sanitizers of addresses and of undefined behaviour" { of_desks address,undefined; }
+@test "desks do the same under the sanitizer of threads" { of_desks thread; }
+@test "threads do the same under the sanitizers of addresses and of undefined behaviour" { sanitizers address,undefined && threads; }
+@test "threads do the same under the sanitizer of threads" { sanitizers thread && threads; }
+
+@test "random calls from Python agree" {
+    needs python3
+    python3 -B bindings/python/timers_test.py "$lib/libtimers.so"
+}
+@test "a desk in Python agrees, and threads get all their words" {
+    needs python3
+    python3 -B bindings/python/timers_desk_test.py "$lib/libtimers.so"
+}
+
+# in_rust PROGRAM: of examples/c or bindings/rust, with timers.rs beside it, as its head says
+in_rust() {
+    needs rustc
+    echo 'unsafe extern "C" {} fn main() {}' > "$work/new.rs"
+    rustc --edition 2021 -o "$work/new" "$work/new.rs" || skip "rustc is older than 1.82"
+    mkdir -p "$work/rs"
+    cp examples/c/first.rs bindings/rust/*.rs "$work/rs"
+    rustc --edition 2021 -D warnings -L "$lib" -o "$work/program" "$work/rs/$1.rs"
+    LD_LIBRARY_PATH=$lib "$work/program"
+}
+@test "the first program in Rust prints what it should" {
+    in_rust first > "$work/out"
+    diff <(printf '240: egg\n300: tea\n') "$work/out"
+}
+@test "random calls in Rust agree with a sorted map" { in_rust timers_test; }
+@test "a desk in Rust agrees, and threads get all their words" { in_rust timers_desk_test; }
