@@ -26,7 +26,7 @@
 # make soak        64 clients of 10,000 timers each in threads, 100 times; prints progress
 # make bench       measures the wheels against others (bench/README.md)
 # make bench-lines measures the owner's desk, its flushes and clients in threads against others
-# make docs        makes docs/pages/plays.js and pictures from the scripts of examples/, and counts lines
+# make docs        makes docs/pages/plays.js and moving.svg from the scripts of examples/, and counts lines
 #                  for docs/proofs.md
 
 PROCESSOR := $(shell uname -m)

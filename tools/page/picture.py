@@ -1,4 +1,4 @@
-"""The wheels at one step, as an SVG: a ring for each wheel that is in use, with its hand and its timers."""
+"""Parts of a picture of wheels as SVG: a ring for each wheel, with its hand and its timers."""
 import math
 
 INNER, OUTER = 74, 94
@@ -83,58 +83,3 @@ def standing(slots, digit, held):
         hand(digit, slots),
         text(0, 9, digit, "digit"),
     ]
-
-
-def named(wheels):
-    """The names of wheels that aren't drawn."""
-    if len(wheels) == 1:
-        return f"{wheels[0].name} is empty"
-    return f"{wheels[0].name.replace('wheel', 'wheels')} to {wheels[-1].name.split()[-1]} are empty"
-
-
-def caption(scheme, now, drawn):
-    """The lines below the wheels."""
-    if not scheme.is_hierarchy():
-        return [f"tick {now}"]
-    value = " + ".join(f"{scheme.digit(k, now)} · {scheme.wheels[k].ticks}" for k in drawn)
-    rest = [wheel for k, wheel in enumerate(scheme.wheels) if k > max(drawn)]
-    lines = [f"The clock is at tick {now} = {value}, and the hands stand at these digits."]
-    lines.append(
-        "A timer stands at the highest wheel at which its deadline's digit differs from the clock's,"
-        " in the slot of that digit."
-    )
-    return lines + (
-        [f"Numbers in blue are timers. {named(rest).capitalize()}."]
-        if rest
-        else ["Numbers in blue are timers."]
-    )
-
-
-def picture(play, line):
-    """The wheels after the line, counted from 1."""
-    step, scheme = play.steps[line - 1], play.scheme
-    drawn = list(range(max([0, *(wheel for wheel, _ in step.buckets)]), -1, -1))
-    words = caption(scheme, step.now, drawn)
-    width, height = max(ROOM * len(drawn), 600), 290 + 20 * len(words)
-    parts = [
-        f'<svg xmlns="http://www.w3.org/2000/svg" width="{width}" height="{height}"'
-        f' viewBox="0 0 {width} {height}" role="img">',
-        f"<title>{words[0]}</title>",
-        f"<style>{STYLE}\n</style>",
-        f'<rect class="paper" width="{width}" height="{height}" rx="8"/>',
-    ]
-    for at, k in enumerate(drawn):
-        wheel = scheme.wheels[k]
-        middle = width / 2 + ROOM * (at - (len(drawn) - 1) / 2)
-        held = {slot: timers for (of, slot), timers in sorted(step.buckets.items()) if of == k}
-        parts += [
-            *heading(wheel, middle),
-            f'<g transform="translate({middle:.1f} 160)">',
-            *track(wheel.slots),
-            *standing(wheel.slots, scheme.digit(k, step.now), held),
-            "</g>",
-        ]
-    parts += [
-        text(20, 292 + 20 * at, words_of_line, "soft", "start") for at, words_of_line in enumerate(words)
-    ]
-    return "\n".join([*parts, "</svg>", ""])
