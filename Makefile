@@ -3,7 +3,7 @@
 # make test        the whole gate; its last line is 'N passed, 0 failed', or 'N passed, 0 failed, N skipped'. Without the
 #                  toolchain it runs what needs no proof
 # make lib         builds the libraries alone, and the man pages
-# make install     installs what make built, under PREFIX (tools/install/layout has all variables)
+# make install     installs what make built, under PREFIX (tools/install/install has all variables)
 # make uninstall   removes what it installed
 # make dist        a tarball of program and libraries, for machines without a compiler: build/timers-*.tar.gz
 # make deb         Debian packages, binary and source: build/deb
@@ -76,12 +76,12 @@ try:
 generate:
 	tools/generate
 
-# The variables of tools/install/layout come from the environment, into which make puts those that it is given.
+# The variables of tools/install/install come from the environment, into which make puts those that it is given.
 install:
 	@tools/install/install
 
 uninstall:
-	@tools/install/uninstall
+	@tools/install/install --remove
 
 dist: all
 	tools/dist
