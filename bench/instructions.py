@@ -26,21 +26,10 @@ from figures import HERE, fail
 
 COUNT = os.path.join(HERE, "build", "count")
 SCALE = "0.02"
-ROWS = [
-    "start",
-    "stop",
-    "restart",
-    "quiet-1k",
-    "churn-1k",
-    "push-back-1k",
-    "expire-1000",
-    "expire-log20",
-    "expire-log30",
-    "expire-log40",
-    "steady-1M",
-    "burst-1000",
-    "burst-5000",
-]
+ROWS = (
+    "start,stop,restart,quiet-1k,churn-1k,push-back-1k,expire-1000,expire-log20,expire-log30,expire-log40,steady-1M,"
+    "burst-1000,burst-5000"
+)
 CANDIDATES = ["timers-hier", "timers-c", "ref-hier", "ref-apart", "tokio-wheel"]
 MOST = 0.03  # how far a row may be from that of the page
 
@@ -54,15 +43,8 @@ def symbols():
 
 def run(candidate, symbol, workload, part):
     """Instructions of a run, its units, and the length of its preparation; None if the candidate lacks it."""
-    callgrind = [
-        "valgrind",
-        "--tool=callgrind",
-        "--callgrind-out-file=/dev/null",
-        f"--toggle-collect={symbol}",
-    ]
-    done = subprocess.run(
-        [*callgrind, COUNT, candidate, workload, SCALE, part], capture_output=True, text=True, check=False
-    )
+    callgrind = ["valgrind", "--tool=callgrind", "--callgrind-out-file=/dev/null", f"--toggle-collect={symbol}"]
+    done = subprocess.run([*callgrind, COUNT, candidate, workload, SCALE, part], capture_output=True, text=True, check=False)
     if done.returncode in (2, 3):
         return None
     collected = re.search(r"Collected : (\d+)", done.stderr)
@@ -90,10 +72,7 @@ def count(rows, candidates, jobs):
     if unknown:
         fail(f"no such candidate: {', '.join(unknown)}", 2)
     with ThreadPoolExecutor(jobs) as pool:
-        made = {
-            row: [pool.submit(instructions, candidate, names[candidate], row) for candidate in candidates]
-            for row in rows
-        }
+        made = {row: [pool.submit(instructions, name, names[name], row) for name in candidates] for row in rows}
         return {row: [cell.result() for cell in cells] for row, cells in made.items()}
 
 
@@ -118,7 +97,7 @@ def check(counted, candidates):
 def main():
     parser = argparse.ArgumentParser()
     parser.add_argument("--check", action="store_true")
-    parser.add_argument("--rows", default=",".join(ROWS))
+    parser.add_argument("--rows", default=ROWS)
     parser.add_argument("--candidates", default=",".join(CANDIDATES))
     parser.add_argument("--jobs", type=int, default=len(os.sched_getaffinity(0)))
     options = parser.parse_args()

@@ -158,7 +158,7 @@ def lines(folder):
     rows = [(row["row"], row["ratio"]) for row in figures.read("lines") if "against" not in row["row"]]
     for row in figures.read("threads"):
         cores = f"threads, {row['cores']} core{'' if row['cores'] == '1' else 's'}"
-        rows += [(cores, row["to threads_ref"]), (f"{cores}, to a mutex", row["to mutex_ref"])]
+        rows.append((cores, row["to threads_ref"]))
     figure, axes = plt.subplots(figsize=(8.6, 5.2), layout="constrained")
     draw(axes, range(len(rows)), [cell for _, cell in rows], "product", is_across=True)
     axes.set_yticks(range(len(rows)), [name for name, _ in rows])

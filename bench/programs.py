@@ -3,9 +3,9 @@
 
     programs.py PROGRAM [--runs N] [--only play,jumps,serve,threads]
 
-The peers are build/play_ref, the same with --reserve, build/play_tuned, build/threads_ref and build/mutex_ref. A script
-comes from a file, and the output has to be the same bytes as each peer's. The last row of `serve` is 20,000
-requests down a pipe, each after the answer to the one before.
+The peers are build/play_ref, the same with --reserve, build/play_tuned and build/threads_ref. A script comes from a
+file, and the output has to be the same bytes as each peer's. The last row of `serve` is 20,000 requests down a pipe, each
+after the answer to the one before.
 
 Status 1: an output differs, or a program failed; 2: hyperfine or a program is not there.
 """
@@ -24,7 +24,7 @@ from figures import fail, number, spread
 
 BUILD = os.path.join(figures.HERE, "build")
 OPTIONS = ["--capacity", "1048576"]
-REF, TUNED, THREADS, MUTEX = (os.path.join(BUILD, name) for name in ("play_ref", "play_tuned", "threads_ref", "mutex_ref"))
+REF, TUNED, THREADS = (os.path.join(BUILD, name) for name in ("play_ref", "play_tuned", "threads_ref"))
 PEERS = {"play_ref": [REF], "play_ref --reserve": [REF, "--reserve"], "play_tuned": [TUNED]}
 REQUESTS = 20_000
 MASK = 2**64 - 1
@@ -175,7 +175,7 @@ def threads(program, runs):
     for count in (1, 2, 4):
         if count <= len(available):
             held = ["taskset", "-c", ",".join(map(str, available[:count]))]
-            words = [[program, "threads", "--clients", "4", "--timers", "10000"], [THREADS, "4", "10000"], [MUTEX, "4", "10000"]]
+            words = [[program, "threads", "--clients", "4", "--timers", "10000"], [THREADS, "4", "10000"]]
             times = timed([[*held, *command] for command in words], b"", runs)
             yield [count, *map(spread, times), *ratios(times)]
 
@@ -187,7 +187,7 @@ def main():
     parser.add_argument("--only", default="play,jumps,serve,threads")
     options = parser.parse_args()
     program, parts = os.path.abspath(options.program), options.only.split(",")
-    for needed in ("hyperfine", program, REF, TUNED, THREADS, MUTEX):
+    for needed in ("hyperfine", program, REF, TUNED, THREADS):
         if not shutil.which(needed):
             fail(f"{needed} is not there", 2)
     rows = []
@@ -200,7 +200,7 @@ def main():
     if "serve" in parts:
         figures.write("serve", ["stream", "serve", "peer", "which peer", "ratio"], serve(program, options.runs))
     if "threads" in parts:
-        head = ["cores", "timers", "threads_ref", "mutex_ref", "to threads_ref", "to mutex_ref"]
+        head = ["cores", "timers", "threads_ref", "to threads_ref"]
         figures.write("threads", head, threads(program, options.runs))
 
 
