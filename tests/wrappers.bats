@@ -15,14 +15,6 @@ needs_venv() { [ -e "$work/venv" ] || skip "no python3 with venv"; }
 egg_and_tea() { printf '240: egg\n300: tea\n'; }
 pip() { "$work/venv/bin/pip" --disable-pip-version-check "$@"; }
 
-@test "each wrapper has the version of the library" {
-    version=$(cat tools/install/version)
-    for file in bindings/rust/Cargo.toml bindings/python/pyproject.toml; do
-        echo "$file"
-        grep -qx "version = \"$version\"" "$file"
-    done
-}
-
 @test "cargo runs the first program" {
     needs_cargo
     cargo run --quiet --offline --manifest-path bindings/rust/Cargo.toml --target-dir "$work/cargo" --example first > "$work/out"
@@ -54,6 +46,7 @@ pip() { "$work/venv/bin/pip" --disable-pip-version-check "$@"; }
     cmp bindings/python/timers.py "$package/timers.py"
     cmp generated/NOTICE "$package"/../timers-*.dist-info/licenses/NOTICE
     pip show --files timers | grep timers/libtimers.so.1
+    pip show timers | grep -x "Version: $(cat tools/install/version)"
     pip uninstall --yes timers
     [ ! -e "$package" ]
 }

@@ -25,21 +25,23 @@ struct run {
 	enum form form;
 };
 
+#define DEFAULTS {MAX_CLIENTS, CAPACITY, 0, LAST}
+
 /* Small limits, both ends of the clock, one bucket and many. */
 static const struct run RUNS[] = {
-	{{"play", "--scheme", "plain"}, {64, 1024, 0, LAST}, PLAY},
-	{{"play", "--scheme", "hier"}, {64, 1024, 0, LAST}, PLAY},
+	{{"play", "--scheme", "plain"}, DEFAULTS, PLAY},
+	{{"play", "--scheme", "hier"}, DEFAULTS, PLAY},
 	{{"play", "--scheme", "hashed", "--slots", "1", "--capacity", "3", "--clients", "2"}, {2, 3, 0, LAST}, PLAY},
-	{{"play", "--scheme", "hier", "--first-tick", "1152921504606846900"}, {64, 1024, LAST - 75, LAST}, PLAY},
-	{{"play", "--scheme", "hashed", "--slots", "8", "--first-tick", "4090"}, {64, 1024, 4090, LAST}, PLAY},
-	{{"play", "--scheme", "clock", "--first-tick", "8639000", "--capacity", "5"}, {64, 5, 8639000, LAST_OF_CLOCK}, PLAY},
-	{{"serve"}, {64, 1024, 0, LAST}, SERVE},
-	{{"serve", "--keep-going", "--scheme", "plain"}, {64, 1024, 0, LAST}, KEEP_GOING},
-	{{"serve", "--wakeups"}, {64, 1024, 0, LAST}, WAKEUPS},
-	{{"serve", "--wakeups", "--scheme", "clock", "--first-tick", "8639000"}, {64, 1024, 8639000, LAST_OF_CLOCK}, WAKEUPS},
-	{{"serve", "--wakeups", "--scheme", "hashed", "--slots", "8"}, {64, 1024, 0, LAST}, WAKEUPS},
-	{{"show", "--counts"}, {64, 1024, 0, LAST}, SHOW},
-	{{"check"}, {64, 1024, 0, LAST}, CHECK},
+	{{"play", "--scheme", "hier", "--first-tick", "1152921504606846900"}, {MAX_CLIENTS, CAPACITY, LAST - 75, LAST}, PLAY},
+	{{"play", "--scheme", "hashed", "--slots", "8", "--first-tick", "4090"}, {MAX_CLIENTS, CAPACITY, 4090, LAST}, PLAY},
+	{{"play", "--scheme", "clock", "--first-tick", "8639000", "--capacity", "5"}, {MAX_CLIENTS, 5, 8639000, LAST_OF_CLOCK}, PLAY},
+	{{"serve"}, DEFAULTS, SERVE},
+	{{"serve", "--keep-going", "--scheme", "plain"}, DEFAULTS, KEEP_GOING},
+	{{"serve", "--wakeups"}, DEFAULTS, WAKEUPS},
+	{{"serve", "--wakeups", "--scheme", "clock", "--first-tick", "8639000"}, {MAX_CLIENTS, CAPACITY, 8639000, LAST_OF_CLOCK}, WAKEUPS},
+	{{"serve", "--wakeups", "--scheme", "hashed", "--slots", "8"}, DEFAULTS, WAKEUPS},
+	{{"show", "--counts"}, DEFAULTS, SHOW},
+	{{"check"}, DEFAULTS, CHECK},
 };
 
 static void fail(const char *what)

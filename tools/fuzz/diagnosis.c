@@ -18,21 +18,25 @@ static const struct layout FORMS[] = {
 	{"close", {0}},
 };
 
-#define OF_NUMBERS "out of range 0 to 1152921504606846975"
-#define OF_TICKS "out of range 1 to 1000000"
+/* In the order of the page's table. */
+enum reason {
+	NO_LINE_END, EMPTY_LINE, CARRIAGE_RETURN, BYTE_ORDER_MARK, TAB, SPACE_TOO_MANY, UNKNOWN_WORD, MISSING_FIELD,
+	TOO_MANY_FIELDS, NOT_A_NUMBER, LEADING_ZERO, NO_NUMBER_OF_A_TIMER, NO_NUMBER_OF_TICKS, NONE
+};
+static const char *const TEXTS[NONE + 1] = {REASONS_OF_A_LINE};
 
-static struct wrong wrong(size_t at, const char *field, const char *reason)
+static struct wrong wrong(size_t at, const char *field, enum reason reason)
 {
-	struct wrong result = {at + 1, field, reason};
+	struct wrong result = {at + 1, field, TEXTS[reason]};
 	return result;
 }
 
-/* A byte that is in no line, or the end of the bytes; NULL for others. */
-static const char *in_no_line(const char *line, size_t len, size_t at)
+/* A byte that is in no line, or the end of the bytes; NONE for others. */
+static enum reason in_no_line(const char *line, size_t len, size_t at)
 {
 	if (at == len)
-		return "no line end";
-	return line[at] == '\r' ? "carriage return" : line[at] == '\t' ? "tab" : NULL;
+		return NO_LINE_END;
+	return line[at] == '\r' ? CARRIAGE_RETURN : line[at] == '\t' ? TAB : NONE;
 }
 
 /* The line begins with the first bytes of no more than these words. */
@@ -45,31 +49,31 @@ static struct wrong in_word(const char *line, size_t len)
 			same++;
 		at = same > at ? same : at;
 	}
-	const char *reason = in_no_line(line, len, at);
-	if (!reason && at == 0)
-		reason = line[0] == ' ' ? "space too many" : line[0] == '\n' ? "empty line" : NULL;
-	if (!reason && at == 0 && len >= 3 && !memcmp(line, "\xEF\xBB\xBF", 3))
-		reason = "byte order mark";
-	return wrong(at, NULL, reason ? reason : "unknown word");
+	enum reason reason = in_no_line(line, len, at);
+	if (reason == NONE && at == 0)
+		reason = line[0] == ' ' ? SPACE_TOO_MANY : line[0] == '\n' ? EMPTY_LINE : NONE;
+	if (reason == NONE && at == 0 && len >= 3 && !memcmp(line, "\xEF\xBB\xBF", 3))
+		reason = BYTE_ORDER_MARK;
+	return wrong(at, NULL, reason != NONE ? reason : UNKNOWN_WORD);
 }
 
 /* A space after the last field, or the word `close`. */
 static struct wrong after_all(const char *line, size_t len, size_t at)
 {
 	bool ends = at + 1 == len || line[at + 1] == '\n' || line[at + 1] == '\r';
-	return wrong(at, NULL, ends ? "space too many" : "too many fields");
+	return wrong(at, NULL, ends ? SPACE_TOO_MANY : TOO_MANY_FIELDS);
 }
 
 /* Reads a field from `*at` on. Returns whether the byte at which it stops, then at `*at`, is no part of it. */
 static bool reads_field(const char *line, size_t len, size_t *at, const char *field, struct wrong *result)
 {
-	uint64_t value = 0, most = strcmp(field, "count") ? LAST : 1000000;
+	uint64_t value = 0, most = strcmp(field, "count") ? LAST : MAX_TICKS;
 	size_t first = *at;
 	for (; *at < len && line[*at] >= '0' && line[*at] <= '9'; ++*at) {
 		uint64_t digit = (uint64_t)(line[*at] - '0');
-		const char *out = most == LAST ? OF_NUMBERS : OF_TICKS;
+		enum reason out = most == LAST ? NO_NUMBER_OF_A_TIMER : NO_NUMBER_OF_TICKS;
 		if (*at == first + 1 && value == 0)
-			*result = wrong(*at, field, "leading zero");
+			*result = wrong(*at, field, LEADING_ZERO);
 		else if (value * 10 + digit > most || (most != LAST && value * 10 + digit == 0))
 			*result = wrong(*at, field, out);
 		else {
@@ -80,13 +84,13 @@ static bool reads_field(const char *line, size_t len, size_t *at, const char *fi
 	}
 	if (*at > first)
 		return true;
-	const char *reason = in_no_line(line, len, *at);
-	if (reason)
+	enum reason reason = in_no_line(line, len, *at);
+	if (reason != NONE)
 		*result = wrong(*at, NULL, reason);
 	else if (line[*at] == ' ')
-		*result = wrong(*at, NULL, "space too many");
+		*result = wrong(*at, NULL, SPACE_TOO_MANY);
 	else
-		*result = wrong(*at, field, line[*at] == '\n' ? "missing field" : "not a number");
+		*result = wrong(*at, field, line[*at] == '\n' ? MISSING_FIELD : NOT_A_NUMBER);
 	return false;
 }
 
@@ -102,16 +106,16 @@ struct wrong diagnose(const char *line, size_t len)
 	for (int i = 0;; i++) {
 		const char *field = form->fields[i];
 		if (!field && at + 1 == len && line[at] == '\n')
-			return wrong(0, NULL, NULL);
-		const char *reason = in_no_line(line, len, at);
-		if (reason)
+			return wrong(0, NULL, NONE);
+		enum reason reason = in_no_line(line, len, at);
+		if (reason != NONE)
 			return wrong(at, NULL, reason);
 		if (!field && line[at] == ' ')
 			return after_all(line, len, at);
 		if (field && line[at] == '\n')
-			return wrong(at, field, "missing field");
+			return wrong(at, field, MISSING_FIELD);
 		if (line[at] != ' ')
-			return wrong(at, before, before ? "not a number" : "unknown word");
+			return wrong(at, before, before ? NOT_A_NUMBER : UNKNOWN_WORD);
 		struct wrong result;
 		at++;
 		if (!reads_field(line, len, &at, field, &result))

@@ -90,7 +90,7 @@ static bool line(const char *at, const char *end, struct event *e)
 		well = fields(&at, end, (uint64_t *[]){&e->client, &e->number, &e->serial, &e->interval, &e->action}, 5);
 	} else if (word(&at, end, "tick ")) {
 		e->kind = TICKS;
-		well = number(&at, end, &e->count) && e->count >= 1 && e->count <= 1000000;
+		well = number(&at, end, &e->count) && e->count >= 1 && e->count <= MAX_TICKS;
 	} else if (word(&at, end, "close")) {
 		e->kind = CLOSE;
 		well = true;
@@ -270,7 +270,7 @@ static bool lines(struct facility *f, const char *script, size_t len, enum form 
 		if (!good && form == CHECK)
 			report(&answer->output, "", n, at, all);
 		if (!good && form == KEEP_GOING)
-			report(&answer->faults, "bad ", n, at, all < 108 ? all : 108);
+			report(&answer->faults, "bad ", n, at, all < MAX_LINE ? all : MAX_LINE);
 		if (!good && form != CHECK && form != KEEP_GOING) {
 			*answer = fault(*answer, "bad line", n);
 			return false;
@@ -285,12 +285,12 @@ struct answer play(const char *script, size_t len, struct options options, enum 
 {
 	struct answer answer = {0};
 	struct facility f = {.is = options, .now = options.first_tick, .next_serial = 1};
-	for (int i = 0; i < MAX_CLIENTS; i++)
+	for (size_t i = 0; i < MAX_CLIENTS; i++)
 		f.numbers[i] = 1;
 	f.pending = malloc((options.capacity + 1) * sizeof *f.pending);
 	if (!f.pending)
 		exit(3);
-	if ((form == PLAY || form == CHECK) && len > 1048576) {
+	if ((form == PLAY || form == CHECK) && len > MAX_SCRIPT) {
 		answer = fault(answer, "too long", 0);
 		answer.status = form == CHECK ? 2 : 1;
 	} else if (lines(&f, script, len, form, &answer) && form != CHECK)

@@ -4,9 +4,8 @@
 #include <stddef.h>
 #include <stdint.h>
 
-#define LAST UINT64_C(1152921504606846975)
-#define LAST_OF_CLOCK UINT64_C(8639999)
-#define MAX_CLIENTS 64
+/* The page's numbers, and the reasons of `check` in the order of its table: tools/formats.py makes it. */
+#include "formats.h"
 
 struct options {
 	uint64_t clients, capacity, first_tick, last_tick;

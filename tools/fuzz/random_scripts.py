@@ -6,14 +6,20 @@ Most lines are such as a client would send, so that timers start, move, expire a
 is wrong in some way. Each script goes to COMPARE, which plays it with every scheme. A script at which they
 differ is kept in FOLDER, and the run ends with status 1. The last line is 'N scripts, M lines'.
 """
+import os
 import random
 import subprocess
 import sys
 import time
 
-LAST = 1152921504606846975
+sys.path.insert(0, os.path.join(os.path.dirname(os.path.abspath(__file__)), ".."))
+sys.dont_write_bytecode = True
+from formats import NUMBERS  # noqa: E402
+
+LAST, TICKS = NUMBERS["LAST"], NUMBERS["MAX_TICKS"]
 # Numbers at which something changes.
-EDGES = [0, 1, 2, 59, 60, 63, 64, 65, 3599, 3600, 4095, 4096, 4097, 86400, 262144, 8639999, 1000000, 1000001, LAST - 1, LAST]
+EDGES = [0, 1, 2, 59, 60, 63, 64, 65, 3599, 3600, 4095, 4096, 4097, 86400, 262144, TICKS, TICKS + 1]
+EDGES += [NUMBERS["LAST_OF_CLOCK"], LAST - 1, LAST]
 
 
 class Client:
@@ -72,7 +78,7 @@ class Script:
             if kind < 0.8:
                 self.request()
             elif kind < 0.999:
-                self.lines.append(f"tick {min(10**6, max(1, self.interval()))}")
+                self.lines.append(f"tick {min(TICKS, max(1, self.interval()))}")
             else:
                 self.lines.append("close")
         if self.chance.random() < 0.1:

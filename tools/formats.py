@@ -1,0 +1,40 @@
+"""The numbers and tables of docs/formats.md, for the tools that need them. Run, it prints a header for tools/fuzz."""
+import os
+import re
+
+with open(os.path.join(os.path.dirname(os.path.abspath(__file__)), "../docs/formats.md"), encoding="utf-8") as page:
+    TEXT = page.read()
+
+
+def find(pattern):
+    found = re.search(pattern, TEXT, flags=re.MULTILINE | re.DOTALL)
+    if not found:
+        raise ValueError(f"docs/formats.md has no {pattern}")
+    return found[1]
+
+
+def number(pattern):
+    return int(find(pattern).replace(",", ""))
+
+
+def rows(start, end=r"^#"):
+    """The first cells of the tables from below a heading up to the next one."""
+    return re.findall(r"^\| `([^`]+)` \|", find(rf"^{start}$\n(.*?)(?:{end}|\Z)"), flags=re.MULTILINE)
+
+
+NUMBERS = {
+    "LAST": number(r"`out of range 0 to (\d+)`"),
+    "LAST_OF_CLOCK": number(r"first tick above (\d+)"),
+    "MAX_TICKS": number(r"`out of range 1 to (\d+)`"),
+    "MAX_SCRIPT": number(r"A script has at most ([\d,]+) bytes"),
+    "MAX_LINE": number(r"at most (\d+) bytes of an incomplete line"),
+    "MAX_CLIENTS": number(r"`--clients` \| how many clients there are[^|]*\| 1 to (\d+) \|"),
+    "MAX_PENDING": number(r"`--capacity` \|[^|]*\| 1 to (\d+) \|"),
+    "CAPACITY": number(r"`--capacity` \|[^|]*\|[^|]*\| (\d+) \|"),
+}
+REASONS_OF_A_LINE = rows(r"### `timers check`[^\n]*")
+
+if __name__ == "__main__":
+    for name, value in NUMBERS.items():
+        print(f"#define {name} UINT64_C({value})")
+    print("#define REASONS_OF_A_LINE", ", ".join(f'"{reason}"' for reason in REASONS_OF_A_LINE))
