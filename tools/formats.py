@@ -22,6 +22,27 @@ def rows(start, end=r"^#"):
     return re.findall(r"^\| `([^`]+)` \|", find(rf"^{start}$\n(.*?)(?:{end}|\Z)"), flags=re.MULTILINE)
 
 
+def cells(start, end=r"^#"):
+    """The first two cells of the rows of those tables."""
+    table = find(rf"^{start}$\n(.*?)(?:{end}|\Z)")
+    return re.findall(r"^\| `([^`]+)` \| ([^|]*?) \|", table, flags=re.MULTILINE)
+
+
+def reasons():
+    """Why requests and ticks are refused, by their words, without what is in brackets and without which requests."""
+    said = {word: re.sub(r" \(.*\)|^.*: ", "", text) for word, text in cells("### Reasons")}
+    return {**said, "clock-end": find(r"`clock-end` if ([^.]*)\.")}
+
+
+def fields():
+    """The fields of the lines of a script and of the output, by the words with which they begin."""
+    lines = rows("## The script, on standard input", r"^###? [BT]") + rows("## The output, on standard output", r"^###")
+    said = {}
+    for line in lines:
+        said.setdefault(line.split()[0], " · ".join(re.findall(r"[A-Z]+", line)).lower())
+    return said
+
+
 NUMBERS = {
     "LAST": number(r"`out of range 0 to (\d+)`"),
     "LAST_OF_CLOCK": number(r"first tick above (\d+)"),

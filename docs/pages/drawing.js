@@ -4,8 +4,6 @@
 const SVG = "http://www.w3.org/2000/svg";
 const INNER = 78;
 const OUTER = 98;
-const MAX_BUCKETS = 32; // shown of one wheel before the rest is folded
-const MAX_CHIPS = 24;   // shown of one bucket before the rest is folded
 const MAX_NUMBERS = 8;  // slots of one wheel that have their number on the ring
 const NEAR = 0.045;      // of a turn: two numbers on the ring don't touch
 const BESIDE = 0.14;     // of a turn: a number doesn't touch the words at a slot
@@ -55,8 +53,6 @@ class WheelCard {
     this.rows = new Map();
     this.segments = new Map();
     this.turn = null;
-    this.isOpen = false;
-    this.openBuckets = new Set();
     const {name, slots, ticks} = play.wheels[wheel];
     const each = {plain: "", hashed: `${slots} slots, one a tick`}[play.scheme] ??
         `${slots} slots of ${ticksOf(ticks)}`;
@@ -181,33 +177,15 @@ class WheelCard {
   }
 
   renderBuckets(held, chosen, left, came, followed) {
-    const shown = this.isOpen ? held : held.filter(([slot], at) => at < MAX_BUCKETS || slot === chosen);
-    const rows = shown.map(([slot, list]) => this.row(slot, list, slot === chosen ? followed : null,
-        came.get(slot), followed));
+    const rows = held.map(([slot, list]) => this.row(slot, list, slot === chosen ? followed : null, came.get(slot), followed));
     for (const [slot, moved] of [...left].slice(0, MAX_NUMBERS))
       rows.push(make("li", {class: "gone"}, make("span", {class: "name"}, this.slotName(slot)),
           this.went(this.words.gone(moved), moved, followed)));
     if (!held.length && !left.size) rows.push(make("li", {}, make("span", {class: "none"}, "empty")));
-    if (shown.length < held.length)
-      rows.push(make("li", {class: "rest"}, this.more(`and ${held.length - shown.length} more slots`, () => {
-        this.isOpen = true;
-      })));
     this.list.replaceChildren(...rows);
-    const live = new Set(shown.map(([slot]) => slot));
+    const live = new Set(held.map(([slot]) => slot));
     for (const slot of this.rows.keys())
       if (!live.has(slot)) this.rows.delete(slot);
-  }
-
-  more(text, open) {
-    return make("button", {
-      type: "button",
-      class: "chip more",
-      onclick: () => {
-        open();
-        this.follow(null);
-      }
-    },
-        text);
   }
 
   slotName(slot) {
@@ -222,20 +200,12 @@ class WheelCard {
   // at this step. It is made anew only if it changed.
   row(slot, list, has, came, followed) {
     const old = this.rows.get(slot);
-    const isOpen = this.openBuckets.has(slot);
-    const isSame = old && old.list === list && old.has === has && old.isOpen === isOpen;
-    if (isSame && !came && !old.came) return old.element;
-    const most = isOpen ? list.length : MAX_CHIPS;
-    const shown = list.slice(0, most);
-    if (has && !shown.some((written) => serialOf(written) === has))
-      shown[most - 1] = list.find((written) => serialOf(written) === has);
-    const chips = shown.map((written) => this.chip(written, has));
-    if (shown.length < list.length)
-      chips.push(this.more(`and ${list.length - shown.length} more`, () => this.openBuckets.add(slot)));
+    if (old && old.list === list && old.has === has && !came && !old.came) return old.element;
+    const chips = list.map((written) => this.chip(written, has));
     if (came) chips.push(this.went(this.words.came(came), came, followed));
     const element = make("li", {class: "bucket"}, make("span", {class: "name"}, this.slotName(slot)),
         make("div", {class: "chips"}, ...chips));
-    this.rows.set(slot, {list, has, came, isOpen, element});
+    this.rows.set(slot, {list, has, came, element});
     return element;
   }
 

@@ -1,16 +1,15 @@
-// The script's lines with their answers. Only the lines around the present one are in the page, so that a
-// long script costs no more than a short one.
+// The script's lines with their answers.
 "use strict";
 
 const MAX_ANSWERS = 8; // of one line
-const AROUND = 120;     // lines before and after the present one
 
 class LineList {
   constructor(play, list, go) {
-    Object.assign(this, {play, list, go, first: 0, last: 0, step: 0, here: null});
-    this.rows = new Map();
+    Object.assign(this, {play, list, go, step: 0, here: null});
     this.stepsOf = play.lines.map(() => []);
     play.steps.forEach((step, at) => this.stepsOf[step.line].push(at + 1));
+    this.rows = play.lines.map((_, line) => this.makeRow(line));
+    list.replaceChildren(...this.rows.map((row) => row.element));
   }
 
   makeRow(line) {
@@ -21,41 +20,6 @@ class LineList {
     const button = make("button", {type: "button", disabled: !steps.length, onclick: act},
         make("span", {class: "number"}, String(line + 1)), text, passed);
     return {element: make("li", {}, button), button, passed, count: 0};
-  }
-
-  more(text, act) {
-    return make("li", {}, make("button", {type: "button", class: "more", onclick: act}, text));
-  }
-
-  // Shows the lines from `first` to before `last`.
-  show(first, last) {
-    const count = this.play.lines.length;
-    this.first = Math.max(0, first);
-    this.last = Math.min(count, last);
-    const rows = new Map();
-    for (let line = this.first; line < this.last; line += 1)
-      rows.set(line, this.rows.get(line) || this.makeRow(line));
-    this.rows = rows;
-    const parts = [...rows.values()].map((row) => row.element);
-    if (this.first > 0)
-      parts.unshift(this.more(`lines 1 to ${this.first}`, () => this.widen(this.first - AROUND, this.last)));
-    if (this.last < count)
-      parts.push(
-          this.more(`lines ${this.last + 1} to ${count}`, () => this.widen(this.first, this.last + AROUND)));
-    this.list.replaceChildren(...parts);
-  }
-
-  // Shows more lines; what was on the screen stays there.
-  widen(first, last) {
-    const below = this.list.scrollHeight - this.list.scrollTop;
-    const isUp = first < this.first;
-    this.show(first, last);
-    this.renderRows();
-    if (isUp) this.list.scrollTop = this.list.scrollHeight - below;
-  }
-
-  renderRows() {
-    for (const [line, row] of this.rows) this.renderRow(line, row);
   }
 
   // A line's answers so far. Nothing is done if they are those that it shows.
@@ -87,20 +51,20 @@ class LineList {
   }
 
   render(step) {
-    const line = step ? this.play.steps[step - 1].line : -1;
+    const lineOf = (at) => (at ? this.play.steps[at - 1].line : 0);
+    const [from, to] = [lineOf(this.step), lineOf(step)].sort((a, b) => a - b);
     this.step = step;
-    if (Math.max(line, 0) < this.first || line >= this.last) this.show(line - AROUND, line + AROUND + 1);
-    this.renderRows();
-    if (this.here) this.here.element.classList.remove("is-here");
-    this.here = this.rows.get(line);
-    if (!this.here) return;
-    this.here.element.classList.add("is-here");
-    this.scrollTo(this.here.element);
+    for (let line = from; line <= to && this.rows.length; line += 1) this.renderRow(line, this.rows[line]);
+    this.here?.element.classList.remove("is-here");
+    this.here = step ? this.rows[lineOf(step)] : null;
+    this.here?.element.classList.add("is-here");
+    this.scrollTo(this.here ? this.here.element : this.list.firstChild);
   }
 
   // Scrolls the list, and not the page.
   scrollTo(element) {
     const {list} = this;
+    if (!element) return;
     const top = element.offsetTop - list.offsetTop;
     if (top < list.scrollTop || top + element.offsetHeight > list.scrollTop + list.clientHeight)
       list.scrollTop = top - list.clientHeight / 3;

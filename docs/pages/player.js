@@ -1,11 +1,9 @@
 // The page: steps, the script's lines, the followed timer, and the controls.
 "use strict";
 
-const MAX_EVENTS = 20;   // of one timer's history
 const MAX_ARROWS = 12;   // of one step
 const READ_FIRST = 2000;  // milliseconds that Play rests at least where a timer moves or comes out
 const READ_LETTER = 20;   // and for each letter that is said there
-const LONGEST_STEPS = 4;  // whose height is measured
 
 const $ = (id) => document.getElementById(id);
 const play = new Play(PLAYS.find(({name}) => location.hash === `#${name}`) ?? PLAYS[0]);
@@ -15,7 +13,6 @@ const shown = {
   followed: play.timers.size ? play.timers.keys().next().value : null,
   timer: null
 };
-const calm = window.matchMedia("(prefers-reduced-motion: reduce)");
 const wide = window.matchMedia("(min-width: 860px)");
 
 function follow(serial) {
@@ -47,33 +44,6 @@ function newsOf(step) {
 function renderNews(step) {
   $("news").replaceChildren(...newsOf(step));
   $("news").scrollTop = 0;
-}
-
-// The steps of which most is said, about.
-function longestSteps() {
-  const lengths = play.steps.map((_, at) => {
-    const said = words.of(at + 1);
-    return [said.join("").length + 60 * said.length, at + 1];
-  });
-  return lengths.sort((a, b) => b[0] - a[0]).slice(0, LONGEST_STEPS).map(([, step]) => step);
-}
-
-// On a wide screen the news has the height of its longest text, so that the wheels below it stay in place.
-function reserveNews() {
-  const news = $("news");
-  news.style.height = "";
-  if (!wide.matches) return;
-  shown.longest ??= longestSteps();
-  const width = `width: ${news.offsetWidth}px`;
-  const probe = make("div", {class: "news is-probe", "aria-hidden": "true", style: width});
-  news.after(probe);
-  let most = news.offsetHeight;
-  for (const step of [0, ...shown.longest]) {
-    probe.replaceChildren(...newsOf(step));
-    most = Math.max(most, probe.offsetHeight);
-  }
-  probe.remove();
-  news.style.height = `${Math.min(most + 1, Math.max(200, Math.round(window.innerHeight * 0.4)))}px`;
 }
 
 // The line of a step, above what happened: on a phone the script is further below.
@@ -110,17 +80,10 @@ function historyRow(event, step) {
           make("small", {}, `tick ${tick}, line ${line}`)));
 }
 
-// A timer's history, or the part of a long one that is about this step. Of the rounds only the present one is
-// listed.
+// A timer's history. Of the rounds only the present one is listed.
 function history(timer, step) {
   const events = timer.events.filter((event) => event.kind !== "round" || event.step === step);
-  const past = events.filter((event) => event.step <= step).length;
-  const first = Math.max(0, Math.min(past - MAX_EVENTS / 2, events.length - MAX_EVENTS));
-  const rows = events.slice(first, first + MAX_EVENTS).map((event) => historyRow(event, step));
-  const rest = events.length - first - rows.length;
-  if (first) rows.unshift(make("li", {class: "cut"}, `${first} earlier`));
-  if (rest) rows.push(make("li", {class: "cut"}, `${rest} later`));
-  return make("ol", {class: "history"}, ...rows);
+  return make("ol", {class: "history"}, ...events.map((event) => historyRow(event, step)));
 }
 
 function renderFollowed(step) {
@@ -192,12 +155,6 @@ function renderWheels(step) {
   $("count").textContent = `${count} pending`;
 }
 
-// Where the timers that move at this step stand now, on the screen.
-function flights(step) {
-  if (calm.matches || !step) return [];
-  return movesOf(step).slice(0, MAX_ARROWS).map(spots);
-}
-
 function spots(event) {
   return [event.from, event.to].map((key) => cards.get(placeOf(key).wheel).spot(placeOf(key).slot));
 }
@@ -236,16 +193,6 @@ function renderArrows() {
   }
 }
 
-function fly(step) {
-  for (const [[x, y], [toX, toY]] of flights(step)) {
-    const flyer = make("div", {class: "flyer", "aria-hidden": "true"});
-    document.body.append(flyer);
-    const at = (left, top) => ({transform: `translate(${left}px, ${top}px)`});
-    flyer.animate([at(x, y), at(toX, toY)], {duration: 600, easing: "ease-in-out"}).onfinish = () =>
-        flyer.remove();
-  }
-}
-
 function render(step) {
   const from = shown.step;
   shown.step = step;
@@ -263,7 +210,6 @@ function render(step) {
   $("at").textContent = `${step} of ${play.last}`;
   $("first").disabled = $("back").disabled = step === 0;
   $("next").disabled = $("last").disabled = step === play.last;
-  if (step === from + 1) fly(step);
 }
 
 // The help makes room at a step: on a phone for the wheels, and beside them for the timer's history, unless
@@ -387,7 +333,6 @@ function fill() {
       ...words.fields().map((pair) => row(pair, " ")), ...words.glossary().map((pair) => row(pair, ": ")));
   $("fields").querySelector("summary").onclick = () => { $("fields").dataset.kept = ""; };
   $("intro").open = wide.matches;
-  lines.show(0, AROUND);
   shown.arrows = make("svg", {class: "arrows", "aria-hidden": "true"});
   $("wheels").replaceChildren(...[...cards.values()].map((card) => card.element), shown.arrows);
   $("wheels").classList.toggle("is-single", cards.size === 1);
@@ -410,10 +355,7 @@ function listen() {
   $("after").onclick = () => followNext(1n);
   document.addEventListener("keydown", key);
   window.addEventListener("hashchange", () => location.reload());
-  window.addEventListener("resize", () => {
-    reserveNews();
-    renderArrows();
-  });
+  window.addEventListener("resize", renderArrows);
   const dark = window.matchMedia("(prefers-color-scheme: dark)");
   dark.addEventListener("change", () => setTheme(dark.matches ? "dark" : "light"));
   setTheme(dark.matches ? "dark" : "light");
@@ -421,5 +363,4 @@ function listen() {
 
 fill();
 listen();
-reserveNews();
 render(0);

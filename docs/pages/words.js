@@ -1,20 +1,6 @@
 // What happened at a step, and why, in sentences.
 "use strict";
 
-const REASONS = {
-  "closed": "the facility was closed",
-  "no-client": "there is no client with this number",
-  "repeated": "this request number was taken before",
-  "numbers-spent": "the client has used every number",
-  "ahead": "an earlier request number is missing",
-  "zero-interval": "the interval is 0",
-  "too-late": "the deadline would be after the clock's last tick",
-  "serials-spent": "every serial has been used",
-  "full": "as many timers are pending as the facility may hold",
-  "no-such": "no pending timer of this client has this serial",
-  "clock-end": "the clock stands at its last tick",
-};
-
 // What the page is about, in one sentence above the clock.
 const OPENING = {
   plain: "All pending timers wait in one list, and the one with the nearest deadline is in front.",
@@ -70,29 +56,14 @@ const LEGEND = [
   ["arrow", "from where to where a timer moved at this step"],
 ];
 
-// The fields of the lines of a script, and of their answers.
-const FIELDS = {
-  start: "client · request · interval · action",
-  stop: "client · request · serial",
-  restart: "client · request · serial · interval · action",
-  tick: "how many ticks pass",
-  close: "ends the facility",
-  started: "client · request · serial · deadline",
-  stopped: "client · request · serial",
-  restarted: "client · request · old serial · new serial · deadline",
-  expired: "tick · client · serial · action",
-  closed: "how many timers are returned",
-  returned: "client · serial · deadline · action",
-  refused: "client · request · reason",
-};
-
-// The words of those fields, in half a sentence each.
+// The words of the fields of lines (FIELDS of plays.js), in half a sentence each.
 const GLOSSARY = [
   ["client", "who asks, numbered from 0"],
-  ["request", "the client's count of requests"],
+  ["number", "the client's count of requests"],
   ["interval", "the ticks from now to the deadline"],
   ["action", "a number given back at the end"],
   ["serial", "the number of a timer, from 1 on"],
+  ["count", "how many ticks pass, or timers are returned"],
   ["expired", "it came out at its deadline"],
 ];
 

@@ -2,6 +2,10 @@
 import json
 import os
 import re
+import sys
+
+sys.path.insert(0, os.path.join(os.path.dirname(os.path.abspath(__file__)), ".."))
+import formats  # noqa: E402
 
 PAGES = os.path.join(os.path.dirname(os.path.abspath(__file__)), "../../docs/pages")
 
@@ -49,10 +53,12 @@ def data_of(play, title, name, options):
 
 
 def data(plays):
-    """The file plays.js: plays, each with its title, its name and the options of show. The first is shown at first."""
+    """The file plays.js: plays, each with its title, its name and the options of show, and words of docs/formats.md. The
+    first play is shown at first."""
     rows = [json.dumps(data_of(*play), ensure_ascii=True, separators=(",", ":")) for play in plays]
     # Within a script element the text may not end it, nor open a comment.
-    return "const PLAYS = [\n" + ",\n".join(rows).replace("<", "\\u003c") + "\n];\n"
+    words = f"const REASONS = {json.dumps(formats.reasons())};\nconst FIELDS = {json.dumps(formats.fields())};\n"
+    return "const PLAYS = [\n" + ",\n".join(rows).replace("<", "\\u003c") + "\n];\n" + words
 
 
 def page(plays):
