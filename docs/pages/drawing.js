@@ -4,16 +4,15 @@
 const SVG = "http://www.w3.org/2000/svg";
 const INNER = 78;
 const OUTER = 98;
-const MAX_NUMBERS = 8;  // slots of one wheel that have their number on the ring
-const NEAR = 0.045;      // of a turn: two numbers on the ring don't touch
-const BESIDE = 0.14;     // of a turn: a number doesn't touch the words at a slot
+const MAX_NUMBERS = 8; // slots of one wheel that have their number on the ring
+const NEAR = 0.045;    // of a turn: two numbers on the ring don't touch
+const BESIDE = 0.14;   // of a turn: a number doesn't touch the words at a slot
 
 function make(tag, attributes, ...children) {
   const svg = ["svg", "circle", "path", "text", "g", "line", "title"].includes(tag);
   const made = svg ? document.createElementNS(SVG, tag) : document.createElement(tag);
   for (const [name, value] of Object.entries(attributes || {})) {
-    if (name.startsWith("on"))
-      made.addEventListener(name.slice(2), value);
+    if (name.startsWith("on")) made.addEventListener(name.slice(2), value);
     else if (value !== null && value !== false)
       made.setAttribute(name, value === true ? "" : value);
   }
@@ -30,14 +29,12 @@ function point(turn, radius) {
 function segment(from, to, inner, outer) {
   const large = to - from > 0.5 ? 1 : 0;
   const at = (turn, radius) => point(turn, radius).map((n) => n.toFixed(2)).join(" ");
-  return `M${at(from, outer)}A${outer} ${outer} 0 ${large} 1 ${at(to, outer)}L${at(to, inner)}A${inner} ${
-      inner} 0 ${large} 0 ${at(from, inner)}Z`;
+  return `M${at(from, outer)}A${outer} ${outer} 0 ${large} 1 ${at(to, outer)}L${at(to, inner)}A${inner} ${inner} 0 ${
+      large} 0 ${at(from, inner)}Z`;
 }
 
 // The followed timer has a colour of its own, also among timers that moved.
-function colour(moved, followed) {
-  return moved.some(({serial}) => serial === followed) ? "is-followed" : "";
-}
+function colour(moved, followed) { return moved.some(({serial}) => serial === followed) ? "is-followed" : ""; }
 
 // The segment of a slot. Where there are many slots it is wider than its share, so that it can be seen.
 function slotSegment(slot, slots) {
@@ -57,8 +54,7 @@ class WheelCard {
     const each = {plain: "", hashed: `${slots} slots, one a tick`}[play.scheme] ??
         `${slots} slots of ${ticksOf(ticks)}`;
     this.list = make("ul", {class: "buckets"});
-    this.body =
-        make("div", {class: "wheel-body"}, play.scheme === "plain" ? null : this.ring(slots), this.list);
+    this.body = make("div", {class: "wheel-body"}, play.scheme === "plain" ? null : this.ring(slots), this.list);
     this.element = make("article", {class: "wheel", "aria-label": name},
         make("header", {}, make("h3", {}, play.scheme === "plain" ? "Pending, from the front" : upper(name)),
             make("p", {}, each)),
@@ -70,9 +66,8 @@ class WheelCard {
     this.chosen = make("path", {class: "held-followed"});
     this.left = make("path", {class: "left"});
     const tip = point(0, INNER - 12);
-    this.hand =
-        make("g", {class: "turns"}, make("line", {class: "hand", x1: 0, y1: -26, x2: tip[0], y2: tip[1] + 4}),
-            make("path", {class: "hand-tip", d: `M-5 ${-INNER + 13}L5 ${-INNER + 13}L0 ${-INNER + 4}Z`}));
+    this.hand = make("g", {class: "turns"}, make("line", {class: "hand", x1: 0, y1: -26, x2: tip[0], y2: tip[1] + 4}),
+        make("path", {class: "hand-tip", d: `M-5 ${- INNER + 13}L5 ${- INNER + 13}L0 ${- INNER + 4}Z`}));
     this.digit = make("text", {class: "digit", y: 0});
     const dashes = slots > 1 && slots <= 128 ? "0.84 0.16" : "none";
     const track = make("circle", {
@@ -86,8 +81,8 @@ class WheelCard {
     });
     this.title = make("title", {});
     this.scale = make("g", {});
-    this.svg = make("svg", {viewBox: "-120 -120 240 240", role: "img"}, this.title, track, this.held,
-        this.chosen, this.left, this.hand, this.digit, this.scale);
+    this.svg = make("svg", {viewBox: "-120 -120 240 240", role: "img"}, this.title, track, this.held, this.chosen,
+        this.left, this.hand, this.digit, this.scale);
     return this.svg;
   }
 
@@ -111,8 +106,7 @@ class WheelCard {
   // The numbers around the ring: where timers moved, where timers are if those are few, and the quarters.
   renderScale(held, chosen, left, came, followed) {
     const {slots} = this.play.wheels[this.wheel];
-    const quarters = slots < 8 ? [...Array(slots).keys()] :
-                                 [0, 1, 2, 3].map((k) => Math.floor((k * slots) / 4));
+    const quarters = slots < 8 ? [...Array(slots).keys()] : [0, 1, 2, 3].map((k) => Math.floor((k * slots) / 4));
     const occupied = held.length <= MAX_NUMBERS ? held.map(([slot]) => slot) : [];
     if (chosen !== null) occupied.unshift(chosen);
     const kind = (moved) => `moved-label ${colour(moved, followed)}`;
@@ -145,8 +139,7 @@ class WheelCard {
   }
 
   segment(slot) {
-    if (!this.segments.has(slot))
-      this.segments.set(slot, slotSegment(slot, this.play.wheels[this.wheel].slots));
+    if (!this.segments.has(slot)) this.segments.set(slot, slotSegment(slot, this.play.wheels[this.wheel].slots));
     return this.segments.get(slot);
   }
 
@@ -158,8 +151,7 @@ class WheelCard {
     this.left.setAttribute("d", [...left.keys()].map((slot) => this.segment(slot)).join(""));
     this.digit.textContent = String(digit);
     this.turnTo(now);
-    this.hand.setAttribute(
-        "style", `transform: rotate(${(((this.turn + 0.5) / slots) * 360).toFixed(3)}deg)`);
+    this.hand.setAttribute("style", `transform: rotate(${(((this.turn + 0.5) / slots) * 360).toFixed(3)}deg)`);
     this.title.textContent = `${upper(name)}: the hand is at slot ${digit}, ${held.length} slot${
         held.length === 1 ? " has" : "s have"} timers`;
   }
@@ -177,7 +169,8 @@ class WheelCard {
   }
 
   renderBuckets(held, chosen, left, came, followed) {
-    const rows = held.map(([slot, list]) => this.row(slot, list, slot === chosen ? followed : null, came.get(slot), followed));
+    const rows =
+        held.map(([slot, list]) => this.row(slot, list, slot === chosen ? followed : null, came.get(slot), followed));
     for (const [slot, moved] of [...left].slice(0, MAX_NUMBERS))
       rows.push(make("li", {class: "gone"}, make("span", {class: "name"}, this.slotName(slot)),
           this.went(this.words.gone(moved), moved, followed)));
@@ -189,9 +182,8 @@ class WheelCard {
   }
 
   slotName(slot) {
-    return this.play.scheme === "plain" ?
-        "pending" :
-        this.words.place(keyOf(this.wheel, slot)).replace(/^wheel \d+ /, "");
+    return this.play.scheme === "plain" ? "pending" :
+                                          this.words.place(keyOf(this.wheel, slot)).replace(/^wheel \d+ /, "");
   }
 
   went(said, moved, followed) { return make("span", {class: `went ${colour(moved, followed)}`}, said); }
@@ -218,9 +210,8 @@ class WheelCard {
       class: `chip${serial === has ? " is-followed" : ""}`,
       "data-serial": serial,
       "aria-pressed": String(serial === has),
-      title: timer ?
-          `timer ${serial}, deadline ${timer.deadline}, client ${timer.client}, action ${timer.action}` :
-          `timer ${serial}`,
+      title: timer ? `timer ${serial}, deadline ${timer.deadline}, client ${timer.client}, action ${timer.action}` :
+                     `timer ${serial}`,
       onclick: () => this.follow(serial)
     },
         serial, parts[1] === undefined ? null : make("span", {class: "part"}, `:${parts[1]}`));

@@ -46,9 +46,7 @@ class LineList {
     return make("div", {class: `answer ${words[0]}`}, answer);
   }
 
-  refused(what, why) {
-    return make("div", {class: "answer refused"}, what, make("span", {class: "why"}, why));
-  }
+  refused(what, why) { return make("div", {class: "answer refused"}, what, make("span", {class: "why"}, why)); }
 
   render(step) {
     const lineOf = (at) => (at ? this.play.steps[at - 1].line : 0);

@@ -16,8 +16,7 @@ function edited(buckets, edits) {
     const key = keyOf(wheel, slot);
     const old = next.get(key) || [];
     const list = [...old.slice(0, front), ...between, ...old.slice(old.length - back)];
-    if (list.length)
-      next.set(key, list);
+    if (list.length) next.set(key, list);
     else
       next.delete(key);
   }
@@ -25,9 +24,7 @@ function edited(buckets, edits) {
 }
 
 // The digits of a tick, the lowest wheel's first.
-function digitsOf(wheels, tick) {
-  return wheels.map((wheel) => Number((tick / wheel.ticks) % BigInt(wheel.slots)));
-}
+function digitsOf(wheels, tick) { return wheels.map((wheel) => Number((tick / wheel.ticks) % BigInt(wheel.slots))); }
 
 // The highest wheel at which two ticks have different digits, or -1.
 function levelOf(wheels, one, other) {
@@ -42,23 +39,16 @@ class Play {
   constructor(data) {
     Object.assign(this, data);
     this.wheels = data.wheels.map((wheel) => ({...wheel, ticks: BigInt(wheel.ticks)}));
-    this.steps = data.steps.map(([line, passed, now, answers, edits]) =>
-                                    ({line, passed, now: BigInt(now), answers, edits, events: []}));
+    this.steps = data.steps.map(
+        ([line, passed, now, answers, edits]) => ({line, passed, now: BigInt(now), answers, edits, events: []}));
     this.timers = new Map();
     this.used = new Set();
     this.snapshots = [new Map()];
     this.read();
     // A bad line is a last step, at which nothing changes.
     if (data.bad !== null)
-      this.steps.push({
-        line: data.bad,
-        passed: 0,
-        now: this.now(this.last),
-        answers: [],
-        edits: [],
-        events: [],
-        isBad: true
-      });
+      this.steps.push(
+          {line: data.bad, passed: 0, now: this.now(this.last), answers: [], edits: [], events: [], isBad: true});
   }
 
   get last() { return this.steps.length; }
@@ -102,8 +92,7 @@ class Play {
   hear(answer, step) {
     const words = answer.split(" ");
     const line = this.lines[this.steps[step - 1].line].split(" ");
-    if (words[0] === "started")
-      this.begin(words[3], words[1], words[4], line[4], step, null);
+    if (words[0] === "started") this.begin(words[3], words[1], words[4], line[4], step, null);
     else if (words[0] === "restarted") {
       this.happen(words[3], step, {kind: "restarted", by: words[4]});
       this.begin(words[4], words[1], words[5], line[5], step, words[3]);
@@ -137,8 +126,7 @@ class Play {
       const timer = this.timers.get(serialOf(written));
       if (!timer) continue;
       const note = written.split(":")[1] || "";
-      if (timer.key === null)
-        timer.events[timer.events.length - 1].to = key;
+      if (timer.key === null) timer.events[timer.events.length - 1].to = key;
       else if (timer.key !== key)
         this.happen(timer.serial, step, {kind: "moved", from: timer.key, to: key});
       else if (timer.note !== note)
@@ -155,8 +143,7 @@ class Play {
     let key = null;
     for (const event of timer ? timer.events : []) {
       if (event.step > step) break;
-      if (event.kind === "started" || event.kind === "moved")
-        key = event.to;
+      if (event.kind === "started" || event.kind === "moved") key = event.to;
       else if (event.kind !== "round")
         key = null;
     }

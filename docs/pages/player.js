@@ -2,8 +2,8 @@
 "use strict";
 
 const MAX_ARROWS = 12;   // of one step
-const READ_FIRST = 2000;  // milliseconds that Play rests at least where a timer moves or comes out
-const READ_LETTER = 20;   // and for each letter that is said there
+const READ_FIRST = 2000; // milliseconds that Play rests at least where a timer moves or comes out
+const READ_LETTER = 20;  // and for each letter that is said there
 
 const $ = (id) => document.getElementById(id);
 const play = new Play(PLAYS.find(({name}) => location.hash === `#${name}`) ?? PLAYS[0]);
@@ -94,14 +94,12 @@ function renderFollowed(step) {
   if (!timer) {
     $("followed")
         .replaceChildren(make("p", {},
-            play.timers.size ? `The script starts no timer ${shown.followed}.` :
-                               "The script starts no timer."));
+            play.timers.size ? `The script starts no timer ${shown.followed}.` : "The script starts no timer."));
     return;
   }
   const now = play.now(step);
   const key = play.whereIs(timer.serial, step);
-  const parts =
-      [make("p", {}, `Timer ${timer.serial} of client ${timer.client}, deadline ${timer.deadline}.`)];
+  const parts = [make("p", {}, `Timer ${timer.serial} of client ${timer.client}, deadline ${timer.deadline}.`)];
   if (key !== null) {
     if (words.isHierarchy) parts.push(digitTable(timer, now));
     parts.push(make("p", {class: "because"}, words.why(timer, now)));
@@ -121,15 +119,12 @@ function showEvent() {
   if (!row) return;
   const box = column.getBoundingClientRect();
   const {top, bottom} = row.getBoundingClientRect();
-  if (bottom > box.bottom)
-    column.scrollTop += bottom - box.bottom + 8;
+  if (bottom > box.bottom) column.scrollTop += bottom - box.bottom + 8;
   else if (top < box.top)
     column.scrollTop -= box.top - top + 8;
 }
 
-function movesOf(step) {
-  return step ? play.steps[step - 1].events.filter((event) => event.kind === "moved") : [];
-}
+function movesOf(step) { return step ? play.steps[step - 1].events.filter((event) => event.kind === "moved") : []; }
 
 function addTo(map, slot, event) {
   if (!map.has(slot)) map.set(slot, []);
@@ -167,8 +162,8 @@ function arrow([x, y], [toX, toY], kind) {
   const [comeX, comeY] = isAcross ? [toX - 60 * Math.sign(toX - x), Math.min(y, toY) - 40] : [aside, toY - 20];
   const length = Math.hypot(toX - comeX, toY - comeY) || 1;
   const [along, down] = [(toX - comeX) / length, (toY - comeY) / length];
-  const at = (back, side) => `${(toX - back * along - side * down).toFixed(1)} ${
-      (toY - back * down + side * along).toFixed(1)}`;
+  const at = (back, side) =>
+      `${(toX - back * along - side * down).toFixed(1)} ${(toY - back * down + side * along).toFixed(1)}`;
   const bend = [leaveX, leaveY, comeX, comeY].map((n) => n.toFixed(1)).join(" ");
   return [
     make("path", {class: `arrow ${kind}`, d: `M${x.toFixed(1)} ${y.toFixed(1)}C${bend} ${at(7, 0)}`}),
@@ -233,8 +228,8 @@ function pause() {
 
 // How long Play rests at a step: longer where a timer moves or comes out, by the length of what is said.
 function rest(step) {
-  const isNews = step > 0 && play.steps[step - 1].events.some(
-      (event) => event.kind === "moved" || event.kind === "expired");
+  const isNews =
+      step > 0 && play.steps[step - 1].events.some((event) => event.kind === "moved" || event.kind === "expired");
   const reading = isNews ? READ_FIRST + READ_LETTER * $("news").textContent.length : 1000;
   return reading / Number($("speed").value);
 }
@@ -295,8 +290,7 @@ function isDrawn([kind]) { return (kind !== "left" && kind !== "arrow") || words
 function signOf(kind) {
   if (kind === "hand")
     return [
-      make("line", {class: "hand", x1: 8, y1: 20, x2: 8, y2: 8}),
-      make("path", {class: "hand-tip", d: "M3 9L13 9L8 0Z"})
+      make("line", {class: "hand", x1: 8, y1: 20, x2: 8, y2: 8}), make("path", {class: "hand-tip", d: "M3 9L13 9L8 0Z"})
     ];
   if (kind === "arrow")
     return [
@@ -307,8 +301,7 @@ function signOf(kind) {
 }
 
 function legendRow([kind, said]) {
-  return make("span", {},
-      make("svg", {viewBox: "0 0 16 20", "aria-hidden": "true"}, ...signOf(kind)), said);
+  return make("span", {}, make("svg", {viewBox: "0 0 16 20", "aria-hidden": "true"}, ...signOf(kind)), said);
 }
 
 // A page with several scripts has a link to each.

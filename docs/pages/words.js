@@ -1,49 +1,36 @@
 // What happened at a step, and why, in sentences.
 "use strict";
 
-// What the page is about, in one sentence above the clock.
+// What the page is about, in two sentences above the clock.
 const OPENING = {
-  plain: "All pending timers wait in one list, and the one with the nearest deadline is in front.",
-  hashed: "A timer waits in one slot of the wheel. The hand passes it once for each of its rounds," +
-      " and takes it out at its deadline.",
-  hier: "A timer far from its deadline waits in a coarse wheel, which has wide slots." +
-      " It moves to a finer wheel as its deadline comes near.",
-  clock: "A timer far from its deadline waits in a coarse wheel, that of days or hours." +
-      " It moves to a finer one, of minutes or seconds, as its deadline comes near.",
+  plain: "All pending timers wait in one list. The one with the nearest deadline is in front.",
+  hashed: "A timer waits in one slot. The hand passes it once for each of its rounds, and takes it out when due.",
+  hier: "A timer far from its deadline waits in a coarse wheel. It moves to a finer one as its deadline comes near.",
+  clock: "A timer far from its deadline waits in the days or hours. It moves to minutes and seconds as it comes near.",
 };
 
+// How to read the wheels.
 const GUIDE = {
   plain: [
-    "A timer is due at a tick of the clock, its deadline. All pending timers are in one list," +
-        " in order of their deadlines. At each tick the clock looks at the front of the list alone.",
-    "A start has to find its place, so it takes the longer the more timers are pending." +
-        " Timers are written serial:deadline.",
+    "At each tick the clock looks at the front of the list alone. A start has to find its place.",
+    "Timers are written serial:deadline.",
   ],
   hashed: [
-    "A timer is due at a tick of the clock, its deadline. It waits in a slot of the wheel." +
-        " With each tick the clock's hand goes on by one slot, and looks at that slot alone.",
+    "With each tick the hand goes on by one slot, and the clock looks at that slot alone.",
     "A timer is in the slot (deadline mod slots), so the hand is there at its deadline.",
-    "If the deadline is further away than one turn, the timer has rounds:" +
-        " how often the hand passes it by. They are written serial:rounds.",
+    "If the deadline is further away than one turn, the timer has rounds. They are written serial:rounds.",
   ],
   hier: [
-    "A timer is due at a tick of the clock, its deadline. It waits in a slot of a wheel." +
-        " As in a clock, each wheel has a hand: that of wheel 0 goes on by one slot with each tick," +
-        " that of wheel 1 every 64 ticks, that of wheel 2 every 64² ticks.",
-    "So the hands show the digits of the present tick in base 64. Tick 128 is 2\u00a0×\u00a064\u00a0+\u00a00:" +
-        " wheel 1 is at 2, and wheel 0 at 0.",
-    "A timer with much time left is in a coarse wheel, with wide slots: the highest wheel" +
-        " at which the digits of now and of its deadline differ.",
-    "When that wheel's hand reaches the slot, the slot is emptied." +
-        " Its timers are near now: each moves to a finer wheel, with narrower slots, or is due.",
+    "Each wheel has a hand: wheel 0's goes on with each tick, wheel 1's with every 64, wheel 2's with every 64².",
+    "So the hands show the digits of the present tick in base 64. At tick 128 wheel 1 is at 2, and wheel 0 at 0.",
+    "A timer is in the highest wheel at which the digits of now and of its deadline differ.",
+    "When a wheel's hand reaches a slot, the slot is emptied: each timer moves to a finer wheel, or is due.",
     "A tick empties one slot of one wheel, however many timers are pending.",
   ],
   clock: [
-    "A timer is due at a tick of the clock, its deadline. A tick is a second here." +
-        " The wheels are those of a clock: 60 seconds, 60 minutes, 24 hours, 100 days.",
-    "A timer is in the highest wheel at which its deadline differs from the time now:" +
-        " one for the next hour is in its hour. When the hand reaches that hour, its slot is emptied:" +
-        " the timer moves to its minute, then to its second, and then it is due.",
+    "A tick is a second here. The wheels are those of a clock: 60 seconds, 60 minutes, 24 hours, 100 days.",
+    "A timer is in the highest wheel at which its deadline differs from now: one for the next hour is in its hour.",
+    "When the hand reaches that hour, the timer moves to its minute, then to its second, and then it is due.",
   ],
 };
 
@@ -73,8 +60,7 @@ const WEIGHTS = ["", " × 64", ..."²³⁴⁵⁶⁷⁸⁹"].map((power, k) => (k
 function reasonOf(answer) { return REASONS[answer.slice(answer.lastIndexOf(" ") + 1)] || ""; }
 
 function listed(words) {
-  return words.length < 2 ? words.join("") :
-                            `${words.slice(0, -1).join(", ")} and ${words[words.length - 1]}`;
+  return words.length < 2 ? words.join("") : `${words.slice(0, -1).join(", ")} and ${words[words.length - 1]}`;
 }
 
 function timersNamed(serials) {
@@ -86,9 +72,7 @@ function upper(sentence) { return sentence.charAt(0).toUpperCase() + sentence.sl
 
 function ticksOf(count) { return `${count} tick${count === 1n ? "" : "s"}`; }
 
-function times(count) {
-  return count === 1n ? "once" : count === 2n ? "twice" : `${count} times`;
-}
+function times(count) { return count === 1n ? "once" : count === 2n ? "twice" : `${count} times`; }
 
 // A formula, which a line doesn't break inside. Only one that is long may be broken, before a sum's sign.
 function unbroken(formula) {
@@ -102,8 +86,7 @@ class Words {
     this.isHierarchy = play.scheme === "hier" || play.scheme === "clock";
     const highest = Math.max(0, ...play.used);
     // The wheels whose digits are spoken of, from the highest down.
-    this.levels =
-        play.wheels.map((_, k) => k).filter((k) => k <= highest || play.scheme === "clock").reverse();
+    this.levels = play.wheels.map((_, k) => k).filter((k) => k <= highest || play.scheme === "clock").reverse();
   }
 
   // A place as `timers show` names it.
@@ -111,8 +94,7 @@ class Words {
     const {wheel, slot} = placeOf(key);
     if (this.play.scheme === "plain") return "pending";
     if (this.play.scheme === "hashed") return `slot ${slot}`;
-    return this.play.scheme === "clock" ? `${this.play.wheels[wheel].name} ${slot}` :
-                                          `wheel ${wheel} slot ${slot}`;
+    return this.play.scheme === "clock" ? `${this.play.wheels[wheel].name} ${slot}` : `wheel ${wheel} slot ${slot}`;
   }
 
   digits(tick) {
@@ -135,9 +117,7 @@ class Words {
     return this.play.scheme === "hashed" ? `slot ${this.digits(tick)[0]} of ${this.play.wheels[0].slots}` : "";
   }
 
-  wheelName(k) {
-    return this.play.scheme === "clock" ? `the wheel of ${this.play.wheels[k].name}s` : `wheel ${k}`;
-  }
+  wheelName(k) { return this.play.scheme === "clock" ? `the wheel of ${this.play.wheels[k].name}s` : `wheel ${k}`; }
 
   // Wheels, the lowest first: 'wheel 1 and wheels 4 to 9'.
   wheelsNamed(wheels) {
@@ -145,8 +125,7 @@ class Words {
     const runs = [];
     for (const k of wheels) {
       const run = runs[runs.length - 1];
-      if (run && run[1] === k - 1)
-        run[1] = k;
+      if (run && run[1] === k - 1) run[1] = k;
       else
         runs.push([k, k]);
     }
@@ -156,8 +135,7 @@ class Words {
   // Why a timer stands where it stands while the clock is at `now`.
   why(timer, now) {
     const {wheels, scheme} = this.play;
-    if (scheme === "plain")
-      return "The list is in order of deadlines, and of serials where deadlines are equal.";
+    if (scheme === "plain") return "The list is in order of deadlines, and of serials where deadlines are equal.";
     if (scheme === "hashed") {
       const slots = BigInt(wheels[0].slots);
       const rounds = (timer.deadline - now - 1n) / slots;
@@ -197,8 +175,8 @@ class Words {
 
   started(event) {
     const timer = this.play.timers.get(event.serial);
-    const what = timer.old ? `restarts timer ${timer.old}, which is now timer ${timer.serial},` :
-                             `starts timer ${timer.serial}`;
+    const what =
+        timer.old ? `restarts timer ${timer.old}, which is now timer ${timer.serial},` : `starts timer ${timer.serial}`;
     return `Client ${timer.client} ${what} for ${ticksOf(timer.deadline - timer.start)}: tick ${
         unbroken(`${timer.start} + ${timer.deadline - timer.start} = ${timer.deadline}`)}${
         this.isHierarchy ? `, which is ${this.written(timer.deadline)}` : ""}. ${this.why(timer, timer.start)}${
@@ -225,13 +203,12 @@ class Words {
     const {wheel} = placeOf(event.to);
     const [first] = this.ticksOfSlot(timer.deadline, placeOf(event.from).wheel);
     return [
-      `Timer ${timer.serial} has ${ticksOf(timer.deadline - now)} left. ${
-          this.coarse(timer.deadline, event.from)} ${upper(this.wheelName(wheel))} has a slot for ${
+      `Timer ${timer.serial} has ${ticksOf(timer.deadline - now)} left. ${this.coarse(timer.deadline, event.from)} ${
+          upper(this.wheelName(wheel))} has a slot for ${
           this.eachOf(wheel)}, so the timer moves there as the clock comes to tick ${first}.`,
-      `By digits: it is due at ${timer.deadline} =\u00a0${this.written(timer.deadline)}, and now is ${
-          now} =\u00a0${this.written(now)}. ${
-          upper(this.wheelName(wheel))} is the highest wheel at which they differ, so the timer moves to ${
-          this.placed(event.to)}. Its slot there is chosen by its deadline, not by the slot it came from.`
+      `By digits: it is due at ${timer.deadline} =\u00a0${this.written(timer.deadline)}, and now is ${now} =\u00a0${
+          this.written(now)}. ${upper(this.wheelName(wheel))} is the highest wheel at which they differ, so the timer` +
+          ` moves to ${this.placed(event.to)}. Its slot there is chosen by its deadline, not by the slot it came from.`
     ];
   }
 
@@ -265,25 +242,20 @@ class Words {
     const first = out[0].tick;
     const last = out[out.length - 1].tick;
     const when = first === last ? `deadline, tick ${first},` : "deadlines";
-    const order = out.length > 1 ?
-        (first === last ? ", in order of starting" : `, from tick ${first} to tick ${last}`) :
-        "";
-    return [
-      `${upper(timersNamed(out.map((event) => event.serial)))} ${out.length === 1 ? "has" : "have"} reached ${
-          out.length === 1 ? "its" : "their"} ${when} and expire${out.length === 1 ? "s" : ""}${order}.`
-    ];
+    const order =
+        out.length > 1 ? (first === last ? ", in order of starting" : `, from tick ${first} to tick ${last}`) : "";
+    return [`${upper(timersNamed(out.map((event) => event.serial)))} ${out.length === 1 ? "has" : "have"} reached ${
+        out.length === 1 ? "its" : "their"} ${when} and expire${out.length === 1 ? "s" : ""}${order}.`];
   }
 
   ticked(step, at) {
     const before = this.play.now(at - 1);
-    const said = [
-      [`The clock goes from tick ${before} to tick ${step.now}.`, ...this.turned(step.now - before)].join(" ")
-    ];
+    const said =
+        [[`The clock goes from tick ${before} to tick ${step.now}.`, ...this.turned(step.now - before)].join(" ")];
     const passed = step.events.filter((event) => event.kind === "round");
     const more = [...this.moves(step.events, step.now), ...this.expired(step.events)];
     if (passed.length)
-      more.push(
-          `The clock passes ${timersNamed(passed.map((event) => event.serial))}: fewer rounds are left.`);
+      more.push(`The clock passes ${timersNamed(passed.map((event) => event.serial))}: fewer rounds are left.`);
     if (!more.length)
       said.push(this.isHierarchy && step.now > before ?
               "The hands came to empty slots alone, so nothing moves, and nothing expires." :
@@ -297,13 +269,11 @@ class Words {
   of(at) {
     if (at === 0) return ["Before the first line. No timer is pending. Press Play, or step on."];
     const step = this.play.steps[at - 1];
-    if (step.isBad)
-      return [`Line ${step.line + 1} is bad: ${this.play.reason}. Nothing from it on is played.`];
+    if (step.isBad) return [`Line ${step.line + 1} is bad: ${this.play.reason}. Nothing from it on is played.`];
     const said = [];
     if (this.play.lines[step.line].startsWith("tick ")) said.push(...this.ticked(step, at));
     for (const event of step.events) {
-      if (event.kind === "started")
-        said.push(this.started(event));
+      if (event.kind === "started") said.push(this.started(event));
       else if (event.kind === "stopped")
         said.push(`Timer ${event.serial} is stopped, and will never come out.`);
     }
@@ -353,8 +323,7 @@ class Words {
   // The wheels that aren't drawn, of a hierarchy.
   folded(wheels) {
     if (!wheels.length) return "";
-    const names = this.play.scheme === "hier" ? this.wheelsNamed(wheels) :
-                                                listed(wheels.map((k) => this.wheelName(k)));
+    const names = this.play.scheme === "hier" ? this.wheelsNamed(wheels) : listed(wheels.map((k) => this.wheelName(k)));
     return wheels.length === 1 ? `${upper(names)} is not drawn: it is empty at every step.` :
                                  `${upper(names)} are not drawn: they are empty at every step.`;
   }
