@@ -7,9 +7,11 @@ load helpers
 setup_file() {
     cd "$BATS_TEST_DIRNAME/.." || return
     export work=$BATS_FILE_TMPDIR CC=${CC:-cc} CXX=${CXX:-c++} lib=${LIB:-$PWD/build/lib}
-    command -v "$CC" > /dev/null || skip "no C compiler"
 }
-setup() { set -o pipefail; }
+setup() {
+    set -o pipefail
+    needs "$CC"
+}
 
 # hold COUNT: the assertions on standard input, of which there are so many, hold
 hold() {

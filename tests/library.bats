@@ -8,9 +8,11 @@ setup_file() {
     cd "$BATS_TEST_DIRNAME/.." || return
     export work=$BATS_FILE_TMPDIR CC=${CC:-cc} CXX=${CXX:-c++} lib=${LIB:-$PWD/build/lib} calls=${CALLS:-100000}
     export library=$lib/libtimers.a
-    command -v "$CC" > /dev/null || skip "no C compiler"
 }
-setup() { set -o pipefail; }
+setup() {
+    set -o pipefail
+    needs "$CC"
+}
 
 # sanitizers NAMES: the flags, or a skipped test if the compiler has none
 sanitizers() {
