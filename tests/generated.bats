@@ -2,7 +2,7 @@
 # What generated/ says of itself; builds it as other projects do: by hand, with CMake and Meson, and for aarch64. No command
 # here sees the toolchain. What is compiled for aarch64, library and program, runs under qemu, which shows no weaker order
 # of memory than that of this machine.
-# shellcheck disable=SC2013,SC2086,SC2143
+# shellcheck disable=SC2013,SC2034,SC2086,SC2143,SC2154
 load helpers
 
 sources="generated/timers.S generated/timers_desk.S generated/heap.c"

@@ -1,7 +1,7 @@
 #!/usr/bin/env bats
 # What the headers, the libraries in LIB (by default build/lib), the wrappers and the crates say of each other: numbers,
 # layouts, names, the version. And what compilers say of the headers and of misuses.
-# shellcheck disable=SC2086
+# shellcheck disable=SC2030,SC2031,SC2086,SC2154
 load helpers
 
 setup_file() {
