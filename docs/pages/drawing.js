@@ -56,7 +56,7 @@ class WheelCard {
     this.list = make("ul", {class: "buckets"});
     this.body = make("div", {class: "wheel-body"}, play.scheme === "plain" ? null : this.ring(slots), this.list);
     this.element = make("article", {class: "wheel", "aria-label": name},
-        make("header", {}, make("h3", {}, play.scheme === "plain" ? "Pending, from the front" : upper(name)),
+        make("header", {}, make("h3", {}, play.scheme === "plain" ? "Pending, by deadline" : upper(name)),
             make("p", {}, each)),
         this.body);
   }

@@ -268,11 +268,6 @@ function key(event) {
   acts[event.key]();
 }
 
-function setTheme(theme) {
-  document.documentElement.dataset.theme = theme;
-  $("theme").textContent = theme === "dark" ? "Light" : "Dark";
-}
-
 function followTyped() {
   const typed = $("serial").value.trim();
   if (!typed) return;
@@ -341,7 +336,6 @@ function listen() {
   $("last").onclick = () => go(play.last);
   $("play").onclick = toggle;
   $("slider").oninput = () => go(Number($("slider").value));
-  $("theme").onclick = () => setTheme(document.documentElement.dataset.theme === "dark" ? "light" : "dark");
   $("serial").oninput = followTyped;
   $("choose").onsubmit = (event) => event.preventDefault();
   $("before").onclick = () => followNext(-1n);
@@ -349,9 +343,6 @@ function listen() {
   document.addEventListener("keydown", key);
   window.addEventListener("hashchange", () => location.reload());
   window.addEventListener("resize", renderArrows);
-  const dark = window.matchMedia("(prefers-color-scheme: dark)");
-  dark.addEventListener("change", () => setTheme(dark.matches ? "dark" : "light"));
-  setTheme(dark.matches ? "dark" : "light");
 }
 
 fill();

@@ -3,7 +3,7 @@
 
 // What the page is about, in two sentences above the clock.
 const OPENING = {
-  plain: "All pending timers wait in one list. The one with the nearest deadline is in front.",
+  plain: "All pending timers wait in one list, as they were started. It is shown by deadline.",
   hashed: "A timer waits in one slot. The hand passes it once for each of its rounds, and takes it out when due.",
   hier: "A timer far from its deadline waits in a coarse wheel. It moves to a finer one as its deadline comes near.",
   clock: "A timer far from its deadline waits in the days or hours. It moves to minutes and seconds as it comes near.",
@@ -12,7 +12,7 @@ const OPENING = {
 // How to read the wheels.
 const GUIDE = {
   plain: [
-    "At each tick the clock looks at the front of the list alone. A start has to find its place.",
+    "Each tick looks at all timers of the list, so it takes the longer the more of them there are.",
     "Timers are written serial:deadline.",
   ],
   hashed: [
@@ -135,7 +135,7 @@ class Words {
   // Why a timer stands where it stands while the clock is at `now`.
   why(timer, now) {
     const {wheels, scheme} = this.play;
-    if (scheme === "plain") return "The list is in order of deadlines, and of serials where deadlines are equal.";
+    if (scheme === "plain") return "The list is shown by deadline, and by serial where deadlines are equal.";
     if (scheme === "hashed") {
       const slots = BigInt(wheels[0].slots);
       const rounds = (timer.deadline - now - 1n) / slots;
@@ -307,7 +307,7 @@ class Words {
 
   scheme() {
     return {
-      plain: "Scheme 1, one list in order of deadlines",
+      plain: "Scheme 1, one list",
       hashed: "Scheme 6, a hashed wheel with rounds",
       hier: "Scheme 7, a hierarchy of ten wheels",
       clock: "Scheme 7, the wheels of a clock",
