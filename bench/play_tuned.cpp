@@ -6,6 +6,7 @@
 // a bad line, an input that is too long or a lack of memory writes nothing. Options: --clients N, --capacity N,
 // --first-tick T; others are passed over.
 #include "wheels.hpp"
+#include "formats.h"
 #include <algorithm>
 #include <cstdio>
 #include <cstdlib>
@@ -13,8 +14,6 @@
 #include <new>
 #include <unistd.h>
 
-static const uint64_t LAST = (1ull << 60) - 1;
-static const size_t MOST = 1048576;  // bytes of a script
 static const size_t LINE = 128;      // no line of output is longer
 
 static int fail(const char *text) {
@@ -195,7 +194,7 @@ struct Reader {
       if (!(number(a, ' ') && number(b, ' ') && number(c, '\n'))) return false;
       facility.stop(a, b, c);
     } else if (text("tick ")) {
-      if (!(number(a, '\n') && a >= 1 && a <= 1000000)) return false;
+      if (!(number(a, '\n') && a >= 1 && a <= MAX_TICKS)) return false;
       facility.ticks(a);
     } else if (text("close\n")) {
       facility.close();
@@ -231,15 +230,15 @@ int main(int argc, char **argv) {
     if (!strcmp(argv[i], "--capacity")) capacity = strtoull(value, nullptr, 10);
     if (!strcmp(argv[i], "--first-tick")) first = strtoull(value, nullptr, 10);
   }
-  char *script = (char *)malloc(MOST + 64);
+  char *script = (char *)malloc(MAX_SCRIPT + 64);
   if (!script) return fail("out of memory\n");
   size_t length = 0;
-  for (ssize_t count; length <= MOST; length += (size_t)count) {
-    count = read(0, script + length, MOST + 1 - length);
+  for (ssize_t count; length <= MAX_SCRIPT; length += (size_t)count) {
+    count = read(0, script + length, MAX_SCRIPT + 1 - length);
     if (count < 0) return fail("read failed\n");
     if (count == 0) break;
   }
-  if (length > MOST) return fail("too long\n");
+  if (length > MAX_SCRIPT) return fail("too long\n");
   memset(script + length, 0, 16);
   try {
     Facility facility(clients, capacity, first);
