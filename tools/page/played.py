@@ -21,9 +21,7 @@ class Step:
     passed: int  # ticks of the line that have passed at the step's end, 0 for other lines
     now: int = 0
     answers: list = field(default_factory=list)
-    buckets: dict = field(
-        default_factory=dict
-    )  # (wheel, slot) -> the timers as they are written, from the front
+    buckets: dict = field(default_factory=dict)  # (wheel, slot) -> the timers as they are written, from the front
 
 
 @dataclass

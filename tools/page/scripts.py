@@ -3,13 +3,8 @@ import os
 import random
 from dataclasses import dataclass, field
 
-SCHEMES = [
-    ["--scheme", "plain"],
-    ["--scheme", "hashed", "--slots", "8"],
-    ["--scheme", "hashed", "--slots", "65536"],
-    [],
-    ["--scheme", "clock"],
-]
+HASHED = ["--scheme", "hashed", "--slots"]
+SCHEMES = [["--scheme", "plain"], [*HASHED, "8"], [*HASHED, "65536"], [], ["--scheme", "clock"]]
 BAD = {
     "two_spaces": b"start 0 1 5 7\nstart 0  2 5 7\ntick 1\n",
     "carriage_return": b"start 0 1 5 7\r\n",
@@ -62,9 +57,7 @@ def mixed(seed, lines, longest):
         elif kind < 0.85:
             script.append(f"stop {client} {numbers[client]} {1 + chance.randrange(len(started))}")
         else:
-            script.append(
-                f"restart {client} {numbers[client]} {1 + chance.randrange(len(started))} {interval} 3"
-            )
+            script.append(f"restart {client} {numbers[client]} {1 + chance.randrange(len(started))} {interval} 3")
     return "".join(f"{line}\n" for line in script).encode()
 
 
