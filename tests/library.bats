@@ -109,17 +109,15 @@ agrees_with_its_model() {
     ulimit -n 2048 || skip "fewer than 2048 files may be open"
     prints <(idle_model)
 }
-# threads [FEWER]: clients in threads beside a desk
+# threads COUNT: clients in threads beside a desk. With refused allocations each starts so many timers.
 threads() {
     build desk_threads.c $sanitize
     runs 8 10000 mixed
     runs 64 10000 mixed
-    runs 8 2000 deaf
     build desk_threads.c -DREFUSE $wraps $sanitize
-    runs 8 2000 mixed
+    runs 8 "$1" mixed
     build desk_end.c $sanitize
-    runs 8 1000
-    runs 64 1000
+    runs 8 "$1"
     build desk_frees.c $sanitize
     runs 30 8
 }
@@ -173,7 +171,14 @@ threads() {
     runs 300 $((calls / 30))
 }
 @test "a desk in C++ agrees with a sorted map, and threads get all their words" { build desk_agree.cpp && runs; }
-@test "threads beside a desk get all their words, and the end of them" { threads; }
+@test "threads beside a desk get all their words, and the end of them" {
+    threads 10000
+    build desk_threads.c
+    runs 8 10000
+    runs 8 2000 deaf
+    build desk_end.c
+    runs 64 1000
+}
 @test "desks and lines may be freed while the other side calls" { build desk_frees.c && runs 200 8; }
 @test "valgrind finds no error and no leak in them, either" { build desk_frees.c && by_valgrind 20 4; }
 
@@ -190,8 +195,8 @@ of_desks() {
 }
 @test "desks do the same under the sanitizers of addresses and of undefined behaviour" { of_desks address,undefined; }
 @test "desks do the same under the sanitizer of threads" { of_desks thread; }
-@test "threads do the same under the sanitizers of addresses and of undefined behaviour" { sanitizers address,undefined && threads; }
-@test "threads do the same under the sanitizer of threads" { sanitizers thread && threads; }
+@test "threads do the same under the sanitizers of addresses and of undefined behaviour" { sanitizers address,undefined && threads 2000; }
+@test "threads do the same under the sanitizer of threads" { sanitizers thread && threads 2000; }
 
 @test "random calls from Python agree" {
     needs python3
