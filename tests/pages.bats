@@ -4,13 +4,14 @@
 # shellcheck disable=SC2016,SC2034,SC2086
 load helpers
 bats_require_minimum_version 1.5.0
-LAST=1152921504606846975
 
 setup_file() {
     cd "$BATS_TEST_DIRNAME/.." || return
     mkdir "$BATS_FILE_TMPDIR/bin"
     ln -s "$(realpath "${TIMERS:-timers}")" "$BATS_FILE_TMPDIR/bin/timers"
-    export PATH=$BATS_FILE_TMPDIR/bin:$PATH
+    LAST=$(sed -n 's/^| `out of range 0 to \([0-9]*\)`.*/\1/p' docs/formats.md)
+    TICKS=$(sed -n 's/^| `out of range 1 to \([0-9]*\)`.*/\1/p' docs/formats.md)
+    export LAST TICKS PATH=$BATS_FILE_TMPDIR/bin:$PATH
 }
 
 # Prints 'OPTION LEAST MOST DEFAULT' for each option of a text whose lines are 'OPTION: what is said of it'. The
@@ -66,9 +67,9 @@ script_status() { run -"$1" timers <<< "$2"; }
 
 @test "numbers of a script end where the pages say" {
     script_status 0 "tick 1"
-    script_status 0 "tick 1000000"
+    script_status 0 "tick $TICKS"
     script_status 1 "tick 0"
-    script_status 1 "tick 1000001"
+    script_status 1 "tick $((TICKS + 1))"
     script_status 0 "start 0 1 5 $LAST"
     script_status 1 "start 0 1 5 $((LAST + 1))"
 }
