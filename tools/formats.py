@@ -51,11 +51,19 @@ NUMBERS = {
     "MAX_LINE": number(r"at most (\d+) bytes of an incomplete line"),
     "MAX_CLIENTS": number(r"`--clients` \| how many clients there are[^|]*\| 1 to (\d+) \|"),
     "MAX_PENDING": number(r"`--capacity` \|[^|]*\| 1 to (\d+) \|"),
-    "CAPACITY": number(r"`--capacity` \|[^|]*\|[^|]*\| (\d+) \|"),
 }
+# Of the options of `timers play`.
+OPTIONS = find(r"^### `timers play`(.*?)^###")
+DEFAULTS = dict(re.findall(r"^\| `(--[a-z-]+)` \|.*\| `?(\w+)`? \|$", OPTIONS, flags=re.MULTILINE))
+NUMBERS["CAPACITY"] = int(DEFAULTS["--capacity"])
 REASONS_OF_A_LINE = rows(r"### `timers check`[^\n]*")
+
+# The lines on standard error, in the order of the table.
+ERRORS = rows("## Errors, on standard error", r"^The table says")
+TOO_LONG, READ_FAILED, WRITE_FAILED, OUT_OF_MEMORY = (f"{line}\n".encode() for line in ERRORS[1:5])
 
 if __name__ == "__main__":
     for name, value in NUMBERS.items():
         print(f"#define {name} UINT64_C({value})")
+    print(f'#define TOO_LONG "{ERRORS[1]}"')
     print("#define REASONS_OF_A_LINE", ", ".join(f'"{reason}"' for reason in REASONS_OF_A_LINE))

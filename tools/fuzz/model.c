@@ -291,7 +291,7 @@ struct answer play(const char *script, size_t len, struct options options, enum 
 	if (!f.pending)
 		exit(3);
 	if ((form == PLAY || form == CHECK) && len > MAX_SCRIPT) {
-		answer = fault(answer, "too long", 0);
+		answer = fault(answer, TOO_LONG, 0);
 		answer.status = form == CHECK ? 2 : 1;
 	} else if (lines(&f, script, len, form, &answer) && form != CHECK)
 		add(&answer.output, "end %" PRIu64 " %zu\n", f.now, f.len);

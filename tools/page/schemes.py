@@ -1,5 +1,10 @@
 """The schemes: their wheels, and the places that `timers show` names."""
+import os
+import sys
 from dataclasses import dataclass
+
+sys.path.insert(0, os.path.join(os.path.dirname(os.path.abspath(__file__)), ".."))
+from formats import DEFAULTS  # noqa: E402
 
 HANDS = ["second", "minute", "hour", "day"]
 
@@ -48,21 +53,21 @@ def hierarchy(slots, names):
     return wheels
 
 
-def value_of(options, name, default):
-    """The value of an option, as `--name value` or `--name=value`."""
+def value_of(options, name):
+    """The value of an option, as `--name value` or `--name=value`, or its default."""
     for at, word in enumerate(options):
         if word == name and at + 1 < len(options):
             return options[at + 1]
         if word.startswith(name + "="):
             return word[len(name) + 1 :]
-    return default
+    return DEFAULTS[name]
 
 
 def scheme_of(options):
     """The scheme and the first tick. Values that make no sense are left for the program to refuse."""
-    name = value_of(options, "--scheme", "hier")
-    first_tick = value_of(options, "--first-tick", "0")
-    slots = value_of(options, "--slots", "256")
+    name = value_of(options, "--scheme")
+    first_tick = value_of(options, "--first-tick")
+    slots = value_of(options, "--slots")
     wheels = {
         "plain": lambda: [Wheel("pending", 1, 1)],
         "hashed": lambda: [Wheel("the wheel", int(slots) if slots.isdigit() else 1, 1)],
