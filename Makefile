@@ -26,8 +26,8 @@
 # make soak        64 clients of 10,000 timers each in threads, 100 times; prints progress
 # make bench       measures the wheels against others (bench/README.md)
 # make bench-lines measures the owner's desk, its flushes and clients in threads against others
-# make docs        makes docs/pages/plays.js and moving.svg from the scripts of examples/, and counts lines
-#                  for docs/proofs.md
+# make docs        makes docs/pages/plays.js and moving.svg from the scripts of examples/ and docs/formats.md, and counts
+#                  lines for docs/proofs.md
 
 PROCESSOR := $(shell uname -m)
 GENERATED := $(wildcard generated/* generated/*/*)

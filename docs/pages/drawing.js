@@ -70,15 +70,8 @@ class WheelCard {
         make("path", {class: "hand-tip", d: `M-5 ${- INNER + 13}L5 ${- INNER + 13}L0 ${- INNER + 4}Z`}));
     this.digit = make("text", {class: "digit", y: 0});
     const dashes = slots > 1 && slots <= 128 ? "0.84 0.16" : "none";
-    const track = make("circle", {
-      class: "track",
-      r: (INNER + OUTER) / 2,
-      "stroke-width": OUTER - INNER,
-      pathLength: slots,
-      "stroke-dasharray": dashes,
-      "stroke-dashoffset": "-0.08",
-      transform: "rotate(-90)"
-    });
+    const track = make("circle", {class: "track", r: (INNER + OUTER) / 2, "stroke-width": OUTER - INNER, pathLength: slots,
+      "stroke-dasharray": dashes, "stroke-dashoffset": "-0.08", transform: "rotate(-90)"});
     this.title = make("title", {});
     this.scale = make("g", {});
     this.svg = make("svg", {viewBox: "-120 -120 240 240", role: "img"}, this.title, track, this.held, this.chosen,
@@ -204,16 +197,12 @@ class WheelCard {
   chip(written, has) {
     const serial = serialOf(written);
     const timer = this.play.timers.get(serial);
-    const parts = written.split(":");
-    return make("button", {
-      type: "button",
-      class: `chip${serial === has ? " is-followed" : ""}`,
-      "data-serial": serial,
-      "aria-pressed": String(serial === has),
-      title: timer ? `timer ${serial}, deadline ${timer.deadline}, client ${timer.client}, action ${timer.action}` :
-                     `timer ${serial}`,
-      onclick: () => this.follow(serial)
-    },
-        serial, parts[1] === undefined ? null : make("span", {class: "part"}, `:${parts[1]}`));
+    const [, note] = written.split(":");
+    const {deadline, client, action} = timer ?? {};
+    const title = `timer ${serial}${timer ? `, deadline ${deadline}, client ${client}, action ${action}` : ""}`;
+    const kind = `chip${serial === has ? " is-followed" : ""}`;
+    const pressed = {"data-serial": serial, "aria-pressed": String(serial === has)};
+    return make("button", {type: "button", class: kind, title, onclick: () => this.follow(serial), ...pressed}, serial,
+        note === undefined ? null : make("span", {class: "part"}, `:${note}`));
   }
 }

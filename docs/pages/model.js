@@ -1,8 +1,6 @@
 // What stood where after each step, and the history of each timer. Step 0 is before the first line.
 "use strict";
 
-const SNAPSHOT = 64; // the buckets are kept whole after so many steps
-
 function keyOf(wheel, slot) { return wheel * 65536 + slot; }
 
 function placeOf(key) { return {wheel: Math.floor(key / 65536), slot: key % 65536}; }
@@ -17,8 +15,7 @@ function edited(buckets, edits) {
     const old = next.get(key) || [];
     const list = [...old.slice(0, front), ...between, ...old.slice(old.length - back)];
     if (list.length) next.set(key, list);
-    else
-      next.delete(key);
+    else next.delete(key);
   }
   return next;
 }
@@ -43,8 +40,10 @@ class Play {
         ([line, passed, now, answers, edits]) => ({line, passed, now: BigInt(now), answers, edits, events: []}));
     this.timers = new Map();
     this.used = new Set();
-    this.snapshots = [new Map()];
-    this.read();
+    this.steps.forEach((step, at) => {
+      for (const answer of step.answers) this.hear(answer, at + 1);
+      for (const edit of step.edits) this.see(edit, at + 1);
+    });
     // A bad line is a last step, at which nothing changes.
     if (data.bad !== null)
       this.steps.push(
@@ -55,26 +54,10 @@ class Play {
 
   now(step) { return step ? this.steps[step - 1].now : BigInt(this.firstTick); }
 
-  // Reads all steps once: the snapshots, and each timer's history.
-  read() {
-    let buckets = this.snapshots[0];
-    this.steps.forEach((step, at) => {
-      for (const answer of step.answers) this.hear(answer, at + 1);
-      buckets = edited(buckets, step.edits);
-      for (const edit of step.edits) this.see(edit, at + 1);
-      if ((at + 1) % SNAPSHOT === 0) this.snapshots.push(buckets);
-    });
-  }
-
-  // The buckets after a step, from the nearest snapshot, or from the step that was asked for last.
+  // The buckets after a step, from those after the step that was asked for last if that was before it.
   buckets(step) {
-    const from = Math.floor(step / SNAPSHOT);
-    let at = Math.min(from, this.snapshots.length - 1) * SNAPSHOT;
-    let buckets = this.snapshots[at / SNAPSHOT];
-    if (this.kept && this.kept.step <= step && this.kept.step > at) {
-      at = this.kept.step;
-      buckets = this.kept.buckets;
-    }
+    if (!this.kept || this.kept.step > step) this.kept = {step: 0, buckets: new Map()};
+    let {step: at, buckets} = this.kept;
     for (; at < step; at += 1) buckets = edited(buckets, this.steps[at].edits);
     this.kept = {step, buckets};
     return buckets;
@@ -96,26 +79,14 @@ class Play {
     else if (words[0] === "restarted") {
       this.happen(words[3], step, {kind: "restarted", by: words[4]});
       this.begin(words[4], words[1], words[5], line[5], step, words[3]);
-    } else if (words[0] === "stopped")
-      this.happen(words[3], step, {kind: "stopped"});
-    else if (words[0] === "expired")
-      this.happen(words[3], step, {kind: "expired", tick: BigInt(words[1])});
-    else if (words[0] === "returned")
-      this.happen(words[2], step, {kind: "returned"});
+    } else if (words[0] === "stopped") this.happen(words[3], step, {kind: "stopped"});
+    else if (words[0] === "expired") this.happen(words[3], step, {kind: "expired", tick: BigInt(words[1])});
+    else if (words[0] === "returned") this.happen(words[2], step, {kind: "returned"});
   }
 
   begin(serial, client, deadline, action, step, old) {
-    this.timers.set(serial, {
-      serial,
-      client,
-      action,
-      deadline: BigInt(deadline),
-      old,
-      start: this.now(step),
-      key: null,
-      note: "",
-      events: []
-    });
+    const timer = {serial, client, action, deadline: BigInt(deadline), old, start: this.now(step)};
+    this.timers.set(serial, {...timer, key: null, note: "", events: []});
     this.happen(serial, step, {kind: "started"});
   }
 
@@ -127,10 +98,8 @@ class Play {
       if (!timer) continue;
       const note = written.split(":")[1] || "";
       if (timer.key === null) timer.events[timer.events.length - 1].to = key;
-      else if (timer.key !== key)
-        this.happen(timer.serial, step, {kind: "moved", from: timer.key, to: key});
-      else if (timer.note !== note)
-        this.happen(timer.serial, step, {kind: "round", rounds: note});
+      else if (timer.key !== key) this.happen(timer.serial, step, {kind: "moved", from: timer.key, to: key});
+      else if (timer.note !== note) this.happen(timer.serial, step, {kind: "round", rounds: note});
       timer.key = key;
       timer.note = note;
     }
@@ -144,8 +113,7 @@ class Play {
     for (const event of timer ? timer.events : []) {
       if (event.step > step) break;
       if (event.kind === "started" || event.kind === "moved") key = event.to;
-      else if (event.kind !== "round")
-        key = null;
+      else if (event.kind !== "round") key = null;
     }
     return key;
   }

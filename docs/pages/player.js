@@ -114,14 +114,8 @@ function renderFollowed(step) {
 // The present event of the followed timer is brought into sight where its column has a height of its own.
 function showEvent() {
   const column = document.querySelector(".follow");
-  if (column.scrollHeight <= column.clientHeight) return;
   const row = column.querySelector(".history .is-now");
-  if (!row) return;
-  const box = column.getBoundingClientRect();
-  const {top, bottom} = row.getBoundingClientRect();
-  if (bottom > box.bottom) column.scrollTop += bottom - box.bottom + 8;
-  else if (top < box.top)
-    column.scrollTop -= box.top - top + 8;
+  if (row && column.scrollHeight > column.clientHeight) row.scrollIntoView({block: "nearest"});
 }
 
 function movesOf(step) { return step ? play.steps[step - 1].events.filter((event) => event.kind === "moved") : []; }

@@ -126,8 +126,7 @@ class Words {
     for (const k of wheels) {
       const run = runs[runs.length - 1];
       if (run && run[1] === k - 1) run[1] = k;
-      else
-        runs.push([k, k]);
+      else runs.push([k, k]);
     }
     return listed(runs.map(([from, to]) => (from === to ? `wheel ${from}` : `wheels ${from} to ${to}`)));
   }
