@@ -318,8 +318,7 @@ function fill() {
   shown.arrows = make("svg", {class: "arrows", "aria-hidden": "true"});
   $("wheels").replaceChildren(...[...cards.values()].map((card) => card.element), shown.arrows);
   $("wheels").classList.toggle("is-single", cards.size === 1);
-  const folded = play.wheels.map((_, k) => k).filter((k) => !cards.has(k));
-  $("folded").textContent = words.folded(folded);
+  if (cards.size < play.wheels.length) $("folded").textContent = "The wheels that are not drawn are empty at every step.";
   $("slider").max = String(play.last);
 }
 

@@ -119,18 +119,6 @@ class Words {
 
   wheelName(k) { return this.play.scheme === "clock" ? `the wheel of ${this.play.wheels[k].name}s` : `wheel ${k}`; }
 
-  // Wheels, the lowest first: 'wheel 1 and wheels 4 to 9'.
-  wheelsNamed(wheels) {
-    if (this.play.scheme !== "hier") return listed(wheels.map((k) => this.play.wheels[k].name));
-    const runs = [];
-    for (const k of wheels) {
-      const run = runs[runs.length - 1];
-      if (run && run[1] === k - 1) run[1] = k;
-      else runs.push([k, k]);
-    }
-    return listed(runs.map(([from, to]) => (from === to ? `wheel ${from}` : `wheels ${from} to ${to}`)));
-  }
-
   // Why a timer stands where it stands while the clock is at `now`.
   why(timer, now) {
     const {wheels, scheme} = this.play;
@@ -317,14 +305,6 @@ class Words {
     const follow = "Choose a timer's serial to follow that timer: it is orange then," +
         " and its history is below 'Follow a timer'.";
     return [...GUIDE[this.play.scheme], follow];
-  }
-
-  // The wheels that aren't drawn, of a hierarchy.
-  folded(wheels) {
-    if (!wheels.length) return "";
-    const names = this.play.scheme === "hier" ? this.wheelsNamed(wheels) : listed(wheels.map((k) => this.wheelName(k)));
-    return wheels.length === 1 ? `${upper(names)} is not drawn: it is empty at every step.` :
-                                 `${upper(names)} are not drawn: they are empty at every step.`;
   }
 
   // What a timer did that came to a slot at this step, or left it.
