@@ -45,7 +45,7 @@ def fields():
 
 NUMBERS = {
     "LAST": number(r"`out of range 0 to (\d+)`"),
-    "LAST_OF_CLOCK": number(r"first tick above (\d+)"),
+    "LAST_OF_CLOCK": number(r"(\d+) with `clock`"),
     "MAX_TICKS": number(r"`out of range 1 to (\d+)`"),
     "MAX_SCRIPT": number(r"A script has at most ([\d,]+) bytes"),
     "MAX_LINE": number(r"at most (\d+) bytes of an incomplete line"),
