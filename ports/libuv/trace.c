@@ -15,23 +15,14 @@
 
 #include <uv.h>
 
+#include "../random.h"
+
 enum { TIMERS = 120, POLLS_A_RUN = 40, CALLS_A_RUN = 400 };
 
 static uv_loop_t loop;
 static uv_timer_t timers[TIMERS];
-static uint64_t random_state, clock_ns;
+static uint64_t clock_ns;
 static int polls_left, calls_left;
-
-/* xorshift64* */
-static uint64_t random_bits(void)
-{
-	random_state ^= random_state >> 12;
-	random_state ^= random_state << 25;
-	random_state ^= random_state >> 27;
-	return random_state * UINT64_C(2685821657736338717);
-}
-
-static uint64_t below(uint64_t bound) { return (random_bits() >> 11) % bound; }
 
 static void pass_ms(uint64_t ms) { clock_ns += ms * 1000000 + below(1000000); }
 
@@ -189,9 +180,7 @@ int main(int argc, char **argv)
 {
 	if (argc != 3)
 		return 2;
-	random_state = strtoull(argv[1], NULL, 10) * 2 + 1;
-	for (int skipped = 0; skipped < 20; skipped++)
-		random_bits();
+	seed(argv[1]);
 	clock_ns = below(3) ? below(UINT64_C(1) << 50) : (UINT64_C(1) << (6 * (1 + below(6)))) * 1000000 - below(64) * 1000000;
 	if (uv_loop_init(&loop) != 0)
 		return 1;

@@ -11,25 +11,15 @@
 #include "lwip/memp.h"
 #include "lwip/timeouts.h"
 
+#include "../random.h"
+
 enum { ARGUMENTS = 20, MOST_HELD = 100, CYCLES = 4 };
 
-static uint64_t random_state;
 static u32_t clock_ms;
 static int held[2][ARGUMENTS], held_in_all, calls_left;
 
 u32_t sys_now(void) { return clock_ms; }
 int lose_packet(struct pbuf *p) { (void)p; return 0; }
-
-/* xorshift64* */
-static uint64_t random_bits(void)
-{
-	random_state ^= random_state >> 12;
-	random_state ^= random_state << 25;
-	random_state ^= random_state >> 27;
-	return random_state * UINT64_C(2685821657736338717);
-}
-
-static u32_t below(u32_t bound) { return (u32_t)((random_bits() >> 11) % bound); }
 
 static void some_steps(u32_t most);
 
@@ -156,9 +146,7 @@ int main(int argc, char **argv)
 	int left;
 	if (argc != 3)
 		return 2;
-	random_state = strtoull(argv[1], NULL, 10) * 2 + 1;
-	for (left = 20; left > 0; left--)
-		random_bits();
+	seed(argv[1]);
 	clock_ms = below(2) ? below(LWIP_UINT32_MAX) : (u32_t)-1 - below(100000);
 	memp_init();
 	sys_timeouts_init();

@@ -14,10 +14,11 @@
 #include <ngx_core.h>
 #include <ngx_event.h>
 
+#include "../random.h"
+
 enum { EVENTS = 150, MOST_TURNS = 12 };
 
 static ngx_event_t events[EVENTS];
-static uint64_t random_state;
 static int calls_left;
 
 static ngx_cycle_t cycle;
@@ -30,17 +31,6 @@ void ngx_log_error_core(ngx_uint_t level, ngx_log_t *log, ngx_err_t err, const c
 	(void)level, (void)log, (void)err;
 	printf("logged: %s\n", text);
 }
-
-/* xorshift64* */
-static uint64_t random_bits(void)
-{
-	random_state ^= random_state >> 12;
-	random_state ^= random_state << 25;
-	random_state ^= random_state >> 27;
-	return random_state * UINT64_C(2685821657736338717);
-}
-
-static uint64_t below(uint64_t bound) { return (random_bits() >> 11) % bound; }
 
 static ngx_msec_t some_time(void)
 {
@@ -159,9 +149,7 @@ int main(int argc, char **argv)
 {
 	if (argc != 3)
 		return 2;
-	random_state = strtoull(argv[1], NULL, 10) * 2 + 1;
-	for (int skipped = 0; skipped < 20; skipped++)
-		random_bits();
+	seed(argv[1]);
 	ngx_current_msec = below(UINT64_C(1) << 36);
 	cycle.connection_n = EVENTS / 2;
 	for (size_t k = 0; k < EVENTS; k++) {
