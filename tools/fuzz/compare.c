@@ -26,6 +26,7 @@ struct run {
 };
 
 #define DEFAULTS {MAX_CLIENTS, CAPACITY, 0, LAST}
+#define NEAR_THE_END {MAX_CLIENTS, CAPACITY, 8639000, LAST_OF_CLOCK}
 
 /* Small limits, both ends of the clock, one bucket and many. */
 static const struct run RUNS[] = {
@@ -38,7 +39,7 @@ static const struct run RUNS[] = {
 	{{"serve"}, DEFAULTS, SERVE},
 	{{"serve", "--keep-going", "--scheme", "plain"}, DEFAULTS, KEEP_GOING},
 	{{"serve", "--wakeups"}, DEFAULTS, WAKEUPS},
-	{{"serve", "--wakeups", "--scheme", "clock", "--first-tick", "8639000"}, {MAX_CLIENTS, CAPACITY, 8639000, LAST_OF_CLOCK}, WAKEUPS},
+	{{"serve", "--wakeups", "--scheme", "clock", "--first-tick", "8639000"}, NEAR_THE_END, WAKEUPS},
 	{{"serve", "--wakeups", "--scheme", "hashed", "--slots", "8"}, DEFAULTS, WAKEUPS},
 	{{"show", "--counts"}, DEFAULTS, SHOW},
 	{{"check"}, DEFAULTS, CHECK},
