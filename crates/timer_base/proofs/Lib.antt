@@ -8,6 +8,3 @@ pub mod PlainSteps
 pub mod SortedTimers
 pub mod PlainRestarts
 pub mod PlainWakeUps
-pub mod PlainWithdrawals
-pub mod PlainNames
-pub mod PlainMadeDue
