@@ -93,7 +93,7 @@ impl Firsts {
     }
 
     /// A timer with this deadline leaves its bucket, wherever it stands there.
-    #[inline]
+    #[inline(always)]
     pub fn leave(&mut self, table: Table, tick: u64, deadline: u64)
         requires later { tick < deadline }
         requires deadline { deadline ≤ last_of (radices table) }
@@ -103,12 +103,8 @@ impl Firsts {
             → 0 < (first_at (bucket (radices table) tick deadline) self.old).count }
         ensures { Leaves (lowest_radix (radices table)) (bucket (radices table) tick deadline) deadline self.old self.new }
     {
-        if !self.is_kept {
-            return;
-        }
-        let list = bucket_of(table, tick, deadline);
-        if list >= lowest_slots(table) {
-            self.firsts[list].leave(deadline);
+        if self.is_kept {
+            leave_bucket(self.firsts.as_mut_slice(), table, tick, deadline);
         }
     }
 
@@ -131,5 +127,23 @@ impl Firsts {
         if self.is_kept {
             self.firsts.fill(First::none());
         }
+    }
+}
+
+/// A timer with this deadline leaves its bucket, whose first deadline is kept.
+// Kept out of line, so that a stop is short as long as they are not.
+#[inline(never)]
+fn leave_bucket(firsts: &mut [First], table: Table, tick: u64, deadline: u64)
+    requires later { tick < deadline }
+    requires deadline { deadline ≤ last_of (radices table) }
+    requires size { length firsts.old ≡ slots (radices table) }
+    requires counted { lowest_radix (radices table) ≤ bucket (radices table) tick deadline
+        → (first_at (bucket (radices table) tick deadline) firsts.old).bound ≡ deadline
+        → 0 < (first_at (bucket (radices table) tick deadline) firsts.old).count }
+    ensures { Leaves (lowest_radix (radices table)) (bucket (radices table) tick deadline) deadline firsts.old firsts.new }
+{
+    let list = bucket_of(table, tick, deadline);
+    if list >= lowest_slots(table) {
+        firsts[list].leave(deadline);
     }
 }
