@@ -92,16 +92,17 @@ impl Firsts {
         }
     }
 
-    /// A timer with this deadline leaves its bucket, wherever it stands there.
+    /// A timer with this deadline leaves its list, wherever it stands there. What is due is in no bucket.
     #[inline(always)]
     pub fn leave(&mut self, table: Table, tick: u64, deadline: u64)
-        requires later { tick < deadline }
         requires deadline { deadline ≤ last_of (radices table) }
         requires size { length self.old ≡ slots (radices table) }
-        requires counted { lowest_radix (radices table) ≤ bucket (radices table) tick deadline
+        requires counted { tick < deadline → lowest_radix (radices table) ≤ bucket (radices table) tick deadline
             → (first_at (bucket (radices table) tick deadline) self.old).bound ≡ deadline
             → 0 < (first_at (bucket (radices table) tick deadline) self.old).count }
-        ensures { Leaves (lowest_radix (radices table)) (bucket (radices table) tick deadline) deadline self.old self.new }
+        ensures pending { tick < deadline → Leaves (lowest_radix (radices table)) (bucket (radices table) tick deadline)
+            deadline self.old self.new }
+        ensures due { deadline ≤ tick → self.new ≡ self.old }
     {
         if self.is_kept {
             leave_bucket(self.firsts.as_mut_slice(), table, tick, deadline);
@@ -130,18 +131,22 @@ impl Firsts {
     }
 }
 
-/// A timer with this deadline leaves its bucket, whose first deadline is kept.
-// Kept out of line, so that a stop is short as long as they are not.
+/// A timer with this deadline leaves its list, and is no longer counted if that is a bucket.
+// Kept out of line, so that a stop is short as long as first deadlines are not kept.
 #[inline(never)]
 fn leave_bucket(firsts: &mut [First], table: Table, tick: u64, deadline: u64)
-    requires later { tick < deadline }
     requires deadline { deadline ≤ last_of (radices table) }
     requires size { length firsts.old ≡ slots (radices table) }
-    requires counted { lowest_radix (radices table) ≤ bucket (radices table) tick deadline
+    requires counted { tick < deadline → lowest_radix (radices table) ≤ bucket (radices table) tick deadline
         → (first_at (bucket (radices table) tick deadline) firsts.old).bound ≡ deadline
         → 0 < (first_at (bucket (radices table) tick deadline) firsts.old).count }
-    ensures { Leaves (lowest_radix (radices table)) (bucket (radices table) tick deadline) deadline firsts.old firsts.new }
+    ensures pending { tick < deadline → Leaves (lowest_radix (radices table)) (bucket (radices table) tick deadline)
+        deadline firsts.old firsts.new }
+    ensures due { deadline ≤ tick → firsts.new ≡ firsts.old }
 {
+    if deadline <= tick {
+        return;
+    }
     let list = bucket_of(table, tick, deadline);
     if list >= lowest_slots(table) {
         firsts[list].leave(deadline);

@@ -307,13 +307,12 @@ fn leave_list(
         emptied occupied.old occupied.new firsts.old firsts.new }
     ensures due { deadline ≤ tick → (occupied.new ≡ occupied.old) × (firsts.new ≡ firsts.old) }
 {
-    if deadline <= tick {
+    let Some(list) = emptied else {
+        firsts.leave(table, tick, deadline);
         return;
-    }
-    if let Some(list) = emptied {
+    };
+    if deadline > tick {
         occupied.remove(list);
         firsts.empty(list);
-    } else {
-        firsts.leave(table, tick, deadline);
     }
 }
