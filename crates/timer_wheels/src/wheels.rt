@@ -149,9 +149,8 @@ impl Wheels {
     {
         self.buckets.links.lemma_keys_unique();
         let list = self.list_of(timer.deadline);
-        let old = self.buckets.look(handle)?;
-        let emptied = self.buckets.links.alone_in(handle.place);
-        let restarted = self.buckets.restart(handle, list, timer, 0)?;
+        let (restarted, emptied) = self.buckets.replace(handle, list, timer, 0)?;
+        let (_made, old) = restarted;
         leave_list(
             self.table,
             &mut self.occupied,
