@@ -350,6 +350,7 @@ impl Links {
 
     /// Moves a node to the back of a list, which may be its own, and returns the list that it was in, if it was the
     /// only node there. It keeps its key. Does not allocate.
+    #[inline(always)]
     pub fn move_back(&mut self, key: usize, list: usize) -> Option<usize>
         requires used { IsSome (node_at key self.old.lists) }
         requires list { list < length self.old.lists }
