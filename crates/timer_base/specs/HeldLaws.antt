@@ -113,10 +113,6 @@ start_when_now place t w h = elim (either (nat_lt w.now t.deadline)) [
 pub held_start-last_serial : (place : ℕ) (t : Timer) (w : WheelState) → (after_held_start place t w).last_serial ≡ t.serial
 held_start-last_serial place t w = elim (either (nat_lt w.now t.deadline)) [ inl k ↦ rw k refl | inr k ↦ rw k refl ]
 
--- and the clock stays
-pub held_start-now : (place : ℕ) (t : Timer) (w : WheelState) → (after_held_start place t w).now ≡ w.now
-held_start-now place t w = elim (either (nat_lt w.now t.deadline)) [ inl k ↦ rw k refl | inr k ↦ rw k refl ]
-
 -- room changes nothing of a start
 pub with_room-held_start : (room place : ℕ) (t : Timer) (w : WheelState)
     → with_room room (after_held_start place t w) ≡ after_held_start place t (with_room room w)
