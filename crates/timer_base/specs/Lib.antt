@@ -7,4 +7,4 @@ pub mod PlainState
 pub mod WheelState
 pub mod TickLaws
 pub mod WakeUps
-pub mod Names
+pub mod HeldLaws

@@ -47,6 +47,15 @@ abbrev pub without_found : Option Timer → List Entry → List Entry
 without_found None entries = entries
 without_found (Some t) entries = without_serial t.serial entries
 
+-- the entries except that of this handle
+abbrev pub without_handle : Handle → List Entry → List Entry
+without_handle handle entries = filter (λ entry. not (has_handle handle entry)) entries
+
+-- the first of two timers, or the second if there is no first
+abbrev pub first_found : Option Timer → Option Timer → Option Timer
+first_found None second = second
+first_found (Some t) second = Some t
+
 -- the entries that are due at this tick
 abbrev pub entries_due : ℕ → List Entry → List Entry
 entries_due tick entries = filter (λ entry. is_due_at tick entry.timer) entries

@@ -1,11 +1,11 @@
 -- The abstract state of a wheel, and the state after each call.
-use Rattle.std.specs.Prelude.{◌≡◌, ℕ, ◌+◌, ◌<◌, ◌≤◌, zero, suc, max, List, [], ◌∷◌, ◌++◌, Option, Some, None, drop, slice_get, length}
+use Rattle.std.specs.Prelude.{◌≡◌, ℕ, ◌+◌, ◌<◌, ◌≤◌, zero, suc, max, nat_lt, if◌then◌else◌, List, [], ◌∷◌, ◌++◌, Option, Some, None, drop, slice_get, length}
 use Rattle.std.specs.List.{AllByRecursion}
 use Rattle.timer_base.specs.declared.timer.Timer.{Timer}
 use Rattle.timer_base.specs.declared.timer.Handle.{Handle}
 use Rattle.timer_base.specs.declared.limits.TheConstants.{LAST}
 use Rattle.timer_base.specs.Order.{IsOrdered, AreDistinct, AreRising}
-use Rattle.timer_base.specs.Pending.{Entry, timers_of, put, has_handle, first_timer, without_found, entries_due, entries_left}
+use Rattle.timer_base.specs.Pending.{Entry, timers_of, put, has_handle, first_timer, first_found, without_found, without_handle, entries_due, entries_left}
 
 pub record WheelState : Type 0 where
   -- how many slots it has in all, 0 if it has none; no call changes it
@@ -47,20 +47,66 @@ after_reserve most w = with_room (max w.room most) w
 abbrev pub held_count : WheelState → ℕ
 held_count w = length w.pending + length w.due
 
--- a timer is started at a place
+-- the pending timer with exactly this handle
+abbrev pub timer_at : Handle → WheelState → Option Timer
+timer_at handle w = first_timer (has_handle handle) w.pending
+
+-- the due timer with exactly this handle
+abbrev pub due_at : Handle → WheelState → Option Timer
+due_at handle w = first_timer (has_handle handle) w.due
+
+-- the timer that is held under exactly this handle, pending or due
+abbrev pub held_at : Handle → WheelState → Option Timer
+held_at handle w = first_found (timer_at handle w) (due_at handle w)
+
+-- the handle does not name a due timer beside a pending one
+abbrev pub NamesOne : Handle → WheelState → Type 0
+NamesOne handle w = (t : Timer) → timer_at handle w ≡ Some t → due_at handle w ≡ None
+
+-- a timer is started at a place, for a deadline after now
 abbrev pub after_start : ℕ → Timer → WheelState → WheelState
 after_start place timer w = record w {
   pending = put (record { place = place; timer = timer }) w.pending;
   last_serial = timer.serial;
 }
 
--- the pending timer with exactly this handle
-abbrev pub timer_at : Handle → WheelState → Option Timer
-timer_at handle w = first_timer (has_handle handle) w.pending
+-- a timer is started at a place, for now: it goes to the back of what is due
+abbrev pub after_due_start : ℕ → Timer → WheelState → WheelState
+after_due_start place timer w = record w {
+  due = w.due ++ (record { place = place; timer = timer }) ∷ [];
+  last_serial = timer.serial;
+}
 
--- the timer with this handle is removed, if there is one
+-- a timer is started at a place: it is pending if its deadline is after now, and due if it is now
+abbrev pub after_held_start : ℕ → Timer → WheelState → WheelState
+after_held_start place timer w = if nat_lt w.now timer.deadline then after_start place timer w
+    else after_due_start place timer w
+
+-- the pending timer with this handle is removed, if there is one
 abbrev pub after_stop : Handle → WheelState → WheelState
 after_stop handle w = record w { pending = without_found (timer_at handle w) w.pending }
+
+-- the timer that is held under this handle is removed, if there is one
+abbrev pub after_removal : Handle → WheelState → WheelState
+after_removal handle w = record w {
+  pending = without_handle handle w.pending;
+  due = without_handle handle w.due;
+}
+
+-- the old timer, if a restart found one
+abbrev pub old_timer : Option (Handle × Timer) → Option Timer
+old_timer None = None
+old_timer (Some r) = Some r.1
+
+-- a restart of a pending timer, for a deadline after now: a stop, and a start at the place that it returns
+abbrev pub after_restart : Option (Handle × Timer) → Handle → Timer → WheelState → WheelState
+after_restart None handle timer w = w
+after_restart (Some r) handle timer w = after_start r.0.place timer (after_stop handle w)
+
+-- a restart that found its timer removes it, and starts the new one at the place that it returns
+abbrev pub after_replacement : Option (Handle × Timer) → Handle → Timer → WheelState → WheelState
+after_replacement None handle timer w = w
+after_replacement (Some r) handle timer w = after_held_start r.0.place timer (after_removal handle w)
 
 -- the next tick: the timers with that deadline become due, and are no longer pending
 abbrev pub after_tick : WheelState → WheelState
@@ -90,42 +136,6 @@ first_due w = slice_get (timers_of w.due) 0
 -- the first due timer is removed, if there is one
 abbrev pub after_expiry : WheelState → WheelState
 after_expiry w = record w { due = drop 1 w.due }
-
--- the due timer with exactly this handle
-abbrev pub due_at : Handle → WheelState → Option Timer
-due_at handle w = first_timer (has_handle handle) w.due
-
--- the due timer with this handle is removed, if there is one
-abbrev pub after_withdrawal : Handle → WheelState → WheelState
-after_withdrawal handle w = record w { due = without_found (due_at handle w) w.due }
-
--- the old timer, if a restart found one
-abbrev pub old_timer : Option (Handle × Timer) → Option Timer
-old_timer None = None
-old_timer (Some r) = Some r.1
-
--- a restart that found its timer removes it, and starts the new one at the place that it returns
-abbrev pub after_restart : Option (Handle × Timer) → Handle → Timer → WheelState → WheelState
-after_restart None handle timer w = w
-after_restart (Some r) handle timer w = after_start r.0.place timer (after_stop handle w)
-
--- a revival that found its timer removes it, and starts the new one at the place that it returns
-abbrev pub after_revival : Option (Handle × Timer) → Handle → Timer → WheelState → WheelState
-after_revival None handle timer w = w
-after_revival (Some r) handle timer w = after_start r.0.place timer (after_withdrawal handle w)
-
--- the entry of a timer that was made due at this tick, if one was found
-abbrev pub entry_made_due : Handle → ℕ → Option Timer → List Entry
-entry_made_due handle now None = []
-entry_made_due handle now (Some t) =
-    (record { place = handle.place; timer = record t { deadline = now } }) ∷ []
-
--- the pending timer with this handle goes to the back of what is due, with the present tick as its deadline
-abbrev pub after_made_due : Handle → WheelState → WheelState
-after_made_due handle w = record w {
-  pending = without_found (timer_at handle w) w.pending;
-  due = w.due ++ entry_made_due handle w.now (timer_at handle w);
-}
 
 -- nothing is pending
 abbrev pub after_clear : WheelState → WheelState

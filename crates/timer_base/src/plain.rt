@@ -21,7 +21,7 @@ ghost use Rattle.timer_base.specs.declared.limits.TheConstants.{LAST};
 ghost use Rattle.timer_base.specs.Order.{AreRising};
 ghost use Rattle.timer_base.specs.OrderLaws.{AreRising-prop};
 ghost use Rattle.timer_base.specs.Pending.{has_serial, is_due_at};
-ghost use Rattle.timer_base.specs.PlainState.{IsKept, IsKept-prop, AreDueAfter, IsJump, is_after, is_pending_with, is_due_with, due_count, earliest, first_after, plain_state, plain_state-well_formed};
+ghost use Rattle.timer_base.specs.PlainState.{IsKept, IsKept-prop, AreDueAfter, IsJump, is_after, due_count, earliest, first_after, plain_state, plain_state-well_formed};
 ghost use Rattle.timer_base.specs.WakeUps.{IsQuietUntil, next_deadline};
 ghost use Rattle.timer_base.specs.WheelState.{empty_wheel, with_room, with_room-well_formed};
 
@@ -134,6 +134,7 @@ impl Wheel for PlainWheel {
         let Ok(()) = self.timers.push(timer) else {
             return Err(OutOfMemory);
         };
+        self.due += usize::from(timer.deadline == self.now);
         self.last_serial = timer.serial;
         Ok(Handle {
             place: 0,
@@ -151,12 +152,13 @@ impl Wheel for PlainWheel {
         if handle.place != 0 {
             return None;
         }
-        find_pending(self.timers.as_slice(), handle.serial, self.now)
+        find_serial(self.timers.as_slice(), handle.serial)
     }
 
     fn stop(&mut self, handle: Handle) -> Option<Timer> {
         let stopped = self.look(handle)?;
         drop_serial(&mut self.timers, stopped.serial);
+        self.due = count_due(self.timers.as_slice(), self.now);
         Some(stopped)
     }
 
@@ -165,26 +167,13 @@ impl Wheel for PlainWheel {
         drop_serial(&mut self.timers, old.serial);
         // The removed timer left room for it.
         self.timers.push_reserved(timer);
+        self.due = count_due(self.timers.as_slice(), self.now);
         self.last_serial = timer.serial;
         let handle = Handle {
             place: 0,
             serial: timer.serial,
         };
         Some((handle, old))
-    }
-
-    fn make_due(&mut self, handle: Handle) -> Option<Timer> {
-        let timer = self.look(handle)?;
-        drop_serial(&mut self.timers, timer.serial);
-        push_in_room(
-            &mut self.timers,
-            Timer {
-                deadline: self.now,
-                ..timer
-            },
-        );
-        self.due = count_due(self.timers.as_slice(), self.now);
-        Some(timer)
     }
 
     fn per_tick(&mut self) {
@@ -221,38 +210,6 @@ impl Wheel for PlainWheel {
         drop_serial(&mut self.timers, first.serial);
         self.due -= 1;
         Some(first)
-    }
-
-    fn look_due(&self, handle: Handle) -> Option<Timer> {
-        if handle.place > 0 {
-            return None;
-        }
-        find_due_with(self.timers.as_slice(), handle.serial, self.now)
-    }
-
-    fn withdraw(&mut self, handle: Handle) -> Option<Timer> {
-        let withdrawn = self.look_due(handle)?;
-        drop_serial(&mut self.timers, withdrawn.serial);
-        self.due = count_due(self.timers.as_slice(), self.now);
-        Some(withdrawn)
-    }
-
-    fn revive(&mut self, handle: Handle, timer: Timer) -> Option<(Handle, Timer)> {
-        let old = self.look_due(handle)?;
-        drop_serial(&mut self.timers, old.serial);
-        push_in_room(&mut self.timers, timer);
-        self.due = count_due(self.timers.as_slice(), self.now);
-        self.last_serial = timer.serial;
-        let handle = Handle {
-            place: 0,
-            serial: timer.serial,
-        };
-        Some((handle, old))
-    }
-
-    fn lemma_names_one(&self, _handle: Handle) {
-        // Read, so that the prover knows the invariant here.
-        let _timers = &self.timers;
     }
 
     fn list(&self) -> Result<Vec<Timer>, OutOfMemory> {
@@ -304,24 +261,11 @@ fn earlier(first: Option<u64>, deadline: u64) -> u64
     }
 }
 
-/// The first of the timers with the serial that is due after the tick.
-fn find_pending(timers: &[Timer], serial: u64, tick: u64) -> Option<Timer>
-    ensures { result ≡ find (is_pending_with tick serial) timers.now }
+/// The first of the timers with the serial.
+fn find_serial(timers: &[Timer], serial: u64) -> Option<Timer>
+    ensures { result ≡ find (has_serial serial) timers.now }
 {
-    timers
-        .iter()
-        .copied()
-        .find(|t| t.serial == serial && t.deadline > tick)
-}
-
-/// The first of the timers with the serial that is due at the tick.
-fn find_due_with(timers: &[Timer], serial: u64, tick: u64) -> Option<Timer>
-    ensures { result ≡ find (is_due_with tick serial) timers.now }
-{
-    timers
-        .iter()
-        .copied()
-        .find(|t| t.serial == serial && t.deadline == tick)
+    timers.iter().copied().find(|t| t.serial == serial)
 }
 
 /// Removes the timer with the serial, and keeps the order of the others.
@@ -332,15 +276,6 @@ fn drop_serial(timers: &mut Vec<Timer>, serial: u64)
     ensures capacity { vec_capacity timers.new ≡ vec_capacity timers.old }
 {
     timers.retain(|t| t.serial != serial);
-}
-
-/// Pushes a timer, for which a removed one left room.
-fn push_in_room(timers: &mut Vec<Timer>, timer: Timer)
-    requires { vec_len timers.old < vec_capacity timers.old }
-    ensures items { timers.new.items ≡ timers.old.items ++ timer ∷ [] }
-    ensures capacity { vec_capacity timers.new ≡ vec_capacity timers.old }
-{
-    timers.push_reserved(timer);
 }
 
 /// Keeps the timers that are due after the tick, in their order.

@@ -8,21 +8,19 @@
 //!     pending       the timers that wait for their deadline, by deadline and then serial, each with its
 //!                   place
 //!     due           the timers whose deadline is now, by serial, each with its place, until they are taken,
-//!                   withdrawn or revived
+//!                   stopped or restarted
 //!     last_serial   the serial of the last start, 0 if there was none
 //!     room          for how many timers at one time, pending and due, room was made
 //!
-//! Each call that changes a wheel is one equation on this record. The four routines of G. Varghese
-//! and T. Lauck, "Hashed and Hierarchical Timing Wheels" (SOSP 1987), are `start` (START_TIMER),
-//! `stop` (STOP_TIMER), `per_tick` (PER_TICK_BOOKKEEPING) and `expire` (the timers that their
-//! EXPIRY_PROCESSING is for).
+//! A timer that is pending or due is held, and is found under its handle. Each call that changes a wheel is one
+//! equation on this record. The four routines of G. Varghese and T. Lauck, "Hashed and Hierarchical Timing
+//! Wheels" (SOSP 1987), are `start` (START_TIMER), `stop` (STOP_TIMER), `per_tick` (PER_TICK_BOOKKEEPING) and
+//! `expire` (the timers that their EXPIRY_PROCESSING is for).
 ghost use Rattle.std.specs.Prelude.{◌≡◌, ◌<◌, ◌≤◌, ◌-◌, ◌↔◌, ℕ, List, [], Option, length, IsTrue, IfOk, OnOk, OnErr, MatchOption};
 ghost use Rattle.timer_base.specs.declared.limits.TheConstants.{LAST};
-ghost use Rattle.timer_base.specs.Names.{NamesOne};
-ghost use Rattle.timer_base.specs.Order.{AreBelow};
 ghost use Rattle.timer_base.specs.Pending.{Entry, timers_of};
 ghost use Rattle.timer_base.specs.WakeUps.{IsQuietUntil, next_deadline};
-ghost use Rattle.timer_base.specs.WheelState.{WheelState, IsWellFormed, timer_at, first_due, after_start, after_reserve, held_count, after_stop, after_tick, after_expiry, after_clear, after_restart, old_timer, after_made_due, due_at, after_withdrawal, after_revival, Advances};
+ghost use Rattle.timer_base.specs.WheelState.{WheelState, IsWellFormed, NamesOne, held_at, held_count, old_timer, first_due, after_reserve, after_held_start, after_removal, after_replacement, after_tick, after_expiry, after_clear, Advances};
 
 use crate::fault::OutOfMemory;
 use crate::timer::{Handle, Timer};
@@ -59,21 +57,21 @@ pub trait Wheel {
     fn last_serial(&self) -> u64
         ensures { result ≡ (state self.now).last_serial };
 
-    /// Starts a timer (START_TIMER), and returns its handle.
+    /// Starts a timer (START_TIMER), and returns its handle. Its deadline is now or later: if it is now, the
+    /// timer is due at once, after those that are due already.
     ///
     /// The only error is out of memory, and then nothing changes. A wheel with a limited number of places
-    /// returns it at its limit too, though no allocation failed. While fewer timers are held, pending and
-    /// due, than `reserve` made room for, there is no error. The place is a free choice of the wheel.
-    /// Due timers may be waiting, here and in `look`, `stop`, `restart`, `make_due`, `withdraw`, `revive`,
-    /// `list` and `clear`.
+    /// returns it at its limit too, though no allocation failed. While fewer timers are held than `reserve`
+    /// made room for, there is no error. The place is a free choice of the wheel. Due timers may be waiting,
+    /// here and in `look`, `stop`, `restart`, `list` and `clear`.
     fn start(&mut self, timer: Timer) -> Result<Handle, OutOfMemory>
-        requires later { (state self.old).now < timer.deadline }
+        requires not_past { (state self.old).now ≤ timer.deadline }
         requires deadline { timer.deadline ≤ (state self.old).last_tick }
         requires fresh { (state self.old).last_serial < timer.serial }
         requires serial { timer.serial ≤ LAST }
         ensures named { IfOk result (λ handle. handle.serial ≡ timer.serial) }
         ensures started { IfOk result (λ handle. state self.new
-            ≡ after_start handle.place timer (state self.old)) }
+            ≡ after_held_start handle.place timer (state self.old)) }
         ensures full { OnErr result ((state self.old).room ≤ held_count (state self.old)) }
         ensures err { OnErr result (state self.new ≡ state self.old) };
 
@@ -91,40 +89,33 @@ pub trait Wheel {
         Err(OutOfMemory)
     }
 
-    /// Returns the pending timer with exactly this handle, place and serial, or None if there is none: a
-    /// timer that is due is no longer pending. Does not allocate.
+    /// Returns the timer with exactly this handle, place and serial, pending or due, or None if there is none.
+    /// A timer that becomes due keeps its handle until it is taken. Does not allocate.
+    ///
+    /// No handle names a pending timer and a due one.
     fn look(&self, handle: Handle) -> Option<Timer>
-        ensures { result ≡ timer_at handle (state self.now) };
+        ensures timer { result ≡ held_at handle (state self.now) }
+        ensures one { NamesOne handle (state self.now) };
 
-    /// Removes the pending timer with exactly this handle (STOP_TIMER), and returns it.
+    /// Removes the timer with exactly this handle (STOP_TIMER), pending or due, and returns it.
     ///
     /// If there is none, nothing changes. Does not allocate.
     fn stop(&mut self, handle: Handle) -> Option<Timer>
-        ensures timer { result ≡ timer_at handle (state self.old) }
-        ensures stopped { state self.new ≡ after_stop handle (state self.old) };
+        ensures timer { result ≡ held_at handle (state self.old) }
+        ensures stopped { state self.new ≡ after_removal handle (state self.old) };
 
-    /// Removes the pending timer with exactly this handle and starts another in its place (RESTART), and
-    /// returns the new handle and the old timer.
+    /// Removes the timer with exactly this handle, pending or due, starts another in its place (RESTART), and
+    /// returns the new handle and the old timer. The new deadline is now or later, as that of a start.
     ///
     /// If there is none, nothing changes. Does not allocate. The place is a free choice of the wheel.
     fn restart(&mut self, handle: Handle, timer: Timer) -> Option<(Handle, Timer)>
-        requires later { (state self.old).now < timer.deadline }
+        requires not_past { (state self.old).now ≤ timer.deadline }
         requires deadline { timer.deadline ≤ (state self.old).last_tick }
         requires fresh { (state self.old).last_serial < timer.serial }
         requires serial { timer.serial ≤ LAST }
-        ensures old { old_timer result ≡ timer_at handle (state self.old) }
+        ensures old { old_timer result ≡ held_at handle (state self.old) }
         ensures named { MatchOption result (Unit {0}) (λ r. r.0.serial ≡ timer.serial) }
-        ensures restarted { state self.new ≡ after_restart result handle timer (state self.old) };
-
-    /// Makes the newest timer due now, if it is pending with exactly this handle, and returns it as it was.
-    /// It goes to the back of the due timers, with the present tick as its deadline, and keeps its handle.
-    ///
-    /// If there is none, nothing changes. Does not allocate.
-    fn make_due(&mut self, handle: Handle) -> Option<Timer>
-        requires last { handle.serial ≡ (state self.old).last_serial }
-        requires newest { AreBelow handle.serial (timers_of (state self.old).due) }
-        ensures timer { result ≡ timer_at handle (state self.old) }
-        ensures made_due { state self.new ≡ after_made_due handle (state self.old) };
+        ensures restarted { state self.new ≡ after_replacement result handle timer (state self.old) };
 
     /// Advances the clock by one tick (PER_TICK_BOOKKEEPING): the pending timers with that deadline
     /// become due, by serial. Does not allocate.
@@ -185,35 +176,6 @@ pub trait Wheel {
     fn expire(&mut self) -> Option<Timer>
         ensures first { result ≡ first_due (state self.old) }
         ensures rest { state self.new ≡ after_expiry (state self.old) };
-
-    /// Returns the due timer with exactly this handle, place and serial, or None if there is none. A timer
-    /// that becomes due keeps its handle until it is taken. Does not allocate.
-    fn look_due(&self, handle: Handle) -> Option<Timer>
-        ensures { result ≡ due_at handle (state self.now) };
-
-    /// Removes the due timer with exactly this handle, and returns it: what `stop` is for a pending timer.
-    ///
-    /// If there is none, nothing changes. Does not allocate.
-    fn withdraw(&mut self, handle: Handle) -> Option<Timer>
-        ensures timer { result ≡ due_at handle (state self.old) }
-        ensures withdrawn { state self.new ≡ after_withdrawal handle (state self.old) };
-
-    /// Removes the due timer with exactly this handle and starts another in its place, and returns the new
-    /// handle and the old timer: what `restart` is for a pending timer.
-    ///
-    /// If there is none, nothing changes. Does not allocate. The place is a free choice of the wheel.
-    fn revive(&mut self, handle: Handle, timer: Timer) -> Option<(Handle, Timer)>
-        requires later { (state self.old).now < timer.deadline }
-        requires deadline { timer.deadline ≤ (state self.old).last_tick }
-        requires fresh { (state self.old).last_serial < timer.serial }
-        requires serial { timer.serial ≤ LAST }
-        ensures old { old_timer result ≡ due_at handle (state self.old) }
-        ensures named { MatchOption result (Unit {0}) (λ r. r.0.serial ≡ timer.serial) }
-        ensures revived { state self.new ≡ after_revival result handle timer (state self.old) };
-
-    /// Does nothing at run time. Its contract is a lemma: no handle names a pending timer and a due one.
-    fn lemma_names_one(&self, handle: Handle)
-        ensures { NamesOne handle (state self.now) };
 
     /// The pending timers, by deadline and then serial. The only error is out of memory.
     fn list(&self) -> Result<Vec<Timer>, OutOfMemory>
