@@ -284,11 +284,16 @@ complete_means s t e n h = grind (arith, nat_tests)
 short_means : (s t e n : ℕ) → s ≤ n → t ≤ n → e ≤ n → (s == n) && ((t == n) && (e == n)) ≡ false → (s < n) ⊎ ((t < n) ⊎ (e < n))
 short_means s t e n a b d h = grind (arith, nat_tests)
 
-pub HasWorked-finished : (start : ClientEnd) (c : Client) (w : Worked) → IsSound c → IsAtWork start c
+neither : (a b : Bool) → a ≡ false → b ≡ false → a || b ≡ false
+neither true b h k = h
+neither false b h k = k
+
+pub HasWorked-finished : (start : ClientEnd) (limit : ℕ) (c : Client) (w : Worked) → IsSound c → IsAtWork start c
     → IfSome w.ended (λ e. all_submitted e ≡ submitted c.end) → read_by w.reader ≡ received_by_end c.end
     → w.sent ≡ c.sent → w.started ≡ c.started → w.expired ≡ c.expired → w.failed ≡ c.failed || not (is_complete c)
-    → HasWorked c.count start w
-HasWorked-finished start c w sound h ended reader sent started expired failed =
+    → (c.failed || is_complete c ≡ false → w.idle ≡ limit)
+    → HasWorked c.count limit start w
+HasWorked-finished start limit c w sound h ended reader sent started expired failed gave_up =
     let submits : submitted c.end ≡ submitted start ++ requests_from (next_of start) w.sent =
     h.sends ∙ ap (λ n. submitted start ++ requests_from n c.sent) h.first
     ∙ ap (λ n. submitted start ++ requests_from (next_of start) n) (sym sent) in
@@ -313,14 +318,15 @@ HasWorked-finished start c w sound h ended reader sent started expired failed =
           (sent ∙ all.0, started ∙ all.1, expired ∙ all.2);
       failed = λ bad. elim (either c.failed) [
         | inl k ↦ inl (subst (λ n. IsStopped n c.count h.words) h.first (subst (λ b. AreChecked b c.first c.count h.words) k h.checked))
-        | inr k ↦ inr (
-          passed k,
-          subst (λ n. (n < c.count) ⊎ ((w.started < c.count) ⊎ (w.expired < c.count))) (sym sent)
-              (subst (λ n. (c.sent < c.count) ⊎ ((n < c.count) ⊎ (w.expired < c.count))) (sym started)
-              (subst (λ n. (c.sent < c.count) ⊎ ((c.started < c.count) ⊎ (n < c.count))) (sym expired)
-              (short_means c.sent c.started c.expired c.count sound.sent (sound.started k) (sound.expired k)
-              (not_true (is_complete c) (or_else c.failed (not (is_complete c)) k (sym failed ∙ bad)))))),
-        )
+        | inr k ↦
+            let short : is_complete c ≡ false = not_true (is_complete c) (or_else c.failed (not (is_complete c)) k (sym failed ∙ bad)) in inr (
+              passed k,
+              subst (λ n. (n < c.count) ⊎ ((w.started < c.count) ⊎ (w.expired < c.count))) (sym sent)
+                  (subst (λ n. (c.sent < c.count) ⊎ ((n < c.count) ⊎ (w.expired < c.count))) (sym started)
+                  (subst (λ n. (c.sent < c.count) ⊎ ((c.started < c.count) ⊎ (n < c.count))) (sym expired)
+                  (short_means c.sent c.started c.expired c.count sound.sent (sound.started k) (sound.expired k) short))),
+              gave_up (neither c.failed (is_complete c) k short),
+            )
       ];
     }
 

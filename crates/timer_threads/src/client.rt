@@ -2,7 +2,7 @@
 //!
 //! Request j, from 1 on, is a start with interval `1 + (j mod 97)` and action j. Answers have to come
 //! by number and be `Started`; timers have to expire by deadline, then serial.
-ghost use Rattle.std.specs.Prelude.{◌≡◌, ◌+◌, ◌<◌, ◌≤◌, ◌==◌, not, false, true, length};
+ghost use Rattle.std.specs.Prelude.{◌≡◌, ◌+◌, ◌<◌, ◌≤◌, ◌==◌, ◌||◌, ℕ, not, false, true, length};
 ghost use Rattle.std.specs.List.{last_or};
 ghost use Rattle.timer_base.specs.declared.limits.TheConstants.{LAST};
 ghost use Rattle.timer_desk.specs.Ring.{line_of_end};
@@ -56,7 +56,7 @@ impl Client {
 
     /// Whether a check failed, or all was sent and received.
     pub fn is_over(&self) -> bool
-        ensures { result ≡ false → self.now.failed ≡ false }
+        ensures { result ≡ self.now.failed || is_complete self.now }
     {
         self.failed || self.is_complete()
     }
@@ -179,11 +179,12 @@ impl Client {
         }
     }
 
-    /// Ends the work.
-    pub fn finish(self) -> Worked
+    /// Ends the work, after so many turns in a row in which it neither sent nor received.
+    pub fn finish(self, idle: u64) -> Worked
         requires { IsSound self }
         ensures line { (start : ClientEnd) → IsAtWork start self → IsOfLine (line_of_end start) result }
-        ensures worked { (start : ClientEnd) → IsAtWork start self → HasWorked self.count start result }
+        ensures worked { (start : ClientEnd) (limit : ℕ) → IsAtWork start self
+            → (self.failed || is_complete self ≡ false → idle ≡ limit) → HasWorked self.count limit start result }
     {
         let failed = self.failed || !self.is_complete();
         let Client {
@@ -201,6 +202,7 @@ impl Client {
             started,
             expired,
             failed,
+            idle,
         }
     }
 }

@@ -1,4 +1,4 @@
-use Rattle.std.proofs.Common.{◌≡◌, ◌+◌, ◌-◌, ◌*◌}
+use Rattle.std.proofs.Common.{◌≡◌, ◌≤◌, ◌+◌, ◌-◌, ◌*◌}
 use Rattle.timer_threads.specs.Client.{IsSound, IsAtWork, left_of}
 use Rattle.timer_threads.proofs.work.client_work.Given as goal
 
@@ -8,6 +8,7 @@ invariant-loop-idle g l = record {
   sound : IsSound l.client;
   at_work : IsAtWork l.fn.end l.client;
   count : l.client.count ≡ l.fn.count;
+  within : l.idle ≤ l.limit;
 }
 
 -- a turn that sends or receives leaves less to do, and any other brings the limit nearer
