@@ -18,7 +18,7 @@ use Rattle.timer_desk.specs.Ring.{line_of_end, next_of, submitted, received_by_e
 use Rattle.timer_facility.specs.declared.request.Request.TheVariants.{Start}
 use Rattle.timer_threads.specs.declared.client.Client.{Client}
 use Rattle.timer_threads.specs.declared.outcome.Worked.{Worked}
-use Rattle.timer_threads.specs.Work.{HasWorked, request_of, requests_from, started_in, expired_in, started_by, expired_by, follows, AreAscending, ArePassed, IsStopped}
+use Rattle.timer_threads.specs.Work.{HasWorked, request_of, requests_from, started_in, expired_in, started_by, expired_by, follows, AreAscending, ArePassed, IsStopped, AreLetGo}
 use Rattle.timer_threads.specs.Client.{is_next_start, passes, AreChecked, IsAtWork, IsSound, is_complete}
 
 -- The requests.
@@ -254,6 +254,34 @@ IsAtWork-sent start old new number line received is next sent first count counte
       checked = subst (λ b. AreChecked b new.first new.count h.words) (sym failed)
           (subst (λ n. AreChecked old.failed n new.count h.words) (sym first)
           (subst (λ n. AreChecked old.failed old.first n h.words) (sym count) h.checked));
+    }
+
+-- What the gate let go.
+
+asked_at : (first sent j : ℕ) → j < sent + 1 → (j < sent) ⊎ (j ≡ sent)
+asked_at first sent j h = grind (arith)
+
+-- one more request was let go
+pub AreLetGo-sent : (lets_go : ℕ → ℕ → Type 0) (first sent expired number : ℕ) → number ≡ first + sent → lets_go number expired
+    → AreLetGo lets_go first sent expired → AreLetGo lets_go first (sent + 1) expired
+AreLetGo-sent lets_go first sent expired number is h was j l = elim (asked_at first sent j l) [
+  | inl low ↦ was j low
+  | inr at ↦ record {
+    expired = expired;
+    few = omega arith;
+    let_go = subst (λ n. lets_go n expired) (is ∙ ap (λ k. first + k) (sym at)) h;
+  }
+]
+
+-- more timers have expired
+pub AreLetGo-read : (lets_go : ℕ → ℕ → Type 0) (first first' sent sent' expired expired' : ℕ) → first' ≡ first → sent' ≡ sent
+    → expired ≤ expired' → AreLetGo lets_go first sent expired → AreLetGo lets_go first' sent' expired'
+AreLetGo-read lets_go first first' sent sent' expired expired' f s e was j l =
+    let one = was j (omega (arith, s, l)) in
+    let few = one.few in record {
+      expired = one.expired;
+      few = omega (arith, few, e);
+      let_go = subst (λ n. lets_go (n + j) one.expired) (sym f) one.let_go;
     }
 
 -- The end of the work.

@@ -25,6 +25,16 @@ request_of first j = numbered (first + (j - 1)) (Start (1 + j % 97) j)
 abbrev pub requests_from : ℕ → ℕ → List Numbered
 requests_from first sent = map (request_of first) (range_with_len 1 sent)
 
+-- the request with this number was let go, when at most so many timers had expired
+pub record IsLetGo (lets_go : ℕ → ℕ → Type 0) (number most : ℕ) : Type 0 where
+  pub expired : ℕ
+  pub few : expired ≤ most
+  pub let_go : lets_go number expired
+
+-- so was each of the first `sent` requests
+abbrev pub AreLetGo : (ℕ → ℕ → Type 0) → ℕ → ℕ → ℕ → Type 0
+AreLetGo lets_go first sent most = (j : ℕ) → j < sent → IsLetGo lets_go (first + j) most
+
 -- What is received.
 
 abbrev pub started_in_answer : ℕ → Answer → List ℕ

@@ -32,7 +32,7 @@ pub struct Client {
 }
 
 impl Client {
-    ghost use Rattle.timer_threads.specs.Client.{is_complete, passes, IsSound, IsAtWork, left_of, IsLess};
+    ghost use Rattle.timer_threads.specs.Client.{is_complete, passes, IsSound, IsAtWork, HasAsked, left_of, IsLess};
 
     /// A client that has sent and received nothing yet, of `count` requests.
     pub fn new(end: ClientEnd, count: u64) -> Client
@@ -40,6 +40,7 @@ impl Client {
         ensures count { result.count ≡ count }
         ensures sound { IsSound result }
         ensures at_work { IsAtWork end result }
+        ensures sent { result.sent ≡ 0 }
     {
         let first = end.next_number();
         Client {
@@ -75,6 +76,8 @@ impl Client {
         requires good { self.old.failed ≡ false }
         ensures sound { IsSound self.new }
         ensures at_work { (start : ClientEnd) → IsAtWork start self.old → IsAtWork start self.new }
+        ensures asked { (start : ClientEnd) → IsAtWork start self.old → HasAsked G.lets_go self.old
+            → HasAsked G.lets_go self.new }
         ensures count { self.new.count ≡ self.old.count }
         ensures left { IsLess result (left_of self.old) (left_of self.new) }
     {
@@ -90,6 +93,8 @@ impl Client {
         ensures sound { IsSound self.new }
         ensures good { self.new.failed ≡ false }
         ensures at_work { (start : ClientEnd) → IsAtWork start self.old → IsAtWork start self.new }
+        ensures asked { (start : ClientEnd) → IsAtWork start self.old → HasAsked G.lets_go self.old
+            → HasAsked G.lets_go self.new }
         ensures count { self.new.count ≡ self.old.count }
         ensures left { IsLess result (left_of self.old) (left_of self.new) }
     {
@@ -120,6 +125,8 @@ impl Client {
         ensures sound { IsSound self.new }
         ensures at_work { (start : ClientEnd) → IsAtWork start self.old → IsAtWork start self.new }
         ensures count { self.new.count ≡ self.old.count }
+        ensures asked { (self.new.first ≡ self.old.first) × (self.new.sent ≡ self.old.sent)
+            × (self.old.expired ≤ self.new.expired) }
         ensures left { IsLess result (left_of self.old) (left_of self.new) }
     {
         let Some(word) = self.end.receive() else {
@@ -185,6 +192,7 @@ impl Client {
         ensures line { (start : ClientEnd) → IsAtWork start self → IsOfLine (line_of_end start) result }
         ensures worked { (start : ClientEnd) (limit : ℕ) → IsAtWork start self
             → (self.failed || is_complete self ≡ false → idle ≡ limit) → HasWorked self.count limit start result }
+        ensures counts { (result.sent ≡ self.sent) × (result.expired ≡ self.expired) }
     {
         let failed = self.failed || !self.is_complete();
         let Client {

@@ -64,6 +64,8 @@ struct UpTo {
 }
 
 impl Gate for UpTo {
+    ghost lets_go = { λ number expired. Unit {0} };
+
     fn may_send(&mut self, number: u64, _expired: u64) -> bool {
         number <= self.number
     }
@@ -189,6 +191,8 @@ struct Writes {
 }
 
 impl Gate for Writes {
+    ghost lets_go = { λ number expired. Unit {0} };
+
     fn may_send(&mut self, number: u64, expired: u64) -> bool {
         let before = self.asks.load(Ordering::SeqCst).wrapping_mul(100);
         let ask = number.wrapping_mul(10).wrapping_add(expired);
@@ -249,6 +253,8 @@ struct Counts {
 }
 
 impl Gate for Counts {
+    ghost lets_go = { λ number expired. Unit {0} };
+
     fn may_send(&mut self, _number: u64, _expired: u64) -> bool {
         let asks = self.asks.load(Ordering::SeqCst).saturating_add(1);
         self.asks.store(asks, Ordering::SeqCst);
