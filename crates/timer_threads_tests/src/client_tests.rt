@@ -278,6 +278,7 @@ fn a_client_gives_up_after_as_many_idle_turns_as_its_limit(rt: HostRuntime) {
         (worked.sent, worked.started, worked.expired),
         (8, 0, 0),
     );
+    same(&rt, worked.idle, 1000);
     same(&rt, asks.load(Ordering::SeqCst), 8 + 1000);
 }
 
