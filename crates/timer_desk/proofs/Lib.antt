@@ -1,5 +1,6 @@
 pub mod DeskLemmas
 pub mod DriverLemmas
+pub mod DriveBounds
 pub mod ReportHeld
 pub mod ReportConcatenation
 pub mod DispatchLemmas

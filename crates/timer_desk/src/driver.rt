@@ -1,8 +1,8 @@
 //! Drives a desk turn by turn until each client has reached a goal.
-ghost use Rattle.std.specs.Prelude.{◌≡◌, ◌≤◌, ◌<◌, ◌↔◌, ℕ, false, All, IfOk, OnErr, length, vec_len};
+ghost use Rattle.std.specs.Prelude.{◌≡◌, ◌≤◌, ◌<◌, ◌↔◌, false, IfOk, length, vec_len};
 ghost use Rattle.timer_base.specs.declared.limits.TheConstants.{LAST};
-ghost use Rattle.timer_desk.specs.Desk.{clients_of};
-ghost use Rattle.timer_desk.specs.Driver.{PassesTicks, IsFit, NoneRanOut, is_out_of_memory, ticks_in, TurnsOnce, Drives, IsTurned};
+ghost use Rattle.timer_desk.specs.Desk.{clients_of, InRange};
+ghost use Rattle.timer_desk.specs.Driver.{NoneRanOut, is_served, steps_with, Drives, IsTurned};
 
 use crate::desk::Desk;
 use crate::inlet::Inlet;
@@ -40,13 +40,13 @@ enum Turned {
 }
 
 /// Runs turns of the desk: a serve of each client that has had fewer than `goal` requests served, a flush
-/// of each client, and a tick. It ends when each client has had `goal` requests served and twice as many
-/// words flushed, when `limit` consecutive turns made no progress, or when allocation failed. A turn
-/// without progress yields the processor to another thread.
+/// of each client, both in the order of the clients, and a tick. It ends as soon as each client has had `goal`
+/// requests served and twice as many words flushed, `limit` consecutive turns made no progress, or allocation
+/// failed. A turn without progress yields the processor to another thread.
 ///
 /// After `Done` each client has reached the goal. After `Limit` the last `limit` turns made no progress and,
 /// if the limit is above 0, some client has not reached the goal. A drive in which a serve ran out of memory
-/// ends as `OutOfMemory`.
+/// ends as `OutOfMemory`, after the turn of that serve. If memory runs out before a turn, the turn is not taken.
 pub fn drive<W: Wheel + Drop, I: Inlet + Drop>(
     alloc: Global,
     desk: Desk<W, I>,
@@ -89,7 +89,7 @@ fn run_turns<W: Wheel + Drop, I: Inlet + Drop>(
 ) -> Driven<W, I>
     requires goal { goal ≤ LAST }
     requires limit { limit ≤ LAST }
-    requires last { PassesTicks last }
+    requires last { InRange 0 last }
     ensures { Drives I.kind last goal limit desk result.desk result.outcome }
 {
     let mut desk = desk;
@@ -139,10 +139,8 @@ fn one_turn<W: Wheel + Drop, I: Inlet + Drop>(
 ) -> Turned
     requires goal { goal ≤ LAST }
     requires clients { vec_len progress.old ≡ clients_of desk.old }
-    requires last { PassesTicks last }
-    ensures turns { TurnsOnce I.kind last goal (is_out_of_memory result) desk.old desk.new
-        progress.old.items progress.new.items }
-    ensures turned { IsTurned goal progress.old.items progress.new.items result }
+    requires last { InRange 0 last }
+    ensures turned { IsTurned I.kind last goal desk.old desk.new progress.old.items progress.new.items result }
     ensures clients { vec_len progress.new ≡ clients_of desk.new }
 {
     desk.lemma_invariant();
@@ -167,9 +165,8 @@ fn steps_of_turn(
     goal: u64,
     last: Step,
 ) -> Result<Vec<Step>, AllocError>
-    requires last { PassesTicks last }
-    ensures fit { IfOk result (λ steps. All (IsFit (length progress.now) last) steps.items) }
-    ensures once { IfOk result (λ steps. ticks_in steps.items ≡ 1) }
+    ensures { IfOk result (λ steps. steps.items
+        ≡ steps_with (is_served goal progress.now) (length progress.now) last) }
 {
     let mut steps = Vec::with_capacity(alloc, 2 * progress.len() + 1)?;
     for (client, reached) in progress.iter().enumerate() {

@@ -26,6 +26,8 @@ struct Chance {
 }
 
 impl Gate for Chance {
+    ghost lets_go = { λ number expired. Unit {0} };
+
     fn may_send(&mut self, _number: u64, _expired: u64) -> bool {
         // A linear congruential generator: its high bits are as good as random here.
         self.state = self

@@ -18,7 +18,7 @@ use Rattle.timer_desk.specs.Ring.{line_of_end, next_of, submitted, received_by_e
 use Rattle.timer_facility.specs.declared.request.Request.TheVariants.{Start}
 use Rattle.timer_threads.specs.declared.client.Client.{Client}
 use Rattle.timer_threads.specs.declared.outcome.Worked.{Worked}
-use Rattle.timer_threads.specs.Work.{HasWorked, request_of, requests_from, started_in, expired_in, started_by, expired_by, follows, AreAscending, ArePassed, IsStopped}
+use Rattle.timer_threads.specs.Work.{HasWorked, request_of, requests_from, started_in, expired_in, started_by, expired_by, follows, AreAscending, ArePassed, IsStopped, AreLetGo}
 use Rattle.timer_threads.specs.Client.{is_next_start, passes, AreChecked, IsAtWork, IsSound, is_complete}
 
 -- The requests.
@@ -256,6 +256,34 @@ IsAtWork-sent start old new number line received is next sent first count counte
           (subst (λ n. AreChecked old.failed old.first n h.words) (sym count) h.checked));
     }
 
+-- What the gate let go.
+
+asked_at : (first sent j : ℕ) → j < sent + 1 → (j < sent) ⊎ (j ≡ sent)
+asked_at first sent j h = grind (arith)
+
+-- one more request was let go
+pub AreLetGo-sent : (lets_go : ℕ → ℕ → Type 0) (first sent expired number : ℕ) → number ≡ first + sent → lets_go number expired
+    → AreLetGo lets_go first sent expired → AreLetGo lets_go first (sent + 1) expired
+AreLetGo-sent lets_go first sent expired number is h was j l = elim (asked_at first sent j l) [
+  | inl low ↦ was j low
+  | inr at ↦ record {
+    expired = expired;
+    few = omega arith;
+    let_go = subst (λ n. lets_go n expired) (is ∙ ap (λ k. first + k) (sym at)) h;
+  }
+]
+
+-- more timers have expired
+pub AreLetGo-read : (lets_go : ℕ → ℕ → Type 0) (first first' sent sent' expired expired' : ℕ) → first' ≡ first → sent' ≡ sent
+    → expired ≤ expired' → AreLetGo lets_go first sent expired → AreLetGo lets_go first' sent' expired'
+AreLetGo-read lets_go first first' sent sent' expired expired' f s e was j l =
+    let one = was j (omega (arith, s, l)) in
+    let few = one.few in record {
+      expired = one.expired;
+      few = omega (arith, few, e);
+      let_go = subst (λ n. lets_go (n + j) one.expired) (sym f) one.let_go;
+    }
+
 -- The end of the work.
 
 pub ended_so : (P Q : RequestsEnded → Type 0) (o : Option RequestsEnded) → ((e : RequestsEnded) → P e → Q e) → IfSome o P → IfSome o Q
@@ -284,11 +312,16 @@ complete_means s t e n h = grind (arith, nat_tests)
 short_means : (s t e n : ℕ) → s ≤ n → t ≤ n → e ≤ n → (s == n) && ((t == n) && (e == n)) ≡ false → (s < n) ⊎ ((t < n) ⊎ (e < n))
 short_means s t e n a b d h = grind (arith, nat_tests)
 
-pub HasWorked-finished : (start : ClientEnd) (c : Client) (w : Worked) → IsSound c → IsAtWork start c
+neither : (a b : Bool) → a ≡ false → b ≡ false → a || b ≡ false
+neither true b h k = h
+neither false b h k = k
+
+pub HasWorked-finished : (start : ClientEnd) (limit : ℕ) (c : Client) (w : Worked) → IsSound c → IsAtWork start c
     → IfSome w.ended (λ e. all_submitted e ≡ submitted c.end) → read_by w.reader ≡ received_by_end c.end
     → w.sent ≡ c.sent → w.started ≡ c.started → w.expired ≡ c.expired → w.failed ≡ c.failed || not (is_complete c)
-    → HasWorked c.count start w
-HasWorked-finished start c w sound h ended reader sent started expired failed =
+    → (c.failed || is_complete c ≡ false → w.idle ≡ limit)
+    → HasWorked c.count limit start w
+HasWorked-finished start limit c w sound h ended reader sent started expired failed gave_up =
     let submits : submitted c.end ≡ submitted start ++ requests_from (next_of start) w.sent =
     h.sends ∙ ap (λ n. submitted start ++ requests_from n c.sent) h.first
     ∙ ap (λ n. submitted start ++ requests_from (next_of start) n) (sym sent) in
@@ -313,14 +346,15 @@ HasWorked-finished start c w sound h ended reader sent started expired failed =
           (sent ∙ all.0, started ∙ all.1, expired ∙ all.2);
       failed = λ bad. elim (either c.failed) [
         | inl k ↦ inl (subst (λ n. IsStopped n c.count h.words) h.first (subst (λ b. AreChecked b c.first c.count h.words) k h.checked))
-        | inr k ↦ inr (
-          passed k,
-          subst (λ n. (n < c.count) ⊎ ((w.started < c.count) ⊎ (w.expired < c.count))) (sym sent)
-              (subst (λ n. (c.sent < c.count) ⊎ ((n < c.count) ⊎ (w.expired < c.count))) (sym started)
-              (subst (λ n. (c.sent < c.count) ⊎ ((c.started < c.count) ⊎ (n < c.count))) (sym expired)
-              (short_means c.sent c.started c.expired c.count sound.sent (sound.started k) (sound.expired k)
-              (not_true (is_complete c) (or_else c.failed (not (is_complete c)) k (sym failed ∙ bad)))))),
-        )
+        | inr k ↦
+            let short : is_complete c ≡ false = not_true (is_complete c) (or_else c.failed (not (is_complete c)) k (sym failed ∙ bad)) in inr (
+              passed k,
+              subst (λ n. (n < c.count) ⊎ ((w.started < c.count) ⊎ (w.expired < c.count))) (sym sent)
+                  (subst (λ n. (c.sent < c.count) ⊎ ((n < c.count) ⊎ (w.expired < c.count))) (sym started)
+                  (subst (λ n. (c.sent < c.count) ⊎ ((c.started < c.count) ⊎ (n < c.count))) (sym expired)
+                  (short_means c.sent c.started c.expired c.count sound.sent (sound.started k) (sound.expired k) short))),
+              gave_up (neither c.failed (is_complete c) k short),
+            )
       ];
     }
 

@@ -1,9 +1,11 @@
 -- Threads that are started one after another, and the lines of their clients.
 use Rattle.std.proofs.Common.{◌≡◌, ◌<◌, ◌+◌, ◌++◌, ℕ, List, [], ◌∷◌, length, get_or, take, refl, sym, ◌∙◌, ap, subst, arith, append_assoc, append-nil, length-append, ◌⊎◌, inl, inr, zero, suc, Bool, true, false, ◌||◌}
-use Rattle.std.specs.Prelude.{is_none, Result, Ok, Err, IfErr}
+use Rattle.std.specs.Prelude.{is_none, Result, Ok, Err, IfOk, IfErr}
 use Rattle.std.proofs.lemmas.List.{get_or_push, get_or_append_left, take_more, length-take-le}
 use Rattle.timer_desk.specs.declared.ring.RingInlet.{RingInlet}
-use Rattle.timer_desk.specs.Ring.{line_of_end, line_of_inlet}
+use Rattle.timer_desk.specs.Driver.{Drives}
+use Rattle.timer_desk.specs.Ring.{line_of_end, line_of_inlet, ring_lines}
+use Rattle.timer_desk.specs.declared.report.Step.TheVariants.{Tick}
 use Rattle.timer_desk.specs.declared.driver.DriveEnd.{DriveEnd}
 use Rattle.timer_desk.specs.Desk.{DeskState}
 use Rattle.timer_threads.specs.declared.child.Child.{Child}
@@ -11,17 +13,18 @@ use Rattle.timer_threads.specs.declared.fault.ThreadsFault.{ThreadsFault}
 use Rattle.timer_threads.specs.declared.fault.ThreadsFault.TheVariants as Faults
 use Rattle.timer_threads.specs.declared.outcome.Worked.{Worked}
 use Rattle.timer_threads.specs.Children.{promise_of, HaveLeft}
-use Rattle.timer_threads.specs.Work.{IsOfLine, IsWhole}
+use Rattle.timer_threads.specs.Work.{IsOfLine, HasWorked, IsWork}
 use Rattle.timer_threads.specs.Results.{NoneFailed}
-use Rattle.timer_threads.specs.Threads.{AreTied, AreOfLines, AllWhole, IsAmong, IsFirstFault, clients_text, client_line, whole_lines}
+use Rattle.timer_threads.specs.Threads.{AreTied, AreOfLines, AllWhole, HasSucceeded, IsRun, IsExplained, IsFirstFault, clients_text, client_line, whole_lines}
 
 before_or_last : (k n : ℕ) → k < n + 1 → (k < n) ⊎ (k ≡ n)
 before_or_last k n h = grind (arith)
 
-pub AreTied-more : (count : ℕ) (inlets : List RingInlet) (children : List Child) (i : RingInlet) (h : Child) → AreTied count inlets children
-    → line_of_inlet i ≡ line_of_end (promise_of h).end.value → (promise_of h).count ≡ count
-    → AreTied count (inlets ++ i ∷ []) (children ++ h ∷ [])
-AreTied-more count inlets children i h was line is_count = record {
+pub AreTied-more : (count limit : ℕ) (inlets : List RingInlet) (children : List Child) (i : RingInlet) (h : Child)
+    → AreTied count limit inlets children
+    → line_of_inlet i ≡ line_of_end (promise_of h).end.value → (promise_of h).count ≡ count → (promise_of h).limit ≡ limit
+    → AreTied count limit (inlets ++ i ∷ []) (children ++ h ∷ [])
+AreTied-more count limit inlets children i h was line is_count is_limit = record {
   as_many = let a = was.as_many in omega (arith, length-append children (h ∷ []), length-append inlets (i ∷ []), a);
   lines = λ k j g l. elim (before_or_last k (length inlets) (let a = length-append inlets (i ∷ []) in omega arith)) [
     | inl low ↦
@@ -39,6 +42,12 @@ AreTied-more count inlets children i h was line is_count = record {
         ap (λ (x : Child). (promise_of x).count) (get_or_append_left children (h ∷ []) g k (let a = was.as_many in omega (arith, a, low)))
         ∙ was.counts k g low
     | inr is ↦ ap (λ (x : Child). (promise_of x).count) (get_or_push children h g k (was.as_many ∙ sym is)) ∙ is_count
+  ];
+  limits = λ k g l. elim (before_or_last k (length inlets) (let a = length-append inlets (i ∷ []) in omega arith)) [
+    | inl low ↦
+        ap (λ (x : Child). (promise_of x).limit) (get_or_append_left children (h ∷ []) g k (let a = was.as_many in omega (arith, a, low)))
+        ∙ was.limits k g low
+    | inr is ↦ ap (λ (x : Child). (promise_of x).limit) (get_or_push children h g k (was.as_many ∙ sym is)) ∙ is_limit
   ];
 }
 
@@ -68,15 +77,15 @@ pub record IsKept (children : List Child) (k : ℕ) (w : Worked) : Type 0 where
   pub child : Child
   pub at : child ≡ get_or children k child
   pub line : IsOfLine (line_of_end (promise_of child).end.value) w
-  pub whole : IsWhole (promise_of child).count w
+  pub worked : HasWorked (promise_of child).count (promise_of child).limit (promise_of child).end.value w
 
 left_at : (children : List Child) (all : List Worked) (k : ℕ) (w : Worked) → HaveLeft children all → k < length children
     → IsKept children k (get_or all k w)
 left_at [] all k w h l = absurd (omega arith)
 left_at (c ∷ cs) [] k w h l = absurd h
-left_at (c ∷ cs) (v ∷ vs) zero w h l = record { child = c; at = refl; line = h.0; whole = h.1 }
+left_at (c ∷ cs) (v ∷ vs) zero w h l = record { child = c; at = refl; line = h.0; worked = h.1 }
 left_at (c ∷ cs) (v ∷ vs) (suc k) w h l =
-    let is = left_at cs vs k w h.2 (omega arith) in record { child = is.child; at = is.at; line = is.line; whole = is.whole }
+    let is = left_at cs vs k w h.2 (omega arith) in record { child = is.child; at = is.at; line = is.line; worked = is.worked }
 
 pub left_as_many : (children : List Child) (all : List Worked) → HaveLeft children all → length all ≡ length children
 left_as_many [] [] h = refl
@@ -92,11 +101,12 @@ pub leads_end : (children rest : List Child) (all : List Worked) → LeadsTo chi
 leads_end children rest all leads none =
     subst (λ xs. HaveLeft children xs) (append-nil all) (leads [] (subst (λ cs. HaveLeft cs []) (sym none) tt))
 
-pub lines_kept : (count : ℕ) (first now : List RingInlet) (children : List Child) (all : List Worked) → AreTied count first children
+pub lines_kept : (count limit : ℕ) (first now : List RingInlet) (children : List Child) (all : List Worked)
+    → AreTied count limit first children
     → length now ≡ length first
     → ((k : ℕ) (i : RingInlet) → k < length first → line_of_inlet (get_or first k i) ≡ line_of_inlet (get_or now k i))
     → HaveLeft children all → AreOfLines now all
-lines_kept count first now children all tied as_many same left = record {
+lines_kept count limit first now children all tied as_many same left = record {
   as_many = left_as_many children all left ∙ tied.as_many ∙ sym as_many;
   each = λ k i w l.
       let low : k < length first = omega (arith, as_many, l) in
@@ -106,27 +116,64 @@ lines_kept count first now children all tied as_many same left = record {
       subst (λ l. IsOfLine l (get_or all k w)) line is.line;
 }
 
-pub whole_kept : (count : ℕ) (first : List RingInlet) (children : List Child) (all : List Worked) → AreTied count first children
-    → HaveLeft children all → AllWhole count all
-whole_kept count first children all tied left k w l =
+pub work_kept : (count limit : ℕ) (first : List RingInlet) (children : List Child) (all : List Worked)
+    → AreTied count limit first children
+    → HaveLeft children all → (k : ℕ) (w : Worked) → k < length all → IsWork count limit (get_or all k w)
+work_kept count limit first children all tied left k w l =
     let joined = left_as_many children all left in
     let is = left_at children all k w left (omega (arith, joined, l)) in
-    let n : (promise_of is.child).count ≡ count =
-    ap (λ (x : Child). (promise_of x).count) is.at ∙ tied.counts k is.child (let a = tied.as_many in omega (arith, a, joined, l)) in
-    subst (λ m. IsWhole m (get_or all k w)) n is.whole
+    let low : k < length first = let a = tied.as_many in omega (arith, a, joined, l) in
+    let n : (promise_of is.child).count ≡ count = ap (λ (x : Child). (promise_of x).count) is.at ∙ tied.counts k is.child low in
+    let m : (promise_of is.child).limit ≡ limit = ap (λ (x : Child). (promise_of x).limit) is.at ∙ tied.limits k is.child low in record {
+      start = (promise_of is.child).end.value;
+      worked = subst (λ i. HasWorked i limit (promise_of is.child).end.value (get_or all k w)) n
+          (subst (λ j. HasWorked (promise_of is.child).count j (promise_of is.child).end.value (get_or all k w)) m is.worked);
+    }
 
-pub all_left : (count : ℕ) (inlets : List RingInlet) (children : List Child) (all : List Worked) → AreTied count inlets children
+-- each that did not fail is whole
+pub whole_kept : (count limit : ℕ) (all : List Worked) → ((k : ℕ) (w : Worked) → k < length all → IsWork count limit (get_or all k w))
+    → AllWhole count all
+whole_kept count limit all work k w l =
+    let is = (work k w l).worked in record {
+      sent = λ good. (is.complete good).0;
+      started = λ good. (is.complete good).1;
+      expired = λ good. (is.complete good).2;
+    }
+
+pub all_left : (count limit : ℕ) (inlets : List RingInlet) (children : List Child) (all : List Worked)
+    → AreTied count limit inlets children
     → HaveLeft children all → length all ≡ length inlets
-all_left count inlets children all tied left = left_as_many children all left ∙ tied.as_many
+all_left count limit inlets children all tied left = left_as_many children all left ∙ tied.as_many
 
--- a client that the first error names is one of the clients
-pub first_among : {A : Type 0} (result : Result A ThreadsFault) (desk : DeskState RingInlet) (outcome : DriveEnd) (all : List Worked)
-    (n : ℕ) → length all ≡ n
-    → IfErr result (λ fault. IsFirstFault desk outcome all fault) → IfErr result (λ fault. IsAmong n fault)
-first_among (Ok x) desk outcome all n is h = tt
-first_among (Err Faults.OutOfMemory) desk outcome all n is h = tt
-first_among (Err (Faults.Client c)) desk outcome all n is h = subst (λ k. c < k) is h.1.client
-first_among (Err Faults.Desk) desk outcome all n is h = tt
+-- a run that ended well, or with its first error
+module _ (clients timers limit : ℕ) (opened desk : DeskState RingInlet) (outcome : DriveEnd) (all : List Worked)
+    (as_many : length all ≡ clients) (lines : AreOfLines desk.inlets all)
+    (driven : Drives ring_lines Tick timers limit opened desk outcome)
+    (worked : (k : ℕ) (w : Worked) → k < length all → IsWork timers limit (get_or all k w)) where
+  is_run : (Ends : DeskState RingInlet → DriveEnd → List Worked → Type 0) → Ends desk outcome all → IsRun clients timers limit Ends
+  is_run Ends h = record {
+    opened = opened;
+    desk = desk;
+    outcome = outcome;
+    all = all;
+    as_many = as_many;
+    lines = lines;
+    driven = driven;
+    worked = worked;
+    ends = h;
+  }
+
+  pub run_succeeded : {A : Type 0} (result : Result A ThreadsFault) → IfOk result (λ _. HasSucceeded desk outcome all)
+      → IfOk result (λ _. IsRun clients timers limit HasSucceeded)
+  run_succeeded (Ok x) h = is_run HasSucceeded h
+  run_succeeded (Err fault) h = tt
+
+  pub run_failed : {A : Type 0} (result : Result A ThreadsFault) → IfErr result (λ fault. IsFirstFault desk outcome all fault)
+      → IfErr result (λ fault. IsExplained clients timers limit fault)
+  run_failed (Ok x) h = tt
+  run_failed (Err Faults.OutOfMemory) h = tt
+  run_failed (Err (Faults.Client c)) h = is_run (λ d o ws. IsFirstFault d o ws (Faults.Client c)) h
+  run_failed (Err Faults.Desk) h = is_run (λ d o ws. IsFirstFault d o ws Faults.Desk) h
 
 not_failed : (a b : Bool) → a || b ≡ false → a ≡ false
 not_failed true b h = h

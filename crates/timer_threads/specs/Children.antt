@@ -5,7 +5,7 @@ use Rattle.timer_threads.specs.declared.child.Child.{Child}
 use Rattle.timer_threads.specs.declared.children.Children.{Children}
 use Rattle.timer_threads.specs.declared.promise.Finishes.{Finishes}
 use Rattle.timer_threads.specs.declared.outcome.Worked.{Worked}
-use Rattle.timer_threads.specs.Work.{IsOfLine, IsWhole}
+use Rattle.timer_threads.specs.Work.{IsOfLine, HasWorked}
 
 -- what a thread promises of what it gives back
 abbrev pub promise_of : Child → Finishes
@@ -23,5 +23,5 @@ room_of children = vec_capacity children.threads
 abbrev pub HaveLeft : List Child → List Worked → Type 0
 HaveLeft [] [] = Unit {0}
 HaveLeft (child ∷ children) (w ∷ ws) = IsOfLine (line_of_end (promise_of child).end.value) w
-    × IsWhole (promise_of child).count w × HaveLeft children ws
+    × HasWorked (promise_of child).count (promise_of child).limit (promise_of child).end.value w × HaveLeft children ws
 HaveLeft _ _ = ⊥

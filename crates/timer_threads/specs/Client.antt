@@ -11,7 +11,7 @@ use Rattle.timer_desk.specs.declared.word.Word.TheVariants as Words
 use Rattle.timer_desk.specs.declared.ring.ClientEnd.{ClientEnd}
 use Rattle.timer_desk.specs.Ring.{line_of_end, next_of, submitted, received_by_end}
 use Rattle.timer_threads.specs.declared.client.Client.{Client}
-use Rattle.timer_threads.specs.Work.{requests_from, started_by, expired_by, follows, ArePassed, IsStopped}
+use Rattle.timer_threads.specs.Work.{requests_from, started_by, expired_by, follows, ArePassed, IsStopped, AreLetGo}
 
 -- whether a `Started` answer with this number is the next one
 abbrev pub is_next_start : Client → ℕ → Bool
@@ -55,6 +55,10 @@ pub record IsSound (c : Client) : Type 0 where
   pub sent : c.sent ≤ c.count
   pub started : c.failed ≡ false → c.started ≤ c.count
   pub expired : c.failed ≡ false → c.expired ≤ c.count
+
+-- a gate let each request go that was sent
+abbrev pub HasAsked : (ℕ → ℕ → Type 0) → Client → Type 0
+HasAsked lets_go c = AreLetGo lets_go c.first c.sent c.expired
 
 -- a measure of what is left to do
 abbrev pub left_of : Client → ℕ

@@ -3,26 +3,29 @@ use Rattle.std.specs.Prelude.{◌≡◌, ◌<◌, ◌+◌, ◌++◌, ◌⊎◌, 
 use Rattle.timer_desk.specs.declared.ring.RingInlet.{RingInlet}
 use Rattle.timer_desk.specs.declared.ring.RequestsEnded.{RequestsEnded}
 use Rattle.timer_desk.specs.declared.ring.ClientReader.{ClientReader}
+use Rattle.timer_desk.specs.declared.report.Step.TheVariants.{Tick}
 use Rattle.timer_desk.specs.declared.driver.DriveEnd.{DriveEnd}
 use Rattle.timer_desk.specs.declared.driver.DriveEnd.TheVariants as DriveEnds
 use Rattle.timer_desk.specs.Desk.{DeskState, IsIdle, AllIdle, backlog_at}
+use Rattle.timer_desk.specs.Driver.{Drives}
 use Rattle.timer_desk.specs.Shutdown.{IsWaiting, AllGot}
-use Rattle.timer_desk.specs.Ring.{line_of_end, line_of_inlet, got_of, given_of, all_submitted, read_by, unread_by, is_settled_reader}
+use Rattle.timer_desk.specs.Ring.{line_of_end, line_of_inlet, got_of, given_of, all_submitted, read_by, unread_by, is_settled_reader, ring_lines}
 use Rattle.timer_threads.specs.declared.child.Child.{Child}
 use Rattle.timer_threads.specs.declared.fault.ThreadsFault.{ThreadsFault}
 use Rattle.timer_threads.specs.declared.fault.ThreadsFault.TheVariants as Faults
 use Rattle.timer_threads.specs.declared.outcome.Worked.{Worked}
 use Rattle.timer_threads.specs.Children.{promise_of}
-use Rattle.timer_threads.specs.Work.{IsOfLine, IsWhole}
+use Rattle.timer_threads.specs.Work.{IsOfLine, IsWork, IsWhole}
 use Rattle.timer_threads.specs.Results.{has_failed, NoneFailed, AllEnded}
 
--- the thread at each index was started with the end of the line at that index, and with this many requests to
--- send
-pub record AreTied (count : ℕ) (inlets : List RingInlet) (children : List Child) : Type 0 where
+-- the thread at each index was started with the end of the line at that index, with this many requests to send and
+-- with this limit
+pub record AreTied (count limit : ℕ) (inlets : List RingInlet) (children : List Child) : Type 0 where
   pub as_many : length children ≡ length inlets
   pub lines : (k : ℕ) (i : RingInlet) (h : Child) → k < length inlets
       → line_of_inlet (get_or inlets k i) ≡ line_of_end (promise_of (get_or children k h)).end.value
   pub counts : (k : ℕ) (h : Child) → k < length inlets → (promise_of (get_or children k h)).count ≡ count
+  pub limits : (k : ℕ) (h : Child) → k < length inlets → (promise_of (get_or children k h)).limit ≡ limit
 
 -- what the client at each index left is of the line of the inlet at that index
 pub record AreOfLines (inlets : List RingInlet) (all : List Worked) : Type 0 where
@@ -134,11 +137,26 @@ drive_fault DriveEnds.Done None = None
 drive_fault DriveEnds.Limit None = Some Faults.Desk
 drive_fault DriveEnds.OutOfMemory None = Some Faults.OutOfMemory
 
--- a client that an error names is one of the clients
-abbrev pub IsAmong : ℕ → ThreadsFault → Type 0
-IsAmong clients Faults.OutOfMemory = Unit {0}
-IsAmong clients (Faults.Client c) = c < clients
-IsAmong clients Faults.Desk = Unit {0}
+-- a desk was driven beside the clients, each did its work, and of the desk and of what they left this holds
+pub record IsRun (clients timers limit : ℕ)
+    (Ends : DeskState RingInlet → DriveEnd → List Worked → Type 0) : Type 0 where
+  pub opened : DeskState RingInlet
+  pub desk : DeskState RingInlet
+  pub outcome : DriveEnd
+  pub all : List Worked
+  pub as_many : length all ≡ clients
+  pub lines : AreOfLines desk.inlets all
+  pub driven : Drives ring_lines Tick timers limit opened desk outcome
+  pub worked : (k : ℕ) (w : Worked) → k < length all → IsWork timers limit (get_or all k w)
+  pub ends : Ends desk outcome all
+
+-- unless memory ran out, the error is the first one of such a run
+abbrev pub IsExplained : ℕ → ℕ → ℕ → ThreadsFault → Type 0
+IsExplained clients timers limit Faults.OutOfMemory = Unit {0}
+IsExplained clients timers limit (Faults.Client c) = IsRun clients timers limit
+    (λ desk outcome all. IsFirstFault desk outcome all (Faults.Client c))
+IsExplained clients timers limit Faults.Desk = IsRun clients timers limit
+    (λ desk outcome all. IsFirstFault desk outcome all Faults.Desk)
 
 -- the lines of `clients` clients from number `client` on, each with `timers` timers sent, started and expired
 abbrev pub whole_lines : ℕ → ℕ → ℕ → List ℕ

@@ -25,6 +25,16 @@ request_of first j = numbered (first + (j - 1)) (Start (1 + j % 97) j)
 abbrev pub requests_from : ℕ → ℕ → List Numbered
 requests_from first sent = map (request_of first) (range_with_len 1 sent)
 
+-- the request with this number was let go, when at most so many timers had expired
+pub record IsLetGo (lets_go : ℕ → ℕ → Type 0) (number most : ℕ) : Type 0 where
+  pub expired : ℕ
+  pub few : expired ≤ most
+  pub let_go : lets_go number expired
+
+-- so was each of the first `sent` requests
+abbrev pub AreLetGo : (ℕ → ℕ → Type 0) → ℕ → ℕ → ℕ → Type 0
+AreLetGo lets_go first sent most = (j : ℕ) → j < sent → IsLetGo lets_go (first + j) most
+
 -- What is received.
 
 abbrev pub started_in_answer : ℕ → Answer → List ℕ
@@ -93,9 +103,9 @@ pub record IsOfLine (line : Line) (w : Worked) : Type 0 where
 abbrev pub IsShort : ℕ → Worked → Type 0
 IsShort count w = (w.sent < count) ⊎ ((w.started < count) ⊎ (w.expired < count))
 
--- what was sent and received by a client with `count` requests that began its work with this end, and whether
--- it failed
-pub record HasWorked (count : ℕ) (start : ClientEnd) (w : Worked) : Type 0 where
+-- What was sent and received by a client with `count` requests that began its work with this end, and whether it
+-- failed. If no word is at fault, it failed only after `limit` turns in a row in which it neither sent nor received.
+pub record HasWorked (count limit : ℕ) (start : ClientEnd) (w : Worked) : Type 0 where
   pub sent : IfSome w.ended (λ e. all_submitted e ≡ submitted start ++ requests_from (next_of start) w.sent)
   pub most : w.sent ≤ count
   -- the end when the work ended, also when nothing is left of it since the owner's end was dropped
@@ -110,7 +120,12 @@ pub record HasWorked (count : ℕ) (start : ClientEnd) (w : Worked) : Type 0 whe
   pub passed : w.failed ≡ false → ArePassed (next_of start) count words
   pub complete : w.failed ≡ false → (w.sent ≡ count) × (w.started ≡ count) × (w.expired ≡ count)
   pub failed : w.failed ≡ true → IsStopped (next_of start) count words
-      ⊎ (ArePassed (next_of start) count words × IsShort count w)
+      ⊎ (ArePassed (next_of start) count words × IsShort count w × (w.idle ≡ limit))
+
+-- the client began with some end
+pub record IsWork (count limit : ℕ) (w : Worked) : Type 0 where
+  pub start : ClientEnd
+  pub worked : HasWorked count limit start w
 
 -- if nothing failed, all requests were sent, and as many timers started and expired
 pub record IsWhole (count : ℕ) (w : Worked) : Type 0 where

@@ -7,7 +7,7 @@ ghost use Rattle.std.specs.Prelude.{◌≡◌, ◌≤◌, IfOk};
 ghost use Rattle.timer_base.specs.declared.limits.TheConstants.{LAST};
 ghost use Rattle.timer_desk.specs.Ring.{line_of_end};
 ghost use Rattle.timer_threads.specs.Children.{promise_of};
-ghost use Rattle.timer_threads.specs.Work.{IsOfLine, IsWhole};
+ghost use Rattle.timer_threads.specs.Work.{IsOfLine, HasWorked};
 
 use crate::gate::Gate;
 use crate::outcome::Worked;
@@ -37,10 +37,12 @@ impl Child {
         requires limit { limit ≤ LAST }
         ensures line { IfOk result (λ child. line_of_end (promise_of child).end.value ≡ line_of_end end) }
         ensures count { IfOk result (λ child. (promise_of child).count ≡ count) }
+        ensures limit { IfOk result (λ child. (promise_of child).limit ≡ limit) }
     {
         let promise = Finishes {
             end: Snapshot::of(&end),
             count,
+            limit,
         };
         match thread::spawn_with(rt, promise, move || client_work(end, count, limit, gate)) {
             Ok(handle) => Ok(Child { handle }),
@@ -51,7 +53,7 @@ impl Child {
     /// Waits for the thread's end, and returns what its client left. Does not allocate.
     pub fn join(self, rt: &impl Threads) -> Worked
         ensures line { IsOfLine (line_of_end (promise_of self).end.value) result }
-        ensures whole { IsWhole (promise_of self).count result }
+        ensures worked { HasWorked (promise_of self).count (promise_of self).limit (promise_of self).end.value result }
     {
         let Child { handle } = self;
         handle.join(rt)

@@ -2,7 +2,7 @@
 //!
 //! Request j, from 1 on, is a start with interval `1 + (j mod 97)` and action j. Answers have to come
 //! by number and be `Started`; timers have to expire by deadline, then serial.
-ghost use Rattle.std.specs.Prelude.{◌≡◌, ◌+◌, ◌<◌, ◌≤◌, ◌==◌, not, false, true, length};
+ghost use Rattle.std.specs.Prelude.{◌≡◌, ◌+◌, ◌<◌, ◌≤◌, ◌==◌, ◌||◌, ℕ, not, false, true, length};
 ghost use Rattle.std.specs.List.{last_or};
 ghost use Rattle.timer_base.specs.declared.limits.TheConstants.{LAST};
 ghost use Rattle.timer_desk.specs.Ring.{line_of_end};
@@ -32,7 +32,7 @@ pub struct Client {
 }
 
 impl Client {
-    ghost use Rattle.timer_threads.specs.Client.{is_complete, passes, IsSound, IsAtWork, left_of, IsLess};
+    ghost use Rattle.timer_threads.specs.Client.{is_complete, passes, IsSound, IsAtWork, HasAsked, left_of, IsLess};
 
     /// A client that has sent and received nothing yet, of `count` requests.
     pub fn new(end: ClientEnd, count: u64) -> Client
@@ -40,6 +40,7 @@ impl Client {
         ensures count { result.count ≡ count }
         ensures sound { IsSound result }
         ensures at_work { IsAtWork end result }
+        ensures sent { result.sent ≡ 0 }
     {
         let first = end.next_number();
         Client {
@@ -56,7 +57,7 @@ impl Client {
 
     /// Whether a check failed, or all was sent and received.
     pub fn is_over(&self) -> bool
-        ensures { result ≡ false → self.now.failed ≡ false }
+        ensures { result ≡ self.now.failed || is_complete self.now }
     {
         self.failed || self.is_complete()
     }
@@ -75,6 +76,8 @@ impl Client {
         requires good { self.old.failed ≡ false }
         ensures sound { IsSound self.new }
         ensures at_work { (start : ClientEnd) → IsAtWork start self.old → IsAtWork start self.new }
+        ensures asked { (start : ClientEnd) → IsAtWork start self.old → HasAsked G.lets_go self.old
+            → HasAsked G.lets_go self.new }
         ensures count { self.new.count ≡ self.old.count }
         ensures left { IsLess result (left_of self.old) (left_of self.new) }
     {
@@ -90,6 +93,8 @@ impl Client {
         ensures sound { IsSound self.new }
         ensures good { self.new.failed ≡ false }
         ensures at_work { (start : ClientEnd) → IsAtWork start self.old → IsAtWork start self.new }
+        ensures asked { (start : ClientEnd) → IsAtWork start self.old → HasAsked G.lets_go self.old
+            → HasAsked G.lets_go self.new }
         ensures count { self.new.count ≡ self.old.count }
         ensures left { IsLess result (left_of self.old) (left_of self.new) }
     {
@@ -120,6 +125,8 @@ impl Client {
         ensures sound { IsSound self.new }
         ensures at_work { (start : ClientEnd) → IsAtWork start self.old → IsAtWork start self.new }
         ensures count { self.new.count ≡ self.old.count }
+        ensures asked { (self.new.first ≡ self.old.first) × (self.new.sent ≡ self.old.sent)
+            × (self.old.expired ≤ self.new.expired) }
         ensures left { IsLess result (left_of self.old) (left_of self.new) }
     {
         let Some(word) = self.end.receive() else {
@@ -179,11 +186,13 @@ impl Client {
         }
     }
 
-    /// Ends the work.
-    pub fn finish(self) -> Worked
+    /// Ends the work, after so many turns in a row in which it neither sent nor received.
+    pub fn finish(self, idle: u64) -> Worked
         requires { IsSound self }
         ensures line { (start : ClientEnd) → IsAtWork start self → IsOfLine (line_of_end start) result }
-        ensures worked { (start : ClientEnd) → IsAtWork start self → HasWorked self.count start result }
+        ensures worked { (start : ClientEnd) (limit : ℕ) → IsAtWork start self
+            → (self.failed || is_complete self ≡ false → idle ≡ limit) → HasWorked self.count limit start result }
+        ensures counts { (result.sent ≡ self.sent) × (result.expired ≡ self.expired) }
     {
         let failed = self.failed || !self.is_complete();
         let Client {
@@ -201,6 +210,7 @@ impl Client {
             started,
             expired,
             failed,
+            idle,
         }
     }
 }

@@ -1,10 +1,14 @@
 //! What a client's thread asks before it sends, so that tests can hold it back.
-ghost use Rattle.std.specs.Prelude.{◌≡◌, ◌+◌, ◌≤◌, ◌↔◌, true, IsTrue};
+ghost use Rattle.std.specs.Prelude.{◌≡◌, ◌+◌, ◌≤◌, ℕ, true, IsTrue};
 
 /// Asked before each submit.
 pub trait Gate {
+    // Which requests it lets go at all: by the request's number, and how many timers have expired.
+    ghost lets_go: { ℕ → ℕ → Type 0 };
+
     /// Whether the request with this number may go, once `expired` timers have expired.
-    fn may_send(&mut self, number: u64, expired: u64) -> bool;
+    fn may_send(&mut self, number: u64, expired: u64) -> bool
+        ensures lets_go { IsTrue result → lets_go number expired };
 }
 
 /// Lets each request go.
@@ -12,8 +16,11 @@ pub trait Gate {
 pub struct Open;
 
 impl Gate for Open {
+    ghost lets_go = { λ number expired. Unit {0} };
+
     fn may_send(&mut self, _number: u64, _expired: u64) -> bool
-        ensures { result ≡ true }
+        ensures lets_go { IsTrue result → Unit {0} }
+        ensures open { result ≡ true }
     {
         true
     }
@@ -24,8 +31,11 @@ impl Gate for Open {
 pub struct InTurn;
 
 impl Gate for InTurn {
+    ghost lets_go = { λ number expired. number ≤ expired + 1 };
+
     fn may_send(&mut self, number: u64, expired: u64) -> bool
-        ensures { (IsTrue result) ↔ (number ≤ expired + 1) }
+        ensures lets_go { IsTrue result → number ≤ expired + 1 }
+        ensures open { number ≤ expired + 1 → IsTrue result }
     {
         expired.saturating_add(1) >= number
     }

@@ -16,4 +16,6 @@ pub struct Worked {
     pub expired: u64,
     /// Whether a check failed, or the work ended before all was sent and received.
     pub failed: bool,
+    /// How many turns in a row it had neither sent nor received when it ended.
+    pub idle: u64,
 }

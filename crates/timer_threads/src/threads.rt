@@ -8,7 +8,7 @@
 ghost use Rattle.std.specs.Prelude.{◌≡◌, ◌<◌, ◌≤◌, [], length, true, IfOk, IfErr, vec_len};
 ghost use Rattle.timer_base.specs.declared.limits.TheConstants.{LAST};
 ghost use Rattle.timer_threads.specs.Children.{threads_of};
-ghost use Rattle.timer_threads.specs.Threads.{AreTied, IsAmong, whole_text};
+ghost use Rattle.timer_threads.specs.Threads.{AreTied, HasSucceeded, IsRun, IsExplained, whole_text};
 
 use crate::child::Child;
 use crate::children::Children;
@@ -71,7 +71,7 @@ fn start_all<G: Gate + Drop + Send + 'static>(
 ) -> Result<Clients, OutOfMemory>
     requires count { count ≤ LAST }
     requires limit { limit ≤ LAST }
-    ensures tied { IfOk result (λ c. AreTied count c.inlets.items (threads_of c.children)) }
+    ensures tied { IfOk result (λ c. AreTied count limit c.inlets.items (threads_of c.children)) }
     ensures all { IfOk result (λ c. c.all ≡ true → vec_len c.inlets ≡ vec_len gates) }
 {
     let Ok(mut inlets) = Vec::with_capacity(alloc, gates.len()) else {
@@ -121,7 +121,8 @@ pub fn threads_run<G: Gate + Drop + Send + 'static>(
     requires timers { (1 ≤ timers) × (timers ≤ 10000) }
     requires limit { (1 ≤ limit) × (limit ≤ LAST) }
     ensures text { IfOk result (λ text. text.items ≡ whole_text (vec_len gates) timers) }
-    ensures client { IfErr result (λ fault. IsAmong (vec_len gates) fault) }
+    ensures ended { IfOk result (λ _. IsRun (vec_len gates) timers limit HasSucceeded) }
+    ensures failed { IfErr result (λ fault. IsExplained (vec_len gates) timers limit fault) }
 {
     let Ok(facility) = new_facility(alloc, gates.len() as u64) else {
         return Err(ThreadsFault::OutOfMemory);
@@ -154,11 +155,12 @@ fn drive_beside(
     requires clients { vec_len inlets ≡ length facility.state.numbers }
     requires pending { facility.state.pending ≡ [] }
     requires waiting { facility.waiting ≡ [] }
-    requires tied { AreTied timers inlets.items (threads_of children) }
+    requires tied { AreTied timers limit inlets.items (threads_of children) }
     requires timers { timers ≤ LAST }
     requires limit { limit ≤ LAST }
     ensures text { IfOk result (λ text. text.items ≡ whole_text (vec_len inlets) timers) }
-    ensures client { IfErr result (λ fault. IsAmong (vec_len inlets) fault) }
+    ensures ended { IfOk result (λ _. IsRun (vec_len inlets) timers limit HasSucceeded) }
+    ensures failed { IfErr result (λ fault. IsExplained (vec_len inlets) timers limit fault) }
 {
     let Ok(desk) = Desk::open(alloc, facility, inlets, ROOM) else {
         let _ = children.join(rt);

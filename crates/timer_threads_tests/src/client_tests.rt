@@ -64,6 +64,8 @@ struct UpTo {
 }
 
 impl Gate for UpTo {
+    ghost lets_go = { λ number expired. Unit {0} };
+
     fn may_send(&mut self, number: u64, _expired: u64) -> bool {
         number <= self.number
     }
@@ -189,6 +191,8 @@ struct Writes {
 }
 
 impl Gate for Writes {
+    ghost lets_go = { λ number expired. Unit {0} };
+
     fn may_send(&mut self, number: u64, expired: u64) -> bool {
         let before = self.asks.load(Ordering::SeqCst).wrapping_mul(100);
         let ask = number.wrapping_mul(10).wrapping_add(expired);
@@ -249,6 +253,8 @@ struct Counts {
 }
 
 impl Gate for Counts {
+    ghost lets_go = { λ number expired. Unit {0} };
+
     fn may_send(&mut self, _number: u64, _expired: u64) -> bool {
         let asks = self.asks.load(Ordering::SeqCst).saturating_add(1);
         self.asks.store(asks, Ordering::SeqCst);
@@ -272,6 +278,7 @@ fn a_client_gives_up_after_as_many_idle_turns_as_its_limit(rt: HostRuntime) {
         (worked.sent, worked.started, worked.expired),
         (8, 0, 0),
     );
+    same(&rt, worked.idle, 1000);
     same(&rt, asks.load(Ordering::SeqCst), 8 + 1000);
 }
 

@@ -28,6 +28,8 @@ struct Door {
 }
 
 impl Gate for Door {
+    ghost lets_go = { λ number expired. Unit {0} };
+
     fn may_send(&mut self, _number: u64, _expired: u64) -> bool {
         self.is_open
     }
@@ -40,6 +42,8 @@ struct Counted {
 }
 
 impl Gate for Counted {
+    ghost lets_go = { λ number expired. Unit {0} };
+
     fn may_send(&mut self, _number: u64, _expired: u64) -> bool {
         self.asked.fetch_add(1, Ordering::SeqCst);
         false
@@ -57,6 +61,8 @@ struct Meet {
 }
 
 impl Gate for Meet {
+    ghost lets_go = { λ number expired. Unit {0} };
+
     fn may_send(&mut self, _number: u64, _expired: u64) -> bool {
         if !self.asked {
             self.asked = true;

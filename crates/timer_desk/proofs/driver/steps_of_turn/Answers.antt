@@ -1,14 +1,31 @@
-use Rattle.std.proofs.Common.{length, subst, sym, ap, ◌∙◌}
-use Rattle.std.specs.Prelude.{All}
-use Rattle.timer_desk.specs.Driver.{IsFit, ticks_in}
-use Rattle.timer_desk.proofs.DriverLemmas.{All-fit, ticks_in-one}
+use Rattle.std.proofs.Common.{rules, ◌∙◌, ap}
+use Rattle.timer_desk.specs.Driver.{is_served}
+use Rattle.timer_desk.proofs.DriverLemmas.{serves_more, serves_same, flushes_more, is_below, is_not_below}
 use Rattle.timer_desk.proofs.driver.steps_of_turn.Goals as goal
+use Rattle.timer_desk.proofs.driver.steps_of_turn.Goals.{then-reached-goal, else-reached-goal}
 
-pub returns-clause-fit : goal.returns-clause-fit
-returns-clause-fit c =
-    subst (All (IsFit (length c.args.progress.now) c.args.last)) (sym c.push_reserved-2.ensures.items)
-    (All-fit (length c.args.progress.now) c.args.last c.loop-client-2.steps.items c.requires.last c.loop-client-2.invariant.fit)
+pub loop-client-preserved : goal.loop-client-preserved
+loop-client-preserved c =
+    let was = c.loop-client.invariant in
+    elim c.if-reached-goal.branch [
+      | then-reached-goal w ↦ record {
+        serves = ap (λ v. v.items) w.steps-is ∙ w.push_reserved.ensures.items ∙ serves_more (is_served c.args.goal c.args.progress.now) c.loop-client.client
+            c.loop-client.steps.items was.serves (is_below _ c.args.goal w.if-reached-goal.true);
+        capacity = search rules;
+        len = search rules;
+      }
+      | else-reached-goal w ↦ record {
+        serves = ap (λ v. v.items) w.steps-is ∙ serves_same (is_served c.args.goal c.args.progress.now) c.loop-client.client
+            c.loop-client.steps.items was.serves (is_not_below _ c.args.goal w.if-reached-goal.false);
+        capacity = search rules;
+        len = search rules;
+      }
+    ]
 
-pub returns-clause-once : goal.returns-clause-once
-returns-clause-once c = ap ticks_in c.push_reserved-2.ensures.items
-    ∙ ticks_in-one (length c.args.progress.now) c.args.last c.loop-client-2.steps.items c.requires.last c.loop-client-2.invariant.fit
+pub loop-client-2-preserved : goal.loop-client-2-preserved
+loop-client-2-preserved c =
+    let was = c.loop-client-2.invariant in record {
+      flushes = c.push_reserved-in-loop-client-2.ensures.items ∙ flushes_more c.loop-client-2.client _ c.loop-client-2.steps.items was.flushes;
+      capacity = search rules;
+      len = search rules;
+    }

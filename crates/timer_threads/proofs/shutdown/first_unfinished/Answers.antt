@@ -1,5 +1,5 @@
 use Rattle.std.proofs.Common.{◌≡◌, ◌⊎◌, inr, length, sym, subst, arith}
-use Rattle.std.specs.Prelude.{IfSome, IsNone}
+use Rattle.std.specs.Prelude.{IfSome}
 use Rattle.timer_desk.specs.Desk.{AllIdle}
 use Rattle.timer_desk.specs.Shutdown.{AllGot, IsBlamed}
 use Rattle.timer_threads.specs.Threads.{AllRead, NoneUnread, AreSettled, IsFirstWithWords, IsFirstToRead}

@@ -3,14 +3,14 @@ use Rattle.std.specs.Prelude.{IfOk}
 use Rattle.timer_desk.specs.Ring.{line_of_inlet}
 use Rattle.timer_threads.specs.Children.{threads_of}
 use Rattle.timer_threads.specs.Threads.{whole_text}
-use Rattle.timer_threads.proofs.ThreadLemmas.{lines_kept, whole_kept, all_left, first_among}
+use Rattle.timer_threads.proofs.ThreadLemmas.{lines_kept, work_kept, whole_kept, all_left, run_succeeded, run_failed}
 use Rattle.timer_threads.proofs.threads.drive_beside.Goals as goal
 
 pub end_all-requires-clause-lines : goal.end_all-requires-clause-lines
 end_all-requires-clause-lines g c =
     let told = c.drive-desk.ensures.told.clients in
     let inlets : c.in-Ok.desk.inlets ≡ c.args.inlets.items = search rules in
-    lines_kept c.args.timers c.args.inlets.items c.drive-desk.result.desk.inlets
+    lines_kept c.args.timers c.args.limit c.args.inlets.items c.drive-desk.result.desk.inlets
     (threads_of c.args.children) c.join-2.result.items c.requires.tied
     (told.same_clients ∙ ap (λ is. length is) inlets)
     (λ k i l. ap (λ is. line_of_inlet (get_or is k i)) (sym inlets) ∙ (told.lines k i (omega (arith, l, ap (λ is. length is) inlets))).line)
@@ -18,19 +18,47 @@ end_all-requires-clause-lines g c =
 
 pub end_all-requires-clause-counts : goal.end_all-requires-clause-counts
 end_all-requires-clause-counts g c =
-    whole_kept c.args.timers c.args.inlets.items (threads_of c.args.children) c.join-2.result.items c.requires.tied c.join-2.ensures
+    whole_kept c.args.timers c.args.limit c.join-2.result.items
+    (work_kept c.args.timers c.args.limit c.args.inlets.items (threads_of c.args.children) c.join-2.result.items c.requires.tied
+    c.join-2.ensures)
 
 pub returns-clause-text : goal.returns-clause-text
 returns-clause-text g c =
-    let left = all_left c.args.timers c.args.inlets.items (threads_of c.args.children) c.join-2.result.items c.requires.tied
+    let left = all_left c.args.timers c.args.limit c.args.inlets.items (threads_of c.args.children) c.join-2.result.items c.requires.tied
     c.join-2.ensures in
     let as_many : vec_len c.join-2.result ≡ vec_len c.args.inlets = omega (arith, left, c.join-2.result.ok, c.args.inlets.ok) in
     subst (λ n. IfOk c.end_all.result (λ text. text.items ≡ whole_text n c.args.timers)) as_many c.end_all.ensures.text
 
-pub returns-clause-client : goal.returns-clause-client
-returns-clause-client g c =
-    let left = all_left c.args.timers c.args.inlets.items (threads_of c.args.children) c.join-2.result.items c.requires.tied
+pub returns-clause-ended : goal.returns-clause-ended
+returns-clause-ended g c =
+    let told = c.drive-desk.ensures.told.clients in
+    let inlets : c.in-Ok.desk.inlets ≡ c.args.inlets.items = search rules in
+    let lines = lines_kept c.args.timers c.args.limit c.args.inlets.items c.drive-desk.result.desk.inlets
+    (threads_of c.args.children) c.join-2.result.items c.requires.tied
+    (told.same_clients ∙ ap (λ is. length is) inlets)
+    (λ k i l. ap (λ is. line_of_inlet (get_or is k i)) (sym inlets) ∙ (told.lines k i (omega (arith, l, ap (λ is. length is) inlets))).line)
+    c.join-2.ensures in
+    let left = all_left c.args.timers c.args.limit c.args.inlets.items (threads_of c.args.children) c.join-2.result.items c.requires.tied
     c.join-2.ensures in
     let as_many : length c.join-2.result.items ≡ vec_len c.args.inlets = omega (arith, left, c.args.inlets.ok) in
-    first_among c.end_all.result c.drive-desk.result.desk c.drive-desk.result.outcome c.join-2.result.items
-    (vec_len c.args.inlets) as_many c.end_all.ensures.fault
+    run_succeeded (vec_len c.args.inlets) c.args.timers c.args.limit c.in-Ok.desk c.drive-desk.result.desk c.drive-desk.result.outcome
+    c.join-2.result.items as_many lines c.drive-desk.ensures
+    (work_kept c.args.timers c.args.limit c.args.inlets.items (threads_of c.args.children) c.join-2.result.items c.requires.tied
+    c.join-2.ensures) c.end_all.result c.end_all.ensures.ended
+
+pub returns-clause-failed : goal.returns-clause-failed
+returns-clause-failed g c =
+    let told = c.drive-desk.ensures.told.clients in
+    let inlets : c.in-Ok.desk.inlets ≡ c.args.inlets.items = search rules in
+    let lines = lines_kept c.args.timers c.args.limit c.args.inlets.items c.drive-desk.result.desk.inlets
+    (threads_of c.args.children) c.join-2.result.items c.requires.tied
+    (told.same_clients ∙ ap (λ is. length is) inlets)
+    (λ k i l. ap (λ is. line_of_inlet (get_or is k i)) (sym inlets) ∙ (told.lines k i (omega (arith, l, ap (λ is. length is) inlets))).line)
+    c.join-2.ensures in
+    let left = all_left c.args.timers c.args.limit c.args.inlets.items (threads_of c.args.children) c.join-2.result.items c.requires.tied
+    c.join-2.ensures in
+    let as_many : length c.join-2.result.items ≡ vec_len c.args.inlets = omega (arith, left, c.args.inlets.ok) in
+    run_failed (vec_len c.args.inlets) c.args.timers c.args.limit c.in-Ok.desk c.drive-desk.result.desk c.drive-desk.result.outcome
+    c.join-2.result.items as_many lines c.drive-desk.ensures
+    (work_kept c.args.timers c.args.limit c.args.inlets.items (threads_of c.args.children) c.join-2.result.items c.requires.tied
+    c.join-2.ensures) c.end_all.result c.end_all.ensures.fault

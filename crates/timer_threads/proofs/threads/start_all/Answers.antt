@@ -10,9 +10,9 @@ loop-gate-preserved g c =
     let inlets = c.push_reserved.ensures in
     let children = c.push_reserved-in-loop-gate.ensures in record {
       tied = rw (inlets.items, children.threads)
-          (AreTied-more c.args.count c.loop-gate.inlets.items (threads_of c.loop-gate.children) c.in-Ok-ring_line.inlet c.in-Ok-start.child
+          (AreTied-more c.args.count c.args.limit c.loop-gate.inlets.items (threads_of c.loop-gate.children) c.in-Ok-ring_line.inlet c.in-Ok-start.child
           was.tied
-          (sym c.in-Ok-ring_line.ensures.line ∙ sym c.in-Ok-start.ensures.line) c.in-Ok-start.ensures.count);
+          (sym c.in-Ok-ring_line.ensures.line ∙ sym c.in-Ok-start.ensures.line) c.in-Ok-start.ensures.count c.in-Ok-start.ensures.limit);
       each = grind (arith, common_steps);
       inlets_room = grind (arith, common_steps);
       children_room = grind (arith, common_steps);

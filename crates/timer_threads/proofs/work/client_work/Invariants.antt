@@ -1,5 +1,5 @@
-use Rattle.std.proofs.Common.{◌≡◌, ◌+◌, ◌-◌, ◌*◌}
-use Rattle.timer_threads.specs.Client.{IsSound, IsAtWork, left_of}
+use Rattle.std.proofs.Common.{◌≡◌, ◌≤◌, ◌+◌, ◌-◌, ◌*◌}
+use Rattle.timer_threads.specs.Client.{IsSound, IsAtWork, HasAsked, left_of}
 use Rattle.timer_threads.proofs.work.client_work.Given as goal
 
 -- all that was sent or received is counted
@@ -8,6 +8,8 @@ invariant-loop-idle g l = record {
   sound : IsSound l.client;
   at_work : IsAtWork l.fn.end l.client;
   count : l.client.count ≡ l.fn.count;
+  asked : HasAsked g.G.Gate.lets_go l.client;
+  within : l.idle ≤ l.limit;
 }
 
 -- a turn that sends or receives leaves less to do, and any other brings the limit nearer

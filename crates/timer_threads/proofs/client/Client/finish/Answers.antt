@@ -13,9 +13,9 @@ returns-clause-worked c =
       | then-self w ↦ w.failed-is ∙ w.if-self.true ∙ sym (ap (λ b. b || not (is_complete self)) w.if-self.true)
       | else-self w ↦ w.failed-is ∙ ap not w.is_complete.ensures ∙ sym (ap (λ b. b || not (is_complete self)) w.if-self.false)
     ] in
-    λ start h. HasWorked-finished start self _ c.requires h
+    λ start limit h gave_up. HasWorked-finished start limit self _ c.requires h
     (ended_so (λ e. (requests_ring_of e ≡ (line_of_end self.end).0)
     × (all_submitted e ≡ submitted self.end)) (λ e. all_submitted e
     ≡ submitted self.end) c.finish-ended.result.0 (λ e both. both.1) c.finish-ended.ensures.ended)
     c.finish-ended.ensures.reader.1
-    refl refl refl failed
+    refl refl refl failed gave_up
