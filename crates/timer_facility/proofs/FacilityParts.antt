@@ -12,6 +12,7 @@ use Rattle.timer_base.specs.declared.timer.Timer.{Timer}
 use Rattle.timer_base.specs.declared.timer.Handle.{Handle}
 use Rattle.timer_base.specs.Order.{AreBelow, AreDistinct}
 use Rattle.timer_base.specs.Pending.{Entry, timers_of, put, is_due_at, has_handle, first_timer, without_found, has_serial}
+use Rattle.timer_base.specs.HeldLaws.{held_when_none_due, start_when_later, removal_when_none_due}
 use Rattle.timer_base.specs.WheelState as Wheels
 use Rattle.timer_facility.specs.declared.limits.TheConstants.{MAX_PENDING}
 use Rattle.timer_facility.specs.declared.config.Config.{Config}
@@ -411,8 +412,8 @@ start_core p client number interval action place l h r =
 
 pub view-start : {p : Parts} {v : FacilityView} → AreParts p → view_of p ≡ v → (client number interval action place : ℕ)
     → client < p.clients → v.waiting ≡ [] → start_refusal v.state interval ≡ None
-    → (now : ℕ) → now ≡ p.wheel.now → (w' : Wheels.WheelState)
-    → w' ≡ Wheels.after_start place (record {
+    → (now : ℕ) → now ≡ p.wheel.now → p.wheel.now < now + interval → (w' : Wheels.WheelState)
+    → w' ≡ Wheels.after_held_start place (record {
       serial = p.next_serial;
       client = client;
       number = number;
@@ -421,15 +422,16 @@ pub view-start : {p : Parts} {v : FacilityView} → AreParts p → view_of p ≡
     }) p.wheel
     → view_of (with_used client number (record p { wheel = w'; next_serial = p.next_serial + 1 }))
     ≡ with_nothing_waiting (after_taken v.state client number (Start interval action) place)
-view-start {p} {v} a e client number interval action place l h r now n w' t =
-    let x : w' ≡ Wheels.after_start place (new_timer (view_of p).state client number interval action) p.wheel =
-    t ∙ ap (λ m. Wheels.after_start place (record {
+view-start {p} {v} a e client number interval action place l h r now n later w' t =
+    let timer : ℕ → Timer = λ m. record {
       serial = p.next_serial;
       client = client;
       number = number;
       deadline = m + interval;
       action = action;
-    }) p.wheel) n in
+    } in
+    let x : w' ≡ Wheels.after_start place (new_timer (view_of p).state client number interval action) p.wheel =
+    t ∙ (start_when_later place (timer now) p.wheel later ∙ ap (λ m. Wheels.after_start place (timer m) p.wheel) n) in
     ap (λ u. view_of (with_used client number (record p { wheel = u; next_serial = p.next_serial + 1 }))) x
     ∙ subst (λ (u : FacilityView). u.waiting ≡ [] → start_refusal u.state interval ≡ None
     → view_of (with_used client number (record p {
@@ -471,10 +473,10 @@ abbrev pub with_one_less : ℕ → Parts → Parts
 with_one_less client p = record p { counts = slice_set p.counts client (slice_index p.counts client - 1) }
 
 pub parts-start : {p : Parts} → AreParts p → p.next_serial ≤ LAST → length p.wheel.pending ≢ p.capacity → (place : ℕ) (t : Timer)
-    → t.serial ≡ p.next_serial → t.client < p.clients
-    → (w' : Wheels.WheelState) → w' ≡ Wheels.after_start place t p.wheel
+    → t.serial ≡ p.next_serial → t.client < p.clients → p.wheel.now < t.deadline
+    → (w' : Wheels.WheelState) → w' ≡ Wheels.after_held_start place t p.wheel
     → AreParts (with_one_more t.client (record p { wheel = w'; next_serial = p.next_serial + 1 }))
-parts-start {p} a unspent room place t fresh known w' e =
+parts-start {p} a unspent room place t fresh known later w' e =
     let entry : Entry = record { place = place; timer = t } in
     let here : AreParts (with_one_more t.client (record p {
       wheel = Wheels.after_start place t p.wheel;
@@ -493,7 +495,7 @@ parts-start {p} a unspent room place t fresh known w' e =
           (kept_after_start p place t);
     } in
     subst (λ (u : Wheels.WheelState). AreParts (with_one_more t.client (record p { wheel = u; next_serial = p.next_serial + 1 })))
-    (sym e) here
+    (sym (e ∙ start_when_later place t p.wheel later)) here
 
 -- a stop, whether it finds its timer or not
 stop_core : (p : Parts) (client number : ℕ) (handle : Handle) (found : Option Timer) → client < p.clients → (view_of p).waiting ≡ []
@@ -546,6 +548,13 @@ parts-stop {p} a t d m w' e =
           (kept_after_stop p t d m);
     } in
     subst (λ (u : Wheels.WheelState). AreParts (with_one_less t.client (record p { wheel = u }))) (sym e) here
+
+-- nothing is due, so what the wheel finds is pending
+pub found_pending : {p : Parts} {v : FacilityView} → AreParts p → view_of p ≡ v → v.waiting ≡ [] → (handle : Handle) (o : Option Timer)
+    → o ≡ Wheels.held_at handle p.wheel → first_timer (has_handle handle) v.state.pending ≡ o
+found_pending {p} {v} a e h handle o f =
+    sym (f ∙ (held_when_none_due handle p.wheel (nothing_due a e h)
+    ∙ ap (λ (u : FacilityView). first_timer (has_handle handle) u.state.pending) e))
 
 -- what is found for a client is the timer with the handle
 pub found_there : {p : Parts} {v : FacilityView} → AreParts p → view_of p ≡ v → (client : ℕ) (handle : Handle) (t : Timer)
@@ -725,6 +734,15 @@ parts-open w c returned i p d l r =
       counted = subst (λ ts. AreCounted c.clients (replicate 64 0) ts) (sym none) (counted-none c.clients);
     }
 
+-- nothing is due, so a stop of a client's timer takes it from those that are pending
+pub stopped_as : {p : Parts} {v : FacilityView} → AreParts p → view_of p ≡ v → Wheels.IsWellFormed p.wheel → v.waiting ≡ []
+    → (client : ℕ) (handle : Handle) (t : Timer) → named v.state client (Stop handle) ≡ Some t
+    → (w' : Wheels.WheelState) → w' ≡ Wheels.after_removal handle p.wheel
+    → w' ≡ record p.wheel { pending = without_found (Some t) p.wheel.pending }
+stopped_as {p} {v} a e i h client handle t f w' s =
+    s ∙ (removal_when_none_due handle p.wheel i.distinct (nothing_due a e h)
+    ∙ ap (λ o. record p.wheel { pending = without_found o p.wheel.pending }) (found_there a e client handle t f))
+
 -- a stop of a client's timer
 pub parts-stopped : {p : Parts} {v : FacilityView} → AreParts p → view_of p ≡ v → Wheels.IsWellFormed p.wheel
     → (client : ℕ) (handle : Handle) (t : Timer) → named v.state client (Stop handle) ≡ Some t
@@ -824,14 +842,32 @@ pub record IsRenewed (p : Parts) (client number : ℕ) (handle : Handle) (interv
     (w' : Wheels.WheelState) : Type 0 where
   pub is_client : client < p.clients
   pub now_is : now ≡ p.wheel.now
+  pub later : p.wheel.now < now + interval
+  pub none_due : p.wheel.due ≡ []
+  pub distinct : AreDistinct (timers_of p.wheel.pending)
   pub there : Wheels.timer_at handle p.wheel ≡ Some old
-  pub restarted : w' ≡ Wheels.after_start place (record {
+  pub restarted : w' ≡ Wheels.after_held_start place (record {
     serial = p.next_serial;
     client = client;
     number = number;
     deadline = now + interval;
     action = action;
-  }) (Wheels.after_stop handle p.wheel)
+  }) (Wheels.after_removal handle p.wheel)
+
+-- nothing is due, and the new deadline is later: a pending timer is replaced by a pending one
+renewed_as : {p : Parts} {client number : ℕ} {handle : Handle} {interval action now : ℕ} {old : Timer} {place : ℕ}
+    {w' : Wheels.WheelState} → IsRenewed p client number handle interval action now old place w'
+    → w' ≡ Wheels.after_start place (record {
+      serial = p.next_serial;
+      client = client;
+      number = number;
+      deadline = now + interval;
+      action = action;
+    }) (Wheels.after_stop handle p.wheel)
+renewed_as {p} {client} {number} {handle} {interval} {action} {now} {old} {place} {w'} i =
+    let t : Timer = record { serial = p.next_serial; client = client; number = number; deadline = now + interval; action = action } in
+    i.restarted ∙ (start_when_later place t (Wheels.after_removal handle p.wheel) i.later
+    ∙ ap (Wheels.after_start place t) (removal_when_none_due handle p.wheel i.distinct i.none_due))
 
 pub view-restart : {p : Parts} {v : FacilityView} → AreParts p → view_of p ≡ v
     → (client number : ℕ) (handle : Handle) (interval action now : ℕ) (old : Timer) (place : ℕ) (w' : Wheels.WheelState)
@@ -844,7 +880,7 @@ view-restart {p} {v} a e client number handle interval action now old place w' i
     in
     let w : Wheels.WheelState = record p.wheel { pending = without_found (Some old) p.wheel.pending } in
     let x : w' ≡ Wheels.after_start place (t p.wheel.now) w =
-    i.restarted ∙ ap (λ m. Wheels.after_start place (t m) (Wheels.after_stop handle p.wheel)) i.now_is
+    renewed_as i ∙ ap (λ m. Wheels.after_start place (t m) (Wheels.after_stop handle p.wheel)) i.now_is
     ∙ ap (λ o. Wheels.after_start place (t p.wheel.now) (record p.wheel { pending = without_found o p.wheel.pending })) i.there in
     ap (λ u. view_of (with_used client number (record p { wheel = u; next_serial = p.next_serial + 1 }))) x
     ∙ subst (λ (u : FacilityView). u.waiting ≡ [] → named u.state client (Restart handle interval action) ≡ Some old
@@ -902,7 +938,7 @@ parts-restart {p} {v} a e i client number handle interval action now old place w
     let t : Timer = record { serial = p.next_serial; client = client; number = number; deadline = now + interval; action = action } in
     let left : List Entry = without_found (Some old) p.wheel.pending in
     let w : Wheels.WheelState = record p.wheel { pending = left } in
-    let x : w' ≡ Wheels.after_start place t w = r.restarted ∙ ap
+    let x : w' ≡ Wheels.after_start place t w = renewed_as r ∙ ap
     (λ o. Wheels.after_start place t (record p.wheel { pending = without_found o p.wheel.pending })) r.there in
     let one : length (put (record { place = place; timer = t }) left) ≡ length left + 1 =
     length-put (record { place = place; timer = t }) left in

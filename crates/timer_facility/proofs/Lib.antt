@@ -22,3 +22,4 @@ pub mod StepRefusals
 pub mod FacilityParts
 pub mod TickedLemmas
 pub mod WakeUpLemmas
+pub mod HeldTimers

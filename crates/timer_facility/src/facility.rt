@@ -165,7 +165,11 @@ impl<W: Wheel + Drop> Facility<W> {
     pub fn is_pending(&self, handle: Handle) -> bool
         ensures { result ≡ is_pending self.now.state handle }
     {
-        self.wheel.look(handle).is_some()
+        match self.wheel.look(handle) {
+            // One that waits to be handed out is found too, and its deadline is the present tick.
+            Some(timer) => timer.deadline > self.wheel.now(),
+            None => false,
+        }
     }
 
     /// Whether the facility is closed. Does not allocate.

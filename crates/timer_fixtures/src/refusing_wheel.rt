@@ -56,22 +56,6 @@ impl<W: Wheel> Wheel for RefusingWheel<W> {
         self.wheel.restart(handle, timer)
     }
 
-    fn look_due(&self, handle: Handle) -> Option<Timer> {
-        self.wheel.look_due(handle)
-    }
-
-    fn withdraw(&mut self, handle: Handle) -> Option<Timer> {
-        self.wheel.withdraw(handle)
-    }
-
-    fn revive(&mut self, handle: Handle, timer: Timer) -> Option<(Handle, Timer)> {
-        self.wheel.revive(handle, timer)
-    }
-
-    fn make_due(&mut self, handle: Handle) -> Option<Timer> {
-        self.wheel.make_due(handle)
-    }
-
     fn quiet_until(&self) -> Option<u64> {
         self.wheel.quiet_until()
     }
@@ -82,10 +66,6 @@ impl<W: Wheel> Wheel for RefusingWheel<W> {
 
     fn find_next(&mut self) -> Option<u64> {
         self.wheel.find_next()
-    }
-
-    fn lemma_names_one(&self, handle: Handle) {
-        self.wheel.lemma_names_one(handle)
     }
 
     fn per_tick(&mut self) {

@@ -1,4 +1,1 @@
 pub mod ClockEnds
-pub mod DeadHandles
-pub mod CountLemmas
-pub mod StartedDue

@@ -1,9 +1,9 @@
 -- Why a call is refused, and the timer that an accepted start adds.
-use Rattle.std.specs.Prelude.{ℕ, ◌≡◌, ◌+◌, ◌-◌, ◌<◌, ◌≤◌, ◌⊎◌, [], length, Option, Some, None, IsSome}
+use Rattle.std.specs.Prelude.{ℕ, ◌≡◌, ◌+◌, ◌-◌, ◌<◌, ◌≤◌, ◌⊎◌, [], length, None, IsSome}
 use Rattle.timer_base.specs.declared.limits.TheConstants.{LAST}
 use Rattle.timer_base.specs.declared.timer.Timer.{Timer}
 use Rattle.timer_base.specs.declared.timer.Handle.{Handle}
-use Rattle.timer_base.specs.WheelState.{WheelState, held_count, timer_at, due_at, after_stop, after_withdrawal}
+use Rattle.timer_base.specs.WheelState.{WheelState, held_count, held_at}
 use Rattle.timer_total.specs.declared.fault.StartFault.{StartFault}
 use Rattle.timer_total.specs.declared.fault.StartFault.TheVariants as start
 use Rattle.timer_total.specs.declared.fault.RestartFault.{RestartFault}
@@ -11,21 +11,7 @@ use Rattle.timer_total.specs.declared.fault.RestartFault.TheVariants as restart
 use Rattle.timer_total.specs.declared.fault.AdvanceFault.{AdvanceFault}
 use Rattle.timer_total.specs.declared.fault.AdvanceFault.TheVariants as tick
 
--- the timer that a start adds: the next serial, and the action under the client 0 and the number 0
-abbrev pub next_timer : ℕ → ℕ → WheelState → Timer
-next_timer interval action w = record {
-  serial = w.last_serial + 1;
-  client = 0;
-  number = 0;
-  deadline = w.now + interval;
-  action = action;
-}
-
--- how many ticks are left until this one, 0 if it is not after now
-abbrev pub left_until : ℕ → WheelState → ℕ
-left_until deadline w = deadline - w.now
-
--- the timer that a start for this tick adds
+-- the timer that a start for this tick adds: the next serial, and the action under the client 0 and the number 0
 abbrev pub timer_due : ℕ → ℕ → WheelState → Timer
 timer_due deadline action w = record {
   serial = w.last_serial + 1;
@@ -34,6 +20,14 @@ timer_due deadline action w = record {
   deadline = deadline;
   action = action;
 }
+
+-- the timer that a start with this interval adds
+abbrev pub next_timer : ℕ → ℕ → WheelState → Timer
+next_timer interval action w = timer_due (w.now + interval) action w
+
+-- how many ticks are left until this one, 0 if it is not after now
+abbrev pub left_until : ℕ → WheelState → ℕ
+left_until deadline w = deadline - w.now
 
 -- a timer with this interval may be started if memory is available
 abbrev pub IsStartable : ℕ → WheelState → Type 0
@@ -50,23 +44,6 @@ WhyNotStarted interval w fault =
     ⊎ ((fault ≡ start.TooLate) × (0 < interval) × (w.last_tick < w.now + interval))
     ⊎ ((fault ≡ start.SerialsSpent) × (0 < interval) × (w.now + interval ≤ w.last_tick)
     × (LAST ≤ w.last_serial))
-
--- a pending timer, or if there is none a due one
-abbrev pub first_found : Option Timer → Option Timer → Option Timer
-first_found None due = due
-first_found (Some t) due = Some t
-
--- the timer that waits under this handle, for its deadline or to be taken
-abbrev pub held_at : Handle → WheelState → Option Timer
-held_at handle w = first_found (timer_at handle w) (due_at handle w)
-
-abbrev pub removed_from : Option Timer → Handle → WheelState → WheelState
-removed_from None handle w = after_withdrawal handle w
-removed_from (Some t) handle w = after_stop handle w
-
--- the timer that waits under this handle is removed, if there is one
-abbrev pub after_removal : Handle → WheelState → WheelState
-after_removal handle w = removed_from (timer_at handle w) handle w
 
 -- a timer waits under this handle
 abbrev pub IsAt : Handle → WheelState → Type 0

@@ -7,7 +7,6 @@
 #![tactic(auto)]
 
 mod fault;
-mod replacement;
 mod timers;
 
 pub use fault::{AdvanceFault, RestartFault, StartFault};

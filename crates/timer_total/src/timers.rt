@@ -2,15 +2,14 @@
 ghost use Rattle.std.specs.Prelude.{◌≡◌, ◌+◌, ◌<◌, ◌≤◌, ◌↔◌, ◌⊎◌, ℕ, [], length, IsTrue, IfOk, IfErr, OnOk, OnErr, None, Some};
 ghost use Rattle.timer_base.specs.declared.limits.TheConstants.{LAST};
 ghost use Rattle.timer_base.specs.WakeUps.{IsQuietUntil, next_deadline};
-ghost use Rattle.timer_base.specs.WheelState.{WheelState, first_due, after_start, after_reserve, after_tick, after_expiry};
-ghost use Rattle.timer_total.specs.Deadlines.{interval_until, after_start_due, after_start_at, IsCounted};
-ghost use Rattle.timer_total.specs.Refusals.{next_timer, left_until, held_at, after_removal, IsStartable, IsRoomUsed, IsAt, WhyNotStarted, WhyNotRestarted, WhyNotTicked, WhyNotAdvanced};
+ghost use Rattle.timer_base.specs.WheelState.{WheelState, held_at, first_due, after_start, after_held_start, after_removal, after_reserve, after_tick, after_expiry};
+ghost use Rattle.timer_total.specs.Deadlines.{interval_until, after_start_at, IsCounted};
+ghost use Rattle.timer_total.specs.Refusals.{next_timer, timer_due, left_until, IsAt, IsStartable, IsRoomUsed, WhyNotStarted, WhyNotRestarted, WhyNotTicked, WhyNotAdvanced};
 ghost use Rattle.timer_total.specs.Taken.{IsTakenBy};
 ghost use Rattle.timer_total.specs.Ticks.{IsAdvanced, numbered};
 ghost use Rattle.timer_total.specs.Drops.{without_due, after_drop};
 
 use crate::fault::{AdvanceFault, RestartFault, StartFault};
-use crate::replacement::replace;
 use std::marker::Model;
 use timer_base::{Handle, LAST, OutOfMemory, Timer, Wheel};
 
@@ -18,7 +17,7 @@ use timer_base::{Handle, LAST, OutOfMemory, Timer, Wheel};
 #[derive(Drop)]
 pub struct Timers<W: Wheel + Drop> {
     wheel: W,
-    // At least the wheel's own, which begins at 0, and that of each timer that expired.
+    // At least the wheel's own, which begins at 0.
     last_serial: u64,
 }
 
@@ -126,14 +125,8 @@ impl<W: Wheel + Drop> Timers<W> {
         ensures err { OnErr result (self.new ≡ self.old) }
     {
         self.admit(interval)?;
-        let timer = self.next(interval, action);
-        match self.wheel.start(timer) {
-            Ok(handle) => {
-                self.last_serial = timer.serial;
-                Ok(handle)
-            }
-            Err(_) => Err(StartFault::OutOfMemory),
-        }
+        let deadline = self.wheel.now() + interval;
+        self.launch(deadline, action)
     }
 
     /// Whether a start with this interval is accepted if memory is available.
@@ -153,16 +146,39 @@ impl<W: Wheel + Drop> Timers<W> {
         Ok(())
     }
 
-    /// The timer that a start adds.
-    fn next(&self, interval: u64, action: u64) -> Timer
-        requires { IsStartable interval self.now }
-        ensures { result ≡ next_timer interval action self.now }
+    /// Starts a timer for this tick, which is now or later, under the next serial.
+    // Always inlined: else its result goes through memory.
+    #[inline(always)]
+    fn launch(&mut self, deadline: u64, action: u64) -> Result<Handle, StartFault>
+        requires not_past { self.old.now ≤ deadline }
+        requires deadline { deadline ≤ self.old.last_tick }
+        requires serial { self.old.last_serial < LAST }
+        ensures started { IfOk result (λ handle. self.new
+            ≡ after_held_start handle.place (timer_due deadline action self.old) self.old) }
+        ensures named { IfOk result (λ handle. handle.serial ≡ self.old.last_serial + 1) }
+        ensures fault { IfErr result (λ fault. (fault ≡ StartFault.OutOfMemory) × IsRoomUsed self.old) }
+        ensures err { OnErr result (self.new ≡ self.old) }
+    {
+        let timer = self.next(deadline, action);
+        match self.wheel.start(timer) {
+            Ok(handle) => {
+                self.last_serial = timer.serial;
+                Ok(handle)
+            }
+            Err(_) => Err(StartFault::OutOfMemory),
+        }
+    }
+
+    /// The next timer, for this tick.
+    fn next(&self, deadline: u64, action: u64) -> Timer
+        requires { self.now.last_serial < LAST }
+        ensures { result ≡ timer_due deadline action self.now }
     {
         Timer {
             serial: self.last_serial + 1,
             client: 0,
             number: 0,
-            deadline: self.wheel.now() + interval,
+            deadline,
             action,
         }
     }
@@ -183,33 +199,9 @@ impl<W: Wheel + Drop> Timers<W> {
             × IsRoomUsed self.old)) }
         ensures err { OnErr result (self.new ≡ self.old) }
     {
-        let interval = self.until(deadline);
-        if interval == 0 {
-            return self.start_due(action);
-        }
-        self.start(interval, action)
-    }
-
-    /// Starts a timer that expires at once, under the next serial: it is started for the next tick, and then
-    /// made due. Fails as a start for the next tick. `start_at` calls it for a tick that is not after now.
-    pub fn start_due(&mut self, action: u64) -> Result<Handle, StartFault>
-        ensures started { IfOk result (λ handle. self.new ≡ after_start_due handle.place action self.old) }
-        ensures named { IfOk result (λ handle. handle.serial ≡ self.old.last_serial + 1) }
-        ensures in_order { IfOk result (λ _. IsStartable 1 self.old) }
-        ensures fault { IfErr result (λ fault. WhyNotStarted 1 self.old fault
-            ⊎ ((fault ≡ StartFault.OutOfMemory) × IsStartable 1 self.old × IsRoomUsed self.old)) }
-        ensures err { OnErr result (self.new ≡ self.old) }
-    {
-        self.admit(1)?;
-        let timer = self.next(1, action);
-        match self.wheel.start(timer) {
-            Ok(handle) => {
-                self.wheel.make_due(handle);
-                self.last_serial = timer.serial;
-                Ok(handle)
-            }
-            Err(_) => Err(StartFault::OutOfMemory),
-        }
+        self.admit(self.until(deadline).max(1))?;
+        let deadline = self.wheel.now().max(deadline);
+        self.launch(deadline, action)
     }
 
     /// How many ticks are left until this one, or 0 if it is not after the present one.
@@ -224,10 +216,7 @@ impl<W: Wheel + Drop> Timers<W> {
     pub fn look(&self, handle: Handle) -> Option<Timer>
         ensures { result ≡ held_at handle self.now }
     {
-        match self.wheel.look(handle) {
-            Some(timer) => Some(timer),
-            None => self.wheel.look_due(handle),
-        }
+        self.wheel.look(handle)
     }
 
     /// Removes the timer with exactly this handle, pending or expired and not yet taken, and returns it. If
@@ -237,11 +226,7 @@ impl<W: Wheel + Drop> Timers<W> {
         ensures stopped { self.new ≡ after_removal handle self.old }
         ensures dead { held_at handle self.new ≡ None }
     {
-        self.wheel.lemma_names_one(handle);
-        match self.wheel.stop(handle) {
-            Some(timer) => Some(timer),
-            None => self.wheel.withdraw(handle),
-        }
+        self.wheel.stop(handle)
     }
 
     /// Removes the timer with exactly this handle, pending or expired and not yet taken, and starts another
@@ -261,9 +246,32 @@ impl<W: Wheel + Drop> Timers<W> {
         ensures err { OnErr result (self.new ≡ self.old) }
     {
         self.check_restart(handle, interval)?;
-        let timer = self.next(interval, action);
-        match replace(&mut self.wheel, handle, timer) {
-            Some(made) => {
+        let deadline = self.wheel.now() + interval;
+        self.replace(handle, deadline, action)
+    }
+
+    /// Removes the timer with this handle, and starts another in its place for this tick, which is now or later,
+    /// under the next serial.
+    #[inline(always)]
+    fn replace(
+        &mut self,
+        handle: Handle,
+        deadline: u64,
+        action: u64,
+    ) -> Result<Handle, RestartFault>
+        requires not_past { self.old.now ≤ deadline }
+        requires deadline { deadline ≤ self.old.last_tick }
+        requires serial { self.old.last_serial < LAST }
+        ensures replaced { IfOk result (λ made. self.new
+            ≡ after_held_start made.place (timer_due deadline action self.old) (after_removal handle self.old)) }
+        ensures named { IfOk result (λ made. made.serial ≡ self.old.last_serial + 1) }
+        ensures fault { IfErr result (λ fault. (fault ≡ RestartFault.NotPending)
+            × (held_at handle self.old ≡ None)) }
+        ensures err { OnErr result (self.new ≡ self.old) }
+    {
+        let timer = self.next(deadline, action);
+        match self.wheel.restart(handle, timer) {
+            Some((made, _)) => {
                 self.last_serial = timer.serial;
                 Ok(made)
             }
@@ -288,33 +296,9 @@ impl<W: Wheel + Drop> Timers<W> {
         ensures fault { IfErr result (WhyNotRestarted handle (interval_until deadline self.old) self.old) }
         ensures err { OnErr result (self.new ≡ self.old) }
     {
-        let interval = self.until(deadline);
-        if interval == 0 {
-            return self.restart_due(handle, action);
-        }
-        self.restart(handle, interval, action)
-    }
-
-    /// Removes the timer with exactly this handle, as `restart`, and starts one that expires at once. It is
-    /// `restart_at` for a tick that is not after the present one. Does not allocate.
-    pub fn restart_due(&mut self, handle: Handle, action: u64) -> Result<Handle, RestartFault>
-        ensures restarted { IfOk result (λ made.
-            self.new ≡ after_start_due made.place action (after_removal handle self.old)) }
-        ensures named { IfOk result (λ made. made.serial ≡ self.old.last_serial + 1) }
-        ensures in_order { IfOk result (λ _. IsAt handle self.old × IsStartable 1 self.old) }
-        ensures fault { IfErr result (WhyNotRestarted handle 1 self.old) }
-        ensures err { OnErr result (self.new ≡ self.old) }
-    {
-        self.check_restart(handle, 1)?;
-        let timer = self.next(1, action);
-        match replace(&mut self.wheel, handle, timer) {
-            Some(made) => {
-                self.wheel.make_due(made);
-                self.last_serial = timer.serial;
-                Ok(made)
-            }
-            None => Err(RestartFault::NotPending),
-        }
+        self.check_restart(handle, self.until(deadline).max(1))?;
+        let deadline = self.wheel.now().max(deadline);
+        self.replace(handle, deadline, action)
     }
 
     /// Starts a timer that expires at the tick `deadline`, as `start_at`, in place of the timer with exactly this

@@ -2,7 +2,7 @@ use Rattle.std.proofs.Common.{sym, ap, arith}
 use Rattle.timer_facility.specs.State.{FacilityState, Restart}
 use Rattle.timer_facility.specs.Verdict.{named, interval_refusal}
 use Rattle.timer_facility.specs.Step.{after_restart, new_timer}
-use Rattle.timer_facility.proofs.FacilityParts.{next_when, in_arrays, in_time, tells, found_there, parts-used, parts-restart, view-unchanged, restart_idle, view-restart}
+use Rattle.timer_facility.proofs.FacilityParts.{next_when, nothing_due, in_arrays, in_time, tells, found_there, parts-used, parts-restart, view-unchanged, restart_idle, view-restart}
 use Rattle.timer_facility.proofs.VerdictLemmas.{timely}
 use Rattle.timer_facility.proofs.facility.Facility.take_restart.Goals as goal
 
@@ -72,10 +72,12 @@ overflow_add-deadline g c =
     let in_range = t.in_range in
     omega arith
 
-pub restart-requires-clause-later : goal.restart-requires-clause-later
-restart-requires-clause-later g c =
-    (in_time c.self.invariant c.self.view_is (g.met.W.Wheel.well_formed c.self.inside.wheel) c.args.interval c.now.result
-    (timely c.args.self.now.state c.args.interval (sym c.in_default-interval_refusal.ensures)) c.now.ensures).later
+pub restart-requires-clause-not_past : goal.restart-requires-clause-not_past
+restart-requires-clause-not_past g c =
+    let t = in_time c.self.invariant c.self.view_is (g.met.W.Wheel.well_formed c.self.inside.wheel) c.args.interval c.now.result
+    (timely c.args.self.now.state c.args.interval (sym c.in_default-interval_refusal.ensures)) c.now.ensures in
+    let later = t.later in
+    omega arith
 
 pub restart-requires-clause-deadline : goal.restart-requires-clause-deadline
 restart-requires-clause-deadline g c =
@@ -100,6 +102,10 @@ invariant_of-self-2 g c =
     (record {
       is_client = n.is_client;
       now_is = c.now.ensures;
+      later = (in_time c.self.invariant c.self.view_is (g.met.W.Wheel.well_formed c.self.inside.wheel) c.args.interval c.now.result
+          (timely c.args.self.now.state c.args.interval (sym c.in_default-interval_refusal.ensures)) c.now.ensures).later;
+      none_due = nothing_due c.self.invariant c.self.view_is c.requires.waiting;
+      distinct = (g.met.W.Wheel.well_formed c.self.inside.wheel).distinct;
       there = found_there c.self.invariant c.self.view_is c.args.client c.args.handle c.in-Some.old (sym c.in-Some.ensures);
       restarted = c.in-Some-restart.ensures.restarted;
     }) (sym c.in-Some.ensures) (omega arith)) c.args.client c.args.number n.in_range
@@ -112,6 +118,10 @@ returns-clause-left g c =
     (record {
       is_client = n.is_client;
       now_is = c.now.ensures;
+      later = (in_time c.self.invariant c.self.view_is (g.met.W.Wheel.well_formed c.self.inside.wheel) c.args.interval c.now.result
+          (timely c.args.self.now.state c.args.interval (sym c.in_default-interval_refusal.ensures)) c.now.ensures).later;
+      none_due = nothing_due c.self.invariant c.self.view_is c.requires.waiting;
+      distinct = (g.met.W.Wheel.well_formed c.self.inside.wheel).distinct;
       there = found_there c.self.invariant c.self.view_is c.args.client c.args.handle c.in-Some.old (sym c.in-Some.ensures);
       restarted = c.in-Some-restart.ensures.restarted;
     }) c.requires.waiting (sym c.in-Some.ensures) (sym c.in_default-interval_refusal.ensures)

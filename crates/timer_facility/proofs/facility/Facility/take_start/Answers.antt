@@ -32,10 +32,12 @@ overflow_add-deadline g c =
     let in_range = t.in_range in
     omega arith
 
-pub start-requires-clause-later : goal.start-requires-clause-later
-start-requires-clause-later g c =
-    (in_time c.self.invariant c.self.view_is (g.met.W.Wheel.well_formed c.self.inside.wheel) c.args.interval c.now.result
-    (startable c.args.self.now.state c.args.interval (sym c.in_default.ensures)).timely c.now.ensures).later
+pub start-requires-clause-not_past : goal.start-requires-clause-not_past
+start-requires-clause-not_past g c =
+    let t = in_time c.self.invariant c.self.view_is (g.met.W.Wheel.well_formed c.self.inside.wheel) c.args.interval c.now.result
+    (startable c.args.self.now.state c.args.interval (sym c.in_default.ensures)).timely c.now.ensures in
+    let later = t.later in
+    omega arith
 
 pub start-requires-clause-deadline : goal.start-requires-clause-deadline
 start-requires-clause-deadline g c =
@@ -69,7 +71,8 @@ invariant_of-self-in-Ok g c =
     let capacity = t.capacity_is in
     let n = next_when c.self.invariant c.self.view_is c.args.client c.args.number c.requires.taken in
     parts-used (parts-start c.self.invariant (omega arith) (λ e. room (length ∙ e ∙ sym capacity)) c.in-Ok.handle.place _ refl n.is_client
-    (g.W.Wheel.state c.start.new.self) c.in-Ok.ensures.started) c.args.client c.args.number n.in_range
+    (in_time c.self.invariant c.self.view_is (g.met.W.Wheel.well_formed c.self.inside.wheel) c.args.interval c.now.result s.timely
+    c.now.ensures).later (g.W.Wheel.state c.start.new.self) c.in-Ok.ensures.started) c.args.client c.args.number n.in_range
 
 pub returns-in-Ok-clause-answer : goal.returns-in-Ok-clause-answer
 returns-in-Ok-clause-answer g c =
@@ -85,7 +88,9 @@ returns-in-Ok-clause-left g c =
     let n = next_when c.self.invariant c.self.view_is c.args.client c.args.number c.requires.taken in
     view-start c.self.invariant c.self.view_is c.args.client c.args.number c.args.interval c.args.action c.in-Ok.handle.place n.is_client
     c.requires.waiting (sym c.in_default.ensures)
-    c.now.result c.now.ensures (g.W.Wheel.state c.start.new.self) c.in-Ok.ensures.started
+    c.now.result c.now.ensures (in_time c.self.invariant c.self.view_is (g.met.W.Wheel.well_formed c.self.inside.wheel) c.args.interval
+    c.now.result (startable c.args.self.now.state c.args.interval (sym c.in_default.ensures)).timely c.now.ensures).later
+    (g.W.Wheel.state c.start.new.self) c.in-Ok.ensures.started
 
 pub offset_bounds-self-inside-client-in-Ok-2 : goal.offset_bounds-self-inside-client-in-Ok-2
 offset_bounds-self-inside-client-in-Ok-2 g c = let low = in_arrays c.self.invariant c.self.view_is c.args.client c.args.number

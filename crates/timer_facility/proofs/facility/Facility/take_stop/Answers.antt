@@ -1,6 +1,5 @@
-use Rattle.std.proofs.Common.{◌∙◌, sym, ap, refl, None, Some, arith}
-use Rattle.timer_base.specs.Pending.{without_found}
-use Rattle.timer_facility.proofs.FacilityParts.{next_when, in_arrays, view-stop, found_there, parts-used, parts-stopped, stopped_counted}
+use Rattle.std.proofs.Common.{sym, refl, None, Some, arith}
+use Rattle.timer_facility.proofs.FacilityParts.{next_when, in_arrays, view-stop, stopped_as, parts-used, parts-stopped, stopped_counted}
 use Rattle.timer_facility.proofs.facility.Facility.take_stop.Goals as goal
 
 pub overflow_add-self : goal.overflow_add-self
@@ -32,10 +31,10 @@ invariant_of-self g c = parts-used c.self.invariant c.args.client c.args.number
 pub invariant_of-self-in-Some : goal.invariant_of-self-in-Some
 invariant_of-self-in-Some g c =
     let n = next_when c.self.invariant c.self.view_is c.args.client c.args.number c.requires.taken in
-    let there = found_there c.self.invariant c.self.view_is c.args.client c.args.handle c.in-Some.timer (sym c.in-Some.ensures) in
-    let w = g.W.Wheel.state c.self.inside.wheel in
-    let stopped = c.stop.ensures.stopped ∙ ap (λ o. record w { pending = without_found o w.pending }) there in
-    parts-used (parts-stopped c.self.invariant c.self.view_is (g.met.W.Wheel.well_formed c.self.inside.wheel) c.args.client c.args.handle
+    let w = g.met.W.Wheel.well_formed c.self.inside.wheel in
+    let stopped = stopped_as c.self.invariant c.self.view_is w c.requires.waiting c.args.client c.args.handle c.in-Some.timer
+    (sym c.in-Some.ensures) (g.W.Wheel.state c.stop.new.self) c.stop.ensures.stopped in
+    parts-used (parts-stopped c.self.invariant c.self.view_is w c.args.client c.args.handle
     c.in-Some.timer (sym c.in-Some.ensures) (g.W.Wheel.state c.stop.new.self) stopped) c.args.client c.args.number n.in_range
 
 pub returns-in-None-clause-left : goal.returns-in-None-clause-left
@@ -47,11 +46,11 @@ returns-in-None-clause-left g c =
 pub returns-in-Some-clause-left : goal.returns-in-Some-clause-left
 returns-in-Some-clause-left g c =
     let n = next_when c.self.invariant c.self.view_is c.args.client c.args.number c.requires.taken in
-    let w = g.W.Wheel.state c.self.inside.wheel in
-    let there = found_there c.self.invariant c.self.view_is c.args.client c.args.handle c.in-Some.timer (sym c.in-Some.ensures) in
+    let w = g.met.W.Wheel.well_formed c.self.inside.wheel in
     view-stop c.self.invariant c.self.view_is c.args.client c.args.number c.args.handle
     (Some c.in-Some.timer) n.is_client c.requires.waiting (sym c.in-Some.ensures) (g.W.Wheel.state c.stop.new.self)
-    (c.stop.ensures.stopped ∙ ap (λ o. record w { pending = without_found o w.pending }) there)
+    (stopped_as c.self.invariant c.self.view_is w c.requires.waiting c.args.client c.args.handle c.in-Some.timer
+    (sym c.in-Some.ensures) (g.W.Wheel.state c.stop.new.self) c.stop.ensures.stopped)
 
 pub offset_bounds-self-inside-client-in-Some-2 : goal.offset_bounds-self-inside-client-in-Some-2
 offset_bounds-self-inside-client-in-Some-2 g c = let low = in_arrays c.self.invariant c.self.view_is c.args.client c.args.number

@@ -1,4 +1,3 @@
-use Rattle.timer_total.proofs.CountLemmas.{counted-ticks}
 use Rattle.std.proofs.Common.{◌≡◌, ◌-◌, ◌<◌, [], arith}
 use Rattle.std.specs.Prelude.{min}
 use Rattle.timer_base.specs.TickLaws.{not_due}
@@ -8,10 +7,8 @@ use Rattle.timer_total.proofs.timers.Timers.advance.Goals as goal
 
 pub invariant_of-self : goal.invariant_of-self
 invariant_of-self g c =
-    let w = g.W.Wheel.state c.self.inside.wheel in let w' = g.W.Wheel.state c.advance.new.self in
-    let serial = c.self.inside.last_serial in
-    counted-ticks c.advance.result serial w w' (g.met.W.Wheel.well_formed c.self.inside.wheel) c.advance.ensures.ticked
-    (still_counted c.min.result c.advance.result serial w w' c.advance.ensures c.self.invariant.last) c.self.invariant
+    still_counted c.min.result c.advance.result c.self.inside.last_serial (g.W.Wheel.state c.self.inside.wheel)
+    (g.W.Wheel.state c.advance.new.self) c.advance.ensures c.self.invariant
 
 pub returns-clause-passed : goal.returns-clause-passed
 returns-clause-passed g c =

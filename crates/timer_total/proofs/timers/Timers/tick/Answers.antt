@@ -1,4 +1,3 @@
-use Rattle.timer_total.proofs.CountLemmas.{counted-tick}
 use Rattle.std.proofs.Common.{◌≡◌, sym, ◌∙◌}
 use Rattle.timer_base.specs.TickLaws.{not_due}
 use Rattle.timer_total.proofs.ClockEnds.{at_end}
@@ -11,8 +10,3 @@ returns-then-now-last_tick-clause-fault g c =
     let ends : w.now ≡ w.last_tick = sym c.now.ensures ∙ c.if-now-last_tick.true ∙ c.last_tick.ensures in
     at_end c.self.inside.last_serial w c.args.self.now c.self.view_is f
     (not_due w.due c.has_due.result c.has_due.ensures c.if-has_due.false) ends
-
-pub invariant_of-self : goal.invariant_of-self
-invariant_of-self g c =
-    counted-tick c.self.inside.last_serial (g.W.Wheel.state c.self.inside.wheel) (g.W.Wheel.state c.per_tick.new.self)
-    (g.met.W.Wheel.well_formed c.self.inside.wheel) c.per_tick.ensures c.self.invariant
