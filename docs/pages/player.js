@@ -262,6 +262,23 @@ function key(event) {
   acts[event.key]();
 }
 
+function setTheme(theme) {
+  document.documentElement.dataset.theme = theme;
+  $("theme").textContent = theme === "dark" ? "Light" : "Dark";
+}
+
+// The theme that was chosen here before, or else the system's.
+function listenToTheme() {
+  const dark = window.matchMedia("(prefers-color-scheme: dark)");
+  const system = () => dark.matches ? "dark" : "light";
+  $("theme").onclick = () => {
+    localStorage.theme = document.documentElement.dataset.theme === "dark" ? "light" : "dark";
+    setTheme(localStorage.theme);
+  };
+  dark.addEventListener("change", () => setTheme(localStorage.theme ?? system()));
+  setTheme(localStorage.theme ?? system());
+}
+
 function followTyped() {
   const typed = $("serial").value.trim();
   if (!typed) return;
@@ -336,6 +353,7 @@ function listen() {
   document.addEventListener("keydown", key);
   window.addEventListener("hashchange", () => location.reload());
   window.addEventListener("resize", renderArrows);
+  listenToTheme();
 }
 
 fill();
