@@ -1,6 +1,6 @@
 -- What passes of the bytes of a stream, piece after piece.
 use Rattle.std.proofs.Common.{◌≡◌, zero, suc, ℕ, ◌+◌, ◌-◌, ◌^◌, ◌≤◌, Bool, true, false, List, [], ◌∷◌, ◌++◌, length, take, refl, sym, ap, subst, ◌∙◌, arith, inl, inr, lit≤, append_assoc, append-nil, length-append}
-use Rattle.std.specs.Prelude.{◌↔◌, ◌⊎◌, Option, None, Some, min}
+use Rattle.std.specs.Prelude.{◌↔◌, Option, None, Some, min}
 use Rattle.std.specs.List.{flat_map, AllByRecursion}
 use Rattle.std.proofs.Math.Seq.{take-append_seam, take-append-add}
 use Rattle.std.proofs.lemmas.Grind.{flat_map-append}
@@ -16,9 +16,9 @@ use Rattle.timer_script.specs.declared.line_fault.LineFault.{LineFault}
 use Rattle.timer_script.specs.declared.line_fault.LineReason.TheVariants.{NoLineEnd}
 use Rattle.timer_script.specs.declared.splitter.TheConstants.{MAX_LINE}
 use Rattle.timer_script.specs.Watched.{inner_of, has_failed}
-use Rattle.timer_script.specs.Script.{IsInRange, IsScript, spelling, BeginsNoLine}
+use Rattle.timer_script.specs.Script.{IsInRange, spelling, BeginsNoLine}
 use Rattle.timer_script.specs.Diagnosis.{IsFaultOf}
-use Rattle.timer_script.specs.Cutter.{Line, IsCut, IsGoodOrBad, bytes_of, events_of, number_after, number_next, Complaint, bad_among, bad_of, IsLastBad, complaint_line, complaints, IsFrontOf, HasCut, HasStoppedCut, HasReported, AreSoFar, AreFirst, AreAll, Passes, HasPassed, HasSeen, HasSeenPart, HasEnded, IsStoppedAt, HasTakenIn, HasStopped, TakesPiece}
+use Rattle.timer_script.specs.Cutter.{Line, IsGoodOrBad, bytes_of, events_of, number_after, number_next, Complaint, bad_among, bad_of, IsLastBad, complaint_line, complaints, IsFrontOf, HasCut, HasStoppedCut, HasReported, AreSoFar, AreFirst, HasPassed, HasSeen, HasSeenPart, HasEnded, IsStoppedAt, HasTakenIn, HasStopped, TakesPiece}
 use Rattle.timer_script.proofs.Results.{true_false}
 use Rattle.timer_script.proofs.SplitterLemmas.{no_feed_no_line}
 use Rattle.timer_script.proofs.CutterLines.{stop_report, events-append, number-append, bad-append, among_is, next_is, good_script, lines-join, all_good, input_more, some_left, none_left, last_some}

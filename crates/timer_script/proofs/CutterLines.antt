@@ -1,6 +1,6 @@
 -- The lines of an input, one after another, as a cutter takes them.
 use Rattle.std.proofs.Common.{◌≡◌, lit≤, zero, suc, ℕ, ◌+◌, ◌-◌, ◌^◌, ◌<◌, ◌≤◌, List, [], ◌∷◌, ◌++◌, length, get_or, take, drop, Some, None, refl, sym, ap, subst, ◌∙◌, arith, append_assoc, append-nil, length-append, take-append-drop}
-use Rattle.std.specs.Prelude.{min, Result, Ok, Err, OnOk}
+use Rattle.std.specs.Prelude.{min}
 use Rattle.std.specs.List.{flat_map, enumerate_from, AllByRecursion}
 use Rattle.std.proofs.lemmas.Grind.{flat_map-append}
 use Rattle.std.proofs.lemmas.List.{take_rest}
@@ -20,7 +20,7 @@ use Rattle.timer_script.specs.Cutter.{Line, Good, Bad, bytes_of, IsGoodOrBad, ev
 use Rattle.timer_script.specs.declared.fault.ScriptFault.{ScriptFault}
 use Rattle.timer_script.specs.declared.fault.ScriptFault.TheVariants as faults
 use Rattle.timer_script.proofs.LineLemmas.{line_again, line_sound}
-use Rattle.timer_script.proofs.SplitterLemmas.{IsFed, line_fed, first_feed, no_feed-append, no_feed-take, feed-take, unread, too_long}
+use Rattle.timer_script.proofs.SplitterLemmas.{IsFed, line_fed, first_feed, no_feed-append, no_feed-take, feed-take, too_long}
 
 -- ---- lists of lines
 
@@ -460,8 +460,3 @@ input_more bytes lines left more a b cut h = record {
   each = lines-join lines h.lines cut.each h.each;
   unended = h.rest.no_feed;
 }
-
--- what holds of a success
-pub on_ok : {E A B : Type 0} (result : Result Unit E) → OnOk result A → (A → B) → OnOk result B
-on_ok (Ok u) a f = f a
-on_ok (Err e) a f = a

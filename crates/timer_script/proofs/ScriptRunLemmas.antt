@@ -111,15 +111,6 @@ added_answer s after events lines answer sound adds is = record {
 pub adds_none : (s : FacilityState) (text : List ℕ) → AddsLines s [] text text s
 adds_none s text = record { outs = []; runs = IsRun-none s; lines = sym (append-nil text) }
 
--- lines that were made apart were appended
-pub adds_apart : (a b : FacilityState) (es : List Event) (empty lines x y : List ℕ) → empty ≡ [] → AddsLines a es empty lines b
-    → y ≡ x ++ lines → AddsLines a es x y b
-adds_apart a b es empty lines x y none h grows = record {
-  outs = h.outs;
-  runs = h.runs;
-  lines = grows ∙ ap (λ t. x ++ t) (h.lines ∙ ap (λ t. t ++ flat_map out_line h.outs) none);
-}
-
 -- the first events were played, and the text is as it was then
 pub adds_first : (a b : FacilityState) (events : List Event) (i : ℕ) (x y z : List ℕ) → AddsLines a (take i events) x y b → z ≡ y
     → AddsFirstLines a events x z

@@ -1,5 +1,5 @@
 -- What serving did, turn after turn, and how it ends.
-use Rattle.std.proofs.Common.{◌≡◌, zero, suc, ℕ, ◌+◌, ◌-◌, ◌^◌, ◌≤◌, Bool, true, false, List, [], ◌∷◌, ◌++◌, length, take, drop, inl, inr, refl, sym, ap, subst, ◌∙◌, arith, append_assoc, append-nil, length-append, take-append-drop}
+use Rattle.std.proofs.Common.{◌≡◌, zero, suc, ℕ, ◌+◌, ◌-◌, ◌^◌, ◌≤◌, Bool, true, List, [], ◌∷◌, ◌++◌, length, take, drop, inl, inr, refl, sym, ap, subst, ◌∙◌, arith, append_assoc, append-nil, length-append, take-append-drop}
 use Rattle.std.specs.Prelude.{Option, Result, Ok, Err, None, Some}
 use Rattle.std.specs.Io.KnownBytes.{IsAtEnd}
 use Rattle.std.proofs.lemmas.List.{length-take-le, take-append-le}
@@ -19,7 +19,7 @@ use Rattle.timer_script.specs.Text.{lines_of}
 use Rattle.timer_script.specs.Decorator.{Decoration, IsLawful, AddsNothing}
 use Rattle.timer_script.specs.Cutter.{Passes, HasPassed, AreSoFar, HasSeen, HasSeenPart, HasEnded, HasStopped, IsStoppedAt, HasTakenIn, TakesPiece, TakesEnd}
 use Rattle.timer_script.specs.Peer.{PeerState, Moment, Gives}
-use Rattle.timer_script.specs.Service.{AreGood, HasSent, HasSentPart, is_flushed, StopsEnd, last_line, HasAnswered, HasAnsweredPart, HasServedEvents, HasServedSome, StopsEvents, IsAnsweredWith, IsPrompt, HasTalked, Server, server_with, Sides, HasServedAll, HasServedPart, HasAnsweredAll, HasServed, HasUnseen, HasServedPiece}
+use Rattle.timer_script.specs.Service.{AreGood, HasSent, is_flushed, StopsEnd, last_line, HasAnswered, HasServedEvents, HasServedSome, StopsEvents, IsAnsweredWith, IsPrompt, HasTalked, Server, server_with, Sides, HasServedAll, HasServedPart, HasAnsweredAll, HasServed, HasUnseen, HasServedPiece}
 use Rattle.timer_script.proofs.CutterLemmas.{seen_part, seen_whole, piece_seen, ended_seen, passed_none, taken_none, taken_passed}
 use Rattle.timer_script.proofs.PeerLemmas.{known_prompt, talked_nothing, talked_wrote, talked_sent, came_after, failed_after}
 use Rattle.timer_script.proofs.ServicePieces.{answered, answered_whole, answered_join, sent_good}

@@ -1,5 +1,5 @@
 -- The answers to some events, and what is added to them: played and written.
-use Rattle.std.proofs.Common.{◌≡◌, ℕ, Bool, true, false, List, [], ◌∷◌, ◌++◌, length, take, drop, refl, sym, ap, subst, ◌∙◌, append_assoc, append-nil, take-append-drop}
+use Rattle.std.proofs.Common.{◌≡◌, ℕ, Bool, true, false, List, [], ◌++◌, length, take, drop, refl, sym, ap, subst, ◌∙◌, append_assoc, append-nil, take-append-drop}
 use Rattle.std.specs.Prelude.{Result, Ok, Err, OnOk, OnErr}
 use Rattle.std.proofs.Math.Seq.{take-append_seam}
 use Rattle.std.proofs.lemmas.Grind.{flat_map-append}
@@ -10,7 +10,7 @@ use Rattle.timer_facility.proofs.PlayedLemmas.{IsRun-none, IsRun-join}
 use Rattle.timer_script.specs.declared.fault.TurnFault.{TurnFault}
 use Rattle.timer_script.specs.declared.fault.TurnFault.TheVariants as turns
 use Rattle.timer_script.specs.Text.{out_line, lines_of}
-use Rattle.timer_script.specs.ScriptRun.{AddsLines, AddsFirstLines}
+use Rattle.timer_script.specs.ScriptRun.{AddsLines}
 use Rattle.timer_script.specs.Decorator.{Decoration, IsLawful, HasGrown, HasGrownBy}
 use Rattle.timer_script.specs.Peer.{PeerState}
 use Rattle.timer_script.specs.Service.{AreGood, HasSent, HasSentPart, is_flushed, HasAnswered, HasAnsweredPart, HasServedEvents, HasServedSome, StopsEvents}
@@ -27,16 +27,6 @@ answered A d s t events before text none h =
       runs = h.runs;
       added = subst (λ z. A s events t (lines_of h.outs) z) (sym whole) (d.lines s t events h.outs h.runs);
     }
-
-pub answered_part : (A : Decoration) (d : IsLawful A) (s : FacilityState) (events : List Event) (before text : List ℕ) → before ≡ []
-    → AddsFirstLines s events before text → HasAnsweredPart A s events text
-answered_part A d s events before text none h = record {
-  played = h.played;
-  unplayed = h.unplayed;
-  parts = h.parts;
-  after = h.after;
-  answered = answered A d s h.after h.played before text none h.adds;
-}
 
 pub answered_whole : (A : Decoration) (s t : FacilityState) (events : List Event) (text : List ℕ) → HasAnswered A s events t text
     → HasAnsweredPart A s events text

@@ -1,5 +1,5 @@
 -- The positions of line feeds in lines.
-use Rattle.std.proofs.Common.{◌==◌, ◌&&◌, not, Bool, true, false, inl, inr, ◌≡◌, ℕ, ◌+◌, ◌-◌, ◌^◌, ◌%◌, ◌<◌, ◌≤◌, List, [], ◌∷◌, ◌++◌, length, get_or, take, Some, None, decimal, codes, refl, sym, ap, subst, ◌∙◌, arith, append_assoc, append-nil, length-append, lit≤}
+use Rattle.std.proofs.Common.{◌==◌, ◌&&◌, not, Bool, true, false, inl, inr, ◌≡◌, ℕ, ◌+◌, ◌-◌, ◌^◌, ◌%◌, ◌<◌, ◌≤◌, List, [], ◌∷◌, ◌++◌, length, get_or, take, None, decimal, codes, refl, sym, ap, subst, ◌∙◌, arith, append_assoc, append-nil, length-append, lit≤}
 use Rattle.std.proofs.lemmas.Fmt.{length-decimal-le, decimal_by_steps}
 use Rattle.std.proofs.lemmas.List.{take_more}
 use Rattle.timer_base.specs.declared.limits.TheConstants.{LAST}
@@ -12,7 +12,7 @@ use Rattle.timer_script.specs.Script.{IsInRange, line, BeginsNoLine}
 use Rattle.timer_script.specs.Splitter.{HasNoFeed}
 use Rattle.std.proofs.lemmas.Option.{none-some}
 use Rattle.timer_script.specs.Lines.{line_at}
-use Rattle.timer_script.proofs.LineLemmas.{line_again, line_sound}
+use Rattle.timer_script.proofs.LineLemmas.{line_again}
 
 pub no_feed-append : (xs ys : List ℕ) → HasNoFeed xs → HasNoFeed ys → HasNoFeed (xs ++ ys)
 no_feed-append [] ys a b = b

@@ -1,4 +1,4 @@
-use Rattle.std.proofs.Common.{◌∙◌, rules, sym}
+use Rattle.std.proofs.Common.{rules, sym}
 use Rattle.timer_script.proofs.CutterLines.{ended_good, ended_bad}
 use Rattle.timer_script.proofs.cutter.sort_line.Goals as goal
 

@@ -1,4 +1,4 @@
-use Rattle.std.proofs.Common.{◌≡◌, [], true, length, refl, sym, subst}
+use Rattle.std.proofs.Common.{[], true, length, refl, sym, subst}
 use Rattle.timer_script.specs.Cutter.{TakesPiece}
 use Rattle.timer_script.specs.Fault.{serve_fault}
 use Rattle.timer_script.specs.Service.{server_with, HasServedEvents, StopsEvents, HasServedPiece}

@@ -1,4 +1,4 @@
-use Rattle.std.proofs.Common.{◌∷◌, [], sym, subst, take, drop, take-append-drop}
+use Rattle.std.proofs.Common.{sym, subst, take}
 use Rattle.std.proofs.lemmas.List.{take_more}
 use Rattle.timer_script.specs.ScriptRun.{AddsLines}
 use Rattle.timer_script.proofs.Results.{on_err}
