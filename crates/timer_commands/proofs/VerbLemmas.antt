@@ -6,13 +6,14 @@ use Rattle.std.proofs.KnownBytes.{Consumes-nil}
 use Rattle.timer_facility.specs.State.{FacilityState}
 use Rattle.timer_script.specs.declared.fault.RunFault.TheVariants as runs
 use Rattle.timer_script.specs.declared.fault.ServeFault.TheVariants as serves
-use Rattle.timer_script.specs.declared.intake.OnBadLine.{OnBadLine}
-use Rattle.timer_script.specs.declared.intake.OnBadLine.TheVariants.{Stop}
+use Rattle.timer_script.specs.declared.cutter.OnBadLine.{OnBadLine}
+use Rattle.timer_script.specs.declared.cutter.OnBadLine.TheVariants.{Stop}
 use Rattle.timer_script.specs.declared.streams.Streams.{Streams}
 use Rattle.timer_script.specs.declared.watched.Watched.{Watched}
 use Rattle.timer_script.specs.Watched.{inner_of, has_failed}
 use Rattle.timer_script.specs.Decorator.{Decoration, IsLawful, AddsNothing, nothing_is_lawful}
 use Rattle.timer_script.specs.Streams.{streams_state}
+use Rattle.timer_script.specs.Service.{server_with}
 use Rattle.timer_script.proofs.ServiceLemmas.{served_nothing}
 use Rattle.timer_commands.specs.declared.verbs.Verb.{Verb}
 use Rattle.timer_commands.specs.declared.verbs.Verb.TheVariants as verbs
@@ -31,7 +32,8 @@ unserved on_bad A d before bytes streams faults faults' reading writing = record
   bad = λ e. inr (
     serves.OutOfMemory,
     faults,
-    served_nothing on_bad A d before (streams_state bytes.remaining bytes.contents streams.reader streams.writer) bytes.reports faults
+    served_nothing (server_with on_bad A before bytes.reports) d
+        (streams_state bytes.remaining bytes.contents streams.reader streams.writer) faults
         (record { reading = reading; writing = writing }),
   );
 }

@@ -17,8 +17,7 @@ use Rattle.timer_facility.specs.declared.event.Out.{Out}
 use Rattle.timer_facility.specs.declared.event.Out.TheVariants as out
 use Rattle.timer_script.specs.Splitter.{HasNoFeed}
 use Rattle.timer_script.specs.Decorator.{IsLawful}
-use Rattle.timer_script.specs.Session.{lines_of}
-use Rattle.timer_script.specs.Text.{numbers, reason_word, refusal_word, out_line, end_line}
+use Rattle.timer_script.specs.Text.{numbers, reason_word, refusal_word, out_line, lines_of, end_line}
 use Rattle.timer_script.proofs.SplitterLemmas.{no_feed-append, is_bare, bare}
 use Rattle.timer_commands.specs.Indented.{EndsWithFeed, is_unmarked, AddsMarked, AddsIndented}
 

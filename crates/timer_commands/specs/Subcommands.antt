@@ -3,15 +3,16 @@ use Rattle.std.specs.Prelude.{◌≡◌, ℕ, ◌≤◌, ◌⊎◌, Bool, true, 
 use Rattle.timer_facility.specs.State.{FacilityState}
 use Rattle.timer_facility.specs.Opened.{opened}
 use Rattle.timer_script.specs.declared.fault.RunFault.{RunFault}
+use Rattle.timer_script.specs.declared.fault.CheckFault.{CheckFault}
 use Rattle.timer_script.specs.declared.fault.ServeFault.{ServeFault}
-use Rattle.timer_script.specs.declared.intake.OnBadLine.{OnBadLine}
-use Rattle.timer_script.specs.declared.intake.OnBadLine.TheVariants.{Stop}
+use Rattle.timer_script.specs.declared.cutter.OnBadLine.{OnBadLine}
+use Rattle.timer_script.specs.declared.cutter.OnBadLine.TheVariants.{Stop}
 use Rattle.timer_script.specs.declared.streams.Streams.{Streams}
 use Rattle.timer_script.specs.declared.watched.Watched.{Watched}
 use Rattle.timer_script.specs.ScriptRun.{HasRun}
 use Rattle.timer_script.specs.ScriptReport.{HasChecked}
 use Rattle.timer_script.specs.Decorator.{Decoration, AddsNothing}
-use Rattle.timer_script.specs.Service.{HasServed}
+use Rattle.timer_script.specs.Service.{HasServed, server_with}
 use Rattle.timer_script.specs.Streams.{streams_state}
 use Rattle.timer_commands.specs.declared.options.RunOptions.{RunOptions}
 use Rattle.timer_commands.specs.declared.options.OptionsFault.{OptionsFault}
@@ -47,17 +48,17 @@ pub record Ends (Good Bad : Type 0) (status : ℕ) : Type 0 where
 abbrev pub HasPlayed : {R S F : Type 0} → FacilityState → Bytes R S F → (old new : Channels R S F)
     → Result Unit RunFault → Type 0
 HasPlayed before bytes old new result =
-    HasRun before bytes.remaining bytes.contents old.streams.reader new.streams.reader old.streams.writer
-    new.streams.writer result
+    HasRun before (record { remaining = bytes.remaining; contents = bytes.contents }) old.streams new.streams result
 
 -- what serving did, if this is done at a bad line and this is added to the answers
 abbrev pub HasServedStreams : {R S F : Type 0} → OnBadLine → Decoration → FacilityState → Bytes R S F
     → (old new : Channels R S F) → Result Bool ServeFault → Type 0
 HasServedStreams on_bad Adds before bytes old new result =
-    HasServed on_bad Adds before
-    (streams_state bytes.remaining bytes.contents old.streams.reader old.streams.writer)
-    (streams_state bytes.remaining bytes.contents new.streams.reader new.streams.writer)
-    bytes.reports old.faults new.faults result
+    HasServed (server_with on_bad Adds before bytes.reports)
+    (record { peer = streams_state bytes.remaining bytes.contents old.streams.reader old.streams.writer;
+    faults = old.faults })
+    (record { peer = streams_state bytes.remaining bytes.contents new.streams.reader new.streams.writer;
+    faults = new.faults }) result
 
 -- the exit status of serving
 abbrev pub serving_status : Result Bool ServeFault → ℕ
@@ -96,15 +97,15 @@ pub record HasEnded {R S F : Type 0} (verb : Verb) (options : RunOptions) (bytes
   pub done : status ≤ 1 → IsPlayable options × HasDone verb (opened_by options) bytes old new status
   pub refused : status ≡ 2 → ((fault : OptionsFault) × IsRefused fault options) × (new.streams ≡ old.streams)
 
+-- what checking a script did
+abbrev pub HasCheckedStreams : {R S F : Type 0} → Bytes R S F → (old new : Streams R S) → Result ℕ CheckFault → Type 0
+HasCheckedStreams bytes = HasChecked (record { remaining = bytes.remaining; contents = bytes.contents })
+
 -- a script was checked: 0: no line is bad, and the report, which is empty, was written; 1: some line is bad, and
 -- the whole report was written; 2: the check failed, by its input, its output or memory
 pub record HasCheckedScript {R S F : Type 0} (bytes : Bytes R S F) (streams streams' : Streams R S) (status : ℕ)
     : Type 0 where
   pub in_range : status ≤ 2
-  pub good : status ≡ 0
-      → HasChecked bytes.remaining bytes.contents streams.reader streams'.reader streams.writer streams'.writer (Ok 0)
-  pub bad : status ≡ 1 → (lines : ℕ) × (1 ≤ lines)
-      × HasChecked bytes.remaining bytes.contents streams.reader streams'.reader streams.writer streams'.writer (Ok lines)
-  pub failed : status ≡ 2 → (fault : RunFault)
-      × HasChecked bytes.remaining bytes.contents streams.reader streams'.reader streams.writer streams'.writer
-      (Err fault)
+  pub good : status ≡ 0 → HasCheckedStreams bytes streams streams' (Ok 0)
+  pub bad : status ≡ 1 → (lines : ℕ) × (1 ≤ lines) × HasCheckedStreams bytes streams streams' (Ok lines)
+  pub failed : status ≡ 2 → (fault : CheckFault) × HasCheckedStreams bytes streams streams' (Err fault)

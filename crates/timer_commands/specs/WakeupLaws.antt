@@ -8,8 +8,7 @@ use Rattle.timer_facility.specs.Played.{IsRun}
 use Rattle.timer_facility.specs.WakeUps.{IsQuietUntil}
 use Rattle.timer_script.specs.Splitter.{HasNoFeed}
 use Rattle.timer_script.specs.Decorator.{IsLawful}
-use Rattle.timer_script.specs.Session.{lines_of}
-use Rattle.timer_script.specs.Text.{end_line}
+use Rattle.timer_script.specs.Text.{lines_of, end_line}
 use Rattle.timer_script.proofs.SplitterLemmas.{no_feed-append, bare}
 use Rattle.timer_commands.specs.Indented.{AddsMarked}
 use Rattle.timer_commands.specs.IndentedLaws.{IsUnused, decimal_bare, adds_join, adds_outs, adds_end}

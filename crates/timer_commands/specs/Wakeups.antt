@@ -5,8 +5,7 @@ use Rattle.timer_facility.specs.declared.event.Out.{Out}
 use Rattle.timer_facility.specs.State.{FacilityState}
 use Rattle.timer_facility.specs.Played.{IsRun}
 use Rattle.timer_facility.specs.WakeUps.{IsQuietUntil}
-use Rattle.timer_script.specs.Session.{lines_of}
-use Rattle.timer_script.specs.Text.{end_line}
+use Rattle.timer_script.specs.Text.{lines_of, end_line}
 use Rattle.timer_script.specs.Decorator.{Decoration}
 use Rattle.timer_commands.specs.Indented.{AddsMarked}
 

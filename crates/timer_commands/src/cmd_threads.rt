@@ -10,7 +10,7 @@ use itoa::Buffer;
 use std::alloc::{AllocError, Global};
 use std::io::Write;
 use std::thread::Threads;
-use timer_script::{RunFault, Watched, write_text};
+use timer_script::{RunFault, Watched, WriteFault, write_text};
 use timer_threads::{Open, ThreadsFault, threads_run};
 
 /// Idle turns, one after another, before a side gives up.
@@ -63,7 +63,7 @@ pub fn end_clients<W: Write, F: Write>(
 }
 
 /// Writes the line of an error of a run of clients. Does not allocate.
-fn write_fault<F: Write>(fault: ThreadsFault, faults: &mut Watched<F>) -> Result<(), RunFault>
+fn write_fault<F: Write>(fault: ThreadsFault, faults: &mut Watched<F>) -> Result<(), WriteFault>
     requires { has_failed faults.old ≡ false }
     ensures ok { OnOk result (Appends (F.contents (inner_of faults.old)) (F.contents (inner_of faults.new))
         (fault_line fault)) }
@@ -78,7 +78,7 @@ fn write_fault<F: Write>(fault: ThreadsFault, faults: &mut Watched<F>) -> Result
 }
 
 /// Writes the line of an error of this client.
-fn write_client<F: Write>(client: usize, faults: &mut Watched<F>) -> Result<(), RunFault>
+fn write_client<F: Write>(client: usize, faults: &mut Watched<F>) -> Result<(), WriteFault>
     requires { has_failed faults.old ≡ false }
     ensures ok { OnOk result (Appends (F.contents (inner_of faults.old)) (F.contents (inner_of faults.new))
         (client_fault client)) }

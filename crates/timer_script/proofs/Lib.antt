@@ -1,3 +1,4 @@
+pub mod Results
 pub mod EmptyReportLemmas
 pub mod ScriptReportLemmas
 pub mod Digits
@@ -8,9 +9,8 @@ pub mod KnownBytes
 pub mod TextLemmas
 pub mod ScriptRunLemmas
 pub mod SplitterLemmas
-pub mod SieveLemmas
-pub mod SessionLemmas
+pub mod CutterLines
 pub mod PeerLemmas
-pub mod IntakeLemmas
+pub mod CutterLemmas
 pub mod ServicePieces
 pub mod ServiceLemmas

@@ -1,313 +1,188 @@
--- The answers to some bytes, and what is added to them: played and written.
+-- The answers to some events, and what is added to them: played and written.
 use Rattle.std.proofs.Common.{◌≡◌, ℕ, Bool, true, false, List, [], ◌++◌, length, take, drop, refl, sym, ap, subst, ◌∙◌, append_assoc, append-nil, take-append-drop}
-use Rattle.std.specs.Prelude.{Result, Ok, Err, OnOk, IfErr}
-use Rattle.std.specs.Result.{IsErrAnd}
+use Rattle.std.specs.Prelude.{Result, Ok, Err, OnOk, OnErr}
 use Rattle.std.proofs.Math.Seq.{take-append_seam}
+use Rattle.std.proofs.lemmas.Grind.{flat_map-append}
 use Rattle.timer_facility.specs.declared.event.Event.{Event}
-use Rattle.timer_facility.specs.declared.event.Out.{Out}
+use Rattle.timer_base.specs.declared.fault.OutOfMemory.{OutOfMemory}
 use Rattle.timer_facility.specs.State.{FacilityState}
-use Rattle.timer_script.specs.declared.fault.ServeFault.{ServeFault}
-use Rattle.timer_script.specs.declared.fault.ServeFault.TheVariants as faults
-use Rattle.timer_script.specs.declared.fault.SessionFault.{SessionFault}
-use Rattle.timer_script.specs.declared.fault.SessionFault.TheVariants as sessions
-use Rattle.timer_script.specs.declared.stage.Stage.TheVariants.{Going}
-use Rattle.timer_script.specs.Session.{SessionState, lines_of, HasFed, IsAnsweredSoFar, WhyStopped}
+use Rattle.timer_facility.proofs.PlayedLemmas.{IsRun-none, IsRun-join}
+use Rattle.timer_script.specs.declared.fault.TurnFault.{TurnFault}
+use Rattle.timer_script.specs.declared.fault.TurnFault.TheVariants as turns
+use Rattle.timer_script.specs.Text.{out_line, lines_of}
+use Rattle.timer_script.specs.ScriptRun.{AddsLines}
 use Rattle.timer_script.specs.Decorator.{Decoration, IsLawful, HasGrown, HasGrownBy}
 use Rattle.timer_script.specs.Peer.{PeerState}
-use Rattle.timer_script.specs.Service.{AreGood, HasSent, HasSentPart, is_flushed, serve_fault, HasAnswered, StopsAnswer, HasServedPiece, StopsPiece}
-use Rattle.timer_script.proofs.SessionLemmas.{ended_going, fed_nothing, fed_join, fed_shift}
+use Rattle.timer_script.specs.Service.{AreGood, HasSent, HasSentPart, is_flushed, HasAnswered, HasAnsweredPart, HasServedEvents, HasServedSome, StopsEvents}
 use Rattle.timer_script.proofs.PeerLemmas.{flushed_none, flushed_both, flushed_anyway, written_none, written_join}
 
--- ---- a session that is running
+-- ---- some events
 
-pub not_ended_before : (fault : SessionFault) (a b : SessionState) → WhyStopped fault a b → a.stage ≡ Going → fault ≡ sessions.Ended → ⊥
-not_ended_before fault a b why going is = let ended = subst (λ f. WhyStopped f a b) is why in ended_going a.stage ended.0 going
-
--- ---- one line
-
--- nothing is unwritten
-pub plain : (A : Decoration) (s t : FacilityState) (events : List Event) (u : List Out) (x y : List ℕ) → u ≡ []
-    → A s events t (x ++ lines_of u) (y ++ lines_of u) → A s events t x y
-plain A s t events u x y none h =
-    subst (λ z. A s events t z y) (append-nil x) (subst (λ z. A s events t (x ++ []) z) (append-nil y)
-    (subst (λ v. A s events t (x ++ lines_of v) (y ++ lines_of v)) none h))
-
-unplain : (A : Decoration) (s t : FacilityState) (events : List Event) (u : List Out) (x y : List ℕ) → u ≡ []
-    → A s events t x y → A s events t (x ++ lines_of u) (y ++ lines_of u)
-unplain A s t events u x y none h =
-    subst (λ v. A s events t (x ++ lines_of v) (y ++ lines_of v)) (sym none)
-    (subst (λ z. A s events t (x ++ []) z) (sym (append-nil y)) (subst (λ z. A s events t z y) (sym (append-nil x)) h))
-
--- what a session writes for some bytes is the answer to them, with nothing added
-fed_whole : (A : Decoration) (d : IsLawful A) (a b : SessionState) (piece bytes unfed text : List ℕ)
-    → a.unwritten ≡ [] → piece ≡ bytes ++ unfed → HasFed a bytes [] text b → HasAnswered A a piece text b unfed
-fed_whole A d a b piece bytes unfed text written parts fed =
-    let whole : lines_of fed.outs ≡ text ++ lines_of b.unwritten =
-    ap (λ u. lines_of u ++ lines_of fed.outs) (sym written) ∙ fed.written ∙ ap (λ t. t ++ lines_of b.unwritten) (sym fed.grows) in
+pub answered : (A : Decoration) (d : IsLawful A) (s t : FacilityState) (events : List Event) (before text : List ℕ) → before ≡ []
+    → AddsLines s events before text t → HasAnswered A s events t text
+answered A d s t events before text none h =
+    let whole : text ≡ lines_of h.outs = h.lines ∙ ap (λ x. x ++ lines_of h.outs) none in
     record {
-      bytes = bytes;
-      parts = parts;
-      answer = text;
-      fed = fed;
-      added = subst (λ t. A a.state fed.events b.state t t) whole (d.lines a.state b.state fed.events fed.outs fed.runs);
+      outs = h.outs;
+      runs = h.runs;
+      added = subst (λ z. A s events t (lines_of h.outs) z) (sym whole) (d.lines s t events h.outs h.runs);
     }
 
-pub fed_answered : (A : Decoration) (d : IsLawful A) (a b : SessionState) (piece bytes unfed before text : List ℕ) → before ≡ []
-    → a.unwritten ≡ [] → piece ≡ bytes ++ unfed
-    → HasFed a bytes before text b
-    → HasAnswered A a piece text b unfed
-fed_answered A d a b piece bytes unfed before text none written parts fed =
-    fed_whole A d a b piece bytes unfed text written parts (subst (λ t. HasFed a bytes t text b) none fed)
+pub answered_whole : (A : Decoration) (s t : FacilityState) (events : List Event) (text : List ℕ) → HasAnswered A s events t text
+    → HasAnsweredPart A s events text
+answered_whole A s t events text h =
+    record { played = events; unplayed = []; parts = sym (append-nil events); after = t; answered = h }
 
--- feeding stopped
-pub feed_stopped : (A : Decoration) (d : IsLawful A) (fault : SessionFault) (a b : SessionState) (line before text : List ℕ) (taken : ℕ)
-    → before ≡ [] → IsAnsweredSoFar a
-    → HasFed a (take taken line) before text b → WhyStopped fault a b
-    → StopsAnswer A (serve_fault fault) a line text b
-feed_stopped A d fault a b line before text taken none going fed why =
-    by_fault fault why (fed_answered A d a b line (take taken line) (drop taken line) before text none going.written
-    (sym (take-append-drop taken line)) fed)
-  where
-    by_fault : (fault : SessionFault) → WhyStopped fault a b → HasAnswered A a line text b (drop taken line)
-        → StopsAnswer A (serve_fault fault) a line text b
-    by_fault (sessions.Bad n) why h = (drop taken line, h, why)
-    by_fault sessions.OutOfMemory why h = (drop taken line, h)
-    by_fault sessions.Ended why h = absurd (ended_going a.stage why.0 going.going)
-
--- what is added after it
-pub line_decorated : (A : Decoration) (d : IsLawful A) (a b : SessionState) (piece text text' : List ℕ) → HasAnswered A a piece text b []
-    → b.unwritten ≡ []
-    → HasGrownBy A b.state text text' → HasAnswered A a piece text' b []
-line_decorated A d a b piece text text' h written grown =
-    let s : FacilityState = a.state in
-    let t : FacilityState = b.state in
-    let events : List Event = h.fed.events in
-    let both : A s (events ++ []) t (h.answer ++ []) (text ++ grown.0) =
-    d.joins s t t events [] h.answer [] text grown.0 (plain A s t events b.unwritten h.answer text written h.added) grown.2 in
-    let added : A s events t h.answer text' =
-    subst (λ z. A s z t h.answer text') (append-nil events) (subst (λ z. A s (events ++ []) t z text') (append-nil h.answer)
-    (subst (λ z. A s (events ++ []) t (h.answer ++ []) z) (sym grown.1) both)) in
+-- what is added after them
+pub decorated : (A : Decoration) (d : IsLawful A) (s t : FacilityState) (events : List Event) (text text' : List ℕ)
+    → HasAnswered A s events t text → HasGrownBy A t text text' → HasAnswered A s events t text'
+decorated A d s t events text text' h grown =
+    let a : List ℕ = lines_of h.outs in
+    let both : A s (events ++ []) t (a ++ []) (text ++ grown.0) = d.joins s t t events [] a [] text grown.0 h.added grown.2 in
     record {
-      bytes = h.bytes;
-      parts = h.parts;
-      answer = h.answer;
-      fed = h.fed;
-      added = unplain A s t events b.unwritten h.answer text' written added;
+      outs = h.outs;
+      runs = h.runs;
+      added = subst (λ z. A s z t a text') (append-nil events) (subst (λ z. A s (events ++ []) t z text') (append-nil a)
+          (subst (λ z. A s (events ++ []) t (a ++ []) z) (sym grown.1) both));
     }
 
 -- one text after another
-pub answered_join : (A : Decoration) (d : IsLawful A) (a b c : SessionState) (x y t u unfed : List ℕ) → HasAnswered A a x t b []
-    → b.unwritten ≡ [] → HasAnswered A b y u c unfed
-    → HasAnswered A a (x ++ y) (t ++ u) c unfed
-unfolding fed_join fed_shift
-answered_join A d a b c x y t u unfed f written g =
-    let left : List ℕ = lines_of c.unwritten in
-    let events : List Event = f.fed.events ++ g.fed.events in
-    let later : HasFed b g.bytes f.answer (f.answer ++ g.answer) c = fed_shift b c g.bytes f.answer g.answer g.fed in
-    let both : A a.state events c.state (f.answer ++ (g.answer ++ left)) (t ++ (u ++ left)) =
-    d.joins a.state b.state c.state f.fed.events g.fed.events f.answer (g.answer ++ left) t (u ++ left)
-    (plain A a.state b.state f.fed.events b.unwritten f.answer t written f.added) g.added in
-    record {
-      bytes = f.bytes ++ g.bytes;
-      parts = ap (λ z. z ++ y) (f.parts ∙ append-nil f.bytes) ∙ ap (λ z. f.bytes ++ z) g.parts ∙ sym (append_assoc f.bytes g.bytes unfed);
-      answer = f.answer ++ g.answer;
-      fed = fed_join a b c f.bytes g.bytes [] f.answer (f.answer ++ g.answer) f.fed later;
-      added = subst (λ z. A a.state events c.state z ((t ++ u) ++ left)) (sym (append_assoc f.answer g.answer left))
-          (subst (λ z. A a.state events c.state (f.answer ++ (g.answer ++ left)) z) (sym (append_assoc t u left)) both);
-    }
-
--- more bytes that were not fed
-answered_rest : (A : Decoration) (a b : SessionState) (piece text unfed rest : List ℕ) → HasAnswered A a piece text b unfed
-    → HasAnswered A a (piece ++ rest) text b (unfed ++ rest)
-answered_rest A a b piece text unfed rest h =
-    record {
-      bytes = h.bytes;
-      parts = ap (λ z. z ++ rest) h.parts ∙ append_assoc h.bytes unfed rest;
-      answer = h.answer;
-      fed = h.fed;
-      added = h.added;
-    }
-
--- ---- lines that are sent
-
-pub sent_good : (q r : PeerState) (txt : List ℕ) → q.read_failed ≡ false → HasSent q txt r → AreGood r
-sent_good q r txt good h = record { reading = h.written.reading ∙ good; writing = h.good }
-
-pub piece_sent : (A : Decoration) (a b : SessionState) (q r : PeerState) (piece text unfed : List ℕ) → HasAnswered A a piece text b unfed
-    → HasSent q text r
-    → HasServedPiece A a piece q r b unfed [] true
-piece_sent A a b q r piece text unfed h s = record {
-  sent = text;
-  answered = subst (λ t. HasAnswered A a piece t b unfed) (sym (append-nil text)) h;
-  written = s.written;
-  flush = flushed_anyway true s.written.moments s.flushed;
+pub answered_join : (A : Decoration) (d : IsLawful A) (a b c : FacilityState) (x y : List Event) (t u : List ℕ) → HasAnswered A a x b t
+    → HasAnswered A b y c u → HasAnswered A a (x ++ y) c (t ++ u)
+answered_join A d a b c x y t u f g = record {
+  outs = f.outs ++ g.outs;
+  runs = IsRun-join a b c x y f.outs g.outs f.runs g.runs;
+  added = subst (λ z. A a (x ++ y) c z (t ++ u)) (sym (flat_map-append out_line f.outs g.outs))
+      (d.joins a b c x y (lines_of f.outs) (lines_of g.outs) t u f.added g.added);
 }
-
-piece_part : (A : Decoration) (a b : SessionState) (q r : PeerState) (piece text unfed : List ℕ) → HasAnswered A a piece text b unfed
-    → (s : HasSentPart q text r)
-    → HasServedPiece A a piece q r b unfed (drop s.count text) (is_flushed true s.written.moments)
-piece_part A a b q r piece text unfed h s = record {
-  sent = take s.count text;
-  answered = subst (λ t. HasAnswered A a piece t b unfed) (sym (take-append-drop s.count text)) h;
-  written = s.written;
-  flush = refl;
-}
-
--- bytes were not answered, and the text so far was sent
-pub line_stopped : (A : Decoration) (fault : ServeFault) (a b : SessionState) (q r : PeerState) (piece text : List ℕ)
-    → StopsAnswer A fault a piece text b
-    → q.read_failed ≡ false → HasSent q text r → StopsPiece A fault a piece q r b
-line_stopped A faults.Read a b q r piece text h good s = absurd h
-line_stopped A (faults.Bad n) a b q r piece text h good s = (h.0, piece_sent A a b q r piece text h.0 h.1 s, h.2, sent_good q r text good s)
-line_stopped A faults.OutOfMemory a b q r piece text h good s = (h.0, piece_sent A a b q r piece text h.0 h.1 s, sent_good q r text good s)
-line_stopped A faults.Write a b q r piece text h good s = absurd h
-line_stopped A faults.TooLong a b q r piece text h good s = absurd h
-
--- however a line was answered, the text is some answer
-some_answered : (A : Decoration) (result : Result Unit ServeFault) (a b : SessionState) (piece text : List ℕ)
-    → OnOk result (HasAnswered A a piece text b [])
-    → IfErr result (λ fault. StopsAnswer A fault a piece text b)
-    → (unfed : List ℕ) × HasAnswered A a piece text b unfed
-some_answered A (Ok u) a b piece text h k = ([], h)
-some_answered A (Err faults.Read) a b piece text h k = absurd k
-some_answered A (Err (faults.Bad n)) a b piece text h k = (k.0, k.1)
-some_answered A (Err faults.OutOfMemory) a b piece text h k = k
-some_answered A (Err faults.Write) a b piece text h k = absurd k
-some_answered A (Err faults.TooLong) a b piece text h k = absurd k
-
--- the peer failed while the text was sent
-pub line_unsent : (A : Decoration) (fault : ServeFault) (result : Result Unit ServeFault) (a b : SessionState) (q r : PeerState)
-    (piece text : List ℕ)
-    → fault ≡ faults.Write
-    → OnOk result (HasAnswered A a piece text b []) → IfErr result (λ fault. StopsAnswer A fault a piece text b) → q.read_failed ≡ false
-    → HasSentPart q text r → StopsPiece A fault a piece q r b
-line_unsent A fault result a b q r piece text is h k good s =
-    let some : (unfed : List ℕ) × HasAnswered A a piece text b unfed = some_answered A result a b piece text h k in
-    subst (λ f. StopsPiece A f a piece q r b) (sym is) (
-      some.0,
-      drop s.count text,
-      is_flushed true s.written.moments,
-      piece_part A a b q r piece text some.0 some.1 s,
-      s.written.reading
-          ∙ good,
-      s.failed,
-    )
-
-pub sent_ok : (A : Decoration) (result : Result Unit ServeFault) (a b : SessionState) (q r : PeerState) (piece text : List ℕ)
-    → OnOk result (HasAnswered A a piece text b []) → HasSent q text r
-    → OnOk result (HasServedPiece A a piece q r b [] [] true)
-sent_ok A (Ok u) a b q r piece text h s = piece_sent A a b q r piece text [] h s
-sent_ok A (Err fault) a b q r piece text h s = tt
-
-pub sent_err : (A : Decoration) (result : Result Unit ServeFault) (a b : SessionState) (q r : PeerState) (piece text : List ℕ)
-    → IfErr result (λ fault. StopsAnswer A fault a piece text b) → q.read_failed ≡ false → HasSent q text r
-    → IfErr result (λ fault. StopsPiece A fault a piece q r b)
-sent_err A (Ok u) a b q r piece text k good s = tt
-sent_err A (Err fault) a b q r piece text k good s = line_stopped A fault a b q r piece text k good s
-
--- ---- line after line
-
-pub piece_none : (A : Decoration) (d : IsLawful A) (s : SessionState) (p : PeerState) → s.unwritten ≡ []
-    → HasServedPiece A s [] p p s [] [] true
-piece_none A d s p written = record {
-  sent = [];
-  answered = fed_answered A d s s [] [] [] [] [] refl written refl (fed_nothing s []);
-  written = written_none p;
-  flush = flushed_none p;
-}
-
-pub all_sent : (A : Decoration) (a b : SessionState) (x t : List ℕ) → HasAnswered A a x (t ++ []) b [] → HasAnswered A a x t b []
-all_sent A a b x t h = subst (λ z. HasAnswered A a x z b []) (append-nil t) h
-
-pub piece_join : (A : Decoration) (d : IsLawful A) (a b c : SessionState) (p q r : PeerState) (x y unfed unsent : List ℕ) (flushed : Bool)
-    → HasServedPiece A a x p q b [] [] true → b.unwritten ≡ []
-    → HasServedPiece A b y q r c unfed unsent flushed → HasServedPiece A a (x ++ y) p r c unfed unsent flushed
-piece_join A d a b c p q r x y unfed unsent flushed f written g = record {
-  sent = f.sent ++ g.sent;
-  answered = subst (λ t. HasAnswered A a (x ++ y) t c unfed) (sym (append_assoc f.sent g.sent unsent))
-      (answered_join A d a b c x y f.sent (g.sent ++ unsent) unfed (all_sent A a b x f.sent f.answered) written g.answered);
-  written = written_join p q r f.sent g.sent f.written g.written;
-  flush = flushed_both p q r f.sent g.sent f.written g.written ∙ ap (λ z. is_flushed z g.written.moments) f.flush ∙ g.flush;
-}
-
-piece_rest : (A : Decoration) (a b : SessionState) (p q : PeerState) (x unfed unsent rest : List ℕ) (flushed : Bool)
-    → HasServedPiece A a x p q b unfed unsent flushed → HasServedPiece A a (x ++ rest) p q b (unfed ++ rest) unsent flushed
-piece_rest A a b p q x unfed unsent rest flushed f = record {
-  sent = f.sent;
-  answered = answered_rest A a b x (f.sent ++ unsent) unfed rest f.answered;
-  written = f.written;
-  flush = f.flush;
-}
-
--- lines were served, and the next one was not
-pub stops_after : (A : Decoration) (d : IsLawful A) (fault : ServeFault) (a b c : SessionState) (p q r : PeerState) (x y rest : List ℕ)
-    → HasServedPiece A a x p q b [] [] true
-    → b.unwritten ≡ [] → StopsPiece A fault b y q r c
-    → StopsPiece A fault a (x ++ (y ++ rest)) p r c
-stops_after A d faults.Read a b c p q r x y rest f written h = absurd h
-stops_after A d (faults.Bad n) a b c p q r x y rest f written h = (
-  h.0 ++ rest,
-  piece_join A d a b c p q r x (y ++ rest) (h.0 ++ rest) [] true f written (piece_rest A b c q r y h.0 [] rest true h.1),
-  h.2,
-  h.3,
-)
-stops_after A d faults.OutOfMemory a b c p q r x y rest f written h = (
-  h.0 ++ rest,
-  piece_join A d a b c p q r x (y ++ rest) (h.0 ++ rest) [] true f written
-      (piece_rest A b c q r y h.0 [] rest true h.1),
-  h.2,
-)
-stops_after A d faults.Write a b c p q r x y rest f written h = (
-  h.0 ++ rest,
-  h.1,
-  h.2,
-  piece_join A d a b c p q r x (y ++ rest) (h.0 ++ rest) h.1 h.2 f written
-      (piece_rest A b c q r y h.0 h.1 rest h.2 h.3),
-  h.4,
-  h.5,
-)
-stops_after A d faults.TooLong a b c p q r x y rest f written h = absurd h
-
--- the first lines of some bytes were served
-pub record HasServedUpTo (A : Decoration) (old : SessionState) (bytes : List ℕ) (peer peer' : PeerState) (new : SessionState)
-    (rest : List ℕ) : Type 0 where
-  pub front : List ℕ
-  pub parts : bytes ≡ front ++ rest
-  pub served : HasServedPiece A old front peer peer' new [] [] true
-
-pub up_to_none : (A : Decoration) (d : IsLawful A) (s : SessionState) (p : PeerState) (bytes : List ℕ) → s.unwritten ≡ []
-    → HasServedUpTo A s bytes p p s bytes
-up_to_none A d s p bytes written = record { front = []; parts = refl; served = piece_none A d s p written }
-
-pub up_to_more : (A : Decoration) (d : IsLawful A) (a b c : SessionState) (p q r : PeerState) (bytes rest line after : List ℕ)
-    → HasServedUpTo A a bytes p q b rest
-    → b.unwritten ≡ [] → rest ≡ line ++ after
-    → HasServedPiece A b line q r c [] [] true → HasServedUpTo A a bytes p r c after
-up_to_more A d a b c p q r bytes rest line after f written parts g = record {
-  front = f.front ++ line;
-  parts = f.parts ∙ ap (λ z. f.front ++ z) parts ∙ sym (append_assoc f.front line after);
-  served = piece_join A d a b c p q r f.front line [] [] true f.served written g;
-}
-
-pub up_to_stops : (A : Decoration) (d : IsLawful A) (fault : ServeFault) (a b c : SessionState) (p q r : PeerState)
-    (bytes rest line after : List ℕ)
-    → HasServedUpTo A a bytes p q b rest → b.unwritten ≡ [] → rest ≡ line ++ after
-    → StopsPiece A fault b line q r c → StopsPiece A fault a bytes p r c
-up_to_stops A d fault a b c p q r bytes rest line after f written parts h =
-    subst (λ z. StopsPiece A fault a z p r c) (sym (f.parts ∙ ap (λ z. f.front ++ z) parts))
-    (stops_after A d fault a b c p q r f.front line after f.served written h)
-
-pub up_to_all : (A : Decoration) (a b : SessionState) (p q : PeerState) (bytes rest : List ℕ) → HasServedUpTo A a bytes p q b rest
-    → rest ≡ []
-    → HasServedPiece A a bytes p q b [] [] true
-up_to_all A a b p q bytes rest f none = subst (λ z. HasServedPiece A a z p q b [] [] true)
-    (sym (f.parts ∙ ap (λ z. f.front ++ z) none ∙ append-nil f.front)) f.served
 
 -- text that grew, cut back to where it was
 pub cut_back : (text grown cut : List ℕ) → HasGrown text grown → cut ≡ take (length text) grown → cut ≡ text
 cut_back text grown cut h e = e ∙ ap (take (length text)) h.1 ∙ take-append_seam text h.0
 
--- an error that is passed on
-pub passed_on : {A E : Type 0} (result : Result A E) (fault : E) → IsErrAnd result (λ e. e ≡ fault) → result ≡ Err fault
-passed_on (Ok x) fault h = absurd h
-passed_on (Err e) fault h = ap Err h
+-- ---- text that is sent
+
+pub sent_good : (q r : PeerState) (txt : List ℕ) → q.read_failed ≡ false → HasSent q txt r → AreGood r
+sent_good q r txt good h = record { reading = h.written.reading ∙ good; writing = h.good }
+
+pub events_sent : (A : Decoration) (a b : FacilityState) (q r : PeerState) (events : List Event) (text : List ℕ)
+    → HasAnswered A a events b text → HasSent q text r → HasServedEvents A a events b q r [] true
+events_sent A a b q r events text h s = record {
+  sent = text;
+  answered = subst (λ t. HasAnswered A a events b t) (sym (append-nil text)) h;
+  written = s.written;
+  flush = flushed_anyway true s.written.moments s.flushed;
+}
+
+-- not all events were answered, and the text so far was sent
+pub sent_part : (A : Decoration) (a : FacilityState) (q r : PeerState) (events : List Event) (text : List ℕ)
+    → HasAnsweredPart A a events text → q.read_failed ≡ false → HasSent q text r → StopsEvents A turns.OutOfMemory a events q r
+sent_part A a q r events text h good s = (
+  record {
+    played = h.played;
+    unplayed = h.unplayed;
+    parts = h.parts;
+    after = h.after;
+    served = events_sent A a h.after q r h.played text h.answered s;
+  },
+  sent_good q r text good s,
+)
+
+-- however they were answered, the peer failed while the text was sent
+pub unsent : (A : Decoration) (fault : TurnFault) (result : Result Unit OutOfMemory) (a b : FacilityState) (q r : PeerState)
+    (events : List Event) (text : List ℕ) → fault ≡ turns.Write → OnOk result (HasAnswered A a events b text)
+    → OnErr result (HasAnsweredPart A a events text) → q.read_failed ≡ false → HasSentPart q text r → StopsEvents A fault a events q r
+unsent A fault result a b q r events text is whole part good s =
+    let h : HasAnsweredPart A a events text = some result whole part in
+    let flushed : Bool = is_flushed true s.written.moments in
+    subst (λ f. StopsEvents A f a events q r) (sym is) (
+      drop s.count text,
+      flushed,
+      record {
+        played = h.played;
+        unplayed = h.unplayed;
+        parts = h.parts;
+        after = h.after;
+        served = record {
+          sent = take s.count text;
+          answered = subst (λ t. HasAnswered A a h.played h.after t) (sym (take-append-drop s.count text)) h.answered;
+          written = s.written;
+          flush = refl;
+        };
+      },
+      s.written.reading ∙ good,
+      s.failed,
+    )
+  where
+    some : (result : Result Unit OutOfMemory) → OnOk result (HasAnswered A a events b text)
+        → OnErr result (HasAnsweredPart A a events text) → HasAnsweredPart A a events text
+    some (Ok u) h k = answered_whole A a b events text h
+    some (Err e) h k = k
+
+-- ---- events after events
+
+events_join : (A : Decoration) (d : IsLawful A) (a b c : FacilityState) (p q r : PeerState) (x y : List Event) (unsent : List ℕ)
+    (flushed : Bool) → HasServedEvents A a x b p q [] true → HasServedEvents A b y c q r unsent flushed
+    → HasServedEvents A a (x ++ y) c p r unsent flushed
+events_join A d a b c p q r x y unsent flushed f g = record {
+  sent = f.sent ++ g.sent;
+  answered = subst (λ t. HasAnswered A a (x ++ y) c t) (sym (append_assoc f.sent g.sent unsent))
+      (answered_join A d a b c x y f.sent (g.sent ++ unsent)
+      (subst (λ t. HasAnswered A a x b t) (append-nil f.sent) f.answered) g.answered);
+  written = written_join p q r f.sent g.sent f.written g.written;
+  flush = flushed_both p q r f.sent g.sent f.written g.written ∙ ap (λ z. is_flushed z g.written.moments) f.flush ∙ g.flush;
+}
+
+-- the first of some events were served
+pub record HasServedUpTo (A : Decoration) (old : FacilityState) (events : List Event) (peer peer' : PeerState) (new : FacilityState)
+    (rest : List Event) : Type 0 where
+  pub front : List Event
+  pub parts : events ≡ front ++ rest
+  pub served : HasServedEvents A old front new peer peer' [] true
+
+pub up_to_none : (A : Decoration) (d : IsLawful A) (s : FacilityState) (p : PeerState) (events : List Event)
+    → HasServedUpTo A s events p p s events
+up_to_none A d s p events = record {
+  front = [];
+  parts = refl;
+  served = record {
+    sent = [];
+    answered = answered A d s s [] [] [] refl (record { outs = []; runs = IsRun-none s; lines = refl });
+    written = written_none p;
+    flush = flushed_none p;
+  };
+}
+
+pub up_to_more : (A : Decoration) (d : IsLawful A) (a b c : FacilityState) (p q r : PeerState) (events rest first after : List Event)
+    → HasServedUpTo A a events p q b rest → rest ≡ first ++ after
+    → HasServedEvents A b first c q r [] true → HasServedUpTo A a events p r c after
+up_to_more A d a b c p q r events rest first after f parts g = record {
+  front = f.front ++ first;
+  parts = f.parts ∙ ap (λ z. f.front ++ z) parts ∙ sym (append_assoc f.front first after);
+  served = events_join A d a b c p q r f.front first [] true f.served g;
+}
+
+up_to_some : (A : Decoration) (d : IsLawful A) (a b : FacilityState) (p q r : PeerState) (events rest first after : List Event)
+    (unsent : List ℕ) (flushed : Bool) → HasServedUpTo A a events p q b rest → rest ≡ first ++ after
+    → HasServedSome A b first q r unsent flushed → HasServedSome A a events p r unsent flushed
+up_to_some A d a b p q r events rest first after unsent flushed f parts g = record {
+  played = f.front ++ g.played;
+  unplayed = g.unplayed ++ after;
+  parts = f.parts ∙ ap (λ z. f.front ++ z) (parts ∙ ap (λ z. z ++ after) g.parts ∙ append_assoc g.played g.unplayed after)
+      ∙ sym (append_assoc f.front g.played (g.unplayed ++ after));
+  after = g.after;
+  served = events_join A d a b g.after p q r f.front g.played unsent flushed f.served g.served;
+}
+
+pub up_to_stops : (A : Decoration) (d : IsLawful A) (fault : TurnFault) (a b : FacilityState) (p q r : PeerState)
+    (events rest first after : List Event) → HasServedUpTo A a events p q b rest → rest ≡ first ++ after
+    → StopsEvents A fault b first q r → StopsEvents A fault a events p r
+up_to_stops A d turns.OutOfMemory a b p q r events rest first after f parts h =
+    (up_to_some A d a b p q r events rest first after [] true f parts h.0, h.1)
+up_to_stops A d turns.Write a b p q r events rest first after f parts h =
+    (h.0, h.1, up_to_some A d a b p q r events rest first after h.0 h.1 f parts h.2, h.3, h.4)
+
+pub up_to_all : (A : Decoration) (a b : FacilityState) (p q : PeerState) (events rest : List Event) → HasServedUpTo A a events p q b rest
+    → rest ≡ [] → HasServedEvents A a events b p q [] true
+up_to_all A a b p q events rest f none = subst (λ z. HasServedEvents A a z b p q [] true)
+    (sym (f.parts ∙ ap (λ z. f.front ++ z) none ∙ append-nil f.front)) f.served

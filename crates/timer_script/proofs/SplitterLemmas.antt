@@ -1,5 +1,5 @@
 -- The positions of line feeds in lines.
-use Rattle.std.proofs.Common.{◌==◌, ◌&&◌, not, Bool, true, false, inl, inr, ◌≡◌, ℕ, ◌+◌, ◌-◌, ◌^◌, ◌%◌, ◌<◌, ◌≤◌, List, [], ◌∷◌, ◌++◌, length, get_or, take, Some, None, decimal, codes, refl, sym, ap, subst, ◌∙◌, arith, append_assoc, append-nil, length-append, lit≤}
+use Rattle.std.proofs.Common.{◌==◌, ◌&&◌, not, Bool, true, false, inl, inr, ◌≡◌, ℕ, ◌+◌, ◌-◌, ◌^◌, ◌%◌, ◌<◌, ◌≤◌, List, [], ◌∷◌, ◌++◌, length, get_or, take, None, decimal, codes, refl, sym, ap, subst, ◌∙◌, arith, append_assoc, append-nil, length-append, lit≤}
 use Rattle.std.proofs.lemmas.Fmt.{length-decimal-le, decimal_by_steps}
 use Rattle.std.proofs.lemmas.List.{take_more}
 use Rattle.timer_base.specs.declared.limits.TheConstants.{LAST}
@@ -9,12 +9,10 @@ use Rattle.timer_script.specs.declared.lines.TheConstants.{MAX_TICKS}
 use Rattle.timer_facility.specs.declared.event.Event.{Event}
 use Rattle.timer_facility.specs.declared.event.Event.TheVariants.{Start, Stop, Restart, Ticks, Close}
 use Rattle.timer_script.specs.Script.{IsInRange, line, BeginsNoLine}
-use Rattle.timer_script.specs.declared.splitter.Ending.{Ending}
-use Rattle.timer_script.specs.declared.splitter.Ending.TheVariants.{Bad}
-use Rattle.timer_script.specs.Splitter.{HasNoFeed, IsPartial, IsBadFront, EndsAsLine, HasHeld}
+use Rattle.timer_script.specs.Splitter.{HasNoFeed}
 use Rattle.std.proofs.lemmas.Option.{none-some}
 use Rattle.timer_script.specs.Lines.{line_at}
-use Rattle.timer_script.proofs.LineLemmas.{line_again, line_sound}
+use Rattle.timer_script.proofs.LineLemmas.{line_again}
 
 pub no_feed-append : (xs ys : List ℕ) → HasNoFeed xs → HasNoFeed ys → HasNoFeed (xs ++ ys)
 no_feed-append [] ys a b = b
@@ -141,16 +139,12 @@ at_feed : (xs more : List ℕ) → (xs ++ 10 ∷ []) ++ more ≡ xs ++ 10 ∷ mo
 at_feed xs more = append_assoc xs (10 ∷ []) more
 
 -- bytes with no line feed that are too many for a line begin no line
-pub too_long : (xs : List ℕ) → HasNoFeed xs → length xs ≡ MAX_LINE → IsBadFront xs
-too_long xs none long = record {
-  some = omega arith;
-  short = omega arith;
-  bad = λ more event rest fits e.
-      let f : IsFed (line event) = line_fed event fits in
-      let short = f.short in
-      let h = no_feed_long xs f.front more rest none (e ∙ ap (λ t. t ++ rest) f.is ∙ at_feed f.front rest) in
-      absurd (omega arith);
-}
+pub too_long : (xs more : List ℕ) → HasNoFeed xs → length xs ≡ MAX_LINE → BeginsNoLine (xs ++ more)
+too_long xs more none long event rest fits e =
+    let f : IsFed (line event) = line_fed event fits in
+    let short = f.short in
+    let h = no_feed_long xs f.front more rest none (e ∙ ap (λ t. t ++ rest) f.is ∙ at_feed f.front rest) in
+    absurd (omega arith)
 
 -- what has no line feed is no line
 pub no_feed_no_line : (xs : List ℕ) → HasNoFeed xs → BeginsNoLine xs
@@ -166,27 +160,13 @@ no_feed_no_line xs none event rest fits e =
     no_feed_none (x ∷ xs) (y ∷ ys) rest a e = no_feed_none xs ys rest a.1 cc
 
 -- a complete line that can't be read begins no line, whatever follows
-pub unread : (held front : List ℕ) → HasNoFeed front → held ≡ front ++ 10 ∷ [] → length held ≤ MAX_LINE → line_at held ≡ None
-    → IsBadFront held
-unread held front free is short unread_none = record {
-  some = (let h = ap length is in let l = length-append front (10 ∷ []) in omega arith);
-  short = short;
-  bad = λ more event rest fits e.
-      let f : IsFed (line event) = line_fed event fits in
-      let same = first_feed front f.front more rest free f.no_feed (sym (at_feed front more) ∙ ap (λ t. t ++ more) (sym is) ∙ e
-      ∙ ap (λ t. t ++ rest) f.is ∙ at_feed f.front rest) in
-      let whole : held ≡ line event ++ [] = is ∙ ap (λ t. t ++ 10 ∷ []) same.0 ∙ sym f.is ∙ sym (append-nil (line event)) in
-      none-some _ (sym unread_none ∙ ap line_at whole ∙ line_again event [] fits);
-}
-
--- a complete line that can be read is the line of an event
-pub read_whole : (held front after : List ℕ) (event : Event) → HasNoFeed front → held ≡ front ++ 10 ∷ []
-    → line_at held ≡ Some (event, after) → IsInRange event × (held ≡ line event)
-read_whole held front after event none is some =
-    let (fits, parts) = line_sound held after event some in
+pub unread : (front more : List ℕ) → HasNoFeed front → line_at (front ++ 10 ∷ []) ≡ None → BeginsNoLine ((front ++ 10 ∷ []) ++ more)
+unread front more free unread_none event rest fits e =
     let f : IsFed (line event) = line_fed event fits in
-    let same = first_feed front f.front [] after none f.no_feed (sym is ∙ parts ∙ ap (λ t. t ++ after) f.is ∙ at_feed f.front after) in
-    (fits, is ∙ ap (λ t. t ++ 10 ∷ []) same.0 ∙ sym f.is)
+    let same = first_feed front f.front more rest free f.no_feed (sym (at_feed front more) ∙ e
+    ∙ ap (λ t. t ++ rest) f.is ∙ at_feed f.front rest) in
+    let whole : front ++ 10 ∷ [] ≡ line event ++ [] = ap (λ t. t ++ 10 ∷ []) same.0 ∙ sym f.is ∙ sym (append-nil (line event)) in
+    none-some _ (sym unread_none ∙ ap line_at whole ∙ line_again event [] fits)
 
 -- one more byte, which is no line feed
 pub no_feed-take : (old bytes : List ℕ) (n : ℕ) → 0 < n → n ≤ length bytes → HasNoFeed old → HasNoFeed (take (n - 1) bytes)
@@ -208,26 +188,3 @@ feed-take old bytes n some within is =
     let cut : take (n - 1 + 1) bytes ≡ take (n - 1) bytes ++ get_or bytes (n - 1) 0 ∷ [] = take_more bytes (n - 1) 0 less in
     ap (λ k. old ++ take k bytes) (sym same) ∙ ap (λ t. old ++ t) (cut ∙ ap (λ b. take (n - 1) bytes ++ b ∷ []) is)
     ∙ sym (append_assoc old (take (n - 1) bytes) (10 ∷ []))
-
--- the bytes up to a line feed
-pub held_line : (old bytes new : List ℕ) (n : ℕ) (ending : Ending) → IsPartial old → 0 < n → n ≤ length bytes
-    → HasNoFeed (take (n - 1) bytes) → get_or bytes (n - 1) 0 ≡ 10
-    → new ≡ old ++ take n bytes → length new ≤ MAX_LINE → EndsAsLine ending new → HasHeld old bytes n ending new
-held_line old bytes new n ending a some within b is joined short ends = record {
-  some = some;
-  within = within;
-  joined = joined;
-  ending_is = ends (old ++ take (n - 1) bytes) (no_feed-append old (take (n - 1) bytes) a.no_feed b) (joined
-      ∙ feed-take old bytes n some within is) short;
-}
-
--- bytes with no line feed, too many for a line
-pub held_long : (old bytes new : List ℕ) (n : ℕ) → IsPartial old → 0 < n → n ≤ length bytes → HasNoFeed (take (n - 1) bytes)
-    → (get_or bytes (n - 1) 0 ≡ 10 → ⊥)
-    → new ≡ old ++ take n bytes → length new ≡ MAX_LINE → HasHeld old bytes n Bad new
-held_long old bytes new n a some within b not joined long = record {
-  some = some;
-  within = within;
-  joined = joined;
-  ending_is = too_long new (subst HasNoFeed (sym joined) (no_feed-take old bytes n some within a.no_feed b not)) long;
-}

@@ -5,16 +5,14 @@ use Rattle.timer_facility.specs.declared.event.Event.{Event}
 use Rattle.timer_facility.specs.declared.event.Out.{Out}
 use Rattle.timer_facility.specs.State.{FacilityState}
 use Rattle.timer_facility.specs.Played.{IsRun}
-use Rattle.timer_script.specs.Session.{lines_of}
-use Rattle.timer_script.specs.Text.{end_line}
+use Rattle.timer_script.specs.Text.{lines_of, end_line}
 
 -- the state of a facility, some events, and its state after them; their answer, and the text that may be
 -- written for it
 abbrev pub Decoration : Type 1
 Decoration = FacilityState → List Event → FacilityState → List ℕ → List ℕ → Type 0
 
--- the text for two answers, one after the other, is that for each; the lines of a session may stay as they
--- are
+-- the text for two answers, one after the other, is that for each; an answer may stay as it is
 pub record IsLawful (Adds : Decoration) : Type 0 where
   pub joins : (s t u : FacilityState) (events more : List Event) (a b x y : List ℕ) → Adds s events t a x
       → Adds t more u b y → Adds s (events ++ more) u (a ++ b) (x ++ y)

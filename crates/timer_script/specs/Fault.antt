@@ -1,10 +1,43 @@
--- The errors of reading a script as errors of a run.
+-- The errors of one step as those of the whole.
 use Rattle.timer_script.specs.declared.fault.ScriptFault.{ScriptFault}
 use Rattle.timer_script.specs.declared.fault.ScriptFault.TheVariants as scripts
+use Rattle.timer_script.specs.declared.fault.PieceFault.{PieceFault}
+use Rattle.timer_script.specs.declared.fault.PieceFault.TheVariants as pieces
+use Rattle.timer_script.specs.declared.fault.ReadFault.{ReadFault}
+use Rattle.timer_script.specs.declared.fault.ReadFault.TheVariants as reads
 use Rattle.timer_script.specs.declared.fault.RunFault.{RunFault}
 use Rattle.timer_script.specs.declared.fault.RunFault.TheVariants as runs
+use Rattle.timer_script.specs.declared.fault.CheckFault.{CheckFault}
+use Rattle.timer_script.specs.declared.fault.CheckFault.TheVariants as checks
+use Rattle.timer_script.specs.declared.fault.AnswerFault.{AnswerFault}
+use Rattle.timer_script.specs.declared.fault.AnswerFault.TheVariants as answers
+use Rattle.timer_script.specs.declared.fault.TurnFault.{TurnFault}
+use Rattle.timer_script.specs.declared.fault.TurnFault.TheVariants as turns
+use Rattle.timer_script.specs.declared.fault.ServeFault.{ServeFault}
+use Rattle.timer_script.specs.declared.fault.ServeFault.TheVariants as serves
 
--- the same error, of a run
-abbrev pub run_fault : ScriptFault → RunFault
-run_fault (scripts.Bad line) = runs.Bad line
-run_fault scripts.OutOfMemory = runs.OutOfMemory
+abbrev pub read_fault : PieceFault → ReadFault
+read_fault pieces.Read = reads.Read
+read_fault pieces.OutOfMemory = reads.OutOfMemory
+
+abbrev pub run_read_fault : ReadFault → RunFault
+run_read_fault reads.Read = runs.Read
+run_read_fault reads.TooLong = runs.TooLong
+run_read_fault reads.OutOfMemory = runs.OutOfMemory
+
+abbrev pub run_script_fault : ScriptFault → RunFault
+run_script_fault (scripts.Bad line) = runs.Bad line
+run_script_fault scripts.OutOfMemory = runs.OutOfMemory
+
+abbrev pub check_read_fault : ReadFault → CheckFault
+check_read_fault reads.Read = checks.Read
+check_read_fault reads.TooLong = checks.TooLong
+check_read_fault reads.OutOfMemory = checks.OutOfMemory
+
+abbrev pub answer_script_fault : ScriptFault → AnswerFault
+answer_script_fault (scripts.Bad line) = answers.Bad line
+answer_script_fault scripts.OutOfMemory = answers.OutOfMemory
+
+abbrev pub serve_fault : TurnFault → ServeFault
+serve_fault turns.OutOfMemory = serves.OutOfMemory
+serve_fault turns.Write = serves.Write

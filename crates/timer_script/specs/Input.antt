@@ -2,8 +2,10 @@
 use Rattle.std.specs.Prelude.{◌≡◌, ℕ, ◌+◌, ◌≤◌, Bool, true, false, List, length, ◌++◌, Option}
 use Rattle.std.specs.Io.KnownBytes.{Keeps, Consumes, IsAtEnd}
 use Rattle.timer_script.specs.declared.input.TheConstants.{MAX_BYTES}
-use Rattle.timer_script.specs.declared.fault.RunFault.{RunFault}
-use Rattle.timer_script.specs.declared.fault.RunFault.TheVariants as faults
+use Rattle.timer_script.specs.declared.fault.PieceFault.{PieceFault}
+use Rattle.timer_script.specs.declared.fault.PieceFault.TheVariants as pieces
+use Rattle.timer_script.specs.declared.fault.ReadFault.{ReadFault}
+use Rattle.timer_script.specs.declared.fault.ReadFault.TheVariants as reads
 
 -- the reader had these bytes left, and has none now
 abbrev pub ReadsWhole : Option (List ℕ) → Option (List ℕ) → List ℕ → Type 0
@@ -18,12 +20,10 @@ abbrev pub ReadsTooMany : Option (List ℕ) → Option (List ℕ) → Type 0
 ReadsTooMany old new = (bytes : List ℕ) × Consumes old new bytes × (length bytes ≡ MAX_BYTES + 1)
 
 -- why reading stopped before the end, and how far it went
-abbrev pub StopsReading : RunFault → Option (List ℕ) → Option (List ℕ) → Bool → Type 0
-StopsReading faults.Read old new failed = ReadsUpTo MAX_BYTES old new × (failed ≡ true)
-StopsReading faults.TooLong old new failed = ReadsTooMany old new × (failed ≡ false)
-StopsReading (faults.Bad line) old new failed = ⊥
-StopsReading faults.OutOfMemory old new failed = ReadsUpTo (MAX_BYTES + 1) old new × (failed ≡ false)
-StopsReading (faults.Write written) old new failed = ⊥
+abbrev pub StopsReading : ReadFault → Option (List ℕ) → Option (List ℕ) → Bool → Type 0
+StopsReading reads.Read old new failed = ReadsUpTo MAX_BYTES old new × (failed ≡ true)
+StopsReading reads.TooLong old new failed = ReadsTooMany old new × (failed ≡ false)
+StopsReading reads.OutOfMemory old new failed = ReadsUpTo (MAX_BYTES + 1) old new × (failed ≡ false)
 
 -- one read appended n bytes to the old ones; none came only at the end
 pub record HasRead (old new : Option (List ℕ)) (failed : Bool) (bytes bytes' : List ℕ) (n : ℕ) : Type 0 where
@@ -35,9 +35,6 @@ pub record HasRead (old new : Option (List ℕ)) (failed : Bool) (bytes bytes' :
   pub good : failed ≡ false
 
 -- why one read appended nothing; if the reader failed, no byte was read, and else at most `room` were
-abbrev pub FailsToRead : RunFault → ℕ → Option (List ℕ) → Option (List ℕ) → Bool → Type 0
-FailsToRead faults.Read room old new failed = Keeps old new × (failed ≡ true)
-FailsToRead faults.TooLong room old new failed = ⊥
-FailsToRead (faults.Bad line) room old new failed = ⊥
-FailsToRead faults.OutOfMemory room old new failed = ReadsUpTo room old new × (failed ≡ false)
-FailsToRead (faults.Write written) room old new failed = ⊥
+abbrev pub FailsToRead : PieceFault → ℕ → Option (List ℕ) → Option (List ℕ) → Bool → Type 0
+FailsToRead pieces.Read room old new failed = Keeps old new × (failed ≡ true)
+FailsToRead pieces.OutOfMemory room old new failed = ReadsUpTo room old new × (failed ≡ false)

@@ -3,7 +3,6 @@ pub mod Script
 pub mod Text
 pub mod Splitter
 pub mod Diagnosis
-pub mod Session
 pub mod Input
 pub mod Output
 pub mod Fault
@@ -13,6 +12,5 @@ pub mod ScriptReport
 pub mod Peer
 pub mod Streams
 pub mod Decorator
-pub mod Sieve
-pub mod Intake
+pub mod Cutter
 pub mod Service

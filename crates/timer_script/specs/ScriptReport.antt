@@ -5,10 +5,11 @@ use Rattle.std.specs.List.{flat_map, enumerate_from, count_by}
 use Rattle.timer_script.specs.declared.line_fault.Field.{Field}
 use Rattle.timer_script.specs.declared.line_fault.LineFault.{LineFault}
 use Rattle.timer_script.specs.declared.input.TheConstants.{MAX_BYTES}
-use Rattle.timer_script.specs.declared.fault.RunFault.{RunFault}
-use Rattle.timer_script.specs.declared.fault.RunFault.TheVariants as faults
-use Rattle.timer_script.specs.declared.watched.Watched.{Watched}
-use Rattle.timer_script.specs.Watched.{inner_of, has_failed}
+use Rattle.timer_script.specs.declared.fault.CheckFault.{CheckFault}
+use Rattle.timer_script.specs.declared.fault.CheckFault.TheVariants as faults
+use Rattle.timer_script.specs.declared.streams.Streams.{Streams}
+use Rattle.timer_script.specs.Watched.{has_failed}
+use Rattle.timer_script.specs.Streams.{Known, left_of, taken_by}
 use Rattle.timer_script.specs.Input.{ReadsWhole, ReadsUpTo, ReadsTooMany}
 use Rattle.timer_script.specs.Diagnosis.{IsVerdict, field_words, reason_words}
 
@@ -68,30 +69,23 @@ pub record IsReported (old new : Option (List ℕ)) (text : List ℕ) (bad : ℕ
   pub report : IsReport bytes text bad
 
 -- what a check did to its reader and its writer, by how it ended
-abbrev pub HasChecked : {R S : Type 0} (remaining : R → Option (List ℕ)) (contents : S → Option (List ℕ))
-    (reader reader' : Watched R) (writer writer' : Watched S) → Result ℕ RunFault → Type 0
+abbrev pub HasChecked : {R S : Type 0} → Known R S → (old new : Streams R S) → Result ℕ CheckFault → Type 0
 -- the whole report was written, and nothing else
-HasChecked remaining contents reader reader' writer writer' (Ok bad) =
-    (text : List ℕ) × IsReported (remaining (inner_of reader)) (remaining (inner_of reader')) text bad
-    × (has_failed reader' ≡ false)
-    × Appends (contents (inner_of writer)) (contents (inner_of writer')) text × (has_failed writer' ≡ false)
+HasChecked known old new (Ok bad) = (text : List ℕ)
+    × IsReported (left_of known old) (left_of known new) text bad × (has_failed new.reader ≡ false)
+    × Appends (taken_by known old) (taken_by known new) text × (has_failed new.writer ≡ false)
 -- the reader failed in this call, after at most `MAX_BYTES` bytes, and nothing was written
-HasChecked remaining contents reader reader' writer writer' (Err faults.Read) =
-    ReadsUpTo MAX_BYTES (remaining (inner_of reader)) (remaining (inner_of reader'))
-    × (has_failed reader' ≡ true) × (writer' ≡ writer)
+HasChecked known old new (Err faults.Read) = ReadsUpTo MAX_BYTES (left_of known old) (left_of known new)
+    × (has_failed new.reader ≡ true) × (new.writer ≡ old.writer)
 -- one byte more than `MAX_BYTES` was read, and nothing was written
-HasChecked remaining contents reader reader' writer writer' (Err faults.TooLong) =
-    ReadsTooMany (remaining (inner_of reader)) (remaining (inner_of reader')) × (has_failed reader' ≡ false)
-    × (writer' ≡ writer)
-HasChecked remaining contents reader reader' writer writer' (Err (faults.Bad line)) = ⊥
+HasChecked known old new (Err faults.TooLong) = ReadsTooMany (left_of known old) (left_of known new)
+    × (has_failed new.reader ≡ false) × (new.writer ≡ old.writer)
 -- nothing was written, and at most one byte more than `MAX_BYTES` was read
-HasChecked remaining contents reader reader' writer writer' (Err faults.OutOfMemory) =
-    ReadsUpTo (MAX_BYTES + 1) (remaining (inner_of reader)) (remaining (inner_of reader'))
-    × (has_failed reader' ≡ false) × (writer' ≡ writer)
+HasChecked known old new (Err faults.OutOfMemory) =
+    ReadsUpTo (MAX_BYTES + 1) (left_of known old) (left_of known new) × (has_failed new.reader ≡ false)
+    × (new.writer ≡ old.writer)
 -- the writer failed in this call, and a prefix of the report was written, of this length, and nothing else
-HasChecked remaining contents reader reader' writer writer' (Err (faults.Write written)) =
-    (text : List ℕ) × (bad : ℕ) × IsReported (remaining (inner_of reader))
-    (remaining (inner_of reader')) text bad
-    × (has_failed reader' ≡ false) × (written < length text)
-    × Appends (contents (inner_of writer)) (contents (inner_of writer')) (take written text)
-    × (has_failed writer' ≡ true)
+HasChecked known old new (Err (faults.Write written)) = (text : List ℕ) × (bad : ℕ)
+    × IsReported (left_of known old) (left_of known new) text bad × (has_failed new.reader ≡ false)
+    × (written < length text) × Appends (taken_by known old) (taken_by known new) (take written text)
+    × (has_failed new.writer ≡ true)

@@ -1,6 +1,5 @@
 -- What a run reads and writes: from the bytes of a script to those of the text that answers it.
 use Rattle.std.specs.Prelude.{◌≡◌, ℕ, ◌+◌, ◌<◌, ◌≤◌, true, false, List, ◌++◌, length, take, Option, Result, Ok, Err}
-use Rattle.std.specs.List.{flat_map}
 use Rattle.std.specs.Io.KnownBytes.{Appends}
 use Rattle.timer_facility.specs.declared.event.Event.{Event}
 use Rattle.timer_facility.specs.declared.event.Out.{Out}
@@ -9,10 +8,13 @@ use Rattle.timer_facility.specs.Played.{IsRun, IsPlayed}
 use Rattle.timer_script.specs.declared.input.TheConstants.{MAX_BYTES}
 use Rattle.timer_script.specs.declared.fault.RunFault.{RunFault}
 use Rattle.timer_script.specs.declared.fault.RunFault.TheVariants as faults
-use Rattle.timer_script.specs.declared.watched.Watched.{Watched}
-use Rattle.timer_script.specs.Watched.{inner_of, has_failed}
+use Rattle.timer_script.specs.declared.fault.AnswerFault.{AnswerFault}
+use Rattle.timer_script.specs.declared.fault.AnswerFault.TheVariants as answers
+use Rattle.timer_script.specs.declared.streams.Streams.{Streams}
+use Rattle.timer_script.specs.Watched.{has_failed}
+use Rattle.timer_script.specs.Streams.{Known, left_of, taken_by}
 use Rattle.timer_script.specs.Script.{IsScript, IsBadLine}
-use Rattle.timer_script.specs.Text.{out_line, text}
+use Rattle.timer_script.specs.Text.{lines_of, text}
 use Rattle.timer_script.specs.Input.{ReadsWhole, ReadsUpTo, ReadsTooMany}
 
 -- the events were played, and the text grew by the lines of their outs
@@ -20,7 +22,15 @@ pub record AddsLines (before : FacilityState) (events : List Event) (old new : L
     (after : FacilityState) : Type 0 where
   pub outs : List Out
   pub runs : IsRun before events outs after
-  pub lines : new ≡ old ++ flat_map out_line outs
+  pub lines : new ≡ old ++ lines_of outs
+
+-- so it was for the first of the events
+pub record AddsFirstLines (before : FacilityState) (events : List Event) (old new : List ℕ) : Type 0 where
+  pub played : List Event
+  pub unplayed : List Event
+  pub parts : events ≡ played ++ unplayed
+  pub after : FacilityState
+  pub adds : AddsLines before played old new after
 
 -- the bytes are the script of some events, which were played, and the line of each of their outs was added
 pub record HasPlayedLines (before : FacilityState) (bytes old new : List ℕ)
@@ -53,51 +63,34 @@ pub record IsBad (old new : Option (List ℕ)) (line : ℕ) : Type 0 where
   pub short : length bytes ≤ MAX_BYTES
   pub bad : IsBadLine bytes line
 
--- why bytes within the limit have no answer
-abbrev pub GivesNoAnswer : RunFault → List ℕ → Type 0
-GivesNoAnswer faults.Read bytes = ⊥
-GivesNoAnswer faults.TooLong bytes = ⊥
-GivesNoAnswer (faults.Bad line) bytes = IsBadLine bytes line
-GivesNoAnswer faults.OutOfMemory bytes = Unit {0}
-GivesNoAnswer (faults.Write written) bytes = ⊥
-
 -- why bytes in memory have no answer
-abbrev pub HasNoAnswer : RunFault → List ℕ → Type 0
-HasNoAnswer faults.Read bytes = ⊥
-HasNoAnswer faults.TooLong bytes = MAX_BYTES < length bytes
-HasNoAnswer (faults.Bad line) bytes = IsBadLine bytes line × (length bytes ≤ MAX_BYTES)
-HasNoAnswer faults.OutOfMemory bytes = length bytes ≤ MAX_BYTES
-HasNoAnswer (faults.Write written) bytes = ⊥
+abbrev pub HasNoAnswer : AnswerFault → List ℕ → Type 0
+HasNoAnswer answers.TooLong bytes = MAX_BYTES < length bytes
+HasNoAnswer (answers.Bad line) bytes = IsBadLine bytes line × (length bytes ≤ MAX_BYTES)
+HasNoAnswer answers.OutOfMemory bytes = length bytes ≤ MAX_BYTES
 
 -- what a run did to its reader and its writer, by how it ended
-abbrev pub HasRun : {R S : Type 0} (before : FacilityState) (remaining : R → Option (List ℕ)) (contents : S
-    → Option (List ℕ))
-    (reader reader' : Watched R) (writer writer' : Watched S) → Result Unit RunFault → Type 0
+abbrev pub HasRun : {R S : Type 0} → FacilityState → Known R S → (old new : Streams R S) → Result Unit RunFault
+    → Type 0
 -- the whole answer was written, and nothing else
-HasRun before remaining contents reader reader' writer writer' (Ok u) =
-    (answer : List ℕ) × IsAnswered before (remaining (inner_of reader)) (remaining (inner_of reader')) answer
-    × (has_failed reader' ≡ false)
-    × Appends (contents (inner_of writer)) (contents (inner_of writer')) answer × (has_failed writer' ≡ false)
+HasRun before known old new (Ok u) = (answer : List ℕ)
+    × IsAnswered before (left_of known old) (left_of known new) answer × (has_failed new.reader ≡ false)
+    × Appends (taken_by known old) (taken_by known new) answer × (has_failed new.writer ≡ false)
 -- the reader failed in this call, after at most `MAX_BYTES` bytes, and nothing was written
-HasRun before remaining contents reader reader' writer writer' (Err faults.Read) =
-    ReadsUpTo MAX_BYTES (remaining (inner_of reader)) (remaining (inner_of reader'))
-    × (has_failed reader' ≡ true) × (writer' ≡ writer)
+HasRun before known old new (Err faults.Read) = ReadsUpTo MAX_BYTES (left_of known old) (left_of known new)
+    × (has_failed new.reader ≡ true) × (new.writer ≡ old.writer)
 -- one byte more than `MAX_BYTES` was read, and nothing was written
-HasRun before remaining contents reader reader' writer writer' (Err faults.TooLong) =
-    ReadsTooMany (remaining (inner_of reader)) (remaining (inner_of reader')) × (has_failed reader' ≡ false)
-    × (writer' ≡ writer)
+HasRun before known old new (Err faults.TooLong) = ReadsTooMany (left_of known old) (left_of known new)
+    × (has_failed new.reader ≡ false) × (new.writer ≡ old.writer)
 -- the input is not a script, this is its first bad line, and nothing was written
-HasRun before remaining contents reader reader' writer writer' (Err (faults.Bad line)) =
-    IsBad (remaining (inner_of reader)) (remaining (inner_of reader')) line × (has_failed reader' ≡ false)
-    × (writer' ≡ writer)
+HasRun before known old new (Err (faults.Bad line)) = IsBad (left_of known old) (left_of known new) line
+    × (has_failed new.reader ≡ false) × (new.writer ≡ old.writer)
 -- nothing was written, and at most one byte more than `MAX_BYTES` was read
-HasRun before remaining contents reader reader' writer writer' (Err faults.OutOfMemory) =
-    ReadsUpTo (MAX_BYTES + 1) (remaining (inner_of reader)) (remaining (inner_of reader'))
-    × (has_failed reader' ≡ false) × (writer' ≡ writer)
+HasRun before known old new (Err faults.OutOfMemory) =
+    ReadsUpTo (MAX_BYTES + 1) (left_of known old) (left_of known new) × (has_failed new.reader ≡ false)
+    × (new.writer ≡ old.writer)
 -- the writer failed in this call, and a prefix of the answer was written, of this length, and nothing else
-HasRun before remaining contents reader reader' writer writer' (Err (faults.Write written)) =
-    (answer : List ℕ) × IsAnswered before (remaining (inner_of reader)) (remaining (inner_of reader')) answer
-    × (has_failed reader' ≡ false)
-    × (written < length answer) × Appends (contents (inner_of writer)) (contents (inner_of writer'))
-    (take written answer)
-    × (has_failed writer' ≡ true)
+HasRun before known old new (Err (faults.Write written)) = (answer : List ℕ)
+    × IsAnswered before (left_of known old) (left_of known new) answer × (has_failed new.reader ≡ false)
+    × (written < length answer) × Appends (taken_by known old) (taken_by known new) (take written answer)
+    × (has_failed new.writer ≡ true)

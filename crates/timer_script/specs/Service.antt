@@ -1,22 +1,23 @@
--- A session with a peer: what was played, what went to the peer, and when.
+-- A server and its peer: what was played, what went to the peer, and when.
 use Rattle.std.specs.Prelude.{◌≡◌, ℕ, ◌≤◌, ◌⊎◌, ◌-◌, ◌^◌, Bool, true, false, List, [], ◌∷◌, ◌++◌, length, take, Option, Result, Ok, Err}
 use Rattle.std.specs.Io.KnownBytes.{Consumes, Appends, IsAtEnd}
 use Rattle.timer_facility.specs.declared.event.Event.{Event}
+use Rattle.timer_facility.specs.declared.event.Out.{Out}
 use Rattle.timer_facility.specs.State.{FacilityState}
-use Rattle.timer_script.specs.Script.{IsScript, BeginsNoLine}
+use Rattle.timer_facility.specs.Played.{IsRun}
+use Rattle.timer_script.specs.declared.fault.TurnFault.{TurnFault}
+use Rattle.timer_script.specs.declared.fault.TurnFault.TheVariants as turns
 use Rattle.timer_script.specs.declared.fault.ServeFault.{ServeFault}
 use Rattle.timer_script.specs.declared.fault.ServeFault.TheVariants as faults
-use Rattle.timer_script.specs.declared.fault.SessionFault.{SessionFault}
-use Rattle.timer_script.specs.declared.fault.SessionFault.TheVariants as sessions
 use Rattle.timer_script.specs.declared.service.TheConstants.{PIECE}
-use Rattle.timer_script.specs.Text.{end_line}
-use Rattle.timer_script.specs.ScriptRun.{IsAnswer}
-use Rattle.timer_script.specs.Session.{SessionState, fresh, lines_of, next_line, HasFed, IsAnsweredSoFar, HasFailed, IsStoppedAt}
+use Rattle.timer_script.specs.declared.cutter.OnBadLine.{OnBadLine}
+use Rattle.timer_script.specs.declared.cutter.OnBadLine.TheVariants.{Stop}
+use Rattle.timer_script.specs.declared.cutter.Cutter.{Cutter}
 use Rattle.timer_script.specs.declared.watched.Watched.{Watched}
-use Rattle.timer_script.specs.declared.intake.OnBadLine.{OnBadLine}
-use Rattle.timer_script.specs.declared.intake.OnBadLine.TheVariants.{Stop}
+use Rattle.timer_script.specs.Text.{lines_of, end_line}
+use Rattle.timer_script.specs.ScriptRun.{IsAnswer}
 use Rattle.timer_script.specs.Decorator.{Decoration}
-use Rattle.timer_script.specs.Intake.{Passes, AreSoFar, AreFirst, HasPassed, HasPassedPart, HasEnded}
+use Rattle.timer_script.specs.Cutter.{Passes, AreSoFar, HasPassed, HasSeen, HasSeenPart, HasEnded, IsStoppedAt, HasTakenIn}
 use Rattle.timer_script.specs.Peer.{PeerState, Moment, Came, Went, Flush, Grows}
 
 -- the bytes that came from a peer
@@ -40,12 +41,6 @@ is_flushed flushed (Came bytes ∷ moments) = is_flushed flushed moments
 is_flushed flushed (Went bytes ∷ moments) = is_flushed false moments
 is_flushed flushed (Flush ∷ moments) = is_flushed true moments
 
--- a session that was fed these bytes has answered each complete line of them, and this text is the answer
-pub record IsAnsweredBy (start : SessionState) (came gone : List ℕ) : Type 0 where
-  pub session : SessionState
-  pub fed : HasFed start came [] gone session
-  pub answered : IsAnsweredSoFar session
-
 -- before each read what went so far answers what came so far, and it was flushed; a read gives few bytes, so
 -- all lines are answered but those of the last ones
 abbrev pub IsPromptBy : (List ℕ → List ℕ → Type 0) → (came gone : List ℕ) → Bool → List Moment → Type 0
@@ -56,14 +51,6 @@ IsPromptBy Answers came gone flushed (Came bytes ∷ moments) =
 IsPromptBy Answers came gone flushed (Went bytes ∷ moments) =
     IsPromptBy Answers came (gone ++ bytes) false moments
 IsPromptBy Answers came gone flushed (Flush ∷ moments) = IsPromptBy Answers came gone true moments
-
--- and so has one that was fed what passes of them
-abbrev pub IsAnsweredOf : OnBadLine → SessionState → (came gone : List ℕ) → Type 0
-IsAnsweredOf on_bad start came gone = (fed : List ℕ) × Passes on_bad came fed × IsAnsweredBy start fed gone
-
--- before each read all complete lines so far have been answered as the session does, and the answers flushed
-abbrev pub IsPrompt : OnBadLine → SessionState → (came gone : List ℕ) → Bool → List Moment → Type 0
-IsPrompt on_bad start = IsPromptBy (IsAnsweredOf on_bad start)
 
 -- these bytes came from the peer and this text went to it, and before more was read the text so far was an
 -- answer
@@ -113,143 +100,172 @@ pub record HasSentPart (old : PeerState) (text : List ℕ) (new : PeerState) : T
   pub written : HasWritten old (take count text) new
   pub failed : new.write_failed ≡ true
 
--- an error of a session as one of serving
-abbrev pub serve_fault : SessionFault → ServeFault
-serve_fault (sessions.Bad n) = faults.Bad n
-serve_fault sessions.OutOfMemory = faults.OutOfMemory
-serve_fault sessions.Ended = faults.OutOfMemory
+-- these events were played, and the text is the answer to them, with what may be added
+pub record HasAnswered (Adds : Decoration) (before : FacilityState) (events : List Event) (after : FacilityState)
+    (text : List ℕ) : Type 0 where
+  pub outs : List Out
+  pub runs : IsRun before events outs after
+  pub added : Adds before events after (lines_of outs) text
 
--- A session was fed these bytes except for the last ones, and the text is the answer to them with what is
--- added to the run of their events; so it is too with the lines after both that the session has still to write.
-pub record HasAnswered (Adds : Decoration) (old : SessionState) (piece text : List ℕ)
-    (new : SessionState) (unfed : List ℕ) : Type 0 where
-  pub bytes : List ℕ
-  pub parts : piece ≡ bytes ++ unfed
-  pub answer : List ℕ
-  pub fed : HasFed old bytes [] answer new
-  pub added : Adds old.state fed.events new.state (answer ++ lines_of new.unwritten) (text ++ lines_of new.unwritten)
+-- so it is for the first of the events
+pub record HasAnsweredPart (Adds : Decoration) (before : FacilityState) (events : List Event) (text : List ℕ)
+    : Type 0 where
+  pub played : List Event
+  pub unplayed : List Event
+  pub parts : events ≡ played ++ unplayed
+  pub after : FacilityState
+  pub answered : HasAnswered Adds before played after text
 
--- why bytes were not answered, or nothing could be added: a line is bad, or out of memory
-abbrev pub StopsAnswer : Decoration → ServeFault → SessionState → (piece text : List ℕ)
-    → SessionState → Type 0
-StopsAnswer Adds faults.Read old piece text new = ⊥
-StopsAnswer Adds (faults.Bad n) old piece text new =
-    (unfed : List ℕ) × HasAnswered Adds old piece text new unfed × HasFailed n new
-StopsAnswer Adds faults.OutOfMemory old piece text new =
-    (unfed : List ℕ) × HasAnswered Adds old piece text new unfed
-StopsAnswer Adds faults.Write old piece text new = ⊥
-StopsAnswer Adds faults.TooLong old piece text new = ⊥
-
--- the text for these bytes was written except for its last part, and nothing was read
-pub record HasServedPiece (Adds : Decoration) (old : SessionState) (piece : List ℕ)
-    (peer peer' : PeerState) (new : SessionState) (unfed unsent : List ℕ) (flushed : Bool) : Type 0 where
+-- the text for these events was written except for its last part, and nothing was read
+pub record HasServedEvents (Adds : Decoration) (before : FacilityState) (events : List Event)
+    (after : FacilityState) (peer peer' : PeerState) (unsent : List ℕ) (flushed : Bool) : Type 0 where
   pub sent : List ℕ
-  pub answered : HasAnswered Adds old piece (sent ++ unsent) new unfed
+  pub answered : HasAnswered Adds before events after (sent ++ unsent)
   pub written : HasWritten peer sent peer'
   pub flush : is_flushed true written.moments ≡ flushed
 
--- why not all of these bytes were served
-abbrev pub StopsPiece : Decoration → ServeFault → SessionState → List ℕ → PeerState
-    → PeerState → SessionState → Type 0
-StopsPiece Adds faults.Read old piece peer peer' new = ⊥
--- a line is bad whatever follows, and all lines before it are answered
-StopsPiece Adds (faults.Bad n) old piece peer peer' new = (unfed : List ℕ)
-    × HasServedPiece Adds old piece peer peer' new unfed [] true × HasFailed n new × AreGood peer'
--- out of memory: all the text so far was written
-StopsPiece Adds faults.OutOfMemory old piece peer peer' new = (unfed : List ℕ)
-    × HasServedPiece Adds old piece peer peer' new unfed [] true × AreGood peer'
--- a write failed
-StopsPiece Adds faults.Write old piece peer peer' new = (unfed unsent : List ℕ) × (flushed : Bool)
-    × HasServedPiece Adds old piece peer peer' new unfed unsent flushed
-    × (peer'.read_failed ≡ false) × (peer'.write_failed ≡ true)
-StopsPiece Adds faults.TooLong old piece peer peer' new = ⊥
+-- so it was for the first of the events
+pub record HasServedSome (Adds : Decoration) (before : FacilityState) (events : List Event)
+    (peer peer' : PeerState) (unsent : List ℕ) (flushed : Bool) : Type 0 where
+  pub played : List Event
+  pub unplayed : List Event
+  pub parts : events ≡ played ++ unplayed
+  pub after : FacilityState
+  pub served : HasServedEvents Adds before played after peer peer' unsent flushed
 
--- the end line of a session
-abbrev pub last_line : SessionState → List ℕ
-last_line s = end_line s.state.now (length s.state.pending)
+-- why not all of these events were served
+abbrev pub StopsEvents : Decoration → TurnFault → FacilityState → List Event → (peer peer' : PeerState) → Type 0
+-- out of memory: all the text so far was written
+StopsEvents Adds turns.OutOfMemory before events peer peer' =
+    HasServedSome Adds before events peer peer' [] true × AreGood peer'
+-- a write failed
+StopsEvents Adds turns.Write before events peer peer' = (unsent : List ℕ) × (flushed : Bool)
+    × HasServedSome Adds before events peer peer' unsent flushed
+    × (peer'.read_failed ≡ false) × (peer'.write_failed ≡ true)
+
+-- the end line of a facility
+abbrev pub last_line : FacilityState → List ℕ
+last_line s = end_line s.now (length s.pending)
 
 -- why the end line was not written completely
-abbrev pub StopsEnd : ServeFault → SessionState → PeerState → PeerState → Type 0
-StopsEnd faults.Read s peer peer' = ⊥
-StopsEnd (faults.Bad n) s peer peer' = (1 ≤ length s.held) × BeginsNoLine s.held × (n ≡ next_line s)
-    × (peer' ≡ peer)
-StopsEnd faults.OutOfMemory s peer peer' = peer' ≡ peer
-StopsEnd faults.Write s peer peer' = (s.held ≡ []) × HasSentPart peer (last_line s) peer'
-StopsEnd faults.TooLong s peer peer' = ⊥
+abbrev pub StopsEnd : TurnFault → FacilityState → PeerState → PeerState → Type 0
+StopsEnd turns.OutOfMemory s peer peer' = peer' ≡ peer
+StopsEnd turns.Write s peer peer' = HasSentPart peer (last_line s) peer'
 
--- the peer was read to its end, these bytes are the script of some events, and this is the answer to them
-pub record HasAnsweredAll (before : FacilityState) (peer : PeerState) (fed answer : List ℕ) : Type 0 where
-  pub events : List Event
-  pub at_end : IsAtEnd peer.remaining
-  pub script : IsScript events fed
-  pub answered : IsAnswer before events answer
+-- ---- the whole stream
 
--- a session that was fed what passes of these bytes has answered each complete line of that, and this text is
--- the answer with what is added
-pub record IsAnsweredWith (on_bad : OnBadLine) (Adds : Decoration) (start : SessionState)
+-- a server: what it does at a bad line, what it adds to the answers, the facility before the first line, and how the
+-- bytes of its writer of reports are known
+pub record Server (F : Type 0) : Type 1 where
+  pub on_bad : OnBadLine
+  pub Adds : Decoration
+  pub before : FacilityState
+  pub contents : F → Option (List ℕ)
+
+abbrev pub server_with : {F : Type 0} → OnBadLine → Decoration → FacilityState → (F → Option (List ℕ)) → Server F
+server_with on_bad Adds before contents =
+    record { on_bad = on_bad; Adds = Adds; before = before; contents = contents }
+
+-- its two sides, at one moment
+pub record Sides (F : Type 0) : Type 0 where
+  pub peer : PeerState
+  pub faults : Watched F
+
+-- the events that pass of these bytes have been answered, and this text is the answer with what is added
+pub record IsAnsweredWith (on_bad : OnBadLine) (Adds : Decoration) (before : FacilityState)
     (came gone : List ℕ) : Type 0 where
-  pub fed : List ℕ
-  pub session : SessionState
-  pub passes : Passes on_bad came fed
-  pub answered : HasAnswered Adds start fed gone session []
-  pub going : IsAnsweredSoFar session
+  pub events : List Event
+  pub after : FacilityState
+  pub passes : Passes on_bad came events
+  pub answered : HasAnswered Adds before events after gone
+
+-- before each read all complete lines so far have been answered, and the answers flushed
+abbrev pub IsPrompt : OnBadLine → Decoration → FacilityState → List Moment → Type 0
+IsPrompt on_bad Adds before = IsPromptBy (IsAnsweredWith on_bad Adds before) [] [] true
 
 -- these bytes came from the peer and this text went to it, each complete line that passes answered before more
 -- was read
-abbrev pub HasTalked : OnBadLine → Decoration → FacilityState → (old new : PeerState)
-    → (came gone : List ℕ) → Bool → Type 0
-HasTalked on_bad Adds before = HasTalkedBy (IsAnsweredWith on_bad Adds (fresh before))
+abbrev pub HasTalked : {F : Type 0} → Server F → (old new : PeerState) → (came gone : List ℕ) → Bool → Type 0
+HasTalked server = HasTalkedBy (IsAnsweredWith server.on_bad server.Adds server.before)
 
--- what went from the peer through the session and back: of the bytes that came some passed, the last of those
--- were not fed, and the last of the text for those that were fed has not been sent
-pub record HasServedSoFar (on_bad : OnBadLine) (Passed : (came fed : List ℕ) → Type 0) (Adds : Decoration)
-    (before : FacilityState) (peer peer' : PeerState) (new : SessionState) (unfed unsent : List ℕ)
-    (flushed : Bool) : Type 0 where
+-- of the bytes that came from the peer events passed, and all of them are answered
+pub record HasServedAll {F : Type 0} (server : Server F) (Passed : List ℕ → List Event → Type 0)
+    (old new : PeerState) (after : FacilityState) : Type 0 where
   pub came : List ℕ
-  pub fed : List ℕ
+  pub events : List Event
   pub sent : List ℕ
-  pub passed : Passed came fed
-  pub talked : HasTalked on_bad Adds before peer peer' came sent flushed
-  pub answered : HasAnswered Adds (fresh before) fed (sent ++ unsent) new unfed
+  pub passed : Passed came events
+  pub talked : HasTalked server old new came sent true
+  pub answered : HasAnswered server.Adds server.before events after sent
 
--- what serving did, by how it ended, if this is done at a bad line and this is added to the answers; in each
--- case every complete line that passes was answered, and its answer flushed, before more was read
-abbrev pub HasServed : {F : Type 0} → OnBadLine → Decoration → FacilityState → (peer peer' : PeerState)
-    → (contents : F → Option (List ℕ)) → (writer writer' : Watched F) → Result Bool ServeFault → Type 0
+-- the first of them are, and the last of the text for them has not been sent
+pub record HasServedPart {F : Type 0} (server : Server F) (Passed : List ℕ → List Event → Type 0)
+    (old new : PeerState) (unsent : List ℕ) (flushed : Bool) : Type 0 where
+  pub came : List ℕ
+  pub events : List Event
+  pub sent : List ℕ
+  pub passed : Passed came events
+  pub talked : HasTalked server old new came sent flushed
+  pub answered : HasAnsweredPart server.Adds server.before events (sent ++ unsent)
+
+-- the peer was read to its end, and this is the whole answer to the events, with what is added
+pub record HasAnsweredAll {F : Type 0} (server : Server F) (peer : PeerState) (events : List Event)
+    (text : List ℕ) : Type 0 where
+  pub at_end : IsAtEnd peer.remaining
+  pub answer : List ℕ
+  pub answered : IsAnswer server.before events answer
+  pub added : server.Adds server.before events answered.after answer text
+
+-- what serving did, by how it ended; in each case every complete line that passes was answered, and its answer
+-- flushed, before more was read
+abbrev pub HasServed : {F : Type 0} → Server F → (old new : Sides F) → Result Bool ServeFault → Type 0
 -- the whole answer, with what is added, was written and flushed, and nothing else; all bad lines were reported
-HasServed on_bad Adds before peer peer' contents writer writer' (Ok clean) =
-    (came fed answer text : List ℕ) × HasEnded on_bad clean contents writer writer' came fed
-    × (all : HasAnsweredAll before peer' fed answer) × Adds before all.events all.answered.after answer text
-    × HasTalked on_bad Adds before peer peer' came text true × AreGood peer'
+HasServed server old new (Ok clean) = (came : List ℕ) × (events : List Event) × (text : List ℕ)
+    × HasEnded server.on_bad clean server.contents old.faults new.faults came events
+    × HasAnsweredAll server new.peer events text × HasTalked server old.peer new.peer came text true
+    × AreGood new.peer
 -- a read failed, each complete line that came is answered, or was reported
-HasServed on_bad Adds before peer peer' contents writer writer' (Err faults.Read) =
-    (s : SessionState)
-    × HasServedSoFar on_bad (HasPassed on_bad AreSoFar contents writer writer') Adds before peer peer' s [] [] true
-    × IsAnsweredSoFar s × (peer'.read_failed ≡ true) × (peer'.write_failed ≡ false)
+HasServed server old new (Err faults.Read) = (s : FacilityState)
+    × HasServedAll server (HasPassed server.on_bad AreSoFar server.contents old.faults new.faults) old.peer new.peer s
+    × (new.peer.read_failed ≡ true) × (new.peer.write_failed ≡ false)
 -- a bad line ends it: the n-th line is the first bad one, each line before it is answered, and nothing else was
 -- written but what is added
-HasServed on_bad Adds before peer peer' contents writer writer' (Err (faults.Bad n)) =
-    (on_bad ≡ Stop) × (writer' ≡ writer) × (bytes answer text : List ℕ)
-    × (stopped : IsStoppedAt before bytes answer n) × Adds before stopped.events stopped.after answer text
-    × HasTalked on_bad Adds before peer peer' bytes text true × AreGood peer'
--- out of memory: all the text so far was written
-HasServed on_bad Adds before peer peer' contents writer writer' (Err faults.OutOfMemory) =
-    (s : SessionState) × (unfed : List ℕ)
-    × HasServedSoFar on_bad (HasPassedPart on_bad contents writer writer') Adds before peer peer' s unfed [] true
-    × AreGood peer'
+HasServed server old new (Err (faults.Bad n)) = (server.on_bad ≡ Stop) × (new.faults ≡ old.faults)
+    × (s : FacilityState) × HasServedAll server (λ came events. IsStoppedAt came events n) old.peer new.peer s
+    × AreGood new.peer
+-- out of memory: all the text so far was written, and it answers the first lines
+HasServed server old new (Err faults.OutOfMemory) =
+    HasServedPart server (HasSeenPart server.on_bad server.contents old.faults new.faults) old.peer new.peer [] true
+    × AreGood new.peer
 -- a write failed: a prefix was written of the answers with what is added, or of the whole answer with that
-HasServed on_bad Adds before peer peer' contents writer writer' (Err faults.Write) =
-    (((s : SessionState) × (unfed unsent : List ℕ) × (flushed : Bool)
-    × HasServedSoFar on_bad (HasPassed on_bad AreFirst contents writer writer') Adds before peer peer' s unfed
-    unsent flushed)
-    ⊎ ((came fed answer sent unsent : List ℕ) × (flushed : Bool)
-    × HasPassed on_bad AreFirst contents writer writer' came fed × (all : HasAnsweredAll before peer' fed answer)
-    × Adds before all.events all.answered.after answer (sent ++ unsent)
-    × HasTalked on_bad Adds before peer peer' came sent flushed))
-    × (peer'.read_failed ≡ false) × (peer'.write_failed ≡ true)
+HasServed server old new (Err faults.Write) =
+    (((unsent : List ℕ) × (flushed : Bool)
+    × HasServedPart server (HasSeen server.on_bad server.contents old.faults new.faults) old.peer new.peer unsent
+    flushed)
+    ⊎ ((came : List ℕ) × (events : List Event) × (sent unsent : List ℕ) × (flushed clean : Bool)
+    × HasEnded server.on_bad clean server.contents old.faults new.faults came events
+    × HasAnsweredAll server new.peer events (sent ++ unsent)
+    × HasTalked server old.peer new.peer came sent flushed))
+    × (new.peer.read_failed ≡ false) × (new.peer.write_failed ≡ true)
 -- more bytes came than a u64 counts, and each complete line of them is answered, or was reported
-HasServed on_bad Adds before peer peer' contents writer writer' (Err faults.TooLong) =
-    (s : SessionState)
-    × (served : HasServedSoFar on_bad (HasPassed on_bad AreSoFar contents writer writer') Adds before peer peer' s []
-    [] true)
-    × (2 ^ 64 - 1 ≤ length served.came) × IsAnsweredSoFar s × AreGood peer'
+HasServed server old new (Err faults.TooLong) = (s : FacilityState)
+    × (served : HasServedAll server (HasPassed server.on_bad AreSoFar server.contents old.faults new.faults)
+    old.peer new.peer s)
+    × (2 ^ 64 - 1 ≤ length served.came) × AreGood new.peer
+
+-- ---- one turn
+
+-- the last piece of the bytes that came has not been taken in
+pub record HasUnseen {F : Type 0} (cutter : Cutter) (contents : F → Option (List ℕ)) (writer writer' : Watched F)
+    (piece came : List ℕ) (events : List Event) : Type 0 where
+  pub seen : List ℕ
+  pub parts : came ≡ seen ++ piece
+  pub taken : HasTakenIn cutter contents writer writer' seen events
+
+-- the piece was taken in and answered, so that at least so many bytes came, or serving ended
+abbrev pub HasServedPiece : {F : Type 0} → Server F → (old : Sides F) → Cutter → FacilityState → (new : Sides F)
+    → (least : ℕ) → Result Unit ServeFault → Type 0
+HasServedPiece server old cutter s new least (Ok u) =
+    (all : HasServedAll server (HasTakenIn cutter server.contents old.faults new.faults) old.peer new.peer s)
+    × (least ≤ length all.came)
+HasServedPiece server old cutter s new least (Err fault) = HasServed server old new (Err fault)

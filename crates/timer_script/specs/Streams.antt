@@ -1,5 +1,6 @@
 -- A reader and a writer, as the two directions of a peer.
 use Rattle.std.specs.Prelude.{ℕ, List, Option, None}
+use Rattle.timer_script.specs.declared.streams.Streams.{Streams}
 use Rattle.timer_script.specs.declared.watched.Watched.{Watched}
 use Rattle.timer_script.specs.Watched.{inner_of, has_failed}
 use Rattle.timer_script.specs.Peer.{PeerState}
@@ -14,3 +15,15 @@ streams_state remaining contents reader writer = record {
   read_failed = has_failed reader;
   write_failed = has_failed writer;
 }
+
+-- how the bytes of a reader and of a writer are known
+pub record Known (R S : Type 0) : Type 0 where
+  pub remaining : R → Option (List ℕ)
+  pub contents : S → Option (List ℕ)
+
+-- the bytes that the reader has still to give, and those that the writer took
+abbrev pub left_of : {R S : Type 0} → Known R S → Streams R S → Option (List ℕ)
+left_of known streams = known.remaining (inner_of streams.reader)
+
+abbrev pub taken_by : {R S : Type 0} → Known R S → Streams R S → Option (List ℕ)
+taken_by known streams = known.contents (inner_of streams.writer)

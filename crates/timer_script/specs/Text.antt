@@ -62,6 +62,10 @@ out_line out.CloseRefused = codes "close refused closed\n"
 abbrev pub end_line : ℕ → ℕ → List ℕ
 end_line now pending = codes "end" ++ numbers (now ∷ pending ∷ []) ++ codes "\n"
 
+-- a line for each out
+abbrev pub lines_of : List Out → List ℕ
+lines_of outs = flat_map out_line outs
+
 -- a line for each out, and then the end line
 abbrev pub text : List Out → ℕ → ℕ → List ℕ
-text outs now pending = flat_map out_line outs ++ end_line now pending
+text outs now pending = lines_of outs ++ end_line now pending

@@ -5,7 +5,7 @@ ghost use Rattle.timer_script.specs.declared.input.TheConstants.{MAX_BYTES};
 ghost use Rattle.timer_script.specs.Script.{IsScript};
 ghost use Rattle.timer_script.specs.ScriptRun.{IsAnswer, HasNoAnswer};
 
-use crate::fault::RunFault;
+use crate::fault::AnswerFault;
 use crate::input::MAX_BYTES;
 use crate::script_run::answer_to;
 use std::alloc::Global;
@@ -15,13 +15,12 @@ use timer_facility::Facility;
 /// The text that answers a script.
 ///
 /// Fails, in this order, with `TooLong` if the script has more than `MAX_BYTES` bytes, and with
-/// `Bad`, which names the first bad line. Never fails with `Read` or `Write`. Nothing may be pending
-/// in the facility or wait in it.
+/// `Bad`, which names the first bad line. Nothing may be pending in the facility or wait in it.
 pub fn answer_of<W: Wheel + Drop>(
     alloc: Global,
     script: &[u8],
     facility: Facility<W>,
-) -> Result<Vec<u8>, RunFault>
+) -> Result<Vec<u8>, AnswerFault>
     requires pending { facility.state.pending ≡ [] }
     requires waiting { facility.waiting ≡ [] }
     ensures ok { IfOk result (λ answer. (events : List Event) × IsScript events script.now
@@ -30,7 +29,8 @@ pub fn answer_of<W: Wheel + Drop>(
     ensures fault { IfErr result (λ fault. HasNoAnswer fault script.now) }
 {
     if script.len() > MAX_BYTES {
-        return Err(RunFault::TooLong);
+        return Err(AnswerFault::TooLong);
     }
-    answer_to(alloc, script, facility)
+    let answer = answer_to(alloc, script, facility)?;
+    Ok(answer)
 }

@@ -11,7 +11,7 @@ ghost use Rattle.timer_script.specs.Decorator.{Decoration, IsLawful, HasGrown, H
 use timer_base::{OutOfMemory, Wheel};
 use timer_facility::Facility;
 
-/// Adds text to the answers of a session.
+/// Adds text to answers.
 pub trait Decorator<W: Wheel + Drop> {
     /// The text is the answer to some events, with what may be added after them. What may be added depends on
     /// the facility's state at that place.

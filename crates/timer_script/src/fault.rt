@@ -1,8 +1,11 @@
 //! Why a script is rejected, and why a run ends early.
 ghost use Rattle.std.specs.Prelude.{◌≡◌};
 ghost use Rattle.timer_script.specs.declared.fault.ScriptFault.TheVariants.{OutOfMemory};
-ghost use Rattle.timer_script.specs.declared.fault.RunFault.TheVariants as faults;
-ghost use Rattle.timer_script.specs.Fault.{run_fault};
+ghost use Rattle.timer_script.specs.declared.fault.ReadFault.TheVariants as reads;
+ghost use Rattle.timer_script.specs.declared.fault.RunFault.TheVariants as runs;
+ghost use Rattle.timer_script.specs.declared.fault.CheckFault.TheVariants as checks;
+ghost use Rattle.timer_script.specs.declared.fault.TurnFault.TheVariants as turns;
+ghost use Rattle.timer_script.specs.Fault.{read_fault, run_read_fault, run_script_fault, check_read_fault, answer_script_fault, serve_fault};
 
 use std::alloc::{AllocError, AllocFailed};
 use thiserror::Error;
@@ -34,18 +37,75 @@ impl<T: Drop> From<AllocFailed<T>> for ScriptFault {
     }
 }
 
-/// Why a session took no more bytes.
-#[derive(Clone, Copy, Debug, PartialEq, Eq, Error)]
-pub enum SessionFault {
-    /// The first bad line, counted from 1.
-    #[error("bad line {line}")]
-    Bad { line: u64 },
-    /// An allocation failed. The session continues.
-    #[error("out of memory")]
+impl From<timer_base::OutOfMemory> for ScriptFault {
+    ghost from_gives = { λ _ e. e ≡ OutOfMemory };
+
+    fn from(_: timer_base::OutOfMemory) -> ScriptFault {
+        ScriptFault::OutOfMemory
+    }
+}
+
+/// Why one read appended nothing.
+#[derive(Clone, Copy, Debug, PartialEq, Eq)]
+pub enum PieceFault {
+    /// The reader failed.
+    Read,
+    /// An allocation failed.
     OutOfMemory,
-    /// The end line was written before.
-    #[error("ended")]
-    Ended,
+}
+
+/// Why a script was not read to its end.
+#[derive(Clone, Copy, Debug, PartialEq, Eq)]
+pub enum ReadFault {
+    /// The reader failed.
+    Read,
+    /// The input is longer than a script may be.
+    TooLong,
+    /// An allocation failed.
+    OutOfMemory,
+}
+
+impl From<PieceFault> for ReadFault {
+    ghost from_gives = { λ fault e. e ≡ read_fault fault };
+
+    fn from(fault: PieceFault) -> ReadFault {
+        match fault {
+            PieceFault::Read => ReadFault::Read,
+            PieceFault::OutOfMemory => ReadFault::OutOfMemory,
+        }
+    }
+}
+
+impl From<timer_base::OutOfMemory> for ReadFault {
+    ghost from_gives = { λ _ e. e ≡ reads.OutOfMemory };
+
+    fn from(_: timer_base::OutOfMemory) -> ReadFault {
+        ReadFault::OutOfMemory
+    }
+}
+
+/// A text was not written whole. The writer failed after it had taken this many of its bytes.
+#[derive(Clone, Copy, Debug, PartialEq, Eq, Error)]
+#[error("write failed")]
+pub struct WriteFault {
+    pub written: usize,
+}
+
+/// Why a piece of a stream was not answered.
+#[derive(Clone, Copy, Debug, PartialEq, Eq)]
+pub enum TurnFault {
+    /// An allocation failed.
+    OutOfMemory,
+    /// A write or a flush failed.
+    Write,
+}
+
+impl From<timer_base::OutOfMemory> for TurnFault {
+    ghost from_gives = { λ _ e. e ≡ turns.OutOfMemory };
+
+    fn from(_: timer_base::OutOfMemory) -> TurnFault {
+        TurnFault::OutOfMemory
+    }
 }
 
 /// Why serving ended early. Its text is the line that the user is shown.
@@ -68,6 +128,17 @@ pub enum ServeFault {
     TooLong,
 }
 
+impl From<TurnFault> for ServeFault {
+    ghost from_gives = { λ fault e. e ≡ serve_fault fault };
+
+    fn from(fault: TurnFault) -> ServeFault {
+        match fault {
+            TurnFault::OutOfMemory => ServeFault::OutOfMemory,
+            TurnFault::Write => ServeFault::Write,
+        }
+    }
+}
+
 /// Why a run ended early. Its text is the line that the user is shown.
 #[derive(Clone, Copy, Debug, PartialEq, Eq, Error)]
 pub enum RunFault {
@@ -88,8 +159,20 @@ pub enum RunFault {
     Write { written: usize },
 }
 
+impl From<ReadFault> for RunFault {
+    ghost from_gives = { λ fault e. e ≡ run_read_fault fault };
+
+    fn from(fault: ReadFault) -> RunFault {
+        match fault {
+            ReadFault::Read => RunFault::Read,
+            ReadFault::TooLong => RunFault::TooLong,
+            ReadFault::OutOfMemory => RunFault::OutOfMemory,
+        }
+    }
+}
+
 impl From<ScriptFault> for RunFault {
-    ghost from_gives = { λ fault e. e ≡ run_fault fault };
+    ghost from_gives = { λ fault e. e ≡ run_script_fault fault };
 
     fn from(fault: ScriptFault) -> RunFault {
         match fault {
@@ -99,10 +182,84 @@ impl From<ScriptFault> for RunFault {
     }
 }
 
-impl From<timer_base::OutOfMemory> for RunFault {
-    ghost from_gives = { λ _ e. e ≡ faults.OutOfMemory };
+impl From<WriteFault> for RunFault {
+    ghost from_gives = { λ fault e. e ≡ runs.Write (fault.written) };
 
-    fn from(_: timer_base::OutOfMemory) -> RunFault {
-        RunFault::OutOfMemory
+    fn from(fault: WriteFault) -> RunFault {
+        RunFault::Write {
+            written: fault.written,
+        }
+    }
+}
+
+/// Why a check ended early. Its text is the line that the user is shown.
+#[derive(Clone, Copy, Debug, PartialEq, Eq, Error)]
+pub enum CheckFault {
+    /// The reader failed. Nothing was written.
+    #[error("read failed")]
+    Read,
+    /// The input is longer than a script may be. Nothing was written.
+    #[error("too long")]
+    TooLong,
+    /// An allocation failed. Nothing was written.
+    #[error("out of memory")]
+    OutOfMemory,
+    /// The writer failed after it had taken this many bytes of the report.
+    #[error("write failed")]
+    Write { written: usize },
+}
+
+impl From<ReadFault> for CheckFault {
+    ghost from_gives = { λ fault e. e ≡ check_read_fault fault };
+
+    fn from(fault: ReadFault) -> CheckFault {
+        match fault {
+            ReadFault::Read => CheckFault::Read,
+            ReadFault::TooLong => CheckFault::TooLong,
+            ReadFault::OutOfMemory => CheckFault::OutOfMemory,
+        }
+    }
+}
+
+impl From<timer_base::OutOfMemory> for CheckFault {
+    ghost from_gives = { λ _ e. e ≡ checks.OutOfMemory };
+
+    fn from(_: timer_base::OutOfMemory) -> CheckFault {
+        CheckFault::OutOfMemory
+    }
+}
+
+impl From<WriteFault> for CheckFault {
+    ghost from_gives = { λ fault e. e ≡ checks.Write (fault.written) };
+
+    fn from(fault: WriteFault) -> CheckFault {
+        CheckFault::Write {
+            written: fault.written,
+        }
+    }
+}
+
+/// Why bytes in memory have no answer.
+#[derive(Clone, Copy, Debug, PartialEq, Eq, Error)]
+pub enum AnswerFault {
+    /// They are more than a script may have.
+    #[error("too long")]
+    TooLong,
+    /// The first bad line, counted from 1.
+    #[error("bad line {line}")]
+    Bad { line: u64 },
+    /// An allocation failed.
+    #[error("out of memory")]
+    OutOfMemory,
+}
+
+impl From<ScriptFault> for AnswerFault {
+    ghost from_gives = { λ fault e. e ≡ answer_script_fault fault };
+
+    fn from(fault: ScriptFault) -> AnswerFault {
+        match fault {
+            ScriptFault::Bad { line } => AnswerFault::Bad { line },
+            ScriptFault::OutOfMemory => AnswerFault::OutOfMemory,
+        }
     }
 }

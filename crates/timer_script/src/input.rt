@@ -1,12 +1,13 @@
 //! Reads a script to its end, in few large reads. No error is retried.
-ghost use Rattle.std.specs.Prelude.{◌+◌, OnErr, IsErrOf, vec_len, ◌≡◌, ◌≤◌, ◌<◌, length, IfOk, IfErr, true, false};
+ghost use Rattle.std.specs.Prelude.{◌+◌, vec_len, ◌≡◌, ◌≤◌, ◌<◌, length, IfOk, IfErr, true, false};
 ghost use Rattle.timer_script.specs.declared.input.TheConstants.{MAX_BYTES};
 ghost use Rattle.timer_script.specs.Input.{ReadsWhole, StopsReading, HasRead, FailsToRead};
 
-use crate::fault::RunFault;
+use crate::fault::{PieceFault, ReadFault};
 use crate::watched::Watched;
 use std::alloc::Global;
 use std::io::Read;
+use timer_base::OutOfMemory;
 
 /// The most bytes that a script may have: 1 MiB.
 pub const MAX_BYTES: usize = 1048576;
@@ -18,11 +19,10 @@ const READ_LIMIT: usize = MAX_BYTES + 1;
 const PIECE: usize = 65536;
 
 /// A buffer of this many zeros.
-pub fn zeroed_buffer(alloc: Global, len: usize) -> Result<Vec<u8>, RunFault>
+pub fn zeroed_buffer(alloc: Global, len: usize) -> Result<Vec<u8>, OutOfMemory>
     ensures len { IfOk result (λ piece. vec_len piece ≡ len) }
-    ensures memory { OnErr result (IsErrOf result RunFault.OutOfMemory) }
 {
-    vec![in alloc; 0u8; len].map_err(|_| RunFault::OutOfMemory)
+    vec![in alloc; 0u8; len].map_err(|_| OutOfMemory)
 }
 
 /// Reads once, and appends what came. Returns how many bytes came: 0 only at the end.
@@ -30,7 +30,7 @@ fn read_once<R: Read>(
     reader: &mut Watched<R>,
     piece: &mut [u8],
     bytes: &mut Vec<u8>,
-) -> Result<usize, RunFault>
+) -> Result<usize, PieceFault>
     requires good { reader.old.failed ≡ false }
     requires room { 0 < length piece.old }
     ensures ok { IfOk result (λ n. HasRead (R.remaining reader.old.inner)
@@ -42,10 +42,10 @@ fn read_once<R: Read>(
         (R.remaining reader.old.inner) (R.remaining reader.new.inner) reader.new.failed) }
 {
     let Ok(n) = reader.read(piece) else {
-        return Err(RunFault::Read);
+        return Err(PieceFault::Read);
     };
     if bytes.extend_from_slice(&piece[..n]).is_err() {
-        return Err(RunFault::OutOfMemory);
+        return Err(PieceFault::OutOfMemory);
     }
     Ok(n)
 }
@@ -54,7 +54,7 @@ fn read_once<R: Read>(
 ///
 /// Fails with `Read` if the reader failed, and with `TooLong` once it gave more than `MAX_BYTES`
 /// bytes, of which one is read.
-pub fn read_script<R: Read>(alloc: Global, reader: &mut Watched<R>) -> Result<Vec<u8>, RunFault>
+pub fn read_script<R: Read>(alloc: Global, reader: &mut Watched<R>) -> Result<Vec<u8>, ReadFault>
     requires { reader.old.failed ≡ false }
     ensures whole { IfOk result (λ bytes. ReadsWhole (R.remaining reader.old.inner)
         (R.remaining reader.new.inner) bytes.items) }
@@ -72,5 +72,5 @@ pub fn read_script<R: Read>(alloc: Global, reader: &mut Watched<R>) -> Result<Ve
             return Ok(bytes);
         }
     }
-    Err(RunFault::TooLong)
+    Err(ReadFault::TooLong)
 }

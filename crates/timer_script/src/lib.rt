@@ -8,18 +8,19 @@
 //!
 //! A module's definitions are in the file of its name in `specs/`, and their lemmas in `proofs/`:
 //!
-//!     bytes       digits and lines (`lines`), scripts (`script`), a stream cut into lines (`splitter`)
+//!     bytes       digits and lines (`lines`, `splitter`), scripts (`script`)
 //!     runs        `input`, `output`, `script_run`, `answer` (the same in memory), `text`
-//!     streams     `session`, `peer`, `streams`, `service`, `decorator`; past bad lines `sieve`, `intake`
+//!     streams     a stream cut into lines (`cutter`), `session`, `peer`, `streams`,
+//!                 `service`, `decorator`
 //!     bad lines   `line_fault` and `diagnosis` (one line), `script_report` (those of a script)
 #![tactic(auto)]
 
 mod answer;
+mod cutter;
 mod decorator;
 mod diagnosis;
 mod fault;
 mod input;
-mod intake;
 pub mod laws;
 mod line_fault;
 mod lines;
@@ -30,19 +31,17 @@ mod script_report;
 mod script_run;
 mod service;
 mod session;
-mod sieve;
 mod splitter;
-mod stage;
 mod streams;
 mod text;
 mod watched;
 
 pub use answer::answer_of;
+pub use cutter::OnBadLine;
 pub use decorator::{Decorator, Undecorated};
 pub use diagnosis::fault_in_line;
-pub use fault::{RunFault, ScriptFault, ServeFault, SessionFault};
+pub use fault::{AnswerFault, CheckFault, RunFault, ScriptFault, ServeFault, WriteFault};
 pub use input::MAX_BYTES;
-pub use intake::OnBadLine;
 pub use line_fault::{Field, LineFault, LineReason};
 pub use lines::MAX_TICKS;
 pub use output::write_text;
@@ -51,8 +50,6 @@ pub use script::parse_script;
 pub use script_report::{check, scripts_have_no_bad_line};
 pub use script_run::run;
 pub use service::serve;
-pub use session::{FeedStop, Session};
-pub use stage::Stage;
 pub use streams::Streams;
 pub use text::text_of;
 pub use watched::Watched;

@@ -5,15 +5,15 @@ ghost use Rattle.std.specs.Io.KnownBytes.{Appends};
 ghost use Rattle.timer_script.specs.Output.{StopsWriting};
 ghost use Rattle.timer_script.specs.Watched.{inner_of, has_failed};
 
-use crate::fault::RunFault;
+use crate::fault::WriteFault;
 use crate::watched::Watched;
 use std::io::Write;
 
 /// Writes the text and nothing else.
 ///
-/// `Write` is the only error. It comes if the writer failed, or took no byte, and has the number of
-/// bytes of the text that were written before.
-pub fn write_text<S: Write>(writer: &mut Watched<S>, text: &[u8]) -> Result<(), RunFault>
+/// The error comes if the writer failed, or took no byte, and has the number of bytes of the text that were
+/// written before.
+pub fn write_text<S: Write>(writer: &mut Watched<S>, text: &[u8]) -> Result<(), WriteFault>
     requires { has_failed writer.old ≡ false }
     ensures ok { OnOk result (Appends (S.contents (inner_of writer.old))
         (S.contents (inner_of writer.new)) text.now) }
@@ -24,7 +24,7 @@ pub fn write_text<S: Write>(writer: &mut Watched<S>, text: &[u8]) -> Result<(), 
 {
     let mut written = 0;
     while written < text.len() {
-        let fault = RunFault::Write { written };
+        let fault = WriteFault { written };
         let Ok(n) = writer.write(&text[written..]) else {
             return Err(fault);
         };

@@ -9,7 +9,7 @@ ghost use Rattle.timer_script.specs.ScriptReport.{fault_line, of_field, IsReport
 ghost use Rattle.timer_script.specs.Watched.{has_failed};
 
 use crate::diagnosis::fault_in_line;
-use crate::fault::RunFault;
+use crate::fault::CheckFault;
 use crate::input::read_script;
 use crate::line_fault::{Field, LineFault};
 use crate::output::write_text;
@@ -64,7 +64,7 @@ fn report_of(alloc: Global, script: &[u8]) -> Result<(Vec<u8>, u64), OutOfMemory
     let mut bad = 0u64;
     let mut rest = script;
     while !rest.is_empty() {
-        let len = line_len(rest, rest.len());
+        let len = line_len(rest);
         lines += 1;
         if let Some(fault) = fault_in_line(&rest[..len]) {
             push_fault(&mut text, lines, fault)?;
@@ -77,19 +77,20 @@ fn report_of(alloc: Global, script: &[u8]) -> Result<(Vec<u8>, u64), OutOfMemory
 
 /// Reads a script to its end, and writes one line for each of its bad lines. Returns how many they are.
 ///
-/// Errors are those of `run`, of which `Bad` never comes: after `Write` a prefix of the report was written,
-/// after any other error nothing was. Neither the reader nor the writer may have failed before.
+/// After `Write` a prefix of the report was written, after any other error nothing was. Neither the reader nor the writer may have failed before.
 pub fn check<R: Read, S: Write>(
     alloc: Global,
     reader: &mut Watched<R>,
     writer: &mut Watched<S>,
-) -> Result<u64, RunFault>
+) -> Result<u64, CheckFault>
     requires reader_good { has_failed reader.old ≡ false }
     requires writer_good { has_failed writer.old ≡ false }
-    ensures checked { HasChecked R.remaining S.contents reader.old reader.new writer.old writer.new result }
-    ensures reader_failed { IsTrue (has_failed reader.new) ↔ IsErrOf result RunFault.Read }
+    ensures checked { HasChecked (record { remaining = R.remaining; contents = S.contents })
+        (record { reader = reader.old; writer = writer.old })
+        (record { reader = reader.new; writer = writer.new }) result }
+    ensures reader_failed { IsTrue (has_failed reader.new) ↔ IsErrOf result CheckFault.Read }
     ensures writer_failed { IsTrue (has_failed writer.new)
-        ↔ ((written : ℕ) × IsErrOf result (RunFault.Write written)) }
+        ↔ ((written : ℕ) × IsErrOf result (CheckFault.Write written)) }
 {
     let script = read_script(alloc, reader)?;
     let (report, bad) = report_of(alloc, &script)?;

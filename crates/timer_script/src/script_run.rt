@@ -8,11 +8,11 @@
 //! a whole, and what is written is the whole answer or a prefix of it.
 ghost use Rattle.std.specs.Prelude.{◌≡◌, ◌↔◌, ◌∷◌, ℕ, List, [], false, IsTrue, IfOk, IfErr, OnOk, IsErrOf};
 ghost use Rattle.timer_facility.specs.declared.event.Event.{Event};
-ghost use Rattle.timer_script.specs.Script.{IsScript};
-ghost use Rattle.timer_script.specs.ScriptRun.{AddsLines, HasPlayedLines, IsAnswer, GivesNoAnswer, HasRun};
+ghost use Rattle.timer_script.specs.Script.{IsScript, IsFault};
+ghost use Rattle.timer_script.specs.ScriptRun.{AddsLines, HasPlayedLines, IsAnswer, HasRun};
 ghost use Rattle.timer_script.specs.Watched.{has_failed};
 
-use crate::fault::RunFault;
+use crate::fault::{RunFault, ScriptFault};
 use crate::input::read_script;
 use crate::lines::read_line;
 use crate::output::write_text;
@@ -29,7 +29,7 @@ const GROWTH: usize = 4;
 
 /// Plays an event, and adds the line of each of its outs to the text. `outs` is a scratch buffer,
 /// reused.
-fn play_event<W: Wheel + Drop>(
+pub fn play_event<W: Wheel + Drop>(
     player: &mut Player<W>,
     event: Event,
     outs: &mut Vec<Out>,
@@ -48,16 +48,16 @@ fn play_lines<W: Wheel + Drop>(
     player: &mut Player<W>,
     script: &[u8],
     text: &mut Vec<u8>,
-) -> Result<(), RunFault>
+) -> Result<(), ScriptFault>
     ensures ok { OnOk result (HasPlayedLines player.old script.now text.old.items text.new.items player.new) }
-    ensures fault { IfErr result (λ fault. GivesNoAnswer fault script.now) }
+    ensures fault { IfErr result (λ fault. IsFault fault script.now) }
 {
     let mut outs = Vec::new(alloc);
     let mut lines = 0u64;
     let mut rest = script;
     while !rest.is_empty() {
         let Some((event, after)) = read_line(rest) else {
-            return Err(RunFault::Bad { line: lines + 1 });
+            return Err(ScriptFault::Bad { line: lines + 1 });
         };
         play_event(player, event, &mut outs, text)?;
         lines += 1;
@@ -71,18 +71,18 @@ pub fn answer_to<W: Wheel + Drop>(
     alloc: Global,
     script: &[u8],
     facility: Facility<W>,
-) -> Result<Vec<u8>, RunFault>
+) -> Result<Vec<u8>, ScriptFault>
     requires pending { facility.state.pending ≡ [] }
     requires waiting { facility.waiting ≡ [] }
     ensures ok { IfOk result (λ answer. (events : List Event) × IsScript events script.now
         × IsAnswer facility.state events answer.items) }
-    ensures fault { IfErr result (λ fault. GivesNoAnswer fault script.now) }
+    ensures fault { IfErr result (λ fault. IsFault fault script.now) }
 {
     // Brings what `owed` rests on into scope for the prover.
     let _now = facility.now();
     let mut player = Player::open(alloc, facility);
     let Ok(mut answer) = Vec::with_capacity(alloc, script.len().saturating_mul(GROWTH)) else {
-        return Err(RunFault::OutOfMemory);
+        return Err(ScriptFault::OutOfMemory);
     };
     play_lines(alloc, &mut player, script, &mut answer)?;
     let now = player.facility().now();
@@ -108,13 +108,15 @@ pub fn run<R: Read, S: Write, W: Wheel + Drop>(
     requires writer_good { has_failed writer.old ≡ false }
     requires pending { facility.state.pending ≡ [] }
     requires waiting { facility.waiting ≡ [] }
-    ensures run { HasRun facility.state R.remaining S.contents reader.old reader.new writer.old writer.new
-        result }
+    ensures run { HasRun facility.state (record { remaining = R.remaining; contents = S.contents })
+        (record { reader = reader.old; writer = writer.old })
+        (record { reader = reader.new; writer = writer.new }) result }
     ensures reader_failed { IsTrue (has_failed reader.new) ↔ IsErrOf result RunFault.Read }
     ensures writer_failed { IsTrue (has_failed writer.new)
         ↔ ((written : ℕ) × IsErrOf result (RunFault.Write written)) }
 {
     let bytes = read_script(alloc, reader)?;
     let answer = answer_to(alloc, &bytes, facility)?;
-    write_text(writer, &answer)
+    write_text(writer, &answer)?;
+    Ok(())
 }

@@ -1,166 +1,204 @@
 //! A session with a peer: each line is answered as soon as it is whole.
 //!
 //! A turn reads once, plays the lines that came, and writes and flushes their answers. So whenever more
-//! is read, each whole line that came has been answered. A decorator may add text after an answer. An intake
-//! decides whether a bad line ends the session, or is reported to a second writer.
-ghost use Rattle.std.specs.Prelude.{◌≡◌, ◌≢◌, [], false, true, IfErr, OnErr, OnOk};
-ghost use Rattle.timer_script.specs.Session.{IsAnsweredSoFar};
-ghost use Rattle.timer_script.specs.Service.{AreGood, HasSent, HasSentPart, HasAnswered, StopsAnswer, HasServedPiece, StopsPiece, StopsEnd, HasServed, serve_fault, last_line};
+//! is read, each whole line that came has been answered. A decorator may add text after an answer. A cutter
+//! makes events of the bytes: a bad line ends the stream, or is reported to a second writer.
+ghost use Rattle.std.specs.Prelude.{◌≡◌, [], length, false, true, IfErr, OnErr, OnOk};
+ghost use Rattle.std.specs.Io.KnownBytes.{IsAtEnd};
+ghost use Rattle.timer_facility.specs.State.{FacilityState, IsSound};
+ghost use Rattle.timer_script.specs.declared.watched.Watched.{Watched};
+ghost use Rattle.timer_script.specs.Peer.{PeerState};
+ghost use Rattle.timer_script.specs.Cutter.{HasTakenIn};
+ghost use Rattle.timer_script.specs.Service.{AreGood, HasSent, HasSentPart, HasAnswered, HasAnsweredPart, HasServedEvents, StopsEvents, StopsEnd, HasServedAll, HasUnseen, HasServedPiece, HasServed, server_with, last_line};
 
+use crate::cutter::{Cutter, OnBadLine};
 use crate::decorator::Decorator;
-use crate::fault::{ServeFault, SessionFault};
+use crate::fault::{ServeFault, TurnFault};
 use crate::input::zeroed_buffer;
-use crate::intake::{Intake, OnBadLine};
 use crate::peer::Peer;
 use crate::session::Session;
-use crate::splitter::line_len;
 use crate::watched::Watched;
 use std::alloc::Global;
 use std::io::Write;
-use timer_base::Wheel;
-use timer_facility::Facility;
+use timer_base::{OutOfMemory, Wheel};
+use timer_facility::{Event, Facility};
 
-/// The most bytes of one turn.
-pub const PIECE: usize = 65536;
+/// The most bytes of one turn. The events of all its lines are in memory together.
+pub const PIECE: usize = 16384;
 
 /// Writes the text and nothing else, and flushes. Fails if a write or the flush fails, or a write
 /// takes no byte.
-fn send<P: Peer>(peer: &mut P, text: &[u8]) -> Result<(), ServeFault>
+fn send<P: Peer>(peer: &mut P, text: &[u8]) -> Result<(), TurnFault>
     requires { (P.state peer.old).write_failed ≡ false }
     ensures ok { OnOk result (HasSent (P.state peer.old) text.now (P.state peer.new)) }
-    ensures fault { IfErr result (λ fault. fault ≡ ServeFault.Write) }
+    ensures fault { IfErr result (λ fault. fault ≡ TurnFault.Write) }
     ensures part { OnErr result (HasSentPart (P.state peer.old) text.now (P.state peer.new)) }
 {
     let mut written = 0;
     while written < text.len() {
         let Ok(n) = peer.write(&text[written..]) else {
-            return Err(ServeFault::Write);
+            return Err(TurnFault::Write);
         };
         if n == 0 {
-            return Err(ServeFault::Write);
+            return Err(TurnFault::Write);
         }
         written += n;
     }
     match peer.flush() {
         Ok(()) => Ok(()),
-        Err(_) => Err(ServeFault::Write),
+        Err(_) => Err(TurnFault::Write),
     }
 }
 
-/// The fault of a session that was not ended before.
-fn serve_fault_of(fault: SessionFault) -> ServeFault
-    requires { fault ≢ SessionFault.Ended }
-    ensures { result ≡ serve_fault fault }
-{
-    match fault {
-        SessionFault::Bad { line } => ServeFault::Bad { line },
-        SessionFault::OutOfMemory => ServeFault::OutOfMemory,
-        SessionFault::Ended => unreachable!(),
-    }
-}
-
-/// Plays these bytes, and appends the answers and what is added after them. After a line whose line feed has
-/// not come nothing is added.
+/// Plays these events, and appends the answers and what is added after them. After no event nothing is added.
+/// If memory runs out, the text answers the first events.
 fn answer<W: Wheel + Drop, D: Decorator<W>>(
     session: &mut Session<W>,
     decorator: &D,
-    bytes: &[u8],
+    events: &[Event],
     text: &mut Vec<u8>,
-) -> Result<(), ServeFault>
-    requires answered { IsAnsweredSoFar session.old }
-    requires empty { text.old.items ≡ [] }
-    ensures text { OnOk result (HasAnswered D.adds session.old bytes.now text.new.items session.new []) }
-    ensures answered { OnOk result (IsAnsweredSoFar session.new) }
-    ensures fault { IfErr result (λ fault. StopsAnswer D.adds fault session.old bytes.now
-        text.new.items session.new) }
+) -> Result<(), OutOfMemory>
+    requires { text.old.items ≡ [] }
+    ensures whole { OnOk result (HasAnswered D.adds session.old.player events.now session.new.player
+        text.new.items) }
+    ensures part { OnErr result (HasAnsweredPart D.adds session.old.player events.now text.new.items) }
 {
-    if let Err(stop) = session.feed(bytes, text) {
-        return Err(serve_fault_of(stop.fault));
-    }
-    if !bytes.ends_with(b"\n") {
+    session.play(events, text)?;
+    if events.is_empty() {
         return Ok(());
     }
     let answered = text.len();
-    match decorator.decorate(text, session.facility()) {
+    match decorator.decorate(text, session.player.facility()) {
         Ok(()) => Ok(()),
         Err(_) => {
             // Out of memory: the answer is written all the same.
             text.truncate(answered);
-            Err(ServeFault::OutOfMemory)
+            Err(OutOfMemory)
         }
     }
 }
 
-/// Plays these bytes, and writes and flushes the answers and what is added after them.
-fn serve_bytes<P: Peer, W: Wheel + Drop, D: Decorator<W>>(
+/// Plays these events, and writes and flushes the answers and what is added after them.
+fn serve_some<P: Peer, W: Wheel + Drop, D: Decorator<W>>(
     session: &mut Session<W>,
     peer: &mut P,
     decorator: &D,
-    bytes: &[u8],
+    events: &[Event],
     text: &mut Vec<u8>,
-) -> Result<(), ServeFault>
-    requires good { AreGood (P.state peer.old) }
-    requires answered { IsAnsweredSoFar session.old }
-    ensures served { OnOk result (HasServedPiece D.adds session.old bytes.now (P.state peer.old)
-        (P.state peer.new) session.new [] [] true) }
+) -> Result<(), TurnFault>
+    requires { AreGood (P.state peer.old) }
+    ensures served { OnOk result (HasServedEvents D.adds session.old.player events.now session.new.player
+        (P.state peer.old) (P.state peer.new) [] true) }
     ensures good { OnOk result (AreGood (P.state peer.new)) }
-    ensures answered { OnOk result (IsAnsweredSoFar session.new) }
-    ensures fault { IfErr result (λ fault. StopsPiece D.adds fault session.old bytes.now (P.state peer.old)
-        (P.state peer.new) session.new) }
+    ensures fault { IfErr result (λ fault. StopsEvents D.adds fault session.old.player events.now
+        (P.state peer.old) (P.state peer.new)) }
 {
     text.clear();
-    let played = answer(session, decorator, bytes, text);
-    match send(peer, text) {
-        Ok(()) => played,
-        Err(fault) => Err(fault),
-    }
+    let played = answer(session, decorator, events, text);
+    send(peer, text)?;
+    played?;
+    Ok(())
 }
 
-/// Serves the bytes of one read: at once, or line by line if the decorator asks for that.
-fn serve_piece<P: Peer, W: Wheel + Drop, D: Decorator<W>>(
+/// Serves the events of one read: at once, or one by one if the decorator asks for that.
+fn serve_events<P: Peer, W: Wheel + Drop, D: Decorator<W>>(
     session: &mut Session<W>,
     peer: &mut P,
     decorator: &D,
-    piece: &[u8],
+    events: &[Event],
     text: &mut Vec<u8>,
-) -> Result<(), ServeFault>
-    requires good { AreGood (P.state peer.old) }
-    requires answered { IsAnsweredSoFar session.old }
-    ensures served { OnOk result (HasServedPiece D.adds session.old piece.now (P.state peer.old)
-        (P.state peer.new) session.new [] [] true) }
+) -> Result<(), TurnFault>
+    requires { AreGood (P.state peer.old) }
+    ensures served { OnOk result (HasServedEvents D.adds session.old.player events.now session.new.player
+        (P.state peer.old) (P.state peer.new) [] true) }
     ensures good { OnOk result (AreGood (P.state peer.new)) }
-    ensures answered { OnOk result (IsAnsweredSoFar session.new) }
-    ensures fault { IfErr result (λ fault. StopsPiece D.adds fault session.old piece.now (P.state peer.old)
-        (P.state peer.new) session.new) }
+    ensures fault { IfErr result (λ fault. StopsEvents D.adds fault session.old.player events.now
+        (P.state peer.old) (P.state peer.new)) }
 {
     if !decorator.sends_each_line() {
-        return serve_bytes(session, peer, decorator, piece, text);
+        return serve_some(session, peer, decorator, events, text);
     }
-    let mut rest = piece;
+    let mut rest = events;
     while !rest.is_empty() {
-        let (line, after) = rest.split_at(line_len(rest, rest.len()));
-        serve_bytes(session, peer, decorator, line, text)?;
+        let (first, after) = rest.split_at(1);
+        serve_some(session, peer, decorator, first, text)?;
         rest = after;
     }
     Ok(())
 }
 
-/// Writes and flushes the end line, if no line is held in part.
-fn finish<P: Peer, W: Wheel + Drop>(
+/// Takes a piece in, and serves the events of its lines.
+fn serve_piece<P: Peer, W: Wheel + Drop, D: Decorator<W>, F: Write>(
     session: &mut Session<W>,
     peer: &mut P,
-    line: &mut Vec<u8>,
+    decorator: &D,
+    cutter: &mut Cutter,
+    faults: &mut Watched<F>,
+    piece: &[u8],
+    text: &mut Vec<u8>,
 ) -> Result<(), ServeFault>
-    requires good { AreGood (P.state peer.old) }
-    requires answered { IsAnsweredSoFar session.old }
-    ensures whole { OnOk result (session.old.held ≡ []) }
-    ensures sent { OnOk result (HasSent (P.state peer.old) (last_line session.old) (P.state peer.new)) }
-    ensures fault { IfErr result (λ fault. StopsEnd fault session.old (P.state peer.old) (P.state peer.new)) }
+    requires { AreGood (P.state peer.old) }
+    ensures kept { cutter.new.on_bad ≡ cutter.old.on_bad }
+    ensures good { OnOk result (AreGood (P.state peer.new)) }
+    ensures unread { OnOk result ((P.state peer.new).remaining ≡ (P.state peer.old).remaining) }
+    ensures served { (before : FacilityState) (p : PeerState) (w : Watched F)
+        → (all : HasServedAll (server_with cutter.old.on_bad D.adds before F.contents)
+        (HasUnseen cutter.old F.contents w faults.old piece.now) p (P.state peer.old) session.old.player)
+        → HasServedPiece (server_with cutter.old.on_bad D.adds before F.contents)
+        (record { peer = p; faults = w }) cutter.new session.new.player
+        (record { peer = P.state peer.new; faults = faults.new }) (length all.came) result }
+{
+    let Ok(bad) = cutter.take_in(piece, faults) else {
+        return Err(ServeFault::OutOfMemory);
+    };
+    serve_events(session, peer, decorator, &cutter.events, text)?;
+    match bad {
+        Some(line) => Err(ServeFault::Bad { line }),
+        None => Ok(()),
+    }
+}
+
+/// Writes and flushes the end line.
+fn finish<P: Peer, W: Wheel + Drop>(
+    session: &Session<W>,
+    peer: &mut P,
+    line: &mut Vec<u8>,
+) -> Result<(), TurnFault>
+    requires { AreGood (P.state peer.old) }
+    ensures sent { OnOk result (HasSent (P.state peer.old) (last_line session.now.player) (P.state peer.new)) }
+    ensures fault { IfErr result (λ fault. StopsEnd fault session.now.player (P.state peer.old)
+        (P.state peer.new)) }
 {
     line.clear();
-    match session.end(line) {
-        Ok(()) => send(peer, line),
-        Err(fault) => Err(serve_fault_of(fault)),
+    session.write_end(line)?;
+    send(peer, line)
+}
+
+/// The stream ended: writes and flushes the end line, unless a line that has not ended is bad.
+fn end_stream<P: Peer, W: Wheel + Drop, D: Decorator<W>, F: Write>(
+    session: &Session<W>,
+    peer: &mut P,
+    cutter: &mut Cutter,
+    faults: &mut Watched<F>,
+    text: &mut Vec<u8>,
+) -> Result<bool, ServeFault>
+    requires good { AreGood (P.state peer.old) }
+    requires ended { IsAtEnd (P.state peer.old).remaining }
+    ensures { (before : FacilityState) (p : PeerState) (w : Watched F) → IsSound before
+        → HasServedAll (server_with cutter.old.on_bad D.adds before F.contents)
+        (HasTakenIn cutter.old F.contents w faults.old) p (P.state peer.old) session.now.player
+        → HasServed (server_with cutter.old.on_bad D.adds before F.contents)
+        (record { peer = p; faults = w }) (record { peer = P.state peer.new; faults = faults.new }) result }
+{
+    let Ok(bad) = cutter.end(faults) else {
+        return Err(ServeFault::OutOfMemory);
+    };
+    match bad {
+        Some(line) => Err(ServeFault::Bad { line }),
+        None => {
+            finish(session, peer, text)?;
+            Ok(cutter.clean)
+        }
     }
 }
 
@@ -174,7 +212,8 @@ fn finish<P: Peer, W: Wheel + Drop>(
 /// With `OnBadLine::Stop` a bad line ends it as an error, and nothing is written to `faults`. With `Report`
 /// what is written to the peer is the answer to the good lines alone, and a bad line is reported to `faults` by
 /// its number, counted from 1 over all lines (2^64 - 1 stands for any later one), with the column and the reason
-/// of `check`. The reports of one read are written before its answers: no clause says so. An error in reporting is ignored, and ends the reports.
+/// of `check`. The reports of one read are written before its answers: no clause says so. An error in reporting is
+/// ignored, and ends the reports.
 ///
 /// The peer may not have failed before, and nothing may be pending in the facility or wait in it.
 pub fn serve<P: Peer, W: Wheel + Drop, D: Decorator<W>, F: Write>(
@@ -188,8 +227,9 @@ pub fn serve<P: Peer, W: Wheel + Drop, D: Decorator<W>, F: Write>(
     requires good { AreGood (P.state peer.old) }
     requires pending { facility.state.pending ≡ [] }
     requires waiting { facility.waiting ≡ [] }
-    ensures { HasServed on_bad D.adds facility.state (P.state peer.old) (P.state peer.new)
-        F.contents faults.old faults.new result }
+    ensures { HasServed (server_with on_bad D.adds facility.state F.contents)
+        (record { peer = P.state peer.old; faults = faults.old })
+        (record { peer = P.state peer.new; faults = faults.new }) result }
 {
     // Brings what `owed` rests on into scope for the prover.
     let _now = facility.now();
@@ -198,28 +238,22 @@ pub fn serve<P: Peer, W: Wheel + Drop, D: Decorator<W>, F: Write>(
     };
     let mut text = Vec::new(alloc);
     let mut session = Session::open(alloc, facility);
-    let mut intake = Intake::new(alloc, on_bad);
+    let mut cutter = Cutter::new(alloc, on_bad);
     for turned in 0..u64::MAX {
         let Ok(n) = peer.read(&mut piece) else {
             return Err(ServeFault::Read);
-        };
-        let came = &piece[..n];
-        let Ok(()) = intake.take_in(came, faults) else {
-            return Err(ServeFault::OutOfMemory);
         };
         serve_piece(
             &mut session,
             peer,
             decorator,
-            intake.passed(came),
+            &mut cutter,
+            faults,
+            &piece[..n],
             &mut text,
         )?;
         if n == 0 {
-            let Ok(()) = intake.end(faults) else {
-                return Err(ServeFault::OutOfMemory);
-            };
-            finish(&mut session, peer, &mut text)?;
-            return Ok(intake.clean);
+            return end_stream::<P, W, D, F>(&session, peer, &mut cutter, faults, &mut text);
         }
     }
     Err(ServeFault::TooLong)

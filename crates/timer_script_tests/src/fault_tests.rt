@@ -2,7 +2,7 @@
 use crate::support::same_in;
 use std::fmt::Display;
 use std::process::Abort;
-use timer_script::{RunFault, ScriptFault, ServeFault, SessionFault};
+use timer_script::{AnswerFault, CheckFault, RunFault, ScriptFault, ServeFault, WriteFault};
 
 /// Compares the text of an error.
 fn shows<T: AllocGlobal + Abort>(rt: &T, fault: impl Display + Drop, text: &str) {
@@ -16,15 +16,13 @@ fn shows<T: AllocGlobal + Abort>(rt: &T, fault: impl Display + Drop, text: &str)
 fn each_error_has_its_text(rt: HostRuntime) {
     shows(&rt, ScriptFault::Bad { line: 7 }, "bad line 7");
     shows(&rt, ScriptFault::OutOfMemory, "out of memory");
-    shows(
-        &rt,
-        SessionFault::Bad { line: u64::MAX },
-        "bad line 18446744073709551615",
-    );
-    shows(&rt, SessionFault::OutOfMemory, "out of memory");
-    shows(&rt, SessionFault::Ended, "ended");
     shows(&rt, ServeFault::Read, "read failed");
     shows(&rt, ServeFault::Bad { line: 1 }, "bad line 1");
+    shows(
+        &rt,
+        ServeFault::Bad { line: u64::MAX },
+        "bad line 18446744073709551615",
+    );
     shows(&rt, ServeFault::OutOfMemory, "out of memory");
     shows(&rt, ServeFault::Write, "write failed");
     shows(&rt, ServeFault::TooLong, "too long");
@@ -33,4 +31,12 @@ fn each_error_has_its_text(rt: HostRuntime) {
     shows(&rt, RunFault::Bad { line: 12 }, "bad line 12");
     shows(&rt, RunFault::OutOfMemory, "out of memory");
     shows(&rt, RunFault::Write { written: 3 }, "write failed");
+    shows(&rt, CheckFault::Read, "read failed");
+    shows(&rt, CheckFault::TooLong, "too long");
+    shows(&rt, CheckFault::OutOfMemory, "out of memory");
+    shows(&rt, CheckFault::Write { written: 3 }, "write failed");
+    shows(&rt, AnswerFault::TooLong, "too long");
+    shows(&rt, AnswerFault::Bad { line: 12 }, "bad line 12");
+    shows(&rt, AnswerFault::OutOfMemory, "out of memory");
+    shows(&rt, WriteFault { written: 3 }, "write failed");
 }

@@ -1,4 +1,4 @@
-//! Tests of `timer_script` over its public calls: scripts, texts, sessions, streams and reports of bad lines.
+//! Tests of `timer_script` over its public calls: scripts, texts, streams and reports of bad lines.
 #![tactic(auto)]
 
 #[cfg(test)]
@@ -7,6 +7,8 @@ mod fault_tests;
 mod fields_tests;
 #[cfg(test)]
 mod good_lines_tests;
+#[cfg(test)]
+mod pieces_tests;
 #[cfg(test)]
 mod prompt_tests;
 #[cfg(test)]
@@ -19,8 +21,6 @@ mod script_report_tests;
 mod script_tests;
 #[cfg(test)]
 mod service_tests;
-#[cfg(test)]
-mod session_tests;
 #[cfg(test)]
 mod support;
 #[cfg(test)]

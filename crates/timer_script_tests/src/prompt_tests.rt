@@ -2,7 +2,7 @@
 //! each of them. (Of a reader and a writer it says nothing: in which order they are called isn't known.)
 ghost use Rattle.std.specs.Prelude.{◌≡◌, ◌∷◌, ◌++◌, [], None, Some, false, true, map};
 ghost use Rattle.timer_script.specs.Peer.{moment_of};
-ghost use Rattle.timer_script.specs.Session.{fresh};
+ghost use Rattle.timer_script.specs.Decorator.{AddsNothing};
 ghost use Rattle.timer_script.specs.Service.{IsPrompt};
 
 use crate::support::{Nowhere, plain_facility, same};
@@ -82,7 +82,7 @@ fn serve_known<R: Abort + Drop>(
     requires none { peer.old.calls.items ≡ [] }
     requires pending { facility.state.pending ≡ [] }
     requires waiting { facility.waiting ≡ [] }
-    ensures { IsPrompt OnBadLine.Stop (fresh facility.state) [] [] true
+    ensures { IsPrompt OnBadLine.Stop AddsNothing facility.state
         (map moment_of (map (λ call. call.items) peer.new.calls.items)) }
 {
     served_calls_are_prompt::<Nowhere>();

@@ -5,7 +5,7 @@ use std::io;
 use std::io::{ErrorKind, Read, Write};
 use std::process::Abort;
 use timer_script::{
-    Field, LineFault, LineReason, RunFault, Watched, check, fault_in_line, parse_script,
+    CheckFault, Field, LineFault, LineReason, Watched, check, fault_in_line, parse_script,
 };
 
 /// Gives its bytes in pieces of three. The call of this number fails, counted from 0.
@@ -62,7 +62,7 @@ fn checked(
     script: &[u8],
     read_fails: u64,
     write_fails: u64,
-) -> (Result<u64, RunFault>, Vec<u8>) {
+) -> (Result<u64, CheckFault>, Vec<u8>) {
     let mut reader = Watched::new(Source {
         rest: script,
         calls: 0,
@@ -208,26 +208,43 @@ fn a_reader_or_a_writer_that_fails_once_ends_the_check(rt: HostRuntime) {
     let script = b"tick 0\n".as_slice();
     for call in 0..4 {
         let (result, written) = checked(rt.alloc(), script, call, u64::MAX);
-        same_in(&rt, call, result, Err(RunFault::Read));
+        same_in(&rt, call, result, Err(CheckFault::Read));
         same_in(&rt, call, written.is_empty(), true);
         let (result, written) = checked(rt.alloc(), script, u64::MAX, call);
         let taken = call as usize * 5;
-        same_in(&rt, call, result, Err(RunFault::Write { written: taken }));
+        same_in(&rt, call, result, Err(CheckFault::Write { written: taken }));
         same_in(&rt, call, written.len(), taken);
     }
 }
 
+/// Faults, and their texts: in a field, and in none.
+static SHOWN: [(LineFault, &str); 2] = [
+    (
+        LineFault {
+            column: 12,
+            field: Some(Field::Interval),
+            reason: LineReason::LeadingZero,
+        },
+        "column 12: interval: leading zero",
+    ),
+    (
+        LineFault {
+            column: 1,
+            field: None,
+            reason: LineReason::EmptyLine,
+        },
+        "column 1: empty line",
+    ),
+];
+
 #[test]
 fn a_fault_is_shown_as_in_the_report(rt: HostRuntime) {
-    let fault = LineFault {
-        column: 12,
-        field: Some(Field::Interval),
-        reason: LineReason::LeadingZero,
-    };
-    let Ok(shown) = format!(in rt.alloc(); "{fault}") else {
-        panic!(rt; "out of memory");
-    };
-    same(&rt, shown.as_str(), "column 12: interval: leading zero");
+    for (fault, text) in SHOWN {
+        let Ok(shown) = format!(in rt.alloc(); "{fault}") else {
+            panic!(rt; "out of memory");
+        };
+        same(&rt, shown.as_str(), text);
+    }
 }
 
 /// What follows some front of each line: the rest of a word, or of a number, and fields.

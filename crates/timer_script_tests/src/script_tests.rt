@@ -4,7 +4,7 @@ use std::alloc::Global;
 use std::process::Abort;
 use timer_base::LAST;
 use timer_facility::{Config, Event};
-use timer_script::{RunFault, ScriptFault, answer_of, parse_script};
+use timer_script::{AnswerFault, ScriptFault, answer_of, parse_script};
 
 const CONFIG: Config = Config {
     clients: 64,
@@ -19,7 +19,7 @@ const CONFIG: Config = Config {
 struct Row {
     config: Config,
     script: &'static str,
-    result: Result<&'static str, RunFault>,
+    result: Result<&'static str, AnswerFault>,
 }
 
 static ROWS: [Row; 6] = [
@@ -31,7 +31,7 @@ static ROWS: [Row; 6] = [
     Row {
         config: CONFIG,
         script: "close\ntick 0\n",
-        result: Err(RunFault::Bad { line: 2 }),
+        result: Err(AnswerFault::Bad { line: 2 }),
     },
     // A timer that is pushed back twice.
     Row {
@@ -99,7 +99,7 @@ fn a_script_in_memory_gives_its_text_or_its_bad_line(rt: HostRuntime) {
 }
 
 /// The error for `len` zero bytes.
-fn fault_of_zeros(rt: &impl Abort, alloc: Global, len: usize) -> Option<RunFault> {
+fn fault_of_zeros(rt: &impl Abort, alloc: Global, len: usize) -> Option<AnswerFault> {
     let Ok(zeros) = vec![in alloc; 0u8; len] else {
         panic!(rt; "out of memory");
     };
@@ -108,9 +108,9 @@ fn fault_of_zeros(rt: &impl Abort, alloc: Global, len: usize) -> Option<RunFault
 
 #[test]
 fn one_byte_more_is_too_long(rt: HostRuntime) {
-    let bad = Some(RunFault::Bad { line: 1 });
+    let bad = Some(AnswerFault::Bad { line: 1 });
     same(&rt, fault_of_zeros(&rt, rt.alloc(), 1048576), bad);
-    let too_long = Some(RunFault::TooLong);
+    let too_long = Some(AnswerFault::TooLong);
     same(&rt, fault_of_zeros(&rt, rt.alloc(), 1048577), too_long);
 }
 

@@ -1,5 +1,5 @@
 use Rattle.std.proofs.Common.{sym, subst}
-use Rattle.timer_script.specs.declared.intake.OnBadLine.TheVariants.{Stop}
+use Rattle.timer_script.specs.declared.cutter.OnBadLine.TheVariants.{Stop}
 use Rattle.timer_script.specs.Decorator.{AddsNothing}
 use Rattle.timer_commands.specs.Indented.{AddsIndented}
 use Rattle.timer_commands.specs.Wakeups.{AddsWakeups}

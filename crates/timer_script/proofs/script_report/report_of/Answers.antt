@@ -12,11 +12,11 @@ loop-rest-preserved c =
       | in-Some+in_ok-push_fault w ↦
           line_bad c.args.script.now c.loop-rest.rest.now c.line_len-len.result c.loop-rest.lines c.loop-rest.bad m.bad
           c.loop-rest.text.items m.text.items w.in-Some.fault
-          c.loop-rest.invariant l.some l.within l.no_feed (λ less. l.whole less less) w.in-Some.ensures (search rules) (search rules)
+          c.loop-rest.invariant l.some l.within l.no_feed l.whole w.in-Some.ensures (search rules) (search rules)
       | in_default w ↦
           line_good c.args.script.now c.loop-rest.rest.now c.line_len-len.result c.loop-rest.lines c.loop-rest.bad m.bad
           c.loop-rest.text.items m.text.items
-          c.loop-rest.invariant l.some l.within l.no_feed (λ less. l.whole less less) w.in_default.ensures (search rules) (search rules)
+          c.loop-rest.invariant l.some l.within l.no_feed l.whole w.in_default.ensures (search rules) (search rules)
     ]
 
 pub returns : goal.returns

@@ -1,54 +1,67 @@
-use Rattle.std.proofs.Common.{◌≡◌, ◌++◌, [], sym, subst, eqb-true, rules}
-use Rattle.std.proofs.lemmas.List.{nil_from_length}
-use Rattle.std.specs.Prelude.{IfErr}
-use Rattle.timer_script.specs.Service.{StopsPiece}
-use Rattle.timer_script.proofs.ServicePieces.{up_to_none, up_to_more, up_to_stops, up_to_all, passed_on}
+use Rattle.std.proofs.Common.{[], true, length, refl, sym, subst}
+use Rattle.timer_script.specs.Cutter.{TakesPiece}
+use Rattle.timer_script.specs.Fault.{serve_fault}
+use Rattle.timer_script.specs.Service.{server_with, HasServedEvents, StopsEvents, HasServedPiece}
+use Rattle.timer_script.proofs.Results.{passed_on}
+use Rattle.timer_script.proofs.ServiceLemmas.{piece_lost, piece_stopped, piece_bad, piece_served}
 use Rattle.timer_script.proofs.service.serve_piece.Goals as goal
 
-pub loop-rest-init : goal.loop-rest-init
-loop-rest-init g c =
-    let A = g.D.Decorator.adds in
-    let d = g.met.D.Decorator.is_lawful in
-    record {
-      served = up_to_none A d c.args.session.now (g.P.Peer.state c.args.peer.now) c.args.piece.now c.requires.answered.written;
-      good = c.requires.good;
-      answered = c.requires.answered;
-    }
+pub returns-in_default-clause-served : goal.returns-in_default-clause-served
+returns-in_default-clause-served g c = λ before p w all.
+    let old = c.args.cutter.now in
+    piece_lost (server_with old.on_bad g.D.Decorator.adds before g.F.Write.contents) old w c.args.faults.now c.take_in.new.faults p
+    (g.P.Peer.state c.args.peer.now) c.args.session.now.player c.args.piece.now refl c.in_default.ensures.unreported c.requires all
 
-pub returns-in_err-serve_bytes-clause-fault : goal.returns-in_err-serve_bytes-clause-fault
-returns-in_err-serve_bytes-clause-fault g c =
+pub returns-in_err-serve_events-clause-served : goal.returns-in_err-serve_events-clause-served
+returns-in_err-serve_events-clause-served g c = λ before p w all.
     let A = g.D.Decorator.adds in
-    let d = g.met.D.Decorator.is_lawful in
-    let i = c.loop-rest.invariant in
-    let p = g.P.Peer.state c.args.peer.now in
-    let r = g.P.Peer.state c.serve_bytes-in-loop-rest.new.peer in
-    let parts : c.loop-rest.rest.now ≡ c.split_at.result.0.now ++ c.split_at.result.1.now = search rules in
-    let fault = c.in_err-serve_bytes.field-0.0 in
-    subst (λ e. IfErr e (λ f. StopsPiece A f c.args.session.now c.args.piece.now p r c.serve_bytes-in-loop-rest.new.session))
-    (sym (passed_on c.from_residual.result fault c.from_residual.ensures.1))
-    (up_to_stops A d fault c.args.session.now c.loop-rest.session c.serve_bytes-in-loop-rest.new.session p
-    (g.P.Peer.state c.loop-rest.peer) r
-    c.args.piece.now c.loop-rest.rest.now c.split_at.result.0.now c.split_at.result.1.now i.served i.answered.written parts
-    c.in_err-serve_bytes.ensures.fault)
+    let old = c.args.cutter.now in
+    let new = c.take_in.new.self in
+    let S = server_with old.on_bad A before g.F.Write.contents in
+    let u = c.take_in.new.faults in
+    let s = c.args.session.now.player in
+    let q = g.P.Peer.state c.args.peer.now in
+    let r = g.P.Peer.state c.serve_events.new.peer in
+    let fault = c.in_err-serve_events.field-0.0 in
+    subst (HasServedPiece S (record { peer = p; faults = w }) new c.serve_events.new.session.player (record { peer = r; faults = u })
+    (length all.came))
+    (sym (passed_on c.from_residual.result (serve_fault fault) c.from_residual.ensures.1))
+    (piece_stopped S g.met.D.Decorator.is_lawful fault old new c.in-Ok.bad w c.args.faults.now u p q r s c.args.piece.now refl
+    c.take_in.ensures.kept c.in-Ok.ensures.taken all
+    (subst (λ es. StopsEvents A fault s es q r) c.deref.ensures.value c.in_err-serve_events.ensures.fault))
 
-pub loop-rest-preserved : goal.loop-rest-preserved
-loop-rest-preserved g c =
+pub returns-in-Some-clause-served : goal.returns-in-Some-clause-served
+returns-in-Some-clause-served g c = λ before p w all.
     let A = g.D.Decorator.adds in
-    let d = g.met.D.Decorator.is_lawful in
-    let i = c.loop-rest.invariant in
-    let parts : c.loop-rest.rest.now ≡ c.split_at.result.0.now ++ c.split_at.result.1.now = search rules in
-    record {
-      served = up_to_more A d c.args.session.now c.loop-rest.session c.serve_bytes-in-loop-rest.new.session (g.P.Peer.state c.args.peer.now)
-          (g.P.Peer.state c.loop-rest.peer) (g.P.Peer.state c.serve_bytes-in-loop-rest.new.peer)
-          c.args.piece.now c.loop-rest.rest.now c.split_at.result.0.now c.split_at.result.1.now i.served i.answered.written parts
-          c.in_ok-serve_bytes.ensures.served;
-      good = c.in_ok-serve_bytes.ensures.good;
-      answered = c.in_ok-serve_bytes.ensures.answered;
-    }
+    let C = g.F.Write.contents in
+    let old = c.args.cutter.now in
+    let new = c.take_in.new.self in
+    let u = c.take_in.new.faults in
+    let v = c.args.faults.now in
+    let s = c.args.session.now.player in
+    let t = c.serve_events.new.session.player in
+    let q = g.P.Peer.state c.args.peer.now in
+    let r = g.P.Peer.state c.serve_events.new.peer in
+    piece_bad (server_with old.on_bad A before C) g.met.D.Decorator.is_lawful old new c.in-Some.line w v u p q r s t c.args.piece.now refl
+    (subst (λ o. TakesPiece o C c.args.piece.now old v new u) c.in-Some.is c.in-Ok.ensures.taken) all
+    (subst (λ es. HasServedEvents A s es t q r [] true) c.deref.ensures.value c.in_ok-serve_events.ensures.served)
+    c.in_ok-serve_events.ensures.good
 
-pub returns-clause-served : goal.returns-clause-served
-returns-clause-served g c =
+pub returns-in-None-clause-served : goal.returns-in-None-clause-served
+returns-in-None-clause-served g c = λ before p w all.
     let A = g.D.Decorator.adds in
-    let none : c.loop-rest.rest.now ≡ [] = nil_from_length c.loop-rest.rest.now (eqb-true _ _ (sym c.loop-rest-test.ensures)) in
-    up_to_all A c.args.session.now c.loop-rest.session (g.P.Peer.state c.args.peer.now)
-    (g.P.Peer.state c.loop-rest.peer) c.args.piece.now c.loop-rest.rest.now c.loop-rest.invariant.served none
+    let C = g.F.Write.contents in
+    let old = c.args.cutter.now in
+    let new = c.take_in.new.self in
+    let u = c.take_in.new.faults in
+    let v = c.args.faults.now in
+    let s = c.args.session.now.player in
+    let t = c.serve_events.new.session.player in
+    let q = g.P.Peer.state c.args.peer.now in
+    let r = g.P.Peer.state c.serve_events.new.peer in
+    piece_served (server_with old.on_bad A before C) g.met.D.Decorator.is_lawful old new w v u p q r s t c.args.piece.now
+    (subst (λ o. TakesPiece o C c.args.piece.now old v new u) c.in-None.is c.in-Ok.ensures.taken) all
+    (subst (λ es. HasServedEvents A s es t q r [] true) c.deref.ensures.value c.in_ok-serve_events.ensures.served)
+
+pub returns-in-None-clause-unread : goal.returns-in-None-clause-unread
+returns-in-None-clause-unread g c = c.in_ok-serve_events.ensures.served.written.remaining

@@ -1,0 +1,265 @@
+-- The lines of an input, good and bad, and which events pass of a stream that arrives in pieces.
+use Rattle.std.specs.Prelude.{◌≡◌, ◌↔◌, ℕ, ◌+◌, ◌-◌, ◌^◌, ◌<◌, ◌≤◌, ◌⊎◌, Bool, true, false, List, [], ◌∷◌, ◌++◌, length, take, min, codes, Option, None, Some}
+use Rattle.std.specs.List.{flat_map, enumerate_from, AllByRecursion}
+use Rattle.std.specs.Io.KnownBytes.{Appends}
+use Rattle.timer_facility.specs.declared.event.Event.{Event}
+use Rattle.timer_script.specs.declared.line_fault.LineFault.{LineFault}
+use Rattle.timer_script.specs.declared.splitter.TheConstants.{MAX_LINE}
+use Rattle.timer_script.specs.declared.fault.ScriptFault.{ScriptFault}
+use Rattle.timer_script.specs.declared.fault.ScriptFault.TheVariants as faults
+use Rattle.timer_script.specs.declared.cutter.OnBadLine.{OnBadLine}
+use Rattle.timer_script.specs.declared.cutter.OnBadLine.TheVariants.{Stop}
+use Rattle.timer_script.specs.declared.cutter.Cutter.{Cutter}
+use Rattle.timer_script.specs.declared.watched.Watched.{Watched}
+use Rattle.timer_script.specs.Watched.{inner_of, has_failed}
+use Rattle.timer_script.specs.Splitter.{HasNoFeed}
+use Rattle.timer_script.specs.Script.{IsInRange, line, BeginsNoLine, IsScript, IsBadLine}
+use Rattle.timer_script.specs.Lines.{line_at}
+use Rattle.timer_script.specs.Diagnosis.{IsFaultOf}
+use Rattle.timer_script.specs.ScriptReport.{fault_line}
+
+-- a line of an input: that of an event, or a bad one, which is given without its line feed, and what is wrong
+-- with it
+pub data Line : Type 0 where
+  Good : Event → Line
+  Bad : List ℕ → LineFault → Line
+
+-- the bytes of a line
+abbrev pub bytes_of : Line → List ℕ
+bytes_of (Good event) = line event
+bytes_of (Bad front fault) = front ++ 10 ∷ []
+
+-- the fault is in these bytes, of which no more are looked at than a line may have
+abbrev pub IsFaultIn : LineFault → List ℕ → Type 0
+IsFaultIn fault bytes = IsFaultOf fault (take MAX_LINE bytes)
+
+-- the numbers of a good line are in range, and a bad one is the line of no event, and has this fault
+abbrev pub IsGoodOrBad : Line → Type 0
+IsGoodOrBad (Good event) = IsInRange event
+IsGoodOrBad (Bad front fault) =
+    HasNoFeed front × BeginsNoLine (front ++ 10 ∷ []) × IsFaultIn fault (front ++ 10 ∷ [])
+
+-- the events of the good lines, in order
+abbrev pub events_of : List Line → List Event
+events_of [] = []
+events_of (Good event ∷ lines) = event ∷ events_of lines
+events_of (Bad front fault ∷ lines) = events_of lines
+
+-- the bytes are these lines and the front of one more
+pub record IsCut (bytes : List ℕ) (lines : List Line) (left : List ℕ) : Type 0 where
+  pub parts : bytes ≡ flat_map bytes_of lines ++ left
+  pub each : AllByRecursion IsGoodOrBad lines
+  pub unended : HasNoFeed left
+
+-- ---- what is reported
+
+-- what is reported of a bad line: its number, and what is wrong with it
+abbrev pub Complaint : Type 0
+Complaint = ℕ × LineFault
+
+-- what is reported of a line under this number, of which 2^64 - 1 stands for any later one: nothing of a good one
+abbrev pub complaint_of : ℕ → Line → List Complaint
+complaint_of n (Good event) = []
+complaint_of n (Bad front fault) = (min n (2 ^ 64 - 1), fault) ∷ []
+
+-- what is reported of the lines of an input, each under its number, counted from 1
+abbrev pub bad_among : List Line → List Complaint
+bad_among lines = flat_map (λ numbered. complaint_of numbered.0 numbered.1) (enumerate_from 1 lines)
+
+-- the number of the line after those of an input
+abbrev pub number_next : List Line → ℕ
+number_next lines = min (length lines + 1) (2 ^ 64 - 1)
+
+-- bytes after the last line feed are a bad line, the n-th
+abbrev pub IsLastBad : ℕ → List ℕ → List Complaint → Type 0
+IsLastBad n [] last = last ≡ []
+IsLastBad n (b ∷ left) last = (fault : LineFault) × IsFaultIn fault (b ∷ left) × (last ≡ (n, fault) ∷ [])
+
+-- the report of a bad line
+abbrev pub complaint_line : Complaint → List ℕ
+complaint_line bad = codes "bad " ++ fault_line bad.0 bad.1
+
+-- the reports of bad lines
+abbrev pub complaints : List Complaint → List ℕ
+complaints bad = flat_map complaint_line bad
+
+-- a prefix of the text was written, all of it unless the writer failed; one that had failed before is left
+-- alone
+pub record HasReported {F : Type 0} (contents : F → Option (List ℕ)) (old new : Watched F)
+    (text : List ℕ) : Type 0 where
+  pub count : ℕ
+  pub within : count ≤ length text
+  pub written : Appends (contents (inner_of old)) (contents (inner_of new)) (take count text)
+  pub whole : has_failed new ≡ false → count ≡ length text
+  pub failed : has_failed old ≡ true → new ≡ old
+
+-- what is reported of these lines, after which come the bytes of one that has not ended
+abbrev pub BadLines : Type 1
+BadLines = List Line → List ℕ → List Complaint → Type 0
+
+-- the bad lines that ended
+abbrev pub AreSoFar : BadLines
+AreSoFar lines left bad = bad ≡ bad_among lines
+
+-- the first of all bad lines
+abbrev pub AreFirst : BadLines
+AreFirst lines left bad = (last : List Complaint) × IsLastBad (number_next lines) left last
+    × (j : ℕ) × (bad ≡ take j (bad_among lines ++ last))
+
+-- all of them, and whether there are none
+abbrev pub AreAll : Bool → BadLines
+AreAll clean lines left bad = (last : List Complaint) × IsLastBad (number_next lines) left last
+    × (bad ≡ bad_among lines ++ last) × ((clean ≡ true) ↔ (bad ≡ []))
+
+-- ---- what passes
+
+-- these bytes came, and the events of their good lines pass; if a bad line ends the stream, none of them is bad,
+-- and the bytes after them are fewer than a line may have
+pub record Passes (on_bad : OnBadLine) (came : List ℕ) (events : List Event) : Type 0 where
+  pub lines : List Line
+  pub left : List ℕ
+  pub cut : IsCut came lines left
+  pub events_are : events ≡ events_of lines
+  pub good : on_bad ≡ Stop → bad_among lines ≡ []
+  pub short : on_bad ≡ Stop → length left < MAX_LINE
+
+-- of the bad lines these were reported; none, and nothing written, if a bad line ends the stream
+pub record HasPassed {F : Type 0} (on_bad : OnBadLine) (Are : BadLines) (contents : F → Option (List ℕ))
+    (writer writer' : Watched F) (came : List ℕ) (events : List Event) : Type 0 where
+  pub passes : Passes on_bad came events
+  pub bad : List Complaint
+  pub are : Are passes.lines passes.left bad
+  pub reported : HasReported contents writer writer' (complaints bad)
+  pub untouched : on_bad ≡ Stop → writer' ≡ writer
+
+-- no more bytes come: what was reported is all that is to be, and whether that is nothing; if a bad line ends the
+-- stream, the bytes are the script of the events
+pub record HasEnded {F : Type 0} (on_bad : OnBadLine) (clean : Bool) (contents : F → Option (List ℕ))
+    (writer writer' : Watched F) (came : List ℕ) (events : List Event) : Type 0 where
+  pub passed : HasPassed on_bad (AreAll clean) contents writer writer' came events
+  pub script : on_bad ≡ Stop → IsScript events came
+
+-- the n-th line (2^64 - 1 stands for any later one) is the first bad one of the bytes, and these are the events
+-- before it
+pub record IsStoppedAt (bytes : List ℕ) (events : List Event) (n : ℕ) : Type 0 where
+  pub line : ℕ
+  pub bad : IsBadLine bytes line
+  pub events_are : events ≡ bad.before
+  pub counted : n ≡ min line (2 ^ 64 - 1)
+
+-- a bad line ends the stream, and nothing was reported
+pub record HasStopped {F : Type 0} (on_bad : OnBadLine) (writer writer' : Watched F) (came : List ℕ)
+    (events : List Event) (n : ℕ) : Type 0 where
+  pub stop : on_bad ≡ Stop
+  pub untouched : writer' ≡ writer
+  pub stopped : IsStoppedAt came events n
+
+-- all bytes that came were looked at: these events pass of them, or those before the line that ends the stream
+abbrev pub HasSeen : {F : Type 0} → OnBadLine → (contents : F → Option (List ℕ)) → (writer writer' : Watched F)
+    → List ℕ → List Event → Type 0
+HasSeen on_bad contents writer writer' came events = HasPassed on_bad AreFirst contents writer writer' came events
+    ⊎ ((n : ℕ) × HasStopped on_bad writer writer' came events n)
+
+-- the last of them were not looked at
+pub record HasSeenPart {F : Type 0} (on_bad : OnBadLine) (contents : F → Option (List ℕ))
+    (writer writer' : Watched F) (came : List ℕ) (events : List Event) : Type 0 where
+  pub seen : List ℕ
+  pub unseen : List ℕ
+  pub parts : came ≡ seen ++ unseen
+  pub passed : HasSeen on_bad contents writer writer' seen events
+
+-- ---- the same, line by line: what a piece of the input adds, of whose lines the first is the n-th
+
+-- the number of the line after the n-th; 2^64 - 1 stands for any later one
+abbrev pub number_after_line : ℕ → ℕ
+number_after_line n = min (n + 1) (2 ^ 64 - 1)
+
+-- what is reported of the bad ones
+abbrev pub bad_of : ℕ → List Line → List Complaint
+bad_of n [] = []
+bad_of n (Good event ∷ lines) = bad_of (number_after_line n) lines
+bad_of n (Bad front fault ∷ lines) = (n, fault) ∷ bad_of (number_after_line n) lines
+
+-- the number of the line after them
+abbrev pub number_after : ℕ → List Line → ℕ
+number_after n [] = n
+number_after n (line ∷ lines) = number_after (number_after_line n) lines
+
+-- of the front of a line as much is held as a line may have; all of it, if a bad line ends the stream
+pub record IsFrontOf (cutter : Cutter) (front : List ℕ) : Type 0 where
+  pub no_feed : HasNoFeed front
+  pub kept : cutter.held.items ≡ take MAX_LINE front
+  pub short : cutter.on_bad ≡ Stop → length front < MAX_LINE
+
+-- a line of these bytes, the n-th, was ended: its event is kept if it is good, and else it is reported
+pub record HasEndedLine (on_bad : OnBadLine) (bytes : List ℕ) (n : ℕ) (events events' : List Event)
+    (said said' : List ℕ) : Type 0 where
+  pub line : Line
+  pub bytes_is : bytes_of line ≡ bytes
+  pub is_line : IsGoodOrBad line
+  pub events_are : events' ≡ events ++ events_of (line ∷ [])
+  pub said_is : said' ≡ said ++ complaints (bad_of n (line ∷ []))
+  pub good : on_bad ≡ Stop → bad_of n (line ∷ []) ≡ []
+
+-- why it was not: it is bad, and ends the stream; or out of memory
+abbrev pub StopsLine : ScriptFault → OnBadLine → ℕ → (held : List ℕ) → (events events' : List Event) → Type 0
+StopsLine (faults.Bad line) on_bad n held events events' =
+    (on_bad ≡ Stop) × (line ≡ n) × (line_at held ≡ None) × (events' ≡ events)
+StopsLine faults.OutOfMemory on_bad n held events events' = Unit {0}
+
+-- bytes came after the front of a line: of the lines that they end the events of the good ones are kept after
+-- those before, and the others reported
+pub record HasCut (events : List Event) (said front bytes : List ℕ) (old new : Cutter) : Type 0 where
+  pub lines : List Line
+  pub left : List ℕ
+  pub parts : front ++ bytes ≡ flat_map bytes_of lines ++ left
+  pub each : AllByRecursion IsGoodOrBad lines
+  pub rest : IsFrontOf new left
+  pub events_are : new.events.items ≡ events ++ events_of lines
+  pub said_is : new.reports.items ≡ said ++ complaints (bad_of old.number lines)
+  pub counted : new.number ≡ number_after old.number lines
+  pub good : old.on_bad ≡ Stop → bad_of old.number lines ≡ []
+
+-- after some good lines comes the n-th, which is bad whatever follows, and ends the stream
+pub record HasStoppedCut (events : List Event) (front bytes : List ℕ) (old new : Cutter) (n : ℕ) : Type 0 where
+  pub stop : old.on_bad ≡ Stop
+  pub lines : List Line
+  pub rest : List ℕ
+  pub parts : front ++ bytes ≡ flat_map bytes_of lines ++ rest
+  pub each : AllByRecursion IsGoodOrBad lines
+  pub some : 1 ≤ length rest
+  pub bad : BeginsNoLine rest
+  pub events_are : new.events.items ≡ events ++ events_of lines
+  pub counted : n ≡ number_after old.number lines
+  pub good : bad_of old.number lines ≡ []
+
+abbrev pub StopsCut : ScriptFault → List Event → (front bytes : List ℕ) → (old new : Cutter) → Type 0
+StopsCut (faults.Bad n) events front bytes old new = HasStoppedCut events front bytes old new n
+StopsCut faults.OutOfMemory events front bytes old new = Unit {0}
+
+-- these bytes were taken in, and those events passed
+pub record HasTakenIn {F : Type 0} (cutter : Cutter) (contents : F → Option (List ℕ)) (writer writer' : Watched F)
+    (came : List ℕ) (events : List Event) : Type 0 where
+  pub passed : HasPassed cutter.on_bad AreSoFar contents writer writer' came events
+  pub front : IsFrontOf cutter passed.passes.left
+  pub counted : cutter.number ≡ number_after 1 passed.passes.lines
+  pub clean_is : (cutter.clean ≡ true) ↔ (passed.bad ≡ [])
+
+-- after all that was taken in before, one more piece was, or a bad line in it ends the stream
+abbrev pub TakesPiece : {F : Type 0} → Option ℕ → (contents : F → Option (List ℕ)) → (piece : List ℕ) → (old : Cutter)
+    → Watched F → (new : Cutter) → Watched F → Type 0
+TakesPiece {F} None contents piece old told new told' = (writer : Watched F) (came : List ℕ) (events : List Event)
+    → HasTakenIn old contents writer told came events
+    → HasTakenIn new contents writer told' (came ++ piece) (events ++ new.events.items)
+TakesPiece {F} (Some n) contents piece old told new told' = (writer : Watched F) (came : List ℕ) (events : List Event)
+    → HasTakenIn old contents writer told came events
+    → HasStopped old.on_bad writer told' (came ++ piece) (events ++ new.events.items) n
+
+-- no more comes after it, or the line that has not ended does
+abbrev pub TakesEnd : {F : Type 0} → Option ℕ → (contents : F → Option (List ℕ)) → (old : Cutter) → Watched F
+    → (new : Cutter) → Watched F → Type 0
+TakesEnd {F} None contents old told new told' = (writer : Watched F) (came : List ℕ) (events : List Event)
+    → HasTakenIn old contents writer told came events
+    → HasEnded old.on_bad new.clean contents writer told' came events
+TakesEnd {F} (Some n) contents old told new told' = (writer : Watched F) (came : List ℕ) (events : List Event)
+    → HasTakenIn old contents writer told came events → HasStopped old.on_bad writer told' came events n
