@@ -7,6 +7,7 @@
  *     timers_desk_tick, timers_desk_advance - pass ticks
  *     timers_desk_close, timers_desk_settle - close, settle a finished line
  *     timers_desk_end, timers_desk_end_all - end the words of finished lines
+ *     timers_desk_stop_pending - stop the timers of a client that is gone
  *     timers_desk_open - open the line of a client that is gone again
  *     timers_desk_reserve - make room for all timers
  *     timers_desk_now, timers_desk_len, timers_desk_pending, timers_desk_outbox - read the state
@@ -52,8 +53,9 @@
  *     client's loop ends if timers_line_ended or timers_line_abandoned returns true.
  *
  *     Clients come and go. Once a client has freed its line, all that it sent was taken, and none of its
- *     timers is pending, timers_desk_open opens a line under the same number for another client. The numbers
- *     of its requests go on from those of the client before, since the desk counts them. The new line shares
+ *     timers is pending, timers_desk_open opens a line under the same number for another client. Its timers
+ *     need not expire before: timers_desk_stop_pending stops all of them in one call. The numbers of the new
+ *     client's requests go on from those of the client before, since the desk counts them. The new line shares
  *     nothing with the old one, which is gone with all that stood in it. So no word of the old client reaches
  *     the new one, and each word that the new one receives is of its own requests.
  *
@@ -102,7 +104,7 @@
  *        memory; they may be moved by a memcpy after which the old one is not used.
  *     2. A pointer argument is not NULL. It points to an object of its type that this call alone uses;
  *        `lines` points to as many as are passed. No two arguments of one call overlap.
- *     3. An object that a call only writes (number, word, passed, returned, standing, unread, client) may
+ *     3. An object that a call only writes (number, word, passed, returned, standing, unread, stopped, client) may
  *        be uninitialised. It is written only if the call returns TIMERS_DESK_OK or true; `client` of
  *        timers_desk_end_all only if a client is to blame.
  *     4. Calls on one struct come one at a time, but for those that THREADS names. A struct may be handed from
@@ -180,7 +182,7 @@ enum timers_desk_status {
 	TIMERS_DESK_CAPACITY = 12,       /* as many timers are pending as may be */
 	TIMERS_DESK_NO_CLIENT = 13,      /* there is no client with this number */
 	TIMERS_DESK_NUMBERS_SPENT = 14,  /* the client has sent 2^60 - 1 requests */
-	TIMERS_DESK_REPEATED = 15,       /* of a word: the number was taken before; lines never cause it */
+	TIMERS_DESK_REPEATED = 15,       /* of a word: the number was taken before; no client gets it */
 	TIMERS_DESK_AHEAD = 16,          /* of a word: an earlier number is missing; lines never cause it */
 	TIMERS_DESK_LINE_FULL = 17,      /* the line has no room for another request now */
 	TIMERS_DESK_FINISHED = 18,       /* the line has finished */
@@ -343,13 +345,27 @@ TIMERS_CHECKED
 enum timers_desk_status timers_desk_end_all(struct timers_desk *d, struct timers_line *lines, size_t clients,
                                             size_t *client);
 
+/* Stops all pending timers of a client whose line was freed, and writes to `*stopped` how many they were. The timers of
+ * others stay. Each is stopped by a request of the client, which takes its next number; nobody gets the answer. Nothing
+ * else changes: words that wait for the client are dropped by a flush.
+ *
+ * Serve the client before, until that returns TIMERS_DESK_IDLE, or TIMERS_DESK_NO_ROOM since its timers take all room.
+ * A request that still stands in its line may find its number taken afterwards. Then it starts and stops nothing. After
+ * TIMERS_DESK_NO_ROOM repeat both calls, so that one flood of starts keeps no line for long.
+ *
+ * Takes time for each place in which there ever was a timer, of any client. Does not allocate.
+ * TIMERS_DESK_NOT_OPEN, TIMERS_DESK_NO_CLIENT, TIMERS_DESK_NOT_FREED, TIMERS_DESK_CLOSED (the close has returned its
+ * timers), TIMERS_DESK_NUMBERS_SPENT (fewer numbers are left than timers are pending): nothing has changed. */
+TIMERS_CHECKED
+enum timers_desk_status timers_desk_stop_pending(struct timers_desk *d, size_t client, size_t *stopped);
+
 /* Opens a line for another client under the number of one that is gone: its line was freed, each request that it sent
  * was taken, no word waits for it (a flush drops them), and no timer of it is pending. `line` holds the new client's
  * end from then on, and has room for `room` requests and as many words, as `line` in struct timers_desk_config. The
  * numbers of the client's requests go on: the first is one above the last that was taken. Waits for no thread.
  * TIMERS_DESK_NOT_OPEN (the desk), TIMERS_DESK_OPEN (`line` holds one), TIMERS_DESK_NO_CLIENT, TIMERS_DESK_OUT_OF_RANGE
  * (the room), TIMERS_DESK_NOT_FREED, TIMERS_DESK_LEFT (something of the client that is gone: serve and flush it, and
- * pass ticks until its timers have expired), TIMERS_DESK_NUMBERS_SPENT, TIMERS_DESK_NO_MEMORY: nothing has changed. */
+ * stop its timers), TIMERS_DESK_NUMBERS_SPENT, TIMERS_DESK_NO_MEMORY: nothing has changed. */
 TIMERS_CHECKED
 enum timers_desk_status timers_desk_open(struct timers_desk *d, size_t client, struct timers_line *line, size_t room);
 

@@ -170,6 +170,14 @@ public:
 		check(timers_desk_end(&raw_, client, &of.raw_, &unread));
 		return unread;
 	}
+	/* Stops all pending timers of a client whose line was freed, and returns how many. Throws desk_error: that of
+	 * timers_desk_stop_pending. */
+	std::size_t stop_pending(std::size_t client)
+	{
+		std::size_t stopped;
+		check(timers_desk_stop_pending(&raw_, client, &stopped));
+		return stopped;
+	}
 	/* Opens a line for another client under the number of one that is gone. Throws desk_error: that of
 	 * timers_desk_open, but TIMERS_DESK_OPEN. */
 	[[nodiscard]] line open(std::size_t client, std::size_t room)

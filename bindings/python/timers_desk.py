@@ -85,6 +85,7 @@ def load(path):
             ("desk_flush", c_size_t, desk, c_size_t), ("desk_flush_all", c_bool, desk),
             ("desk_advance", c_uint32, desk, c_uint64, POINTER(c_uint64)), ("desk_close", c_uint32, desk, POINTER(c_uint64)),
             ("desk_end", c_uint32, desk, c_size_t, line, POINTER(c_size_t)),
+            ("desk_stop_pending", c_uint32, desk, c_size_t, POINTER(c_size_t)),
             ("desk_open", c_uint32, desk, c_size_t, line, c_size_t), ("desk_reserve", c_uint32, desk),
             ("desk_now", c_uint64, desk), ("desk_len", c_size_t, desk), ("desk_pending", c_size_t, desk, c_size_t),
             ("desk_outbox", c_size_t, desk, c_size_t), ("desk_wakeup", c_uint64, desk), ("desk_next", c_uint64, desk),
@@ -212,6 +213,12 @@ class Desk:
         unread = c_size_t()
         check(self._library.timers_desk_end(byref(self._held), number(client), byref(line._held), byref(unread)))
         return unread.value
+
+    def stop_pending(self, client):
+        """Stops all pending timers of a client whose line was freed, and returns how many."""
+        stopped = c_size_t()
+        check(self._library.timers_desk_stop_pending(byref(self._held), number(client), byref(stopped)))
+        return stopped.value
 
     def open(self, client, room):
         """Opens a line for another client under the number of one that is gone, and returns its end."""

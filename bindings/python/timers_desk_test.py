@@ -96,12 +96,18 @@ def come_and_go():
             if life % 4:
                 refused(td.LEFT, desk.open, 0, 4)
                 turn(desk)
-                while desk.pending(0):
-                    desk.advance(5)
-                assert desk.outbox(0) > 0 and desk.flush(0) > 0 and desk.outbox(0) == 0
+                if life % 8 > 4:
+                    assert desk.stop_pending(0) == life % 4 and desk.pending(0) == desk.stop_pending(0) == 0
+                    sent += life % 4            # the stops have their numbers
+                else:
+                    while desk.pending(0):
+                        desk.advance(5)
+                    assert desk.outbox(0) > 0 and desk.flush(0) > 0 and desk.outbox(0) == 0
             line = desk.open(0, 4)
             assert not desk.line_freed(0) and line.receive() is None
         refused(td.OUT_OF_RANGE, desk.open, 0, 0)
+        refused(td.NOT_FREED, desk.stop_pending, 0)
+        refused(td.NO_CLIENT, desk.stop_pending, 2)
         assert (desk.serve(0), desk.serve(2)) == (td.IDLE, td.NO_CLIENT)
         desk.reserve()
     assert line.abandoned and other.abandoned

@@ -217,6 +217,7 @@ unsafe extern "C" {
     fn timers_desk_advance(d: *mut RawDesk, most: u64, passed: *mut u64) -> c_uint;
     fn timers_desk_close(d: *mut RawDesk, returned: *mut u64) -> c_uint;
     fn timers_desk_end(d: *mut RawDesk, client: usize, line: *mut RawLine, unread: *mut usize) -> c_uint;
+    fn timers_desk_stop_pending(d: *mut RawDesk, client: usize, stopped: *mut usize) -> c_uint;
     fn timers_desk_open(d: *mut RawDesk, client: usize, line: *mut RawLine, room: usize) -> c_uint;
     fn timers_desk_reserve(d: *mut RawDesk) -> c_uint;
     fn timers_desk_now(d: *const RawDesk) -> u64;
@@ -321,6 +322,13 @@ impl Desk {
         let mut unread = 0;
         let status = unsafe { timers_desk_end(&mut self.held, client, &mut line.held, &mut unread) };
         done(status, unread)
+    }
+
+    /// Stops all pending timers of a client whose line was dropped, and returns how many.
+    pub fn stop_pending(&mut self, client: usize) -> Result<usize, Error> {
+        let mut stopped = 0;
+        let status = unsafe { timers_desk_stop_pending(&mut self.held, client, &mut stopped) };
+        done(status, stopped)
     }
 
     /// Opens a line for another client, under the number of one whose line was dropped and of which nothing is left.

@@ -121,13 +121,21 @@ fn clients_come_and_go() {
         if life % 4 > 0 {
             assert_eq!(desk.open(0, 4).err(), Some(Error::Left));
             turn(&mut desk);
-            desk.advance_to(desk.now() + 5).unwrap();
-            assert_eq!(desk.open(0, 4).err(), Some(Error::Left));
-            assert!(desk.outbox(0) > 0 && desk.flush(0) > 0 && desk.outbox(0) == 0);
+            if life % 8 > 4 {
+                let pending = desk.pending_of(0);
+                assert_eq!((desk.stop_pending(0), desk.stop_pending(0)), (Ok(pending), Ok(0)));
+                assert!(pending as u64 == life % 4 && desk.pending_of(0) == 0);
+                number += pending as u64; // the stops have their numbers
+            } else {
+                desk.advance_to(desk.now() + 5).unwrap();
+                assert_eq!(desk.open(0, 4).err(), Some(Error::Left));
+                assert!(desk.outbox(0) > 0 && desk.flush(0) > 0 && desk.outbox(0) == 0);
+            }
         }
         line = desk.open(0, 4).unwrap();
         assert!(!desk.line_freed(0) && line.receive().is_none());
     }
+    assert_eq!((desk.stop_pending(0), desk.stop_pending(2)), (Err(Error::NotFreed), Err(Error::NoClient)));
     assert_eq!(other.start(1, 1), Ok(1));
     assert_eq!((desk.serve(1), desk.serve(1), desk.serve(2)), (Ok(()), Err(Error::Idle), Err(Error::NoClient)));
     drop(desk);

@@ -42,6 +42,7 @@ static void empty_structs(void)
 	CHECK(timers_desk_next(&d) == TIMERS_NEVER && !timers_desk_line_freed(&d, 0) && !timers_line_abandoned(&l));
 	CHECK(timers_desk_pending(&d, 0) == 0 && timers_desk_reserve(&d) == TIMERS_DESK_NOT_OPEN);
 	CHECK(timers_desk_open(&d, 0, &l, 4) == TIMERS_DESK_NOT_OPEN && l.mark == 0);
+	CHECK(timers_desk_stop_pending(&d, 0, &s) == TIMERS_DESK_NOT_OPEN && s == 78);
 	CHECK(timers_line_start(&l, 1, 2, &n) == TIMERS_DESK_NOT_OPEN && n == 77);
 	CHECK(timers_line_stop(&l, h, &n) == TIMERS_DESK_NOT_OPEN && timers_line_restart(&l, h, 1, 2, &n) == TIMERS_DESK_NOT_OPEN && n == 77);
 	CHECK(!timers_line_receive(&l, &w) && timers_line_finish(&l) == TIMERS_DESK_NOT_OPEN);
@@ -553,6 +554,51 @@ static void clients_come_and_go(void)
 	timers_desk_free(&d), timers_line_free(&l[0]), timers_line_free(&l[1]);
 }
 
+/* The timers of a client that is gone are stopped at once, and those of others stay. A client that has filled its room
+ * with timers of a year, and left requests in its line, keeps its line no longer than another. */
+static void stops_the_timers_of_a_client_that_is_gone(void)
+{
+	struct timers_desk d = TIMERS_DESK_INIT;
+	struct timers_line l[2] = { TIMERS_LINE_INIT }, next = TIMERS_LINE_INIT;
+	struct timers_desk_config config = { sizeof config, 0, 100, 9, 20, TIMERS_WIDE };
+	struct timers_word w;
+	uint64_t n, year = 31536000000;
+	size_t s = 78, all = 0;
+	CHECK(timers_desk_new(&d, l, 2, &config) == TIMERS_DESK_OK);
+	CHECK(timers_desk_stop_pending(&d, 2, &s) == TIMERS_DESK_NO_CLIENT && timers_desk_stop_pending(&d, 0, &s) == TIMERS_DESK_NOT_FREED && s == 78);
+	for (uint64_t i = 1; i <= 20; i++)      /* client 1 keeps 3 timers, at places between the others */
+		CHECK(timers_line_start(&l[0], year, i, &n) == TIMERS_DESK_OK && (i > 3 || timers_line_start(&l[1], 50 + i, i, &n) == TIMERS_DESK_OK));
+	timers_desk_serve_all(&d, 1), timers_desk_serve_all(&d, 1), timers_desk_flush_all(&d);
+	timers_line_free(&l[0]);
+	while (timers_desk_open(&d, 0, &next, 4) == TIMERS_DESK_LEFT) {
+		while (timers_desk_serve(&d, 0) == TIMERS_DESK_OK)
+			(void)timers_desk_flush(&d, 0);
+		CHECK(timers_desk_flush(&d, 0) == 0 || timers_desk_outbox(&d, 0) == 0);
+		CHECK(timers_desk_pending(&d, 0) <= 8);
+		CHECK(timers_desk_stop_pending(&d, 0, &s) == TIMERS_DESK_OK && timers_desk_pending(&d, 0) == 0);
+		all += s;
+	}
+	/* each of the 20 numbers was a start's or was taken by a stop before it came up */
+	CHECK(all >= 8 && all <= 20 && timers_desk_stop_pending(&d, 0, &s) == TIMERS_DESK_NOT_FREED);
+	CHECK(timers_line_start(&next, 1, 99, &n) == TIMERS_DESK_OK && n > 20);
+	timers_desk_serve_all(&d, 9), timers_desk_flush_all(&d);
+	CHECK(timers_line_receive(&next, &w) && w.kind == TIMERS_WORD_STARTED && w.number == n && timers_desk_pending(&d, 1) == 3);
+	for (uint64_t i = 1; i <= 3; i++)
+		CHECK(timers_line_receive(&l[1], &w) && w.kind == TIMERS_WORD_STARTED && w.number == i);
+	while (timers_desk_len(&d))
+		CHECK(timers_desk_advance(&d, 99, &n) == TIMERS_DESK_OK);
+	timers_desk_flush_all(&d);
+	CHECK(timers_line_receive(&next, &w) && w.kind == TIMERS_WORD_EXPIRED && w.action == 99);
+	for (uint64_t i = 1; i <= 3; i++)
+		CHECK(timers_line_receive(&l[1], &w) && w.kind == TIMERS_WORD_EXPIRED && w.action == i && w.deadline == 50 + i);
+	timers_line_free(&l[1]), timers_line_free(&next);
+	s = 78;
+	CHECK(timers_desk_stop_pending(&d, 1, &s) == TIMERS_DESK_OK && s == 0);
+	s = 78;
+	CHECK(timers_desk_close(&d, &n) == TIMERS_DESK_OK && timers_desk_stop_pending(&d, 1, &s) == TIMERS_DESK_CLOSED && s == 78);
+	timers_desk_free(&d);
+}
+
 /* With room for k timers, q requests without an answer and 1 no request is ever held back, stops among them. With one
  * less it may be. */
 static void room_enough(size_t k, size_t q)
@@ -615,6 +661,7 @@ int main(void)
 	freed_lines(16, 8, 8);
 	freed_lines(3, 1, 1);
 	clients_come_and_go();
+	stops_the_timers_of_a_client_that_is_gone();
 	for (size_t k = 1; k < 6; k++)
 		for (size_t q = 1; q < 6; q++)
 			room_enough(k, q);

@@ -6,6 +6,7 @@
 #include <cstdio>
 #include <cstdlib>
 #include <deque>
+#include <iterator>
 #include <map>
 #include <random>
 #include <utility>
@@ -73,6 +74,10 @@ struct model {
 		word.reason = TIMERS_DESK_CLOSED;
 		if (closed)
 			return word;
+		if (r.number < clients[c].taken) {              /* a stop by the owner has taken it */
+			word.reason = TIMERS_DESK_REPEATED, word.other = clients[c].taken;
+			return word;
+		}
 		clients[c].taken++;
 		const auto old = find(c, r.handle);
 		word.reason = r.kind > 0 && old == pending.end() ? (unsigned)TIMERS_DESK_NOT_PENDING
@@ -124,6 +129,15 @@ struct model {
 		if (it.freed)
 			it.outbox.clear();
 		return before - it.outbox.size();
+	}
+	/* the owner stops the timers of a client that is gone */
+	std::size_t stop_pending(std::size_t c)
+	{
+		const std::size_t count = pending_of(c);
+		for (auto at = pending.begin(); at != pending.end();)
+			at = at->second.client == c ? pending.erase(at) : std::next(at);
+		clients[c].taken += count;
+		return count;
 	}
 	bool is_left(std::size_t c) const
 	{
@@ -189,7 +203,7 @@ struct model {
 		client &it = clients[c];
 		std::uint64_t count = 77;
 		std::size_t size = 78;
-		const unsigned what = below(14);
+		const unsigned what = below(15);
 		if (what < 4) {
 			CHECK(timers_desk_serve(&desk, c) == serve(c));
 		} else if (what == 4) {
@@ -228,6 +242,10 @@ struct model {
 		} else if (what == 12) {
 			const auto status = timers_desk_end(&desk, c, &it.line, &size);
 			CHECK(status == end(c) && size == (status == TIMERS_DESK_OK ? it.words.size() : 78));
+		} else if (what == 13) {
+			const auto status = timers_desk_stop_pending(&desk, c, &size);
+			CHECK(status == (!it.freed ? TIMERS_DESK_NOT_FREED : closed ? TIMERS_DESK_CLOSED : TIMERS_DESK_OK));
+			CHECK(size == (status == TIMERS_DESK_OK ? stop_pending(c) : 78));
 		} else {
 			timers_line none TIMERS_LINE_INIT;
 			const std::size_t room = below(7);

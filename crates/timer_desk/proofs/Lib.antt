@@ -11,3 +11,4 @@ pub mod ShutdownLemmas
 pub mod TicksLemmas
 pub mod PassLemmas
 pub mod FlushLemmas
+pub mod StoppingLemmas

@@ -126,10 +126,12 @@ impl<W: Wheel + Drop> Facility<W> {
         self.wheel.now()
     }
 
-    /// The wheel that it stands on, which has the same clock and the same pending timers. Does not allocate.
+    /// The wheel that it stands on, which has the same clock and the same pending timers. While none waits to be
+    /// handed out, no timer of the wheel is due. Does not allocate.
     pub fn wheel(&self) -> &W
         ensures now { (W.state result.now).now ≡ self.now.state.now }
         ensures pending { (W.state result.now).pending ≡ self.now.state.pending }
+        ensures due { self.now.waiting ≡ [] → (W.state result.now).due ≡ [] }
         ensures last { (W.state result.now).last_tick ≡ self.now.state.last }
         ensures slots { (W.state result.now).slots ≡ self.now.state.slots }
     {
@@ -519,8 +521,9 @@ impl<W: Wheel + Drop> Facility<W> {
         }
     }
 
-    /// The pending timer of this client with exactly this handle.
-    fn find_named(&self, client: u64, handle: Handle) -> Option<Timer>
+    /// The pending timer of this client with exactly this handle, place and serial. No timer may wait to be handed
+    /// out. Does not allocate.
+    pub fn find_named(&self, client: u64, handle: Handle) -> Option<Timer>
         requires { self.now.waiting ≡ [] }
         ensures { result ≡ named self.now.state client (Stop handle) }
     {
