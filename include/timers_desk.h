@@ -14,6 +14,7 @@
  *     timers_desk_wakeup, timers_desk_next - learn until when the owner may sleep
  *     timers_desk_line_freed - learn that a client's line was freed
  *     timers_line_start, timers_line_stop, timers_line_restart - send a request
+ *     timers_line_start_at, timers_line_restart_at - send a request with a deadline
  *     timers_line_receive - receive a word
  *     timers_line_finish, timers_line_ended - end the requests, learn that no word comes any more
  *     timers_line_abandoned - learn that the desk was freed
@@ -80,7 +81,8 @@
  *
  *     Ticks come first, since an interval counts from the tick at which its request is taken. If requests
  *     were taken before the clock has caught up, their timers would expire too early, by the time that the
- *     owner slept.
+ *     owner slept. A client that knows the owner's clock can send a deadline instead (timers_line_start_at):
+ *     then it does not matter when the request is taken, as long as that is before the deadline.
  *
  *     How threads wake each other is left to the program: an eventfd, a pipe, a condition variable with a
  *     flag. The order matters. The owner clears the signal before it looks at the lines, never between
@@ -174,7 +176,7 @@ enum timers_desk_status {
 	TIMERS_DESK_OPEN = 2,            /* the desk or one of the lines holds something already */
 	TIMERS_DESK_NO_MEMORY = 4,       /* malloc or realloc returned NULL */
 	TIMERS_DESK_NOT_PENDING = 6,     /* no pending timer of this client has this handle */
-	TIMERS_DESK_ZERO_INTERVAL = 7,   /* the interval is 0 */
+	TIMERS_DESK_ZERO_INTERVAL = 7,   /* the interval is 0, or the deadline not after the present tick */
 	TIMERS_DESK_TOO_LATE = 8,        /* the deadline is after the last tick */
 	TIMERS_DESK_SERIALS_SPENT = 9,   /* the desk has started 2^60 - 1 timers */
 	TIMERS_DESK_CLOCK_END = 10,      /* the clock is at its last tick */
@@ -412,6 +414,14 @@ TIMERS_CHECKED
 enum timers_desk_status timers_line_start(struct timers_line *line, uint64_t interval, uint64_t action,
                                           uint64_t *number);
 
+/* Sends the request to start a timer that expires at the tick `deadline`, and hands `action` back then. It is as
+ * timers_line_start with the ticks that are left until then when the request is taken. So a deadline that is not after
+ * that tick is refused by a word with TIMERS_DESK_ZERO_INTERVAL, and one after the last tick with TIMERS_DESK_TOO_LATE.
+ * The same statuses. */
+TIMERS_CHECKED
+enum timers_desk_status timers_line_start_at(struct timers_line *line, uint64_t deadline, uint64_t action,
+                                             uint64_t *number);
+
 /* Sends the request to stop the timer with this handle, that of the word that answered its start. The same
  * statuses. */
 TIMERS_CHECKED
@@ -422,6 +432,11 @@ enum timers_desk_status timers_line_stop(struct timers_line *line, struct timers
 TIMERS_CHECKED
 enum timers_desk_status timers_line_restart(struct timers_line *line, struct timers_handle handle,
                                             uint64_t interval, uint64_t action, uint64_t *number);
+
+/* Does the same with a deadline for the new timer, as timers_line_start_at. If that is refused, the old timer stays. */
+TIMERS_CHECKED
+enum timers_desk_status timers_line_restart_at(struct timers_line *line, struct timers_handle handle,
+                                               uint64_t deadline, uint64_t action, uint64_t *number);
 
 /* Receives the next word. Returns whether there was one, and writes `*word` exactly then. After false more
  * may come, unless timers_line_ended or timers_line_abandoned returns true. */

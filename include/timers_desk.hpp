@@ -63,6 +63,11 @@ public:
 		std::uint64_t number;
 		return sent(timers_line_start(&raw_, interval, action, &number), number);
 	}
+	[[nodiscard]] std::optional<std::uint64_t> start_at(std::uint64_t deadline, std::uint64_t action)
+	{
+		std::uint64_t number;
+		return sent(timers_line_start_at(&raw_, deadline, action, &number), number);
+	}
 	[[nodiscard]] std::optional<std::uint64_t> stop(timers_handle handle)
 	{
 		std::uint64_t number;
@@ -72,6 +77,11 @@ public:
 	{
 		std::uint64_t number;
 		return sent(timers_line_restart(&raw_, handle, interval, action, &number), number);
+	}
+	[[nodiscard]] std::optional<std::uint64_t> restart_at(timers_handle handle, std::uint64_t deadline, std::uint64_t action)
+	{
+		std::uint64_t number;
+		return sent(timers_line_restart_at(&raw_, handle, deadline, action, &number), number);
 	}
 
 	/* The next word, if one is there. */

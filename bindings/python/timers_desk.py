@@ -91,8 +91,10 @@ def load(path):
             ("desk_outbox", c_size_t, desk, c_size_t), ("desk_wakeup", c_uint64, desk), ("desk_next", c_uint64, desk),
             ("desk_line_freed", c_bool, desk, c_size_t),
             ("line_start", c_uint32, line, c_uint64, c_uint64, POINTER(c_uint64)),
+            ("line_start_at", c_uint32, line, c_uint64, c_uint64, POINTER(c_uint64)),
             ("line_stop", c_uint32, line, Handle, POINTER(c_uint64)),
             ("line_restart", c_uint32, line, Handle, c_uint64, c_uint64, POINTER(c_uint64)),
+            ("line_restart_at", c_uint32, line, Handle, c_uint64, c_uint64, POINTER(c_uint64)),
             ("line_receive", c_bool, line, POINTER(Word)), ("line_finish", c_uint32, line), ("line_ended", c_bool, line),
             ("line_abandoned", c_bool, line), ("line_free", None, line)]:
         function = getattr(library, "timers_" + name)
@@ -132,11 +134,17 @@ class Line:
         """Sends the request to start a timer, and returns the request's number."""
         return self._send(self._library.timers_line_start, number(interval), number(action))
 
+    def start_at(self, deadline, action):
+        return self._send(self._library.timers_line_start_at, number(deadline), number(action))
+
     def stop(self, handle):
         return self._send(self._library.timers_line_stop, handle)
 
     def restart(self, handle, interval, action):
         return self._send(self._library.timers_line_restart, handle, number(interval), number(action))
+
+    def restart_at(self, handle, deadline, action):
+        return self._send(self._library.timers_line_restart_at, handle, number(deadline), number(action))
 
     def receive(self):
         """The next word, or None."""

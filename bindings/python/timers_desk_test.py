@@ -35,8 +35,11 @@ def agrees(seed):
             choice = draw.randrange(5)
             if choice < 4:
                 sent += 1
-                call = [line.start, line.start, line.stop, line.restart][choice]
-                assert call(*[(interval, action), (interval, action), (handle,), (handle, interval, action)][choice]) == sent
+                deadline = desk.now + interval
+                calls = [(line.start, interval, action), (line.start_at, deadline, action), (line.stop, handle),
+                         (line.restart, handle, interval, action), (line.restart_at, handle, deadline, action)]
+                call, *arguments = calls[4 if choice == 3 and action % 2 else choice]
+                assert call(*arguments) == sent
                 refused(td.LINE_FULL, line.start, 1, 1)
                 turn(desk)
                 word = line.receive()

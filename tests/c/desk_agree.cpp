@@ -43,7 +43,10 @@ static void agrees(unsigned seed)
 		const timers_handle handle = chosen == model.end() ? timers_handle{ 0, 0 } : chosen->second.handle;
 		const unsigned choice = static_cast<unsigned>(random() % 5);
 		if (choice < 4) {
-			const auto number = choice < 2 ? line.start(interval, action) : choice == 2 ? line.stop(handle) : line.restart(handle, interval, action);
+			const std::uint64_t deadline = desk.now() + interval;
+			const auto number = choice == 2 ? line.stop(handle)
+				: choice < 2 ? action % 2 ? line.start(interval, action) : line.start_at(deadline, action)
+				: action % 2 ? line.restart(handle, interval, action) : line.restart_at(handle, deadline, action);
 			CHECK(number == ++sent && !line.start(1, 1));
 			turn(desk);
 			const timers_word word = *line.receive();

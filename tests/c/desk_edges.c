@@ -45,6 +45,7 @@ static void empty_structs(void)
 	CHECK(timers_desk_stop_pending(&d, 0, &s) == TIMERS_DESK_NOT_OPEN && s == 78);
 	CHECK(timers_line_start(&l, 1, 2, &n) == TIMERS_DESK_NOT_OPEN && n == 77);
 	CHECK(timers_line_stop(&l, h, &n) == TIMERS_DESK_NOT_OPEN && timers_line_restart(&l, h, 1, 2, &n) == TIMERS_DESK_NOT_OPEN && n == 77);
+	CHECK(timers_line_start_at(&l, 1, 2, &n) == TIMERS_DESK_NOT_OPEN && timers_line_restart_at(&l, h, 1, 2, &n) == TIMERS_DESK_NOT_OPEN && n == 77);
 	CHECK(!timers_line_receive(&l, &w) && timers_line_finish(&l) == TIMERS_DESK_NOT_OPEN);
 	CHECK(timers_desk_end(&d, 0, &l, &s) == TIMERS_DESK_NOT_OPEN && s == 78 && !timers_line_ended(&l));
 	CHECK(timers_desk_end_all(&d, &l, 1, &s) == TIMERS_DESK_NOT_OPEN && s == 78);
@@ -599,6 +600,44 @@ static void stops_the_timers_of_a_client_that_is_gone(void)
 	timers_desk_free(&d);
 }
 
+/* A deadline counts from no tick: it matters only whether it is after the one at which the request is taken. */
+static void starts_at_a_tick(void)
+{
+	struct timers_desk d = TIMERS_DESK_INIT;
+	struct timers_line l = TIMERS_LINE_INIT;
+	struct timers_desk_config config = { sizeof config, 100, 100, 40, 20, TIMERS_WIDE };
+	struct timers_word w, old;
+	const struct { uint64_t deadline; unsigned reason; } rows[] = {
+		{ 0, TIMERS_DESK_ZERO_INTERVAL }, { 109, TIMERS_DESK_ZERO_INTERVAL }, { 110, TIMERS_DESK_ZERO_INTERVAL },
+		{ 111, 0 }, { 500, 0 }, { TIMERS_LAST, 0 }, { TIMERS_LAST + 1, TIMERS_DESK_TOO_LATE }, { UINT64_MAX, TIMERS_DESK_TOO_LATE },
+	};
+	const size_t many = sizeof rows / sizeof *rows;
+	uint64_t n;
+	CHECK(timers_desk_new(&d, &l, 1, &config) == TIMERS_DESK_OK);
+	CHECK(timers_line_start_at(&l, 900, 1, &n) == TIMERS_DESK_OK && n == 1);
+	owner_turn(&d);
+	CHECK(timers_line_receive(&l, &old) && old.kind == TIMERS_WORD_STARTED && old.deadline == 900);
+	for (size_t i = 0; i < many; i++)               /* sent at tick 100, and taken at 110 */
+		CHECK(timers_line_start_at(&l, rows[i].deadline, i, &n) == TIMERS_DESK_OK);
+	CHECK(timers_desk_advance(&d, 10, &n) == TIMERS_DESK_OK && n == 10);
+	owner_turn(&d);
+	for (size_t i = 0; i < many; i++) {
+		CHECK(timers_line_receive(&l, &w) && w.kind == (rows[i].reason ? TIMERS_WORD_REFUSED : TIMERS_WORD_STARTED));
+		CHECK(w.reason == rows[i].reason && w.number == i + 2 && w.deadline == (rows[i].reason ? 0 : rows[i].deadline));
+	}
+	for (size_t i = 0; i < many; i++) {             /* and restarts: a refused one leaves the old timer */
+		CHECK(timers_line_restart_at(&l, old.handle, rows[i].deadline, i, &n) == TIMERS_DESK_OK);
+		owner_turn(&d);
+		CHECK(timers_line_receive(&l, &w) && w.kind == (rows[i].reason ? TIMERS_WORD_REFUSED : TIMERS_WORD_RESTARTED) && w.reason == rows[i].reason);
+		CHECK(w.reason || (w.deadline == rows[i].deadline && w.other == old.handle.serial));
+		old = w.reason ? old : w;
+	}
+	CHECK(timers_line_restart_at(&l, (struct timers_handle){ 9, 99 }, 0, 0, &n) == TIMERS_DESK_OK);
+	owner_turn(&d);
+	CHECK(timers_line_receive(&l, &w) && w.reason == TIMERS_DESK_NOT_PENDING && timers_desk_len(&d) == 4);
+	timers_desk_free(&d), timers_line_free(&l);
+}
+
 /* With room for k timers, q requests without an answer and 1 no request is ever held back, stops among them. With one
  * less it may be. */
 static void room_enough(size_t k, size_t q)
@@ -662,6 +701,7 @@ int main(void)
 	freed_lines(3, 1, 1);
 	clients_come_and_go();
 	stops_the_timers_of_a_client_that_is_gone();
+	starts_at_a_tick();
 	for (size_t k = 1; k < 6; k++)
 		for (size_t q = 1; q < 6; q++)
 			room_enough(k, q);

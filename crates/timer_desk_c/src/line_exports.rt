@@ -5,7 +5,7 @@
 //! returns another status; what is the same then; and that nothing but the state of the line ever changes in
 //! what C holds.
 ghost use Rattle.std.specs.Prelude.{◌≡◌, ◌<◌, ◌⊎◌, ◌↔◌, ◌++◌, [], true, false};
-ghost use Rattle.timer_facility.specs.declared.request.Request.TheVariants.{Start, Stop, Restart};
+ghost use Rattle.timer_facility.specs.declared.request.Request.TheVariants.{Start, StartAt, Stop, Restart, RestartAt};
 ghost use Rattle.timer_desk.specs.declared.looks.Found.TheVariants as Found;
 ghost use Rattle.timer_desk_c.specs.Frames.{HasLine, HasNoLine, with_line};
 ghost use Rattle.timer_desk_c.specs.Lines.{HasSent, WhyNotSent, SameTraffic, SameSent, HasReceived, HasFinished, IsReadToEnd, MayReceive, IsSameLine, is_open_line, is_ended_line, seen_on, unread_on, received_on, found_on};
@@ -44,6 +44,32 @@ pub extern "C" fn timers_line_start(
     line.slot
         .line()
         .send(Request::Start { interval, action }, number)
+}
+
+/// Sends the request to start a timer that expires at the tick `deadline`, and writes the request's number.
+#[unsafe(no_mangle)]
+pub extern "C" fn timers_line_start_at(
+    line: &mut CLine,
+    deadline: u64,
+    action: u64,
+    number: &mut u64,
+) -> u32
+    ensures sent { result ≡ OK → HasLine line.old × HasSent
+        (StartAt deadline action) line.old.slot.state line.new.slot.state number.new }
+    ensures refused { 0 < result → ((result ≡ NOT_OPEN) × HasNoLine line.old)
+        ⊎ (HasLine line.old × WhyNotSent line.old.slot.state line.new.slot.state result) }
+    ensures kept { 0 < result → SameTraffic line.old.slot.state line.new.slot.state
+        × (number.new ≡ number.old) }
+    ensures received { received_on line.new.slot.state ≡ received_on line.old.slot.state }
+    ensures line { IsSameLine line.old.slot.state line.new.slot.state }
+    ensures only { line.new ≡ with_line line.old line.new.slot.state }
+{
+    if !line.slot.holds() {
+        return NOT_OPEN;
+    }
+    line.slot
+        .line()
+        .send(Request::StartAt { deadline, action }, number)
 }
 
 /// Sends the request to stop the timer with this handle, and writes the request's number.
@@ -95,6 +121,40 @@ pub extern "C" fn timers_line_restart(
         Request::Restart {
             handle: from_c_handle(handle),
             interval,
+            action,
+        },
+        number,
+    )
+}
+
+/// Sends the request to stop the timer with this handle and start another in its place that expires at the tick
+/// `deadline`, and writes the request's number.
+#[unsafe(no_mangle)]
+pub extern "C" fn timers_line_restart_at(
+    line: &mut CLine,
+    handle: CHandle,
+    deadline: u64,
+    action: u64,
+    number: &mut u64,
+) -> u32
+    ensures sent { result ≡ OK → HasLine line.old
+        × HasSent (RestartAt (base_handle handle) deadline action)
+        line.old.slot.state line.new.slot.state number.new }
+    ensures refused { 0 < result → ((result ≡ NOT_OPEN) × HasNoLine line.old)
+        ⊎ (HasLine line.old × WhyNotSent line.old.slot.state line.new.slot.state result) }
+    ensures kept { 0 < result → SameTraffic line.old.slot.state line.new.slot.state
+        × (number.new ≡ number.old) }
+    ensures received { received_on line.new.slot.state ≡ received_on line.old.slot.state }
+    ensures line { IsSameLine line.old.slot.state line.new.slot.state }
+    ensures only { line.new ≡ with_line line.old line.new.slot.state }
+{
+    if !line.slot.holds() {
+        return NOT_OPEN;
+    }
+    line.slot.line().send(
+        Request::RestartAt {
+            handle: from_c_handle(handle),
+            deadline,
             action,
         },
         number,

@@ -7,7 +7,7 @@ ghost use Rattle.std.specs.Prelude.{◌≡◌, false, ℕ, ◌+◌, ◌<◌, ◌
 ghost use Rattle.timer_base.specs.Pending.{timers_of};
 ghost use Rattle.timer_base.specs.WheelState.{after_clear};
 ghost use Rattle.timer_base.specs.WakeUps.{next_deadline};
-ghost use Rattle.timer_facility.specs.State.{FacilityState, IsSound, Tick, Close, Start, Stop, Restart, number_of, pending_of};
+ghost use Rattle.timer_facility.specs.State.{FacilityState, IsSound, Tick, Close, Start, Stop, Restart, number_of, pending_of, ticks_until};
 ghost use Rattle.timer_facility.specs.Verdict.{not_taken, named, start_refusal, interval_refusal, tick_refusal, TickRefused, verdict};
 ghost use Rattle.timer_facility.specs.Refused.{verdict_in, verdict_on_not_taken, verdict_on_close};
 ghost use Rattle.timer_facility.specs.Step.{step, answer_to, after_taken};
@@ -230,12 +230,24 @@ impl<W: Wheel + Drop> Facility<W> {
             Request::Start { interval, action } => self.take_start(
                 client, number, interval, action,
             ),
+            Request::StartAt { deadline, action } => {
+                let interval = self.ticks_until(deadline);
+                self.take_start(client, number, interval, action)
+            }
             Request::Stop(handle) => Ok(self.take_stop(client, number, handle)),
             Request::Restart {
                 handle,
                 interval,
                 action,
             } => Ok(self.take_restart(client, number, handle, interval, action)),
+            Request::RestartAt {
+                handle,
+                deadline,
+                action,
+            } => {
+                let interval = self.ticks_until(deadline);
+                Ok(self.take_restart(client, number, handle, interval, action))
+            }
         }
     }
 
@@ -422,6 +434,13 @@ impl<W: Wheel + Drop> Facility<W> {
                 Ok(Answer::Started { handle, deadline })
             }
         }
+    }
+
+    /// How many ticks are left until a deadline.
+    fn ticks_until(&self, deadline: u64) -> u64
+        ensures { result ≡ ticks_until self.now.state deadline }
+    {
+        deadline.saturating_sub(self.wheel.now())
     }
 
     /// Why a start with this interval is refused, if it is refused.
