@@ -7,12 +7,14 @@
  *     timers_desk_tick, timers_desk_advance - pass ticks
  *     timers_desk_close, timers_desk_settle - close, settle a finished line
  *     timers_desk_end, timers_desk_end_all - end the words of finished lines
+ *     timers_desk_stop_pending - stop the timers of a client that is gone
  *     timers_desk_open - open the line of a client that is gone again
  *     timers_desk_reserve - make room for all timers
  *     timers_desk_now, timers_desk_len, timers_desk_pending, timers_desk_outbox - read the state
  *     timers_desk_wakeup, timers_desk_next - learn until when the owner may sleep
  *     timers_desk_line_freed - learn that a client's line was freed
  *     timers_line_start, timers_line_stop, timers_line_restart - send a request
+ *     timers_line_start_at, timers_line_restart_at - send a request with a deadline
  *     timers_line_receive - receive a word
  *     timers_line_finish, timers_line_ended - end the requests, learn that no word comes any more
  *     timers_line_abandoned - learn that the desk was freed
@@ -52,8 +54,9 @@
  *     client's loop ends if timers_line_ended or timers_line_abandoned returns true.
  *
  *     Clients come and go. Once a client has freed its line, all that it sent was taken, and none of its
- *     timers is pending, timers_desk_open opens a line under the same number for another client. The numbers
- *     of its requests go on from those of the client before, since the desk counts them. The new line shares
+ *     timers is pending, timers_desk_open opens a line under the same number for another client. Its timers
+ *     need not expire before: timers_desk_stop_pending stops all of them in one call. The numbers of the new
+ *     client's requests go on from those of the client before, since the desk counts them. The new line shares
  *     nothing with the old one, which is gone with all that stood in it. So no word of the old client reaches
  *     the new one, and each word that the new one receives is of its own requests.
  *
@@ -78,7 +81,8 @@
  *
  *     Ticks come first, since an interval counts from the tick at which its request is taken. If requests
  *     were taken before the clock has caught up, their timers would expire too early, by the time that the
- *     owner slept.
+ *     owner slept. A client that knows the owner's clock can send a deadline instead (timers_line_start_at):
+ *     then it does not matter when the request is taken, as long as that is before the deadline.
  *
  *     How threads wake each other is left to the program: an eventfd, a pipe, a condition variable with a
  *     flag. The order matters. The owner clears the signal before it looks at the lines, never between
@@ -102,7 +106,7 @@
  *        memory; they may be moved by a memcpy after which the old one is not used.
  *     2. A pointer argument is not NULL. It points to an object of its type that this call alone uses;
  *        `lines` points to as many as are passed. No two arguments of one call overlap.
- *     3. An object that a call only writes (number, word, passed, returned, standing, unread, client) may
+ *     3. An object that a call only writes (number, word, passed, returned, standing, unread, stopped, client) may
  *        be uninitialised. It is written only if the call returns TIMERS_DESK_OK or true; `client` of
  *        timers_desk_end_all only if a client is to blame.
  *     4. Calls on one struct come one at a time, but for those that THREADS names. A struct may be handed from
@@ -172,7 +176,7 @@ enum timers_desk_status {
 	TIMERS_DESK_OPEN = 2,            /* the desk or one of the lines holds something already */
 	TIMERS_DESK_NO_MEMORY = 4,       /* malloc or realloc returned NULL */
 	TIMERS_DESK_NOT_PENDING = 6,     /* no pending timer of this client has this handle */
-	TIMERS_DESK_ZERO_INTERVAL = 7,   /* the interval is 0 */
+	TIMERS_DESK_ZERO_INTERVAL = 7,   /* the interval is 0, or the deadline not after the present tick */
 	TIMERS_DESK_TOO_LATE = 8,        /* the deadline is after the last tick */
 	TIMERS_DESK_SERIALS_SPENT = 9,   /* the desk has started 2^60 - 1 timers */
 	TIMERS_DESK_CLOCK_END = 10,      /* the clock is at its last tick */
@@ -180,7 +184,7 @@ enum timers_desk_status {
 	TIMERS_DESK_CAPACITY = 12,       /* as many timers are pending as may be */
 	TIMERS_DESK_NO_CLIENT = 13,      /* there is no client with this number */
 	TIMERS_DESK_NUMBERS_SPENT = 14,  /* the client has sent 2^60 - 1 requests */
-	TIMERS_DESK_REPEATED = 15,       /* of a word: the number was taken before; lines never cause it */
+	TIMERS_DESK_REPEATED = 15,       /* of a word: the number was taken before; no client gets it */
 	TIMERS_DESK_AHEAD = 16,          /* of a word: an earlier number is missing; lines never cause it */
 	TIMERS_DESK_LINE_FULL = 17,      /* the line has no room for another request now */
 	TIMERS_DESK_FINISHED = 18,       /* the line has finished */
@@ -343,13 +347,27 @@ TIMERS_CHECKED
 enum timers_desk_status timers_desk_end_all(struct timers_desk *d, struct timers_line *lines, size_t clients,
                                             size_t *client);
 
+/* Stops all pending timers of a client whose line was freed, and writes to `*stopped` how many they were. The timers of
+ * others stay. Each is stopped by a request of the client, which takes its next number; nobody gets the answer. Nothing
+ * else changes: words that wait for the client are dropped by a flush.
+ *
+ * Serve the client before, until that returns TIMERS_DESK_IDLE, or TIMERS_DESK_NO_ROOM since its timers take all room.
+ * A request that still stands in its line may find its number taken afterwards. Then it starts and stops nothing. After
+ * TIMERS_DESK_NO_ROOM repeat both calls, so that one flood of starts keeps no line for long.
+ *
+ * Takes time for each place in which there ever was a timer, of any client. Does not allocate.
+ * TIMERS_DESK_NOT_OPEN, TIMERS_DESK_NO_CLIENT, TIMERS_DESK_NOT_FREED, TIMERS_DESK_CLOSED (the close has returned its
+ * timers), TIMERS_DESK_NUMBERS_SPENT (fewer numbers are left than timers are pending): nothing has changed. */
+TIMERS_CHECKED
+enum timers_desk_status timers_desk_stop_pending(struct timers_desk *d, size_t client, size_t *stopped);
+
 /* Opens a line for another client under the number of one that is gone: its line was freed, each request that it sent
  * was taken, no word waits for it (a flush drops them), and no timer of it is pending. `line` holds the new client's
  * end from then on, and has room for `room` requests and as many words, as `line` in struct timers_desk_config. The
  * numbers of the client's requests go on: the first is one above the last that was taken. Waits for no thread.
  * TIMERS_DESK_NOT_OPEN (the desk), TIMERS_DESK_OPEN (`line` holds one), TIMERS_DESK_NO_CLIENT, TIMERS_DESK_OUT_OF_RANGE
  * (the room), TIMERS_DESK_NOT_FREED, TIMERS_DESK_LEFT (something of the client that is gone: serve and flush it, and
- * pass ticks until its timers have expired), TIMERS_DESK_NUMBERS_SPENT, TIMERS_DESK_NO_MEMORY: nothing has changed. */
+ * stop its timers), TIMERS_DESK_NUMBERS_SPENT, TIMERS_DESK_NO_MEMORY: nothing has changed. */
 TIMERS_CHECKED
 enum timers_desk_status timers_desk_open(struct timers_desk *d, size_t client, struct timers_line *line, size_t room);
 
@@ -396,6 +414,14 @@ TIMERS_CHECKED
 enum timers_desk_status timers_line_start(struct timers_line *line, uint64_t interval, uint64_t action,
                                           uint64_t *number);
 
+/* Sends the request to start a timer that expires at the tick `deadline`, and hands `action` back then. It is as
+ * timers_line_start with the ticks that are left until then when the request is taken. So a deadline that is not after
+ * that tick is refused by a word with TIMERS_DESK_ZERO_INTERVAL, and one after the last tick with TIMERS_DESK_TOO_LATE.
+ * The same statuses. */
+TIMERS_CHECKED
+enum timers_desk_status timers_line_start_at(struct timers_line *line, uint64_t deadline, uint64_t action,
+                                             uint64_t *number);
+
 /* Sends the request to stop the timer with this handle, that of the word that answered its start. The same
  * statuses. */
 TIMERS_CHECKED
@@ -406,6 +432,11 @@ enum timers_desk_status timers_line_stop(struct timers_line *line, struct timers
 TIMERS_CHECKED
 enum timers_desk_status timers_line_restart(struct timers_line *line, struct timers_handle handle,
                                             uint64_t interval, uint64_t action, uint64_t *number);
+
+/* Does the same with a deadline for the new timer, as timers_line_start_at. If that is refused, the old timer stays. */
+TIMERS_CHECKED
+enum timers_desk_status timers_line_restart_at(struct timers_line *line, struct timers_handle handle,
+                                               uint64_t deadline, uint64_t action, uint64_t *number);
 
 /* Receives the next word. Returns whether there was one, and writes `*word` exactly then. After false more
  * may come, unless timers_line_ended or timers_line_abandoned returns true. */

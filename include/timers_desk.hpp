@@ -63,6 +63,11 @@ public:
 		std::uint64_t number;
 		return sent(timers_line_start(&raw_, interval, action, &number), number);
 	}
+	[[nodiscard]] std::optional<std::uint64_t> start_at(std::uint64_t deadline, std::uint64_t action)
+	{
+		std::uint64_t number;
+		return sent(timers_line_start_at(&raw_, deadline, action, &number), number);
+	}
 	[[nodiscard]] std::optional<std::uint64_t> stop(timers_handle handle)
 	{
 		std::uint64_t number;
@@ -72,6 +77,11 @@ public:
 	{
 		std::uint64_t number;
 		return sent(timers_line_restart(&raw_, handle, interval, action, &number), number);
+	}
+	[[nodiscard]] std::optional<std::uint64_t> restart_at(timers_handle handle, std::uint64_t deadline, std::uint64_t action)
+	{
+		std::uint64_t number;
+		return sent(timers_line_restart_at(&raw_, handle, deadline, action, &number), number);
 	}
 
 	/* The next word, if one is there. */
@@ -169,6 +179,14 @@ public:
 		std::size_t unread;
 		check(timers_desk_end(&raw_, client, &of.raw_, &unread));
 		return unread;
+	}
+	/* Stops all pending timers of a client whose line was freed, and returns how many. Throws desk_error: that of
+	 * timers_desk_stop_pending. */
+	std::size_t stop_pending(std::size_t client)
+	{
+		std::size_t stopped;
+		check(timers_desk_stop_pending(&raw_, client, &stopped));
+		return stopped;
 	}
 	/* Opens a line for another client under the number of one that is gone. Throws desk_error: that of
 	 * timers_desk_open, but TIMERS_DESK_OPEN. */

@@ -85,13 +85,16 @@ def load(path):
             ("desk_flush", c_size_t, desk, c_size_t), ("desk_flush_all", c_bool, desk),
             ("desk_advance", c_uint32, desk, c_uint64, POINTER(c_uint64)), ("desk_close", c_uint32, desk, POINTER(c_uint64)),
             ("desk_end", c_uint32, desk, c_size_t, line, POINTER(c_size_t)),
+            ("desk_stop_pending", c_uint32, desk, c_size_t, POINTER(c_size_t)),
             ("desk_open", c_uint32, desk, c_size_t, line, c_size_t), ("desk_reserve", c_uint32, desk),
             ("desk_now", c_uint64, desk), ("desk_len", c_size_t, desk), ("desk_pending", c_size_t, desk, c_size_t),
             ("desk_outbox", c_size_t, desk, c_size_t), ("desk_wakeup", c_uint64, desk), ("desk_next", c_uint64, desk),
             ("desk_line_freed", c_bool, desk, c_size_t),
             ("line_start", c_uint32, line, c_uint64, c_uint64, POINTER(c_uint64)),
+            ("line_start_at", c_uint32, line, c_uint64, c_uint64, POINTER(c_uint64)),
             ("line_stop", c_uint32, line, Handle, POINTER(c_uint64)),
             ("line_restart", c_uint32, line, Handle, c_uint64, c_uint64, POINTER(c_uint64)),
+            ("line_restart_at", c_uint32, line, Handle, c_uint64, c_uint64, POINTER(c_uint64)),
             ("line_receive", c_bool, line, POINTER(Word)), ("line_finish", c_uint32, line), ("line_ended", c_bool, line),
             ("line_abandoned", c_bool, line), ("line_free", None, line)]:
         function = getattr(library, "timers_" + name)
@@ -131,11 +134,17 @@ class Line:
         """Sends the request to start a timer, and returns the request's number."""
         return self._send(self._library.timers_line_start, number(interval), number(action))
 
+    def start_at(self, deadline, action):
+        return self._send(self._library.timers_line_start_at, number(deadline), number(action))
+
     def stop(self, handle):
         return self._send(self._library.timers_line_stop, handle)
 
     def restart(self, handle, interval, action):
         return self._send(self._library.timers_line_restart, handle, number(interval), number(action))
+
+    def restart_at(self, handle, deadline, action):
+        return self._send(self._library.timers_line_restart_at, handle, number(deadline), number(action))
 
     def receive(self):
         """The next word, or None."""
@@ -212,6 +221,12 @@ class Desk:
         unread = c_size_t()
         check(self._library.timers_desk_end(byref(self._held), number(client), byref(line._held), byref(unread)))
         return unread.value
+
+    def stop_pending(self, client):
+        """Stops all pending timers of a client whose line was freed, and returns how many."""
+        stopped = c_size_t()
+        check(self._library.timers_desk_stop_pending(byref(self._held), number(client), byref(stopped)))
+        return stopped.value
 
     def open(self, client, room):
         """Opens a line for another client under the number of one that is gone, and returns its end."""

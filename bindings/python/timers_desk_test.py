@@ -35,8 +35,11 @@ def agrees(seed):
             choice = draw.randrange(5)
             if choice < 4:
                 sent += 1
-                call = [line.start, line.start, line.stop, line.restart][choice]
-                assert call(*[(interval, action), (interval, action), (handle,), (handle, interval, action)][choice]) == sent
+                deadline = desk.now + interval
+                calls = [(line.start, interval, action), (line.start_at, deadline, action), (line.stop, handle),
+                         (line.restart, handle, interval, action), (line.restart_at, handle, deadline, action)]
+                call, *arguments = calls[4 if choice == 3 and action % 2 else choice]
+                assert call(*arguments) == sent
                 refused(td.LINE_FULL, line.start, 1, 1)
                 turn(desk)
                 word = line.receive()
@@ -96,12 +99,18 @@ def come_and_go():
             if life % 4:
                 refused(td.LEFT, desk.open, 0, 4)
                 turn(desk)
-                while desk.pending(0):
-                    desk.advance(5)
-                assert desk.outbox(0) > 0 and desk.flush(0) > 0 and desk.outbox(0) == 0
+                if life % 8 > 4:
+                    assert desk.stop_pending(0) == life % 4 and desk.pending(0) == desk.stop_pending(0) == 0
+                    sent += life % 4            # the stops have their numbers
+                else:
+                    while desk.pending(0):
+                        desk.advance(5)
+                    assert desk.outbox(0) > 0 and desk.flush(0) > 0 and desk.outbox(0) == 0
             line = desk.open(0, 4)
             assert not desk.line_freed(0) and line.receive() is None
         refused(td.OUT_OF_RANGE, desk.open, 0, 0)
+        refused(td.NOT_FREED, desk.stop_pending, 0)
+        refused(td.NO_CLIENT, desk.stop_pending, 2)
         assert (desk.serve(0), desk.serve(2)) == (td.IDLE, td.NO_CLIENT)
         desk.reserve()
     assert line.abandoned and other.abandoned

@@ -217,6 +217,7 @@ unsafe extern "C" {
     fn timers_desk_advance(d: *mut RawDesk, most: u64, passed: *mut u64) -> c_uint;
     fn timers_desk_close(d: *mut RawDesk, returned: *mut u64) -> c_uint;
     fn timers_desk_end(d: *mut RawDesk, client: usize, line: *mut RawLine, unread: *mut usize) -> c_uint;
+    fn timers_desk_stop_pending(d: *mut RawDesk, client: usize, stopped: *mut usize) -> c_uint;
     fn timers_desk_open(d: *mut RawDesk, client: usize, line: *mut RawLine, room: usize) -> c_uint;
     fn timers_desk_reserve(d: *mut RawDesk) -> c_uint;
     fn timers_desk_now(d: *const RawDesk) -> u64;
@@ -227,8 +228,10 @@ unsafe extern "C" {
     fn timers_desk_next(d: *const RawDesk) -> u64;
     fn timers_desk_line_freed(d: *mut RawDesk, client: usize) -> bool;
     fn timers_line_start(line: *mut RawLine, interval: u64, action: u64, number: *mut u64) -> c_uint;
+    fn timers_line_start_at(line: *mut RawLine, deadline: u64, action: u64, number: *mut u64) -> c_uint;
     fn timers_line_stop(line: *mut RawLine, handle: Handle, number: *mut u64) -> c_uint;
     fn timers_line_restart(line: *mut RawLine, handle: Handle, interval: u64, action: u64, number: *mut u64) -> c_uint;
+    fn timers_line_restart_at(line: *mut RawLine, handle: Handle, deadline: u64, action: u64, number: *mut u64) -> c_uint;
     fn timers_line_receive(line: *mut RawLine, word: *mut RawWord) -> bool;
     fn timers_line_finish(line: *mut RawLine) -> c_uint;
     fn timers_line_ended(line: *const RawLine) -> bool;
@@ -323,6 +326,13 @@ impl Desk {
         done(status, unread)
     }
 
+    /// Stops all pending timers of a client whose line was dropped, and returns how many.
+    pub fn stop_pending(&mut self, client: usize) -> Result<usize, Error> {
+        let mut stopped = 0;
+        let status = unsafe { timers_desk_stop_pending(&mut self.held, client, &mut stopped) };
+        done(status, stopped)
+    }
+
     /// Opens a line for another client, under the number of one whose line was dropped and of which nothing is left.
     pub fn open(&mut self, client: usize, room: usize) -> Result<Line, Error> {
         let mut line = RawLine::none();
@@ -390,6 +400,13 @@ impl Line {
         done(status, number)
     }
 
+    /// Sends the request to start a timer that expires at the tick `deadline`, and returns the request's number.
+    pub fn start_at(&mut self, deadline: u64, action: u64) -> Result<u64, Error> {
+        let mut number = 0;
+        let status = unsafe { timers_line_start_at(&mut self.held, deadline, action, &mut number) };
+        done(status, number)
+    }
+
     /// Sends the request to stop a timer.
     pub fn stop(&mut self, handle: Handle) -> Result<u64, Error> {
         let mut number = 0;
@@ -401,6 +418,13 @@ impl Line {
     pub fn restart(&mut self, handle: Handle, interval: u64, action: u64) -> Result<u64, Error> {
         let mut number = 0;
         let status = unsafe { timers_line_restart(&mut self.held, handle, interval, action, &mut number) };
+        done(status, number)
+    }
+
+    /// Sends the request to stop a timer and start another in its place that expires at the tick `deadline`.
+    pub fn restart_at(&mut self, handle: Handle, deadline: u64, action: u64) -> Result<u64, Error> {
+        let mut number = 0;
+        let status = unsafe { timers_line_restart_at(&mut self.held, handle, deadline, action, &mut number) };
         done(status, number)
     }
 

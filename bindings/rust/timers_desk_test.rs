@@ -33,8 +33,10 @@ fn agrees_with_a_map(seed: u64) {
         match random.below(4) {
             0 | 1 => {
                 number += 1;
-                assert_eq!(line.start(interval, action), Ok(number));
-                assert_eq!(line.start(interval, action), Err(Error::LineFull));
+                let deadline = desk.now() + interval;
+                let sent = if action % 2 == 0 { line.start(interval, action) } else { line.start_at(deadline, action) };
+                assert_eq!(sent, Ok(number));
+                assert_eq!(line.start_at(deadline, action), Err(Error::LineFull));
                 turn(&mut desk);
                 match line.receive().unwrap() {
                     Word::Started { number: n, handle, deadline } => {
@@ -54,7 +56,12 @@ fn agrees_with_a_map(seed: u64) {
                 number += 1;
                 let restarts = random.below(2) == 1 && interval > 0;
                 let handle = chosen.map_or(Handle::default(), |(handle, _)| handle);
-                assert_eq!(if restarts { line.restart(handle, interval, action) } else { line.stop(handle) }, Ok(number));
+                let sent = match (restarts, action % 2) {
+                    (false, _) => line.stop(handle),
+                    (true, 0) => line.restart(handle, interval, action),
+                    (true, _) => line.restart_at(handle, desk.now() + interval, action),
+                };
+                assert_eq!(sent, Ok(number));
                 turn(&mut desk);
                 match (chosen, line.receive().unwrap()) {
                     (None, word) => assert_eq!(word, Word::Refused { number, reason: Error::NotPending }),
@@ -121,13 +128,21 @@ fn clients_come_and_go() {
         if life % 4 > 0 {
             assert_eq!(desk.open(0, 4).err(), Some(Error::Left));
             turn(&mut desk);
-            desk.advance_to(desk.now() + 5).unwrap();
-            assert_eq!(desk.open(0, 4).err(), Some(Error::Left));
-            assert!(desk.outbox(0) > 0 && desk.flush(0) > 0 && desk.outbox(0) == 0);
+            if life % 8 > 4 {
+                let pending = desk.pending_of(0);
+                assert_eq!((desk.stop_pending(0), desk.stop_pending(0)), (Ok(pending), Ok(0)));
+                assert!(pending as u64 == life % 4 && desk.pending_of(0) == 0);
+                number += pending as u64; // the stops have their numbers
+            } else {
+                desk.advance_to(desk.now() + 5).unwrap();
+                assert_eq!(desk.open(0, 4).err(), Some(Error::Left));
+                assert!(desk.outbox(0) > 0 && desk.flush(0) > 0 && desk.outbox(0) == 0);
+            }
         }
         line = desk.open(0, 4).unwrap();
         assert!(!desk.line_freed(0) && line.receive().is_none());
     }
+    assert_eq!((desk.stop_pending(0), desk.stop_pending(2)), (Err(Error::NotFreed), Err(Error::NoClient)));
     assert_eq!(other.start(1, 1), Ok(1));
     assert_eq!((desk.serve(1), desk.serve(1), desk.serve(2)), (Ok(()), Err(Error::Idle), Err(Error::NoClient)));
     drop(desk);

@@ -6,7 +6,7 @@
  * with a client's line, and one owner keeps the time-outs of all. A peer may leave while some still run:
  *
  *     connection: frees its line, and ends
- *     owner:      takes what it had sent, lets its timers expire, drops the words to it, and opens the line again
+ *     owner:      takes what it had sent, stops its timers, drops the words to it, and opens the line again
  *
  * The owner sleeps until the next deadline, a request, or a peer for whom a line is free. A connection has at most MOST
  * time-outs, and so at most MOST requests without an answer: with room 2 * MOST + 1 none is ever held back. */
@@ -105,11 +105,12 @@ static void admit(int listener, struct connection *c)
 	need(c->socket >= 0 && !pthread_create(&thread, NULL, connected, c) && !pthread_detach(thread), "no connection");
 }
 
-/* Opens the line of each client that is gone again, once nothing of it is left. */
+/* Stops the time-outs of each client that is gone, and opens its line again. */
 static void open_again(void)
 {
-	for (size_t c = 0; c < LINES; c++)
+	for (size_t c = 0, stopped; c < LINES; c++)
 		if (connections[c].taken && atomic_load(&connections[c].gone) /* TIMERS_DESK_LEFT: in a later round */
+		    && timers_desk_stop_pending(&desk, c, &stopped) == TIMERS_DESK_OK
 		    && timers_desk_open(&desk, c, &connections[c].line, 2 * MOST) == TIMERS_DESK_OK)
 			connections[c].taken = false, opened++;
 }
@@ -131,9 +132,8 @@ static void own(int listener, uint64_t began)
 {
 	for (;;) {
 		hush(owners_bell);
-		bool last = atomic_load(&peers) == 0;
 		uint64_t now = milliseconds() - began;
-		bool busy = serve_and_flush(now);
+		bool last = atomic_load(&peers) == 0, busy = serve_and_flush(now);
 		size_t at_work = 0;
 		struct connection *free_one = NULL;
 		open_again();

@@ -43,7 +43,10 @@ static void agrees(unsigned seed)
 		const timers_handle handle = chosen == model.end() ? timers_handle{ 0, 0 } : chosen->second.handle;
 		const unsigned choice = static_cast<unsigned>(random() % 5);
 		if (choice < 4) {
-			const auto number = choice < 2 ? line.start(interval, action) : choice == 2 ? line.stop(handle) : line.restart(handle, interval, action);
+			const std::uint64_t deadline = desk.now() + interval;
+			const auto number = choice == 2 ? line.stop(handle)
+				: choice < 2 ? action % 2 ? line.start(interval, action) : line.start_at(deadline, action)
+				: action % 2 ? line.restart(handle, interval, action) : line.restart_at(handle, deadline, action);
 			CHECK(number == ++sent && !line.start(1, 1));
 			turn(desk);
 			const timers_word word = *line.receive();
@@ -107,6 +110,7 @@ static void come_and_go()
 	THROWS(TIMERS_DESK_NOT_OPEN, none.finish());
 	for (unsigned life = 0; life < 100; life++) {
 		THROWS(TIMERS_DESK_NOT_FREED, desk.open(0, 4));
+		THROWS(TIMERS_DESK_NOT_FREED, desk.stop_pending(0));
 		for (unsigned i = 0; i < life % 4; i++)
 			CHECK(line.start(5, life) == ++sent);
 		line = timing::line();                  /* frees it */
@@ -114,14 +118,20 @@ static void come_and_go()
 		if (life % 4) {
 			THROWS(TIMERS_DESK_LEFT, desk.open(0, 4));
 			turn(desk);
-			while (desk.pending(0))
-				desk.advance(5);
-			CHECK(desk.outbox(0) > 0 && desk.flush(0) > 0 && desk.outbox(0) == 0);
+			if (life % 8 > 4) {
+				CHECK(desk.stop_pending(0) == life % 4 && desk.pending(0) == 0 && desk.stop_pending(0) == 0);
+				sent += life % 4;               /* the stops have their numbers */
+			} else {
+				while (desk.pending(0))
+					desk.advance(5);
+				CHECK(desk.outbox(0) > 0 && desk.flush(0) > 0 && desk.outbox(0) == 0);
+			}
 		}
 		line = desk.open(0, 4);
 		CHECK(!desk.line_freed(0) && !line.receive());
 	}
 	desk.reserve();
+	THROWS(TIMERS_DESK_NO_CLIENT, desk.stop_pending(2));
 	CHECK(desk.serve(0) == TIMERS_DESK_IDLE && desk.serve(2) == TIMERS_DESK_NO_CLIENT);
 	desk = timing::desk(lines, 1, timing::desk::config(1, 1, 1));
 	CHECK(line.abandoned() && other.abandoned() && !lines[0].abandoned());

@@ -42,8 +42,10 @@ static void empty_structs(void)
 	CHECK(timers_desk_next(&d) == TIMERS_NEVER && !timers_desk_line_freed(&d, 0) && !timers_line_abandoned(&l));
 	CHECK(timers_desk_pending(&d, 0) == 0 && timers_desk_reserve(&d) == TIMERS_DESK_NOT_OPEN);
 	CHECK(timers_desk_open(&d, 0, &l, 4) == TIMERS_DESK_NOT_OPEN && l.mark == 0);
+	CHECK(timers_desk_stop_pending(&d, 0, &s) == TIMERS_DESK_NOT_OPEN && s == 78);
 	CHECK(timers_line_start(&l, 1, 2, &n) == TIMERS_DESK_NOT_OPEN && n == 77);
 	CHECK(timers_line_stop(&l, h, &n) == TIMERS_DESK_NOT_OPEN && timers_line_restart(&l, h, 1, 2, &n) == TIMERS_DESK_NOT_OPEN && n == 77);
+	CHECK(timers_line_start_at(&l, 1, 2, &n) == TIMERS_DESK_NOT_OPEN && timers_line_restart_at(&l, h, 1, 2, &n) == TIMERS_DESK_NOT_OPEN && n == 77);
 	CHECK(!timers_line_receive(&l, &w) && timers_line_finish(&l) == TIMERS_DESK_NOT_OPEN);
 	CHECK(timers_desk_end(&d, 0, &l, &s) == TIMERS_DESK_NOT_OPEN && s == 78 && !timers_line_ended(&l));
 	CHECK(timers_desk_end_all(&d, &l, 1, &s) == TIMERS_DESK_NOT_OPEN && s == 78);
@@ -553,6 +555,89 @@ static void clients_come_and_go(void)
 	timers_desk_free(&d), timers_line_free(&l[0]), timers_line_free(&l[1]);
 }
 
+/* The timers of a client that is gone are stopped at once, and those of others stay. A client that has filled its room
+ * with timers of a year, and left requests in its line, keeps its line no longer than another. */
+static void stops_the_timers_of_a_client_that_is_gone(void)
+{
+	struct timers_desk d = TIMERS_DESK_INIT;
+	struct timers_line l[2] = { TIMERS_LINE_INIT }, next = TIMERS_LINE_INIT;
+	struct timers_desk_config config = { sizeof config, 0, 100, 9, 20, TIMERS_WIDE };
+	struct timers_word w;
+	uint64_t n, year = 31536000000;
+	size_t s = 78, all = 0;
+	CHECK(timers_desk_new(&d, l, 2, &config) == TIMERS_DESK_OK);
+	CHECK(timers_desk_stop_pending(&d, 2, &s) == TIMERS_DESK_NO_CLIENT && timers_desk_stop_pending(&d, 0, &s) == TIMERS_DESK_NOT_FREED && s == 78);
+	for (uint64_t i = 1; i <= 20; i++)      /* client 1 keeps 3 timers, at places between the others */
+		CHECK(timers_line_start(&l[0], year, i, &n) == TIMERS_DESK_OK && (i > 3 || timers_line_start(&l[1], 50 + i, i, &n) == TIMERS_DESK_OK));
+	timers_desk_serve_all(&d, 1), timers_desk_serve_all(&d, 1), timers_desk_flush_all(&d);
+	timers_line_free(&l[0]);
+	while (timers_desk_open(&d, 0, &next, 4) == TIMERS_DESK_LEFT) {
+		while (timers_desk_serve(&d, 0) == TIMERS_DESK_OK)
+			(void)timers_desk_flush(&d, 0);
+		CHECK(timers_desk_flush(&d, 0) == 0 || timers_desk_outbox(&d, 0) == 0);
+		CHECK(timers_desk_pending(&d, 0) <= 8);
+		CHECK(timers_desk_stop_pending(&d, 0, &s) == TIMERS_DESK_OK && timers_desk_pending(&d, 0) == 0);
+		all += s;
+	}
+	/* each of the 20 numbers was a start's or was taken by a stop before it came up */
+	CHECK(all >= 8 && all <= 20 && timers_desk_stop_pending(&d, 0, &s) == TIMERS_DESK_NOT_FREED);
+	CHECK(timers_line_start(&next, 1, 99, &n) == TIMERS_DESK_OK && n > 20);
+	timers_desk_serve_all(&d, 9), timers_desk_flush_all(&d);
+	CHECK(timers_line_receive(&next, &w) && w.kind == TIMERS_WORD_STARTED && w.number == n && timers_desk_pending(&d, 1) == 3);
+	for (uint64_t i = 1; i <= 3; i++)
+		CHECK(timers_line_receive(&l[1], &w) && w.kind == TIMERS_WORD_STARTED && w.number == i);
+	while (timers_desk_len(&d))
+		CHECK(timers_desk_advance(&d, 99, &n) == TIMERS_DESK_OK);
+	timers_desk_flush_all(&d);
+	CHECK(timers_line_receive(&next, &w) && w.kind == TIMERS_WORD_EXPIRED && w.action == 99);
+	for (uint64_t i = 1; i <= 3; i++)
+		CHECK(timers_line_receive(&l[1], &w) && w.kind == TIMERS_WORD_EXPIRED && w.action == i && w.deadline == 50 + i);
+	timers_line_free(&l[1]), timers_line_free(&next);
+	s = 78;
+	CHECK(timers_desk_stop_pending(&d, 1, &s) == TIMERS_DESK_OK && s == 0);
+	s = 78;
+	CHECK(timers_desk_close(&d, &n) == TIMERS_DESK_OK && timers_desk_stop_pending(&d, 1, &s) == TIMERS_DESK_CLOSED && s == 78);
+	timers_desk_free(&d);
+}
+
+/* A deadline counts from no tick: it matters only whether it is after the one at which the request is taken. */
+static void starts_at_a_tick(void)
+{
+	struct timers_desk d = TIMERS_DESK_INIT;
+	struct timers_line l = TIMERS_LINE_INIT;
+	struct timers_desk_config config = { sizeof config, 100, 100, 40, 20, TIMERS_WIDE };
+	struct timers_word w, old;
+	const struct { uint64_t deadline; unsigned reason; } rows[] = {
+		{ 0, TIMERS_DESK_ZERO_INTERVAL }, { 109, TIMERS_DESK_ZERO_INTERVAL }, { 110, TIMERS_DESK_ZERO_INTERVAL },
+		{ 111, 0 }, { 500, 0 }, { TIMERS_LAST, 0 }, { TIMERS_LAST + 1, TIMERS_DESK_TOO_LATE }, { UINT64_MAX, TIMERS_DESK_TOO_LATE },
+	};
+	const size_t many = sizeof rows / sizeof *rows;
+	uint64_t n;
+	CHECK(timers_desk_new(&d, &l, 1, &config) == TIMERS_DESK_OK);
+	CHECK(timers_line_start_at(&l, 900, 1, &n) == TIMERS_DESK_OK && n == 1);
+	owner_turn(&d);
+	CHECK(timers_line_receive(&l, &old) && old.kind == TIMERS_WORD_STARTED && old.deadline == 900);
+	for (size_t i = 0; i < many; i++)               /* sent at tick 100, and taken at 110 */
+		CHECK(timers_line_start_at(&l, rows[i].deadline, i, &n) == TIMERS_DESK_OK);
+	CHECK(timers_desk_advance(&d, 10, &n) == TIMERS_DESK_OK && n == 10);
+	owner_turn(&d);
+	for (size_t i = 0; i < many; i++) {
+		CHECK(timers_line_receive(&l, &w) && w.kind == (rows[i].reason ? TIMERS_WORD_REFUSED : TIMERS_WORD_STARTED));
+		CHECK(w.reason == rows[i].reason && w.number == i + 2 && w.deadline == (rows[i].reason ? 0 : rows[i].deadline));
+	}
+	for (size_t i = 0; i < many; i++) {             /* and restarts: a refused one leaves the old timer */
+		CHECK(timers_line_restart_at(&l, old.handle, rows[i].deadline, i, &n) == TIMERS_DESK_OK);
+		owner_turn(&d);
+		CHECK(timers_line_receive(&l, &w) && w.kind == (rows[i].reason ? TIMERS_WORD_REFUSED : TIMERS_WORD_RESTARTED) && w.reason == rows[i].reason);
+		CHECK(w.reason || (w.deadline == rows[i].deadline && w.other == old.handle.serial));
+		old = w.reason ? old : w;
+	}
+	CHECK(timers_line_restart_at(&l, (struct timers_handle){ 9, 99 }, 0, 0, &n) == TIMERS_DESK_OK);
+	owner_turn(&d);
+	CHECK(timers_line_receive(&l, &w) && w.reason == TIMERS_DESK_NOT_PENDING && timers_desk_len(&d) == 4);
+	timers_desk_free(&d), timers_line_free(&l);
+}
+
 /* With room for k timers, q requests without an answer and 1 no request is ever held back, stops among them. With one
  * less it may be. */
 static void room_enough(size_t k, size_t q)
@@ -615,6 +700,8 @@ int main(void)
 	freed_lines(16, 8, 8);
 	freed_lines(3, 1, 1);
 	clients_come_and_go();
+	stops_the_timers_of_a_client_that_is_gone();
+	starts_at_a_tick();
 	for (size_t k = 1; k < 6; k++)
 		for (size_t q = 1; q < 6; q++)
 			room_enough(k, q);

@@ -6,6 +6,7 @@
 #include <cstdio>
 #include <cstdlib>
 #include <deque>
+#include <iterator>
 #include <map>
 #include <random>
 #include <utility>
@@ -17,7 +18,7 @@
 
 static unsigned run, call;
 
-struct request { int kind; std::uint64_t number, interval, action; timers_handle handle; };
+struct request { int kind; std::uint64_t number, interval, action; timers_handle handle; bool at; };   /* at: the interval is a deadline */
 struct timer { std::size_t client; std::uint64_t number, action; };
 struct client {
 	timers_line line TIMERS_LINE_INIT;
@@ -58,10 +59,11 @@ struct model {
 	{
 		return interval == 0 ? TIMERS_DESK_ZERO_INTERVAL : interval > TIMERS_LAST - now ? TIMERS_DESK_TOO_LATE : TIMERS_DESK_OK;
 	}
+	std::uint64_t interval_of(const request &r) const { return !r.at ? r.interval : r.interval > now ? r.interval - now : 0; }
 	void begin(std::size_t c, const request &r, timers_word &word)
 	{
 		word.handle.serial = serial++;
-		word.deadline = now + r.interval;
+		word.deadline = now + interval_of(r);
 		pending[{ word.deadline, word.handle.serial }] = { c, r.number, r.action };
 	}
 	/* the word for a request */
@@ -73,10 +75,14 @@ struct model {
 		word.reason = TIMERS_DESK_CLOSED;
 		if (closed)
 			return word;
+		if (r.number < clients[c].taken) {              /* a stop by the owner has taken it */
+			word.reason = TIMERS_DESK_REPEATED, word.other = clients[c].taken;
+			return word;
+		}
 		clients[c].taken++;
 		const auto old = find(c, r.handle);
 		word.reason = r.kind > 0 && old == pending.end() ? (unsigned)TIMERS_DESK_NOT_PENDING
-			: r.kind != 1 ? interval_refusal(r.interval) : (unsigned)TIMERS_DESK_OK;
+			: r.kind != 1 ? interval_refusal(interval_of(r)) : (unsigned)TIMERS_DESK_OK;
 		if (!word.reason && r.kind == 0 && pending.size() == config.capacity)
 			word.reason = TIMERS_DESK_CAPACITY;
 		word.kind = word.reason ? TIMERS_WORD_REFUSED : r.kind == 0 ? TIMERS_WORD_STARTED : r.kind == 1 ? TIMERS_WORD_STOPPED : TIMERS_WORD_RESTARTED;
@@ -125,6 +131,15 @@ struct model {
 			it.outbox.clear();
 		return before - it.outbox.size();
 	}
+	/* the owner stops the timers of a client that is gone */
+	std::size_t stop_pending(std::size_t c)
+	{
+		const std::size_t count = pending_of(c);
+		for (auto at = pending.begin(); at != pending.end();)
+			at = at->second.client == c ? pending.erase(at) : std::next(at);
+		clients[c].taken += count;
+		return count;
+	}
 	bool is_left(std::size_t c) const
 	{
 		return !clients[c].requests.empty() || !clients[c].outbox.empty() || pending_of(c) > 0;
@@ -148,13 +163,15 @@ struct model {
 		std::uint64_t number = 77;
 		const unsigned what = below(12);
 		if (what < 6) {
-			request r = { (int)below(3), it.sent, below(20) ? below(60) : random(), random(), { below(4), below(2) ? 0 : TIMERS_LAST } };     /* of no timer */
+			request r = { (int)below(3), it.sent, below(20) ? below(60) : random(), random(), { below(4), below(2) ? 0 : TIMERS_LAST }, below(3) == 0 };     /* of no timer */
+			if (r.at && r.interval < 60)
+				r.interval += now > 5 ? now - 5 : 0;
 			const auto &from = below(8) ? it : clients[below(clients.size())];     /* at times another client's */
 			if (!from.handles.empty())
 				r.handle = from.handles[from.handles.size() - 1 - below(from.handles.size() > 6 ? 6 : from.handles.size())];
-			const auto status = r.kind == 0 ? timers_line_start(&it.line, r.interval, r.action, &number)
-				: r.kind == 1 ? timers_line_stop(&it.line, r.handle, &number)
-				: timers_line_restart(&it.line, r.handle, r.interval, r.action, &number);
+			const auto status = r.kind == 1 ? timers_line_stop(&it.line, r.handle, &number)
+				: r.kind == 0 ? (r.at ? timers_line_start_at : timers_line_start)(&it.line, r.interval, r.action, &number)
+				: (r.at ? timers_line_restart_at : timers_line_restart)(&it.line, r.handle, r.interval, r.action, &number);
 			CHECK(status == (it.freed ? TIMERS_DESK_NOT_OPEN : it.finished ? TIMERS_DESK_FINISHED
 				: it.requests.size() == it.room ? TIMERS_DESK_LINE_FULL : TIMERS_DESK_OK));
 			CHECK(number == (status == TIMERS_DESK_OK ? it.sent : 77));
@@ -189,7 +206,7 @@ struct model {
 		client &it = clients[c];
 		std::uint64_t count = 77;
 		std::size_t size = 78;
-		const unsigned what = below(14);
+		const unsigned what = below(15);
 		if (what < 4) {
 			CHECK(timers_desk_serve(&desk, c) == serve(c));
 		} else if (what == 4) {
@@ -228,6 +245,10 @@ struct model {
 		} else if (what == 12) {
 			const auto status = timers_desk_end(&desk, c, &it.line, &size);
 			CHECK(status == end(c) && size == (status == TIMERS_DESK_OK ? it.words.size() : 78));
+		} else if (what == 13) {
+			const auto status = timers_desk_stop_pending(&desk, c, &size);
+			CHECK(status == (!it.freed ? TIMERS_DESK_NOT_FREED : closed ? TIMERS_DESK_CLOSED : TIMERS_DESK_OK));
+			CHECK(size == (status == TIMERS_DESK_OK ? stop_pending(c) : 78));
 		} else {
 			timers_line none TIMERS_LINE_INIT;
 			const std::size_t room = below(7);

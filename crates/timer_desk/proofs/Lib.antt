@@ -12,3 +12,4 @@ pub mod ShutdownLemmas
 pub mod TicksLemmas
 pub mod PassLemmas
 pub mod FlushLemmas
+pub mod StoppingLemmas

@@ -17,3 +17,4 @@ pub mod Shutdown
 pub mod Driver
 pub mod Ticks
 pub mod Flush
+pub mod Stopping

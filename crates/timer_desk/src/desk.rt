@@ -54,14 +54,16 @@ impl<W: Wheel + Drop, I: Inlet + Drop> Desk<W, I> {
         &self.facility
     }
 
-    /// The invariant of every desk: each client has its backlog, whose outbox has room for a notice of each
-    /// of its pending timers; and a held request is the last one that was taken. The call does nothing.
+    /// The invariant of every desk: each client of the facility has its line and its backlog, whose outbox has room
+    /// for a notice of each of its pending timers; and a held request is the last one that was taken. The call does
+    /// nothing.
     pub fn lemma_invariant(&self)
         ensures room { HasRoom self.now.backlogs (with_nothing_waiting self.now.facility) }
         ensures held { (c : ℕ) (i : I) (b : BacklogState) → c < clients_of self.now
             → HeldIsLast (account_at I.kind self.now c i b) }
         ensures sound { IsSound self.now.facility }
         ensures as_many { length self.now.backlogs ≡ clients_of self.now }
+        ensures clients { clients_of self.now ≡ length self.now.facility.numbers }
     {
         let _ = self.facility.pending();
     }

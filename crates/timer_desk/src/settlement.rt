@@ -1,16 +1,19 @@
 //! A desk over ring lines settles a line whose client has finished: its requests, and its words. It drops the words
-//! to a client that is gone.
+//! to a client that is gone, and stops its timers.
 ghost use Rattle.std.specs.Prelude.{◌≡◌, ◌+◌, ◌<◌, ◌↔◌, ◌++◌, ◌≢◌, [], ℕ, true, length, get_or};
+ghost use Rattle.timer_facility.specs.State.{number_of};
 ghost use Rattle.timer_desk.specs.Backlog.{BacklogState};
 ghost use Rattle.timer_desk.specs.Desk.{clients_of, backlog_at};
 ghost use Rattle.timer_desk.specs.Ring.{line_of_inlet, got_of, standing_of, given_of, is_settled, seen_by_inlet, found_by_inlet, requests_ring_of, all_submitted, words_ring_of_reader, read_by, unread_by, is_settled_reader};
 ghost use Rattle.timer_desk.specs.Looks.{MayFind};
 ghost use Rattle.timer_desk.specs.declared.looks.Found.TheVariants as Found;
 ghost use Rattle.timer_desk.specs.Shutdown.{IsReadOut};
+ghost use Rattle.timer_desk.specs.Stopping.{stop_step, stop_outs};
 
 use crate::desk::Desk;
 use crate::ring::{ClientReader, RequestsEnded, RingInlet};
-use timer_base::Wheel;
+use timer_base::{Handle, Wheel};
+use timer_facility::{Answer, NotTaken, Request};
 
 impl<W: Wheel + Drop> Desk<W, RingInlet> {
     ghost use Rattle.timer_desk.specs.Settlement.{HasSettled, HasLooked};
@@ -100,6 +103,23 @@ impl<W: Wheel + Drop> Desk<W, RingInlet> {
             return 0;
         }
         self.backlogs[c].discard()
+    }
+
+    /// Stops the timer with this handle in the name of client c, which was seen to have dropped its end of its line,
+    /// and returns the answer. Nobody else gets it. Does not allocate.
+    ///
+    /// It is a request of the client under its next number, as if it stood in its line: so the numbers of its requests
+    /// go on, and one that stands there under this number is refused as `Repeated` once it is taken.
+    pub fn stop_for(&mut self, c: usize, handle: Handle) -> Result<Answer, NotTaken>
+        requires client { c < clients_of self.old }
+        requires gone { (i : RingInlet) → found_by_inlet (get_or self.old.inlets c i) ≢ Found.Nothing }
+        ensures answer { (stop_step self.old.facility c handle).outs
+            ≡ stop_outs c (number_of self.old.facility c) result }
+        ensures desk { self.new ≡ record self.old { facility = (stop_step self.old.facility c handle).state } }
+    {
+        let client = c as u64;
+        let number = self.facility.next_number(client).unwrap_or(0);
+        self.facility.take(client, number, Request::Stop(handle))
     }
 
     /// Settles the reader of client c, and returns how many words stand in its line: with what it has

@@ -14,3 +14,4 @@ pub mod Shutdown
 pub mod ShutdownAll
 pub mod Freed
 pub mod Opening
+pub mod Stopping

@@ -4,7 +4,9 @@ use Rattle.timer_base.specs.declared.limits.TheConstants.{LAST}
 use Rattle.timer_facility.specs.declared.request.Request.{Request}
 use Rattle.timer_desk.specs.declared.word.Numbered.{Numbered}
 use Rattle.timer_desk.specs.declared.word.Word.{Word}
-use Rattle.timer_desk.specs.Ring.{Ring, line_of_end, requests_ring_of, words_ring_of_reader, submitted, all_submitted, received_by_end, read_by, unread_by, is_settled_reader, seen_by_end, seen_by_reader, free_of, next_of, numbered}
+use Rattle.timer_desk.specs.Ring.{Ring, line_of_end, requests_ring_of, words_ring_of_reader, submitted, all_submitted, received_by_end, read_by, unread_by, is_settled_reader, seen_by_end, seen_by_reader, free_of, next_of, numbered, found_by_end, found_by_reader}
+use Rattle.timer_desk.specs.declared.looks.Found.{Found}
+use Rattle.timer_desk.specs.declared.looks.Found.TheVariants.{Nothing}
 use Rattle.timer_desk_c.specs.declared.line.Line.{Line}
 use Rattle.timer_desk_c.specs.declared.line.Line.TheVariants.{Open, Finished, Gone}
 use Rattle.timer_desk_c.specs.declared.layout.Message.{Message}
@@ -48,6 +50,12 @@ abbrev pub seen_on : Line → List Word
 seen_on (Open e) = seen_by_end e
 seen_on (Finished ended r) = seen_by_reader r
 seen_on Gone = []
+
+-- what the client's looks have found of the owner's end
+abbrev pub found_on : Line → Found
+found_on (Open e) = found_by_end e
+found_on (Finished ended r) = found_by_reader r
+found_on Gone = Nothing
 
 -- whether the owner has ended its words
 abbrev pub is_ended_line : Line → Bool

@@ -17,6 +17,7 @@ ghost use Rattle.timer_desk_c.specs.Shutdown.{IsTied, OnlySettles, HasEnded, Why
 ghost use Rattle.timer_desk_c.specs.ShutdownAll.{AreTied, OnlyStates, AllTried, AllEnded, WhyNotAllEnded};
 ghost use Rattle.timer_desk_c.specs.Freed.{OnlyLooks};
 ghost use Rattle.timer_desk_c.specs.Opening.{HasOpened, WhyNotOpened};
+ghost use Rattle.timer_desk_c.specs.Stopping.{HasStopped, WhyNotStopped};
 ghost use Rattle.timer_desk_c.specs.declared.status.TheConstants.{OK, NOT_OPEN, OPEN, NO_CLIENT, NO_MEMORY, LEFT, NEVER};
 
 use crate::c_structs::{CDesk, CLine};
@@ -28,6 +29,7 @@ use crate::settlement::settle;
 use crate::shutdown::end;
 use crate::shutdown_all::end_all;
 use crate::status::{NEVER, NOT_OPEN, OK, OPEN};
+use crate::stopping::stop_pending;
 use crate::{calls, rounds, ticks};
 use std::alloc::Global;
 use timer_ffi_base::RawBox;
@@ -288,6 +290,24 @@ pub extern "C" fn timers_desk_open(
         }
         Err(status) => status,
     }
+}
+
+/// Stops all pending timers of a client whose line was freed, and writes how many they were. Each is stopped by a
+/// request of the client, under its next number, whose answer nobody gets.
+#[unsafe(no_mangle)]
+pub extern "C" fn timers_desk_stop_pending(d: &mut CDesk, client: usize, stopped: &mut usize) -> u32
+    ensures stopped { result ≡ OK → IsOpen d.old
+        × HasStopped client stopped.new d.old.slot.state d.new.slot.state }
+    ensures refused { 0 < result → ((result ≡ NOT_OPEN) × IsShut d.old)
+        ⊎ (IsOpen d.old × WhyNotStopped client d.old.slot.state d.new.slot.state result) }
+    ensures kept { 0 < result → (stopped.new ≡ stopped.old) × ((d.new ≡ d.old)
+        ⊎ OnlyLooks client d.old.slot.state d.new.slot.state) }
+    ensures only { d.new ≡ with_desk d.old d.new.slot.state }
+{
+    if !d.slot.holds() {
+        return NOT_OPEN;
+    }
+    stop_pending(d.slot.desk(), client, stopped)
 }
 
 /// Makes room for as many timers as may be pending: no serve runs out of memory from then on.

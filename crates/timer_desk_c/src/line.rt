@@ -20,8 +20,9 @@ pub enum Line {
 }
 
 impl Line {
-    ghost use Rattle.std.specs.Prelude.{◌≡◌, ◌<◌, ◌++◌, [], ◌∷◌, true, false, IfSome, IsNone};
-    ghost use Rattle.timer_desk_c.specs.Lines.{HasSent, WhyNotSent, HasReceived, IsSameLine, SameTraffic, HasFinished, IsReadToEnd, MayReceive, is_open_line, is_ended_line, seen_on, unread_on, received_on, submitted_on, next_on};
+    ghost use Rattle.std.specs.Prelude.{◌≡◌, ◌<◌, ◌↔◌, ◌++◌, [], ◌∷◌, true, false, IfSome, IsNone};
+    ghost use Rattle.timer_desk.specs.declared.looks.Found.TheVariants as Found;
+    ghost use Rattle.timer_desk_c.specs.Lines.{HasSent, WhyNotSent, HasReceived, IsSameLine, SameTraffic, HasFinished, IsReadToEnd, MayReceive, is_open_line, is_ended_line, seen_on, unread_on, received_on, submitted_on, next_on, found_on};
     ghost use Rattle.timer_desk_c.specs.Freed.{HasNoWord};
     ghost use Rattle.timer_desk_c.specs.declared.status.TheConstants.{OK, FINISHED};
 
@@ -100,6 +101,7 @@ impl Line {
 
     /// Whether the desk was freed before it had ended the words, and all words in the line were received.
     pub(crate) fn is_abandoned(&mut self) -> bool
+        ensures order { is_ended_line self.old ≡ false → (result ≡ true ↔ (found_on self.new ≡ Found.GoneThenEmpty)) }
         ensures yes { result ≡ true → HasNoWord self.old self.new }
         ensures kept { SameTraffic self.old self.new }
         ensures line { IsSameLine self.old self.new }

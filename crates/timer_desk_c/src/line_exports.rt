@@ -4,10 +4,11 @@
 //! The contracts have the same parts: what the call did if it returns `OK`; the first reason that holds if it
 //! returns another status; what is the same then; and that nothing but the state of the line ever changes in
 //! what C holds.
-ghost use Rattle.std.specs.Prelude.{◌≡◌, ◌<◌, ◌⊎◌, ◌++◌, [], true, false};
-ghost use Rattle.timer_facility.specs.declared.request.Request.TheVariants.{Start, Stop, Restart};
+ghost use Rattle.std.specs.Prelude.{◌≡◌, ◌<◌, ◌⊎◌, ◌↔◌, ◌++◌, [], true, false};
+ghost use Rattle.timer_facility.specs.declared.request.Request.TheVariants.{Start, StartAt, Stop, Restart, RestartAt};
+ghost use Rattle.timer_desk.specs.declared.looks.Found.TheVariants as Found;
 ghost use Rattle.timer_desk_c.specs.Frames.{HasLine, HasNoLine, with_line};
-ghost use Rattle.timer_desk_c.specs.Lines.{HasSent, WhyNotSent, SameTraffic, SameSent, HasReceived, HasFinished, IsReadToEnd, MayReceive, IsSameLine, is_open_line, is_ended_line, seen_on, unread_on, received_on};
+ghost use Rattle.timer_desk_c.specs.Lines.{HasSent, WhyNotSent, SameTraffic, SameSent, HasReceived, HasFinished, IsReadToEnd, MayReceive, IsSameLine, is_open_line, is_ended_line, seen_on, unread_on, received_on, found_on};
 ghost use Rattle.timer_desk_c.specs.Freed.{HasNoWord};
 ghost use Rattle.timer_desk_c.specs.Messages.{base_handle};
 ghost use Rattle.timer_desk_c.specs.declared.status.TheConstants.{OK, NOT_OPEN, FINISHED};
@@ -43,6 +44,32 @@ pub extern "C" fn timers_line_start(
     line.slot
         .line()
         .send(Request::Start { interval, action }, number)
+}
+
+/// Sends the request to start a timer that expires at the tick `deadline`, and writes the request's number.
+#[unsafe(no_mangle)]
+pub extern "C" fn timers_line_start_at(
+    line: &mut CLine,
+    deadline: u64,
+    action: u64,
+    number: &mut u64,
+) -> u32
+    ensures sent { result ≡ OK → HasLine line.old × HasSent
+        (StartAt deadline action) line.old.slot.state line.new.slot.state number.new }
+    ensures refused { 0 < result → ((result ≡ NOT_OPEN) × HasNoLine line.old)
+        ⊎ (HasLine line.old × WhyNotSent line.old.slot.state line.new.slot.state result) }
+    ensures kept { 0 < result → SameTraffic line.old.slot.state line.new.slot.state
+        × (number.new ≡ number.old) }
+    ensures received { received_on line.new.slot.state ≡ received_on line.old.slot.state }
+    ensures line { IsSameLine line.old.slot.state line.new.slot.state }
+    ensures only { line.new ≡ with_line line.old line.new.slot.state }
+{
+    if !line.slot.holds() {
+        return NOT_OPEN;
+    }
+    line.slot
+        .line()
+        .send(Request::StartAt { deadline, action }, number)
 }
 
 /// Sends the request to stop the timer with this handle, and writes the request's number.
@@ -100,6 +127,40 @@ pub extern "C" fn timers_line_restart(
     )
 }
 
+/// Sends the request to stop the timer with this handle and start another in its place that expires at the tick
+/// `deadline`, and writes the request's number.
+#[unsafe(no_mangle)]
+pub extern "C" fn timers_line_restart_at(
+    line: &mut CLine,
+    handle: CHandle,
+    deadline: u64,
+    action: u64,
+    number: &mut u64,
+) -> u32
+    ensures sent { result ≡ OK → HasLine line.old
+        × HasSent (RestartAt (base_handle handle) deadline action)
+        line.old.slot.state line.new.slot.state number.new }
+    ensures refused { 0 < result → ((result ≡ NOT_OPEN) × HasNoLine line.old)
+        ⊎ (HasLine line.old × WhyNotSent line.old.slot.state line.new.slot.state result) }
+    ensures kept { 0 < result → SameTraffic line.old.slot.state line.new.slot.state
+        × (number.new ≡ number.old) }
+    ensures received { received_on line.new.slot.state ≡ received_on line.old.slot.state }
+    ensures line { IsSameLine line.old.slot.state line.new.slot.state }
+    ensures only { line.new ≡ with_line line.old line.new.slot.state }
+{
+    if !line.slot.holds() {
+        return NOT_OPEN;
+    }
+    line.slot.line().send(
+        Request::RestartAt {
+            handle: from_c_handle(handle),
+            deadline,
+            action,
+        },
+        number,
+    )
+}
+
 /// Receives the next word. Returns whether there was one.
 #[unsafe(no_mangle)]
 pub extern "C" fn timers_line_receive(line: &mut CLine, out: &mut Message) -> bool
@@ -137,10 +198,12 @@ pub extern "C" fn timers_line_ended(line: &mut CLine) -> bool
 
 /// Whether the desk was freed before it had ended the words, and all words that it put were received.
 ///
-/// Whether it was freed is what the ring of words says of its other end, and no clause speaks of it. True is
-/// returned only if no word is left in the line.
+/// Whether it was freed is what the ring of words says of its other end, and no clause speaks of it. Unless the words
+/// have ended, true is returned exactly if the desk was seen to be gone, and no word stood in the line after that.
 #[unsafe(no_mangle)]
 pub extern "C" fn timers_line_abandoned(line: &mut CLine) -> bool
+    ensures order { HasLine line.old → is_ended_line line.old.slot.state ≡ false
+        → (result ≡ true ↔ (found_on line.new.slot.state ≡ Found.GoneThenEmpty)) }
     ensures yes { result ≡ true → HasLine line.old
         × HasNoWord line.old.slot.state line.new.slot.state }
     ensures not_open { HasNoLine line.old → (result ≡ false) × (line.new ≡ line.old) }

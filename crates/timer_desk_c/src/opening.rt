@@ -63,7 +63,7 @@ pub(crate) fn open<W: Wheel + Drop>(
 }
 
 /// The number after that of a client's last request.
-fn next_number<W: Wheel + Drop>(desk: &Desk<W, RingInlet>, client: usize) -> u64
+pub(crate) fn next_number<W: Wheel + Drop>(desk: &Desk<W, RingInlet>, client: usize) -> u64
     ensures { result ≡ number_of desk.now.facility client }
 {
     desk.facility().next_number(client as u64).unwrap_or(0)

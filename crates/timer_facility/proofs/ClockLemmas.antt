@@ -9,7 +9,7 @@ use Rattle.timer_facility.specs.declared.request.NotTaken.TheVariants as NotTake
 use Rattle.timer_facility.specs.declared.request.Reason.{Reason}
 use Rattle.timer_facility.specs.declared.request.TickFault.{TickFault}
 use Rattle.timer_facility.specs.declared.request.Notice.TheVariants.{Expired}
-use Rattle.timer_facility.specs.State.{FacilityState, pending_of, SingleEvent, Asked, Tick, Close, Wanted, Start, Stop, StopSerial, Restart, RestartSerial}
+use Rattle.timer_facility.specs.State.{FacilityState, pending_of, SingleEvent, Asked, Tick, Close, Wanted, Start, Stop, StopSerial, Restart, RestartSerial, StartAt, RestartAt, ticks_until}
 use Rattle.timer_facility.specs.Verdict.{not_taken, start_refusal, interval_refusal, tick_refusal, named}
 use Rattle.timer_facility.specs.Step.{step, step_of_request, step_of_tick, step_of_close, new_timer, with_number, after_start, after_stop, after_restart, after_taken, expired_next}
 use Rattle.timer_facility.specs.Run.{PlacedEvent, history, state_after}
@@ -49,11 +49,17 @@ clock_taken : (s : FacilityState) (client number : ℕ) (wanted : Wanted) (place
     → IsSameClock s (after_taken s client number wanted place)
 clock_taken s client number (Start interval action) place = clock_started s (start_refusal s interval) place client number
     (new_timer s client number interval action)
+clock_taken s client number (StartAt deadline action) place =
+    clock_started s (start_refusal s (ticks_until s deadline)) place client number
+    (new_timer s client number (ticks_until s deadline) action)
 clock_taken s client number (Stop handle) place = clock_stopped s (named s client (Stop handle)) client number
 clock_taken s client number (StopSerial serial) place = clock_stopped s (named s client (StopSerial serial)) client number
 clock_taken s client number (Restart handle interval action) place =
     clock_restarted s (named s client (Restart handle interval action)) (interval_refusal s interval) place client number
     (new_timer s client number interval action)
+clock_taken s client number (RestartAt handle deadline action) place =
+    clock_restarted s (named s client (RestartAt handle deadline action)) (interval_refusal s (ticks_until s deadline)) place client number
+    (new_timer s client number (ticks_until s deadline) action)
 clock_taken s client number (RestartSerial serial interval action) place =
     clock_restarted s (named s client (RestartSerial serial interval action)) (interval_refusal s interval) place client number
     (new_timer s client number interval action)
@@ -62,6 +68,11 @@ clock_asked : (s : FacilityState) (client number : ℕ) (wanted : Wanted) (place
     → IsSameClock s (step_of_request s client number wanted place o).state
 clock_asked s client number wanted place (Some reason) = record { now_is = refl; clients_are = refl }
 clock_asked s client number wanted place None = clock_taken s client number wanted place
+
+-- a request adds no client
+pub clients-asked : (s : FacilityState) (client number : ℕ) (wanted : Wanted) (place : ℕ)
+    → length (step s (Asked client number wanted) place).state.numbers ≡ length s.numbers
+clients-asked s client number wanted place = (clock_asked s client number wanted place (not_taken s client number)).clients_are
 
 -- The clock.
 

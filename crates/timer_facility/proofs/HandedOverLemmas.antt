@@ -9,7 +9,7 @@ use Rattle.timer_facility.specs.declared.request.TickFault.{TickFault}
 use Rattle.timer_facility.specs.declared.request.Notice.{Notice}
 use Rattle.timer_facility.specs.declared.request.Notice.TheVariants.{Expired, Returned}
 use Rattle.timer_facility.specs.declared.event.Out.TheVariants as Outs
-use Rattle.timer_facility.specs.State.{FacilityState, one_of, count_of, Wanted, Start, Stop, StopSerial, Restart, RestartSerial, Asked, Tick, Close}
+use Rattle.timer_facility.specs.State.{FacilityState, one_of, count_of, Wanted, Start, Stop, StopSerial, Restart, RestartSerial, Asked, Tick, Close, StartAt, RestartAt, ticks_until}
 use Rattle.timer_facility.specs.Verdict.{not_taken, start_refusal, interval_refusal, tick_refusal, named}
 use Rattle.timer_facility.specs.Step.{step, step_of_request, step_of_tick, step_of_close, new_timer, after_start, after_stop, after_restart, expired_next, with_number}
 use Rattle.timer_facility.specs.Run.{notices_in}
@@ -77,11 +77,17 @@ adds : (s : FacilityState) (client number : ℕ) (wanted : Wanted) (place : ℕ)
 adds s client number wanted place (Some reason) = record { of_client = λ c. omega arith; all = omega arith }
 adds s client number (Start interval action) place None = adds_start s (start_refusal s interval) place client number
     (new_timer s client number interval action) refl
+adds s client number (StartAt deadline action) place None =
+    adds_start s (start_refusal s (ticks_until s deadline)) place client number
+    (new_timer s client number (ticks_until s deadline) action) refl
 adds s client number (Stop handle) place None = adds_stop s (named s client (Stop handle)) client number
 adds s client number (StopSerial serial) place None = adds_stop s (named s client (StopSerial serial)) client number
 adds s client number (Restart handle interval action) place None =
     adds_restart s (named s client (Restart handle interval action)) (interval_refusal s interval) place client number
     (new_timer s client number interval action) refl
+adds s client number (RestartAt handle deadline action) place None =
+    adds_restart s (named s client (RestartAt handle deadline action)) (interval_refusal s (ticks_until s deadline)) place client number
+    (new_timer s client number (ticks_until s deadline) action) refl
 adds s client number (RestartSerial serial interval action) place None =
     adds_restart s (named s client (RestartSerial serial interval action)) (interval_refusal s interval) place client number
     (new_timer s client number interval action) refl

@@ -13,7 +13,7 @@ use Rattle.timer_facility.specs.declared.request.Reason.{Reason}
 use Rattle.timer_facility.specs.declared.request.TickFault.{TickFault}
 use Rattle.timer_facility.specs.declared.event.Out.{Out}
 use Rattle.timer_facility.specs.declared.event.Out.TheVariants as Outs
-use Rattle.timer_facility.specs.State.{FacilityState, IsSound, SingleEvent, Asked, Tick, Close, Wanted, Start, Stop, StopSerial, Restart, RestartSerial}
+use Rattle.timer_facility.specs.State.{FacilityState, IsSound, SingleEvent, Asked, Tick, Close, Wanted, Start, Stop, StopSerial, Restart, RestartSerial, StartAt, RestartAt, ticks_until}
 use Rattle.timer_facility.specs.Verdict.{not_taken, start_refusal, interval_refusal, named, of_client, tick_refusal}
 use Rattle.timer_facility.specs.Step.{StepResult, step, step_of_request, step_of_tick, step_of_close, new_timer, with_number, after_start, after_stop, after_restart, answer_to_start, answer_to_stop, answer_to_restart}
 use Rattle.timer_facility.specs.Run.{PlacedEvent, history, state_after, notices, notice_in, notices_in, outs_of}
@@ -130,15 +130,22 @@ keeps_asked : (s : FacilityState) (r : Reading) (ns : List Notice) (c : Facility
     (step_of_request c client number wanted place v)
 keeps_asked s r ns c client number (Start interval action) place (Some reason) e k =
     keeps_read s r _ ns (ns ++ []) c (read_none r) (append-nil ns) k
+keeps_asked s r ns c client number (StartAt deadline action) place (Some reason) e k =
+    keeps_read s r _ ns (ns ++ []) c (read_none r) (append-nil ns) k
 keeps_asked s r ns c client number (Stop handle) place (Some reason) e k = keeps_read s r _ ns (ns ++ []) c (read_none r) (append-nil ns) k
 keeps_asked s r ns c client number (StopSerial serial) place (Some reason) e k =
     keeps_read s r _ ns (ns ++ []) c (read_none r) (append-nil ns) k
 keeps_asked s r ns c client number (Restart handle interval action) place (Some reason) e k =
     keeps_read s r _ ns (ns ++ []) c (read_none r) (append-nil ns) k
+keeps_asked s r ns c client number (RestartAt handle deadline action) place (Some reason) e k =
+    keeps_read s r _ ns (ns ++ []) c (read_none r) (append-nil ns) k
 keeps_asked s r ns c client number (RestartSerial serial interval action) place (Some reason) e k =
     keeps_read s r _ ns (ns ++ []) c (read_none r) (append-nil ns) k
 keeps_asked s r ns c client number (Start interval action) place None e k =
     keeps_asked_start s r ns c client number interval action place (start_refusal c interval) refl k (open_when c client number e)
+keeps_asked s r ns c client number (StartAt deadline action) place None e k =
+    keeps_asked_start s r ns c client number (ticks_until c deadline) action place (start_refusal c (ticks_until c deadline)) refl k
+    (open_when c client number e)
 keeps_asked s r ns c client number (Stop handle) place None e k =
     keeps_asked_stop s r ns c client number (named c client (Stop handle)) (named_among c client (has_handle handle)) k
     (open_when c client number e)
@@ -148,6 +155,9 @@ keeps_asked s r ns c client number (StopSerial serial) place None e k =
 keeps_asked s r ns c client number (Restart handle interval action) place None e k =
     keeps_asked_restart s r ns c client number interval action place (named c client (Restart handle interval action))
     (interval_refusal c interval) (named_among c client (has_handle handle)) refl k (open_when c client number e)
+keeps_asked s r ns c client number (RestartAt handle deadline action) place None e k =
+    keeps_asked_restart s r ns c client number (ticks_until c deadline) action place (named c client (RestartAt handle deadline action))
+    (interval_refusal c (ticks_until c deadline)) (named_among c client (has_handle handle)) refl k (open_when c client number e)
 keeps_asked s r ns c client number (RestartSerial serial interval action) place None e k =
     keeps_asked_restart s r ns c client number interval action place (named c client (RestartSerial serial interval action))
     (interval_refusal c interval) (named_among c client (λ e. has_serial serial e.timer)) refl k (open_when c client number e)

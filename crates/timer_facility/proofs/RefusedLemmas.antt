@@ -11,7 +11,7 @@ use Rattle.timer_facility.specs.declared.request.Notice.TheVariants.{Expired, Re
 use Rattle.timer_facility.specs.declared.request.Reason.{Reason}
 use Rattle.timer_facility.specs.declared.request.TickFault.{TickFault}
 use Rattle.timer_facility.specs.declared.event.Out.TheVariants as Outs
-use Rattle.timer_facility.specs.State.{FacilityState, number_of, Wanted, Start, Stop, StopSerial, Restart, RestartSerial, SingleEvent, Asked, Tick, Close}
+use Rattle.timer_facility.specs.State.{FacilityState, number_of, Wanted, Start, Stop, StopSerial, Restart, RestartSerial, SingleEvent, Asked, Tick, Close, StartAt, RestartAt, ticks_until}
 use Rattle.timer_facility.specs.Verdict.{not_taken, named, start_refusal, interval_refusal, stop_refusal, restart_refusal, refusal, tick_refusal, CloseRefused, verdict_on_request, verdict_on_tick, verdict, closed_refusal}
 use Rattle.timer_facility.specs.Step.{step, step_of_request, step_of_tick, step_of_close, new_timer, expired_next, answer_to_start, answer_to_stop, answer_to_restart}
 use Rattle.timer_facility.specs.Refused.{refusals_in, refusals_of, verdict_on_not_taken}
@@ -49,11 +49,16 @@ told_request : (s : FacilityState) (client number : ℕ) (wanted : Wanted) (plac
 told_request s client number wanted place (Some reason) = refl
 told_request s client number (Start interval action) place None =
     told_start client number place (new_timer s client number interval action) (start_refusal s interval)
+told_request s client number (StartAt deadline action) place None =
+    told_start client number place (new_timer s client number (ticks_until s deadline) action) (start_refusal s (ticks_until s deadline))
 told_request s client number (Stop handle) place None = told_stop client number (named s client (Stop handle))
 told_request s client number (StopSerial serial) place None = told_stop client number (named s client (StopSerial serial))
 told_request s client number (Restart handle interval action) place None =
     told_restart client number place (new_timer s client number interval action) (named s client (Restart handle interval action))
     (interval_refusal s interval)
+told_request s client number (RestartAt handle deadline action) place None =
+    told_restart client number place (new_timer s client number (ticks_until s deadline) action)
+    (named s client (RestartAt handle deadline action)) (interval_refusal s (ticks_until s deadline))
 told_request s client number (RestartSerial serial interval action) place None =
     told_restart client number place (new_timer s client number interval action) (named s client (RestartSerial serial interval action))
     (interval_refusal s interval)

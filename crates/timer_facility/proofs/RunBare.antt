@@ -13,7 +13,7 @@ use Rattle.timer_facility.specs.declared.event.Event.{Event}
 use Rattle.timer_facility.specs.declared.event.Event.TheVariants as Events
 use Rattle.timer_facility.specs.declared.event.Out.{Out}
 use Rattle.timer_facility.specs.declared.event.Out.TheVariants as Outs
-use Rattle.timer_facility.specs.State.{FacilityState, Wanted, Start, Stop, StopSerial, Restart, RestartSerial, SingleEvent, Asked, Tick, Close}
+use Rattle.timer_facility.specs.State.{FacilityState, Wanted, Start, Stop, StopSerial, Restart, RestartSerial, SingleEvent, Asked, Tick, Close, StartAt, RestartAt, ticks_until}
 use Rattle.timer_facility.specs.Verdict.{not_taken, named, of_client, start_refusal, interval_refusal, tick_refusal}
 use Rattle.timer_facility.specs.Step.{StepResult, step, step_of_request, step_of_tick, step_of_close, with_number, new_timer, after_start, after_stop, after_restart, answer_to_start, answer_to_stop, answer_to_restart}
 use Rattle.timer_facility.specs.Run.{PlacedEvent, state_after, run, bare_answer, bare, bare_outs, bare_entry, bare_state, NamesBySerial, AreSameButForPlaces}
@@ -127,6 +127,14 @@ request-bare s client number (Start interval action) place None n =
       ap (with_number client number) (after_start-bare (start_refusal s interval) place t s
           ∙ ap (λ v. after_start v 0 t (bare_state s)) (sym (start_refusal-bare s interval))),
     )
+request-bare s client number (StartAt deadline action) place None n =
+    let interval : ℕ = ticks_until s deadline in
+    let t : Timer = new_timer s client number interval action in (
+      ap (λ a. Outs.Answered client number a ∷ []) (answer_to_start-bare (start_refusal s interval) place t
+          ∙ ap (λ v. answer_to_start v 0 t) (sym (start_refusal-bare s interval))),
+      ap (with_number client number) (after_start-bare (start_refusal s interval) place t s
+          ∙ ap (λ v. after_start v 0 t (bare_state s)) (sym (start_refusal-bare s interval))),
+    )
 request-bare s client number (Stop handle) place None n = absurd n
 request-bare s client number (StopSerial serial) place None n =
     let found : Option Timer = named s client (StopSerial serial) in (
@@ -134,6 +142,7 @@ request-bare s client number (StopSerial serial) place None n =
       ap (with_number client number) (after_stop-bare found s ∙ ap (λ o. after_stop o (bare_state s)) (sym (named-bare s client serial))),
     )
 request-bare s client number (Restart handle interval action) place None n = absurd n
+request-bare s client number (RestartAt handle deadline action) place None n = absurd n
 request-bare s client number (RestartSerial serial interval action) place None n =
     let t : Timer = new_timer s client number interval action in
     let found : Option Timer = named s client (RestartSerial serial interval action) in

@@ -6,7 +6,7 @@ use Rattle.timer_facility.specs.declared.request.NotTaken.{NotTaken}
 use Rattle.timer_facility.specs.declared.request.Reason.{Reason}
 use Rattle.timer_facility.specs.declared.request.TickFault.{TickFault}
 use Rattle.timer_facility.specs.declared.event.Out.TheVariants as Outs
-use Rattle.timer_facility.specs.State.{FacilityState, Wanted, Start, Stop, StopSerial, Restart, RestartSerial, SingleEvent, Asked, Tick, Close}
+use Rattle.timer_facility.specs.State.{FacilityState, Wanted, Start, Stop, StopSerial, Restart, RestartSerial, SingleEvent, Asked, Tick, Close, StartAt, RestartAt, ticks_until}
 use Rattle.timer_facility.specs.Verdict.{not_taken, named, start_refusal, interval_refusal, stop_refusal, restart_refusal, refusal, tick_refusal, Refusal, RequestNotTaken, RequestRefused, TickRefused, CloseRefused, verdict_on_request, verdict_on_tick, verdict}
 use Rattle.timer_facility.specs.Step.{StepResult, step, step_of_request, step_of_tick, step_of_close, new_timer, with_number, after_start, after_stop, after_restart, answer_to_start, answer_to_stop, answer_to_restart, refused}
 
@@ -56,12 +56,17 @@ request-refused s client number wanted place r (Some reason) h =
     ap (refused s (Asked client number wanted)) (the_same (RequestNotTaken reason) r h)
 request-refused s client number (Start interval action) place r None h =
     start-refused s client number interval action place r (start_refusal s interval) h
+request-refused s client number (StartAt deadline action) place r None h =
+    start-refused s client number (ticks_until s deadline) action place r (start_refusal s (ticks_until s deadline)) h
 request-refused s client number (Stop handle) place r None h = stop-refused s client number (Stop handle) r (named s client (Stop handle)) h
 request-refused s client number (StopSerial serial) place r None h =
     stop-refused s client number (StopSerial serial) r (named s client (StopSerial serial)) h
 request-refused s client number (Restart handle interval action) place r None h =
     restart-refused s client number place (new_timer s client number interval action) (Restart handle interval action) r
     (named s client (Restart handle interval action)) (interval_refusal s interval) h
+request-refused s client number (RestartAt handle deadline action) place r None h =
+    restart-refused s client number place (new_timer s client number (ticks_until s deadline) action) (RestartAt handle deadline action) r
+    (named s client (RestartAt handle deadline action)) (interval_refusal s (ticks_until s deadline)) h
 request-refused s client number (RestartSerial serial interval action) place r None h =
     restart-refused s client number place (new_timer s client number interval action) (RestartSerial serial interval action) r
     (named s client (RestartSerial serial interval action)) (interval_refusal s interval) h

@@ -16,7 +16,7 @@ use Rattle.timer_facility.specs.declared.request.NotTaken.TheVariants as NotTake
 use Rattle.timer_facility.specs.declared.request.Notice.{Notice}
 use Rattle.timer_facility.specs.declared.request.Notice.TheVariants.{Expired, Returned}
 use Rattle.timer_facility.specs.declared.event.Out.TheVariants as Outs
-use Rattle.timer_facility.specs.State.{FacilityState, with_room, count_of, Wanted, Start, Stop, Restart, SingleEvent, Asked}
+use Rattle.timer_facility.specs.State.{FacilityState, with_room, count_of, Wanted, Start, StartAt, Stop, Restart, RestartAt, SingleEvent, Asked}
 use Rattle.timer_facility.specs.Verdict.{not_taken, refusal}
 use Rattle.timer_facility.specs.Step.{StepResult, step}
 use Rattle.timer_facility.specs.Run.{notices_in}
@@ -41,8 +41,10 @@ view_with_room v = record v { state = with_room v.state }
 -- a request as the model has it
 abbrev pub wanted_of : Request → Wanted
 wanted_of (Requests.Start interval action) = Start interval action
+wanted_of (Requests.StartAt deadline action) = StartAt deadline action
 wanted_of (Requests.Stop handle) = Stop handle
 wanted_of (Requests.Restart handle interval action) = Restart handle interval action
+wanted_of (Requests.RestartAt handle deadline action) = RestartAt handle deadline action
 
 -- a client's request under a number
 abbrev pub event_of_request : ℕ → ℕ → Request → SingleEvent
@@ -66,8 +68,11 @@ pub record IsTaken (s : FacilityState) (client number : ℕ) (request : Request)
 abbrev pub NeedsMemory : FacilityState → ℕ → ℕ → Request → Type 0
 NeedsMemory s client number (Requests.Start interval action) =
     (not_taken s client number ≡ None) × (refusal s client (Start interval action) ≡ None)
+NeedsMemory s client number (Requests.StartAt deadline action) =
+    (not_taken s client number ≡ None) × (refusal s client (StartAt deadline action) ≡ None)
 NeedsMemory s client number (Requests.Stop handle) = ⊥
 NeedsMemory s client number (Requests.Restart handle interval action) = ⊥
+NeedsMemory s client number (Requests.RestartAt handle deadline action) = ⊥
 
 -- the request is not taken, for the reason of the verdict; or it allocates, and the allocation failed
 abbrev pub IsNotTaken : FacilityState → ℕ → ℕ → Request → NotTaken → Type 0

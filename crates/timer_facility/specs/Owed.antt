@@ -16,7 +16,7 @@ use Rattle.timer_facility.specs.declared.request.Notice.{Notice}
 use Rattle.timer_facility.specs.declared.request.Notice.TheVariants.{Expired, Returned}
 use Rattle.timer_facility.specs.declared.event.Out.{Out}
 use Rattle.timer_facility.specs.declared.event.Out.TheVariants as Outs
-use Rattle.timer_facility.specs.State.{FacilityState, SingleEvent, Asked, Tick, Start, Restart, RestartSerial}
+use Rattle.timer_facility.specs.State.{FacilityState, SingleEvent, Asked, Tick, Start, StartAt, Restart, RestartAt, RestartSerial}
 use Rattle.timer_facility.specs.Run.{HistoryEntry, notices}
 
 -- the timer of a start and its answer, if it was accepted
@@ -58,7 +58,10 @@ timers_restarted client number action (out ∷ outs) =
 -- the timers that an event started
 abbrev pub started_by : SingleEvent → List Out → List Timer
 started_by (Asked client number (Start interval action)) outs = timers_started client number action outs
+started_by (Asked client number (StartAt deadline action)) outs = timers_started client number action outs
 started_by (Asked client number (Restart handle interval action)) outs =
+    timers_restarted client number action outs
+started_by (Asked client number (RestartAt handle deadline action)) outs =
     timers_restarted client number action outs
 started_by (Asked client number (RestartSerial serial interval action)) outs =
     timers_restarted client number action outs

@@ -1,5 +1,5 @@
 -- The abstract state of a facility, and single events.
-use Rattle.std.specs.Prelude.{◌<◌, ◌≤◌, ◌==◌, ℕ, ◌+◌, Bool, true, if◌then◌else◌, List, [], ◌∷◌, length, slice_index}
+use Rattle.std.specs.Prelude.{◌<◌, ◌≤◌, ◌==◌, ℕ, ◌+◌, ◌-◌, Bool, true, if◌then◌else◌, List, [], ◌∷◌, length, slice_index}
 use Rattle.std.specs.List.{AllByRecursion}
 use Rattle.timer_base.specs.declared.limits.TheConstants.{LAST}
 use Rattle.timer_base.specs.declared.timer.Timer.{Timer}
@@ -48,14 +48,20 @@ count_of client (t ∷ ts) = one_of client t + count_of client ts
 abbrev pub pending_of : FacilityState → ℕ → ℕ
 pending_of s client = count_of client (timers_of s.pending)
 
--- a request: a start with its interval and action, a stop of the timer with a handle or with a serial, or a
--- restart of one with the interval and action of the new timer
+-- a request: a start with its interval or its deadline, and its action; a stop of the timer with a handle or with a
+-- serial; or a restart of one with the interval or the deadline, and the action, of the new timer
 pub data Wanted : Type 0 where
   Start : ℕ → ℕ → Wanted
+  StartAt : ℕ → ℕ → Wanted
   Stop : Handle → Wanted
   StopSerial : ℕ → Wanted
   Restart : Handle → ℕ → ℕ → Wanted
+  RestartAt : Handle → ℕ → ℕ → Wanted
   RestartSerial : ℕ → ℕ → ℕ → Wanted
+
+-- how many ticks are left until a deadline: 0 if it is not after the present tick
+abbrev pub ticks_until : FacilityState → ℕ → ℕ
+ticks_until s deadline = deadline - s.now
 
 -- one event: a client's request under a number, one tick, or the close
 pub data SingleEvent : Type 0 where

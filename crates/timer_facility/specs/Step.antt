@@ -11,7 +11,7 @@ use Rattle.timer_facility.specs.declared.request.Notice.TheVariants.{Expired, Re
 use Rattle.timer_facility.specs.declared.request.TickFault.{TickFault}
 use Rattle.timer_facility.specs.declared.event.Out.{Out}
 use Rattle.timer_facility.specs.declared.event.Out.TheVariants as Outs
-use Rattle.timer_facility.specs.State.{FacilityState, Wanted, Start, Stop, StopSerial, Restart, RestartSerial, SingleEvent, Asked, Tick, Close}
+use Rattle.timer_facility.specs.State.{FacilityState, Wanted, Start, StartAt, Stop, StopSerial, Restart, RestartAt, RestartSerial, ticks_until, SingleEvent, Asked, Tick, Close}
 use Rattle.timer_facility.specs.Verdict.{not_taken, named, start_refusal, interval_refusal, tick_refusal, Refusal, RequestNotTaken, RequestRefused, TickRefused}
 
 -- the outs of an event, and the state after it
@@ -75,11 +75,18 @@ after_restart (Some old) None place t s = after_start None place t (after_stop (
 abbrev pub answer_to : FacilityState → ℕ → ℕ → Wanted → ℕ → Answer
 answer_to s client number (Start interval action) place =
     answer_to_start (start_refusal s interval) place (new_timer s client number interval action)
+answer_to s client number (StartAt deadline action) place =
+    answer_to_start (start_refusal s (ticks_until s deadline)) place
+    (new_timer s client number (ticks_until s deadline) action)
 answer_to s client number (Stop handle) place = answer_to_stop (named s client (Stop handle))
 answer_to s client number (StopSerial serial) place = answer_to_stop (named s client (StopSerial serial))
 answer_to s client number (Restart handle interval action) place =
     answer_to_restart (named s client (Restart handle interval action)) (interval_refusal s interval) place
     (new_timer s client number interval action)
+answer_to s client number (RestartAt handle deadline action) place =
+    answer_to_restart (named s client (RestartAt handle deadline action))
+    (interval_refusal s (ticks_until s deadline)) place
+    (new_timer s client number (ticks_until s deadline) action)
 answer_to s client number (RestartSerial serial interval action) place =
     answer_to_restart (named s client (RestartSerial serial interval action))
     (interval_refusal s interval) place
@@ -90,6 +97,9 @@ abbrev pub after_taken : FacilityState → ℕ → ℕ → Wanted → ℕ → Fa
 after_taken s client number (Start interval action) place =
     with_number client number (after_start (start_refusal s interval) place
     (new_timer s client number interval action) s)
+after_taken s client number (StartAt deadline action) place =
+    with_number client number (after_start (start_refusal s (ticks_until s deadline)) place
+    (new_timer s client number (ticks_until s deadline) action) s)
 after_taken s client number (Stop handle) place = with_number client number
     (after_stop (named s client (Stop handle)) s)
 after_taken s client number (StopSerial serial) place =
@@ -98,6 +108,11 @@ after_taken s client number (Restart handle interval action) place =
     with_number client number
     (after_restart (named s client (Restart handle interval action)) (interval_refusal s interval) place
     (new_timer s client number interval action) s)
+after_taken s client number (RestartAt handle deadline action) place =
+    with_number client number
+    (after_restart (named s client (RestartAt handle deadline action))
+    (interval_refusal s (ticks_until s deadline)) place
+    (new_timer s client number (ticks_until s deadline) action) s)
 after_taken s client number (RestartSerial serial interval action) place =
     with_number client number
     (after_restart (named s client (RestartSerial serial interval action)) (interval_refusal s interval) place

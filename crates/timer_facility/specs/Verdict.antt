@@ -9,7 +9,7 @@ use Rattle.timer_facility.specs.declared.request.Reason.{Reason}
 use Rattle.timer_facility.specs.declared.request.Reason.TheVariants.{ZeroInterval, TooLate, SerialsSpent, Full, NoSuch}
 use Rattle.timer_facility.specs.declared.request.TickFault.{TickFault}
 use Rattle.timer_facility.specs.declared.request.TickFault.TheVariants as TickFaults
-use Rattle.timer_facility.specs.State.{FacilityState, number_of, Wanted, Start, Stop, StopSerial, Restart, RestartSerial, SingleEvent, Asked, Tick, Close}
+use Rattle.timer_facility.specs.State.{FacilityState, number_of, Wanted, Start, StartAt, Stop, StopSerial, Restart, RestartAt, RestartSerial, ticks_until, SingleEvent, Asked, Tick, Close}
 
 -- why a request is not taken, if it is not taken: the first test that holds
 unfoldable pub not_taken : FacilityState → ℕ → ℕ → Option NotTaken
@@ -29,9 +29,11 @@ of_client client (Some t) = if t.client == client then Some t else None
 -- the pending timer of this client that a stop or a restart names
 abbrev pub named : FacilityState → ℕ → Wanted → Option Timer
 named s client (Start interval action) = None
+named s client (StartAt deadline action) = None
 named s client (Stop handle) = of_client client (first_timer (has_handle handle) s.pending)
 named s client (StopSerial serial) = of_client client (first_timer (λ e. has_serial serial e.timer) s.pending)
 named s client (Restart handle interval action) = of_client client (first_timer (has_handle handle) s.pending)
+named s client (RestartAt handle deadline action) = of_client client (first_timer (has_handle handle) s.pending)
 named s client (RestartSerial serial interval action) =
     of_client client (first_timer (λ e. has_serial serial e.timer) s.pending)
 
@@ -66,10 +68,13 @@ restart_refusal (Some t) reason = reason
 -- why a request that is taken is refused, if it is refused
 abbrev pub refusal : FacilityState → ℕ → Wanted → Option Reason
 refusal s client (Start interval action) = start_refusal s interval
+refusal s client (StartAt deadline action) = start_refusal s (ticks_until s deadline)
 refusal s client (Stop handle) = stop_refusal (named s client (Stop handle))
 refusal s client (StopSerial serial) = stop_refusal (named s client (StopSerial serial))
 refusal s client (Restart handle interval action) =
     restart_refusal (named s client (Restart handle interval action)) (interval_refusal s interval)
+refusal s client (RestartAt handle deadline action) =
+    restart_refusal (named s client (RestartAt handle deadline action)) (interval_refusal s (ticks_until s deadline))
 refusal s client (RestartSerial serial interval action) =
     restart_refusal (named s client (RestartSerial serial interval action)) (interval_refusal s interval)
 

@@ -7,7 +7,7 @@ ghost use Rattle.std.specs.Prelude.{◌≡◌, false, ℕ, ◌+◌, ◌<◌, ◌
 ghost use Rattle.timer_base.specs.Pending.{timers_of};
 ghost use Rattle.timer_base.specs.WheelState.{after_clear};
 ghost use Rattle.timer_base.specs.WakeUps.{next_deadline};
-ghost use Rattle.timer_facility.specs.State.{FacilityState, IsSound, Tick, Close, Start, Stop, Restart, number_of, pending_of};
+ghost use Rattle.timer_facility.specs.State.{FacilityState, IsSound, Tick, Close, Start, Stop, Restart, number_of, pending_of, ticks_until};
 ghost use Rattle.timer_facility.specs.Verdict.{not_taken, named, start_refusal, interval_refusal, tick_refusal, TickRefused, verdict};
 ghost use Rattle.timer_facility.specs.Refused.{verdict_in, verdict_on_not_taken, verdict_on_close};
 ghost use Rattle.timer_facility.specs.Step.{step, answer_to, after_taken};
@@ -126,10 +126,12 @@ impl<W: Wheel + Drop> Facility<W> {
         self.wheel.now()
     }
 
-    /// The wheel that it stands on, which has the same clock and the same pending timers. Does not allocate.
+    /// The wheel that it stands on, which has the same clock and the same pending timers. While none waits to be
+    /// handed out, no timer of the wheel is due. Does not allocate.
     pub fn wheel(&self) -> &W
         ensures now { (W.state result.now).now ≡ self.now.state.now }
         ensures pending { (W.state result.now).pending ≡ self.now.state.pending }
+        ensures due { self.now.waiting ≡ [] → (W.state result.now).due ≡ [] }
         ensures last { (W.state result.now).last_tick ≡ self.now.state.last }
         ensures slots { (W.state result.now).slots ≡ self.now.state.slots }
     {
@@ -232,12 +234,24 @@ impl<W: Wheel + Drop> Facility<W> {
             Request::Start { interval, action } => self.take_start(
                 client, number, interval, action,
             ),
+            Request::StartAt { deadline, action } => {
+                let interval = self.ticks_until(deadline);
+                self.take_start(client, number, interval, action)
+            }
             Request::Stop(handle) => Ok(self.take_stop(client, number, handle)),
             Request::Restart {
                 handle,
                 interval,
                 action,
             } => Ok(self.take_restart(client, number, handle, interval, action)),
+            Request::RestartAt {
+                handle,
+                deadline,
+                action,
+            } => {
+                let interval = self.ticks_until(deadline);
+                Ok(self.take_restart(client, number, handle, interval, action))
+            }
         }
     }
 
@@ -426,6 +440,13 @@ impl<W: Wheel + Drop> Facility<W> {
         }
     }
 
+    /// How many ticks are left until a deadline.
+    fn ticks_until(&self, deadline: u64) -> u64
+        ensures { result ≡ ticks_until self.now.state deadline }
+    {
+        deadline.saturating_sub(self.wheel.now())
+    }
+
     /// Why a start with this interval is refused, if it is refused.
     fn start_refusal(&self, interval: u64) -> Option<Reason>
         ensures { result ≡ start_refusal self.now.state interval }
@@ -523,8 +544,9 @@ impl<W: Wheel + Drop> Facility<W> {
         }
     }
 
-    /// The pending timer of this client with exactly this handle.
-    fn find_named(&self, client: u64, handle: Handle) -> Option<Timer>
+    /// The pending timer of this client with exactly this handle, place and serial. No timer may wait to be handed
+    /// out. Does not allocate.
+    pub fn find_named(&self, client: u64, handle: Handle) -> Option<Timer>
         requires { self.now.waiting ≡ [] }
         ensures { result ≡ named self.now.state client (Stop handle) }
     {

@@ -9,12 +9,25 @@ pub enum Request {
         interval: u64,
         action: u64,
     },
+    /// Start a timer that expires at the tick `deadline`: as `Start` with the interval that is left until then
+    /// when the request is taken. So a deadline that is not after the present tick is refused as `ZeroInterval`.
+    StartAt {
+        deadline: u64,
+        action: u64,
+    },
     /// Stop the timer with this handle.
     Stop(Handle),
     /// Stop the timer with this handle and start another in its place, in one request.
     Restart {
         handle: Handle,
         interval: u64,
+        action: u64,
+    },
+    /// Stop the timer with this handle and start another in its place that expires at the tick `deadline`: as
+    /// `Restart` with the interval that is left until then when the request is taken.
+    RestartAt {
+        handle: Handle,
+        deadline: u64,
         action: u64,
     },
 }
@@ -46,7 +59,7 @@ pub enum Answer {
 /// restart against the last one and then the first three, and it is never `Full`.
 #[derive(Clone, Copy, Debug, PartialEq, Eq)]
 pub enum Reason {
-    /// The interval is 0.
+    /// The interval is 0, or the deadline is not after the present tick.
     ZeroInterval,
     /// The deadline would be after the last tick.
     TooLate,

@@ -34,9 +34,13 @@ enum Call {
     Reserve,
     /// With its interval.
     Start(u64, u64, u64),
+    /// With its deadline.
+    StartAt(u64, u64, u64),
     Stop(u64, u64, Handle),
     /// With its handle and interval.
     Restart(u64, u64, Handle, u64),
+    /// With its handle and deadline.
+    RestartAt(u64, u64, Handle, u64),
     Tick,
     /// With its limit.
     Ticks(u64),
@@ -175,6 +179,16 @@ fn make(rt: &impl Abort, facility: &mut Facility<PlainWheel>, call: Call) -> Ret
                 Request::Start { interval, action },
             )
         }
+        Call::StartAt(client, number, deadline) => {
+            let action = number.wrapping_add(10);
+            take(
+                rt,
+                facility,
+                client,
+                number,
+                Request::StartAt { deadline, action },
+            )
+        }
         Call::Stop(client, number, handle) => take(
             rt,
             facility,
@@ -186,6 +200,14 @@ fn make(rt: &impl Abort, facility: &mut Facility<PlainWheel>, call: Call) -> Ret
             let request = Request::Restart {
                 handle,
                 interval,
+                action: number.wrapping_add(10),
+            };
+            take(rt, facility, client, number, request)
+        }
+        Call::RestartAt(client, number, handle, deadline) => {
+            let request = Request::RestartAt {
+                handle,
+                deadline,
                 action: number.wrapping_add(10),
             };
             take(rt, facility, client, number, request)
@@ -222,7 +244,7 @@ const THIRD: Handle = Handle {
     serial: 3,
 };
 
-static ROWS: [Row; 7] = [
+static ROWS: [Row; 8] = [
     Row {
         name: "starts, stops, ticks and closes",
         config: CONFIG,
@@ -412,6 +434,53 @@ static ROWS: [Row; 7] = [
             ),
             (Call::Ticks(9), Returned::Ticked(3)),
             (Call::Next, Returned::Expired(2, 3)),
+        ],
+    },
+    Row {
+        name: "a deadline has passed, is ahead, or comes after the clock's end",
+        config: Config {
+            first_tick: 10,
+            ..CONFIG
+        },
+        calls: &[
+            (
+                Call::StartAt(0, 1, 10),
+                Returned::Refused(Reason::ZeroInterval),
+            ),
+            (
+                Call::StartAt(0, 2, 0),
+                Returned::Refused(Reason::ZeroInterval),
+            ),
+            (Call::StartAt(0, 3, 12), Returned::Started(1, 12)),
+            (Call::StartAt(0, 4, LAST), Returned::Started(2, LAST)),
+            (
+                Call::StartAt(0, 5, LAST + 1),
+                Returned::Refused(Reason::TooLate),
+            ),
+            (
+                Call::StartAt(0, 6, u64::MAX),
+                Returned::Refused(Reason::TooLate),
+            ),
+            (Call::Tick, Returned::Ticked(1)),
+            (
+                Call::RestartAt(0, 7, FIRST, 11),
+                Returned::Refused(Reason::ZeroInterval),
+            ),
+            (
+                Call::RestartAt(0, 8, THIRD, 11),
+                Returned::Refused(Reason::NoSuch),
+            ),
+            (
+                Call::RestartAt(0, 9, FIRST, LAST + 1),
+                Returned::Refused(Reason::TooLate),
+            ),
+            (
+                Call::RestartAt(0, 10, FIRST, 14),
+                Returned::Restarted(1, 3, 14),
+            ),
+            (Call::Ticks(9), Returned::Ticked(3)),
+            (Call::Next, Returned::Expired(3, 14)),
+            (Call::Next, Returned::NothingWaits),
         ],
     },
     Row {
