@@ -134,6 +134,9 @@ def threads(clients):
         assert counts == [300] * clients and len(desk) == 0
 
 
+assert Handle(1, 7) == Handle(1, 7) and hash(Handle(1, 7)) == hash(Handle(1, 7))
+assert Handle(1, 7) not in (Handle(1, 8), Handle(2, 7), (1, 7))
+assert (str(DeskError(td.NO_ROOM)), str(DeskError(99))) == ("no room", "status 99")
 for seed in range(3):
     agrees(seed)
 come_and_go()

@@ -8,7 +8,7 @@ import random
 import sys
 import threading
 
-from timers import (CLOCK, CLOCK_END, DUE, NO_MEMORY, NOT_OPEN, NOT_PENDING, OK, TOO_LATE, ZERO_INTERVAL, Timers,
+from timers import (CLOCK, CLOCK_END, DUE, MESSAGES, NO_MEMORY, NOT_OPEN, NOT_PENDING, OK, TOO_LATE, ZERO_INTERVAL, Timers,
                     TimersError)
 
 
@@ -16,6 +16,7 @@ def refused(call, *arguments):
     try:
         call(*arguments)
     except TimersError as error:
+        assert str(error) == MESSAGES[error.status]
         return error.status
     return OK
 
@@ -134,6 +135,16 @@ def meet_the_edges(library):
     assert timers.take(9) is None and timers.expired() == [] and list(timers) == []
     timers.clear()
     timers.close()
+
+
+def close_if_the_block_raises(library):
+    """A block that is left by an exception frees its timers, and the exception goes on."""
+    def leave():
+        with timers:
+            raise KeyError
+
+    timers = Timers(library)
+    assert raises(KeyError, leave) and refused(timers.start, 1, 1) == NOT_OPEN
 
 
 def take_nothing_if_refused(library):
@@ -337,6 +348,7 @@ if __name__ == "__main__":
     library = sys.argv[1] if len(sys.argv) > 1 else "libtimers.so.1"
     compare(library)
     meet_the_edges(library)
+    close_if_the_block_raises(library)
     stop_what_expired(library)
     start_what_is_due_at_once(library)
     come_to_the_last_tick(library)

@@ -148,17 +148,17 @@ pub fn play<R: AllocGlobal + Wait>(rt: &R, scenario: Scenario) -> Result<bool, F
 
 fn starts(alloc: Global, kind: Kind) -> Result<(), Fault> {
     match kind {
-        Kind::Plain => start_a_hundred(&mut plain(alloc)?),
-        Kind::Hashed(slots) => start_a_hundred(&mut hashed(alloc, slots)?),
-        Kind::Hier(table) => start_a_hundred(&mut hier(alloc, table)?),
+        Kind::Plain => start_a_hundred(plain(alloc)?),
+        Kind::Hashed(slots) => start_a_hundred(hashed(alloc, slots)?),
+        Kind::Hier(table) => start_a_hundred(hier(alloc, table)?),
     }
 }
 
 fn lists(alloc: Global, kind: Kind) -> Result<(), Fault> {
     match kind {
-        Kind::Plain => list_a_few(&mut plain(alloc)?),
-        Kind::Hashed(slots) => list_a_few(&mut hashed(alloc, slots)?),
-        Kind::Hier(table) => list_a_few(&mut hier(alloc, table)?),
+        Kind::Plain => list_a_few(plain(alloc)?),
+        Kind::Hashed(slots) => list_a_few(hashed(alloc, slots)?),
+        Kind::Hier(table) => list_a_few(hier(alloc, table)?),
     }
 }
 
