@@ -76,6 +76,10 @@ def agrees(seed):
             word = line.receive()
             assert (word.kind, word.deadline, word.handle.serial, word.action) == (td.RETURNED, *key, model[key][2])
             turn(desk)
+        assert line.start(1, 1) == sent + 1
+        turn(desk)
+        word = line.receive()
+        assert (word.kind, word.reason, word.number) == (td.NOT_TAKEN, td.CLOSED, sent + 1)
         line.finish()
         assert desk.end(0, line) == 0 and line.ended and not line.abandoned
         refused(td.FINISHED, line.start, 1, 1)

@@ -91,6 +91,10 @@ static void agrees(unsigned seed)
 		CHECK(word.kind == TIMERS_WORD_RETURNED && std::pair(word.deadline, word.handle.serial) == key && word.action == left.action);
 		turn(desk);
 	}
+	CHECK(line.start(1, 1) == ++sent);
+	turn(desk);
+	const timers_word late = *line.receive();
+	CHECK(late.kind == TIMERS_WORD_NOT_TAKEN && late.reason == TIMERS_DESK_CLOSED && late.number == sent);
 	line.finish();
 	CHECK(desk.end(0, line) == 0 && line.ended() && !line.abandoned());
 	THROWS(TIMERS_DESK_FINISHED, line.start(1, 1));
