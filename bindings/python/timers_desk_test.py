@@ -149,6 +149,7 @@ refused(td.OUT_OF_RANGE, lambda: Desk(65, 1, 1, 1, library=LIBRARY))
 for wrong in (-1, 2**64):
     try:
         Desk(1, wrong, 1, 1, library=LIBRARY)
-    except OverflowError:
+    except OverflowError as error:
+        assert str(error) == f"{wrong} is not from 0 to 2^64 - 1"
         continue
     raise AssertionError("not refused")

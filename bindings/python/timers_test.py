@@ -103,6 +103,14 @@ def raises(kind, call, *arguments):
     return False
 
 
+def text_of(kind, call, *arguments):
+    try:
+        call(*arguments)
+    except kind as error:
+        return str(error)
+    return None
+
+
 def meet_the_edges(library):
     """What is no number of 64 bits is refused, and nothing has changed; truth is not emptiness."""
     with Timers(library, first_tick=2**60 - 2) as timers:
@@ -124,8 +132,10 @@ def meet_the_edges(library):
         assert refused(timers.start, 0, 1) == refused(timers.restart, handle, 0, 1) == ZERO_INTERVAL
         assert refused(timers.start, 2, 1) == TOO_LATE
         assert refused(timers.set_at, handle, 2**60, 1) == refused(timers.set_at, None, 2**60, 1) == TOO_LATE
+        assert text_of(OverflowError, timers.start, 2**64, 1) == "18446744073709551616 is not from 0 to 2^64 - 1"
+        assert text_of(OverflowError, lambda: Timers(library, table=-1)) == "-1 is not from 0 to 2^32 - 1"
         for owned in (copy.copy, copy.deepcopy, pickle.dumps):
-            assert raises(TypeError, owned, timers)
+            assert text_of(TypeError, owned, timers) == "timers own memory: they can't be copied or pickled"
         assert timers.look(handle) == (2**60 - 1, 1, 2**64 - 1) and len(timers) == 1
         assert timers.stop(handle) == 2**64 - 1
         assert timers and len(timers) == 0 and timers.next() is timers.find_next() is timers.wakeup() is None
