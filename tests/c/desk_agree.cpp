@@ -183,6 +183,11 @@ int main()
 	threads(1);
 	threads(8);
 	std::vector<timing::line> lines;
+	timers_desk_config most = timing::desk::config(1048576, 0, 65536);
+	most.room = 65536;
+	const timing::desk largest(lines, 1, most);
+	most.room++;
+	THROWS(TIMERS_DESK_OUT_OF_RANGE, timing::desk(lines, 1, most));
 	const timing::desk kept(lines, 2, timing::desk::config(1, 1, 1));
 	THROWS(TIMERS_DESK_OUT_OF_RANGE, timing::desk(lines, 65, timing::desk::config(1, 1, 1)));
 	CHECK(lines.size() == 2 && lines[0].start(1, 1) && lines[1].client() == 1);
