@@ -180,6 +180,23 @@ with Timers() as timers:
     [ -z "$(find "$work/stage" -type f -o -type l)" ]
 }
 
+# Each folder apart from the others, and a file of somebody else's among the pages.
+@test "each folder is where its variable says, and make uninstall leaves what is not its own" {
+    folders=()
+    for name in BINDIR LIBDIR INCLUDEDIR DATADIR MANDIR DOCDIR; do folders+=("$name=$work/apart/$name"); done
+    in_tree install PREFIX="$work/apart/PREFIX" "${folders[@]}"
+    for path in BINDIR/timers LIBDIR/libtimers.a INCLUDEDIR/timers.hpp DATADIR/timers/python/timers.py MANDIR/man1/timers.1 \
+        MANDIR/man3/timers_start.3 DOCDIR/CHANGELOG.md; do
+        echo "$path"
+        [ -e "$work/apart/$path" ]
+    done
+    [ ! -e "$work/apart/PREFIX" ]
+    grep -x "includedir=$work/apart/INCLUDEDIR" "$work/apart/LIBDIR/pkgconfig/timers.pc"
+    touch "$work/apart/DOCDIR/docs/notes"
+    in_clone uninstall PREFIX="$work/apart/PREFIX" "${folders[@]}"
+    [ "$(find "$work/apart" -type f -o -type l)" = "$work/apart/DOCDIR/docs/notes" ]
+}
+
 # shellcheck disable=SC2016,SC2088
 @test "a PREFIX that is relative, or that a shell would read in another way, is refused" {
     for odd in some/where '~/timers' '/a b' '/a;b' '/a$b'; do

@@ -62,6 +62,15 @@ other_option() {
     done
 }
 
+# At the lengths at which a buffer is full, and beside them.
+@test "an argument of any length is read as a whole" {
+    for length in 1 255 256 257 1023 1024 1025 4095 4096 4097 100000; do
+        argument=$(head -c $length /dev/zero | tr '\0' x)
+        run -2 timers play "$argument" < /dev/null
+        [[ $output == "error: unexpected argument '$argument' found"* ]]
+    done
+}
+
 # script_status STATUS LINE: of a script of one line
 script_status() { run -"$1" timers <<< "$2"; }
 

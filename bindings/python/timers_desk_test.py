@@ -79,6 +79,10 @@ def agrees(seed):
             word = line.receive()
             assert (word.kind, word.deadline, word.handle.serial, word.action) == (td.RETURNED, *key, model[key][2])
             turn(desk)
+        assert line.start(1, 1) == sent + 1
+        turn(desk)
+        word = line.receive()
+        assert (word.kind, word.reason, word.number) == (td.NOT_TAKEN, td.CLOSED, sent + 1)
         line.finish()
         assert desk.end(0, line) == 0 and line.ended and not line.abandoned
         refused(td.FINISHED, line.start, 1, 1)
@@ -143,6 +147,9 @@ def threads(clients):
         assert counts == [300] * clients and len(desk) == 0
 
 
+assert Handle(1, 7) == Handle(1, 7) and hash(Handle(1, 7)) == hash(Handle(1, 7))
+assert Handle(1, 7) not in (Handle(1, 8), Handle(2, 7), (1, 7))
+assert (str(DeskError(td.NO_ROOM)), str(DeskError(99))) == ("no room", "status 99")
 for seed in range(3):
     agrees(seed)
 come_and_go()
@@ -151,6 +158,7 @@ refused(td.OUT_OF_RANGE, lambda: Desk(65, 1, 1, 1, library=LIBRARY))
 for wrong in (-1, 2**64):
     try:
         Desk(1, wrong, 1, 1, library=LIBRARY)
-    except OverflowError:
+    except OverflowError as error:
+        assert str(error) == f"{wrong} is not from 0 to 2^64 - 1"
         continue
     raise AssertionError("not refused")

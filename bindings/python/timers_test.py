@@ -8,7 +8,7 @@ import random
 import sys
 import threading
 
-from timers import (CLOCK, CLOCK_END, DUE, NO_MEMORY, NOT_OPEN, NOT_PENDING, OK, TOO_LATE, ZERO_INTERVAL, Timers,
+from timers import (CLOCK, CLOCK_END, DUE, MESSAGES, NO_MEMORY, NOT_OPEN, NOT_PENDING, OK, TOO_LATE, ZERO_INTERVAL, Timers,
                     TimersError)
 
 
@@ -16,6 +16,7 @@ def refused(call, *arguments):
     try:
         call(*arguments)
     except TimersError as error:
+        assert str(error) == MESSAGES[error.status]
         return error.status
     return OK
 
@@ -102,6 +103,14 @@ def raises(kind, call, *arguments):
     return False
 
 
+def text_of(kind, call, *arguments):
+    try:
+        call(*arguments)
+    except kind as error:
+        return str(error)
+    return None
+
+
 def meet_the_edges(library):
     """What is no number of 64 bits is refused, and nothing has changed; truth is not emptiness."""
     with Timers(library, first_tick=2**60 - 2) as timers:
@@ -123,8 +132,10 @@ def meet_the_edges(library):
         assert refused(timers.start, 0, 1) == refused(timers.restart, handle, 0, 1) == ZERO_INTERVAL
         assert refused(timers.start, 2, 1) == TOO_LATE
         assert refused(timers.set_at, handle, 2**60, 1) == refused(timers.set_at, None, 2**60, 1) == TOO_LATE
+        assert text_of(OverflowError, timers.start, 2**64, 1) == "18446744073709551616 is not from 0 to 2^64 - 1"
+        assert text_of(OverflowError, lambda: Timers(library, table=-1)) == "-1 is not from 0 to 2^32 - 1"
         for owned in (copy.copy, copy.deepcopy, pickle.dumps):
-            assert raises(TypeError, owned, timers)
+            assert text_of(TypeError, owned, timers) == "timers own memory: they can't be copied or pickled"
         assert timers.look(handle) == (2**60 - 1, 1, 2**64 - 1) and len(timers) == 1
         assert timers.stop(handle) == 2**64 - 1
         assert timers and len(timers) == 0 and timers.next() is timers.find_next() is timers.wakeup() is None
@@ -134,6 +145,16 @@ def meet_the_edges(library):
     assert timers.take(9) is None and timers.expired() == [] and list(timers) == []
     timers.clear()
     timers.close()
+
+
+def close_if_the_block_raises(library):
+    """A block that is left by an exception frees its timers, and the exception goes on."""
+    def leave():
+        with timers:
+            raise KeyError
+
+    timers = Timers(library)
+    assert raises(KeyError, leave) and refused(timers.start, 1, 1) == NOT_OPEN
 
 
 def take_nothing_if_refused(library):
@@ -337,6 +358,7 @@ if __name__ == "__main__":
     library = sys.argv[1] if len(sys.argv) > 1 else "libtimers.so.1"
     compare(library)
     meet_the_edges(library)
+    close_if_the_block_raises(library)
     stop_what_expired(library)
     start_what_is_due_at_once(library)
     come_to_the_last_tick(library)

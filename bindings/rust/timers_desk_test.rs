@@ -105,6 +105,10 @@ fn agrees_with_a_map(seed: u64) {
         turn(&mut desk);
     }
     assert_eq!(line.receive(), None);
+    let number = line.start(1, 1).unwrap();
+    turn(&mut desk);
+    assert_eq!(line.receive(), Some(Word::NotTaken { number, reason: Error::Closed }));
+    assert_eq!(format!("{}, {}", Error::Closed, Error::Other(99)), "libtimers: Closed, libtimers: Other(99)");
     line.finish().unwrap();
     assert_eq!((desk.end(0, &mut line), line.ended(), line.abandoned()), (Ok(0), true, false));
     assert_eq!(line.start(1, 1), Err(Error::Finished));

@@ -60,6 +60,7 @@ static enum timers_status refusal(Call call)
 	try {
 		call();
 	} catch (const timing::error &error) {
+		HOLDS(std::strcmp(error.what(), timers_message(error.status())) == 0);
 		return error.status();
 	}
 	return TIMERS_OK;
@@ -248,6 +249,8 @@ static void round_intervals()
 	/* 2^63 - 1 microseconds are 9223372036854775.807 milliseconds, or 553402322211286.5.. frames */
 	HOLDS(Timers::in_ticks(std::chrono::microseconds::max()).count() == 9223372036854776);
 	HOLDS(frames::in_ticks(std::chrono::microseconds::max()).count() == 553402322211287);
+	/* 2 * 6148914691236517205 and one more times 1.5 milliseconds: rounded up, one tick more than 64 bits hold */
+	HOLDS(Timers::in_ticks(std::chrono::duration<std::uint64_t, std::ratio<3, 2000>>(12297829382473034411u)) == ticks::max());
 }
 
 static void meet_the_edges()
@@ -265,6 +268,9 @@ static void meet_the_edges()
 	const timing::handle before = timers.start_at(ticks(3), &number);
 	HOLDS(timers.restart_at(once, ticks(0), nullptr));
 	HOLDS(timers.has_due() && timers.size() == 0 && timers.next() == timers.now());
+	Timers at_zero;
+	at_zero.start_at(ticks(0), nullptr);
+	HOLDS(at_zero.wakeup() == ticks(0) && at_zero.next() == ticks(0) && at_zero.find_next() == ticks(0));
 	HOLDS(timers.look(before)->deadline == timers.now() && timers.expire()->serial == before.serial());
 	HOLDS(timers.expire()->serial == once.serial() && !timers.has_due());
 
@@ -272,6 +278,8 @@ static void meet_the_edges()
 	HOLDS(timers.advance(100ms) == 3ms && timers.has_due() && refusal([&] { timers.tick(); }) == TIMERS_DUE);
 	HOLDS(timers.stop(first) == &number && !timers.stop(first));          /* expired, and not yet taken */
 	HOLDS(refusal([&] { (void)timers.restart(second, 0ms, nullptr); }) == TIMERS_ZERO_INTERVAL);
+	HOLDS(refusal([&] { (void)timers.restart(second, 10ms, nullptr); }) == TIMERS_TOO_LATE);
+	HOLDS(refusal([&] { (void)timers.restart_at(second, ticks(8640000), nullptr); }) == TIMERS_TOO_LATE);
 	HOLDS(timers.look(second));
 	const auto taken = timers.expire();
 	HOLDS(taken && taken->serial == second.serial() && !taken->action && !timers.expire());
@@ -337,6 +345,17 @@ static void catch_up_with_other_times()
 	moved = std::move(wide);
 	moved.catch_up(ticks(TIMERS_LAST), run);
 	HOLDS(moved.now() == ticks(TIMERS_LAST));
+	Timers clock(TIMERS_CLOCK), by_move(std::move(clock));
+	HOLDS(refusal([&] { by_move.catch_up(ticks(8640000), run); }) == TIMERS_TOO_LATE && by_move.now() == ticks(0));
+}
+
+/* Handles are those of one timer if place and serial are. */
+static void compare_handles()
+{
+	const timing::handle one(timers_handle{ 1, 7 }), later(timers_handle{ 1, 8 }), beside(timers_handle{ 2, 7 });
+	HOLDS(one == timing::handle(one.raw()) && !(one != timing::handle(one.raw())));
+	HOLDS(one != later && one != beside && later != beside);
+	HOLDS(!(one == later) && !(one == beside) && !(later == beside));
 }
 
 /* All timers of a tick are taken in one call, however many there are, in the order of their starts. */
@@ -536,6 +555,7 @@ int main()
 	round_intervals();
 	meet_the_edges();
 	catch_up_with_other_times();
+	compare_handles();
 	take_many();
 	stop_what_expired();
 	throw_from_a_run();

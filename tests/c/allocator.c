@@ -16,6 +16,7 @@ static _Alignas(16) unsigned char arena[8 << 20];
 static size_t used;             /* bytes of the arena */
 static long blocks, resized;    /* blocks that are held; how often one was resized */
 static int refuses;             /* each third allocation is refused */
+static int starting;            /* a block is released only if it was copied to the newest one */
 static long asked, of_libc;     /* allocations; those of malloc and realloc */
 static int failed;
 
@@ -52,7 +53,9 @@ void __wrap_free(void *block)
 	__real_free(block);
 }
 
-/* A block begins with its size. What was released is not given again, and is overwritten. */
+static unsigned char *newest;
+
+/* A block begins with its size, and is full of 0xa5. What was released is not given again, and is overwritten. */
 static void *take(size_t size)
 {
 	unsigned char *head = arena + used;
@@ -65,7 +68,19 @@ static void *take(size_t size)
 	blocks++;
 	memcpy(head, &size, sizeof size);
 	memset(head + 16, 0xa5, size);
-	return head + 16;
+	newest = head + 16;
+	return newest;
+}
+
+/* Whether a block of this size was copied into the newest one, and nothing behind it. */
+static int is_copied_alone(size_t size)
+{
+	size_t room;
+
+	memcpy(&room, newest - 16, sizeof room);
+	while (size < room && newest[size] == 0xa5)
+		size++;
+	return size >= room;
 }
 
 static void release(void *block)
@@ -74,6 +89,7 @@ static void release(void *block)
 
 	CHECK((unsigned char *)block > arena && (unsigned char *)block < arena + used);
 	memcpy(&size, (unsigned char *)block - 16, sizeof size);
+	CHECK(!starting || is_copied_alone(size));
 	memset(block, 0x5a, size);
 	blocks--;
 }
@@ -104,7 +120,9 @@ static void run_timers(void)
 		enum timers_status status;
 
 		refuses = started % 2 == 0;
+		starting = 1;
 		status = timers_start(&t, 1 + started * 7919 % 100000, started, NULL);
+		starting = 0;
 		CHECK(status == TIMERS_OK || status == TIMERS_NO_MEMORY);
 		started += status == TIMERS_OK;
 		refused += status == TIMERS_NO_MEMORY;

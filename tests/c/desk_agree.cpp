@@ -2,6 +2,7 @@
  * in threads. */
 #include <cstdio>
 #include <cstdlib>
+#include <cstring>
 #include <iterator>
 #include <map>
 #include <random>
@@ -13,7 +14,7 @@
 #include <timers_desk.hpp>
 
 #define CHECK(fact) do { if (!(fact)) { std::fprintf(stderr, "line %d: %s\n", __LINE__, #fact); std::abort(); } } while (0)
-#define THROWS(says, call) do { try { (void)(call); CHECK(false && #call); } catch (const timing::desk_error &e) { CHECK(e.status() == says); } } while (0)
+#define THROWS(says, call) do { try { (void)(call); CHECK(false && #call); } catch (const timing::desk_error &e) { CHECK(e.status() == says && std::strcmp(e.what(), timers_desk_message(says)) == 0); } } while (0)
 
 static_assert(!std::is_copy_constructible_v<timing::desk> && !std::is_copy_assignable_v<timing::desk>);
 static_assert(!std::is_copy_constructible_v<timing::line> && !std::is_copy_assignable_v<timing::line>);
@@ -47,7 +48,7 @@ static void agrees(unsigned seed)
 			const auto number = choice == 2 ? line.stop(handle)
 				: choice < 2 ? action % 2 ? line.start(interval, action) : line.start_at(deadline, action)
 				: action % 2 ? line.restart(handle, interval, action) : line.restart_at(handle, deadline, action);
-			CHECK(number == ++sent && !line.start(1, 1));
+			CHECK(number == ++sent && !line.start(1, 1) && !line.stop(handle) && !line.restart(handle, 1, 1));
 			turn(desk);
 			const timers_word word = *line.receive();
 			CHECK(word.number == sent && !line.receive());
@@ -93,6 +94,10 @@ static void agrees(unsigned seed)
 		CHECK(word.kind == TIMERS_WORD_RETURNED && std::pair(word.deadline, word.handle.serial) == key && word.action == left.action);
 		turn(desk);
 	}
+	CHECK(line.start(1, 1) == ++sent);
+	turn(desk);
+	const timers_word late = *line.receive();
+	CHECK(late.kind == TIMERS_WORD_NOT_TAKEN && late.reason == TIMERS_DESK_CLOSED && late.number == sent);
 	line.finish();
 	CHECK(desk.end(0, line) == 0 && line.ended() && !line.abandoned());
 	THROWS(TIMERS_DESK_FINISHED, line.start(1, 1));
@@ -188,6 +193,13 @@ int main()
 	threads(1);
 	threads(8);
 	std::vector<timing::line> lines;
+	timers_desk_config most = timing::desk::config(1048576, 0, 65536);
+	most.room = 65536;
+	const timing::desk largest(lines, 1, most);
+	most.room++;
+	THROWS(TIMERS_DESK_OUT_OF_RANGE, timing::desk(lines, 1, most));
+	const timing::desk kept(lines, 2, timing::desk::config(1, 1, 1));
 	THROWS(TIMERS_DESK_OUT_OF_RANGE, timing::desk(lines, 65, timing::desk::config(1, 1, 1)));
+	CHECK(lines.size() == 2 && lines[0].start(1, 1) && lines[1].client() == 1);
 	std::puts("ok");
 }

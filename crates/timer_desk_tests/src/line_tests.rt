@@ -1,4 +1,6 @@
 //! Lines alone, and the room of a desk.
+ghost use Rattle.std.specs.Prelude.{◌≤◌};
+
 use crate::support::{numbered, same, start, started};
 use std::alloc::Global;
 use std::process::Abort;
@@ -64,4 +66,29 @@ fn outboxes_have_room_for_2_to_65536_words(rt: HostRuntime) -> Result<(), Fail> 
     assert!(rt; !is_refused(&rt, alloc, 2)?);
     assert!(rt; !is_refused(&rt, alloc, 65_536)?);
     Ok(())
+}
+
+/// Fills a ring line with as many requests and as many words as its capacity; it takes no more of either.
+fn fill(rt: &impl Abort, alloc: Global, capacity: usize) -> Result<(), Fail>
+    requires { (1 ≤ capacity) × (capacity ≤ 65536) }
+{
+    let (mut end, mut inlet) = ring_line(alloc, capacity, 1)?;
+    let request = start(1, 7);
+    let word = started(1, 1, 1);
+    for _ in 0..capacity {
+        same(rt, end.submit(request).is_ok(), true);
+        same(rt, inlet.put(word), Put::Done);
+    }
+    same(rt, end.submit(request), Err(Unsent::Full(request)));
+    same(rt, inlet.put(word), Put::Full(word));
+    Ok(())
+}
+
+#[test]
+fn a_ring_line_has_room_for_its_capacity_each_way(rt: HostRuntime) -> Result<(), Fail> {
+    let alloc = rt.alloc();
+    fill(&rt, alloc, 1)?;
+    fill(&rt, alloc, 3)?;
+    fill(&rt, alloc, 1000)?;
+    fill(&rt, alloc, 65536)
 }

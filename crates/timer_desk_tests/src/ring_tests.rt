@@ -168,6 +168,7 @@ fn ended(rt: &impl Abort, desk: Desk<HierWheel, RingInlet>, end: ClientEnd)
     wound(rt, desk, reader);
 }
 
+/// Each call of a line passes something on. One that never does (`never_moves_on`) would meet its contract.
 #[test]
 fn a_ring_line_is_read_to_its_end(rt: HostRuntime) {
     let alloc = rt.alloc();

@@ -5,6 +5,7 @@
 use crate::facilities::numbers;
 use crate::fault::{Fault, same, see};
 use crate::lines::{locked, request, ring};
+use crate::rings::serve_in_room;
 use crate::wheels::hier;
 use std::alloc::Global;
 use std::sync::Wait;
@@ -349,8 +350,9 @@ fn submit_all(end: &mut ClientEnd, requests: &[(u64, u64)]) -> Result<(), Fault>
     Ok(())
 }
 
-/// A close over ring lines.
+/// A close over ring lines, after many calls in the room of a desk.
 pub fn close_over_rings(alloc: Global, by: By) -> Result<(), Fault> {
+    serve_in_room(alloc)?;
     let (mut zero, inlet) = ring_with(alloc, &[(5, 1), (1, 3)])?;
     let (mut one, other) = ring_with(alloc, &[(3, 2)])?;
     let mut desk = open(alloc, vec![in alloc; inlet, other]?)?;

@@ -3,7 +3,7 @@ ghost use Rattle.std.specs.Prelude.{◌≡◌, [], OnOk};
 
 use crate::fault::{Fault, same, see};
 use std::alloc::Global;
-use timer_base::Wheel;
+use timer_base::{Handle, Wheel};
 use timer_facility::{Answer, CloseFault, Config, Facility, NotTaken, Notice, Reason, Request};
 
 /// The numbers of every scenario's facility.
@@ -144,7 +144,8 @@ fn see_handed<W: Wheel + Drop>(
 /// How many timers a facility with room may hold.
 const ROOM: u64 = 1000;
 
-/// Makes room for all timers, at the second try if the first is refused, and starts `starts` of them.
+/// Makes room for all timers, at the second try if the first is refused. Starts this many of them, lets them expire,
+/// and replaces others as often.
 pub fn start_with_room<W: Wheel + Drop>(alloc: Global, wheel: W, starts: u64) -> Result<(), Fault>
     requires pending { (W.state wheel).pending ≡ [] }
     requires due { (W.state wheel).due ≡ [] }
@@ -159,7 +160,64 @@ pub fn start_with_room<W: Wheel + Drop>(alloc: Global, wheel: W, starts: u64) ->
     for number in 1..=starts {
         start(&mut facility, 0, number, number, number)?;
     }
-    same(facility.pending() as u64, starts, "how many are pending")
+    same(facility.pending() as u64, starts, "how many are pending")?;
+    expire_in_room(&mut facility, starts)?;
+    replace_in_room(&mut facility, starts)
+}
+
+/// Lets the timers with the serials up to `starts` expire, one at each tick. No call allocates.
+fn expire_in_room<W: Wheel + Drop>(facility: &mut Facility<W>, starts: u64) -> Result<(), Fault> {
+    for serial in 1..=starts {
+        settle(facility)?;
+        let next = (facility.next_deadline(), facility.quiet_until().is_some());
+        same(next, (Some(serial), true), "the next deadline")?;
+        same(facility.ticks(ROOM), Ok(1), "the ticks up to it")?;
+        see_handed(facility, serial, false)?;
+    }
+    same(facility.next_out(), None, "a timer too many")
+}
+
+/// Starts, restarts and stops a timer, this many times. No request is refused for memory.
+fn replace_in_room<W: Wheel + Drop>(facility: &mut Facility<W>, rounds: u64) -> Result<(), Fault> {
+    for _ in 0..rounds {
+        let start = Request::Start {
+            interval: 9,
+            action: 0,
+        };
+        let handle = made(ask(facility, start)?)?;
+        let restart = Request::Restart {
+            handle,
+            interval: 5,
+            action: 0,
+        };
+        let restarted = made(ask(facility, restart)?)?;
+        let no_such = Answer::Refused(Reason::NoSuch);
+        same(ask(facility, Request::Stop(handle))?, no_such, "a stop")?;
+        let serial = restarted.serial;
+        let stopped = Answer::Stopped { serial };
+        same(ask(facility, Request::Stop(restarted))?, stopped, "a stop")?;
+    }
+    same(facility.pending(), 0, "what is left")
+}
+
+/// The answer to the next request of client 0, which is taken at once.
+fn ask<W: Wheel + Drop>(facility: &mut Facility<W>, request: Request) -> Result<Answer, Fault> {
+    settle(facility)?;
+    let Some(number) = facility.next_number(0) else {
+        return Err(Fault::Wrong("a client"));
+    };
+    match facility.take(0, number, request) {
+        Ok(answer) => Ok(answer),
+        Err(_) => Err(Fault::Wrong("a request that is taken")),
+    }
+}
+
+/// The handle of a timer that is started or restarted.
+pub fn made(answer: Answer) -> Result<Handle, Fault> {
+    match answer {
+        Answer::Started { handle, .. } | Answer::Restarted { handle, .. } => Ok(handle),
+        _ => Err(Fault::Wrong("a start or a restart")),
+    }
 }
 
 fn reserve<W: Wheel + Drop>(facility: &mut Facility<W>) -> Result<(), Fault> {

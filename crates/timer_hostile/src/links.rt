@@ -1,4 +1,4 @@
-//! Lists of nodes: a push is refused.
+//! Lists of nodes, or a `Vec` of timers: a push is refused.
 use crate::fault::{Fault, same, see};
 use std::alloc::Global;
 use timer_base::{OutOfMemory, Timer};
@@ -88,4 +88,22 @@ fn fill(links: &mut Links) -> Result<(), Fault> {
         push(links, serial)?;
     }
     see(has_serials(links, 100), "a hundred nodes")
+}
+
+/// Pushes a hundred timers to a `Vec`, which is all that a plain wheel has.
+pub fn push_to_vec(alloc: Global) -> Result<(), Fault> {
+    let mut timers = Vec::new(alloc);
+    for serial in 1..=100 {
+        push_timer(&mut timers, node(serial).timer)?;
+    }
+    same(timers.len(), 100, "a hundred timers")
+}
+
+fn push_timer(timers: &mut Vec<Timer>, timer: Timer) -> Result<(), Fault> {
+    for _ in 0..2 {
+        if timers.push(timer).is_ok() {
+            return Ok(());
+        }
+    }
+    Err(Fault::RefusedTwice)
 }

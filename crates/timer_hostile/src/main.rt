@@ -18,6 +18,8 @@ mod handles;
 mod lines;
 mod links;
 mod plays;
+mod rings;
+mod room;
 mod scenario;
 mod texts;
 mod wheels;

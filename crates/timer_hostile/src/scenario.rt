@@ -5,7 +5,7 @@ use crate::facilities::{start_and_close, start_with_room};
 use crate::fault::Fault;
 use crate::handles::use_strange_handles;
 use crate::lines::{use_locked_line, use_memory_line, use_ring_line};
-use crate::links::push_a_hundred;
+use crate::links::{push_a_hundred, push_to_vec};
 use crate::plays::play_row;
 use crate::texts::{read_script, write_text_of_outs};
 use crate::wheels::{hashed, hier, list_a_few, plain, start_a_hundred};
@@ -27,6 +27,8 @@ pub enum Kind {
 pub enum Scenario {
     /// A hundred pushes to this number of lists.
     Pushes(usize),
+    /// A hundred pushes to a `Vec`.
+    VecPushes,
     Starts(Kind),
     Lists(Kind),
     Facility(Kind),
@@ -54,7 +56,8 @@ const WIDE: Kind = Kind::Hier(Table::Wide);
 const CLOCK: Kind = Kind::Hier(Table::Clock);
 
 /// Each scenario with its name.
-pub static SCENARIOS: [(&str, Scenario); 58] = [
+pub static SCENARIOS: [(&str, Scenario); 59] = [
+    ("pushes-vec", Scenario::VecPushes),
     ("pushes-9", Scenario::Pushes(9)),
     ("pushes-257", Scenario::Pushes(257)),
     ("pushes-641", Scenario::Pushes(641)),
@@ -126,6 +129,7 @@ pub fn play<R: AllocGlobal + Wait>(rt: &R, scenario: Scenario) -> Result<bool, F
     let alloc = rt.alloc();
     match scenario {
         Scenario::Pushes(lists) => push_a_hundred(alloc, lists)?,
+        Scenario::VecPushes => push_to_vec(alloc)?,
         Scenario::Starts(kind) => starts(alloc, kind)?,
         Scenario::Lists(kind) => lists(alloc, kind)?,
         Scenario::Facility(kind) => facility(alloc, kind)?,
@@ -148,17 +152,17 @@ pub fn play<R: AllocGlobal + Wait>(rt: &R, scenario: Scenario) -> Result<bool, F
 
 fn starts(alloc: Global, kind: Kind) -> Result<(), Fault> {
     match kind {
-        Kind::Plain => start_a_hundred(&mut plain(alloc)?),
-        Kind::Hashed(slots) => start_a_hundred(&mut hashed(alloc, slots)?),
-        Kind::Hier(table) => start_a_hundred(&mut hier(alloc, table)?),
+        Kind::Plain => start_a_hundred(plain(alloc)?),
+        Kind::Hashed(slots) => start_a_hundred(hashed(alloc, slots)?),
+        Kind::Hier(table) => start_a_hundred(hier(alloc, table)?),
     }
 }
 
 fn lists(alloc: Global, kind: Kind) -> Result<(), Fault> {
     match kind {
-        Kind::Plain => list_a_few(&mut plain(alloc)?),
-        Kind::Hashed(slots) => list_a_few(&mut hashed(alloc, slots)?),
-        Kind::Hier(table) => list_a_few(&mut hier(alloc, table)?),
+        Kind::Plain => list_a_few(plain(alloc)?),
+        Kind::Hashed(slots) => list_a_few(hashed(alloc, slots)?),
+        Kind::Hier(table) => list_a_few(hier(alloc, table)?),
     }
 }
 

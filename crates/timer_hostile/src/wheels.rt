@@ -1,15 +1,18 @@
-//! Wheels of each scheme: a start or a list is refused.
+//! Wheels of each scheme, behind total calls: a start or a list is refused.
 ghost use Rattle.std.specs.Prelude.{◌≡◌, IfOk};
 ghost use Rattle.timer_base.specs.declared.limits.TheConstants.{LAST};
 ghost use Rattle.timer_base.specs.declared.plain.PlainWheel.{PlainWheel};
 ghost use Rattle.timer_base.specs.WheelState.{empty_wheel};
+ghost use Rattle.timer_total.specs.Deadlines.{IsCounted};
 ghost use Rattle.timer_wheels.specs.declared.hashed.HashedWheel.{HashedWheel};
 ghost use Rattle.timer_wheels.specs.declared.hier.HierWheel.{HierWheel};
 ghost use Rattle.timer_wheels.specs.Tables.{last_of_table, slots_of_table};
 
 use crate::fault::{Fault, same, see};
+use crate::room::call_in_room;
 use std::alloc::Global;
-use timer_base::{LAST, OutOfMemory, PlainWheel, Timer, Wheel};
+use timer_base::{PlainWheel, Timer, Wheel};
+use timer_total::{StartFault, Timers};
 use timer_wheels::{HashedWheel, HierWheel, Table};
 
 /// How many timers a scenario starts: one less than a prime number.
@@ -67,16 +70,16 @@ fn list<W: Wheel>(wheel: &W) -> Result<Vec<Timer>, Fault> {
 }
 
 /// Goes on only if the timers with the serials from 1 to `last` are pending, and no others.
-fn see_pending<W: Wheel>(wheel: &W, last: u64) -> Result<(), Fault> {
+fn see_pending<W: Wheel + Drop>(timers: &Timers<W>, last: u64) -> Result<(), Fault> {
     let shown = (
-        wheel.now(),
-        wheel.last_serial(),
-        wheel.len() as u64,
-        wheel.has_due(),
+        timers.now(),
+        timers.last_serial(),
+        timers.len() as u64,
+        timers.has_due(),
     );
     same(shown, (0, last, last, false), "a wheel's readers")?;
-    let timers = list(wheel)?;
-    see_timers(&timers, last)
+    let listed = list(timers.wheel())?;
+    see_timers(&listed, last)
 }
 
 /// Goes on only if these are the timers with the serials from 1 to `last`, by deadline.
@@ -94,37 +97,31 @@ fn see_timers(timers: &[Timer], last: u64) -> Result<(), Fault> {
 }
 
 /// Starts the next timer. False if that is refused.
-fn try_start<W: Wheel>(wheel: &mut W) -> Result<bool, Fault> {
-    let last = wheel.last_serial();
-    if last >= LAST {
-        return Err(Fault::Wrong("the serials"));
-    }
-    let deadline = deadline_of(last + 1);
-    if wheel.now() >= deadline || deadline > wheel.last_tick() {
-        return Err(Fault::Wrong("the clock"));
-    }
+fn try_start<W: Wheel + Drop>(timers: &mut Timers<W>) -> Result<bool, Fault> {
+    let last = timers.last_serial();
     let timer = Timer {
-        serial: last + 1,
-        client: 7,
-        number: 3,
-        deadline,
+        serial: last.wrapping_add(1),
+        client: 0,
+        number: 0,
+        deadline: deadline_of(last.wrapping_add(1)),
         action: last,
     };
-    match wheel.start(timer) {
+    match timers.start_at(timer.deadline, timer.action) {
         Ok(handle) => {
-            same(wheel.look(handle), Some(timer), "a started timer")?;
+            same(timers.look(handle), Some(timer), "a started timer")?;
             Ok(true)
         }
-        Err(OutOfMemory) => {
-            see_pending(wheel, last)?;
+        Err(StartFault::OutOfMemory) => {
+            see_pending(timers, last)?;
             Ok(false)
         }
+        Err(_) => Err(Fault::Wrong("a start")),
     }
 }
 
-fn start<W: Wheel>(wheel: &mut W) -> Result<(), Fault> {
+fn start<W: Wheel + Drop>(timers: &mut Timers<W>) -> Result<(), Fault> {
     for _ in 0..2 {
-        if try_start(wheel)? {
+        if try_start(timers)? {
             return Ok(());
         }
     }
@@ -132,36 +129,40 @@ fn start<W: Wheel>(wheel: &mut W) -> Result<(), Fault> {
 }
 
 /// Goes to the next tick, at which just one timer expires.
-fn expire_at_next_tick<W: Wheel>(wheel: &mut W) -> Result<(), Fault> {
-    if wheel.has_due() || wheel.now() >= wheel.last_tick() {
-        return Err(Fault::Wrong("a tick"));
-    }
-    wheel.per_tick();
-    let Some(timer) = wheel.expire() else {
+fn expire_at_next_tick<W: Wheel + Drop>(timers: &mut Timers<W>) -> Result<(), Fault> {
+    see(timers.tick().is_ok(), "a tick")?;
+    let Some(timer) = timers.expire() else {
         return Err(Fault::Wrong("a timer that didn't expire"));
     };
-    same(timer.deadline, wheel.now(), "the tick of a timer")?;
+    same(timer.deadline, timers.now(), "the tick of a timer")?;
     let deadline = deadline_of(timer.serial);
     same(timer.deadline, deadline, "the deadline of a timer")?;
-    same(wheel.expire(), None, "a timer too many")
+    same(timers.expire(), None, "a timer too many")
 }
 
-/// Starts a hundred timers, and lets each of them expire.
-pub fn start_a_hundred<W: Wheel>(wheel: &mut W) -> Result<(), Fault> {
+/// Starts a hundred timers, and lets each of them expire. In their room, each call is made that doesn't allocate.
+pub fn start_a_hundred<W: Wheel + Drop>(wheel: W) -> Result<(), Fault>
+    requires { IsCounted 0 (W.state wheel) }
+{
+    let mut timers = Timers::new(wheel, 0);
     for _ in 0..STARTS {
-        start(wheel)?;
+        start(&mut timers)?;
     }
     for _ in 0..STARTS {
-        expire_at_next_tick(wheel)?;
+        expire_at_next_tick(&mut timers)?;
     }
-    same((wheel.len(), wheel.now()), (0, STARTS), "the end")
+    same((timers.len(), timers.now()), (0, STARTS), "the end")?;
+    call_in_room(&mut timers)
 }
 
 /// Starts a few timers, and lists them.
-pub fn list_a_few<W: Wheel>(wheel: &mut W) -> Result<(), Fault> {
+pub fn list_a_few<W: Wheel + Drop>(wheel: W) -> Result<(), Fault>
+    requires { IsCounted 0 (W.state wheel) }
+{
+    let mut timers = Timers::new(wheel, 0);
     for last in 1..=5 {
-        start(wheel)?;
-        see_pending(wheel, last)?;
+        start(&mut timers)?;
+        see_pending(&timers, last)?;
     }
     Ok(())
 }

@@ -145,6 +145,7 @@ fn clients_in_turn_are_served_beside_each_other(rt: HostRuntime) -> Result<(), F
     Ok(())
 }
 
+/// Clients on one thread, or served after they ended (`serves_after_the_threads`), would come to their limit.
 #[test]
 fn clients_that_wait_for_each_other_meet(rt: HostRuntime) -> Result<(), Fail> {
     let alloc = rt.alloc();

@@ -52,6 +52,7 @@ const TURNS: [Turn; 8] = [
     (16, &[4], &[], &[], None),
 ];
 
+/// A wheel that `keeps_one_ordered_list` has other buckets.
 #[test]
 fn a_timer_stays_in_its_bucket_until_its_last_round(rt: HostRuntime) -> Result<(), Fail> {
     let mut wheel = HashedWheel::new(rt.alloc(), 8, 0)?;

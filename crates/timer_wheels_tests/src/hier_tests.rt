@@ -254,6 +254,7 @@ fn see(rt: &impl Abort, picture: Picture, wheel: &mut HierWheel) -> Result<(), O
     Ok(())
 }
 
+/// A wheel that `keeps_one_ordered_list` has other buckets.
 #[test]
 fn each_timer_stands_where_the_pictures_show_it(rt: HostRuntime) -> Result<(), Fail> {
     for picture in PICTURES {
