@@ -1,4 +1,4 @@
-//! The numbers that C sees. `include/timers.h` has the same, and tools/c_tests compares them.
+//! The numbers that C sees. `include/timers.h` has the same, and tests/headers.bats compares them.
 
 /// The call was done.
 pub const OK: u32 = 0;
