@@ -3,8 +3,7 @@ pub mod PendingLaws
 pub mod PlainExpiries
 pub mod PlainClears
 pub mod PlainJumps
-pub mod PlainLooks
+pub mod PlainHeld
 pub mod PlainSteps
 pub mod SortedTimers
-pub mod PlainRestarts
 pub mod PlainWakeUps

@@ -1,7 +1,8 @@
 -- Lemmas for `start` and `per_tick` of a `PlainWheel`: the state, and the count of due timers.
-use Rattle.std.proofs.Common.{◌≡◌, ◌<◌, ◌≤◌, ◌+◌, ◌-◌, ℕ, suc, Bool, true, false, not, List, [], ◌∷◌, ◌++◌, length, refl, sym, ◌∙◌, ap, inl, inr, arith, append-nil}
+use Rattle.std.proofs.Common.{◌≡◌, ◌≢◌, ◌<◌, ◌≤◌, ◌+◌, ◌-◌, ℕ, suc, Bool, true, false, not, List, [], ◌∷◌, ◌++◌, length, refl, sym, ◌∙◌, ap, inl, inr, arith, append-nil, length-append}
 use Rattle.std.specs.Prelude.{map, filter, nat_lt, if◌then◌else◌}
 use Rattle.std.specs.List.{AllByRecursion}
+use Rattle.std.proofs.lemmas.Bool.{cases_lt, cases_eq}
 use Rattle.std.proofs.lemmas.Bool.Decides.{nat_tests}
 use Rattle.timer_base.specs.declared.timer.Timer.{Timer}
 use Rattle.timer_base.specs.declared.limits.TheConstants.{LAST}
@@ -9,10 +10,11 @@ use Rattle.timer_base.specs.Order.{in_order, itself, insert_by_deadline, AreRisi
 use Rattle.timer_base.specs.OrderLaws.{either, in_order-newest, filter-in_order, in_order-same, AllAt-filter, AreRising-filter, length-in_order}
 use Rattle.timer_base.specs.OneOrder.{map-itself}
 use Rattle.timer_base.specs.Pending.{Entry, put, is_due_at}
-use Rattle.timer_base.specs.WheelState.{WheelState, after_start, after_tick, with_room, held_count}
+use Rattle.timer_base.specs.WheelState.{WheelState, after_start, after_due_start, after_held_start, after_tick, with_room, held_count}
+use Rattle.timer_base.specs.HeldLaws.{start_when_later, start_when_now}
 use Rattle.timer_base.specs.PlainState.{IsKept, AreDueAfter, is_after, due_count, at_first_place, plain_state}
 
-after_one : (now : ℕ) (t : Timer) → now ≤ t.deadline → is_due_at now t ≡ false → now < t.deadline
+pub after_one : (now : ℕ) (t : Timer) → now ≤ t.deadline → is_due_at now t ≡ false → now < t.deadline
 after_one now t h k = grind (arith, nat_tests)
 
 -- with nothing due, each is after the tick
@@ -23,8 +25,11 @@ all_after now last (t ∷ ts) k d = elim (either (is_due_at now t)) [
   | inr h ↦ (after_one now t k.0.not_before h, all_after now last ts k.1 (rw h at d))
 ]
 
-after_is : (now : ℕ) (t : Timer) → now < t.deadline → is_after now t ≡ true
+pub after_is : (now : ℕ) (t : Timer) → now < t.deadline → is_after now t ≡ true
 after_is now t h = grind (arith, nat_tests)
+
+pub due_not_after : (now : ℕ) (t : Timer) → is_due_at now t ≡ true → is_after now t ≡ false
+due_not_after now t h = grind (arith, nat_tests)
 
 pub filter_after : (now : ℕ) (ts : List Timer) → AreDueAfter now ts → filter (is_after now) ts ≡ ts
 filter_after now [] a = refl
@@ -146,7 +151,7 @@ newest_last t ts b =
     let below : AreBelow t.serial (map itself (ts ++ [])) = rw (all, map-itself ts) b in
     in_order-newest itself t ts [] below ∙ ap (λ us. insert_by_deadline itself t (in_order itself us)) all
 
-pub plain_state-after_start : (now last : ℕ) (ts : List Timer) (t : Timer) → AllByRecursion (IsKept now last) ts → last < t.serial
+plain_state-after_start : (now last : ℕ) (ts : List Timer) (t : Timer) → AllByRecursion (IsKept now last) ts → last < t.serial
     → now < t.deadline
     → plain_state now t.serial (ts ++ t ∷ []) ≡ after_start 0 t (plain_state now last ts)
 plain_state-after_start now last ts t k h l =
@@ -157,6 +162,32 @@ plain_state-after_start now last ts t k h l =
     ∙ map-insert_by_deadline t (in_order itself (filter (is_after now) ts)))
     (ap (map at_first_place) (filter-append_no (is_due_at now) ts t (not_due_yet now t l)))
 
+map-append : (ts us : List Timer) → map at_first_place (ts ++ us) ≡ map at_first_place ts ++ map at_first_place us
+map-append [] us = refl
+map-append (t ∷ ts) us = ap (λ (r : List Entry). at_first_place t ∷ r) (map-append ts us)
+
+due_now : (now : ℕ) (t : Timer) → t.deadline ≡ now → is_due_at now t ≡ true
+due_now now t h = grind (arith, nat_tests)
+
+plain_state-after_due_start : (now last : ℕ) (ts : List Timer) (t : Timer) → t.deadline ≡ now
+    → plain_state now t.serial (ts ++ t ∷ []) ≡ after_due_start 0 t (plain_state now last ts)
+plain_state-after_due_start now last ts t h =
+    let due : is_due_at now t ≡ true = due_now now t h in
+    state_is now t.serial
+    (ap (λ us. map at_first_place (in_order itself us)) (filter-append_no (is_after now) ts t (due_not_after now t due)))
+    (ap (map at_first_place) (filter-append_yes (is_due_at now) ts t due) ∙ map-append (filter (is_due_at now) ts) (t ∷ []))
+
+-- for now or later
+pub plain_state-after_held_start : (now last : ℕ) (ts : List Timer) (t : Timer) → AllByRecursion (IsKept now last) ts
+    → last < t.serial → now ≤ t.deadline
+    → plain_state now t.serial (ts ++ t ∷ []) ≡ after_held_start 0 t (plain_state now last ts)
+plain_state-after_held_start now last ts t k h l = elim (cases_lt now t.deadline) [
+  | inl later ↦ plain_state-after_start now last ts t k h later ∙ sym (start_when_later 0 t (plain_state now last ts) later)
+  | inr same ↦
+      let due : t.deadline ≡ now = omega arith in
+      plain_state-after_due_start now last ts t due ∙ sym (start_when_now 0 t (plain_state now last ts) due)
+]
+
 kept_one : (now last new : ℕ) (t : Timer) → last < new → IsKept now last t → IsKept now new t
 kept_one now last new t h k = record {
   not_before = k.not_before;
@@ -166,7 +197,7 @@ kept_one now last new t h k = record {
 }
 
 pub kept-after_start : (now last : ℕ) (ts : List Timer) (t : Timer) → AllByRecursion (IsKept now last) ts → last < t.serial
-    → now < t.deadline → t.deadline ≤ LAST
+    → now ≤ t.deadline → t.deadline ≤ LAST
     → AllByRecursion (IsKept now t.serial) (ts ++ t ∷ [])
 kept-after_start now last [] t k h l m = (record { not_before = omega arith; in_range = m; serial = omega arith }, tt)
 kept-after_start now last (x ∷ xs) t k h l m = (kept_one now last t.serial x h k.0, kept-after_start now last xs t k.1 h l m)
@@ -184,8 +215,24 @@ pub rising-after_start : (now last : ℕ) (ts : List Timer) (t : Timer) → AllB
     → last < t.serial → AreRising 0 (ts ++ t ∷ [])
 rising-after_start now last ts t k r l = rising_on 0 now last ts t k r (omega arith) l
 
-pub due_count-after_start : (now : ℕ) (ts : List Timer) (t : Timer) → now < t.deadline → due_count now (ts ++ t ∷ []) ≡ due_count now ts
-due_count-after_start now ts t l = ap length (filter-append_no (is_due_at now) ts t (not_due_yet now t l))
+not_now : (now : ℕ) (t : Timer) → t.deadline ≢ now → is_due_at now t ≡ false
+not_now now t h = grind (arith, nat_tests)
+
+-- one more is due if the new timer is
+pub due_count-after_start : (now due more : ℕ) (ts : List Timer) (t : Timer) → due ≡ due_count now ts
+    → (t.deadline ≡ now → more ≡ 1) → (t.deadline ≢ now → more ≡ 0) → due + more ≡ due_count now (ts ++ t ∷ [])
+due_count-after_start now due more ts t e one none = elim (cases_eq t.deadline now) [
+  | inl h ↦
+      let m : more ≡ 1 = one h in
+      let d : due_count now (ts ++ t ∷ []) ≡ due_count now ts + 1 =
+      ap length (filter-append_yes (is_due_at now) ts t (due_now now t h)) ∙ length-append (filter (is_due_at now) ts) (t ∷ []) in
+      omega arith
+  | inr n ↦
+      let m : more ≡ 0 = none n in
+      let d : due_count now (ts ++ t ∷ []) ≡ due_count now ts =
+      ap length (filter-append_no (is_due_at now) ts t (not_now now t n)) in
+      omega arith
+]
 
 -- How many are pending and how many are due.
 
@@ -195,9 +242,6 @@ length-map (t ∷ ts) = ap suc (length-map ts)
 
 length-pending : (now last : ℕ) (ts : List Timer) → length (plain_state now last ts).pending ≡ length (filter (is_after now) ts)
 length-pending now last ts = length-map (in_order itself (filter (is_after now) ts)) ∙ length-in_order itself (filter (is_after now) ts)
-
-pub due_not_after : (now : ℕ) (t : Timer) → is_due_at now t ≡ true → is_after now t ≡ false
-due_not_after now t h = grind (arith, nat_tests)
 
 all_counted : (now last : ℕ) (ts : List Timer) → AllByRecursion (IsKept now last) ts
     → length (filter (is_after now) ts) + due_count now ts ≡ length ts

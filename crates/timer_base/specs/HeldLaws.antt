@@ -1,6 +1,6 @@
 -- Held timers: what a call on pending and due timers says when nothing is due, and of a deadline after now. They are
 -- in specs/ since crates above cite them.
-use Rattle.std.specs.Prelude.{◌≡◌, ◌≢◌, ℕ, ◌<◌, ◌≤◌, Bool, true, false, not, nat_lt, List, [], ◌∷◌, filter, Option, Some, None, refl}
+use Rattle.std.specs.Prelude.{◌≡◌, ◌≢◌, ℕ, ◌<◌, Bool, true, false, nat_lt, List, [], ◌∷◌, Option, Some, None, refl}
 use Rattle.std.proofs.Common.{◌∙◌, ap, sym, subst, inl, inr, arith, ◌==◌, ◌&&◌}
 use Rattle.std.proofs.lemmas.Bool.{ne_eqb, eq-eqb, eqb-true}
 use Rattle.std.proofs.lemmas.Bool.Decides.{nat_tests}
@@ -8,8 +8,8 @@ use Rattle.timer_base.specs.declared.timer.Timer.{Timer}
 use Rattle.timer_base.specs.declared.timer.Handle.{Handle}
 use Rattle.timer_base.specs.Order.{AreDistinct, IsNotAmong}
 use Rattle.timer_base.specs.OrderLaws.{either}
-use Rattle.timer_base.specs.Pending.{Entry, timers_of, has_handle, has_serial, first_timer, first_found, without_serial, without_found, without_handle}
-use Rattle.timer_base.specs.WheelState.{WheelState, IsWellFormed, timer_at, due_at, held_at, after_start, after_due_start, after_held_start, after_stop, after_removal, after_restart, after_replacement, with_room}
+use Rattle.timer_base.specs.Pending.{Entry, timers_of, has_handle, first_timer, first_found, without_serial, without_found, without_handle}
+use Rattle.timer_base.specs.WheelState.{WheelState, timer_at, due_at, held_at, after_start, after_due_start, after_held_start, after_stop, after_removal, after_restart, after_replacement, with_room}
 
 -- A look.
 

@@ -134,9 +134,7 @@ impl Wheel for PlainWheel {
         let Ok(()) = self.timers.push(timer) else {
             return Err(OutOfMemory);
         };
-        if timer.deadline == self.now {
-            self.due += 1;
-        }
+        self.due += usize::from(timer.deadline == self.now);
         self.last_serial = timer.serial;
         Ok(Handle {
             place: 0,

@@ -1,16 +1,16 @@
-use Rattle.timer_base.specs.WheelState.{with_room}
 use Rattle.std.proofs.Common.{sym, ◌∙◌, ap}
-use Rattle.timer_base.specs.OrderLaws.{AreRising-filter, All-filter}
-use Rattle.timer_base.specs.Pending.{without_found}
-use Rattle.timer_base.specs.PlainState.{IsKept, plain_state}
-use Rattle.timer_base.proofs.PlainLooks.{plain_state-after_stop, due_count-without}
+use Rattle.timer_base.specs.HeldLaws.{none_removed}
+use Rattle.timer_base.specs.OrderLaws.{AreRising-filter}
+use Rattle.timer_base.specs.PlainState.{due_count, plain_state}
+use Rattle.timer_base.specs.WheelState.{with_room}
+use Rattle.timer_base.proofs.PlainHeld.{kept-without, plain_state-after_removal}
 use Rattle.timer_base.proofs.plain.PlainWheelWheel.stop.Goals as goal
 
 pub returns-in_err-stopped-clause-stopped : goal.returns-in_err-stopped-clause-stopped
 returns-in_err-stopped-clause-stopped c =
     let s = c.args.self.now in
-    let w = with_room s.room (plain_state s.now s.last_serial s.timers.items) in
-    ap (λ o. record w { pending = without_found o w.pending }) (sym c.in_err-stopped.was ∙ c.look.ensures)
+    none_removed c.args.handle (with_room s.room (plain_state s.now s.last_serial s.timers.items))
+    (sym c.look.ensures.timer ∙ c.in_err-stopped.was)
 
 pub invariant_of-self-clause-rising : goal.invariant_of-self-clause-rising
 invariant_of-self-clause-rising c = rw c.drop_serial.ensures.items
@@ -19,18 +19,15 @@ invariant_of-self-clause-rising c = rw c.drop_serial.ensures.items
 pub invariant_of-self-clause-kept : goal.invariant_of-self-clause-kept
 invariant_of-self-clause-kept c =
     let s = c.args.self.now in
-    rw c.drop_serial.ensures.items (All-filter (IsKept s.now s.last_serial) (IsKept s.now s.last_serial) _ s.timers.items
-    (λ x e k. k) s.kept)
+    rw c.drop_serial.ensures.items (kept-without s.now s.last_serial c.in_ok-stopped.stopped.serial s.timers.items s.kept)
 
 pub invariant_of-self-clause-counted : goal.invariant_of-self-clause-counted
 invariant_of-self-clause-counted c =
     let s = c.args.self.now in
-    rw c.drop_serial.ensures.items (s.counted ∙ sym (due_count-without s.now s.last_serial s.timers.items c.args.handle
-    c.in_ok-stopped.stopped s.rising (sym c.look.ensures ∙ c.in_ok-stopped.was)))
+    c.count_due-self.ensures ∙ ap (due_count s.now) c.as_slice.ensures.value
 
 pub returns-clause-stopped : goal.returns-clause-stopped
 returns-clause-stopped c =
     let s = c.args.self.now in
-    rw c.drop_serial.ensures.items (ap (with_room s.room) (plain_state-after_stop s.now s.last_serial s.timers.items c.args.handle
-    c.in_ok-stopped.stopped s.rising
-    (sym c.look.ensures ∙ c.in_ok-stopped.was)))
+    rw c.drop_serial.ensures.items (ap (with_room s.room) (plain_state-after_removal s.now s.last_serial s.timers.items
+    c.args.handle s.kept s.rising c.in_ok-stopped.stopped (sym c.look.ensures.timer ∙ c.in_ok-stopped.was)))
