@@ -1,0 +1,29 @@
+-- What a caller sees of `Timers`, and the state after a start and after ticks.
+use Rattle.std.specs.Prelude.{ℕ, ◌+◌, ◌==◌, if◌then◌else◌}
+use Rattle.timer_base.specs.Counts.{WheelCounts}
+use Rattle.timer_base.specs.WheelState.{WheelState}
+
+pub record TimersState : Type 0 where
+  -- the wheel's state; its last serial may be lower than that of the timers
+  pub wheel : WheelState
+  -- what the wheel counted
+  pub counts : WheelCounts
+  -- the serial of the last start or restart, also of one over an earlier wheel
+  pub last_serial : ℕ
+
+-- the wheel is in this state, and nothing is counted
+abbrev pub with_wheel : WheelState → TimersState → TimersState
+with_wheel wheel s = record s { wheel = wheel }
+
+-- a timer was started or restarted, and the wheel is in this state
+abbrev pub with_start : (WheelCounts → WheelCounts) → WheelState → TimersState → TimersState
+with_start count_start wheel s = record {
+  wheel = wheel;
+  counts = count_start s.counts;
+  last_serial = s.last_serial + 1;
+}
+
+-- ticks were passed by one advance, if any were, and the wheel came from the first state to the second
+abbrev pub counts_of_ticks : (WheelState → WheelState → WheelCounts → WheelCounts) → ℕ → WheelState → WheelState → WheelCounts
+    → WheelCounts
+counts_of_ticks count_advance passed old new counts = if passed == 0 then counts else count_advance old new counts
