@@ -1,15 +1,16 @@
 -- Lemmas about the pending timers: a tick removes the front, a start keeps the order, and a stop removes one.
 use Rattle.std.proofs.Common.{◌≡◌, ◌≢◌, ◌<◌, ◌≤◌, ◌+◌, ℕ, Bool, true, false, ◌⊎◌, List, [], ◌∷◌, ◌++◌, length, refl, sym, ◌∙◌, ap, inl, inr, arith}
-use Rattle.std.specs.Prelude.{Some}
+use Rattle.std.specs.Prelude.{Option, Some, None}
 use Rattle.std.specs.List.{AllByRecursion}
 use Rattle.std.proofs.lemmas.Bool.Decides.{nat_tests}
 use Rattle.timer_base.specs.declared.timer.Timer.{Timer}
 use Rattle.timer_base.specs.declared.timer.Handle.{Handle}
 use Rattle.timer_base.specs.Order.{is_before, in_order, insert_in_order, IsFirst, IsOrdered, IsNotAmong, AreDistinct, AreBelow}
-use Rattle.timer_base.specs.OrderLaws.{either, insert_newest}
+use Rattle.timer_base.specs.HeldLaws.{without_handle-found, without_handle-none}
+use Rattle.timer_base.specs.OrderLaws.{either, insert_newest, AreDistinct-rising}
 use Rattle.timer_base.specs.OneOrder.{in_order-ordered}
-use Rattle.timer_base.specs.Pending.{Entry, timer_of, timers_of, put, has_serial, has_handle, is_due_at, first_timer, entries_due, entries_left, without_serial}
-use Rattle.timer_base.specs.WheelState.{WheelState, IsWellFormed, IsPending, timer_at, after_start, after_stop}
+use Rattle.timer_base.specs.Pending.{Entry, timer_of, timers_of, put, has_serial, has_handle, is_due_at, first_timer, first_found, entries_due, entries_left, without_serial, without_found, without_handle}
+use Rattle.timer_base.specs.WheelState.{WheelState, IsWellFormed, IsPending, NamesOne, timer_at, due_at, held_at, held_count, after_start, after_stop, after_removal}
 
 -- A tick.
 
@@ -121,3 +122,34 @@ one_goes test t (e ∷ es) d f = one_goes_step test e t es (one_goes test t es d
 pub stop_takes_one : (w : WheelState) (handle : Handle) (t : Timer) → IsWellFormed w → timer_at handle w ≡ Some t
     → length (after_stop handle w).pending + 1 ≡ length w.pending
 stop_takes_one w handle t k f = rw f (one_goes (has_handle handle) t w.pending k.distinct f)
+
+-- A stop of a held timer.
+
+goes : (handle : Handle) (t : Timer) (es : List Entry) → AreDistinct (timers_of es) → first_timer (has_handle handle) es ≡ Some t
+    → length (without_handle handle es) + 1 ≡ length es
+goes handle t es d f =
+    let e : without_handle handle es ≡ without_serial t.serial es =
+    without_handle-found handle es d ∙ ap (λ (o : Option Timer). without_found o es) f in
+    rw e (one_goes (has_handle handle) t es d f)
+
+no_timer : (t : Timer) → None ≡ Some t → ⊥
+no_timer t e = cc
+
+one_held_goes : (w : WheelState) (handle : Handle) (t : Timer) (p d : Option Timer) → IsWellFormed w → timer_at handle w ≡ p
+    → due_at handle w ≡ d → ((u : Timer) → p ≡ Some u → d ≡ None) → first_found p d ≡ Some t
+    → held_count (after_removal handle w) + 1 ≡ held_count w
+one_held_goes w handle t (Some u) d k e f one found =
+    let less : length (without_handle handle w.pending) + 1 ≡ length w.pending = goes handle u w.pending k.distinct e in
+    let same : without_handle handle w.due ≡ w.due = without_handle-none handle w.due (f ∙ one u refl) in
+    rw same (omega arith)
+one_held_goes w handle t None (Some u) k e f one found =
+    let less : length (without_handle handle w.due) + 1 ≡ length w.due =
+    goes handle u w.due (AreDistinct-rising 0 (timers_of w.due) k.due_rising) f in
+    let same : without_handle handle w.pending ≡ w.pending = without_handle-none handle w.pending e in
+    rw same (omega arith)
+one_held_goes w handle t None None k e f one found = absurd (no_timer t found)
+
+pub held_stop_takes_one : (w : WheelState) (handle : Handle) (t : Timer) → IsWellFormed w → NamesOne handle w
+    → held_at handle w ≡ Some t → held_count (after_removal handle w) + 1 ≡ held_count w
+held_stop_takes_one w handle t k one f =
+    one_held_goes w handle t (timer_at handle w) (due_at handle w) k refl refl one f

@@ -109,6 +109,14 @@ start_when_now place t w h = elim (either (nat_lt w.now t.deadline)) [
   | inr k ↦ rw k refl
 ]
 
+-- either way it is the last one that was started
+pub held_start-last_serial : (place : ℕ) (t : Timer) (w : WheelState) → (after_held_start place t w).last_serial ≡ t.serial
+held_start-last_serial place t w = elim (either (nat_lt w.now t.deadline)) [ inl k ↦ rw k refl | inr k ↦ rw k refl ]
+
+-- and the clock stays
+pub held_start-now : (place : ℕ) (t : Timer) (w : WheelState) → (after_held_start place t w).now ≡ w.now
+held_start-now place t w = elim (either (nat_lt w.now t.deadline)) [ inl k ↦ rw k refl | inr k ↦ rw k refl ]
+
 -- room changes nothing of a start
 pub with_room-held_start : (room place : ℕ) (t : Timer) (w : WheelState)
     → with_room room (after_held_start place t w) ≡ after_held_start place t (with_room room w)
@@ -126,11 +134,11 @@ replacement_when_none_due (Some r) handle t w d e h =
 
 -- Where there is no timer, and once it is removed.
 
-none_first : (handle : Handle) (es : List Entry) → first_timer (has_handle handle) es ≡ None → without_handle handle es ≡ es
-none_first handle [] e = refl
-none_first handle (x ∷ xs) e = elim (either (has_handle handle x)) [
+pub without_handle-none : (handle : Handle) (es : List Entry) → first_timer (has_handle handle) es ≡ None → without_handle handle es ≡ es
+without_handle-none handle [] e = refl
+without_handle-none handle (x ∷ xs) e = elim (either (has_handle handle x)) [
   | inl h ↦ absurd (let f : Some x.timer ≡ None = rw h at e in cc)
-  | inr h ↦ rw h (ap (λ (r : List Entry). x ∷ r) (none_first handle xs (rw h at e)))
+  | inr h ↦ rw h (ap (λ (r : List Entry). x ∷ r) (without_handle-none handle xs (rw h at e)))
 ]
 
 neither : (a b : Option Timer) → first_found a b ≡ None → (a ≡ None) × (b ≡ None)
@@ -140,8 +148,8 @@ neither (Some t) b e = absurd (let f : Some t ≡ None = e in cc)
 pub none_removed : (handle : Handle) (w : WheelState) → held_at handle w ≡ None → w ≡ after_removal handle w
 none_removed handle w e =
     let n = neither (timer_at handle w) (due_at handle w) e in
-    ap (λ (p : List Entry). record w { pending = p }) (sym (none_first handle w.pending n.0))
-    ∙ ap (λ (q : List Entry). record w { pending = without_handle handle w.pending; due = q }) (sym (none_first handle w.due n.1))
+    ap (λ (p : List Entry). record w { pending = p }) (sym (without_handle-none handle w.pending n.0))
+    ∙ ap (λ (q : List Entry). record w { pending = without_handle handle w.pending; due = q }) (sym (without_handle-none handle w.due n.1))
 
 gone : (handle : Handle) (es : List Entry) → first_timer (has_handle handle) (without_handle handle es) ≡ None
 gone handle [] = refl

@@ -2,7 +2,7 @@
 //!
 //! The pending timers are one ordered list: a tick removes its front, a start inserts one timer, a stop
 //! removes one. That order is unique, so a wheel has no choice in what it lists or makes due.
-ghost use Rattle.std.specs.Prelude.{◌≡◌, ℕ, ◌+◌, ◌<◌, ◌++◌, List, [], ◌∷◌, Some, length};
+ghost use Rattle.std.specs.Prelude.{◌≡◌, ℕ, ◌+◌, ◌<◌, ◌++◌, List, [], ◌∷◌, Option, Some, None, length};
 ghost use Rattle.std.specs.List.Sorted.{IsPermutation};
 ghost use Rattle.timer_base.specs.declared.timer.Handle.{Handle};
 ghost use Rattle.timer_base.specs.declared.timer.Timer.{Timer};
@@ -10,7 +10,7 @@ ghost use Rattle.timer_base.specs.declared.limits.TheConstants.{LAST};
 ghost use Rattle.timer_base.specs.Order.{AreDistinct, IsOrdered, in_order};
 ghost use Rattle.timer_base.specs.Pending.{entries_due, entries_left, timer_of};
 ghost use Rattle.timer_base.specs.WakeUps.{IsWakeUp};
-ghost use Rattle.timer_base.specs.WheelState.{IsWellFormed, WheelState, after_start, after_stop, after_ticks, timer_at};
+ghost use Rattle.timer_base.specs.WheelState.{IsWellFormed, NamesOne, WheelState, after_due_start, after_held_start, after_removal, after_replacement, after_restart, after_start, after_stop, after_ticks, held_at, held_count, timer_at};
 
 /// A tick makes the front of the pending timers due, and leaves the rest pending.
 pub fn a_tick_cuts_the_front()
@@ -27,10 +27,34 @@ pub fn a_start_keeps_the_order()
         } ∷ w.pending) }
 {}
 
-/// A stop that finds a timer removes just that one.
+/// A stop that finds a timer removes just that one. `Wheel::look` says that each handle names one.
 pub fn a_stop_takes_one()
-    ensures { (w : WheelState) (handle : Handle) (t : Timer) → IsWellFormed w → timer_at handle w ≡ Some t
+    ensures held { (w : WheelState) (handle : Handle) (t : Timer) → IsWellFormed w → NamesOne handle w
+        → held_at handle w ≡ Some t → held_count (after_removal handle w) + 1 ≡ held_count w }
+    ensures pending { (w : WheelState) (handle : Handle) (t : Timer) → IsWellFormed w → timer_at handle w ≡ Some t
         → length (after_stop handle w).pending + 1 ≡ length w.pending }
+{}
+
+/// Once it is removed, its handle names nothing.
+pub fn a_stopped_timer_is_gone()
+    ensures { (w : WheelState) (handle : Handle) → held_at handle (after_removal handle w) ≡ None }
+{}
+
+/// When nothing is due, a look, a stop and a restart are of the pending timers alone.
+pub fn with_nothing_due_calls_are_of_pending_timers()
+    ensures look { (w : WheelState) (handle : Handle) → w.due ≡ [] → held_at handle w ≡ timer_at handle w }
+    ensures stop { (w : WheelState) (handle : Handle) → IsWellFormed w → w.due ≡ []
+        → after_removal handle w ≡ after_stop handle w }
+    ensures restart { (w : WheelState) (handle : Handle) (t : Timer) (r : Option (Handle × Timer)) → IsWellFormed w
+        → w.due ≡ [] → w.now < t.deadline → after_replacement r handle t w ≡ after_restart r handle t w }
+{}
+
+/// A timer that is started for a later tick is pending, and one that is started for now is the last of the due ones.
+pub fn a_start_is_for_later_or_for_now()
+    ensures later { (w : WheelState) (place : ℕ) (t : Timer) → w.now < t.deadline
+        → after_held_start place t w ≡ after_start place t w }
+    ensures now { (w : WheelState) (place : ℕ) (t : Timer) → t.deadline ≡ w.now
+        → after_held_start place t w ≡ after_due_start place t w }
 {}
 
 /// Nothing becomes due before a tick to wake up at: it is safe to sleep until then.

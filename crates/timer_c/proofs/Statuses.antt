@@ -2,10 +2,10 @@
 use Rattle.std.proofs.Common.{◌≡◌, ℕ, ◌⊎◌, inl, inr, ap, sym, subst, arith}
 use Rattle.std.specs.Prelude.{None}
 use Rattle.timer_base.specs.declared.timer.Handle as base
-use Rattle.timer_base.specs.WheelState.{WheelState}
+use Rattle.timer_base.specs.WheelState.{WheelState, held_at}
 use Rattle.timer_total.specs.Refusals as total
 use Rattle.timer_total.specs.Deadlines.{interval_until}
-use Rattle.timer_total.specs.Refusals.{IsStartable, IsRoomUsed, held_at}
+use Rattle.timer_total.specs.Refusals.{IsStartable, IsRoomUsed}
 use Rattle.timer_total.specs.declared.fault.StartFault.{StartFault}
 use Rattle.timer_total.specs.declared.fault.StartFault.TheVariants as start
 use Rattle.timer_total.specs.declared.fault.RestartFault.{RestartFault}

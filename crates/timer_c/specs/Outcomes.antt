@@ -5,7 +5,7 @@ use Rattle.timer_base.specs.declared.limits.TheConstants.{LAST}
 use Rattle.timer_base.specs.declared.timer.Timer.{Timer}
 use Rattle.timer_base.specs.declared.timer.Handle as base
 use Rattle.timer_base.specs.WakeUps.{IsWakeUp, next_deadline}
-use Rattle.timer_base.specs.WheelState.{WheelState, empty_wheel, after_start, after_tick}
+use Rattle.timer_base.specs.WheelState.{WheelState, empty_wheel, held_at, after_start, after_removal, after_tick}
 use Rattle.timer_wheels.specs.declared.table.Table.TheVariants.{Wide, Clock}
 use Rattle.timer_wheels.specs.Tables.{slots_of_table}
 use Rattle.timer_wheels.specs.HeldPlaces.{AreBefore, AreElsewhere}
@@ -13,8 +13,8 @@ use Rattle.timer_wheels.specs.HierWheel.{WheelCounts, counts_of, hier_state}
 use Rattle.timer_wheels.specs.declared.hier.HierWheel.{HierWheel}
 use Rattle.timer_wheels.specs.WakeUps.{next_visit, radices_by_slots}
 use Rattle.timer_wheels.specs.declared.table.TheConstants.{LAST_OF_CLOCK}
-use Rattle.timer_total.specs.Deadlines.{interval_until, after_start_at, after_start_due}
-use Rattle.timer_total.specs.Refusals.{next_timer, left_until, held_at, after_removal, IsStartable, IsRoomUsed, IsAt}
+use Rattle.timer_total.specs.Deadlines.{interval_until, after_start_at}
+use Rattle.timer_total.specs.Refusals.{next_timer, left_until, IsStartable, IsRoomUsed, IsAt}
 use Rattle.timer_total.specs.Taken.{IsTakenBy}
 use Rattle.timer_total.specs.declared.fault.StartFault.{StartFault}
 use Rattle.timer_total.specs.declared.fault.StartFault.TheVariants as start
@@ -70,12 +70,6 @@ IsStartedAt deadline action old new handle =
     IsStartable (interval_until deadline old) old × (handle.serial ≡ old.last_serial + 1)
     × (new ≡ after_start_at handle.place deadline action old)
 
--- a start was done of a timer that expires at once
-abbrev pub IsStartedDue : ℕ → WheelState → WheelState → CHandle → Type 0
-IsStartedDue action old new handle =
-    IsStartable 1 old × (handle.serial ≡ old.last_serial + 1)
-    × (new ≡ after_start_due handle.place action old)
-
 -- why it was not: an interval until a tick is never 0
 abbrev pub IsStartAtRefusal : ℕ → WheelState → ℕ → Type 0
 IsStartAtRefusal deadline old status = IsStartRefusal (interval_until deadline old) old status
@@ -93,12 +87,6 @@ IsRestartedAt handle deadline action old new restarted =
     IsAt (base_handle handle) old × IsStartable (interval_until deadline old) old
     × (restarted.serial ≡ old.last_serial + 1)
     × (new ≡ after_start_at restarted.place deadline action (after_removal (base_handle handle) old))
-
--- a restart was done, with a timer that expires at once
-abbrev pub IsRestartedDue : CHandle → ℕ → WheelState → WheelState → CHandle → Type 0
-IsRestartedDue handle action old new restarted =
-    IsAt (base_handle handle) old × IsStartable 1 old × (restarted.serial ≡ old.last_serial + 1)
-    × (new ≡ after_start_due restarted.place action (after_removal (base_handle handle) old))
 
 abbrev pub IsRestartRefusal : CHandle → ℕ → WheelState → ℕ → Type 0
 IsRestartRefusal handle interval old status =

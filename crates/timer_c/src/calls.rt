@@ -2,7 +2,7 @@
 ghost use Rattle.std.specs.Prelude.{◌≡◌, ◌*◌, ◌<◌, ◌≤◌, ◌++◌, ◌↔◌, true, false, Some, None, [], map, take, drop, length, min};
 ghost use Rattle.timer_base.specs.Pending.{timers_of};
 ghost use Rattle.timer_base.specs.WheelState.{first_due, after_reserve, after_tick, after_expiry};
-ghost use Rattle.timer_c.specs.Outcomes.{IsStarted, IsStartedAt, IsStartedDue, IsRestartedDue, IsStartRefusal, IsStartAtRefusal, IsRestarted, IsRestartedAt, IsRestartRefusal, IsRestartAtRefusal, IsSet, IsSetRefusal, start_status, restart_status, IsSeen, IsStopped, WhyNotStopped, IsTicked, IsAdvancedTo, WhyNotTicked, WhyNotAdvanced, IsTaken, IsNextCall, IsNextDeadline, IsVisited, IsAllVisited, AreCountsOf, told, tell, tell_counts, after_expiries};
+ghost use Rattle.timer_c.specs.Outcomes.{IsStarted, IsStartedAt, IsStartRefusal, IsStartAtRefusal, IsRestarted, IsRestartedAt, IsRestartRefusal, IsRestartAtRefusal, IsSet, IsSetRefusal, start_status, restart_status, IsSeen, IsStopped, WhyNotStopped, IsTicked, IsAdvancedTo, WhyNotTicked, WhyNotAdvanced, IsTaken, IsNextCall, IsNextDeadline, IsVisited, IsAllVisited, AreCountsOf, told, tell, tell_counts, after_expiries};
 ghost use Rattle.timer_total.specs.Refusals.{left_until};
 ghost use Rattle.timer_total.specs.Taken.{IsTakenBy};
 ghost use Rattle.timer_total.specs.Ticks.{IsAdvanced};
@@ -58,22 +58,9 @@ pub(crate) fn start_at<W: Wheel + Drop>(
     ensures refused { 0 < result → IsStartAtRefusal deadline timers.old result }
     ensures kept { 0 < result → (timers.new ≡ timers.old) × (handle.new ≡ handle.old) }
 {
-    let interval = timers.until(deadline);
-    if interval == 0 {
-        return start_due(timers, action, handle);
-    }
-    start(timers, interval, action, handle)
-}
-
-// `Timers::start` has one caller here, so that it is inlined: else its result goes through memory.
-fn start_due<W: Wheel + Drop>(timers: &mut Timers<W>, action: u64, handle: &mut CHandle) -> u32
-    ensures started { result ≡ OK → IsStartedDue action timers.old timers.new handle.new }
-    ensures refused { 0 < result → IsStartRefusal 1 timers.old result }
-    ensures kept { 0 < result → (timers.new ≡ timers.old) × (handle.new ≡ handle.old) }
-{
-    match timers.start_due(action) {
-        Ok(started) => {
-            *handle = to_c_handle(started);
+    match timers.start_at(deadline, action) {
+        Ok(made) => {
+            *handle = to_c_handle(made);
             OK
         }
         Err(fault) => start_status(fault),
@@ -125,26 +112,9 @@ pub(crate) fn restart_at<W: Wheel + Drop>(
     ensures refused { 0 < result → IsRestartAtRefusal handle deadline timers.old result }
     ensures kept { 0 < result → (timers.new ≡ timers.old) × (restarted.new ≡ restarted.old) }
 {
-    let interval = timers.until(deadline);
-    if interval == 0 {
-        return restart_due(timers, handle, action, restarted);
-    }
-    restart(timers, handle, interval, action, restarted)
-}
-
-fn restart_due<W: Wheel + Drop>(
-    timers: &mut Timers<W>,
-    handle: CHandle,
-    action: u64,
-    restarted: &mut CHandle,
-) -> u32
-    ensures restarted { result ≡ OK → IsRestartedDue handle action timers.old timers.new restarted.new }
-    ensures refused { 0 < result → IsRestartRefusal handle 1 timers.old result }
-    ensures kept { 0 < result → (timers.new ≡ timers.old) × (restarted.new ≡ restarted.old) }
-{
-    match timers.restart_due(from_c_handle(handle), action) {
-        Ok(started) => {
-            *restarted = to_c_handle(started);
+    match timers.restart_at(from_c_handle(handle), deadline, action) {
+        Ok(made) => {
+            *restarted = to_c_handle(made);
             OK
         }
         Err(fault) => restart_status(fault),

@@ -2,7 +2,6 @@
 use Rattle.std.proofs.Common.{◌≡◌, ◌≢◌, ◌<◌, ◌≤◌, ◌+◌, ℕ, zero, suc, ◌==◌, List, [], ◌∷◌, ◌++◌, length, refl, sym, ◌∙◌, ap, subst, inl, inr, arith, append_assoc, length-append, get_or-set_same, get_or-set_other}
 use Rattle.std.specs.Prelude.{Bool, map, filter, not, replicate, Option, Some, None}
 use Rattle.std.specs.List.{AllByRecursion}
-use Rattle.std.proofs.lemmas.List.{length-map}
 use Rattle.std.proofs.lemmas.Bool.{cases_eq, eqb-true}
 use Rattle.timer_base.specs.declared.timer.Timer.{Timer}
 use Rattle.timer_base.specs.Order.{in_order, AreBelow, AreDistinct, AreRising, IsNotAmong}
@@ -12,6 +11,7 @@ use Rattle.timer_base.specs.WheelState.{IsPending, IsDue, after_start}
 use Rattle.timer_links.specs.declared.node.Node.{Node}
 use Rattle.timer_links.specs.Lists.{list_at, node_in, node_at, first_of, with_row, without_key, row_count, AreApart, KeyedLists}
 use Rattle.timer_wheels.specs.BucketLaws.{timers_of-entries}
+use Rattle.timer_wheels.specs.Buckets.{IsListOf}
 use Rattle.timer_wheels.specs.BucketLists.{timer_in, timers_in, entry_of, entries_of, rows_below, pending_in, wheel_state, ArePending, AreDue, AreInOrder, EachRow}
 use Rattle.timer_wheels.proofs.RowLemmas.{all-append, all-front, all-rest, all-rows_below, IsInserted, rows_below-with_row, list_at-without_key, timers-append, entries-append, filter-entries, AreBelow-timers, IsNotAmong-below, AreDistinct-inserted}
 
@@ -160,13 +160,15 @@ pub each-none : (fact : ℕ → ℕ × Node → Type 0) (n : ℕ) (lists : Keyed
     → EachRow fact n lists
 each-none fact n lists e s h = rw (e s h) tt
 
--- each row satisfies the wheel's own invariant
-pub each_restarted : (fact : ℕ → ℕ × Node → Type 0) (n key bucket : ℕ) (node : Node) (lists : KeyedLists)
-    → bucket < length lists → fact bucket (key, node) → EachRow fact n lists
-    → EachRow fact n (with_row bucket (key, node) (map (without_key key) lists))
-each_restarted fact n key bucket node lists h f a = each-with_row fact n bucket (key, node) (map (without_key key) lists)
-    (let e : length (map (without_key key) lists) ≡ length lists = length-map lists (without_key key)
-    in omega arith) f (each-without_key fact n key lists a)
+-- each row satisfies the wheel's own invariant, also after a row came to its list
+pub each_come : (fact : ℕ → ℕ × Node → Type 0) (n now d list : ℕ) (row : ℕ × Node) (lists : KeyedLists) → length lists ≡ n + 1
+    → IsListOf list n now d → (now < d → fact list row) → EachRow fact n lists → EachRow fact n (with_row list row lists)
+each_come fact n now d list row lists e (inl h) f a =
+    each-with_row fact n list row lists (let k : list < n = h.0 in omega arith) (f h.1) a
+each_come fact n now d list row lists e (inr h) f a =
+    let k : list ≡ n = h.0 in
+    each-same fact n lists (with_row list row lists) (λ s b. get_or-set_other lists list s (list_at list lists ++ row ∷ []) []
+    (let m : s ≢ list = omega arith in m)) a
 
 -- No timers, no rows.
 pub no_rows : (rows : List (ℕ × Node)) → entries_of rows ≡ [] → rows ≡ []

@@ -1,13 +1,15 @@
 -- The invariant of a hierarchy of wheels when it is made, after a start and a restart, and what `links` shows.
 use Rattle.timer_wheels.proofs.RoomLemmas.{shows-with_room}
 use Rattle.std.proofs.Common.{◌≡◌, ◌<◌, ◌≤◌, ◌+◌, ◌*◌, ℕ, zero, suc, List, [], ◌∷◌, length, refl, sym, ◌∙◌, ap, subst, inl, inr, arith}
-use Rattle.std.specs.Prelude.{Bool, filter, Option, Some, None, nat_lt, replicate}
+use Rattle.std.specs.Prelude.{Bool, filter, not, nat_lt, replicate}
+use Rattle.std.proofs.lemmas.Bool.{cases_lt}
 use Rattle.timer_base.specs.declared.timer.Timer.{Timer}
 use Rattle.timer_base.specs.declared.timer.Handle.{Handle}
 use Rattle.timer_base.specs.declared.limits.TheConstants.{LAST}
 use Rattle.timer_base.specs.OrderLaws.{either}
-use Rattle.timer_base.specs.Pending.{Entry, put, without_found}
-use Rattle.timer_base.specs.WheelState.{WheelState, empty_wheel, after_start, timer_at}
+use Rattle.timer_base.specs.Pending.{Entry, put, has_handle, without_handle}
+use Rattle.timer_base.specs.WheelState.{WheelState, empty_wheel, after_start, after_due_start, after_held_start}
+use Rattle.timer_base.specs.HeldLaws.{start_when_later, start_when_now, held_start-last_serial}
 use Rattle.timer_links.specs.Lists.{list_at}
 use Rattle.timer_wheels.specs.declared.buckets.Buckets.{Buckets}
 use Rattle.timer_wheels.specs.Buckets.{state_of}
@@ -45,10 +47,9 @@ levels-filter table now p (e ∷ es) = let h : levels_of table now (filter p es)
       | inr k ↦ rw k (omega arith)
     ]
 
-pub levels-without : (table : List ℕ) (now : ℕ) (found : Option Timer) (es : List Entry)
-    → levels_of table now (without_found found es) ≤ levels_of table now es
-levels-without table now None es = omega arith
-levels-without table now (Some t) es = levels-filter table now _ es
+pub levels-without : (table : List ℕ) (now : ℕ) (handle : Handle) (es : List Entry)
+    → levels_of table now (without_handle handle es) ≤ levels_of table now es
+levels-without table now handle es = levels-filter table now (λ entry. not (has_handle handle entry)) es
 
 times_more : (k n : ℕ) → k * (n + 1) ≡ k * n + k
 times_more k zero = omega arith
@@ -87,37 +88,56 @@ new_paid table b n last first e = let h : levels_of table b.tick (state_of b).pe
 module _ (table : List ℕ) (old new : Buckets) (starts moves : ℕ) (p : IsPaid table starts moves old.tick (state_of old).pending) where
   -- one timer goes, if it was found
   pub paid_without : (handle : Handle) → new.tick ≡ old.tick
-      → (state_of new).pending ≡ without_found (timer_at handle (state_of old)) (state_of old).pending
+      → (state_of new).pending ≡ without_handle handle (state_of old).pending
       → IsPaid table starts moves new.tick (state_of new).pending
   paid_without handle tick e =
-      let found : Option Timer = timer_at handle (state_of old) in
-      let x : levels_of table new.tick (state_of new).pending ≡ levels_of table old.tick (without_found found (state_of old).pending) =
+      let x : levels_of table new.tick (state_of new).pending ≡ levels_of table old.tick (without_handle handle (state_of old).pending) =
       ap (λ (k : ℕ). levels_of table k (state_of new).pending) tick ∙ ap (levels_of table old.tick) e in
-      let y : levels_of table old.tick (without_found found (state_of old).pending) ≤ levels_of table old.tick (state_of old).pending =
-      levels-without table old.tick found (state_of old).pending in
+      let y : levels_of table old.tick (without_handle handle (state_of old).pending) ≤ levels_of table old.tick (state_of old).pending =
+      levels-without table old.tick handle (state_of old).pending in
       paid_less moves (levels_of table new.tick (state_of new).pending) (levels_of table old.tick (state_of old).pending)
       (most_moves table * starts) (omega arith) p
 
   -- one timer is started, after another went or none
-  pub paid_start : (place : ℕ) (t : Timer) (rest : WheelState) → IsClock table → old.tick < t.deadline → t.deadline ≤ last_of table
-      → levels_of table old.tick rest.pending ≤ levels_of table old.tick (state_of old).pending → rest.now ≡ old.tick
-      → state_of new ≡ after_start place t rest → IsPaid table (starts + 1) moves new.tick (state_of new).pending
-  paid_start place t rest k later range y now e =
-      let x : levels_of table new.tick (state_of new).pending ≡ level table old.tick t.deadline + levels_of table old.tick rest.pending =
-      ap (λ (k : ℕ). levels_of table k (state_of new).pending) (ap (λ (w : WheelState). w.now) e ∙ now)
-      ∙ (ap (λ (w : WheelState). levels_of table old.tick w.pending) e
-      ∙ levels-put table old.tick (record { place = place; timer = t }) rest.pending) in
-      let b : level table old.tick t.deadline < length table = level_in_table table old.tick t.deadline k.is_table
-      (digits_down table t.deadline (last_of table) k.is_table range k.digits) later in
-      let q : moves + levels_of table old.tick rest.pending ≤ most_moves table * starts =
-      paid_less moves (levels_of table old.tick rest.pending) (levels_of table old.tick (state_of old).pending)
-      (most_moves table * starts) y p in
-      paid_more moves (levels_of table new.tick (state_of new).pending) (level table old.tick t.deadline)
-      (levels_of table old.tick rest.pending) (most_moves table) starts x (omega arith) q
+  module _ (place : ℕ) (t : Timer) (rest : WheelState) (y : levels_of table old.tick rest.pending
+      ≤ levels_of table old.tick (state_of old).pending) (now : rest.now ≡ old.tick) where
+    left : moves + levels_of table old.tick rest.pending ≤ most_moves table * starts
+    left = paid_less moves (levels_of table old.tick rest.pending) (levels_of table old.tick (state_of old).pending)
+        (most_moves table * starts) y p
+
+    pending_start : IsClock table → old.tick < t.deadline → t.deadline ≤ last_of table → state_of new ≡ after_start place t rest
+        → IsPaid table (starts + 1) moves new.tick (state_of new).pending
+    pending_start k later range e =
+        let x : levels_of table new.tick (state_of new).pending ≡ level table old.tick t.deadline + levels_of table old.tick rest.pending =
+        ap (λ (k : ℕ). levels_of table k (state_of new).pending) (ap (λ (w : WheelState). w.now) e ∙ now)
+        ∙ (ap (λ (w : WheelState). levels_of table old.tick w.pending) e
+        ∙ levels-put table old.tick (record { place = place; timer = t }) rest.pending) in
+        let b : level table old.tick t.deadline < length table = level_in_table table old.tick t.deadline k.is_table
+        (digits_down table t.deadline (last_of table) k.is_table range k.digits) later in
+        paid_more moves (levels_of table new.tick (state_of new).pending) (level table old.tick t.deadline)
+        (levels_of table old.tick rest.pending) (most_moves table) starts x (omega arith) left
+
+    -- what is due has no level
+    due_start : state_of new ≡ after_due_start place t rest → IsPaid table (starts + 1) moves new.tick (state_of new).pending
+    due_start e =
+        let x : levels_of table new.tick (state_of new).pending ≡ levels_of table old.tick rest.pending =
+        ap (λ (k : ℕ). levels_of table k (state_of new).pending) (ap (λ (w : WheelState). w.now) e ∙ now)
+        ∙ ap (λ (w : WheelState). levels_of table old.tick w.pending) e in
+        paid_more moves (levels_of table new.tick (state_of new).pending) 0 (levels_of table old.tick rest.pending)
+        (most_moves table) starts (omega arith) (omega arith) left
+
+    pub paid_start : IsClock table → old.tick ≤ t.deadline → t.deadline ≤ last_of table → state_of new ≡ after_held_start place t rest
+        → IsPaid table (starts + 1) moves new.tick (state_of new).pending
+    paid_start k not_past range e = elim (cases_lt old.tick t.deadline) [
+      | inl later ↦ pending_start k later range (e ∙ start_when_later place t rest (omega arith))
+      | inr same ↦ due_start (e ∙ start_when_now place t rest (omega arith))
+    ]
 
 pub few_starts : (old new : Buckets) (place starts : ℕ) (t : Timer) (rest : WheelState) → starts ≤ old.last_serial
-    → old.last_serial < t.serial → state_of new ≡ after_start place t rest → starts + 1 ≤ new.last_serial
-few_starts old new place starts t rest h k e = let x : new.last_serial ≡ t.serial = ap (λ (w : WheelState). w.last_serial) e in omega arith
+    → old.last_serial < t.serial → state_of new ≡ after_held_start place t rest → starts + 1 ≤ new.last_serial
+few_starts old new place starts t rest h k e =
+    let x : new.last_serial ≡ t.serial = ap (λ (w : WheelState). w.last_serial) e ∙ held_start-last_serial place t rest in
+    omega arith
 
 -- What the buckets show.
 

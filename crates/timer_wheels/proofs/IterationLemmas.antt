@@ -2,12 +2,12 @@
 use Rattle.std.proofs.Common.{◌≡◌, ◌<◌, ◌≤◌, ◌+◌, ◌⊎◌, ℕ, List, [], ◌∷◌, ◌++◌, length, refl, sym, ◌∙◌, subst, inl, inr, arith, append_assoc}
 use Rattle.std.specs.Prelude.{Option, Some, None, IsSome}
 use Rattle.std.specs.List.{AllByRecursion}
-use Rattle.std.proofs.lemmas.Bool.{cases_lt}
+use Rattle.std.proofs.lemmas.Bool.{cases_lt, eq-eqb}
 use Rattle.timer_base.specs.declared.timer.Timer.{Timer}
 use Rattle.timer_base.specs.declared.timer.Handle.{Handle}
 use Rattle.timer_base.specs.OrderLaws.{All-in_order, All-weaken}
 use Rattle.timer_base.specs.Pending.{Entry, timer_of}
-use Rattle.timer_base.specs.WheelState.{timer_at, due_at}
+use Rattle.timer_base.specs.WheelState.{held_at}
 use Rattle.timer_links.specs.declared.node.Node.{Node}
 use Rattle.timer_links.specs.Keys.{AreUnused, IsFirstUsed}
 use Rattle.timer_links.specs.Lists.{list_at, node_at, AreApart, KeyedLists}
@@ -15,7 +15,7 @@ use Rattle.timer_wheels.specs.BucketLists.{entry_of, entries_of, rows_below}
 use Rattle.timer_wheels.specs.Buckets.{state_of}
 use Rattle.timer_wheels.specs.HeldPlaces.{IsHeld, IsFirstHeld}
 use Rattle.timer_wheels.specs.declared.buckets.Buckets.{Buckets}
-use Rattle.timer_wheels.proofs.Handles.{looked, looked_due, named_later, named_due}
+use Rattle.timer_wheels.proofs.Handles.{timer_named, held_is}
 use Rattle.timer_wheels.proofs.RowLemmas.{all-rows_below, all-entries}
 
 -- each row stands under its key
@@ -73,12 +73,9 @@ module _ (b : Buckets) (apart : AreApart b.links.lists) where
 
   held_under : (handle : Handle) (node : Node) → Some node ≡ node_at handle.place b.links.lists → node.timer.serial ≡ handle.serial
       → IsHeld handle (state_of b)
-  held_under handle node e s = elim (cases_lt b.tick node.timer.deadline) [
-    | inl h ↦ inl (some_timer node.timer (timer_at handle (state_of b))
-        (sym (named_later handle b.tick node s h) ∙ looked b.sound apart handle (Some node) e))
-    | inr h ↦ inr (some_timer node.timer (due_at handle (state_of b))
-        (sym (named_due handle b.tick node s h) ∙ looked_due b.sound apart handle (Some node) e))
-  ]
+  held_under handle node e s =
+      let named : timer_named handle (Some node) ≡ held_at handle (state_of b) = held_is b.sound apart handle (Some node) e in
+      some_timer node.timer (held_at handle (state_of b)) (rw (eq-eqb node.timer.serial handle.serial s) at named)
 
   pub none_held : (from : ℕ) → IsFirstUsed from b.links.lists None → IsFirstHeld from (state_of b) None
   none_held from u = (

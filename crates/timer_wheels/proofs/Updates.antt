@@ -1,22 +1,20 @@
 -- The two changes that every call but a tick composes: a row is removed, and a row is pushed to the back of a list.
 use Rattle.std.proofs.Common.{◌≡◌, ◌≢◌, ◌<◌, ◌≤◌, ◌+◌, ◌==◌, ℕ, List, [], ◌∷◌, ◌++◌, length, refl, sym, ◌∙◌, ap, subst, inl, inr, arith, length-set, get_or-set_same, get_or-set_other}
 use Rattle.std.specs.Prelude.{Option, Some, None, map, not, slice_set}
+use Rattle.std.specs.List.{AllByRecursion}
 use Rattle.std.proofs.lemmas.Bool.{cases_eq}
 use Rattle.std.proofs.lemmas.List.{length-map}
 use Rattle.timer_base.specs.declared.limits.TheConstants.{LAST}
-use Rattle.timer_base.specs.declared.timer.Timer.{Timer}
-use Rattle.timer_base.specs.declared.timer.Handle.{Handle}
+use Rattle.timer_base.specs.HeldLaws.{start_when_later, start_when_now}
 use Rattle.timer_base.specs.Order.{AreBelow, AreRising}
 use Rattle.timer_base.specs.OrderLaws.{All-filter, All-weaken, AreRising-weaken}
-use Rattle.timer_base.specs.Pending.{Entry, timers_of, without_found}
-use Rattle.timer_base.specs.WheelState.{WheelState, IsPending, IsDue, timer_at, after_start, after_stop, after_expiry, after_clear, after_made_due, entry_made_due}
+use Rattle.timer_base.specs.WheelState.{IsPending, IsDue, after_start, after_due_start, after_held_start, after_expiry, after_clear}
 use Rattle.timer_links.specs.declared.node.Node.{Node}
-use Rattle.timer_links.specs.Lists.{list_at, with_row, without_key, AreApart, PopsFront, KeyedLists}
-use Rattle.timer_wheels.specs.BucketLaws.{timers_of-entries}
+use Rattle.timer_links.specs.Lists.{list_at, with_row, without_key, PopsFront, KeyedLists}
+use Rattle.timer_wheels.specs.Buckets.{IsListOf}
 use Rattle.timer_wheels.specs.BucketLists.{timer_in, timers_in, rows_below, wheel_state, AreDue, AreBuckets}
-use Rattle.timer_wheels.proofs.RowLemmas.{all-append, all-list_at, entries-append, append-nil, rows_below-above, rows_below-none, rows_below-without_key, list_at-without_key}
+use Rattle.timer_wheels.proofs.RowLemmas.{AreBelow-timers, all-append, all-list_at, entries-append, rows_below-above, rows_below-none, rows_below-without_key, list_at-without_key}
 use Rattle.timer_wheels.proofs.BucketLemmas.{AreDistinct-part, AreRising-part, AreBelow-pending, started, started-pending, started-distinct, in_order-with_row}
-use Rattle.timer_wheels.proofs.Handles.{pending_node, pending_started, pending_positive, stopped}
 
 module _ {n last_tick now last : ℕ} {lists : KeyedLists} (b : AreBuckets n last_tick now last lists) where
   -- the row under a key is removed, if there is one
@@ -43,7 +41,7 @@ module _ {n last_tick now last : ℕ} {lists : KeyedLists} (b : AreBuckets n las
       (λ row d. record { deadline = d.deadline; serial = let s : (timer_in row).serial ≤ last = d.serial in omega arith }) b.due
 
   -- a timer is started at the back of a bucket
-  pub pushed : (bucket place : ℕ) (node : Node) → bucket < n → now < node.timer.deadline → node.timer.deadline ≤ last_tick
+  pushed : (bucket place : ℕ) (node : Node) → bucket < n → now < node.timer.deadline → node.timer.deadline ≤ last_tick
       → last < node.timer.serial → node.timer.serial ≤ LAST
       → AreBuckets n last_tick now node.timer.serial (with_row bucket (place, node) lists)
   pushed bucket place node h later range fresh serial =
@@ -64,36 +62,50 @@ module _ {n last_tick now last : ℕ} {lists : KeyedLists} (b : AreBuckets n las
       }
 
   -- its entry comes to its place among the pending ones
-  pub pushed-state : (bucket place : ℕ) (node : Node) → bucket < n → last < node.timer.serial
+  pushed-state : (bucket place : ℕ) (node : Node) → bucket < n → last < node.timer.serial
       → wheel_state n last_tick now node.timer.serial (with_row bucket (place, node) lists)
       ≡ after_start place node.timer (wheel_state n last_tick now last lists)
   pushed-state bucket place node h fresh = started n last_tick now last bucket place node lists h
       (let e : length lists ≡ n + 1 = b.has_lists in omega arith) fresh b.pending
 
-  -- the newest of the due timers comes to their back
-  pub pushed_due : (place : ℕ) (node : Node) → IsDue now last node.timer → 0 < node.timer.serial
-      → AreBelow node.timer.serial (timers_in (list_at n lists)) → AreBuckets n last_tick now last (with_row n (place, node) lists)
-  pushed_due place node due positive newest =
+  -- what is pending, with a later last serial
+  older_pending : (serial : ℕ) → last < serial
+      → AllByRecursion (λ row. IsPending last_tick now serial (timer_in row)) (rows_below n lists)
+  older_pending serial fresh = All-weaken (λ row. IsPending last_tick now last (timer_in row))
+      (λ row. IsPending last_tick now serial (timer_in row)) (rows_below n lists) (λ row p. record {
+        later = p.later;
+        in_range = p.in_range;
+        serial = let s : (timer_in row).serial ≤ last = p.serial in omega arith;
+      }) b.pending
+
+  newest_due : (serial : ℕ) → last < serial → AreBelow serial (timers_in (list_at n lists))
+  newest_due serial fresh = AreBelow-timers serial (list_at n lists)
+      (All-weaken (λ row. IsDue now last (timer_in row)) (λ row. (timer_in row).serial < serial) (list_at n lists)
+      (λ row d. let s : (timer_in row).serial ≤ last = d.serial in omega arith) b.due)
+
+  -- a timer is started at the back of what is due
+  pushed_due : (place : ℕ) (node : Node) → node.timer.deadline ≡ now → last < node.timer.serial → node.timer.serial ≤ LAST
+      → AreBuckets n last_tick now node.timer.serial (with_row n (place, node) lists)
+  pushed_due place node due fresh serial =
       let here : n < length lists = let e : length lists ≡ n + 1 = b.has_lists in omega arith in
       let rows : rows_below n (with_row n (place, node) lists) ≡ rows_below n lists =
       rows_below-above n n lists (list_at n lists ++ (place, node) ∷ []) (omega arith) in
       record {
         last_in_range = b.last_in_range;
         tick_in_range = b.tick_in_range;
-        serial_in_range = b.serial_in_range;
+        serial_in_range = serial;
         has_lists = length-set lists n (list_at n lists ++ (place, node) ∷ []) ∙ b.has_lists;
-        pending = rw rows b.pending;
+        pending = rw rows (older_pending node.timer.serial fresh);
         distinct = rw rows b.distinct;
-        due = subst (AreDue now last) (sym (get_or-set_same lists n (list_at n lists ++ (place, node) ∷ []) [] here))
-            (all-append (λ row. IsDue now last (timer_in row)) (list_at n lists) ((place, node) ∷ []) b.due (due, tt));
-        in_order = in_order-with_row (n + 1) n (place, node) lists here positive newest b.in_order;
+        due = subst (AreDue now node.timer.serial) (sym (get_or-set_same lists n (list_at n lists ++ (place, node) ∷ []) [] here))
+            (all-append (λ row. IsDue now node.timer.serial (timer_in row)) (list_at n lists) ((place, node) ∷ [])
+            (older node.timer.serial fresh) (record { deadline = due; serial = omega arith }, tt));
+        in_order = in_order-with_row (n + 1) n (place, node) lists here (omega arith) (newest_due node.timer.serial fresh) b.in_order;
       }
 
   -- its entry comes to the back of what is due
-  pub pushed_due-state : (place : ℕ) (node : Node) → wheel_state n last_tick now last (with_row n (place, node) lists)
-      ≡ (let w : WheelState = wheel_state n last_tick now last lists in record w {
-        due = w.due ++ (record { place = place; timer = node.timer }) ∷ [];
-      })
+  pushed_due-state : (place : ℕ) (node : Node) → wheel_state n last_tick now node.timer.serial (with_row n (place, node) lists)
+      ≡ after_due_start place node.timer (wheel_state n last_tick now last lists)
   pushed_due-state place node =
       let here : n < length lists = let e : length lists ≡ n + 1 = b.has_lists in omega arith in
       rw (
@@ -101,6 +113,30 @@ module _ {n last_tick now last : ℕ} {lists : KeyedLists} (b : AreBuckets n las
         get_or-set_same lists n (list_at n lists ++ (place, node) ∷ []) [] here,
         entries-append (list_at n lists) ((place, node) ∷ []),
       ) refl
+
+  -- a timer is started at the back of its list
+  module _ (list place : ℕ) (node : Node) (range : node.timer.deadline ≤ last_tick) (fresh : last < node.timer.serial)
+      (serial : node.timer.serial ≤ LAST) where
+    pub pushed_in : IsListOf list n now node.timer.deadline
+        → AreBuckets n last_tick now node.timer.serial (with_row list (place, node) lists)
+    pushed_in (inl h) = pushed list place node h.0 h.1 range fresh serial
+    pushed_in (inr h) = subst (λ (l : ℕ). AreBuckets n last_tick now node.timer.serial (with_row l (place, node) lists)) (sym h.0)
+        (pushed_due place node h.1 fresh serial)
+
+    pub pushed_in-state : IsListOf list n now node.timer.deadline
+        → wheel_state n last_tick now node.timer.serial (with_row list (place, node) lists)
+        ≡ after_held_start place node.timer (wheel_state n last_tick now last lists)
+    pushed_in-state (inl h) =
+        pushed-state list place node h.0 fresh
+        ∙ sym (start_when_later place node.timer (wheel_state n last_tick now last lists) h.1)
+    pushed_in-state (inr h) =
+        ap (λ (l : ℕ). wheel_state n last_tick now node.timer.serial (with_row l (place, node) lists)) h.0
+        ∙ (pushed_due-state place node ∙ sym (start_when_now place node.timer (wheel_state n last_tick now last lists) h.1))
+
+  -- it is one of the lists
+  pub in_lists : (list deadline : ℕ) → IsListOf list n now deadline → list < length lists
+  in_lists list deadline (inl h) = let k : list < n = h.0 in let e : length lists ≡ n + 1 = b.has_lists in omega arith
+  in_lists list deadline (inr h) = let k : list ≡ n = h.0 in let e : length lists ≡ n + 1 = b.has_lists in omega arith
 
   -- the first of the due timers is removed
   module _ (row : ℕ × Node) (rest : List (ℕ × Node)) (e : list_at n lists ≡ row ∷ rest) where
@@ -166,48 +202,3 @@ emptied n last_tick now lists range first len e = record {
   due = rw (e n) tt;
   in_order = λ s h. rw (e s) tt;
 }
-
--- nothing changes where there is none
-pub none_made_due : (w : WheelState) (handle : Handle) (o : Option Timer) → o ≡ None
-    → (let v : WheelState = record w { pending = without_found o w.pending; due = w.due ++ entry_made_due handle w.now o } in w ≡ v)
-none_made_due w handle None e = ap (λ (r : List Entry). record w { due = r }) (sym (append-nil w.due))
-none_made_due w handle (Some t) e = absurd (let h : Some t ≡ None = e in cc)
-
--- A pending timer becomes due where it is: its row is removed, and pushed to the back of the due ones.
-
-module _ {n last_tick now last : ℕ} {lists : KeyedLists} (b : AreBuckets n last_tick now last lists) (apart : AreApart lists)
-    (handle : Handle) (t : Timer) (e : timer_at handle (wheel_state n last_tick now last lists) ≡ Some t) where
-  abbrev w : WheelState
-  w = wheel_state n last_tick now last lists
-
-  abbrev rest : KeyedLists
-  rest = map (without_key handle.place) lists
-
-  abbrev node : Node
-  node = record { timer = record t { deadline = now }; rounds = 0 }
-
-  stopped_state : wheel_state n last_tick now last rest ≡ after_stop handle w
-  stopped_state = stopped b apart handle t e
-
-  newest_due : AreBelow handle.serial (timers_of w.due) → AreBelow t.serial (timers_in (list_at n rest))
-  newest_due newest =
-      let f = pending_node b apart handle t e in
-      let serial : t.serial ≡ handle.serial = sym (ap (λ (u : Timer). u.serial) f.timer) ∙ f.serial in
-      let P : ℕ → Type 0 = λ k. AreBelow k (timers_in (list_at n rest)) in
-      subst P (sym serial) (subst (AreBelow handle.serial)
-      (sym (ap (λ (v : WheelState). timers_of v.due) stopped_state) ∙ timers_of-entries (list_at n rest)) newest)
-
-  pub made_due : AreBelow handle.serial (timers_of w.due) → AreBuckets n last_tick now last (with_row n (handle.place, node) rest)
-  made_due newest = pushed_due (removed b handle.place) handle.place node (record {
-    deadline = refl;
-    serial = pending_started b apart handle t e;
-  }) (pending_positive b apart handle t e) (newest_due newest)
-
-  pub made_due-state : wheel_state n last_tick now last (with_row n (handle.place, node) rest) ≡ after_made_due handle w
-  made_due-state =
-      pushed_due-state (removed b handle.place) handle.place node
-      ∙ (ap (λ (v : WheelState). record v { due = v.due ++ entry_made_due handle now (Some t) }) stopped_state
-      ∙ ap (λ (o : Option Timer). record w {
-        pending = without_found (timer_at handle w) w.pending;
-        due = w.due ++ entry_made_due handle now o;
-      }) (sym e))

@@ -1,31 +1,31 @@
--- The two changes of a hierarchy of wheels: a row is removed, and a row is pushed to the back of a bucket. Where the last
--- row leaves a bucket, its bit is cleared; where one comes to a bucket, it is set.
-use Rattle.std.proofs.Common.{◌≡◌, ◌≢◌, ◌<◌, ◌≤◌, ◌+◌, ℕ, List, [], ◌∷◌, ◌++◌, length, refl, sym, ◌∙◌, ap, subst, inl, inr, arith, get_or-set_same, get_or-set_other}
+-- The two changes of a hierarchy of wheels: a row is removed, and a row is pushed to the back of its list. If the last
+-- row leaves a bucket, its bit is cleared; if one comes to a bucket, it is set. What is due has no bit.
+use Rattle.std.proofs.Common.{◌≡◌, ◌≢◌, ◌<◌, ◌≤◌, ◌+◌, ◌⊎◌, ℕ, List, [], ◌∷◌, ◌++◌, length, refl, sym, ◌∙◌, ap, subst, inl, inr, arith, get_or-set_same, get_or-set_other}
 use Rattle.std.specs.Prelude.{Option, Some, MatchOption, map, slice_set}
 use Rattle.std.specs.List.{AllByRecursion}
-use Rattle.std.proofs.lemmas.Bool.{cases_eq}
+use Rattle.std.proofs.lemmas.Bool.{cases_eq, cases_lt}
 use Rattle.timer_base.specs.declared.timer.Timer.{Timer}
 use Rattle.timer_base.specs.declared.timer.Handle.{Handle}
-use Rattle.timer_base.specs.WheelState.{IsDue, timer_at, due_at}
+use Rattle.timer_base.specs.WheelState.{IsPending, IsDue, held_at}
 use Rattle.timer_links.specs.declared.node.Node.{Node}
-use Rattle.timer_links.specs.Lists.{list_at, with_row, without_key, list_if_alone, AreApart, IsAloneIn, KeyedLists}
+use Rattle.timer_links.specs.Lists.{list_at, with_row, without_key, list_if_alone, row_count, AreApart, IsAloneIn, KeyedLists}
 use Rattle.timer_wheels.specs.declared.buckets.Buckets.{Buckets}
 use Rattle.timer_wheels.specs.declared.table.Table.{Table}
-use Rattle.timer_wheels.specs.Buckets.{IsSameFrame}
+use Rattle.timer_wheels.specs.Buckets.{IsSameFrame, IsListOf}
 use Rattle.timer_wheels.specs.BucketLists.{timer_in, wheel_state, AreDue, AreBuckets, EachRow}
 use Rattle.timer_wheels.specs.declared.first.First.{First}
 use Rattle.timer_wheels.specs.Digits.{bucket, slots, last_of, lowest_radix}
-use Rattle.timer_wheels.specs.Firsts.{first_at, Leaves, Empties, AreFirsts}
-use Rattle.timer_wheels.specs.Hier.{IsHier, HasFirsts}
+use Rattle.timer_wheels.specs.Firsts.{first_at, AreFirsts}
+use Rattle.timer_wheels.specs.Hier.{IsHier, HasFirsts, Comes, Goes}
 use Rattle.timer_wheels.specs.Occupied.{bit_of, filled, AreMarked, Clears}
 use Rattle.timer_wheels.specs.Placement.{IsPlaced}
 use Rattle.timer_wheels.specs.Tables.{radices}
 use Rattle.timer_wheels.proofs.BucketLemmas.{each-with_row, each-without_key, each-same}
-use Rattle.timer_wheels.proofs.FirstsLemmas.{same_firsts, left_firsts, left_counted}
-use Rattle.timer_wheels.proofs.Handles.{pending_node, pending_later, pending_in_range, pending_at, none_pending, unkeyed_below}
+use Rattle.timer_wheels.proofs.FirstsLemmas.{same_firsts, entered_firsts, entered_fits, left_firsts, left_counted}
+use Rattle.timer_wheels.proofs.Handles.{held_node}
 use Rattle.timer_wheels.proofs.OccupiedLemmas.{marked_same, marked_with_row}
 use Rattle.timer_wheels.proofs.ReplaceLemmas.{StandsIn, stands_in}
-use Rattle.timer_wheels.proofs.RowLemmas.{all-rest}
+use Rattle.timer_wheels.proofs.RowLemmas.{all-rest, all-list_at}
 use Rattle.timer_wheels.proofs.TableLaws.{of_table}
 
 -- one row is removed from a bucket, and its bit is cleared if no other row is left in it
@@ -65,128 +65,182 @@ list_if_alone_in_range n l [] [] h = h
 list_if_alone_in_range n l [] (x ∷ xs) h = tt
 list_if_alone_in_range n l (x ∷ xs) rest h = tt
 
--- each row is in its timer's bucket, and the bits mark which buckets have rows
-pub record AreWheels (table : List ℕ) (now n : ℕ) (words : List ℕ) (lists : KeyedLists) : Type 0 where
+-- each row is in its timer's bucket, the bits mark which buckets have rows, and each bucket has its first deadline
+pub record AreWheels (table : List ℕ) (now n : ℕ) (words : List ℕ) (firsts : List First) (lists : KeyedLists) : Type 0 where
   pub placed : EachRow (IsPlaced table now) n lists
   pub marked : AreMarked n words lists
+  pub foretold : AreFirsts (lowest_radix table) n firsts lists
 
-module _ {table : List ℕ} {now n : ℕ} {words : List ℕ} {lists : KeyedLists} (w : AreWheels table now n words lists) where
-  -- a row comes to its bucket
-  pub pushed_wheels : (words2 : List ℕ) (bucket : ℕ) (row : ℕ × Node) → bucket < n → length lists ≡ n + 1
-      → IsPlaced table now bucket row → bit_of words2 bucket ≡ 1 → ((s : ℕ) → s ≢ bucket → bit_of words2 s ≡ bit_of words s)
-      → AreWheels table now n words2 (with_row bucket row lists)
-  pushed_wheels words2 bucket row h len p here others = record {
-    placed = each-with_row (IsPlaced table now) n bucket row lists (omega arith) p w.placed;
-    marked = marked_with_row n words words2 bucket row lists h (omega arith) here others w.marked;
-  }
-
+module _ {table : List ℕ} {now n : ℕ} {words : List ℕ} {firsts : List First} {lists : KeyedLists}
+    (w : AreWheels table now n words firsts lists) where
   -- the buckets stay
-  pub same_wheels : (new : KeyedLists) → ((s : ℕ) → s < n → list_at s new ≡ list_at s lists) → AreWheels table now n words new
+  same_wheels : (new : KeyedLists) → ((s : ℕ) → s < n → list_at s new ≡ list_at s lists) → AreWheels table now n words firsts new
   same_wheels new e = record {
     placed = each-same (IsPlaced table now) n lists new e w.placed;
     marked = marked_same n words lists new e w.marked;
+    foretold = same_firsts w.foretold new e;
   }
 
-  -- a row comes to the list of the due ones
-  pub due_wheels : (row : ℕ × Node) → AreWheels table now n words (with_row n row lists)
-  due_wheels row = same_wheels (with_row n row lists) (λ s h. get_or-set_other lists n s (list_at n lists ++ row ∷ []) []
-      (let m : s ≢ n = omega arith in m))
+  module _ (list : ℕ) (row : ℕ × Node) (len : length lists ≡ n + 1) (z : row.1.rounds ≡ 0) (words2 : List ℕ) (firsts2 : List First) where
+    abbrev d : ℕ
+    d = (timer_in row).deadline
 
-  module _ {last_tick last : ℕ} (b : AreBuckets n last_tick now last lists) (apart : AreApart lists) (handle : Handle) (t : Timer) where
-    -- a due timer goes
-    pub withdrawn_firsts : {lowest : ℕ} {firsts : List First} → AreFirsts lowest n firsts lists
-        → due_at handle (wheel_state n last_tick now last lists) ≡ Some t
-        → AreFirsts lowest n firsts (map (without_key handle.place) lists)
-    withdrawn_firsts f e = same_firsts f (map (without_key handle.place) lists) (λ s h. unkeyed_below n handle.place lists
-        (none_pending b apart handle t e) s h)
+    -- a row comes to its bucket
+    pushed_wheels : list < n → bucket table now d ≡ list → Comes (lowest_radix table) list d words words2 firsts firsts2
+        → AreWheels table now n words2 firsts2 (with_row list row lists)
+    pushed_wheels h at c = record {
+      placed = each-with_row (IsPlaced table now) n list row lists (omega arith) (at, z) w.placed;
+      marked = marked_with_row n words words2 list row lists h (omega arith) c.here c.others w.marked;
+      foretold = entered_firsts w.foretold firsts2 list d row h (omega arith) refl c.counted;
+    }
 
-    pub withdrawn_wheels : due_at handle (wheel_state n last_tick now last lists) ≡ Some t
-        → AreWheels table now n words (map (without_key handle.place) lists)
-    withdrawn_wheels e = same_wheels (map (without_key handle.place) lists) (λ s h. unkeyed_below n handle.place lists
-        (none_pending b apart handle t e) s h)
+    -- a row comes to the list of the due ones
+    due_wheels : list ≡ n → (words2 ≡ words) × (firsts2 ≡ firsts) → AreWheels table now n words2 firsts2 (with_row list row lists)
+    due_wheels h same =
+        let here : AreWheels table now n words firsts (with_row n row lists) =
+        same_wheels (with_row n row lists) (λ s k. get_or-set_other lists n s (list_at n lists ++ row ∷ []) []
+        (let m : s ≢ n = omega arith in m)) in
+        rw (same.0, same.1, h) here
 
-    module _ (e : timer_at handle (wheel_state n last_tick now last lists) ≡ Some t) where
-      pub up_to_last : t.deadline ≤ last_tick
-      up_to_last = pending_in_range b apart handle t e
+    -- a row comes to its list
+    pub come_wheels : IsListOf list n now d → (now < d → list ≡ bucket table now d)
+        → (now < d → Comes (lowest_radix table) list d words words2 firsts firsts2)
+        → (d ≤ now → (words2 ≡ words) × (firsts2 ≡ firsts)) → AreWheels table now n words2 firsts2 (with_row list row lists)
+    come_wheels (inl h) at pending due = pushed_wheels h.0 (sym (at h.1)) (pending h.1)
+    come_wheels (inr h) at pending due = let k : d ≡ now = h.1 in due_wheels h.0 (due (omega arith))
 
-      abbrev node : Node
-      node = (pending_node b apart handle t e).node
+    -- and can be counted there, if that is a bucket
+    pub come_fits : IsListOf list n now d → row_count (with_row list row lists) < 18446744073709551616 → now < d
+        → lowest_radix table ≤ list → (first_at list firsts).count < 18446744073709551615
+    come_fits (inl h) few later = entered_fits w.foretold list row h.0 (let k : list < n = h.0 in omega arith) few
+    come_fits (inr h) few later = absurd (let k : d ≡ now = h.1 in omega arith)
 
-      abbrev there : StandsIn handle.place node lists
-      there = stands_in handle.place node lists (pending_at b apart handle t e)
+  module _ {last_tick last : ℕ} (b : AreBuckets n last_tick now last lists) (apart : AreApart lists) (handle : Handle) (t : Timer)
+      (e : held_at handle (wheel_state n last_tick now last lists) ≡ Some t) where
+    abbrev node : Node
+    node = (held_node b apart handle t e).node
 
-      in_slots : there.l < n
-      in_slots =
-          let len : length lists ≡ n + 1 = b.has_lists in
-          let r : there.l < length lists = there.in_range in
-          let later : now < node.timer.deadline = pending_later b apart handle t e in
-          let not_due : there.l ≢ n = λ (q : there.l ≡ n). (
-          let at : list_at n lists ≡ there.front ++ (handle.place, node) ∷ there.rest =
-          ap (λ (v : ℕ). list_at v lists) (sym q) ∙ there.at in
-          let d : node.timer.deadline ≡ now = (all-rest (λ row. IsDue now last (timer_in row)) there.front
-          ((handle.place, node) ∷ there.rest) (subst (AreDue now last) at b.due)).0.deadline in
-          omega arith) in
+    abbrev there : StandsIn handle.place node lists
+    there = stands_in handle.place node lists (held_node b apart handle t e).at
+
+    abbrev rest : KeyedLists
+    rest = map (without_key handle.place) lists
+
+    rest_is : rest ≡ slice_set lists there.l (there.front ++ there.rest)
+    rest_is = (apart there.l there.front (handle.place, node) there.rest there.in_range there.at).1
+
+    node_deadline : node.timer.deadline ≡ t.deadline
+    node_deadline = ap (λ (u : Timer). u.deadline) (held_node b apart handle t e).timer
+
+    -- what holds of each row of its list holds of it
+    row_has : (P : ℕ × Node → Type 0) → AllByRecursion P (list_at there.l lists) → P (handle.place, node)
+    row_has P a = (all-rest P there.front ((handle.place, node) ∷ there.rest) (subst (AllByRecursion P) there.at a)).0
+
+    is_pending : there.l < n → IsPending last_tick now last node.timer
+    is_pending h = row_has (λ row. IsPending last_tick now last (timer_in row))
+        (all-list_at (λ row. IsPending last_tick now last (timer_in row)) n lists b.pending there.l h)
+
+    is_due : there.l ≡ n → IsDue now last node.timer
+    is_due q = row_has (λ row. IsDue now last (timer_in row)) (subst (λ (l : ℕ). AreDue now last (list_at l lists)) (sym q) b.due)
+
+    pending_or_due : (there.l < n) ⊎ (there.l ≡ n)
+    pending_or_due =
+        let len : length lists ≡ n + 1 = b.has_lists in
+        let r : there.l < length lists = there.in_range in
+        elim (cases_lt there.l n) [ inl h ↦ inl h | inr h ↦ inr (omega arith) ]
+
+    in_bucket : now < t.deadline → there.l < n
+    in_bucket later = elim pending_or_due [
+      | inl h ↦ h
+      | inr q ↦ let d : node.timer.deadline ≡ now = (is_due q).deadline in let k = node_deadline in absurd (omega arith)
+    ]
+
+    among_due : t.deadline ≤ now → there.l ≡ n
+    among_due past = elim pending_or_due [
+      | inl h ↦ let d : now < node.timer.deadline = (is_pending h).later in let k = node_deadline in absurd (omega arith)
+      | inr q ↦ q
+    ]
+
+    pub up_to_last : t.deadline ≤ last_tick
+    up_to_last = elim pending_or_due [
+      | inl h ↦ let d : node.timer.deadline ≤ last_tick = (is_pending h).in_range in let k = node_deadline in omega arith
+      | inr q ↦
+          let d : node.timer.deadline ≡ now = (is_due q).deadline in
+          let k = node_deadline in
+          let r : now ≤ last_tick = b.tick_in_range in
           omega arith
+    ]
 
-      -- a pending timer goes
-      pub stopped_wheels : (emptied : Option ℕ) (words2 : List ℕ) → IsAloneIn handle.place lists emptied → Clears emptied words words2
-          → AreWheels table now n words2 (map (without_key handle.place) lists)
-      stopped_wheels emptied words2 alone c =
-          let P : Option ℕ → Type 0 = λ o. Clears o words words2 in
-          record {
-            placed = each-without_key (IsPlaced table now) n handle.place lists w.placed;
-            marked = taken_out n words words2 handle.place there.l node there.front there.rest lists
-                (map (without_key handle.place) lists) in_slots there.in_range there.at
-                (apart there.l there.front (handle.place, node) there.rest there.in_range there.at).1
-                (subst P (alone there.l there.front node there.rest there.in_range there.at) c) w.marked;
-          }
+    at_bucket : there.l < n → bucket table now t.deadline ≡ there.l
+    at_bucket h = ap (bucket table now) (sym node_deadline) ∙ (row_has (IsPlaced table now there.l) (w.placed there.l h)).0
 
-      pub emptied_in_range : (emptied : Option ℕ) → IsAloneIn handle.place lists emptied → MatchOption emptied (Unit {0}) (λ l. l < n)
-      emptied_in_range emptied alone =
-          let P : Option ℕ → Type 0 = λ o. MatchOption o (Unit {0}) (λ l. l < n) in
-          subst P (sym (alone there.l there.front node there.rest there.in_range there.at))
-          (list_if_alone_in_range n there.l there.front there.rest in_slots)
+    -- a pending timer was counted, if it has the bound
+    pub was_counted : now < t.deadline → lowest_radix table ≤ bucket table now t.deadline
+        → (first_at (bucket table now t.deadline) firsts).bound ≡ t.deadline
+        → 0 < (first_at (bucket table now t.deadline) firsts).count
+    was_counted later = subst (λ (l : ℕ). lowest_radix table ≤ l → (first_at l firsts).bound ≡ t.deadline → 0 < (first_at l firsts).count)
+        (sym (at_bucket (in_bucket later))) (left_counted w.foretold handle.place there.l node there.front there.rest rest
+        (in_bucket later) there.in_range there.at rest_is t.deadline node_deadline)
 
-      node_deadline : node.timer.deadline ≡ t.deadline
-      node_deadline = ap (λ (u : Timer). u.deadline) (pending_node b apart handle t e).timer
+    module _ (emptied : Option ℕ) (alone : IsAloneIn handle.place lists emptied) where
+      emptied_is : emptied ≡ list_if_alone there.l there.front there.rest
+      emptied_is = alone there.l there.front node there.rest there.in_range there.at
 
-      pub later_than_now : now < t.deadline
-      later_than_now = let k : now < node.timer.deadline = pending_later b apart handle t e in let d = node_deadline in omega arith
+      pub emptied_in_range : now < t.deadline → MatchOption emptied (Unit {0}) (λ l. l < n)
+      emptied_in_range later = subst (λ (o : Option ℕ). MatchOption o (Unit {0}) (λ l. l < n)) (sym emptied_is)
+          (list_if_alone_in_range n there.l there.front there.rest (in_bucket later))
 
-      at_bucket : bucket table now t.deadline ≡ there.l
-      at_bucket = ap (bucket table now) (sym node_deadline)
-          ∙ (all-rest (IsPlaced table now there.l) there.front ((handle.place, node) ∷ there.rest)
-          (subst (AllByRecursion (IsPlaced table now there.l)) there.at (w.placed there.l in_slots))).0.0
+      module _ (words2 : List ℕ) (firsts2 : List First) where
+        abbrev GoesFrom : ℕ → Option ℕ → Type 0
+        GoesFrom l o = Goes (lowest_radix table) l t.deadline o words words2 firsts firsts2
 
-      module _ {lowest : ℕ} {firsts : List First} (f : AreFirsts lowest n firsts lists) where
-        -- it was counted, if it has the bound
-        pub stopped_counted : lowest ≤ bucket table now t.deadline → (first_at (bucket table now t.deadline) firsts).bound ≡ t.deadline
-            → 0 < (first_at (bucket table now t.deadline) firsts).count
-        stopped_counted = subst (λ (l : ℕ). lowest ≤ l → (first_at l firsts).bound ≡ t.deadline → 0 < (first_at l firsts).count)
-            (sym at_bucket) (left_counted f handle.place there.l node there.front there.rest (map (without_key handle.place) lists) in_slots
-            there.in_range there.at (apart there.l there.front (handle.place, node) there.rest there.in_range there.at).1 t.deadline
-            node_deadline)
+        left_wheels : there.l < n → GoesFrom there.l (list_if_alone there.l there.front there.rest)
+            → AreWheels table now n words2 firsts2 rest
+        left_wheels h c = record {
+          placed = each-without_key (IsPlaced table now) n handle.place lists w.placed;
+          marked = taken_out n words words2 handle.place there.l node there.front there.rest lists rest h there.in_range there.at
+              rest_is c.bits w.marked;
+          foretold = left_firsts w.foretold handle.place there.l t.deadline node there.front there.rest rest h there.in_range there.at
+              rest_is node_deadline firsts2 c.counted;
+        }
 
-        -- and is no longer
-        pub stopped_firsts : (emptied : Option ℕ) (firsts2 : List First) → IsAloneIn handle.place lists emptied
-            → MatchOption emptied (Leaves lowest (bucket table now t.deadline) t.deadline firsts firsts2)
-            (λ list. Empties list firsts firsts2)
-            → AreFirsts lowest n firsts2 (map (without_key handle.place) lists)
-        stopped_firsts emptied firsts2 alone c =
-            let P : Option ℕ → Type 0 = λ o. MatchOption o (Leaves lowest (bucket table now t.deadline) t.deadline firsts firsts2)
-            (λ list. Empties list firsts firsts2) in
-            let Q : ℕ → Type 0 = λ l. MatchOption (list_if_alone there.l there.front there.rest)
-            (Leaves lowest l t.deadline firsts firsts2) (λ list. Empties list firsts firsts2) in
-            left_firsts f handle.place there.l t.deadline node there.front there.rest (map (without_key handle.place) lists) in_slots
-            there.in_range there.at (apart there.l there.front (handle.place, node) there.rest there.in_range there.at).1 node_deadline
-            firsts2 (subst Q at_bucket (subst P (alone there.l there.front node there.rest there.in_range there.at) c))
+        -- a held timer goes
+        pub gone_wheels : (now < t.deadline → GoesFrom (bucket table now t.deadline) emptied)
+            → (t.deadline ≤ now → (words2 ≡ words) × (firsts2 ≡ firsts)) → AreWheels table now n words2 firsts2 rest
+        gone_wheels pending due = elim (cases_lt now t.deadline) [
+          | inl later ↦
+              let h = in_bucket later in
+              left_wheels h (subst (λ (l : ℕ). GoesFrom l (list_if_alone there.l there.front there.rest)) (at_bucket h)
+              (subst (GoesFrom (bucket table now t.deadline)) emptied_is (pending later)))
+          | inr past ↦
+              let same = due past in
+              let q : there.l ≡ n = among_due past in
+              let kept : AreWheels table now n words firsts rest = same_wheels rest (λ s h. ap (list_at s) rest_is
+              ∙ get_or-set_other lists there.l s (there.front ++ there.rest) [] (let m : s ≢ there.l = omega arith in m)) in
+              rw (same.0, same.1) kept
+        ]
 
 -- From the buckets before a call to those after it.
 
-module _ {t : Table} {b : Buckets} {words : List ℕ} (h : IsHier t b words) where
-  pub wheels_of : AreWheels (radices t) b.tick b.slots words b.links.lists
-  wheels_of = record { placed = h.placed; marked = h.marked }
+-- the list of a later deadline is a bucket
+later_list : (list n now d : ℕ) → IsListOf list n now d → now < d → list < n
+later_list list n now d (inl h) later = h.0
+later_list list n now d (inr h) later = absurd (let k : d ≡ now = h.1 in omega arith)
 
+-- a bucket has a bit
+pub in_word : (t : Table) (l : ℕ) → l < slots (radices t) → l < 640
+in_word t l k = let y : slots (radices t) ≤ 640 = (of_table t).few_slots in omega arith
+
+-- the invariant of `Wheels`
+pub record AreKept (t : Table) (b : Buckets) (words : List ℕ) (firsts : List First) : Type 0 where
+  pub hier : IsHier t b words
+  pub foretold : HasFirsts t b firsts
+
+pub wheels_of : {t : Table} {b : Buckets} {words : List ℕ} {firsts : List First} → IsHier t b words → HasFirsts t b firsts
+    → AreWheels (radices t) b.tick b.slots words firsts b.links.lists
+wheels_of h f = record { placed = h.placed; marked = h.marked; foretold = f }
+
+module _ {t : Table} {b : Buckets} {words : List ℕ} (h : IsHier t b words) where
   pub in_table : (emptied : Option ℕ) → MatchOption emptied (Unit {0}) (λ l. l < b.slots)
       → MatchOption emptied (Unit {0}) (λ l. l < slots (radices t))
   in_table emptied m = subst (λ (n : ℕ). MatchOption emptied (Unit {0}) (λ l. l < n)) h.has_slots m
@@ -194,26 +248,18 @@ module _ {t : Table} {b : Buckets} {words : List ℕ} (h : IsHier t b words) whe
   pub up_to_last_of : (d : ℕ) → d ≤ b.last_tick → d ≤ last_of (radices t)
   up_to_last_of d k = let x : b.last_tick ≡ last_of (radices t) = h.clock in omega arith
 
-  pub in_slots_of : (l : ℕ) → l < slots (radices t) → l < b.slots
-  in_slots_of l k = let x : b.slots ≡ slots (radices t) = h.has_slots in omega arith
+  pub in_slots_of : (l now d : ℕ) → IsListOf l b.slots now d → now < d → l < slots (radices t)
+  in_slots_of l now d i later =
+      let k : l < b.slots = later_list l b.slots now d i later in let x : b.slots ≡ slots (radices t) = h.has_slots in omega arith
 
-  pub in_word_of : (l : ℕ) → l < slots (radices t) → l < 640
-  in_word_of l k = let y : slots (radices t) ≤ 640 = (of_table t).few_slots in omega arith
-
-  pub framed : (new : Buckets) (words2 : List ℕ) (lists : KeyedLists) → IsSameFrame b new → new.links.lists ≡ lists
-      → AreWheels (radices t) b.tick b.slots words2 lists → IsHier t new words2
-  framed new words2 lists f e w = record {
-    has_slots = f.slots ∙ h.has_slots;
-    clock = f.last_tick ∙ h.clock;
-    placed = rw (f.tick, f.slots, e) w.placed;
-    marked = rw (f.slots, e) w.marked;
+  pub framed : (new : Buckets) (words2 : List ℕ) (firsts2 : List First) (lists : KeyedLists) → IsSameFrame b new
+      → new.links.lists ≡ lists → AreWheels (radices t) b.tick b.slots words2 firsts2 lists → AreKept t new words2 firsts2
+  framed new words2 firsts2 lists f e w = record {
+    hier = record {
+      has_slots = f.slots ∙ h.has_slots;
+      clock = f.last_tick ∙ h.clock;
+      placed = rw (f.tick, f.slots, e) w.placed;
+      marked = rw (f.slots, e) w.marked;
+    };
+    foretold = rw (f.slots, e) w.foretold;
   }
-
-  -- the first deadlines of the same lists
-  pub framed_firsts : {firsts : List First} (new : Buckets) (lists : KeyedLists) → IsSameFrame b new → new.links.lists ≡ lists
-      → AreFirsts (lowest_radix (radices t)) b.slots firsts lists → HasFirsts t new firsts
-  framed_firsts new lists f e w = rw (f.slots, e) w
-
-  -- a bucket is a list, of which there is one more
-  pub in_lists_of : (l : ℕ) (lists : KeyedLists) → l < slots (radices t) → length lists ≡ b.slots + 1 → l < length lists
-  in_lists_of l lists k e = let x : b.slots ≡ slots (radices t) = h.has_slots in omega arith

@@ -1,5 +1,5 @@
 -- The state that `Buckets` represents, and how its calls change the lists.
-use Rattle.std.specs.Prelude.{◌≡◌, ℕ, map, Option, Some, None, MatchOption}
+use Rattle.std.specs.Prelude.{◌≡◌, ◌<◌, ◌⊎◌, ℕ, map, Option, Some, None, MatchOption}
 use Rattle.timer_base.specs.declared.timer.Timer.{Timer}
 use Rattle.timer_base.specs.WheelState.{WheelState, IsWellFormed, with_room, with_room-well_formed}
 use Rattle.timer_links.specs.declared.node.Node.{Node}
@@ -23,6 +23,10 @@ pub record IsSameFrame (old new : Buckets) : Type 0 where
   pub tick : new.tick ≡ old.tick
   pub slots : new.slots ≡ old.slots
 
+-- the list of a timer that is started now: a bucket if its deadline is later, and list n if it is now
+abbrev pub IsListOf : ℕ → ℕ → ℕ → ℕ → Type 0
+IsListOf list n now deadline = ((list < n) × (now < deadline)) ⊎ ((list ≡ n) × (deadline ≡ now))
+
 -- the timer that was removed, if one was found
 abbrev pub taken_timer : Option (Timer × Option ℕ) → Option Timer
 taken_timer None = None
@@ -41,12 +45,6 @@ RemovesRow found key old new = MatchOption found (new ≡ old) (λ r. new ≡ ma
 abbrev pub ReplacesRow : {X : Type 0} → Option X → ℕ → ℕ × Node → KeyedLists → KeyedLists → Type 0
 ReplacesRow found l row old new = MatchOption found (new ≡ old) (λ r. new
     ≡ with_row l row (map (without_key row.0) old))
-
--- where a timer was found, its row comes to the back of list n, with the tick as its deadline and no rounds; else the
--- lists are unchanged
-abbrev pub MakesRowDue : Option Timer → ℕ → ℕ → ℕ → KeyedLists → KeyedLists → Type 0
-MakesRowDue found key n tick old new = MatchOption found (new ≡ old)
-    (λ t. new ≡ with_row n (row_at key (record t { deadline = tick }) 0) (map (without_key key) old))
 
 -- the invariant of the buckets implies that of every wheel
 pub state_of-well_formed : (buckets : Buckets) → IsWellFormed (state_of buckets)

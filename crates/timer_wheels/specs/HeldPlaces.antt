@@ -3,7 +3,7 @@ use Rattle.std.specs.Prelude.{◌<◌, ◌≤◌, ◌⊎◌, ℕ, List, Option, 
 use Rattle.std.specs.List.{AllByRecursion}
 use Rattle.timer_base.specs.declared.timer.Handle.{Handle}
 use Rattle.timer_base.specs.Pending.{Entry}
-use Rattle.timer_base.specs.WheelState.{WheelState, timer_at, due_at}
+use Rattle.timer_base.specs.WheelState.{WheelState, held_at}
 
 -- none of the timers has a place from the first one up to the second
 abbrev pub AreElsewhere : ℕ → ℕ → List Entry → Type 0
@@ -15,7 +15,7 @@ AreBefore from entries = AllByRecursion (λ entry. entry.place < from) entries
 
 -- a timer is pending or due under this handle
 abbrev pub IsHeld : Handle → WheelState → Type 0
-IsHeld handle w = IsSome (timer_at handle w) ⊎ IsSome (due_at handle w)
+IsHeld handle w = IsSome (held_at handle w)
 
 -- the handle of the timer at the first place from this one on, and none exactly if no place from it on has
 -- a timer

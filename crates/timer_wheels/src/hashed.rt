@@ -20,10 +20,9 @@
 ghost use Rattle.std.specs.Prelude.{◌≡◌, ◌⊎◌, ◌<◌, ◌≤◌, ◌+◌, ◌-◌, ◌%◌, [], IfOk, IfErr, OnOk, OnErr, Some, None, MatchOption};
 ghost use Rattle.std.specs.Option.{IfSome};
 ghost use Rattle.timer_base.specs.declared.limits.TheConstants.{LAST};
-ghost use Rattle.timer_base.specs.Order.{AreBelow};
-ghost use Rattle.timer_base.specs.Pending.{timers_of};
 ghost use Rattle.timer_base.specs.WakeUps.{IsQuietUntil};
-ghost use Rattle.timer_base.specs.WheelState.{empty_wheel, first_due, timer_at, after_start, after_reserve, held_count, after_stop, after_tick, after_expiry, after_clear, after_restart, after_made_due, after_withdrawal, after_revival, due_at, old_timer, Advances};
+ghost use Rattle.timer_base.specs.WheelState.{empty_wheel, NamesOne, held_at, held_count, old_timer, first_due, after_reserve, after_held_start, after_removal, after_replacement, after_tick, after_expiry, after_clear, Advances};
+ghost use Rattle.timer_wheels.specs.Buckets.{IsListOf};
 ghost use Rattle.timer_wheels.specs.Hashed.{slot_of, rounds_of, IsHashed, AreInBuckets, AreInBuckets-prop, IsNextSweep};
 ghost use Rattle.timer_wheels.specs.WakeUps.{earliest_sweep};
 
@@ -99,16 +98,21 @@ impl HashedWheel {
         &self.buckets.links
     }
 
-    /// The bucket and the rounds of a timer that is started now.
+    /// The list and the rounds of a timer that is started now: its bucket, or the list of due timers if its
+    /// deadline is now.
     #[inline(always)]
-    fn bucket_and_rounds(&self, timer: Timer) -> (usize, u64)
-        requires later { (hashed_state self.now).now < timer.deadline }
-        ensures bucket { result.0 ≡ slot_of (slots_of self.now) timer }
-        ensures in_range { result.0 < slots_of self.now }
-        ensures rounds { result.1 ≡ rounds_of (slots_of self.now) (hashed_state self.now).now timer }
+    fn list_and_rounds(&self, timer: Timer) -> (usize, u64)
+        requires not_past { (hashed_state self.now).now ≤ timer.deadline }
+        ensures list { IsListOf result.0 (slots_of self.now) (hashed_state self.now).now timer.deadline }
+        ensures bucket { (hashed_state self.now).now < timer.deadline → result.0 ≡ slot_of (slots_of self.now) timer }
+        ensures rounds { (hashed_state self.now).now < timer.deadline
+            → result.1 ≡ rounds_of (slots_of self.now) (hashed_state self.now).now timer }
     {
         let buckets = &self.buckets;
         let slots = buckets.slots;
+        if timer.deadline <= buckets.tick {
+            return (slots, 0);
+        }
         // What is left of the interval after the next tick: one division gives its rounds and its slots.
         let rest = timer.deadline - buckets.tick - 1;
         let rounds = rest / slots as u64;
@@ -165,8 +169,8 @@ impl Wheel for HashedWheel {
     }
 
     fn start(&mut self, timer: Timer) -> Result<Handle, OutOfMemory> {
-        let (bucket, rounds) = self.bucket_and_rounds(timer);
-        self.buckets.start(bucket, timer, rounds)
+        let (list, rounds) = self.list_and_rounds(timer);
+        self.buckets.start(list, timer, rounds)
     }
 
     fn reserve(&mut self, most: usize) -> Result<(), OutOfMemory> {
@@ -182,12 +186,8 @@ impl Wheel for HashedWheel {
     }
 
     fn restart(&mut self, handle: Handle, timer: Timer) -> Option<(Handle, Timer)> {
-        let (bucket, rounds) = self.bucket_and_rounds(timer);
-        self.buckets.restart(handle, bucket, timer, rounds)
-    }
-
-    fn make_due(&mut self, handle: Handle) -> Option<Timer> {
-        self.buckets.make_due(handle)
+        let (list, rounds) = self.list_and_rounds(timer);
+        self.buckets.restart(handle, list, timer, rounds)
     }
 
     fn per_tick(&mut self) {
@@ -230,23 +230,6 @@ impl Wheel for HashedWheel {
 
     fn expire(&mut self) -> Option<Timer> {
         self.buckets.expire()
-    }
-
-    fn look_due(&self, handle: Handle) -> Option<Timer> {
-        self.buckets.look_due(handle)
-    }
-
-    fn withdraw(&mut self, handle: Handle) -> Option<Timer> {
-        self.buckets.withdraw(handle)
-    }
-
-    fn revive(&mut self, handle: Handle, timer: Timer) -> Option<(Handle, Timer)> {
-        let (bucket, rounds) = self.bucket_and_rounds(timer);
-        self.buckets.revive(handle, bucket, timer, rounds)
-    }
-
-    fn lemma_names_one(&self, handle: Handle) {
-        self.buckets.lemma_names_one(handle)
     }
 
     fn list(&self) -> Result<Vec<Timer>, OutOfMemory> {

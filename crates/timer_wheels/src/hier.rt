@@ -50,10 +50,8 @@
 ghost use Rattle.std.specs.Prelude.{◌≡◌, ◌+◌, ◌-◌, ◌*◌, ◌<◌, ◌≤◌, ◌↔◌, ◌⊎◌, [], length, IsTrue, IfOk, IfErr, OnOk, OnErr, MatchOption};
 ghost use Rattle.std.specs.Option.{IfSome};
 ghost use Rattle.timer_base.specs.declared.limits.TheConstants.{LAST};
-ghost use Rattle.timer_base.specs.Order.{AreBelow};
-ghost use Rattle.timer_base.specs.Pending.{timers_of};
 ghost use Rattle.timer_base.specs.WakeUps.{IsQuietUntil, next_deadline};
-ghost use Rattle.timer_base.specs.WheelState.{empty_wheel, timer_at, first_due, after_start, after_reserve, held_count, after_stop, after_tick, after_expiry, after_clear, after_restart, after_made_due, after_withdrawal, after_revival, due_at, old_timer, Advances};
+ghost use Rattle.timer_base.specs.WheelState.{empty_wheel, NamesOne, held_at, held_count, old_timer, first_due, after_reserve, after_held_start, after_removal, after_replacement, after_tick, after_expiry, after_clear, Advances};
 ghost use Rattle.timer_wheels.specs.Buckets.{state_of, state_of-well_formed};
 ghost use Rattle.timer_wheels.specs.Leap.{IsNextVisit};
 ghost use Rattle.timer_wheels.specs.Tables.{radices, last_of_table, slots_of_table};
@@ -251,16 +249,16 @@ impl Wheel for HierWheel {
         self.wheels.buckets.last_serial
     }
 
-    // Always inlined, as restart and revive are: the results of calls would go through memory.
+    // Always inlined, as a restart is: the results of calls would go through memory.
     #[inline(always)]
     fn start(&mut self, timer: Timer) -> Result<Handle, OutOfMemory>
-        requires later { (hier_state self.old).now < timer.deadline }
+        requires not_past { (hier_state self.old).now ≤ timer.deadline }
         requires deadline { timer.deadline ≤ (hier_state self.old).last_tick }
         requires fresh { (hier_state self.old).last_serial < timer.serial }
         requires serial { timer.serial ≤ LAST }
         ensures named { IfOk result (λ handle. handle.serial ≡ timer.serial) }
         ensures started { IfOk result (λ handle. hier_state self.new
-            ≡ after_start handle.place timer (hier_state self.old)) }
+            ≡ after_held_start handle.place timer (hier_state self.old)) }
         ensures full { OnErr result ((hier_state self.old).room ≤ held_count (hier_state self.old)) }
         ensures err { OnErr result (hier_state self.new ≡ hier_state self.old) }
         ensures counted { IfOk result (λ handle. counts_of self.new ≡ with_start (counts_of self.old)) }
@@ -285,8 +283,8 @@ impl Wheel for HierWheel {
     }
 
     fn stop(&mut self, handle: Handle) -> Option<Timer>
-        ensures timer { result ≡ timer_at handle (hier_state self.old) }
-        ensures stopped { hier_state self.new ≡ after_stop handle (hier_state self.old) }
+        ensures timer { result ≡ held_at handle (hier_state self.old) }
+        ensures stopped { hier_state self.new ≡ after_removal handle (hier_state self.old) }
         ensures counts { counts_of self.new ≡ counts_of self.old }
     {
         self.wheels.stop(handle)
@@ -294,13 +292,13 @@ impl Wheel for HierWheel {
 
     #[inline(always)]
     fn restart(&mut self, handle: Handle, timer: Timer) -> Option<(Handle, Timer)>
-        requires later { (hier_state self.old).now < timer.deadline }
+        requires not_past { (hier_state self.old).now ≤ timer.deadline }
         requires deadline { timer.deadline ≤ (hier_state self.old).last_tick }
         requires fresh { (hier_state self.old).last_serial < timer.serial }
         requires serial { timer.serial ≤ LAST }
-        ensures old { old_timer result ≡ timer_at handle (hier_state self.old) }
+        ensures old { old_timer result ≡ held_at handle (hier_state self.old) }
         ensures named { MatchOption result (Unit {0}) (λ r. r.0.serial ≡ timer.serial) }
-        ensures restarted { hier_state self.new ≡ after_restart result handle timer (hier_state self.old) }
+        ensures restarted { hier_state self.new ≡ after_replacement result handle timer (hier_state self.old) }
         ensures counted { MatchOption result (counts_of self.new
             ≡ counts_of self.old) (λ r. counts_of self.new ≡ with_start (counts_of self.old)) }
     {
@@ -308,16 +306,6 @@ impl Wheel for HierWheel {
         let counts = &mut self.counts;
         counts.starts += 1;
         Some(restarted)
-    }
-
-    fn make_due(&mut self, handle: Handle) -> Option<Timer>
-        requires last { handle.serial ≡ (hier_state self.old).last_serial }
-        requires newest { AreBelow handle.serial (timers_of (hier_state self.old).due) }
-        ensures timer { result ≡ timer_at handle (hier_state self.old) }
-        ensures made_due { hier_state self.new ≡ after_made_due handle (hier_state self.old) }
-        ensures counts { counts_of self.new ≡ counts_of self.old }
-    {
-        self.wheels.make_due(handle)
     }
 
     fn per_tick(&mut self)
@@ -385,40 +373,6 @@ impl Wheel for HierWheel {
         ensures counts { counts_of self.new ≡ counts_of self.old }
     {
         self.wheels.buckets.expire()
-    }
-
-    fn look_due(&self, handle: Handle) -> Option<Timer> {
-        self.wheels.buckets.look_due(handle)
-    }
-
-    fn withdraw(&mut self, handle: Handle) -> Option<Timer>
-        ensures timer { result ≡ due_at handle (hier_state self.old) }
-        ensures withdrawn { hier_state self.new ≡ after_withdrawal handle (hier_state self.old) }
-        ensures counts { counts_of self.new ≡ counts_of self.old }
-    {
-        self.wheels.withdraw(handle)
-    }
-
-    #[inline(always)]
-    fn revive(&mut self, handle: Handle, timer: Timer) -> Option<(Handle, Timer)>
-        requires later { (hier_state self.old).now < timer.deadline }
-        requires deadline { timer.deadline ≤ (hier_state self.old).last_tick }
-        requires fresh { (hier_state self.old).last_serial < timer.serial }
-        requires serial { timer.serial ≤ LAST }
-        ensures old { old_timer result ≡ due_at handle (hier_state self.old) }
-        ensures named { MatchOption result (Unit {0}) (λ r. r.0.serial ≡ timer.serial) }
-        ensures revived { hier_state self.new ≡ after_revival result handle timer (hier_state self.old) }
-        ensures counted { MatchOption result (counts_of self.new
-            ≡ counts_of self.old) (λ r. counts_of self.new ≡ with_start (counts_of self.old)) }
-    {
-        let revived = self.wheels.revive(handle, timer)?;
-        let counts = &mut self.counts;
-        counts.starts += 1;
-        Some(revived)
-    }
-
-    fn lemma_names_one(&self, handle: Handle) {
-        self.wheels.buckets.lemma_names_one(handle)
     }
 
     fn list(&self) -> Result<Vec<Timer>, OutOfMemory> {

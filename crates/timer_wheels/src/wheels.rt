@@ -2,21 +2,19 @@
 //! deadline of each bucket.
 //!
 //! A call that puts a timer into a bucket sets the bucket's bit, and one that takes the last timer out of it clears it.
+//! The list of due timers is no bucket, and has no bit.
 //! So the clock finds the next bucket with a timer among the bits, and looks at no other (`leap`). One tick is in
 //! `migration`. The first deadline of that bucket is the first of all: it is known until the last timer that has it
 //! leaves its bucket (`firsts`).
 ghost use Rattle.std.specs.Prelude.{◌≡◌, ◌<◌, ◌≤◌, ◌+◌, [], IfOk, OnErr, MatchOption, length};
 ghost use Rattle.timer_base.specs.declared.limits.TheConstants.{LAST};
-ghost use Rattle.timer_base.specs.Order.{AreBelow};
-ghost use Rattle.timer_base.specs.Pending.{timers_of};
 ghost use Rattle.timer_base.specs.WakeUps.{next_deadline};
-ghost use Rattle.timer_base.specs.WheelState.{empty_wheel, timer_at, after_start, held_count, after_stop, after_tick, after_clear, after_restart, after_made_due, after_withdrawal, after_revival, due_at, old_timer};
-ghost use Rattle.timer_wheels.specs.Buckets.{state_of};
+ghost use Rattle.timer_base.specs.WheelState.{empty_wheel, held_at, held_count, old_timer, after_held_start, after_removal, after_replacement, after_tick, after_clear};
+ghost use Rattle.timer_wheels.specs.Buckets.{state_of, IsListOf};
 ghost use Rattle.timer_wheels.specs.Digits.{bucket, slots, last_of, lowest_radix};
-ghost use Rattle.timer_wheels.specs.Firsts.{first_at, Leaves, Empties};
-ghost use Rattle.timer_wheels.specs.Occupied.{Clears};
+ghost use Rattle.timer_wheels.specs.Firsts.{first_at};
 ghost use Rattle.timer_wheels.specs.Tables.{radices};
-ghost use Rattle.timer_wheels.specs.Hier.{IsHier, IsHier-prop, HasFirsts, HasFirsts-prop, potential};
+ghost use Rattle.timer_wheels.specs.Hier.{IsHier, IsHier-prop, HasFirsts, HasFirsts-prop, Comes, Goes, potential};
 
 use crate::buckets::Buckets;
 use crate::deadlines::first_in;
@@ -69,39 +67,63 @@ impl Wheels {
         })
     }
 
-    /// Starts a timer in its bucket.
+    /// The list of a timer that is started now: its bucket, or the list of due timers if its deadline is now.
+    #[inline(always)]
+    fn list_of(&self, deadline: u64) -> usize
+        requires not_past { self.now.buckets.tick ≤ deadline }
+        requires deadline { deadline ≤ self.now.buckets.last_tick }
+        ensures list { IsListOf result self.now.buckets.slots self.now.buckets.tick deadline }
+        ensures bucket { self.now.buckets.tick < deadline
+            → result ≡ bucket (radices self.now.table) self.now.buckets.tick deadline }
+    {
+        let buckets = &self.buckets;
+        if deadline > buckets.tick {
+            bucket_of(self.table, buckets.tick, deadline)
+        } else {
+            buckets.slots
+        }
+    }
+
+    /// Starts a timer, in its bucket or as the last of the due ones.
     #[inline(always)]
     pub fn start(&mut self, timer: Timer) -> Result<Handle, OutOfMemory>
-        requires later { self.old.buckets.tick < timer.deadline }
+        requires not_past { self.old.buckets.tick ≤ timer.deadline }
         requires deadline { timer.deadline ≤ self.old.buckets.last_tick }
         requires fresh { self.old.buckets.last_serial < timer.serial }
         requires serial { timer.serial ≤ LAST }
         ensures named { IfOk result (λ handle. handle.serial ≡ timer.serial) }
         ensures started { IfOk result (λ handle. state_of self.new.buckets
-            ≡ after_start handle.place timer (state_of self.old.buckets)) }
+            ≡ after_held_start handle.place timer (state_of self.old.buckets)) }
         ensures full { OnErr result ((state_of self.old.buckets).room
             ≤ held_count (state_of self.old.buckets)) }
         ensures err { OnErr result (state_of self.new.buckets ≡ state_of self.old.buckets) }
         ensures table { self.new.table ≡ self.old.table }
     {
-        let bucket = bucket_of(self.table, self.buckets.tick, timer.deadline);
-        let handle = self.buckets.start(bucket, timer, 0)?;
+        let list = self.list_of(timer.deadline);
+        let handle = self.buckets.start(list, timer, 0)?;
         self.buckets.lemma_countable();
-        self.occupied.insert(bucket);
-        self.firsts.enter(self.table, bucket, timer.deadline);
+        enter_list(
+            self.table,
+            &mut self.occupied,
+            &mut self.firsts,
+            self.buckets.tick,
+            timer.deadline,
+            list,
+        );
         Ok(handle)
     }
 
-    /// Removes the pending timer with just this handle. Does not allocate.
+    /// Removes the timer with just this handle, pending or due. Does not allocate.
     #[inline]
     pub fn stop(&mut self, handle: Handle) -> Option<Timer>
-        ensures timer { result ≡ timer_at handle (state_of self.old.buckets) }
-        ensures stopped { state_of self.new.buckets ≡ after_stop handle (state_of self.old.buckets) }
+        ensures timer { result ≡ held_at handle (state_of self.old.buckets) }
+        ensures stopped { state_of self.new.buckets
+            ≡ after_removal handle (state_of self.old.buckets) }
         ensures table { self.new.table ≡ self.old.table }
     {
         self.buckets.links.lemma_keys_unique();
         let (timer, emptied) = self.buckets.take(handle)?;
-        leave_bucket(
+        leave_list(
             self.table,
             &mut self.occupied,
             &mut self.firsts,
@@ -112,25 +134,25 @@ impl Wheels {
         Some(timer)
     }
 
-    /// Removes the pending timer with just this handle, and starts another at its place. Does not allocate.
+    /// Removes the timer with just this handle, and starts another at its place. Does not allocate.
     #[inline(always)]
     pub fn restart(&mut self, handle: Handle, timer: Timer) -> Option<(Handle, Timer)>
-        requires later { self.old.buckets.tick < timer.deadline }
+        requires not_past { self.old.buckets.tick ≤ timer.deadline }
         requires deadline { timer.deadline ≤ self.old.buckets.last_tick }
         requires fresh { self.old.buckets.last_serial < timer.serial }
         requires serial { timer.serial ≤ LAST }
-        ensures old { old_timer result ≡ timer_at handle (state_of self.old.buckets) }
+        ensures old { old_timer result ≡ held_at handle (state_of self.old.buckets) }
         ensures named { MatchOption result (Unit {0}) (λ r. r.0.serial ≡ timer.serial) }
         ensures restarted { state_of self.new.buckets
-            ≡ after_restart result handle timer (state_of self.old.buckets) }
+            ≡ after_replacement result handle timer (state_of self.old.buckets) }
         ensures table { self.new.table ≡ self.old.table }
     {
         self.buckets.links.lemma_keys_unique();
-        let bucket = bucket_of(self.table, self.buckets.tick, timer.deadline);
+        let list = self.list_of(timer.deadline);
         let old = self.buckets.look(handle)?;
         let emptied = self.buckets.links.alone_in(handle.place);
-        let restarted = self.buckets.restart(handle, bucket, timer, 0)?;
-        leave_bucket(
+        let restarted = self.buckets.restart(handle, list, timer, 0)?;
+        leave_list(
             self.table,
             &mut self.occupied,
             &mut self.firsts,
@@ -139,65 +161,15 @@ impl Wheels {
             emptied,
         );
         self.buckets.lemma_countable();
-        self.occupied.insert(bucket);
-        self.firsts.enter(self.table, bucket, timer.deadline);
+        enter_list(
+            self.table,
+            &mut self.occupied,
+            &mut self.firsts,
+            self.buckets.tick,
+            timer.deadline,
+            list,
+        );
         Some(restarted)
-    }
-
-    /// Moves the pending timer with just this handle to the back of the due ones. Does not allocate.
-    pub fn make_due(&mut self, handle: Handle) -> Option<Timer>
-        requires newest { AreBelow handle.serial (timers_of (state_of self.old.buckets).due) }
-        ensures timer { result ≡ timer_at handle (state_of self.old.buckets) }
-        ensures made_due { state_of self.new.buckets
-            ≡ after_made_due handle (state_of self.old.buckets) }
-        ensures table { self.new.table ≡ self.old.table }
-    {
-        self.buckets.links.lemma_keys_unique();
-        let old = self.buckets.look(handle)?;
-        let emptied = self.buckets.links.alone_in(handle.place);
-        let timer = self.buckets.make_due(handle)?;
-        leave_bucket(
-            self.table,
-            &mut self.occupied,
-            &mut self.firsts,
-            self.buckets.tick,
-            old.deadline,
-            emptied,
-        );
-        Some(timer)
-    }
-
-    /// Removes the due timer with just this handle. Does not allocate.
-    pub fn withdraw(&mut self, handle: Handle) -> Option<Timer>
-        ensures timer { result ≡ due_at handle (state_of self.old.buckets) }
-        ensures withdrawn { state_of self.new.buckets
-            ≡ after_withdrawal handle (state_of self.old.buckets) }
-        ensures table { self.new.table ≡ self.old.table }
-    {
-        self.buckets.links.lemma_keys_unique();
-        self.buckets.withdraw(handle)
-    }
-
-    /// Removes the due timer with just this handle, and starts another at its place. Does not allocate.
-    #[inline(always)]
-    pub fn revive(&mut self, handle: Handle, timer: Timer) -> Option<(Handle, Timer)>
-        requires later { self.old.buckets.tick < timer.deadline }
-        requires deadline { timer.deadline ≤ self.old.buckets.last_tick }
-        requires fresh { self.old.buckets.last_serial < timer.serial }
-        requires serial { timer.serial ≤ LAST }
-        ensures old { old_timer result ≡ due_at handle (state_of self.old.buckets) }
-        ensures named { MatchOption result (Unit {0}) (λ r. r.0.serial ≡ timer.serial) }
-        ensures revived { state_of self.new.buckets
-            ≡ after_revival result handle timer (state_of self.old.buckets) }
-        ensures table { self.new.table ≡ self.old.table }
-    {
-        self.buckets.links.lemma_keys_unique();
-        let bucket = bucket_of(self.table, self.buckets.tick, timer.deadline);
-        let revived = self.buckets.revive(handle, bucket, timer, 0)?;
-        self.buckets.lemma_countable();
-        self.occupied.insert(bucket);
-        self.firsts.enter(self.table, bucket, timer.deadline);
-        Some(revived)
     }
 
     /// Advances to the next tick, and empties the bucket of its lowest digit that isn't zero.
@@ -288,10 +260,36 @@ impl Wheels {
     }
 }
 
-/// A timer with this deadline left its bucket: it is no longer counted there. If it left a bucket empty, the
-/// bucket's bit is cleared.
+/// A timer with this deadline came to the back of a list. If that is a bucket, its bit is set, and the timer is
+/// counted there. What is due has no bit.
+#[inline(always)]
+fn enter_list(
+    table: Table,
+    occupied: &mut Occupied,
+    firsts: &mut Firsts,
+    tick: u64,
+    deadline: u64,
+    list: usize,
+)
+    requires list { tick < deadline → list < slots (radices table) }
+    requires size { length firsts.old ≡ slots (radices table) }
+    requires few { tick < deadline → lowest_radix (radices table) ≤ list
+        → (first_at list firsts.old).count < 18446744073709551615 }
+    ensures pending { tick < deadline → Comes (lowest_radix (radices table)) list deadline occupied.old occupied.new
+        firsts.old firsts.new }
+    ensures due { deadline ≤ tick → (occupied.new ≡ occupied.old) × (firsts.new ≡ firsts.old) }
+{
+    if deadline <= tick {
+        return;
+    }
+    occupied.insert(list);
+    firsts.enter(table, list, deadline);
+}
+
+/// A timer with this deadline left its list. If that was a bucket, the timer is no longer counted there. If it left
+/// the bucket empty, the bucket's bit is cleared.
 #[inline]
-fn leave_bucket(
+fn leave_list(
     table: Table,
     occupied: &mut Occupied,
     firsts: &mut Firsts,
@@ -299,17 +297,19 @@ fn leave_bucket(
     deadline: u64,
     emptied: Option<usize>,
 )
-    requires later { tick < deadline }
     requires deadline { deadline ≤ last_of (radices table) }
     requires size { length firsts.old ≡ slots (radices table) }
-    requires emptied { MatchOption emptied (Unit {0}) (λ list. list < slots (radices table)) }
-    requires counted { lowest_radix (radices table) ≤ bucket (radices table) tick deadline
+    requires emptied { tick < deadline → MatchOption emptied (Unit {0}) (λ list. list < slots (radices table)) }
+    requires counted { tick < deadline → lowest_radix (radices table) ≤ bucket (radices table) tick deadline
         → (first_at (bucket (radices table) tick deadline) firsts.old).bound ≡ deadline
         → 0 < (first_at (bucket (radices table) tick deadline) firsts.old).count }
-    ensures bits { Clears emptied occupied.old occupied.new }
-    ensures firsts { MatchOption emptied (Leaves (lowest_radix (radices table)) (bucket (radices table) tick deadline)
-        deadline firsts.old firsts.new) (λ list. Empties list firsts.old firsts.new) }
+    ensures pending { tick < deadline → Goes (lowest_radix (radices table)) (bucket (radices table) tick deadline) deadline
+        emptied occupied.old occupied.new firsts.old firsts.new }
+    ensures due { deadline ≤ tick → (occupied.new ≡ occupied.old) × (firsts.new ≡ firsts.old) }
 {
+    if deadline <= tick {
+        return;
+    }
     if let Some(list) = emptied {
         occupied.remove(list);
         firsts.empty(list);

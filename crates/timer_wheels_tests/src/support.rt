@@ -13,9 +13,9 @@ use timer_links::Links;
 pub enum Call {
     /// Starts the next timer, with this deadline.
     Start(u64),
-    /// Stops the timer with this serial, which is pending.
+    /// Stops the timer with this serial, which is pending or due.
     Stop(u64),
-    /// Replaces the timer with this serial, which is pending, by the next one, with this deadline.
+    /// Replaces the timer with this serial, which is pending or due, by the next one, with this deadline.
     Restart(u64, u64),
     /// The place of a serial's handle plus this offset names no timer with the other serial.
     NoSuch(u64, usize, u64),
@@ -29,12 +29,6 @@ pub enum Call {
     Until(u64, &'static [(u64, u64)]),
     /// Goes on to the tick, at which something is due, and takes nothing.
     Reach(u64),
-    /// Withdraws the timer with this serial, which is due.
-    Withdraw(u64),
-    /// Replaces the timer with this serial, which is due, by the next one, with this deadline.
-    Revive(u64, u64),
-    /// The timer with this serial is not due.
-    NotDue(u64),
     /// Takes the timers that are due, which have these serials.
     Take(&'static [u64]),
 }
@@ -85,7 +79,7 @@ pub fn start<W: Wheel>(
     wheel: &mut W,
     deadline: u64,
 ) -> Result<Handle, OutOfMemory> {
-    assert!(rt; wheel.now() < deadline);
+    assert!(rt; wheel.now() <= deadline);
     assert!(rt; deadline <= wheel.last_tick());
     assert!(rt; wheel.last_serial() < LAST);
     let serial = wheel.last_serial() + 1;
@@ -99,25 +93,11 @@ pub fn restart<W: Wheel>(
     handle: Handle,
     deadline: u64,
 ) -> Option<(Handle, Timer)> {
-    assert!(rt; wheel.now() < deadline);
+    assert!(rt; wheel.now() <= deadline);
     assert!(rt; deadline <= wheel.last_tick());
     assert!(rt; wheel.last_serial() < LAST);
     let serial = wheel.last_serial() + 1;
     wheel.restart(handle, timer(serial, deadline))
-}
-
-/// Replaces a due timer by the next one.
-pub fn revive<W: Wheel>(
-    rt: &impl Abort,
-    wheel: &mut W,
-    handle: Handle,
-    deadline: u64,
-) -> Option<(Handle, Timer)> {
-    assert!(rt; wheel.now() < deadline);
-    assert!(rt; deadline <= wheel.last_tick());
-    assert!(rt; wheel.last_serial() < LAST);
-    let serial = wheel.last_serial() + 1;
-    wheel.revive(handle, timer(serial, deadline))
 }
 
 /// Advances by at most `most` ticks, and returns by how many.
@@ -189,14 +169,7 @@ pub fn play<W: Wheel>(
                 let handle = handle_of(rt, handles.as_slice(), serial);
                 handles.push(restarts(rt, wheel, handle, deadline))?;
             }
-            Call::Revive(serial, deadline) => {
-                let handle = handle_of(rt, handles.as_slice(), serial);
-                handles.push(revives(rt, wheel, handle, deadline))?;
-            }
-            Call::Stop(serial)
-            | Call::Withdraw(serial)
-            | Call::NotDue(serial)
-            | Call::NoSuch(serial, _, _) => {
+            Call::Stop(serial) | Call::NoSuch(serial, _, _) => {
                 let handle = handle_of(rt, handles.as_slice(), serial);
                 call_on(rt, wheel, handle, *call);
             }
@@ -231,12 +204,6 @@ fn call_on<W: Wheel>(rt: &impl Abort, wheel: &mut W, handle: Handle, call: Call)
             assert_eq!(rt; serial_of(wheel.stop(handle)), serial);
             finds_nothing(rt, wheel, handle);
         }
-        Call::Withdraw(serial) => {
-            assert_eq!(rt; serial_of(wheel.look_due(handle)), serial);
-            assert_eq!(rt; serial_of(wheel.withdraw(handle)), serial);
-            finds_nothing_due(rt, wheel, handle);
-        }
-        Call::NotDue(_) => finds_nothing_due(rt, wheel, handle),
         Call::NoSuch(_, further, serial) => {
             assert!(rt; handle.place < 1000 && further < 1000);
             let place = handle.place + further;
@@ -246,10 +213,10 @@ fn call_on<W: Wheel>(rt: &impl Abort, wheel: &mut W, handle: Handle, call: Call)
     }
 }
 
-/// Restarts a pending timer, and sees that the next one stands in its place.
+/// Restarts a timer, pending or due, and sees that the next one stands in its place.
 fn restarts<W: Wheel>(rt: &impl Abort, wheel: &mut W, handle: Handle, deadline: u64) -> Handle {
     let Some((restarted, old)) = restart(rt, wheel, handle, deadline) else {
-        panic!(rt; "{handle:?} is not pending");
+        panic!(rt; "{handle:?} is not held");
     };
     assert_eq!(rt; old.serial, handle.serial);
     assert_eq!(rt; serial_of(wheel.look(restarted)), restarted.serial);
@@ -257,28 +224,7 @@ fn restarts<W: Wheel>(rt: &impl Abort, wheel: &mut W, handle: Handle, deadline: 
     restarted
 }
 
-/// Revives a due timer, and sees that the next one is pending at its place.
-fn revives<W: Wheel>(rt: &impl Abort, wheel: &mut W, handle: Handle, deadline: u64) -> Handle {
-    let Some((revived, old)) = revive(rt, wheel, handle, deadline) else {
-        panic!(rt; "{handle:?} is not due");
-    };
-    assert_eq!(rt; old.serial, handle.serial);
-    assert_eq!(rt; serial_of(wheel.look(revived)), revived.serial);
-    finds_nothing_due(rt, wheel, handle);
-    finds_nothing_due(rt, wheel, revived);
-    revived
-}
-
-/// Sees that no due timer is found by the handle.
-fn finds_nothing_due<W: Wheel>(rt: &impl Abort, wheel: &mut W, handle: Handle) {
-    assert!(rt; wheel.look_due(handle).is_none());
-    assert!(rt; wheel.withdraw(handle).is_none());
-    assert!(rt; wheel.now() < LAST);
-    let deadline = wheel.now() + 1;
-    assert!(rt; revive(rt, wheel, handle, deadline).is_none());
-}
-
-/// Sees that no pending timer is found by the handle.
+/// Sees that no timer is found by the handle.
 fn finds_nothing<W: Wheel>(rt: &impl Abort, wheel: &mut W, handle: Handle) {
     assert!(rt; wheel.look(handle).is_none());
     assert!(rt; wheel.stop(handle).is_none());

@@ -1,20 +1,24 @@
 use Rattle.std.proofs.Common.{sym, ◌∙◌, ap}
-use Rattle.timer_base.specs.WheelState.{with_room, after_start}
-use Rattle.timer_wheels.specs.Buckets.{row_at}
-use Rattle.timer_wheels.proofs.Handles.{pending_used, stopped}
-use Rattle.timer_wheels.proofs.Updates.{removed, pushed, pushed-state}
+use Rattle.timer_base.specs.HeldLaws.{with_room-held_start}
+use Rattle.timer_base.specs.WheelState.{with_room, after_held_start, after_removal}
+use Rattle.timer_wheels.specs.Buckets.{roomless_state, row_at}
+use Rattle.timer_wheels.proofs.Handles.{held_used, removed_state}
+use Rattle.timer_wheels.proofs.Updates.{removed, pushed_in, pushed_in-state, in_lists}
 use Rattle.timer_wheels.proofs.buckets.Buckets.restart.Goals as goal
 
 pub replace_node-requires-clause-used : goal.replace_node-requires-clause-used
-replace_node-requires-clause-used c = pending_used c.args.self.now.sound c.lemma_keys_unique.ensures c.args.handle c.in_ok-old.old
-    (sym c.look.ensures ∙ c.in_ok-old.was)
+replace_node-requires-clause-used c = held_used c.args.self.now.sound c.lemma_keys_unique.ensures c.args.handle c.in_ok-old.old
+    (sym c.look.ensures.timer ∙ c.in_ok-old.was)
+
+pub replace_node-requires-clause-list : goal.replace_node-requires-clause-list
+replace_node-requires-clause-list c = in_lists c.args.self.now.sound c.args.list c.args.timer.deadline c.requires.list
 
 pub invariant_of-self : goal.invariant_of-self
 invariant_of-self c =
     let row = row_at c.args.handle.place c.args.timer c.args.rounds in
     rw c.replace_node.ensures.replaced (record {
-      sound = pushed (removed c.args.self.now.sound c.args.handle.place) c.args.bucket row.0 row.1
-          c.requires.bucket c.requires.later c.requires.deadline c.requires.fresh c.requires.serial;
+      sound = pushed_in (removed c.args.self.now.sound c.args.handle.place) c.args.list row.0 row.1 c.requires.deadline
+          c.requires.fresh c.requires.serial c.requires.list;
     })
 
 pub returns-clause-restarted : goal.returns-clause-restarted
@@ -22,6 +26,8 @@ returns-clause-restarted c =
     let b = c.args.self.now in
     let row = row_at c.args.handle.place c.args.timer c.args.rounds in
     rw (c.replace_node.ensures.replaced, c.replace_node.ensures.room) (ap (with_room b.links.room)
-    (pushed-state (removed b.sound c.args.handle.place) c.args.bucket row.0 row.1 c.requires.bucket c.requires.fresh
-    ∙ ap (after_start c.args.handle.place c.args.timer) (stopped b.sound c.lemma_keys_unique.ensures c.args.handle c.in_ok-old.old
-    (sym c.look.ensures ∙ c.in_ok-old.was))))
+    (pushed_in-state (removed b.sound c.args.handle.place) c.args.list row.0 row.1 c.requires.deadline c.requires.fresh
+    c.requires.serial c.requires.list
+    ∙ ap (after_held_start c.args.handle.place c.args.timer) (removed_state b.sound c.lemma_keys_unique.ensures c.args.handle
+    c.in_ok-old.old (sym c.look.ensures.timer ∙ c.in_ok-old.was)))
+    ∙ with_room-held_start b.links.room row.0 c.args.timer (after_removal c.args.handle (roomless_state b)))

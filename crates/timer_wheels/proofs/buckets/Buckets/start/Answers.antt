@@ -1,20 +1,24 @@
-use Rattle.std.proofs.Common.{◌≤◌, ◌≡◌, ◌+◌, ℕ, List, length, ap, arith}
+use Rattle.std.proofs.Common.{◌≤◌, ◌≡◌, ◌+◌, ◌∙◌, ℕ, List, length, ap, arith}
 use Rattle.std.proofs.lemmas.List.{length-map}
+use Rattle.timer_base.specs.HeldLaws.{with_room-held_start}
 use Rattle.timer_base.specs.WheelState.{with_room}
 use Rattle.timer_links.specs.declared.node.Node.{Node}
 use Rattle.timer_links.specs.Lists.{row_count, list_at}
-use Rattle.timer_wheels.specs.Buckets.{row_at}
+use Rattle.timer_wheels.specs.Buckets.{roomless_state, row_at}
 use Rattle.timer_wheels.specs.BucketLists.{rows_below, pending_in, entries_of, entry_of}
 use Rattle.timer_wheels.proofs.BucketLemmas.{row_count-parts, length-pending_in}
-use Rattle.timer_wheels.proofs.Updates.{pushed, pushed-state}
+use Rattle.timer_wheels.proofs.Updates.{pushed_in, pushed_in-state, in_lists}
 use Rattle.timer_wheels.proofs.buckets.Buckets.start.Goals as goal
+
+pub push_back-requires : goal.push_back-requires
+push_back-requires c = in_lists c.args.self.now.sound c.args.list c.args.timer.deadline c.requires.list
 
 pub invariant_of-self-2 : goal.invariant_of-self-2
 invariant_of-self-2 c =
     let row = row_at c.in-Ok.place c.args.timer c.args.rounds in
     rw c.in-Ok.ensures.pushed (record {
-      sound = pushed c.args.self.now.sound c.args.bucket row.0 row.1 c.requires.bucket c.requires.later
-          c.requires.deadline c.requires.fresh c.requires.serial;
+      sound = pushed_in c.args.self.now.sound c.args.list row.0 row.1 c.requires.deadline c.requires.fresh c.requires.serial
+          c.requires.list;
     })
 
 pub returns-clause-started : goal.returns-clause-started
@@ -22,7 +26,8 @@ returns-clause-started c =
     let b = c.args.self.now in
     let row = row_at c.in-Ok.place c.args.timer c.args.rounds in
     rw (c.in-Ok.ensures.pushed, c.in-Ok.ensures.room) (ap (with_room b.links.room)
-    (pushed-state b.sound c.args.bucket row.0 row.1 c.requires.bucket c.requires.fresh))
+    (pushed_in-state b.sound c.args.list row.0 row.1 c.requires.deadline c.requires.fresh c.requires.serial c.requires.list)
+    ∙ with_room-held_start b.links.room row.0 c.args.timer (roomless_state b))
 
 pub returns-in_default-clause-full : goal.returns-in_default-clause-full
 returns-in_default-clause-full c =

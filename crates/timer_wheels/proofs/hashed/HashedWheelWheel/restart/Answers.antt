@@ -1,28 +1,30 @@
-use Rattle.std.proofs.Common.{◌≡◌, ◌<◌, ◌+◌, ◌%◌, ℕ, length, sym, arith}
-use Rattle.std.specs.Prelude.{map, Option, Some, None, MatchOption}
+use Rattle.std.proofs.Common.{◌≡◌, ◌<◌, ◌+◌, ◌∙◌, ℕ, length, sym}
+use Rattle.std.specs.Prelude.{map, Option, Some, None}
+use Rattle.std.proofs.lemmas.List.{length-map}
 use Rattle.timer_base.specs.declared.timer.Timer.{Timer}
 use Rattle.timer_base.specs.declared.timer.Handle.{Handle}
-use Rattle.timer_links.specs.Lists.{with_row, without_key, KeyedLists}
-use Rattle.timer_wheels.specs.Hashed.{AreInBuckets, IsInBucket, rounds_of}
-use Rattle.timer_wheels.proofs.BucketLemmas.{each_restarted}
+use Rattle.timer_links.specs.Lists.{without_key, KeyedLists}
+use Rattle.timer_wheels.specs.Buckets.{IsListOf, ReplacesRow, row_at}
+use Rattle.timer_wheels.specs.Hashed.{AreInBuckets, IsInBucket, slot_of, rounds_of}
+use Rattle.timer_wheels.proofs.BucketLemmas.{each_come, each-without_key}
 use Rattle.timer_wheels.proofs.HashedTicks.{same_frame}
 use Rattle.timer_wheels.proofs.hashed.HashedWheelWheel.restart.Goals as goal
 
-in_buckets : (n now bucket rounds key : ℕ) (t : Timer) (old new : KeyedLists) (result : Option (Handle × Timer))
-    → MatchOption result (new ≡ old) (λ r. new ≡ with_row bucket (key, record { timer = t; rounds = rounds }) (map (without_key key) old))
-    → bucket < length old → t.deadline % n ≡ bucket → rounds ≡ rounds_of n now t → AreInBuckets n now old → AreInBuckets n now new
-in_buckets n now bucket rounds key t old new None e b s r a = rw e a
-in_buckets n now bucket rounds key t old new (Some found) e b s r a =
-    rw e (each_restarted (IsInBucket n now) n key bucket (record { timer = t; rounds = rounds }) old b (s, r) a)
+in_buckets : (n now list rounds key : ℕ) (t : Timer) (old new : KeyedLists) (result : Option (Handle × Timer))
+    → ReplacesRow result list (row_at key t rounds) old new → length old ≡ n + 1 → IsListOf list n now t.deadline
+    → (now < t.deadline → list ≡ slot_of n t) → (now < t.deadline → rounds ≡ rounds_of n now t) → AreInBuckets n now old
+    → AreInBuckets n now new
+in_buckets n now list rounds key t old new None e len i s r a = rw e a
+in_buckets n now list rounds key t old new (Some found) e len i s r a =
+    rw e (each_come (IsInBucket n now) n now t.deadline list (row_at key t rounds) (map (without_key key) old)
+    (length-map old (without_key key) ∙ len) i (λ later. (sym (s later), r later)) (each-without_key (IsInBucket n now) n key old a))
 
 pub invariant_of-self-clause-in_buckets : goal.invariant_of-self-clause-in_buckets
 invariant_of-self-clause-in_buckets c =
     let w = c.args.self.now in
     let b = w.buckets in
-    let found = c.bucket_and_rounds-bucket in
-    let in_range : found.result.0 < b.slots = found.ensures.in_range in
-    let lists : length b.links.lists ≡ b.slots + 1 = b.sound.has_lists in
-    same_frame b.slots b.tick c.restart.new.self.slots c.restart.new.self.tick c.restart.new.self.links.lists c.restart.ensures.frame.slots
-    c.restart.ensures.frame.tick
-    (in_buckets b.slots b.tick found.result.0 found.result.1 c.args.handle.place c.args.timer b.links.lists c.restart.new.self.links.lists
-    c.restart.result c.restart.ensures.lists (omega arith) (sym found.ensures.bucket) found.ensures.rounds w.in_buckets)
+    let new = c.restart.new.self in
+    let to = c.list_and_rounds-list in
+    same_frame b.slots b.tick new.slots new.tick new.links.lists c.restart.ensures.frame.slots c.restart.ensures.frame.tick
+    (in_buckets b.slots b.tick to.result.0 to.result.1 c.args.handle.place c.args.timer b.links.lists new.links.lists
+    c.restart.result c.restart.ensures.lists b.sound.has_lists to.ensures.list to.ensures.bucket to.ensures.rounds w.in_buckets)

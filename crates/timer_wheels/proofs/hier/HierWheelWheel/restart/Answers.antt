@@ -1,5 +1,5 @@
 use Rattle.std.proofs.Common.{◌+◌, refl}
-use Rattle.timer_base.specs.WheelState.{timer_at, after_stop}
+use Rattle.timer_base.specs.WheelState.{after_removal}
 use Rattle.timer_wheels.specs.Buckets.{state_of}
 use Rattle.timer_wheels.specs.Digits.{last_of}
 use Rattle.timer_wheels.specs.Tables.{radices}
@@ -10,7 +10,7 @@ use Rattle.timer_wheels.proofs.hier.HierWheelWheel.restart.Goals as goal
 pub invariant_of-self-2-clause-few_starts : goal.invariant_of-self-2-clause-few_starts
 invariant_of-self-2-clause-few_starts c =
     let w = c.args.self.now in
-    few_starts w.wheels.buckets c.restart.new.self.buckets c.in_ok-restarted.restarted.0.place w.counts.starts c.args.timer (after_stop c.args.handle (state_of w.wheels.buckets)) w.few_starts c.requires.fresh
+    few_starts w.wheels.buckets c.restart.new.self.buckets c.in_ok-restarted.restarted.0.place w.counts.starts c.args.timer (after_removal c.args.handle (state_of w.wheels.buckets)) w.few_starts c.requires.fresh
     c.in_ok-restarted.ensures.restarted
 
 pub invariant_of-self-2-clause-paid : goal.invariant_of-self-2-clause-paid
@@ -20,6 +20,7 @@ invariant_of-self-2-clause-paid c =
     let n = c.restart.new.self in
     let t = radices w.wheels.table in
     paid_at (w.counts.starts + 1) w.counts.moves n.buckets w.wheels.table n.table c.restart.ensures.table
-    (paid_start t b n.buckets w.counts.starts w.counts.moves w.paid c.in_ok-restarted.restarted.0.place c.args.timer (after_stop c.args.handle (state_of b)) (of_table w.wheels.table)
-    c.requires.later (at_most c.args.timer.deadline b.last_tick (last_of t) w.wheels.hier.clock c.requires.deadline)
-    (levels-without t b.tick (timer_at c.args.handle (state_of b)) (state_of b).pending) refl c.in_ok-restarted.ensures.restarted)
+    (paid_start t b n.buckets w.counts.starts w.counts.moves w.paid c.in_ok-restarted.restarted.0.place c.args.timer
+    (after_removal c.args.handle (state_of b)) (levels-without t b.tick c.args.handle (state_of b).pending) refl
+    (of_table w.wheels.table) c.requires.not_past (at_most c.args.timer.deadline b.last_tick (last_of t) w.wheels.hier.clock
+    c.requires.deadline) c.in_ok-restarted.ensures.restarted)

@@ -19,6 +19,6 @@ invariant_of-self-2-clause-paid c =
     let n = c.start.new.self in
     let t = radices w.wheels.table in
     paid_at (w.counts.starts + 1) w.counts.moves n.buckets w.wheels.table n.table c.start.ensures.table
-    (paid_start t b n.buckets w.counts.starts w.counts.moves w.paid c.in_ok-handle.handle.place c.args.timer (state_of b) (of_table w.wheels.table)
-    c.requires.later (at_most c.args.timer.deadline b.last_tick (last_of t) w.wheels.hier.clock c.requires.deadline)
-    (omega arith) refl c.in_ok-handle.ensures.started)
+    (paid_start t b n.buckets w.counts.starts w.counts.moves w.paid c.in_ok-handle.handle.place c.args.timer (state_of b) (omega arith) refl
+    (of_table w.wheels.table) c.requires.not_past (at_most c.args.timer.deadline b.last_tick (last_of t) w.wheels.hier.clock
+    c.requires.deadline) c.in_ok-handle.ensures.started)

@@ -1,41 +1,34 @@
 use Rattle.std.proofs.Common.{◌≡◌, sym, ap, ◌∙◌}
 use Rattle.std.specs.Prelude.{Some, map}
-use Rattle.timer_base.specs.WheelState.{timer_at}
-use Rattle.timer_links.specs.Lists.{without_key, KeyedLists}
+use Rattle.timer_base.specs.WheelState.{held_at}
+use Rattle.timer_links.specs.Lists.{without_key}
 use Rattle.timer_wheels.specs.Buckets.{state_of, taken_timer}
-use Rattle.timer_wheels.proofs.WheelUpdates.{wheels_of, stopped_wheels, stopped_counted, stopped_firsts, emptied_in_range, later_than_now, up_to_last, up_to_last_of, in_table, framed, framed_firsts}
+use Rattle.timer_wheels.proofs.WheelUpdates.{wheels_of, gone_wheels, was_counted, emptied_in_range, up_to_last, up_to_last_of, in_table, framed}
 use Rattle.timer_wheels.proofs.wheels.Wheels.stop.Goals as goal
 
-pub leave_bucket-requires : goal.leave_bucket-requires
-leave_bucket-requires c =
+pub leave_list-requires : goal.leave_list-requires
+leave_list-requires c =
     let w = c.args.self.now in
     let apart = c.lemma_keys_unique.ensures in
-    let found : timer_at c.args.handle (state_of w.buckets) ≡ Some c.in_ok-timer.timer =
-    sym c.take.ensures.timer ∙ ap taken_timer c.in_ok-timer.was in
+    let t = c.in_ok-timer.timer in
+    let found : held_at c.args.handle (state_of w.buckets) ≡ Some t = sym c.take.ensures.timer ∙ ap taken_timer c.in_ok-timer.was in
+    let wheels = wheels_of w.hier w.foretold in
     record {
-      later = rw c.take.ensures.frame.tick (later_than_now (wheels_of w.hier) w.buckets.sound apart c.args.handle c.in_ok-timer.timer found);
-      deadline = up_to_last_of w.hier c.in_ok-timer.timer.deadline (up_to_last (wheels_of w.hier) w.buckets.sound apart c.args.handle
-          c.in_ok-timer.timer found);
+      deadline = up_to_last_of w.hier t.deadline (up_to_last wheels w.buckets.sound apart c.args.handle t found);
       size = w.foretold.size ∙ w.hier.has_slots;
-      emptied = in_table w.hier c.in_ok-timer.emptied (emptied_in_range (wheels_of w.hier) w.buckets.sound apart c.args.handle
-          c.in_ok-timer.timer found c.in_ok-timer.emptied c.in_ok-timer.ensures.emptied);
-      counted = rw c.take.ensures.frame.tick (stopped_counted (wheels_of w.hier) w.buckets.sound apart c.args.handle
-          c.in_ok-timer.timer found w.foretold);
+      emptied = rw c.take.ensures.frame.tick (λ later. in_table w.hier c.in_ok-timer.emptied (emptied_in_range wheels w.buckets.sound apart
+          c.args.handle t found c.in_ok-timer.emptied c.in_ok-timer.ensures.emptied later));
+      counted = rw c.take.ensures.frame.tick (was_counted wheels w.buckets.sound apart c.args.handle t found);
     }
 
 pub invariant_of-self-2 : goal.invariant_of-self-2
 invariant_of-self-2 c =
     let w = c.args.self.now in
-    let apart = c.lemma_keys_unique.ensures in
-    let found : timer_at c.args.handle (state_of w.buckets) ≡ Some c.in_ok-timer.timer =
-    sym c.take.ensures.timer ∙ ap taken_timer c.in_ok-timer.was in
-    let lists : KeyedLists = map (without_key c.args.handle.place) w.buckets.links.lists in
-    record {
-      hier = framed w.hier c.take.new.self c.leave_bucket.new.occupied lists c.take.ensures.frame c.in_ok-timer.ensures.lists
-          (stopped_wheels (wheels_of w.hier) w.buckets.sound apart c.args.handle c.in_ok-timer.timer found c.in_ok-timer.emptied
-          c.leave_bucket.new.occupied c.in_ok-timer.ensures.emptied c.leave_bucket.ensures.bits);
-      foretold = framed_firsts w.hier c.take.new.self lists c.take.ensures.frame c.in_ok-timer.ensures.lists
-          (stopped_firsts (wheels_of w.hier) w.buckets.sound apart c.args.handle c.in_ok-timer.timer found w.foretold
-          c.in_ok-timer.emptied c.leave_bucket.new.firsts c.in_ok-timer.ensures.emptied
-          (rw (← c.take.ensures.frame.tick) c.leave_bucket.ensures.firsts));
-    }
+    let t = c.in_ok-timer.timer in
+    let found : held_at c.args.handle (state_of w.buckets) ≡ Some t = sym c.take.ensures.timer ∙ ap taken_timer c.in_ok-timer.was in
+    let new = c.leave_list.new in
+    let kept = framed w.hier c.take.new.self new.occupied new.firsts (map (without_key c.args.handle.place) w.buckets.links.lists)
+    c.take.ensures.frame c.in_ok-timer.ensures.lists (gone_wheels (wheels_of w.hier w.foretold) w.buckets.sound
+    c.lemma_keys_unique.ensures c.args.handle t found c.in_ok-timer.emptied c.in_ok-timer.ensures.emptied new.occupied new.firsts
+    (rw (← c.take.ensures.frame.tick) c.leave_list.ensures.pending) (rw (← c.take.ensures.frame.tick) c.leave_list.ensures.due)) in
+    record { hier = kept.hier; foretold = kept.foretold }
