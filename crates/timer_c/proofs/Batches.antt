@@ -43,7 +43,7 @@ is_there (suc n) [] t e = absurd (none_some t e)
 is_there zero (x ∷ due) t e = omega arith
 is_there (suc n) (x ∷ due) t e = let h : n < length due = is_there n due t e in omega arith
 
-with_due : TimersState → List Entry → TimersState
+abbrev with_due : TimersState → List Entry → TimersState
 with_due s due = with_wheel (record s.wheel { due = due }) s
 
 pub taken_none : (out : List Expired) (w : TimersState) → IsTaken 0 out w out w
