@@ -348,18 +348,22 @@ impl Links {
         self.nodes[key] = node;
     }
 
-    /// Moves a node to the back of a list, which may be its own. It keeps its key. Does not allocate.
-    pub fn move_back(&mut self, key: usize, list: usize)
+    /// Moves a node to the back of a list, which may be its own, and returns the list that it was in, if it was the
+    /// only node there. It keeps its key. Does not allocate.
+    #[inline(always)]
+    pub fn move_back(&mut self, key: usize, list: usize) -> Option<usize>
         requires used { IsSome (node_at key self.old.lists) }
         requires list { list < length self.old.lists }
         ensures moved { MovesBack key list self.old.lists self.new.lists }
         ensures room { self.new.room ≡ self.old.room }
+        ensures emptied { IsAloneIn key self.old.lists result }
     {
         let index = self.lists + key;
         let Neighbours { before, after } = self.neighbours[index];
         let neighbours = self.neighbours.as_mut_slice();
         join(neighbours, before, after);
         join_last(neighbours, list as u32, index as u32);
+        only_neighbour(Neighbours { before, after })
     }
 
     /// Moves the first node of one list to the back of another, or of the same one.

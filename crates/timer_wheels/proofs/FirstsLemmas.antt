@@ -1,14 +1,14 @@
 -- The first deadlines of the buckets after each change of the lists: a row comes to a bucket, leaves one, or moves.
-use Rattle.std.proofs.Common.{◌≡◌, ◌≢◌, ◌<◌, ◌≤◌, ◌+◌, ℕ, List, [], ◌∷◌, ◌++◌, length, refl, sym, ◌∙◌, ap, subst, inl, inr, arith, length-append, length-set, get_or-set_same, get_or-set_other}
-use Rattle.std.specs.Prelude.{MatchOption, slice_set}
+use Rattle.std.proofs.Common.{◌≡◌, ◌≢◌, ◌<◌, ◌≤◌, ◌+◌, ℕ, zero, suc, List, [], ◌∷◌, ◌++◌, length, refl, sym, ◌∙◌, ap, subst, inl, inr, arith, length-append, length-set, get_or-set_same, get_or-set_other}
+use Rattle.std.specs.Prelude.{Bool, false, MatchOption, slice_set, replicate}
 use Rattle.std.proofs.lemmas.Bool.{cases_eq}
 use Rattle.timer_links.specs.declared.node.Node.{Node}
 use Rattle.timer_links.specs.Lists.{list_at, with_row, front_moved, first_row_moved, list_if_alone, row_count, KeyedLists}
 use Rattle.timer_wheels.specs.BucketLists.{timer_in, timers_in}
 use Rattle.timer_wheels.specs.declared.first.First.{First}
-use Rattle.timer_wheels.specs.FirstDeadline.{deadline_count, IsFirstOf}
-use Rattle.timer_wheels.specs.Firsts.{first_at, ChangesOne, Enters, Leaves, Empties, AreFirsts, AreFirstsBut}
-use Rattle.timer_wheels.proofs.FirstLemmas.{count-few, leave_counted}
+use Rattle.timer_wheels.specs.FirstDeadline.{unknown_first, deadline_count, IsFirstOf}
+use Rattle.timer_wheels.specs.Firsts.{first_at, firsts_kept, ChangesOne, Enters, Leaves, Empties, AreFirsts, AreFirstsBut}
+use Rattle.timer_wheels.proofs.FirstLemmas.{count-few, enter_after, leave_counted, leave_other}
 use Rattle.timer_wheels.proofs.OccupiedLemmas.{moved_same}
 use Rattle.timer_wheels.proofs.RowLemmas.{timers-append}
 use Rattle.timer_wheels.proofs.WalkLemmas.{length-list_at}
@@ -197,3 +197,31 @@ module _ {lowest n l : ℕ} {firsts : List First} {lists : KeyedLists} (f : AreF
 
     pub but_fits : row_count new < 18446744073709551616 → lowest ≤ to → (first_at to firsts).count < 18446744073709551615
     but_fits few k = count_fits (first_at to firsts) (list_at to lists) row to new (f.each to k h away) moved_to few
+
+-- Until they are kept.
+
+at-unknown : (n s : ℕ) → first_at s (replicate n unknown_first) ≡ unknown_first
+at-unknown zero s = refl
+at-unknown (suc n) zero = refl
+at-unknown (suc n) (suc s) = at-unknown n s
+
+module _ (is_kept : Bool) (items now : List First) (none : is_kept ≡ false) (e : firsts_kept is_kept items ≡ now) where
+  bound_is : (s : ℕ) → (first_at s now).bound ≡ 0
+  bound_is s = ap (λ (f : First). f.bound) (ap (first_at s) (sym e ∙ ap (λ (b : Bool). firsts_kept b items) none)
+      ∙ at-unknown (length items) s)
+
+  -- nothing is known of a list to which a timer comes, or which one leaves
+  pub entered_unknown : (lowest l d : ℕ) → 0 < d → Enters lowest l d now now
+  entered_unknown lowest l d positive = record {
+    one = record { size = refl; others = λ s m. refl };
+    bound = λ k. let b : (first_at l now).bound ≡ 0 = bound_is l in omega arith;
+    here = λ k ts t q h. enter_after (first_at l now) d ts t q h (let b : (first_at l now).bound ≡ 0 = bound_is l in omega arith);
+  }
+
+  pub left_unknown : (lowest l d : ℕ) → 0 < d → Leaves lowest l d now now
+  left_unknown lowest l d positive = record {
+    one = record { size = refl; others = λ s m. refl };
+    bound = λ k. refl;
+    here = λ k front rest t q h. leave_other (first_at l now) d front rest t q h
+        (let b : (first_at l now).bound ≡ 0 = bound_is l in omega arith);
+  }

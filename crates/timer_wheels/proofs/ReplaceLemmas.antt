@@ -4,7 +4,7 @@ use Rattle.std.specs.Prelude.{Option, Some, None, IsSome, map, slice_set}
 use Rattle.std.proofs.lemmas.Bool.{eqb-true}
 use Rattle.timer_base.specs.OrderLaws.{either}
 use Rattle.timer_links.specs.declared.node.Node.{Node}
-use Rattle.timer_links.specs.Lists.{list_at, node_in, node_at, first_of, with_row, without_key, AreApart, SetsNode, MovesBack, KeyedLists}
+use Rattle.timer_links.specs.Lists.{list_at, node_in, node_at, first_of, with_row, without_key, AreApart, IsAloneIn, SetsNode, MovesBack, KeyedLists}
 use Rattle.timer_wheels.proofs.RowLemmas.{set_twice}
 
 -- Where a node stands.
@@ -109,3 +109,12 @@ module _ (key list : ℕ) (node : Node) (old mid : KeyedLists) (u : IsUsed key o
 -- a node that was found under the key makes it used
 pub is_used : (key : ℕ) (node : Node) (lists : KeyedLists) → node_at key lists ≡ Some node → IsSome (node_at key lists)
 is_used key node lists e = rw e refl
+
+-- the list in which it is alone is that in which the old one was
+pub alone_before : (key : ℕ) (node : Node) (old mid : KeyedLists) (emptied : Option ℕ) → SetsNode key node old mid
+    → IsAloneIn key mid emptied → IsAloneIn key old emptied
+alone_before key node old mid emptied set alone l front was rest h at =
+    let e : mid ≡ slice_set old l (front ++ (key, node) ∷ rest) = set l front was rest h at in
+    let len : length mid ≡ length old = ap (λ (y : KeyedLists). length y) e ∙ length-set old l (front ++ (key, node) ∷ rest) in
+    alone l front node rest (omega arith)
+    (ap (list_at l) e ∙ get_or-set_same old l (front ++ (key, node) ∷ rest) [] h)

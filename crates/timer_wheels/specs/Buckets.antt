@@ -1,5 +1,6 @@
 -- The state that `Buckets` represents, and how its calls change the lists.
 use Rattle.std.specs.Prelude.{◌≡◌, ◌<◌, ◌⊎◌, ℕ, map, Option, Some, None, MatchOption}
+use Rattle.timer_base.specs.declared.timer.Handle.{Handle}
 use Rattle.timer_base.specs.declared.timer.Timer.{Timer}
 use Rattle.timer_base.specs.WheelState.{WheelState, IsWellFormed, with_room, with_room-well_formed}
 use Rattle.timer_links.specs.declared.node.Node.{Node}
@@ -31,6 +32,11 @@ IsListOf list n now deadline = ((list < n) × (now < deadline)) ⊎ ((list ≡ n
 abbrev pub taken_timer : Option (Timer × Option ℕ) → Option Timer
 taken_timer None = None
 taken_timer (Some r) = Some r.0
+
+-- the new handle and the timer that was replaced, if one was found
+abbrev pub replaced : Option ((Handle × Timer) × Option ℕ) → Option (Handle × Timer)
+replaced None = None
+replaced (Some r) = Some r.0
 
 -- a timer at its place, as a row
 abbrev pub row_at : ℕ → Timer → ℕ → ℕ × Node

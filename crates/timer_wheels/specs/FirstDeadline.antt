@@ -15,6 +15,10 @@ abbrev pub deadline_count : ℕ → List Timer → ℕ
 deadline_count deadline [] = 0
 deadline_count deadline (t ∷ ts) = has_deadline deadline t + deadline_count deadline ts
 
+-- nothing is known: 0 is a lower bound, and no timer's deadline
+abbrev pub unknown_first : First
+unknown_first = record { bound = 0; count = 0 }
+
 -- none of the timers is earlier than the bound, and so many of them have it
 pub record IsFirstOf (first : First) (timers : List Timer) : Type 0 where
   pub none_earlier : AllByRecursion (λ t. first.bound ≤ t.deadline) timers

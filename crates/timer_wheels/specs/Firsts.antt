@@ -1,16 +1,21 @@
 -- The first deadline of each bucket above the lowest wheel.
-use Rattle.std.specs.Prelude.{◌≡◌, ◌≢◌, ◌<◌, ◌≤◌, ℕ, List, [], ◌∷◌, ◌++◌, length, min, slice_index_or}
+use Rattle.std.specs.Prelude.{◌≡◌, ◌≢◌, ◌<◌, ◌≤◌, ℕ, List, [], ◌∷◌, ◌++◌, length, min, replicate, slice_index_or, Bool, true, false}
 use Rattle.std.specs.Coded.{Π_prop}
 use Rattle.std.proofs.Props.{props}
 use Rattle.timer_base.specs.declared.timer.Timer.{Timer}
 use Rattle.timer_links.specs.Lists.{list_at, KeyedLists}
 use Rattle.timer_wheels.specs.BucketLists.{timers_in}
 use Rattle.timer_wheels.specs.declared.first.First.{First}
-use Rattle.timer_wheels.specs.FirstDeadline.{IsFirstOf, IsFirstOf-prop}
+use Rattle.timer_wheels.specs.FirstDeadline.{unknown_first, IsFirstOf, IsFirstOf-prop}
 
 -- that of list s
 abbrev pub first_at : ℕ → List First → First
-first_at s firsts = slice_index_or firsts s (record { bound = 0; count = 0 })
+first_at s firsts = slice_index_or firsts s unknown_first
+
+-- those that are kept; until then nothing is known of each list
+abbrev pub firsts_kept : Bool → List First → List First
+firsts_kept true firsts = firsts
+firsts_kept false firsts = replicate (length firsts) unknown_first
 
 -- but for one list, all are as they were
 pub record ChangesOne (l : ℕ) (old new : List First) : Type 0 where

@@ -14,7 +14,7 @@
 ghost use Rattle.std.specs.Prelude.{◌≡◌, ◌<◌, ◌∷◌, ◌++◌, [], List, min};
 ghost use Rattle.timer_base.specs.declared.timer.Timer.{Timer};
 ghost use Rattle.timer_wheels.specs.Deadlines.{IsLeastDeadline};
-ghost use Rattle.timer_wheels.specs.FirstDeadline.{IsFirstOf, IsKnownOf};
+ghost use Rattle.timer_wheels.specs.FirstDeadline.{unknown_first, IsFirstOf, IsKnownOf};
 
 /// A lower bound of the deadlines in a bucket, and how many timers have it.
 #[derive(Clone, Copy, Drop)]
@@ -36,6 +36,14 @@ impl First {
             bound: u64::MAX,
             count: 0,
         }
+    }
+
+    /// Of a bucket nothing is known: 0 is a lower bound, and no timer's deadline.
+    #[inline]
+    pub fn unknown() -> First
+        ensures { result ≡ unknown_first }
+    {
+        First { bound: 0, count: 0 }
     }
 
     /// A timer with this deadline comes to the back of the bucket.

@@ -3,42 +3,49 @@
 //! A timer that comes to such a bucket is counted there if no other is earlier, and is no longer counted once it
 //! leaves (`first`). A slot of the lowest wheel is one tick, which is the deadline of all its timers: nothing is
 //! kept of it. A tick changes that of the bucket that it empties and of the buckets that its timers move to.
+//!
+//! They are kept from the first one on that is found by a walk. Until then none is known, and a timer that comes or
+//! leaves pays for no more than to see that: a stop would have to find its bucket.
 ghost use Rattle.std.specs.Prelude.{◌≡◌, ◌<◌, ◌≤◌, [], ℕ, IfOk, length};
-ghost use Rattle.timer_wheels.specs.Digits.{lowest_radix};
+ghost use Rattle.timer_wheels.specs.Digits.{bucket, slots, last_of, lowest_radix};
 ghost use Rattle.timer_wheels.specs.FirstDeadline.{IsFirstOf};
 ghost use Rattle.timer_wheels.specs.Firsts.{first_at, ChangesOne, Enters, Leaves, Empties};
 ghost use Rattle.timer_wheels.specs.Tables.{radices};
 
-use crate::digits::lowest_slots;
+use crate::digits::{bucket_of, lowest_slots};
 use crate::first::First;
 use crate::table::Table;
 use std::alloc::Global;
 use std::marker::Model;
 use timer_base::OutOfMemory;
 
-/// A first deadline for each bucket of a table.
+/// A first deadline for each bucket of a table, once they are kept.
 #[derive(Drop)]
 pub struct Firsts {
     firsts: Vec<First>,
+    // Until they are kept, what stands in `firsts` has no meaning.
+    is_kept: bool,
 }
 
 impl Model for Firsts {
     ghost use Rattle.std.specs.Prelude.{List};
+    ghost use Rattle.timer_wheels.specs.Firsts.{firsts_kept};
     ghost use Rattle.timer_wheels.specs.declared.first.First.{First};
 
     ghost Value = { List First };
 
-    ghost view = { λ f. f.firsts.items };
+    ghost view = { λ f. firsts_kept f.is_kept f.firsts.items };
 }
 
 impl Firsts {
-    /// Those of so many empty buckets.
+    /// Those of so many empty buckets, which are not kept yet.
     pub fn new(alloc: Global, buckets: usize) -> Result<Firsts, OutOfMemory>
         ensures size { IfOk result (λ firsts. length firsts ≡ buckets) }
         ensures none { IfOk result (λ firsts. (s : ℕ) → s < buckets → IsFirstOf (first_at s firsts) []) }
     {
         Ok(Firsts {
-            firsts: vec![in alloc; First::none(); buckets]?,
+            firsts: vec![in alloc; First::unknown(); buckets]?,
+            is_kept: false,
         })
     }
 
@@ -48,16 +55,23 @@ impl Firsts {
         requires { list < length self.now }
         ensures { result ≡ first_at list self.now }
     {
-        self.firsts[list]
+        if self.is_kept {
+            self.firsts[list]
+        } else {
+            First::unknown()
+        }
     }
 
-    /// Replaces that of a bucket.
-    #[inline]
-    pub fn set(&mut self, list: usize, first: First)
+    /// Keeps that of a bucket, which was found by a walk. From then on all are kept.
+    pub fn keep(&mut self, list: usize, first: First)
         requires { list < length self.old }
         ensures here { first_at list self.new ≡ first }
         ensures one { ChangesOne list self.old self.new }
     {
+        if !self.is_kept {
+            self.firsts.fill(First::unknown());
+            self.is_kept = true;
+        }
         self.firsts[list] = first;
     }
 
@@ -65,25 +79,33 @@ impl Firsts {
     #[inline]
     pub fn enter(&mut self, table: Table, list: usize, deadline: u64)
         requires list { list < length self.old }
+        requires positive { 0 < deadline }
         requires few { lowest_radix (radices table) ≤ list
             → (first_at list self.old).count < 18446744073709551615 }
         ensures { Enters (lowest_radix (radices table)) list deadline self.old self.new }
     {
+        if !self.is_kept {
+            return;
+        }
         if list >= lowest_slots(table) {
             self.firsts[list].enter(deadline);
         }
     }
 
-    /// A timer with this deadline leaves a bucket, wherever it stands there.
-    #[inline]
-    pub fn leave(&mut self, table: Table, list: usize, deadline: u64)
-        requires list { list < length self.old }
-        requires counted { lowest_radix (radices table) ≤ list → (first_at list self.old).bound ≡ deadline
-            → 0 < (first_at list self.old).count }
-        ensures { Leaves (lowest_radix (radices table)) list deadline self.old self.new }
+    /// A timer with this deadline leaves its list, wherever it stands there. What is due is in no bucket.
+    #[inline(always)]
+    pub fn leave(&mut self, table: Table, tick: u64, deadline: u64)
+        requires deadline { deadline ≤ last_of (radices table) }
+        requires size { length self.old ≡ slots (radices table) }
+        requires counted { tick < deadline → lowest_radix (radices table) ≤ bucket (radices table) tick deadline
+            → (first_at (bucket (radices table) tick deadline) self.old).bound ≡ deadline
+            → 0 < (first_at (bucket (radices table) tick deadline) self.old).count }
+        ensures pending { tick < deadline → Leaves (lowest_radix (radices table)) (bucket (radices table) tick deadline)
+            deadline self.old self.new }
+        ensures due { deadline ≤ tick → self.new ≡ self.old }
     {
-        if list >= lowest_slots(table) {
-            self.firsts[list].leave(deadline);
+        if self.is_kept {
+            leave_bucket(self.firsts.as_mut_slice(), table, tick, deadline);
         }
     }
 
@@ -93,7 +115,9 @@ impl Firsts {
         requires { list < length self.old }
         ensures { Empties list self.old self.new }
     {
-        self.set(list, First::none());
+        if self.is_kept {
+            self.firsts[list] = First::none();
+        }
     }
 
     /// All buckets were emptied.
@@ -101,6 +125,30 @@ impl Firsts {
         ensures size { length self.new ≡ length self.old }
         ensures none { (s : ℕ) → s < length self.old → IsFirstOf (first_at s self.new) [] }
     {
-        self.firsts.fill(First::none());
+        if self.is_kept {
+            self.firsts.fill(First::none());
+        }
+    }
+}
+
+/// A timer with this deadline leaves its list, and is no longer counted if that is a bucket.
+// Kept out of line, so that a stop is short as long as first deadlines are not kept.
+#[inline(never)]
+fn leave_bucket(firsts: &mut [First], table: Table, tick: u64, deadline: u64)
+    requires deadline { deadline ≤ last_of (radices table) }
+    requires size { length firsts.old ≡ slots (radices table) }
+    requires counted { tick < deadline → lowest_radix (radices table) ≤ bucket (radices table) tick deadline
+        → (first_at (bucket (radices table) tick deadline) firsts.old).bound ≡ deadline
+        → 0 < (first_at (bucket (radices table) tick deadline) firsts.old).count }
+    ensures pending { tick < deadline → Leaves (lowest_radix (radices table)) (bucket (radices table) tick deadline)
+        deadline firsts.old firsts.new }
+    ensures due { deadline ≤ tick → firsts.new ≡ firsts.old }
+{
+    if deadline <= tick {
+        return;
+    }
+    let list = bucket_of(table, tick, deadline);
+    if list >= lowest_slots(table) {
+        firsts[list].leave(deadline);
     }
 }

@@ -4,8 +4,8 @@
 //! A call that puts a timer into a bucket sets the bucket's bit, and one that takes the last timer out of it clears it.
 //! The list of due timers is no bucket, and has no bit.
 //! So the clock finds the next bucket with a timer among the bits, and looks at no other (`leap`). One tick is in
-//! `migration`. The first deadline of that bucket is the first of all: it is known until the last timer that has it
-//! leaves its bucket (`firsts`).
+//! `migration`. The first deadline of that bucket is the first of all: once it was asked for, it is known until the
+//! last timer that has it leaves its bucket (`firsts`).
 ghost use Rattle.std.specs.Prelude.{◌≡◌, ◌<◌, ◌≤◌, ◌+◌, [], IfOk, OnErr, MatchOption, length};
 ghost use Rattle.timer_base.specs.declared.limits.TheConstants.{LAST};
 ghost use Rattle.timer_base.specs.WakeUps.{next_deadline};
@@ -149,9 +149,8 @@ impl Wheels {
     {
         self.buckets.links.lemma_keys_unique();
         let list = self.list_of(timer.deadline);
-        let old = self.buckets.look(handle)?;
-        let emptied = self.buckets.links.alone_in(handle.place);
-        let restarted = self.buckets.restart(handle, list, timer, 0)?;
+        let (restarted, emptied) = self.buckets.replace(handle, list, timer, 0)?;
+        let (_made, old) = restarted;
         leave_list(
             self.table,
             &mut self.occupied,
@@ -231,7 +230,7 @@ impl Wheels {
             return Some(visit_of(self.table, list, self.buckets.tick));
         }
         let first = self.first_of(list);
-        self.firsts.set(list, first);
+        self.firsts.keep(list, first);
         first.known()
     }
 
@@ -288,7 +287,7 @@ fn enter_list(
 
 /// A timer with this deadline left its list. If that was a bucket, the timer is no longer counted there. If it left
 /// the bucket empty, the bucket's bit is cleared.
-#[inline]
+#[inline(always)]
 fn leave_list(
     table: Table,
     occupied: &mut Occupied,
@@ -307,13 +306,12 @@ fn leave_list(
         emptied occupied.old occupied.new firsts.old firsts.new }
     ensures due { deadline ≤ tick → (occupied.new ≡ occupied.old) × (firsts.new ≡ firsts.old) }
 {
-    if deadline <= tick {
+    let Some(list) = emptied else {
+        firsts.leave(table, tick, deadline);
         return;
-    }
-    if let Some(list) = emptied {
+    };
+    if deadline > tick {
         occupied.remove(list);
         firsts.empty(list);
-    } else {
-        firsts.leave(table, bucket_of(table, tick, deadline), deadline);
     }
 }

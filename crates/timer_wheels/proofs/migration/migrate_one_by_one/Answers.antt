@@ -1,5 +1,6 @@
-use Rattle.std.proofs.Common.{◌≡◌, ◌<◌, ◌≤◌, ◌+◌, ℕ, List, [], length, sym, ◌∙◌, ap, subst, arith}
+use Rattle.std.proofs.Common.{◌≡◌, ◌≢◌, ◌<◌, ◌≤◌, ◌+◌, ℕ, List, [], length, sym, ◌∙◌, ap, subst, arith}
 use Rattle.timer_links.specs.Lists.{LinksState, row_count, KeyedLists}
+use Rattle.timer_wheels.specs.BucketLists.{timer_in}
 use Rattle.timer_wheels.specs.declared.first.First.{First}
 use Rattle.timer_wheels.specs.Digits.{slots, lowest_radix}
 use Rattle.timer_wheels.specs.FirstDeadline.{IsFirstOf}
@@ -17,6 +18,9 @@ in_lists l n lists e h = omega arith
 
 in_new : (to n : ℕ) (lists old : KeyedLists) → to < n → length old ≡ n + 1 → length lists ≡ length old → to < length lists
 in_new to n lists old h e f = omega arith
+
+positive : (tick d deadline : ℕ) → tick ≤ d → d ≡ deadline → deadline ≢ tick → 0 < deadline
+positive tick d deadline h e n = omega arith
 
 pub loop-step-preserved : goal.loop-step-preserved
 loop-step-preserved c =
@@ -140,6 +144,7 @@ enter-requires c =
     c.loop-step.links.lists m.new.self.lists b i.emptying f to c.bucket_of-to.ensures.value c.if-deadline-tick.false in
     record {
       list = rw i.foretold.size c.bucket_of-to.ensures.in_range;
+      positive = positive c.args.tick (timer_in f.row).deadline c.in-Some.deadline f.first.not_past f.deadline c.if-deadline-tick.false;
       few = but_fits i.foretold to c.in-Some.deadline f.row f.rest m.new.self.lists c.bucket_of-to.ensures.in_range
           (in_new to n c.loop-step.links.lists c.args.links.now.lists c.bucket_of-to.ensures.in_range c.requires.lists i.emptying.has_lists)
           away f.at m.ensures.moved c.lemma_countable.ensures;

@@ -1,4 +1,4 @@
-use Rattle.timer_wheels.proofs.ReplaceLemmas.{used, is_used, now_under, mid_in_range, replaced}
+use Rattle.timer_wheels.proofs.ReplaceLemmas.{alone_before, used, is_used, now_under, mid_in_range, replaced}
 use Rattle.timer_wheels.proofs.walks.replace_node.Goals as goal
 
 pub move_back-requires-clause-used : goal.move_back-requires-clause-used
@@ -18,3 +18,7 @@ returns-clause-replaced c = replaced c.args.key c.args.list c.args.node c.args.l
     (used c.args.key c.args.links.now.lists c.requires.used) c.lemma_keys_unique.ensures c.set_node.ensures.set
     c.lemma_keys_unique-2.ensures
     c.move_back.new.self.lists c.move_back.ensures.moved
+
+pub returns-clause-emptied : goal.returns-clause-emptied
+returns-clause-emptied c = alone_before c.args.key c.args.node c.args.links.now.lists c.set_node.new.self.lists c.move_back.result
+    c.set_node.ensures.set c.move_back.ensures.emptied

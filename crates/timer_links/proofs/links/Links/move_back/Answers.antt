@@ -1,4 +1,7 @@
-use Rattle.std.proofs.Common.{◌∙◌, refl, arith}
+use Rattle.std.proofs.Common.{ℕ, ◌∙◌, refl, sym, subst, arith}
+use Rattle.std.specs.Prelude.{Option}
+use Rattle.timer_links.specs.Lists.{IsAloneIn}
+use Rattle.timer_links.proofs.AloneIn.{is_alone_in}
 use Rattle.timer_links.proofs.UniqueLists.{opened, closed, written, lists_are}
 use Rattle.timer_links.proofs.Room.{room_stays, ready_stays}
 use Rattle.timer_links.proofs.LinksCalls.{used, held, read_node, joins_read, back_after, moved, size_last}
@@ -47,3 +50,11 @@ returns-clause-moved c node e =
     ∙ (c.join.ensures.size ∙ c.as_mut_slice-neighbours.ensures.len))
     (moved _ _ _ _ _ _ c.args.key c.args.list node h (h.held c.args.key
     ∙ e) c.requires.list (joins_read _ _ _ _ _ c.as_mut_slice-neighbours.ensures.value r.is c.join.ensures) c.join_last.ensures))
+
+pub returns-clause-emptied : goal.returns-clause-emptied
+returns-clause-emptied c =
+    let h = opened c.self.inside c.args.self.now c.self.view_is c.self.invariant in
+    let r = read_node _ _ _ _ c.args.key _ _ h (used _ _ _ _ h c.args.key c.requires.used) c.as_mut_slice-neighbours.ensures.value
+    c.index.ensures in
+    let P : Option ℕ → Type 0 = IsAloneIn c.args.key c.args.self.now.lists in
+    subst P (sym c.only_neighbour.ensures) (is_alone_in _ _ _ _ c.args.key _ h r.is)

@@ -1,64 +1,66 @@
-use Rattle.std.proofs.Common.{◌≡◌, ◌<◌, refl, subst, sym, ◌∙◌}
+use Rattle.std.proofs.Common.{◌≡◌, ◌<◌, refl, subst, sym, ap, ◌∙◌}
 use Rattle.std.specs.Prelude.{Some, map}
-use Rattle.timer_base.specs.WheelState.{held_at}
+use Rattle.timer_base.specs.WheelState.{held_at, old_timer}
 use Rattle.timer_links.specs.Lists.{with_row, without_key, row_count, KeyedLists}
-use Rattle.timer_wheels.specs.Buckets.{state_of, row_at, IsSameFrame}
-use Rattle.timer_wheels.proofs.Handles.{held_used}
+use Rattle.timer_wheels.specs.Buckets.{state_of, row_at, replaced}
 use Rattle.timer_wheels.proofs.Updates.{removed}
 use Rattle.timer_wheels.proofs.WheelUpdates.{wheels_of, gone_wheels, was_counted, emptied_in_range, up_to_last, up_to_last_of, in_table, come_wheels, come_fits, in_slots_of, framed}
 use Rattle.timer_wheels.proofs.wheels.Wheels.restart.Goals as goal
-
-pub alone_in-emptied-requires : goal.alone_in-emptied-requires
-alone_in-emptied-requires c = held_used c.args.self.now.buckets.sound c.lemma_keys_unique.ensures c.args.handle
-    c.in_ok-old.old (sym c.look.ensures.timer ∙ c.in_ok-old.was)
 
 pub leave_list-requires : goal.leave_list-requires
 leave_list-requires c =
     let w = c.args.self.now in
     let apart = c.lemma_keys_unique.ensures in
-    let t = c.in_ok-old.old in
-    let found : held_at c.args.handle (state_of w.buckets) ≡ Some t = sym c.look.ensures.timer ∙ c.in_ok-old.was in
+    let r = c.in_ok-restarted in
+    let t = r.restarted.1 in
+    let tick = c.replace.ensures.frame.tick in
+    let found : held_at c.args.handle (state_of w.buckets) ≡ Some t =
+    sym c.replace.ensures.old ∙ ap (λ o. old_timer (replaced o)) r.was in
     let wheels = wheels_of w.hier w.foretold in
     record {
       deadline = up_to_last_of w.hier t.deadline (up_to_last wheels w.buckets.sound apart c.args.handle t found);
       size = w.foretold.size ∙ w.hier.has_slots;
-      emptied = rw c.restart.ensures.frame.tick (λ later. in_table w.hier c.alone_in-emptied.result (emptied_in_range wheels
-          w.buckets.sound apart c.args.handle t found c.alone_in-emptied.result c.alone_in-emptied.ensures later));
-      counted = rw c.restart.ensures.frame.tick (was_counted wheels w.buckets.sound apart c.args.handle t found);
+      emptied = rw tick (λ later. in_table w.hier r.emptied (emptied_in_range wheels w.buckets.sound apart c.args.handle t found
+          r.emptied r.ensures.emptied later));
+      counted = rw tick (was_counted wheels w.buckets.sound apart c.args.handle t found);
     }
 
 pub enter_list-requires : goal.enter_list-requires
 enter_list-requires c =
     let w = c.args.self.now in
-    let tick = c.restart.ensures.frame.tick in
+    let r = c.in_ok-restarted in
+    let tick = c.replace.ensures.frame.tick in
+    let found : held_at c.args.handle (state_of w.buckets) ≡ Some r.restarted.1 =
+    sym c.replace.ensures.old ∙ ap (λ o. old_timer (replaced o)) r.was in
     let key = c.args.handle.place in
     let to = c.list_of-list in
-    let left = gone_wheels (wheels_of w.hier w.foretold) w.buckets.sound c.lemma_keys_unique.ensures c.args.handle c.in_ok-old.old
-    (sym c.look.ensures.timer ∙ c.in_ok-old.was) c.alone_in-emptied.result c.alone_in-emptied.ensures c.leave_list.new.occupied
-    c.leave_list.new.firsts (rw (← tick) c.leave_list.ensures.pending) (rw (← tick) c.leave_list.ensures.due) in
+    let left = gone_wheels (wheels_of w.hier w.foretold) w.buckets.sound c.lemma_keys_unique.ensures c.args.handle r.restarted.1
+    found r.emptied r.ensures.emptied c.leave_list.new.occupied c.leave_list.new.firsts (rw (← tick) c.leave_list.ensures.pending)
+    (rw (← tick) c.leave_list.ensures.due) in
     let P : KeyedLists → Type 0 = λ lists. row_count lists < 18446744073709551616 in
     record {
       list = rw tick (in_slots_of w.hier to.result w.buckets.tick c.args.timer.deadline to.ensures.list);
       size = left.foretold.size ∙ w.hier.has_slots;
       few = rw tick (come_fits left to.result (row_at key c.args.timer 0) (removed w.buckets.sound key).has_lists refl
-          c.leave_list.new.occupied c.leave_list.new.firsts to.ensures.list
-          (subst P c.in_ok-restarted.ensures.lists c.lemma_countable.ensures));
+          c.leave_list.new.occupied c.leave_list.new.firsts to.ensures.list (subst P r.ensures.lists c.lemma_countable.ensures));
     }
 
-pub invariant_of-self-3 : goal.invariant_of-self-3
-invariant_of-self-3 c =
+pub invariant_of-self-2 : goal.invariant_of-self-2
+invariant_of-self-2 c =
     let w = c.args.self.now in
-    let f = c.restart.ensures.frame in
-    let frame : IsSameFrame w.buckets c.restart.new.self = record { last_tick = f.last_tick; tick = f.tick; slots = f.slots } in
+    let r = c.in_ok-restarted in
+    let tick = c.replace.ensures.frame.tick in
+    let found : held_at c.args.handle (state_of w.buckets) ≡ Some r.restarted.1 =
+    sym c.replace.ensures.old ∙ ap (λ o. old_timer (replaced o)) r.was in
     let key = c.args.handle.place in
     let to = c.list_of-list in
     let row = row_at key c.args.timer 0 in
-    let left = gone_wheels (wheels_of w.hier w.foretold) w.buckets.sound c.lemma_keys_unique.ensures c.args.handle c.in_ok-old.old
-    (sym c.look.ensures.timer ∙ c.in_ok-old.was) c.alone_in-emptied.result c.alone_in-emptied.ensures c.leave_list.new.occupied
-    c.leave_list.new.firsts (rw (← f.tick) c.leave_list.ensures.pending) (rw (← f.tick) c.leave_list.ensures.due) in
+    let left = gone_wheels (wheels_of w.hier w.foretold) w.buckets.sound c.lemma_keys_unique.ensures c.args.handle r.restarted.1
+    found r.emptied r.ensures.emptied c.leave_list.new.occupied c.leave_list.new.firsts (rw (← tick) c.leave_list.ensures.pending)
+    (rw (← tick) c.leave_list.ensures.due) in
     let new = c.enter_list.new in
-    let kept = framed w.hier c.restart.new.self new.occupied new.firsts
-    (with_row to.result row (map (without_key key) w.buckets.links.lists)) frame c.in_ok-restarted.ensures.lists
+    let kept = framed w.hier c.replace.new.self new.occupied new.firsts
+    (with_row to.result row (map (without_key key) w.buckets.links.lists)) c.replace.ensures.frame r.ensures.lists
     (come_wheels left to.result row (removed w.buckets.sound key).has_lists refl new.occupied new.firsts to.ensures.list
-    to.ensures.bucket (rw (← f.tick) c.enter_list.ensures.pending) (rw (← f.tick) c.enter_list.ensures.due)) in
+    to.ensures.bucket (rw (← tick) c.enter_list.ensures.pending) (rw (← tick) c.enter_list.ensures.due)) in
     record { hier = kept.hier; foretold = kept.foretold }

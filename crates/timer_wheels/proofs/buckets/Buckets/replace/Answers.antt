@@ -4,19 +4,19 @@ use Rattle.timer_base.specs.WheelState.{with_room, after_held_start, after_remov
 use Rattle.timer_wheels.specs.Buckets.{roomless_state, row_at}
 use Rattle.timer_wheels.proofs.Handles.{held_used, removed_state}
 use Rattle.timer_wheels.proofs.Updates.{removed, pushed_in, pushed_in-state, in_lists}
-use Rattle.timer_wheels.proofs.buckets.Buckets.restart.Goals as goal
+use Rattle.timer_wheels.proofs.buckets.Buckets.replace.Goals as goal
 
-pub replace_node-requires-clause-used : goal.replace_node-requires-clause-used
-replace_node-requires-clause-used c = held_used c.args.self.now.sound c.lemma_keys_unique.ensures c.args.handle c.in_ok-old.old
+pub replace_node-emptied-requires-clause-used : goal.replace_node-emptied-requires-clause-used
+replace_node-emptied-requires-clause-used c = held_used c.args.self.now.sound c.lemma_keys_unique.ensures c.args.handle c.in_ok-old.old
     (sym c.look.ensures.timer ∙ c.in_ok-old.was)
 
-pub replace_node-requires-clause-list : goal.replace_node-requires-clause-list
-replace_node-requires-clause-list c = in_lists c.args.self.now.sound c.args.list c.args.timer.deadline c.requires.list
+pub replace_node-emptied-requires-clause-list : goal.replace_node-emptied-requires-clause-list
+replace_node-emptied-requires-clause-list c = in_lists c.args.self.now.sound c.args.list c.args.timer.deadline c.requires.list
 
 pub invariant_of-self : goal.invariant_of-self
 invariant_of-self c =
     let row = row_at c.args.handle.place c.args.timer c.args.rounds in
-    rw c.replace_node.ensures.replaced (record {
+    rw c.replace_node-emptied.ensures.replaced (record {
       sound = pushed_in (removed c.args.self.now.sound c.args.handle.place) c.args.list row.0 row.1 c.requires.deadline
           c.requires.fresh c.requires.serial c.requires.list;
     })
@@ -25,7 +25,7 @@ pub returns-clause-restarted : goal.returns-clause-restarted
 returns-clause-restarted c =
     let b = c.args.self.now in
     let row = row_at c.args.handle.place c.args.timer c.args.rounds in
-    rw (c.replace_node.ensures.replaced, c.replace_node.ensures.room) (ap (with_room b.links.room)
+    rw (c.replace_node-emptied.ensures.replaced, c.replace_node-emptied.ensures.room) (ap (with_room b.links.room)
     (pushed_in-state (removed b.sound c.args.handle.place) c.args.list row.0 row.1 c.requires.deadline c.requires.fresh
     c.requires.serial c.requires.list
     ∙ ap (after_held_start c.args.handle.place c.args.timer) (removed_state b.sound c.lemma_keys_unique.ensures c.args.handle
