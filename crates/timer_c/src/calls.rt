@@ -170,11 +170,7 @@ pub(crate) fn look(timers: &Timers<HierWheel>, handle: CHandle, out: &mut Expire
     }
 }
 
-pub(crate) fn stop(
-    timers: &mut Timers<HierWheel>,
-    handle: CHandle,
-    action: &mut u64,
-) -> u32
+pub(crate) fn stop(timers: &mut Timers<HierWheel>, handle: CHandle, action: &mut u64) -> u32
     ensures stopped { result ≡ OK → IsStopped handle timers.old timers.new action.new }
     ensures refused { 0 < result → WhyNotStopped handle timers.old result }
     ensures kept { 0 < result → (timers.new ≡ timers.old) × (action.new ≡ action.old) }
