@@ -76,7 +76,8 @@ pub extern "C" fn timers_free(alloc: Global, t: &mut CTimers)
 /// Drops every timer, pending or expired and not yet taken. The clock and the last serial stay.
 #[unsafe(no_mangle)]
 pub extern "C" fn timers_clear(t: &mut CTimers)
-    ensures cleared { IsOpen t.old → t.new.slot.state ≡ with_wheel (after_drop t.old.slot.state.wheel) t.old.slot.state }
+    ensures cleared { IsOpen t.old → t.new.slot.state
+        ≡ with_wheel (after_drop t.old.slot.state.wheel) t.old.slot.state }
     ensures not_open { IsShut t.old → t.new ≡ t.old }
     ensures only { t.new ≡ with_timers t.old t.new.slot.state }
 {

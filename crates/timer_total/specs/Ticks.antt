@@ -7,7 +7,7 @@ use Rattle.timer_base.specs.Counts.{WheelCounts}
 use Rattle.timer_base.specs.Pending.{Entry, timers_of}
 use Rattle.timer_base.specs.TickLaws.{after_ticks-now, after_ticks-last}
 use Rattle.timer_base.specs.WheelState.{WheelState, IsPending, IsWellFormed, after_ticks, Advances}
-use Rattle.timer_total.specs.TimersState.{TimersState, counts_of_ticks}
+use Rattle.timer_total.specs.TimersState.{TimersState, Counting, counts_of_ticks}
 
 -- at most `most` ticks were asked for and `passed` were passed, with nothing due before the last of them
 pub record Passes (most passed : ℕ) (old new : WheelState) : Type 0 where
@@ -19,11 +19,10 @@ pub record Passes (most passed : ℕ) (old new : WheelState) : Type 0 where
   pub early : passed < most → (0 < length new.due) ⊎ (new.now ≡ new.last_tick)
 
 -- an advance that was accepted: a tick is passed only if nothing is due and the clock is not at its end
-pub record IsAdvanced (count_advance : WheelState → WheelState → WheelCounts → WheelCounts) (most passed : ℕ)
-    (old new : TimersState) : Type 0 where
+pub record IsAdvanced (count : Counting) (most passed : ℕ) (old new : TimersState) : Type 0 where
   pub allowed : 0 < most → (old.wheel.due ≡ []) × (old.wheel.now < old.wheel.last_tick)
   pub passes : Passes most passed old.wheel new.wheel
-  pub counted : new.counts ≡ counts_of_ticks count_advance passed old.wheel new.wheel old.counts
+  pub counted : new.counts ≡ counts_of_ticks count passed old.wheel new.wheel old.counts
   pub serial : new.last_serial ≡ old.last_serial
 
 -- the clock is at its end if all that was left of it was passed
@@ -52,10 +51,9 @@ advanced most asked passed old new least more b a =
     }
 
 -- an advance passes at least one tick
-pub counted_as : (count_advance : WheelState → WheelState → WheelCounts → WheelCounts) (passed : ℕ) (old new : WheelState)
-    (before after : WheelCounts) → 0 < passed → after ≡ count_advance old new before
-    → after ≡ counts_of_ticks count_advance passed old new before
-counted_as count_advance passed old new before after some e =
+pub counted_as : (count : Counting) (passed : ℕ) (old new : WheelState) (before after : WheelCounts) → 0 < passed
+    → after ≡ count old new before → after ≡ counts_of_ticks count passed old new before
+counted_as count passed old new before after some e =
     rw (ne_eqb passed 0 (let n : passed ≢ 0 = omega arith in n)) e
 
 -- at the last tick nothing is pending

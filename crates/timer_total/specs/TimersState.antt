@@ -11,7 +11,7 @@ pub record TimersState : Type 0 where
   -- the serial of the last start or restart, also of one over an earlier wheel
   pub last_serial : ℕ
 
--- the wheel is in this state, and nothing is counted
+-- the wheel is in this state, and nothing was counted
 abbrev pub with_wheel : WheelState → TimersState → TimersState
 with_wheel wheel s = record s { wheel = wheel }
 
@@ -23,7 +23,10 @@ with_start count_start wheel s = record {
   last_serial = s.last_serial + 1;
 }
 
--- ticks were passed by one advance, if any were, and the wheel came from the first state to the second
-abbrev pub counts_of_ticks : (WheelState → WheelState → WheelCounts → WheelCounts) → ℕ → WheelState → WheelState → WheelCounts
-    → WheelCounts
-counts_of_ticks count_advance passed old new counts = if passed == 0 then counts else count_advance old new counts
+-- how a wheel counts an advance from one state to another
+abbrev pub Counting : Type 0
+Counting = WheelState → WheelState → WheelCounts → WheelCounts
+
+-- the counts after an advance by this many ticks: one by none is no call of the wheel
+abbrev pub counts_of_ticks : Counting → ℕ → Counting
+counts_of_ticks count passed old new counts = if passed == 0 then counts else count old new counts
