@@ -45,7 +45,8 @@ no_handle handle (x ∷ xs) n = rw (other_serial handle x n.0) (ap (λ (r : List
 
 no_serial : (serial : ℕ) (es : List Entry) → IsNotAmong serial (timers_of es) → without_serial serial es ≡ es
 no_serial serial [] n = refl
-no_serial serial (x ∷ xs) n = rw (ne_eqb x.timer.serial serial n.0) (ap (λ (r : List Entry). x ∷ r) (no_serial serial xs n.1))
+no_serial serial (x ∷ xs) n =
+    rw (ne_eqb x.timer.serial serial n.0) (ap (λ (r : List Entry). x ∷ r) (no_serial serial xs n.1))
 
 same_timer : (a b : Timer) → Some a ≡ Some b → a ≡ b
 same_timer a b e = cc
@@ -64,7 +65,8 @@ found_among handle t serial (x ∷ xs) e n = elim (either (has_handle handle x))
   | inr h ↦ found_among handle t serial xs (rw h at e) n.1
 ]
 
-removed_step : (handle : Handle) (x : Entry) (xs : List Entry) (o : Option Timer) → o ≡ first_timer (has_handle handle) xs
+removed_step : (handle : Handle) (x : Entry) (xs : List Entry) (o : Option Timer)
+    → o ≡ first_timer (has_handle handle) xs
     → IsNotAmong x.timer.serial (timers_of xs) → without_handle handle xs ≡ without_found o xs
     → x ∷ without_handle handle xs ≡ without_found o (x ∷ xs)
 removed_step handle x xs None e n ih = ap (λ (r : List Entry). x ∷ r) ih
@@ -82,13 +84,15 @@ without_handle-found handle (x ∷ xs) d = elim (either (has_handle handle x)) [
       let s : x.timer.serial ≡ handle.serial = has_serial_of handle x h in
       let n : IsNotAmong handle.serial (timers_of xs) = subst (λ (k : ℕ). IsNotAmong k (timers_of xs)) s d.0 in
       rw (h, eq-eqb x.timer.serial x.timer.serial refl) (no_handle handle xs n ∙ sym (no_serial x.timer.serial xs d.0))
-  | inr h ↦ rw h (removed_step handle x xs (first_timer (has_handle handle) xs) refl d.0 (without_handle-found handle xs d.1))
+  | inr h ↦ rw h (removed_step handle x xs (first_timer (has_handle handle) xs) refl d.0
+      (without_handle-found handle xs d.1))
 ]
 
 pub removal_when_none_due : (handle : Handle) (w : WheelState) → AreDistinct (timers_of w.pending) → w.due ≡ []
     → after_removal handle w ≡ after_stop handle w
 removal_when_none_due handle w d e =
-    let a : without_handle handle w.pending ≡ without_found (timer_at handle w) w.pending = without_handle-found handle w.pending d in
+    let a : without_handle handle w.pending ≡ without_found (timer_at handle w) w.pending =
+    without_handle-found handle w.pending d in
     let b : without_handle handle w.due ≡ w.due = ap (without_handle handle) e ∙ sym e in
     ap (λ (p : List Entry). record w { pending = p; due = without_handle handle w.due }) a
     ∙ ap (λ (q : List Entry). record w { pending = without_found (timer_at handle w) w.pending; due = q }) b
@@ -110,12 +114,9 @@ start_when_now place t w h = elim (either (nat_lt w.now t.deadline)) [
 ]
 
 -- either way it is the last one that was started
-pub held_start-last_serial : (place : ℕ) (t : Timer) (w : WheelState) → (after_held_start place t w).last_serial ≡ t.serial
+pub held_start-last_serial : (place : ℕ) (t : Timer) (w : WheelState)
+    → (after_held_start place t w).last_serial ≡ t.serial
 held_start-last_serial place t w = elim (either (nat_lt w.now t.deadline)) [ inl k ↦ rw k refl | inr k ↦ rw k refl ]
-
--- and the clock stays
-pub held_start-now : (place : ℕ) (t : Timer) (w : WheelState) → (after_held_start place t w).now ≡ w.now
-held_start-now place t w = elim (either (nat_lt w.now t.deadline)) [ inl k ↦ rw k refl | inr k ↦ rw k refl ]
 
 -- room changes nothing of a start
 pub with_room-held_start : (room place : ℕ) (t : Timer) (w : WheelState)
@@ -134,7 +135,8 @@ replacement_when_none_due (Some r) handle t w d e h =
 
 -- Where there is no timer, and once it is removed.
 
-pub without_handle-none : (handle : Handle) (es : List Entry) → first_timer (has_handle handle) es ≡ None → without_handle handle es ≡ es
+pub without_handle-none : (handle : Handle) (es : List Entry) → first_timer (has_handle handle) es ≡ None
+    → without_handle handle es ≡ es
 without_handle-none handle [] e = refl
 without_handle-none handle (x ∷ xs) e = elim (either (has_handle handle x)) [
   | inl h ↦ absurd (let f : Some x.timer ≡ None = rw h at e in cc)
@@ -149,11 +151,15 @@ pub none_removed : (handle : Handle) (w : WheelState) → held_at handle w ≡ N
 none_removed handle w e =
     let n = neither (timer_at handle w) (due_at handle w) e in
     ap (λ (p : List Entry). record w { pending = p }) (sym (without_handle-none handle w.pending n.0))
-    ∙ ap (λ (q : List Entry). record w { pending = without_handle handle w.pending; due = q }) (sym (without_handle-none handle w.due n.1))
+    ∙ ap (λ (q : List Entry). record w { pending = without_handle handle w.pending; due = q })
+    (sym (without_handle-none handle w.due n.1))
 
 gone : (handle : Handle) (es : List Entry) → first_timer (has_handle handle) (without_handle handle es) ≡ None
 gone handle [] = refl
-gone handle (x ∷ xs) = elim (either (has_handle handle x)) [ inl h ↦ rw h (gone handle xs) | inr h ↦ simp (h, h) (gone handle xs) ]
+gone handle (x ∷ xs) = elim (either (has_handle handle x)) [
+  | inl h ↦ rw h (gone handle xs)
+  | inr h ↦ simp (h, h) (gone handle xs)
+]
 
 -- the handle names nothing then
 pub held_at-removed : (handle : Handle) (w : WheelState) → held_at handle (after_removal handle w) ≡ None

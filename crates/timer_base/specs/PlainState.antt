@@ -1,6 +1,6 @@
 -- The wheel state of a list of timers in order of starting: those after now are pending, and those at now are
 -- due.
-use Rattle.std.specs.Prelude.{◌≡◌, ◌<◌, ◌≤◌, ◌+◌, ◌-◌, ℕ, Bool, true, ◌&&◌, nat_lt, min, if◌then◌else◌, List, [], ◌∷◌, Option, Some, None, map, filter, length, refl}
+use Rattle.std.specs.Prelude.{◌≡◌, ◌<◌, ◌≤◌, ◌+◌, ◌-◌, ℕ, Bool, true, nat_lt, min, if◌then◌else◌, List, [], ◌∷◌, Option, Some, None, map, filter, length, refl}
 use Rattle.std.specs.List.{AllByRecursion, AllByRecursion-prop}
 use Rattle.std.specs.Coded.{le_prop}
 use Rattle.std.proofs.Common.{ap, arith}
@@ -10,20 +10,12 @@ use Rattle.timer_base.specs.declared.limits.TheConstants.{LAST}
 use Rattle.timer_base.specs.Order.{in_order, itself, IsOrdered, AreRising, AreDistinct}
 use Rattle.timer_base.specs.OrderLaws.{IsOrdered-in_order, AreDistinct-in_order, AreDistinct-rising, AreRising-filter, All-in_order, All-filter}
 use Rattle.timer_base.specs.OneOrder.{map-itself}
-use Rattle.timer_base.specs.Pending.{Entry, timers_of, has_serial, is_due_at}
+use Rattle.timer_base.specs.Pending.{Entry, timers_of, is_due_at}
 use Rattle.timer_base.specs.WheelState.{WheelState, IsPending, IsDue, IsWellFormed}
 
 -- the deadline is after the tick
 abbrev pub is_after : ℕ → Timer → Bool
 is_after tick t = nat_lt tick t.deadline
-
--- the timer has this serial, and its deadline is after the tick
-abbrev pub is_pending_with : ℕ → ℕ → Timer → Bool
-is_pending_with tick serial t = has_serial serial t && is_after tick t
-
--- the timer has this serial, and its deadline is the tick
-abbrev pub is_due_with : ℕ → ℕ → Timer → Bool
-is_due_with tick serial t = has_serial serial t && is_due_at tick t
 
 -- every timer has place 0
 abbrev pub at_first_place : Timer → Entry

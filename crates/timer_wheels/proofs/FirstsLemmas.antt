@@ -54,11 +54,6 @@ module _ {lowest n : ℕ} {firsts : List First} {lists : KeyedLists} (f : AreFir
     each = λ s a b. subst (λ (rows : List (ℕ × Node)). IsFirstOf (first_at s firsts) (timers_in rows)) (sym (e s b)) (f.each s a b);
   }
 
-  -- a row comes to the list of the due ones
-  pub due_firsts : (row : ℕ × Node) → AreFirsts lowest n firsts (with_row n row lists)
-  due_firsts row = same_firsts (with_row n row lists) (λ s h. get_or-set_other lists n s (list_at n lists ++ row ∷ []) []
-      (let m : s ≢ n = omega arith in m))
-
   -- all but one stay, of the lists and of the first deadlines
   but_one : (firsts2 : List First) (l : ℕ) (new : KeyedLists) → ChangesOne l firsts firsts2
       → ((s : ℕ) → s ≢ l → list_at s new ≡ list_at s lists) → (lowest ≤ l → IsFirstOf (first_at l firsts2) (timers_in (list_at l new)))

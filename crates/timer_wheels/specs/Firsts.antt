@@ -51,7 +51,8 @@ pub record AreFirstsBut (l lowest n : ℕ) (firsts : List First) (lists : KeyedL
   pub size : length firsts ≡ n
   pub each : (s : ℕ) → lowest ≤ s → s < n → s ≢ l → IsFirstOf (first_at s firsts) (timers_in (list_at s lists))
 
-pub AreFirsts-prop : (lowest n : ℕ) (firsts : List First) (lists : KeyedLists) → IsProp (AreFirsts lowest n firsts lists)
+pub AreFirsts-prop : (lowest n : ℕ) (firsts : List First) (lists : KeyedLists)
+    → IsProp (AreFirsts lowest n firsts lists)
 AreFirsts-prop lowest n firsts lists = hlevel (
   props,
   Π_prop (λ (s : ℕ). Π_prop (λ (a : lowest ≤ s). Π_prop (λ (b : s < n). IsFirstOf-prop (first_at s firsts)

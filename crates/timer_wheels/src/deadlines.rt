@@ -17,7 +17,7 @@ use crate::first::First;
 use timer_links::Links;
 
 /// The first pending deadline, found by a walk along every bucket. Does not allocate.
-pub fn first_of_all(buckets: &Buckets) -> Option<u64>
+pub fn first_deadline_by_walk(buckets: &Buckets) -> Option<u64>
     ensures { result ≡ next_deadline (state_of buckets.now).pending }
 {
     least_below(&buckets.links, buckets.slots)

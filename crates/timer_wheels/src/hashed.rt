@@ -27,7 +27,7 @@ ghost use Rattle.timer_wheels.specs.Hashed.{slot_of, rounds_of, IsHashed, AreInB
 ghost use Rattle.timer_wheels.specs.WakeUps.{earliest_sweep};
 
 use crate::buckets::Buckets;
-use crate::deadlines::first_of_all;
+use crate::deadlines::first_deadline_by_walk;
 use crate::revolutions::skip_revolutions;
 use crate::sweep::{next_sweep, slot_after, sweep_tick};
 use std::alloc::Global;
@@ -225,7 +225,7 @@ impl Wheel for HashedWheel {
 
     /// Found by a walk along every bucket: a bucket has timers of many revolutions.
     fn next_deadline(&self) -> Option<u64> {
-        first_of_all(&self.buckets)
+        first_deadline_by_walk(&self.buckets)
     }
 
     fn expire(&mut self) -> Option<Timer> {

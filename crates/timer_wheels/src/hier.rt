@@ -321,8 +321,8 @@ impl Wheel for HierWheel {
         self.wheels.next_deadline()
     }
 
-    /// What was found is kept, so that the next call needs no walk. It is lost if the last timer with the first
-    /// deadline is stopped or restarted, and others are left in its bucket.
+    /// From the first call that walks a bucket on, first deadlines are kept, so that most calls need no walk. That of
+    /// a bucket is lost if the last timer that has it is stopped or restarted, and others are left there.
     fn find_next(&mut self) -> Option<u64> {
         self.wheels.find_next()
     }

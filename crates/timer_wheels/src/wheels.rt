@@ -274,8 +274,8 @@ fn enter_list(
     requires size { length firsts.old ≡ slots (radices table) }
     requires few { tick < deadline → lowest_radix (radices table) ≤ list
         → (first_at list firsts.old).count < 18446744073709551615 }
-    ensures pending { tick < deadline → Comes (lowest_radix (radices table)) list deadline occupied.old occupied.new
-        firsts.old firsts.new }
+    ensures pending { tick < deadline → Comes (lowest_radix (radices table)) list deadline occupied.old
+        occupied.new firsts.old firsts.new }
     ensures due { deadline ≤ tick → (occupied.new ≡ occupied.old) × (firsts.new ≡ firsts.old) }
 {
     if deadline <= tick {
@@ -302,8 +302,8 @@ fn leave_list(
     requires counted { tick < deadline → lowest_radix (radices table) ≤ bucket (radices table) tick deadline
         → (first_at (bucket (radices table) tick deadline) firsts.old).bound ≡ deadline
         → 0 < (first_at (bucket (radices table) tick deadline) firsts.old).count }
-    ensures pending { tick < deadline → Goes (lowest_radix (radices table)) (bucket (radices table) tick deadline) deadline
-        emptied occupied.old occupied.new firsts.old firsts.new }
+    ensures pending { tick < deadline → Goes (lowest_radix (radices table)) (bucket (radices table) tick deadline)
+        deadline emptied occupied.old occupied.new firsts.old firsts.new }
     ensures due { deadline ≤ tick → (occupied.new ≡ occupied.old) × (firsts.new ≡ firsts.old) }
 {
     let Some(list) = emptied else {

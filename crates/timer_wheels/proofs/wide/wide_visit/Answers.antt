@@ -1,6 +1,6 @@
 use Rattle.std.proofs.Common.{◌<◌, ◌/◌, ◌%◌, ℕ, arith}
 use Rattle.timer_wheels.proofs.WideVisits.{visit_by_shift, visit_of_list}
-use Rattle.timer_wheels.proofs.digits.wide_visit.Goals as goal
+use Rattle.timer_wheels.proofs.wide.wide_visit.Goals as goal
 
 wheel_of : (l : ℕ) → l < 640 → l / 64 < 10
 wheel_of l h = omega arith

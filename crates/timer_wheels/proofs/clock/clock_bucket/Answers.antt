@@ -1,5 +1,5 @@
 use Rattle.timer_wheels.proofs.ClockDigits.{bucket_second, bucket_minute, bucket_hour, bucket_day}
-use Rattle.timer_wheels.proofs.digits.clock_bucket.Goals as goal
+use Rattle.timer_wheels.proofs.clock.clock_bucket.Goals as goal
 
 pub returns-then-now-minute-clause-value : goal.returns-then-now-minute-clause-value
 returns-then-now-minute-clause-value c = bucket_second c.args.now c.args.deadline c.if-now-minute.true

@@ -1,5 +1,5 @@
 use Rattle.timer_wheels.proofs.ClockDigits.{clock_visit_second, clock_visit_minute, clock_visit_hour, clock_visit_day}
-use Rattle.timer_wheels.proofs.digits.clock_visit.Goals as goal
+use Rattle.timer_wheels.proofs.clock.clock_visit.Goals as goal
 
 pub returns-then-list-lt60 : goal.returns-then-list-lt60
 returns-then-list-lt60 c = clock_visit_second c.args.list c.args.now c.if-list-lt60.true

@@ -1,7 +1,7 @@
 use Rattle.std.proofs.Common.{◌+◌, ◌*◌, ℕ, ap, ◌∙◌}
 use Rattle.timer_wheels.specs.Digits.{wide, digit, list_of_slot}
 use Rattle.timer_wheels.proofs.WideDigits.{slot_by_product}
-use Rattle.timer_wheels.proofs.digits.wide_bucket.Goals as goal
+use Rattle.timer_wheels.proofs.wide.wide_bucket.Goals as goal
 
 pub returns-clause-value : goal.returns-clause-value
 returns-clause-value c =

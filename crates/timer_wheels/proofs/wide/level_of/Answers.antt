@@ -1,6 +1,6 @@
 use Rattle.std.proofs.Common.{sym, ◌<◌, ℕ, subst}
 use Rattle.timer_wheels.proofs.WideDigits.{level_by_top, zeros_bound, level_below_ten}
-use Rattle.timer_wheels.proofs.digits.level_of.Goals as goal
+use Rattle.timer_wheels.proofs.wide.level_of.Goals as goal
 
 pub overflow_sub-result : goal.overflow_sub-result
 overflow_sub-result c = zeros_bound c.args.now c.args.deadline c.requires.later c.requires.deadline

@@ -1,6 +1,6 @@
 use Rattle.std.proofs.Common.{sym, ◌<◌, ℕ, subst}
 use Rattle.timer_wheels.proofs.WideDigits.{lowest_by_zeros, lowest_below_ten}
-use Rattle.timer_wheels.proofs.digits.lowest_digit.Goals as goal
+use Rattle.timer_wheels.proofs.wide.lowest_digit.Goals as goal
 
 pub returns-clause-value : goal.returns-clause-value
 returns-clause-value c = sym (lowest_by_zeros c.args.tick c.requires.later c.requires.in_range)

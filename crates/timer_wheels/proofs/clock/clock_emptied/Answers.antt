@@ -1,5 +1,5 @@
 use Rattle.timer_wheels.proofs.ClockDigits.{emptied_second, emptied_minute, emptied_hour, emptied_day}
-use Rattle.timer_wheels.proofs.digits.clock_emptied.Goals as goal
+use Rattle.timer_wheels.proofs.clock.clock_emptied.Goals as goal
 
 pub returns-then-tick-ne0-clause-value : goal.returns-then-tick-ne0-clause-value
 returns-then-tick-ne0-clause-value c = emptied_second c.args.tick c.if-tick-ne0.true
