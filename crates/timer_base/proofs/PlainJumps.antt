@@ -1,5 +1,5 @@
 -- Lemmas for `advance` of a `PlainWheel`: nothing is due before the first pending deadline, and something is due at it.
-use Rattle.std.proofs.Common.{◌≡◌, ◌<◌, ◌≤◌, ◌+◌, ◌-◌, ℕ, zero, suc, true, false, List, [], ◌∷◌, length, refl, sym, ◌∙◌, ap, subst, inl, inr, arith}
+use Rattle.std.proofs.Common.{◌≡◌, ◌<◌, ◌≤◌, ◌+◌, ◌-◌, ℕ, suc, true, false, List, [], ◌∷◌, length, refl, sym, ◌∙◌, ap, subst, inl, inr, arith}
 use Rattle.std.specs.Prelude.{filter, map, min, Option, Some, None}
 use Rattle.std.specs.List.{AllByRecursion}
 use Rattle.std.proofs.lemmas.Bool.{cases_lt}
@@ -12,7 +12,7 @@ use Rattle.timer_base.specs.Pending.{is_due_at}
 use Rattle.timer_base.specs.PlainState.{IsKept, AreDueAfter, IsJump, is_after, earliest, first_after, at_first_place, plain_state}
 use Rattle.timer_base.specs.TickLaws.{AreAfter, IsPassing, passing_quiet}
 use Rattle.timer_base.proofs.PlainSteps.{filter_after, state_is, plain_state-after_tick}
-use Rattle.timer_base.specs.WheelState.{WheelState, after_tick, after_ticks, with_room, Advances}
+use Rattle.timer_base.specs.WheelState.{WheelState, after_tick, after_ticks, Advances}
 
 same_tick : (a b : ℕ) → Some a ≡ Some b → a ≡ b
 same_tick a b e = cc
@@ -175,17 +175,3 @@ due_skipped now next ticks last serial ts us n t a =
     rw (n, t) (ap (map at_first_place) (none_due_after (now + ticks) ts a))
 
 -- Room changes nothing on the way.
-
-after_ticks-with_room : (n room : ℕ) (w : WheelState) → after_ticks n (with_room room w) ≡ with_room room (after_ticks n w)
-after_ticks-with_room zero room w = refl
-after_ticks-with_room (suc n) room w = ap after_tick (after_ticks-with_room n room w)
-
-pub advances-with_room : (most passed room : ℕ) (old new : WheelState) → Advances most passed old new
-    → Advances most passed (with_room room old) (with_room room new)
-advances-with_room most passed room old new a = record {
-  some = a.some;
-  at_most = a.at_most;
-  ticked = ap (with_room room) a.ticked ∙ sym (after_ticks-with_room passed room old);
-  quiet = λ n l. ap (λ (w : WheelState). w.due) (after_ticks-with_room n room old) ∙ a.quiet n l;
-  early = a.early;
-}

@@ -8,3 +8,4 @@ pub mod WheelState
 pub mod TickLaws
 pub mod WakeUps
 pub mod HeldLaws
+pub mod Counts

@@ -7,7 +7,7 @@ use Rattle.timer_base.specs.OrderLaws.{either}
 use Rattle.timer_base.specs.Pending.{Entry, is_due_at, entries_due, entries_left}
 use Rattle.timer_base.specs.declared.timer.Timer.{Timer}
 use Rattle.timer_base.specs.WakeUps.{IsWakeUp}
-use Rattle.timer_base.specs.WheelState.{WheelState, after_tick, after_ticks, Advances}
+use Rattle.timer_base.specs.WheelState.{WheelState, after_tick, after_ticks, with_room, Advances}
 
 pub after_ticks-now : (n : ℕ) (w : WheelState) → (after_ticks n w).now ≡ w.now + n
 after_ticks-now zero w = omega arith
@@ -191,3 +191,19 @@ pub quiet_before_wake_up : (w : WheelState) (tick n : ℕ) → w.due ≡ [] → 
     → (after_ticks n w).due ≡ []
 quiet_before_wake_up w tick n z u h = quiet_until n w z (later_than tick (w.now + n) w.pending h u.in_time) n
     (omega arith)
+
+-- Room changes nothing of ticks.
+
+after_ticks-with_room : (n room : ℕ) (w : WheelState) → after_ticks n (with_room room w) ≡ with_room room (after_ticks n w)
+after_ticks-with_room zero room w = refl
+after_ticks-with_room (suc n) room w = ap after_tick (after_ticks-with_room n room w)
+
+pub advances-with_room : (most passed room : ℕ) (old new : WheelState) → Advances most passed old new
+    → Advances most passed (with_room room old) (with_room room new)
+advances-with_room most passed room old new a = record {
+  some = a.some;
+  at_most = a.at_most;
+  ticked = ap (with_room room) a.ticked ∙ sym (after_ticks-with_room passed room old);
+  quiet = λ n l. ap (λ (w : WheelState). w.due) (after_ticks-with_room n room old) ∙ a.quiet n l;
+  early = a.early;
+}

@@ -16,8 +16,9 @@
 //! equation on this record. The four routines of G. Varghese and T. Lauck, "Hashed and Hierarchical Timing
 //! Wheels" (SOSP 1987), are `start` (START_TIMER), `stop` (STOP_TIMER), `per_tick` (PER_TICK_BOOKKEEPING) and
 //! `expire` (the timers that their EXPIRY_PROCESSING is for).
-ghost use Rattle.std.specs.Prelude.{◌≡◌, ◌<◌, ◌≤◌, ◌-◌, ◌↔◌, ℕ, List, [], Option, length, IsTrue, IfOk, OnOk, OnErr, MatchOption};
+ghost use Rattle.std.specs.Prelude.{◌≡◌, ◌<◌, ◌≤◌, ◌-◌, ◌↔◌, ℕ, List, [], Option, length, IsTrue, IfOk, OnOk, OnErr, MatchOption, MatchResult};
 ghost use Rattle.timer_base.specs.declared.limits.TheConstants.{LAST};
+ghost use Rattle.timer_base.specs.Counts.{WheelCounts, no_counts};
 ghost use Rattle.timer_base.specs.Pending.{Entry, timers_of};
 ghost use Rattle.timer_base.specs.WakeUps.{IsQuietUntil, next_deadline};
 ghost use Rattle.timer_base.specs.WheelState.{WheelState, IsWellFormed, NamesOne, held_at, held_count, old_timer, first_due, after_reserve, after_held_start, after_removal, after_replacement, after_tick, after_expiry, after_clear, Advances};
@@ -33,6 +34,19 @@ pub trait Wheel {
     /// The tick that `quiet_until` returns, from the number of slots, the present tick and the pending timers:
     /// each wheel says which it is.
     ghost wake_up: { ℕ → ℕ → List Entry → Option ℕ };
+
+    /// What it counted since it was made. No other call changes it than a start, a restart and ticks. A wheel
+    /// that counts nothing leaves out these members.
+    ghost counts: { Self → WheelCounts } = { λ _. no_counts };
+
+    /// The counts after one more start or restart.
+    ghost count_start: { WheelCounts → WheelCounts } = { λ counts. counts };
+
+    /// The counts after a tick from this state.
+    ghost count_tick: { WheelState → WheelCounts → WheelCounts } = { λ _ counts. counts };
+
+    /// The counts after an advance from the first state to the second.
+    ghost count_advance: { WheelState → WheelState → WheelCounts → WheelCounts } = { λ _ _ counts. counts };
 
     /// The last tick of the wheel's clock: constant, and at most `LAST`.
     fn last_tick(&self) -> u64
@@ -73,7 +87,9 @@ pub trait Wheel {
         ensures started { IfOk result (λ handle. state self.new
             ≡ after_held_start handle.place timer (state self.old)) }
         ensures full { OnErr result ((state self.old).room ≤ held_count (state self.old)) }
-        ensures err { OnErr result (state self.new ≡ state self.old) };
+        ensures err { OnErr result (state self.new ≡ state self.old) }
+        ensures counts { MatchResult result (λ _. counts self.new ≡ count_start (counts self.old))
+            (λ _. counts self.new ≡ counts self.old) };
 
     /// Makes room for `most` timers at one time, pending or due, those that are here among them. The only
     /// error is out of memory; no timer changes, either way.
@@ -84,6 +100,7 @@ pub trait Wheel {
     fn reserve(&mut self, most: usize) -> Result<(), OutOfMemory>
         ensures ok { OnOk result (state self.new ≡ after_reserve most (state self.old)) }
         ensures err { OnErr result (state self.new ≡ state self.old) }
+        ensures counts { counts self.new ≡ counts self.old }
     {
         let _most = most;
         Err(OutOfMemory)
@@ -102,7 +119,8 @@ pub trait Wheel {
     /// If there is none, nothing changes. Does not allocate.
     fn stop(&mut self, handle: Handle) -> Option<Timer>
         ensures timer { result ≡ held_at handle (state self.old) }
-        ensures stopped { state self.new ≡ after_removal handle (state self.old) };
+        ensures stopped { state self.new ≡ after_removal handle (state self.old) }
+        ensures counts { counts self.new ≡ counts self.old };
 
     /// Removes the timer with exactly this handle, pending or due, starts another in its place (RESTART), and
     /// returns the new handle and the old timer. The new deadline is now or later, as that of a start.
@@ -115,14 +133,17 @@ pub trait Wheel {
         requires serial { timer.serial ≤ LAST }
         ensures old { old_timer result ≡ held_at handle (state self.old) }
         ensures named { MatchOption result (Unit {0}) (λ r. r.0.serial ≡ timer.serial) }
-        ensures restarted { state self.new ≡ after_replacement result handle timer (state self.old) };
+        ensures restarted { state self.new ≡ after_replacement result handle timer (state self.old) }
+        ensures counts { MatchOption result (counts self.new ≡ counts self.old)
+            (λ _. counts self.new ≡ count_start (counts self.old)) };
 
     /// Advances the clock by one tick (PER_TICK_BOOKKEEPING): the pending timers with that deadline
     /// become due, by serial. Does not allocate.
     fn per_tick(&mut self)
         requires nothing_due { (state self.old).due ≡ [] }
         requires before_last { (state self.old).now < (state self.old).last_tick }
-        ensures { state self.new ≡ after_tick (state self.old) };
+        ensures ticked { state self.new ≡ after_tick (state self.old) }
+        ensures counts { counts self.new ≡ count_tick (state self.old) (counts self.old) };
 
     /// Passes at least one and at most `most` ticks, and returns how many.
     ///
@@ -133,16 +154,8 @@ pub trait Wheel {
         requires nothing_due { (state self.old).due ≡ [] }
         requires some { 0 < most }
         requires before_last { most ≤ (state self.old).last_tick - (state self.old).now }
-        ensures { Advances most result (state self.old) (state self.new) }
-    {
-        for passed in 0..most {
-            self.per_tick();
-            if self.has_due() {
-                return passed + 1;
-            }
-        }
-        most
-    }
+        ensures advances { Advances most result (state self.old) (state self.new) }
+        ensures counts { counts self.new ≡ count_advance (state self.old) (state self.new) (counts self.old) };
 
     /// Returns a tick until which nothing becomes due, or None exactly if nothing is pending.
     ///
@@ -168,6 +181,7 @@ pub trait Wheel {
     fn find_next(&mut self) -> Option<u64>
         ensures first { result ≡ next_deadline (state self.old).pending }
         ensures same { state self.new ≡ state self.old }
+        ensures counts { counts self.new ≡ counts self.old }
     {
         self.next_deadline()
     }
@@ -175,7 +189,8 @@ pub trait Wheel {
     /// Removes the first of the due timers and returns it. Does not allocate.
     fn expire(&mut self) -> Option<Timer>
         ensures first { result ≡ first_due (state self.old) }
-        ensures rest { state self.new ≡ after_expiry (state self.old) };
+        ensures rest { state self.new ≡ after_expiry (state self.old) }
+        ensures counts { counts self.new ≡ counts self.old };
 
     /// The pending timers, by deadline and then serial. The only error is out of memory.
     fn list(&self) -> Result<Vec<Timer>, OutOfMemory>
@@ -183,7 +198,8 @@ pub trait Wheel {
 
     /// Drops every pending timer. The tick and the last serial stay. Does not allocate.
     fn clear(&mut self)
-        ensures { state self.new ≡ after_clear (state self.old) };
+        ensures cleared { state self.new ≡ after_clear (state self.old) }
+        ensures counts { counts self.new ≡ counts self.old };
 
     /// The invariant of every wheel.
     ghost well_formed: { (wheel : Self) → IsWellFormed (state wheel) };

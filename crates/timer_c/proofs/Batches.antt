@@ -3,15 +3,16 @@ use Rattle.std.proofs.Common.{ℕ, zero, suc, ◌≡◌, ◌+◌, ◌<◌, ◌�
 use Rattle.std.specs.Prelude.{Option, Some, None, map, take, drop, slice_get, slice_set}
 use Rattle.timer_base.specs.declared.timer.Timer.{Timer}
 use Rattle.timer_base.specs.Pending.{Entry, timers_of}
-use Rattle.timer_base.specs.WheelState.{WheelState, first_due, after_expiry}
+use Rattle.timer_base.specs.WheelState.{first_due, after_expiry}
+use Rattle.timer_total.specs.TimersState.{TimersState, with_wheel}
 use Rattle.timer_c.specs.declared.layout.Expired.{Expired}
 use Rattle.timer_c.specs.Outcomes.{tell, after_expiries}
 
 -- this many were taken, and are written over the front of the array
-pub record IsTaken (count : ℕ) (out : List Expired) (old : WheelState) (out' : List Expired) (new : WheelState) : Type 0 where
-  pub some : count ≤ length old.due
-  pub told : out' ≡ map tell (take count (timers_of old.due)) ++ drop count out
-  pub rest : new ≡ after_expiries count old
+pub record IsTaken (count : ℕ) (out : List Expired) (old : TimersState) (out' : List Expired) (new : TimersState) : Type 0 where
+  pub some : count ≤ length old.wheel.due
+  pub told : out' ≡ map tell (take count (timers_of old.wheel.due)) ++ drop count out
+  pub rest : new ≡ with_wheel (after_expiries count old.wheel) old
 
 abbrev no_timer : Option Timer
 no_timer = None
@@ -42,28 +43,28 @@ is_there (suc n) [] t e = absurd (none_some t e)
 is_there zero (x ∷ due) t e = omega arith
 is_there (suc n) (x ∷ due) t e = let h : n < length due = is_there n due t e in omega arith
 
-with_due : (w : WheelState) (xs ys : List Entry) → xs ≡ ys → (let a : WheelState = record w { due = xs }
-    in let b : WheelState = record w { due = ys } in a ≡ b)
-with_due w xs ys e = cc
+abbrev with_due : TimersState → List Entry → TimersState
+with_due s due = with_wheel (record s.wheel { due = due }) s
 
-pub taken_none : (out : List Expired) (w : WheelState) → IsTaken 0 out w out w
+pub taken_none : (out : List Expired) (w : TimersState) → IsTaken 0 out w out w
 taken_none out w = record { some = omega arith; told = refl; rest = refl }
 
 -- one more
-pub taken_next : (n : ℕ) (out out' : List Expired) (old here new : WheelState) (t : Timer) → IsTaken n out old out' here
-    → first_due here ≡ Some t → n < length out
-    → new ≡ after_expiry here → IsTaken (n + 1) out old (slice_set out' n (tell t)) new
+pub taken_next : (n : ℕ) (out out' : List Expired) (old here new : TimersState) (t : Timer) → IsTaken n out old out' here
+    → first_due here.wheel ≡ Some t → n < length out
+    → new ≡ with_wheel (after_expiry here.wheel) here → IsTaken (n + 1) out old (slice_set out' n (tell t)) new
 taken_next n out out' old here new t taken first room e =
-    let at : slice_get (timers_of (drop n old.due)) 0 ≡ Some t =
-    sym (ap (λ (w : WheelState). slice_get (timers_of w.due) 0) taken.rest) ∙ first in
-    let below : n < length old.due = is_there n old.due t at in
-    let written : slice_set out' n (tell t) ≡ map tell (take (suc n) (timers_of old.due)) ++ drop (suc n) out =
-    ap (λ (o : List Expired). slice_set o n (tell t)) taken.told ∙ next n old.due out t at room in
-    let left : new ≡ after_expiries (suc n) old = e ∙ ap after_expiry taken.rest
-    ∙ with_due old (drop 1 (drop n old.due)) (drop (suc n) old.due) (drop_next n old.due) in
+    let due = old.wheel.due in
+    let at : slice_get (timers_of (drop n due)) 0 ≡ Some t =
+    sym (ap (λ (s : TimersState). slice_get (timers_of s.wheel.due) 0) taken.rest) ∙ first in
+    let below : n < length due = is_there n due t at in
+    let written : slice_set out' n (tell t) ≡ map tell (take (suc n) (timers_of due)) ++ drop (suc n) out =
+    ap (λ (o : List Expired). slice_set o n (tell t)) taken.told ∙ next n due out t at room in
+    let left : new ≡ with_wheel (after_expiries (suc n) old.wheel) old =
+    e ∙ (ap (λ (s : TimersState). with_wheel (after_expiry s.wheel) s) taken.rest ∙ ap (with_due old) (drop_next n due)) in
     let one : suc n ≡ n + 1 = sym (add-one n) in
     record {
       some = omega arith;
-      told = written ∙ ap (λ (k : ℕ). map tell (take k (timers_of old.due)) ++ drop k out) one;
-      rest = left ∙ ap (λ (k : ℕ). after_expiries k old) one;
+      told = written ∙ ap (λ (k : ℕ). map tell (take k (timers_of due)) ++ drop k out) one;
+      rest = left ∙ ap (λ (k : ℕ). with_wheel (after_expiries k old.wheel) old) one;
     }

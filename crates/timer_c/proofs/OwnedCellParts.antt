@@ -15,7 +15,7 @@ use denote.Steps.{nothing, owned}
 use denote.Struct.Struct.{within}
 use denote.Struct.Owning.{shape}
 use Rattle.timer_c.specs.Slots.{the_timers}
-use Rattle.timer_base.specs.WheelState.{WheelState}
+use Rattle.timer_total.specs.TimersState.{TimersState}
 use Rattle.timer_c.specs.contracts.owned_cell.OwnedCell as slot
 use Rattle.timer_ffi_base.specs.Cells.{owned_at}
 use Rattle.timer_ffi_base.proofs.RawBoxParts.{RawBox}
@@ -28,7 +28,7 @@ abbrev pub P : RattleType
 P = RawBox T Z LZ G
 
 module _ {M : Type 1} {𝓤 : Ura M} {𝓛 : Logic 𝓤} {K : Type 0} {Γ : List (Item 𝓤)} {Goal' : Goal 𝓤 𝓛.H} where
-  pub shut : K → (mark b o : ℕ) (s : WheelState) → mark < 2 ^ 64
+  pub shut : K → (mark b o : ℕ) (s : TimersState) → mark < 2 ^ 64
       → Step K 𝓛 (‵ (slot.the_row.own_val (record { at = block_ptr b o; mark = mark; state = s }) (word mark b o ∷ [])) ∷ Γ) Goal'
       (‵ (owned_at T mark (block_ptr b o) s) ∷ Γ) Goal'
   shut t mark b o s small = step (λ rest.

@@ -1,6 +1,6 @@
 -- What C holds, before and after a call.
 use Rattle.std.specs.Prelude.{◌≡◌, true, false}
-use Rattle.timer_base.specs.WheelState.{WheelState}
+use Rattle.timer_total.specs.TimersState.{TimersState}
 use Rattle.timer_c.specs.declared.c_timers.CTimers.{CTimers}
 use Rattle.timer_ffi_base.specs.Cells.{is_open}
 
@@ -13,5 +13,5 @@ abbrev pub IsShut : CTimers → Type 0
 IsShut t = is_open t.slot.mark ≡ false
 
 -- the same, with timers of this state
-abbrev pub with_timers : CTimers → WheelState → CTimers
+abbrev pub with_timers : CTimers → TimersState → CTimers
 with_timers t state = record t { slot = record t.slot { state = state } }

@@ -1,6 +1,7 @@
 -- What each call returns, and the state of the wheel after it. A status is that of the first reason that
 -- holds.
 use Rattle.std.specs.Prelude.{ℕ, ◌≡◌, ◌+◌, ◌<◌, ◌≤◌, ◌⊎◌, [], length, drop, Option, Some, None}
+use Rattle.timer_base.specs.Counts.{WheelCounts, no_counts}
 use Rattle.timer_base.specs.declared.limits.TheConstants.{LAST}
 use Rattle.timer_base.specs.declared.timer.Timer.{Timer}
 use Rattle.timer_base.specs.declared.timer.Handle as base
@@ -9,8 +10,8 @@ use Rattle.timer_base.specs.WheelState.{WheelState, empty_wheel, held_at, after_
 use Rattle.timer_wheels.specs.declared.table.Table.TheVariants.{Wide, Clock}
 use Rattle.timer_wheels.specs.Tables.{slots_of_table}
 use Rattle.timer_wheels.specs.HeldPlaces.{AreBefore, AreElsewhere}
-use Rattle.timer_wheels.specs.HierWheel.{WheelCounts, counts_of, hier_state}
-use Rattle.timer_wheels.specs.declared.hier.HierWheel.{HierWheel}
+use Rattle.timer_wheels.specs.HierWheel.{counts_of_tick, counts_of_advance}
+use Rattle.timer_wheels.specs.HierWheel as hier
 use Rattle.timer_wheels.specs.WakeUps.{next_visit, radices_by_slots}
 use Rattle.timer_wheels.specs.declared.table.TheConstants.{LAST_OF_CLOCK}
 use Rattle.timer_total.specs.Deadlines.{interval_until, after_start_at}
@@ -20,18 +21,24 @@ use Rattle.timer_total.specs.declared.fault.StartFault.{StartFault}
 use Rattle.timer_total.specs.declared.fault.StartFault.TheVariants as start
 use Rattle.timer_total.specs.declared.fault.RestartFault.{RestartFault}
 use Rattle.timer_total.specs.declared.fault.RestartFault.TheVariants as restart
-use Rattle.timer_total.specs.Ticks.{IsAdvanced, numbered}
+use Rattle.timer_total.specs.Ticks.{IsAdvanced}
+use Rattle.timer_total.specs.TimersState.{TimersState, with_wheel, with_start}
 use Rattle.timer_c.specs.declared.layout.Counts.{Counts}
 use Rattle.timer_c.specs.declared.layout.CHandle.{CHandle}
 use Rattle.timer_c.specs.declared.layout.Expired.{Expired}
 use Rattle.timer_c.specs.declared.status.TheConstants.{NO_TABLE, NO_MEMORY, DUE, NOT_PENDING, ZERO_INTERVAL, TOO_LATE, SERIALS_SPENT, CLOCK_END, WIDE, CLOCK, NEVER}
 
--- an empty wheel with this table, at its first tick, with this last serial
-abbrev pub IsEmptyAt : ℕ → ℕ → ℕ → WheelState → Type 0
-IsEmptyAt table first_tick serial new =
-    ((table ≡ WIDE) × (first_tick ≤ LAST) × (new ≡ numbered serial (empty_wheel (slots_of_table Wide) LAST first_tick)))
+-- an empty wheel with this table, at its first tick
+abbrev pub IsEmptyWheel : ℕ → ℕ → WheelState → Type 0
+IsEmptyWheel table first_tick wheel =
+    ((table ≡ WIDE) × (first_tick ≤ LAST) × (wheel ≡ empty_wheel (slots_of_table Wide) LAST first_tick))
     ⊎ ((table ≡ CLOCK) × (first_tick ≤ LAST_OF_CLOCK)
-    × (new ≡ numbered serial (empty_wheel (slots_of_table Clock) LAST_OF_CLOCK first_tick)))
+    × (wheel ≡ empty_wheel (slots_of_table Clock) LAST_OF_CLOCK first_tick))
+
+-- timers over such a wheel, with this last serial, and nothing was counted
+abbrev pub IsEmptyAt : ℕ → ℕ → ℕ → TimersState → Type 0
+IsEmptyAt table first_tick serial new =
+    IsEmptyWheel table first_tick new.wheel × (new.counts ≡ no_counts) × (new.last_serial ≡ serial)
 
 -- there is such a table, and it has the first tick
 abbrev pub IsOpenable : ℕ → ℕ → Type 0
@@ -47,16 +54,16 @@ WhyNoWheel table first_tick status =
     ⊎ ((status ≡ NO_MEMORY) × IsOpenable table first_tick)
 
 -- a start was done: the state is that after the start, at a place that is a free choice
-abbrev pub IsStarted : ℕ → ℕ → WheelState → WheelState → CHandle → Type 0
+abbrev pub IsStarted : ℕ → ℕ → TimersState → TimersState → CHandle → Type 0
 IsStarted interval action old new handle =
     IsStartable interval old × (handle.serial ≡ old.last_serial + 1)
-    × (new ≡ after_start handle.place (next_timer interval action old) old)
+    × (new ≡ with_start hier.with_start (after_start handle.place (next_timer interval action old) old.wheel) old)
 
-abbrev pub IsStartRefusal : ℕ → WheelState → ℕ → Type 0
+abbrev pub IsStartRefusal : ℕ → TimersState → ℕ → Type 0
 IsStartRefusal interval old status =
     ((status ≡ ZERO_INTERVAL) × (interval ≡ 0))
-    ⊎ ((status ≡ TOO_LATE) × (0 < interval) × (old.last_tick < old.now + interval))
-    ⊎ ((status ≡ SERIALS_SPENT) × (0 < interval) × (old.now + interval ≤ old.last_tick)
+    ⊎ ((status ≡ TOO_LATE) × (0 < interval) × (old.wheel.last_tick < old.wheel.now + interval))
+    ⊎ ((status ≡ SERIALS_SPENT) × (0 < interval) × (old.wheel.now + interval ≤ old.wheel.last_tick)
     × (LAST ≤ old.last_serial))
     ⊎ ((status ≡ NO_MEMORY) × IsStartable interval old × IsRoomUsed old)
 
@@ -65,55 +72,57 @@ abbrev pub base_handle : CHandle → base.Handle
 base_handle handle = record { place = handle.place; serial = handle.serial }
 
 -- a start for this tick was done: the timer is pending until then, or expired if the tick is not after now
-abbrev pub IsStartedAt : ℕ → ℕ → WheelState → WheelState → CHandle → Type 0
+abbrev pub IsStartedAt : ℕ → ℕ → TimersState → TimersState → CHandle → Type 0
 IsStartedAt deadline action old new handle =
     IsStartable (interval_until deadline old) old × (handle.serial ≡ old.last_serial + 1)
-    × (new ≡ after_start_at handle.place deadline action old)
+    × (new ≡ with_start hier.with_start (after_start_at handle.place deadline action old.wheel old) old)
 
 -- why it was not: an interval until a tick is never 0
-abbrev pub IsStartAtRefusal : ℕ → WheelState → ℕ → Type 0
+abbrev pub IsStartAtRefusal : ℕ → TimersState → ℕ → Type 0
 IsStartAtRefusal deadline old status = IsStartRefusal (interval_until deadline old) old status
 
 -- a restart was done: the old timer is removed, and the new one started under the next serial
-abbrev pub IsRestarted : CHandle → ℕ → ℕ → WheelState → WheelState → CHandle → Type 0
+abbrev pub IsRestarted : CHandle → ℕ → ℕ → TimersState → TimersState → CHandle → Type 0
 IsRestarted handle interval action old new restarted =
     IsAt (base_handle handle) old × IsStartable interval old × (restarted.serial ≡ old.last_serial + 1)
-    × (new ≡ after_start restarted.place (next_timer interval action old)
-    (after_removal (base_handle handle) old))
+    × (new ≡ with_start hier.with_start (after_start restarted.place (next_timer interval action old)
+    (after_removal (base_handle handle) old.wheel)) old)
 
 -- a restart for this tick was done, as a start for it
-abbrev pub IsRestartedAt : CHandle → ℕ → ℕ → WheelState → WheelState → CHandle → Type 0
+abbrev pub IsRestartedAt : CHandle → ℕ → ℕ → TimersState → TimersState → CHandle → Type 0
 IsRestartedAt handle deadline action old new restarted =
     IsAt (base_handle handle) old × IsStartable (interval_until deadline old) old
     × (restarted.serial ≡ old.last_serial + 1)
-    × (new ≡ after_start_at restarted.place deadline action (after_removal (base_handle handle) old))
+    × (new ≡ with_start hier.with_start (after_start_at restarted.place deadline action
+    (after_removal (base_handle handle) old.wheel) old) old)
 
-abbrev pub IsRestartRefusal : CHandle → ℕ → WheelState → ℕ → Type 0
+abbrev pub IsRestartRefusal : CHandle → ℕ → TimersState → ℕ → Type 0
 IsRestartRefusal handle interval old status =
-    ((status ≡ NOT_PENDING) × (held_at (base_handle handle) old ≡ None))
+    ((status ≡ NOT_PENDING) × (held_at (base_handle handle) old.wheel ≡ None))
     ⊎ ((status ≡ ZERO_INTERVAL) × IsAt (base_handle handle) old × (interval ≡ 0))
     ⊎ ((status ≡ TOO_LATE) × IsAt (base_handle handle) old × (0 < interval)
-    × (old.last_tick < old.now + interval))
+    × (old.wheel.last_tick < old.wheel.now + interval))
     ⊎ ((status ≡ SERIALS_SPENT) × IsAt (base_handle handle) old × (0 < interval)
-    × (old.now + interval ≤ old.last_tick) × (LAST ≤ old.last_serial))
+    × (old.wheel.now + interval ≤ old.wheel.last_tick) × (LAST ≤ old.last_serial))
 
 -- why it was not: an interval until a tick is never 0
-abbrev pub IsRestartAtRefusal : CHandle → ℕ → WheelState → ℕ → Type 0
+abbrev pub IsRestartAtRefusal : CHandle → ℕ → TimersState → ℕ → Type 0
 IsRestartAtRefusal handle deadline old status =
     IsRestartRefusal handle (interval_until deadline old) old status
 
 -- a timer was set for this tick: a restart under a handle that names one, and otherwise a start
-abbrev pub IsSet : CHandle → ℕ → ℕ → WheelState → WheelState → CHandle → Type 0
+abbrev pub IsSet : CHandle → ℕ → ℕ → TimersState → TimersState → CHandle → Type 0
 IsSet handle deadline action old new set =
     IsStartable (interval_until deadline old) old × (set.serial ≡ old.last_serial + 1)
-    × (new ≡ after_start_at set.place deadline action (after_removal (base_handle handle) old))
+    × (new ≡ with_start hier.with_start (after_start_at set.place deadline action
+    (after_removal (base_handle handle) old.wheel) old) old)
 
 -- why it was not: only a start may find no memory
-abbrev pub IsSetRefusal : CHandle → ℕ → WheelState → ℕ → Type 0
+abbrev pub IsSetRefusal : CHandle → ℕ → TimersState → ℕ → Type 0
 IsSetRefusal handle deadline old status =
-    ((status ≡ TOO_LATE) × (old.last_tick < old.now + interval_until deadline old))
-    ⊎ ((status ≡ SERIALS_SPENT) × (old.now + interval_until deadline old ≤ old.last_tick) × (LAST ≤ old.last_serial))
-    ⊎ ((status ≡ NO_MEMORY) × (held_at (base_handle handle) old ≡ None)
+    ((status ≡ TOO_LATE) × (old.wheel.last_tick < old.wheel.now + interval_until deadline old))
+    ⊎ ((status ≡ SERIALS_SPENT) × (old.wheel.now + interval_until deadline old ≤ old.wheel.last_tick) × (LAST ≤ old.last_serial))
+    ⊎ ((status ≡ NO_MEMORY) × (held_at (base_handle handle) old.wheel ≡ None)
     × IsStartable (interval_until deadline old) old × IsRoomUsed old)
 
 -- the status of a start that was refused
@@ -136,32 +145,36 @@ action_of None = None
 action_of (Some t) = Some t.action
 
 -- a stop was done: the timer is removed, and no timer has its handle
-abbrev pub IsStopped : CHandle → WheelState → WheelState → ℕ → Type 0
+abbrev pub IsStopped : CHandle → TimersState → TimersState → ℕ → Type 0
 IsStopped handle old new action =
-    (new ≡ after_removal (base_handle handle) old)
-    × (action_of (held_at (base_handle handle) old) ≡ Some action)
-    × (held_at (base_handle handle) new ≡ None)
+    (new ≡ with_wheel (after_removal (base_handle handle) old.wheel) old)
+    × (action_of (held_at (base_handle handle) old.wheel) ≡ Some action)
+    × (held_at (base_handle handle) new.wheel ≡ None)
 
-abbrev pub WhyNotStopped : CHandle → WheelState → ℕ → Type 0
+abbrev pub WhyNotStopped : CHandle → TimersState → ℕ → Type 0
 WhyNotStopped handle old status =
-    (status ≡ NOT_PENDING) × (held_at (base_handle handle) old ≡ None)
+    (status ≡ NOT_PENDING) × (held_at (base_handle handle) old.wheel ≡ None)
 
 -- a tick was done
-abbrev pub IsTicked : WheelState → WheelState → Type 0
-IsTicked old new = (old.due ≡ []) × (new ≡ after_tick old)
+abbrev pub IsTicked : TimersState → TimersState → Type 0
+IsTicked old new = (old.wheel.due ≡ []) × (new ≡ record {
+  wheel = after_tick old.wheel;
+  counts = counts_of_tick old.wheel old.counts;
+  last_serial = old.last_serial;
+})
 
 -- ticks were passed up to this one, or up to the first at which a timer expires
-abbrev pub IsAdvancedTo : ℕ → WheelState → WheelState → Type 0
-IsAdvancedTo tick old new = (passed : ℕ) × IsAdvanced (left_until tick old) passed old new
+abbrev pub IsAdvancedTo : ℕ → TimersState → TimersState → Type 0
+IsAdvancedTo tick old new = (passed : ℕ) × IsAdvanced counts_of_advance (left_until tick old) passed old new
 
 -- why the clock does not advance; at its end nothing is left, neither due nor pending
-abbrev pub WhyNotTicked : WheelState → ℕ → Type 0
+abbrev pub WhyNotTicked : TimersState → ℕ → Type 0
 WhyNotTicked old status =
-    ((status ≡ DUE) × (0 < length old.due))
-    ⊎ ((status ≡ CLOCK_END) × (old.due ≡ []) × (old.now ≡ old.last_tick) × (old.pending ≡ []))
+    ((status ≡ DUE) × (0 < length old.wheel.due))
+    ⊎ ((status ≡ CLOCK_END) × (old.wheel.due ≡ []) × (old.wheel.now ≡ old.wheel.last_tick) × (old.wheel.pending ≡ []))
 
 -- why no tick of those that were asked for is passed
-abbrev pub WhyNotAdvanced : ℕ → WheelState → ℕ → Type 0
+abbrev pub WhyNotAdvanced : ℕ → TimersState → ℕ → Type 0
 WhyNotAdvanced most old status = (0 < most) × WhyNotTicked old status
 
 -- a timer as C's struct
@@ -173,8 +186,9 @@ told None = None
 told (Some t) = Some (tell t)
 
 -- the next timer that is due by this tick was taken
-abbrev pub IsTaken : ℕ → WheelState → WheelState → Expired → Type 0
-IsTaken tick old new out = (timer : Timer) × (out ≡ tell timer) × IsTakenBy tick (Some timer) old new
+abbrev pub IsTaken : ℕ → TimersState → TimersState → Expired → Type 0
+IsTaken tick old new out = (timer : Timer) × (out ≡ tell timer)
+    × IsTakenBy counts_of_advance tick (Some timer) old new
 
 -- the timer with this handle, pending or expired and not yet taken
 abbrev pub IsSeen : CHandle → WheelState → Expired → Type 0
@@ -213,9 +227,3 @@ IsAllVisited from w = AreBefore from w.pending × AreBefore from w.due
 -- the counts of a wheel as C's struct
 abbrev pub tell_counts : WheelCounts → Counts
 tell_counts counts = record { starts = counts.starts; moves = counts.moves; visits = counts.visits }
-
--- these are the counts of a wheel in this state, but for the last serial, which is counted beside the wheel
-pub record AreCountsOf (w : WheelState) (counts : Counts) : Type 0 where
-  pub wheel : HierWheel
-  pub held : numbered w.last_serial (hier_state wheel) ≡ w
-  pub counted : counts ≡ tell_counts (counts_of wheel)

@@ -1,6 +1,5 @@
 -- The row of the timers on the heap: `Cells` says what a slot owns of them.
 use denote.RattleType.{RattleType}
-use Rattle.timer_base.specs.WheelState.{WheelState}
 use Rattle.timer_wheels.specs.contracts.hier.HierWheel as hier
 use Rattle.timer_wheels.specs.contracts.hier.HierWheelWheel.TheImpl as wheel
 use Rattle.timer_total.specs.contracts.timers.Timers as timers

@@ -1,25 +1,26 @@
-//! The calls on timers that are held, over any wheel, with C's statuses and structs.
+//! The calls on timers that are held, with C's statuses and structs.
 ghost use Rattle.std.specs.Prelude.{◌≡◌, ◌*◌, ◌<◌, ◌≤◌, ◌++◌, ◌↔◌, true, false, Some, None, [], map, take, drop, length, min};
 ghost use Rattle.timer_base.specs.Pending.{timers_of};
 ghost use Rattle.timer_base.specs.WheelState.{first_due, after_reserve, after_tick, after_expiry};
-ghost use Rattle.timer_c.specs.Outcomes.{IsStarted, IsStartedAt, IsStartRefusal, IsStartAtRefusal, IsRestarted, IsRestartedAt, IsRestartRefusal, IsRestartAtRefusal, IsSet, IsSetRefusal, start_status, restart_status, IsSeen, IsStopped, WhyNotStopped, IsTicked, IsAdvancedTo, WhyNotTicked, WhyNotAdvanced, IsTaken, IsNextCall, IsNextDeadline, IsVisited, IsAllVisited, AreCountsOf, told, tell, tell_counts, after_expiries};
+ghost use Rattle.timer_c.specs.Outcomes.{IsStarted, IsStartedAt, IsStartRefusal, IsStartAtRefusal, IsRestarted, IsRestartedAt, IsRestartRefusal, IsRestartAtRefusal, IsSet, IsSetRefusal, start_status, restart_status, IsSeen, IsStopped, WhyNotStopped, IsTicked, IsAdvancedTo, WhyNotTicked, WhyNotAdvanced, IsTaken, IsNextCall, IsNextDeadline, IsVisited, IsAllVisited, told, tell, tell_counts, after_expiries};
 ghost use Rattle.timer_total.specs.Refusals.{left_until};
 ghost use Rattle.timer_total.specs.Taken.{IsTakenBy};
 ghost use Rattle.timer_total.specs.Ticks.{IsAdvanced};
-ghost use Rattle.timer_wheels.specs.HierWheel.{counts_of};
+ghost use Rattle.timer_total.specs.TimersState.{with_wheel};
+ghost use Rattle.timer_wheels.specs.HierWheel.{counts_of, counts_of_advance};
 ghost use Rattle.timer_c.specs.declared.status.TheConstants.{OK, NO_MEMORY};
 
 use crate::layout::{CHandle, Counts, Expired};
 use crate::status::{
     CLOCK_END, DUE, NEVER, NO_MEMORY, NOT_PENDING, OK, SERIALS_SPENT, TOO_LATE, ZERO_INTERVAL,
 };
-use timer_base::{Timer, Wheel};
+use timer_base::Timer;
 use timer_total::{AdvanceFault, RestartFault, StartFault, Timers};
 use timer_wheels::HierWheel;
 
 /// Makes room for `most` timers at one time, pending and expired ones together.
-pub(crate) fn reserve<W: Wheel + Drop>(timers: &mut Timers<W>, most: usize) -> u32
-    ensures reserved { result ≡ OK → timers.new ≡ after_reserve most timers.old }
+pub(crate) fn reserve(timers: &mut Timers<HierWheel>, most: usize) -> u32
+    ensures reserved { result ≡ OK → timers.new ≡ with_wheel (after_reserve most timers.old.wheel) timers.old }
     ensures refused { 0 < result → result ≡ NO_MEMORY }
     ensures kept { 0 < result → timers.new ≡ timers.old }
 {
@@ -29,8 +30,8 @@ pub(crate) fn reserve<W: Wheel + Drop>(timers: &mut Timers<W>, most: usize) -> u
     }
 }
 
-pub(crate) fn start<W: Wheel + Drop>(
-    timers: &mut Timers<W>,
+pub(crate) fn start(
+    timers: &mut Timers<HierWheel>,
     interval: u64,
     action: u64,
     handle: &mut CHandle,
@@ -48,8 +49,8 @@ pub(crate) fn start<W: Wheel + Drop>(
     }
 }
 
-pub(crate) fn start_at<W: Wheel + Drop>(
-    timers: &mut Timers<W>,
+pub(crate) fn start_at(
+    timers: &mut Timers<HierWheel>,
     deadline: u64,
     action: u64,
     handle: &mut CHandle,
@@ -80,8 +81,8 @@ fn start_status(fault: StartFault) -> u32
     }
 }
 
-pub(crate) fn restart<W: Wheel + Drop>(
-    timers: &mut Timers<W>,
+pub(crate) fn restart(
+    timers: &mut Timers<HierWheel>,
     handle: CHandle,
     interval: u64,
     action: u64,
@@ -100,8 +101,8 @@ pub(crate) fn restart<W: Wheel + Drop>(
     }
 }
 
-pub(crate) fn restart_at<W: Wheel + Drop>(
-    timers: &mut Timers<W>,
+pub(crate) fn restart_at(
+    timers: &mut Timers<HierWheel>,
     handle: CHandle,
     deadline: u64,
     action: u64,
@@ -122,8 +123,8 @@ pub(crate) fn restart_at<W: Wheel + Drop>(
 }
 
 /// Starts a timer for the tick `deadline`, in place of the one with this handle, if there is one.
-pub(crate) fn set_at<W: Wheel + Drop>(
-    timers: &mut Timers<W>,
+pub(crate) fn set_at(
+    timers: &mut Timers<HierWheel>,
     handle: &mut CHandle,
     deadline: u64,
     action: u64,
@@ -155,8 +156,8 @@ fn restart_status(fault: RestartFault) -> u32
 }
 
 /// Writes the timer with this handle, pending or expired and not yet taken.
-pub(crate) fn look<W: Wheel + Drop>(timers: &Timers<W>, handle: CHandle, out: &mut Expired) -> u32
-    ensures seen { result ≡ OK → IsSeen handle timers.now out.new }
+pub(crate) fn look(timers: &Timers<HierWheel>, handle: CHandle, out: &mut Expired) -> u32
+    ensures seen { result ≡ OK → IsSeen handle timers.now.wheel out.new }
     ensures refused { 0 < result → WhyNotStopped handle timers.now result }
     ensures kept { 0 < result → out.new ≡ out.old }
 {
@@ -169,11 +170,7 @@ pub(crate) fn look<W: Wheel + Drop>(timers: &Timers<W>, handle: CHandle, out: &m
     }
 }
 
-pub(crate) fn stop<W: Wheel + Drop>(
-    timers: &mut Timers<W>,
-    handle: CHandle,
-    action: &mut u64,
-) -> u32
+pub(crate) fn stop(timers: &mut Timers<HierWheel>, handle: CHandle, action: &mut u64) -> u32
     ensures stopped { result ≡ OK → IsStopped handle timers.old timers.new action.new }
     ensures refused { 0 < result → WhyNotStopped handle timers.old result }
     ensures kept { 0 < result → (timers.new ≡ timers.old) × (action.new ≡ action.old) }
@@ -187,7 +184,7 @@ pub(crate) fn stop<W: Wheel + Drop>(
     }
 }
 
-pub(crate) fn tick<W: Wheel + Drop>(timers: &mut Timers<W>) -> u32
+pub(crate) fn tick(timers: &mut Timers<HierWheel>) -> u32
     ensures ticked { result ≡ OK → IsTicked timers.old timers.new }
     ensures refused { 0 < result → WhyNotTicked timers.old result }
     ensures kept { 0 < result → timers.new ≡ timers.old }
@@ -199,8 +196,8 @@ pub(crate) fn tick<W: Wheel + Drop>(timers: &mut Timers<W>) -> u32
     }
 }
 
-pub(crate) fn advance<W: Wheel + Drop>(timers: &mut Timers<W>, most: u64, passed: &mut u64) -> u32
-    ensures advanced { result ≡ OK → IsAdvanced most passed.new timers.old timers.new }
+pub(crate) fn advance(timers: &mut Timers<HierWheel>, most: u64, passed: &mut u64) -> u32
+    ensures advanced { result ≡ OK → IsAdvanced counts_of_advance most passed.new timers.old timers.new }
     ensures refused { 0 < result → WhyNotAdvanced most timers.old result }
     ensures kept { 0 < result → (timers.new ≡ timers.old) × (passed.new ≡ passed.old) }
 {
@@ -214,7 +211,7 @@ pub(crate) fn advance<W: Wheel + Drop>(timers: &mut Timers<W>, most: u64, passed
     }
 }
 
-pub(crate) fn advance_to<W: Wheel + Drop>(timers: &mut Timers<W>, tick: u64) -> u32
+pub(crate) fn advance_to(timers: &mut Timers<HierWheel>, tick: u64) -> u32
     ensures advanced { result ≡ OK → IsAdvancedTo tick timers.old timers.new }
     ensures refused { 0 < result → WhyNotAdvanced (left_until tick timers.old) timers.old result }
     ensures kept { 0 < result → timers.new ≡ timers.old }
@@ -227,9 +224,9 @@ pub(crate) fn advance_to<W: Wheel + Drop>(timers: &mut Timers<W>, tick: u64) -> 
 }
 
 /// Takes the next timer that is due by this tick, and passes the ticks up to it.
-pub(crate) fn take<W: Wheel + Drop>(timers: &mut Timers<W>, tick: u64, out: &mut Expired) -> bool
+pub(crate) fn take(timers: &mut Timers<HierWheel>, tick: u64, out: &mut Expired) -> bool
     ensures taken { result ≡ true → IsTaken tick timers.old timers.new out.new }
-    ensures none { result ≡ false → IsTakenBy tick None timers.old timers.new × (out.new ≡ out.old) }
+    ensures none { result ≡ false → IsTakenBy counts_of_advance tick None timers.old timers.new × (out.new ≡ out.old) }
 {
     match timers.take(tick) {
         Some(timer) => {
@@ -240,10 +237,10 @@ pub(crate) fn take<W: Wheel + Drop>(timers: &mut Timers<W>, tick: u64, out: &mut
     }
 }
 
-pub(crate) fn expire<W: Wheel + Drop>(timers: &mut Timers<W>, out: &mut Expired) -> bool
-    ensures first { result ≡ true → told (first_due timers.old) ≡ Some out.new }
-    ensures none { result ≡ false → (first_due timers.old ≡ None) × (out.new ≡ out.old) }
-    ensures rest { timers.new ≡ after_expiry timers.old }
+pub(crate) fn expire(timers: &mut Timers<HierWheel>, out: &mut Expired) -> bool
+    ensures first { result ≡ true → told (first_due timers.old.wheel) ≡ Some out.new }
+    ensures none { result ≡ false → (first_due timers.old.wheel ≡ None) × (out.new ≡ out.old) }
+    ensures rest { timers.new ≡ with_wheel (after_expiry timers.old.wheel) timers.old }
 {
     match timers.expire() {
         Some(timer) => {
@@ -255,10 +252,10 @@ pub(crate) fn expire<W: Wheel + Drop>(timers: &mut Timers<W>, out: &mut Expired)
 }
 
 /// Takes as many expired timers as there are, or as fit into `out`.
-pub(crate) fn expire_batch<W: Wheel + Drop>(timers: &mut Timers<W>, out: &mut [Expired]) -> usize
-    ensures count { result ≡ min (length out.old) (length timers.old.due) }
-    ensures told { out.new ≡ map tell (take result (timers_of timers.old.due)) ++ drop result out.old }
-    ensures rest { timers.new ≡ after_expiries result timers.old }
+pub(crate) fn expire_batch(timers: &mut Timers<HierWheel>, out: &mut [Expired]) -> usize
+    ensures count { result ≡ min (length out.old) (length timers.old.wheel.due) }
+    ensures told { out.new ≡ map tell (take result (timers_of timers.old.wheel.due)) ++ drop result out.old }
+    ensures rest { timers.new ≡ with_wheel (after_expiries result timers.old.wheel) timers.old }
 {
     let room = out.len();
     for count in 0..room {
@@ -272,7 +269,7 @@ pub(crate) fn expire_batch<W: Wheel + Drop>(timers: &mut Timers<W>, out: &mut [E
 
 /// The tick until which its owner may sleep.
 pub(crate) fn wakeup(timers: &Timers<HierWheel>) -> u64
-    ensures { IsNextCall result timers.now }
+    ensures { IsNextCall result timers.now.wheel }
 {
     if timers.has_due() {
         return timers.now();
@@ -284,8 +281,8 @@ pub(crate) fn wakeup(timers: &Timers<HierWheel>) -> u64
 }
 
 /// The deadline of the timer that is handed out next: the present tick when an expired one waits.
-pub(crate) fn next<W: Wheel + Drop>(timers: &Timers<W>) -> u64
-    ensures { IsNextDeadline result timers.now }
+pub(crate) fn next(timers: &Timers<HierWheel>) -> u64
+    ensures { IsNextDeadline result timers.now.wheel }
 {
     if timers.has_due() {
         return timers.now();
@@ -297,8 +294,8 @@ pub(crate) fn next<W: Wheel + Drop>(timers: &Timers<W>) -> u64
 }
 
 /// The same, and the wheel keeps what it found.
-pub(crate) fn find_next<W: Wheel + Drop>(timers: &mut Timers<W>) -> u64
-    ensures deadline { IsNextDeadline result timers.old }
+pub(crate) fn find_next(timers: &mut Timers<HierWheel>) -> u64
+    ensures deadline { IsNextDeadline result timers.old.wheel }
     ensures same { timers.new ≡ timers.old }
 {
     if timers.has_due() {
@@ -317,8 +314,8 @@ pub(crate) fn each(
     handle: &mut CHandle,
     out: &mut Expired,
 ) -> bool
-    ensures visited { result ≡ true → IsVisited cursor.old timers.now cursor.new handle.new out.new }
-    ensures ended { result ≡ false → IsAllVisited cursor.old timers.now }
+    ensures visited { result ≡ true → IsVisited cursor.old timers.now.wheel cursor.new handle.new out.new }
+    ensures ended { result ≡ false → IsAllVisited cursor.old timers.now.wheel }
     ensures kept { result ≡ false
         → (cursor.new ≡ cursor.old) × (handle.new ≡ handle.old) × (out.new ≡ out.old) }
 {
@@ -337,7 +334,7 @@ pub(crate) fn each(
 
 /// What the wheel that is held counted.
 pub(crate) fn counts(timers: &Timers<HierWheel>) -> Counts
-    ensures held { AreCountsOf timers.now result }
+    ensures value { result ≡ tell_counts timers.now.counts }
     ensures few_moves { result.moves ≤ 9 * result.starts }
 {
     to_c_counts(timers.wheel())

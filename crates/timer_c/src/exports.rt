@@ -7,12 +7,14 @@ ghost use Rattle.std.specs.Prelude.{◌≡◌, ◌*◌, ◌<◌, ◌≤◌, ◌�
 ghost use Rattle.timer_base.specs.Pending.{timers_of};
 ghost use Rattle.timer_base.specs.WheelState.{first_due, after_reserve, after_expiry};
 ghost use Rattle.timer_c.specs.Frames.{IsOpen, IsShut, with_timers};
-ghost use Rattle.timer_c.specs.Outcomes.{IsEmptyAt, IsOpenable, WhyNoWheel, IsStarted, IsStartedAt, IsStartRefusal, IsStartAtRefusal, IsRestarted, IsRestartedAt, IsRestartRefusal, IsRestartAtRefusal, IsSet, IsSetRefusal, IsSeen, IsStopped, WhyNotStopped, IsTicked, IsAdvancedTo, WhyNotTicked, WhyNotAdvanced, IsTaken, IsNextCall, IsNextDeadline, IsVisited, IsAllVisited, AreCountsOf, told, tell, after_expiries};
+ghost use Rattle.timer_c.specs.Outcomes.{IsEmptyAt, IsOpenable, WhyNoWheel, IsStarted, IsStartedAt, IsStartRefusal, IsStartAtRefusal, IsRestarted, IsRestartedAt, IsRestartRefusal, IsRestartAtRefusal, IsSet, IsSetRefusal, IsSeen, IsStopped, WhyNotStopped, IsTicked, IsAdvancedTo, WhyNotTicked, WhyNotAdvanced, IsTaken, IsNextCall, IsNextDeadline, IsVisited, IsAllVisited, told, tell, tell_counts, after_expiries};
 ghost use Rattle.timer_c.specs.declared.status.TheConstants.{OK, NOT_OPEN, OPEN, NO_MEMORY, NEVER, VERSION_NUMBER};
 ghost use Rattle.timer_total.specs.Drops.{after_drop};
 ghost use Rattle.timer_total.specs.Refusals.{left_until};
 ghost use Rattle.timer_total.specs.Taken.{IsTakenBy};
 ghost use Rattle.timer_total.specs.Ticks.{IsAdvanced};
+ghost use Rattle.timer_total.specs.TimersState.{with_wheel};
+ghost use Rattle.timer_wheels.specs.HierWheel.{counts_of_advance};
 
 use crate::c_timers::CTimers;
 use crate::calls;
@@ -74,7 +76,8 @@ pub extern "C" fn timers_free(alloc: Global, t: &mut CTimers)
 /// Drops every timer, pending or expired and not yet taken. The clock and the last serial stay.
 #[unsafe(no_mangle)]
 pub extern "C" fn timers_clear(t: &mut CTimers)
-    ensures cleared { IsOpen t.old → t.new.slot.state ≡ after_drop t.old.slot.state }
+    ensures cleared { IsOpen t.old → t.new.slot.state
+        ≡ with_wheel (after_drop t.old.slot.state.wheel) t.old.slot.state }
     ensures not_open { IsShut t.old → t.new ≡ t.old }
     ensures only { t.new ≡ with_timers t.old t.new.slot.state }
 {
@@ -88,7 +91,7 @@ pub extern "C" fn timers_clear(t: &mut CTimers)
 #[unsafe(no_mangle)]
 pub extern "C" fn timers_reserve(t: &mut CTimers, most: usize) -> u32
     ensures reserved { result ≡ OK → IsOpen t.old
-        × (t.new.slot.state ≡ after_reserve most t.old.slot.state) }
+        × (t.new.slot.state ≡ with_wheel (after_reserve most t.old.slot.state.wheel) t.old.slot.state) }
     ensures refused { 0 < result → ((result ≡ NOT_OPEN) × IsShut t.old)
         ⊎ (IsOpen t.old × (result ≡ NO_MEMORY)) }
     ensures kept { 0 < result → t.new ≡ t.old }
@@ -214,7 +217,7 @@ pub extern "C" fn timers_set_at(
 /// Writes the timer with exactly this handle, pending or expired and not yet taken, and changes nothing.
 #[unsafe(no_mangle)]
 pub extern "C" fn timers_look(t: &mut CTimers, handle: CHandle, out: &mut Expired) -> u32
-    ensures seen { result ≡ OK → IsOpen t.old × IsSeen handle t.old.slot.state out.new }
+    ensures seen { result ≡ OK → IsOpen t.old × IsSeen handle t.old.slot.state.wheel out.new }
     ensures refused { 0 < result → ((result ≡ NOT_OPEN) × IsShut t.old)
         ⊎ (IsOpen t.old × WhyNotStopped handle t.old.slot.state result) }
     ensures kept { 0 < result → out.new ≡ out.old }
@@ -261,8 +264,8 @@ pub extern "C" fn timers_tick(t: &mut CTimers) -> u32
 /// passed: 0 only if `most` is 0. Then nothing changes, and no reason is looked for.
 #[unsafe(no_mangle)]
 pub extern "C" fn timers_advance(t: &mut CTimers, most: u64, passed: &mut u64) -> u32
-    ensures advanced { result ≡ OK → IsOpen t.old × IsAdvanced most passed.new t.old.slot.state
-        t.new.slot.state }
+    ensures advanced { result ≡ OK → IsOpen t.old × IsAdvanced counts_of_advance most passed.new
+        t.old.slot.state t.new.slot.state }
     ensures refused { 0 < result → ((result ≡ NOT_OPEN) × IsShut t.old)
         ⊎ (IsOpen t.old × WhyNotAdvanced most t.old.slot.state result) }
     ensures kept { 0 < result → (t.new ≡ t.old) × (passed.new ≡ passed.old) }
@@ -297,7 +300,8 @@ pub extern "C" fn timers_advance_to(t: &mut CTimers, tick: u64) -> u32
 pub extern "C" fn timers_take(t: &mut CTimers, tick: u64, out: &mut Expired) -> bool
     ensures taken { result ≡ true
         → IsOpen t.old × IsTaken tick t.old.slot.state t.new.slot.state out.new }
-    ensures none { result ≡ false → IsOpen t.old → IsTakenBy tick None t.old.slot.state t.new.slot.state }
+    ensures none { result ≡ false → IsOpen t.old → IsTakenBy counts_of_advance tick None
+        t.old.slot.state t.new.slot.state }
     ensures not_open { IsShut t.old → (result ≡ false) × (t.new ≡ t.old) }
     ensures kept { result ≡ false → out.new ≡ out.old }
     ensures only { t.new ≡ with_timers t.old t.new.slot.state }
@@ -311,10 +315,11 @@ pub extern "C" fn timers_take(t: &mut CTimers, tick: u64, out: &mut Expired) -> 
 /// Takes the first of the expired timers. Returns whether there was one.
 #[unsafe(no_mangle)]
 pub extern "C" fn timers_expire(t: &mut CTimers, out: &mut Expired) -> bool
-    ensures first { result ≡ true → IsOpen t.old × (told (first_due t.old.slot.state) ≡ Some out.new) }
+    ensures first { result ≡ true → IsOpen t.old × (told (first_due t.old.slot.state.wheel) ≡ Some out.new) }
     ensures none { result ≡ false → (t.new ≡ t.old) × (out.new ≡ out.old) }
-    ensures drained { result ≡ false → IsOpen t.old → first_due t.old.slot.state ≡ None }
-    ensures rest { IsOpen t.old → t.new.slot.state ≡ after_expiry t.old.slot.state }
+    ensures drained { result ≡ false → IsOpen t.old → first_due t.old.slot.state.wheel ≡ None }
+    ensures rest { IsOpen t.old → t.new.slot.state
+        ≡ with_wheel (after_expiry t.old.slot.state.wheel) t.old.slot.state }
     ensures only { t.new ≡ with_timers t.old t.new.slot.state }
 {
     if !t.slot.holds() {
@@ -326,10 +331,11 @@ pub extern "C" fn timers_expire(t: &mut CTimers, out: &mut Expired) -> bool
 /// Takes the first of the expired timers, as many as fit into `out`. Returns how many.
 #[unsafe(no_mangle)]
 pub extern "C" fn timers_expire_batch(t: &mut CTimers, out: &mut [Expired]) -> usize
-    ensures count { IsOpen t.old → result ≡ min (length out.old) (length t.old.slot.state.due) }
-    ensures told { IsOpen t.old → out.new ≡ map tell (take result (timers_of t.old.slot.state.due))
+    ensures count { IsOpen t.old → result ≡ min (length out.old) (length t.old.slot.state.wheel.due) }
+    ensures told { IsOpen t.old → out.new ≡ map tell (take result (timers_of t.old.slot.state.wheel.due))
         ++ drop result out.old }
-    ensures rest { IsOpen t.old → t.new.slot.state ≡ after_expiries result t.old.slot.state }
+    ensures rest { IsOpen t.old → t.new.slot.state
+        ≡ with_wheel (after_expiries result t.old.slot.state.wheel) t.old.slot.state }
     ensures not_open { IsShut t.old → (result ≡ 0) × (t.new ≡ t.old) × (out.new ≡ out.old) }
     ensures only { t.new ≡ with_timers t.old t.new.slot.state }
 {
@@ -342,7 +348,7 @@ pub extern "C" fn timers_expire_batch(t: &mut CTimers, out: &mut [Expired]) -> u
 /// Whether a timer expired and was not yet taken.
 #[unsafe(no_mangle)]
 pub extern "C" fn timers_has_due(t: &mut CTimers) -> bool
-    ensures due { IsOpen t.old → (IsTrue result ↔ (0 < length t.old.slot.state.due)) }
+    ensures due { IsOpen t.old → (IsTrue result ↔ (0 < length t.old.slot.state.wheel.due)) }
     ensures not_open { IsShut t.old → result ≡ false }
     ensures same { t.new ≡ t.old }
 {
@@ -355,7 +361,7 @@ pub extern "C" fn timers_has_due(t: &mut CTimers) -> bool
 /// The present tick, or 0 if `t` is not open.
 #[unsafe(no_mangle)]
 pub extern "C" fn timers_now(t: &mut CTimers) -> u64
-    ensures now { IsOpen t.old → result ≡ t.old.slot.state.now }
+    ensures now { IsOpen t.old → result ≡ t.old.slot.state.wheel.now }
     ensures not_open { IsShut t.old → result ≡ 0 }
     ensures same { t.new ≡ t.old }
 {
@@ -369,7 +375,7 @@ pub extern "C" fn timers_now(t: &mut CTimers) -> u64
 /// not counted.
 #[unsafe(no_mangle)]
 pub extern "C" fn timers_len(t: &mut CTimers) -> usize
-    ensures pending { IsOpen t.old → result ≡ length t.old.slot.state.pending }
+    ensures pending { IsOpen t.old → result ≡ length t.old.slot.state.wheel.pending }
     ensures not_open { IsShut t.old → result ≡ 0 }
     ensures same { t.new ≡ t.old }
 {
@@ -384,7 +390,7 @@ pub extern "C" fn timers_len(t: &mut CTimers) -> usize
 /// wheel.
 #[unsafe(no_mangle)]
 pub extern "C" fn timers_wakeup(t: &mut CTimers) -> u64
-    ensures tick { IsOpen t.old → IsNextCall result t.old.slot.state }
+    ensures tick { IsOpen t.old → IsNextCall result t.old.slot.state.wheel }
     ensures not_open { IsShut t.old → result ≡ NEVER }
     ensures same { t.new ≡ t.old }
 {
@@ -398,7 +404,7 @@ pub extern "C" fn timers_wakeup(t: &mut CTimers) -> u64
 /// when no timer is held, and otherwise exactly the first pending deadline.
 #[unsafe(no_mangle)]
 pub extern "C" fn timers_next(t: &mut CTimers) -> u64
-    ensures deadline { IsOpen t.old → IsNextDeadline result t.old.slot.state }
+    ensures deadline { IsOpen t.old → IsNextDeadline result t.old.slot.state.wheel }
     ensures not_open { IsShut t.old → result ≡ NEVER }
     ensures same { t.new ≡ t.old }
 {
@@ -412,7 +418,7 @@ pub extern "C" fn timers_next(t: &mut CTimers) -> u64
 /// timer with that deadline is gone. C sees no other change.
 #[unsafe(no_mangle)]
 pub extern "C" fn timers_find_next(t: &mut CTimers) -> u64
-    ensures deadline { IsOpen t.old → IsNextDeadline result t.old.slot.state }
+    ensures deadline { IsOpen t.old → IsNextDeadline result t.old.slot.state.wheel }
     ensures not_open { IsShut t.old → result ≡ NEVER }
     ensures same { t.new ≡ t.old }
 {
@@ -432,8 +438,8 @@ pub extern "C" fn timers_each(
     out: &mut Expired,
 ) -> bool
     ensures visited { result ≡ true
-        → IsOpen t.old × IsVisited cursor.old t.old.slot.state cursor.new handle.new out.new }
-    ensures ended { result ≡ false → IsOpen t.old → IsAllVisited cursor.old t.old.slot.state }
+        → IsOpen t.old × IsVisited cursor.old t.old.slot.state.wheel cursor.new handle.new out.new }
+    ensures ended { result ≡ false → IsOpen t.old → IsAllVisited cursor.old t.old.slot.state.wheel }
     ensures kept { result ≡ false
         → (cursor.new ≡ cursor.old) × (handle.new ≡ handle.old) × (out.new ≡ out.old) }
     ensures same { t.new ≡ t.old }
@@ -444,11 +450,12 @@ pub extern "C" fn timers_each(
     calls::each(t.slot.timers(), cursor, handle, out)
 }
 
-/// Writes what the wheels counted since `timers_new`, and changes nothing. The counts are those of a wheel in
-/// the state that is held: the contracts of the other calls show that state, and no counts.
+/// Writes what the wheels counted since `timers_new`, and changes nothing. What each call adds to the counts is in
+/// its contract.
 #[unsafe(no_mangle)]
 pub extern "C" fn timers_counts(t: &mut CTimers, counts: &mut Counts) -> u32
-    ensures counted { result ≡ OK → IsOpen t.old × AreCountsOf t.old.slot.state counts.new }
+    ensures counted { result ≡ OK → IsOpen t.old
+        × (counts.new ≡ tell_counts t.old.slot.state.counts) }
     ensures few_moves { result ≡ OK → counts.new.moves ≤ 9 * counts.new.starts }
     ensures refused { 0 < result → (result ≡ NOT_OPEN) × IsShut t.old }
     ensures kept { 0 < result → counts.new ≡ counts.old }

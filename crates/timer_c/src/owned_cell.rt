@@ -5,7 +5,7 @@
 //! so that a struct whose bytes are all 0 is an empty slot. Its ghost field is the state of the timers.
 ghost use Rattle.std.specs.Prelude.{◌≡◌, true, false};
 ghost use Rattle.std.specs.Borrow.{Lends, sem};
-ghost use Rattle.timer_base.specs.WheelState.{WheelState};
+ghost use Rattle.timer_total.specs.TimersState.{TimersState};
 ghost use Rattle.timer_ffi_base.specs.Cells.{is_open};
 
 use std::alloc::Global;
@@ -22,7 +22,7 @@ pub const HELD: u64 = 1;
 pub struct OwnedCell {
     at: *mut u8,
     pub mark: u64,
-    pub ghost state: { WheelState },
+    pub ghost state: { TimersState },
 }
 
 impl Model for OwnedCell {

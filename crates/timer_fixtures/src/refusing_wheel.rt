@@ -72,6 +72,10 @@ impl<W: Wheel> Wheel for RefusingWheel<W> {
         self.wheel.per_tick();
     }
 
+    fn advance(&mut self, most: u64) -> u64 {
+        self.wheel.advance(most)
+    }
+
     fn expire(&mut self) -> Option<Timer> {
         self.wheel.expire()
     }

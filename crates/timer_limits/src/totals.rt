@@ -1,5 +1,5 @@
 //! A wheel behind total calls, with the most timers.
-ghost use Rattle.timer_total.specs.Deadlines.{IsCounted};
+ghost use Rattle.std.specs.Prelude.{◌≡◌};
 
 use crate::fault::{Fault, see};
 use crate::wheels::MOST;
@@ -8,7 +8,7 @@ use timer_total::Timers;
 
 /// Makes room for the most timers, starts them, and takes this many after one tick, at which all of them expire.
 pub fn fill_total<W: Wheel + Drop>(wheel: W, taken: usize) -> Result<(), Fault>
-    requires { IsCounted 0 (W.state wheel) }
+    requires { (W.state wheel).last_serial ≡ 0 }
 {
     let mut timers = Timers::new(wheel, 0);
     see(timers.reserve(MOST).is_ok(), "room in total calls")?;

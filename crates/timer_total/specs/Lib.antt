@@ -3,3 +3,4 @@ pub mod Refusals
 pub mod Ticks
 pub mod Taken
 pub mod Drops
+pub mod TimersState

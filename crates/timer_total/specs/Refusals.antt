@@ -3,7 +3,8 @@ use Rattle.std.specs.Prelude.{ℕ, ◌≡◌, ◌+◌, ◌-◌, ◌<◌, ◌≤�
 use Rattle.timer_base.specs.declared.limits.TheConstants.{LAST}
 use Rattle.timer_base.specs.declared.timer.Timer.{Timer}
 use Rattle.timer_base.specs.declared.timer.Handle.{Handle}
-use Rattle.timer_base.specs.WheelState.{WheelState, held_count, held_at}
+use Rattle.timer_base.specs.WheelState.{held_count, held_at}
+use Rattle.timer_total.specs.TimersState.{TimersState}
 use Rattle.timer_total.specs.declared.fault.StartFault.{StartFault}
 use Rattle.timer_total.specs.declared.fault.StartFault.TheVariants as start
 use Rattle.timer_total.specs.declared.fault.RestartFault.{RestartFault}
@@ -12,9 +13,9 @@ use Rattle.timer_total.specs.declared.fault.AdvanceFault.{AdvanceFault}
 use Rattle.timer_total.specs.declared.fault.AdvanceFault.TheVariants as tick
 
 -- the timer that a start for this tick adds: the next serial, and the action under the client 0 and the number 0
-abbrev pub timer_due : ℕ → ℕ → WheelState → Timer
-timer_due deadline action w = record {
-  serial = w.last_serial + 1;
+abbrev pub timer_due : ℕ → ℕ → TimersState → Timer
+timer_due deadline action s = record {
+  serial = s.last_serial + 1;
   client = 0;
   number = 0;
   deadline = deadline;
@@ -22,48 +23,48 @@ timer_due deadline action w = record {
 }
 
 -- the timer that a start with this interval adds
-abbrev pub next_timer : ℕ → ℕ → WheelState → Timer
-next_timer interval action w = timer_due (w.now + interval) action w
+abbrev pub next_timer : ℕ → ℕ → TimersState → Timer
+next_timer interval action s = timer_due (s.wheel.now + interval) action s
 
 -- how many ticks are left until this one, 0 if it is not after now
-abbrev pub left_until : ℕ → WheelState → ℕ
-left_until deadline w = deadline - w.now
+abbrev pub left_until : ℕ → TimersState → ℕ
+left_until deadline s = deadline - s.wheel.now
 
 -- a timer with this interval may be started if memory is available
-abbrev pub IsStartable : ℕ → WheelState → Type 0
-IsStartable interval w = (0 < interval) × (w.now + interval ≤ w.last_tick) × (w.last_serial < LAST)
+abbrev pub IsStartable : ℕ → TimersState → Type 0
+IsStartable interval s = (0 < interval) × (s.wheel.now + interval ≤ s.wheel.last_tick) × (s.last_serial < LAST)
 
 -- as many timers are held as room was made for, or more: only then a start may find no memory
-abbrev pub IsRoomUsed : WheelState → Type 0
-IsRoomUsed w = w.room ≤ held_count w
+abbrev pub IsRoomUsed : TimersState → Type 0
+IsRoomUsed s = s.wheel.room ≤ held_count s.wheel
 
 -- why a start is refused before anything is allocated: the first test that holds
-abbrev pub WhyNotStarted : ℕ → WheelState → StartFault → Type 0
-WhyNotStarted interval w fault =
+abbrev pub WhyNotStarted : ℕ → TimersState → StartFault → Type 0
+WhyNotStarted interval s fault =
     ((fault ≡ start.ZeroInterval) × (interval ≡ 0))
-    ⊎ ((fault ≡ start.TooLate) × (0 < interval) × (w.last_tick < w.now + interval))
-    ⊎ ((fault ≡ start.SerialsSpent) × (0 < interval) × (w.now + interval ≤ w.last_tick)
-    × (LAST ≤ w.last_serial))
+    ⊎ ((fault ≡ start.TooLate) × (0 < interval) × (s.wheel.last_tick < s.wheel.now + interval))
+    ⊎ ((fault ≡ start.SerialsSpent) × (0 < interval) × (s.wheel.now + interval ≤ s.wheel.last_tick)
+    × (LAST ≤ s.last_serial))
 
 -- a timer waits under this handle
-abbrev pub IsAt : Handle → WheelState → Type 0
-IsAt handle w = IsSome (held_at handle w)
+abbrev pub IsAt : Handle → TimersState → Type 0
+IsAt handle s = IsSome (held_at handle s.wheel)
 
 -- why a restart is refused: the first test that holds, the handle before the interval
-abbrev pub WhyNotRestarted : Handle → ℕ → WheelState → RestartFault → Type 0
-WhyNotRestarted handle interval w fault =
-    ((fault ≡ restart.NotPending) × (held_at handle w ≡ None))
-    ⊎ ((fault ≡ restart.ZeroInterval) × IsAt handle w × (interval ≡ 0))
-    ⊎ ((fault ≡ restart.TooLate) × IsAt handle w × (0 < interval) × (w.last_tick < w.now + interval))
-    ⊎ ((fault ≡ restart.SerialsSpent) × IsAt handle w × (0 < interval) × (w.now + interval ≤ w.last_tick)
-    × (LAST ≤ w.last_serial))
+abbrev pub WhyNotRestarted : Handle → ℕ → TimersState → RestartFault → Type 0
+WhyNotRestarted handle interval s fault =
+    ((fault ≡ restart.NotPending) × (held_at handle s.wheel ≡ None))
+    ⊎ ((fault ≡ restart.ZeroInterval) × IsAt handle s × (interval ≡ 0))
+    ⊎ ((fault ≡ restart.TooLate) × IsAt handle s × (0 < interval) × (s.wheel.last_tick < s.wheel.now + interval))
+    ⊎ ((fault ≡ restart.SerialsSpent) × IsAt handle s × (0 < interval) × (s.wheel.now + interval ≤ s.wheel.last_tick)
+    × (LAST ≤ s.last_serial))
 
 -- why the clock does not advance; at its end nothing is left, neither due nor pending
-abbrev pub WhyNotTicked : WheelState → AdvanceFault → Type 0
-WhyNotTicked w fault =
-    ((fault ≡ tick.Due) × (0 < length w.due))
-    ⊎ ((fault ≡ tick.ClockEnd) × (w.due ≡ []) × (w.now ≡ w.last_tick) × (w.pending ≡ []))
+abbrev pub WhyNotTicked : TimersState → AdvanceFault → Type 0
+WhyNotTicked s fault =
+    ((fault ≡ tick.Due) × (0 < length s.wheel.due))
+    ⊎ ((fault ≡ tick.ClockEnd) × (s.wheel.due ≡ []) × (s.wheel.now ≡ s.wheel.last_tick) × (s.wheel.pending ≡ []))
 
 -- why no tick of those that were asked for is passed: for no tick there is no reason
-abbrev pub WhyNotAdvanced : ℕ → WheelState → AdvanceFault → Type 0
-WhyNotAdvanced most w fault = (0 < most) × WhyNotTicked w fault
+abbrev pub WhyNotAdvanced : ℕ → TimersState → AdvanceFault → Type 0
+WhyNotAdvanced most s fault = (0 < most) × WhyNotTicked s fault

@@ -2,18 +2,19 @@
 ghost use Rattle.std.specs.Prelude.{◌≡◌, ◌+◌, ◌<◌, ◌≤◌, ◌↔◌, ◌⊎◌, ℕ, [], length, IsTrue, IfOk, IfErr, OnOk, OnErr, None, Some};
 ghost use Rattle.timer_base.specs.declared.limits.TheConstants.{LAST};
 ghost use Rattle.timer_base.specs.WakeUps.{IsQuietUntil, next_deadline};
-ghost use Rattle.timer_base.specs.WheelState.{WheelState, held_at, first_due, after_start, after_held_start, after_removal, after_reserve, after_tick, after_expiry};
-ghost use Rattle.timer_total.specs.Deadlines.{interval_until, after_start_at, IsCounted};
+ghost use Rattle.timer_base.specs.WheelState.{held_at, first_due, after_start, after_held_start, after_removal, after_reserve, after_tick, after_expiry};
+ghost use Rattle.timer_total.specs.Deadlines.{interval_until, after_start_at};
 ghost use Rattle.timer_total.specs.Refusals.{next_timer, timer_due, left_until, IsAt, IsStartable, IsRoomUsed, WhyNotStarted, WhyNotRestarted, WhyNotTicked, WhyNotAdvanced};
 ghost use Rattle.timer_total.specs.Taken.{IsTakenBy};
-ghost use Rattle.timer_total.specs.Ticks.{IsAdvanced, numbered};
+ghost use Rattle.timer_total.specs.Ticks.{IsAdvanced};
+ghost use Rattle.timer_total.specs.TimersState.{with_wheel, with_start};
 ghost use Rattle.timer_total.specs.Drops.{without_due, after_drop};
 
 use crate::fault::{AdvanceFault, RestartFault, StartFault};
 use std::marker::Model;
 use timer_base::{Handle, LAST, OutOfMemory, Timer, Wheel};
 
-/// A wheel and the last serial that was used. Its model is the state of the wheel, with that serial.
+/// A wheel and the last serial that was used. Its model has both, and what the wheel counted.
 #[derive(Drop)]
 pub struct Timers<W: Wheel + Drop> {
     wheel: W,
@@ -22,50 +23,58 @@ pub struct Timers<W: Wheel + Drop> {
 }
 
 impl<W: Wheel + Drop> Model for Timers<W> {
-    ghost use Rattle.timer_base.specs.WheelState.{WheelState};
-    ghost use Rattle.timer_total.specs.Deadlines.{IsCounted};
-    ghost use Rattle.timer_total.specs.Ticks.{numbered};
+    ghost use Rattle.std.specs.Prelude.{◌≤◌};
+    ghost use Rattle.timer_total.specs.TimersState.{TimersState};
 
-    ghost Value = { WheelState };
+    ghost Value = { TimersState };
 
-    ghost view = { λ t. numbered t.last_serial (W.state t.wheel) };
+    ghost view = { λ t. record {
+      wheel = W.state t.wheel;
+      counts = W.counts t.wheel;
+      last_serial = t.last_serial;
+    } };
 
-    ghost invariant = { λ t. IsCounted t.last_serial (W.state t.wheel) };
+    ghost invariant = { λ t. (W.state t.wheel).last_serial ≤ t.last_serial };
 }
 
 impl<W: Wheel + Drop> Timers<W> {
     /// Wraps a wheel. The next start gets the serial after `last_serial`.
     pub fn new(wheel: W, last_serial: u64) -> Timers<W>
-        requires { IsCounted last_serial (W.state wheel) }
-        ensures { result ≡ numbered last_serial (W.state wheel) }
+        requires { (W.state wheel).last_serial ≤ last_serial }
+        ensures { result ≡ record {
+          wheel = W.state wheel;
+          counts = W.counts wheel;
+          last_serial = last_serial;
+        } }
     {
         Timers { wheel, last_serial }
     }
 
     /// The present tick.
     pub fn now(&self) -> u64
-        ensures { result ≡ self.now.now }
+        ensures { result ≡ self.now.wheel.now }
     {
         self.wheel.now()
     }
 
     /// The wheel, for what only its own readers show. Its last serial may be lower than that of the timers.
     pub fn wheel(&self) -> &W
-        ensures { numbered self.now.last_serial (W.state result.now) ≡ self.now }
+        ensures state { W.state result.now ≡ self.now.wheel }
+        ensures counts { W.counts result.now ≡ self.now.counts }
     {
         &self.wheel
     }
 
     /// How many timers are pending. Expired timers that were not yet taken are not counted.
     pub fn len(&self) -> usize
-        ensures { result ≡ length self.now.pending }
+        ensures { result ≡ length self.now.wheel.pending }
     {
         self.wheel.len()
     }
 
     /// Whether a timer expired and was not yet taken.
     pub fn has_due(&self) -> bool
-        ensures { IsTrue result ↔ (0 < length self.now.due) }
+        ensures { IsTrue result ↔ (0 < length self.now.wheel.due) }
     {
         self.wheel.has_due()
     }
@@ -80,8 +89,8 @@ impl<W: Wheel + Drop> Timers<W> {
     /// A tick until which nothing expires, or None exactly if nothing is pending. It is after the
     /// present tick and at most the first pending deadline, and exactly the wheel's `wake_up`.
     pub fn quiet_until(&self) -> Option<u64>
-        ensures quiet { IsQuietUntil result self.now }
-        ensures exact { result ≡ W.wake_up self.now.slots self.now.now self.now.pending }
+        ensures quiet { IsQuietUntil result self.now.wheel }
+        ensures exact { result ≡ W.wake_up self.now.wheel.slots self.now.wheel.now self.now.wheel.pending }
     {
         self.wheel.quiet_until()
     }
@@ -89,7 +98,7 @@ impl<W: Wheel + Drop> Timers<W> {
     /// The first pending deadline, or None exactly when nothing is pending. Expired timers are not looked at.
     /// Does not allocate. The wheel may walk timers to find it.
     pub fn next_deadline(&self) -> Option<u64>
-        ensures { result ≡ next_deadline self.now.pending }
+        ensures { result ≡ next_deadline self.now.wheel.pending }
     {
         self.wheel.next_deadline()
     }
@@ -97,7 +106,7 @@ impl<W: Wheel + Drop> Timers<W> {
     /// The first pending deadline, as `next_deadline` returns it. Nothing changes, but the wheel may keep what it
     /// found, so that the next call needs no walk. Does not allocate.
     pub fn find_next(&mut self) -> Option<u64>
-        ensures first { result ≡ next_deadline self.old.pending }
+        ensures first { result ≡ next_deadline self.old.wheel.pending }
         ensures same { self.new ≡ self.old }
     {
         self.wheel.find_next()
@@ -108,7 +117,7 @@ impl<W: Wheel + Drop> Timers<W> {
     ///
     /// While fewer are held, a start then finds memory, also after others were removed.
     pub fn reserve(&mut self, most: usize) -> Result<(), OutOfMemory>
-        ensures ok { OnOk result (self.new ≡ after_reserve most self.old) }
+        ensures ok { OnOk result (self.new ≡ with_wheel (after_reserve most self.old.wheel) self.old) }
         ensures err { OnErr result (self.new ≡ self.old) }
     {
         self.wheel.reserve(most)
@@ -116,8 +125,8 @@ impl<W: Wheel + Drop> Timers<W> {
 
     /// Starts a timer that expires after `interval` ticks, under the next serial.
     pub fn start(&mut self, interval: u64, action: u64) -> Result<Handle, StartFault>
-        ensures started { IfOk result (λ handle. self.new
-            ≡ after_start handle.place (next_timer interval action self.old) self.old) }
+        ensures started { IfOk result (λ handle. self.new ≡ with_start W.count_start
+            (after_start handle.place (next_timer interval action self.old) self.old.wheel) self.old) }
         ensures named { IfOk result (λ handle. handle.serial ≡ self.old.last_serial + 1) }
         ensures in_order { IfOk result (λ _. IsStartable interval self.old) }
         ensures fault { IfErr result (λ fault. WhyNotStarted interval self.old fault
@@ -150,11 +159,11 @@ impl<W: Wheel + Drop> Timers<W> {
     // Always inlined: else its result goes through memory.
     #[inline(always)]
     fn launch(&mut self, deadline: u64, action: u64) -> Result<Handle, StartFault>
-        requires not_past { self.old.now ≤ deadline }
-        requires deadline { deadline ≤ self.old.last_tick }
+        requires not_past { self.old.wheel.now ≤ deadline }
+        requires deadline { deadline ≤ self.old.wheel.last_tick }
         requires serial { self.old.last_serial < LAST }
-        ensures started { IfOk result (λ handle. self.new
-            ≡ after_held_start handle.place (timer_due deadline action self.old) self.old) }
+        ensures started { IfOk result (λ handle. self.new ≡ with_start W.count_start
+            (after_held_start handle.place (timer_due deadline action self.old) self.old.wheel) self.old) }
         ensures named { IfOk result (λ handle. handle.serial ≡ self.old.last_serial + 1) }
         ensures fault { IfErr result (λ fault. (fault ≡ StartFault.OutOfMemory) × IsRoomUsed self.old) }
         ensures err { OnErr result (self.new ≡ self.old) }
@@ -190,8 +199,8 @@ impl<W: Wheel + Drop> Timers<W> {
     /// A passed deadline is accepted exactly if the next tick is. So the error is never `ZeroInterval`, and
     /// at the last tick it is `TooLate` for each deadline. Otherwise the errors are those of `start`.
     pub fn start_at(&mut self, deadline: u64, action: u64) -> Result<Handle, StartFault>
-        ensures started { IfOk result (λ handle. self.new
-            ≡ after_start_at handle.place deadline action self.old) }
+        ensures started { IfOk result (λ handle. self.new ≡ with_start W.count_start
+            (after_start_at handle.place deadline action self.old.wheel self.old) self.old) }
         ensures named { IfOk result (λ handle. handle.serial ≡ self.old.last_serial + 1) }
         ensures in_order { IfOk result (λ _. IsStartable (interval_until deadline self.old) self.old) }
         ensures fault { IfErr result (λ fault. WhyNotStarted (interval_until deadline self.old) self.old fault
@@ -214,7 +223,7 @@ impl<W: Wheel + Drop> Timers<W> {
     /// The timer with exactly this handle, pending or expired and not yet taken, or None if there is none.
     /// Does not allocate.
     pub fn look(&self, handle: Handle) -> Option<Timer>
-        ensures { result ≡ held_at handle self.now }
+        ensures { result ≡ held_at handle self.now.wheel }
     {
         self.wheel.look(handle)
     }
@@ -222,9 +231,9 @@ impl<W: Wheel + Drop> Timers<W> {
     /// Removes the timer with exactly this handle, pending or expired and not yet taken, and returns it. If
     /// there is none, nothing changes. The handle is dead then: no timer has it. Does not allocate.
     pub fn stop(&mut self, handle: Handle) -> Option<Timer>
-        ensures timer { result ≡ held_at handle self.old }
-        ensures stopped { self.new ≡ after_removal handle self.old }
-        ensures dead { held_at handle self.new ≡ None }
+        ensures timer { result ≡ held_at handle self.old.wheel }
+        ensures stopped { self.new ≡ with_wheel (after_removal handle self.old.wheel) self.old }
+        ensures dead { held_at handle self.new.wheel ≡ None }
     {
         self.wheel.stop(handle)
     }
@@ -237,9 +246,9 @@ impl<W: Wheel + Drop> Timers<W> {
         interval: u64,
         action: u64,
     ) -> Result<Handle, RestartFault>
-        ensures restarted { IfOk result (λ made.
-            self.new ≡ after_start made.place (next_timer interval action self.old)
-            (after_removal handle self.old)) }
+        ensures restarted { IfOk result (λ made. self.new ≡ with_start W.count_start
+            (after_start made.place (next_timer interval action self.old) (after_removal handle self.old.wheel))
+            self.old) }
         ensures named { IfOk result (λ made. made.serial ≡ self.old.last_serial + 1) }
         ensures in_order { IfOk result (λ _. IsAt handle self.old × IsStartable interval self.old) }
         ensures fault { IfErr result (WhyNotRestarted handle interval self.old) }
@@ -259,14 +268,15 @@ impl<W: Wheel + Drop> Timers<W> {
         deadline: u64,
         action: u64,
     ) -> Result<Handle, RestartFault>
-        requires not_past { self.old.now ≤ deadline }
-        requires deadline { deadline ≤ self.old.last_tick }
+        requires not_past { self.old.wheel.now ≤ deadline }
+        requires deadline { deadline ≤ self.old.wheel.last_tick }
         requires serial { self.old.last_serial < LAST }
-        ensures replaced { IfOk result (λ made. self.new
-            ≡ after_held_start made.place (timer_due deadline action self.old) (after_removal handle self.old)) }
+        ensures replaced { IfOk result (λ made. self.new ≡ with_start W.count_start
+            (after_held_start made.place (timer_due deadline action self.old)
+            (after_removal handle self.old.wheel)) self.old) }
         ensures named { IfOk result (λ made. made.serial ≡ self.old.last_serial + 1) }
         ensures fault { IfErr result (λ fault. (fault ≡ RestartFault.NotPending)
-            × (held_at handle self.old ≡ None)) }
+            × (held_at handle self.old.wheel ≡ None)) }
         ensures err { OnErr result (self.new ≡ self.old) }
     {
         let timer = self.next(deadline, action);
@@ -288,8 +298,8 @@ impl<W: Wheel + Drop> Timers<W> {
         deadline: u64,
         action: u64,
     ) -> Result<Handle, RestartFault>
-        ensures restarted { IfOk result (λ made.
-            self.new ≡ after_start_at made.place deadline action (after_removal handle self.old)) }
+        ensures restarted { IfOk result (λ made. self.new ≡ with_start W.count_start
+            (after_start_at made.place deadline action (after_removal handle self.old.wheel) self.old) self.old) }
         ensures named { IfOk result (λ made. made.serial ≡ self.old.last_serial + 1) }
         ensures in_order { IfOk result (λ _. IsAt handle self.old
             × IsStartable (interval_until deadline self.old) self.old) }
@@ -311,12 +321,12 @@ impl<W: Wheel + Drop> Timers<W> {
         deadline: u64,
         action: u64,
     ) -> Result<Handle, StartFault>
-        ensures set { IfOk result (λ made.
-            self.new ≡ after_start_at made.place deadline action (after_removal handle self.old)) }
+        ensures set { IfOk result (λ made. self.new ≡ with_start W.count_start
+            (after_start_at made.place deadline action (after_removal handle self.old.wheel) self.old) self.old) }
         ensures named { IfOk result (λ made. made.serial ≡ self.old.last_serial + 1) }
         ensures in_order { IfOk result (λ _. IsStartable (interval_until deadline self.old) self.old) }
         ensures fault { IfErr result (λ fault. WhyNotStarted (interval_until deadline self.old) self.old fault
-            ⊎ ((fault ≡ StartFault.OutOfMemory) × (held_at handle self.old ≡ None)
+            ⊎ ((fault ≡ StartFault.OutOfMemory) × (held_at handle self.old.wheel ≡ None)
             × IsStartable (interval_until deadline self.old) self.old × IsRoomUsed self.old)) }
         ensures err { OnErr result (self.new ≡ self.old) }
     {
@@ -351,7 +361,12 @@ impl<W: Wheel + Drop> Timers<W> {
 
     /// Advances the clock by one tick: the pending timers with that deadline expire, and wait to be taken.
     pub fn tick(&mut self) -> Result<(), AdvanceFault>
-        ensures ticked { IfOk result (λ _. (self.old.due ≡ []) × (self.new ≡ after_tick self.old)) }
+        ensures due { IfOk result (λ _. self.old.wheel.due ≡ []) }
+        ensures ticked { IfOk result (λ _. self.new ≡ record {
+          wheel = after_tick self.old.wheel;
+          counts = W.count_tick self.old.wheel self.old.counts;
+          last_serial = self.old.last_serial;
+        }) }
         ensures fault { IfErr result (WhyNotTicked self.old) }
         ensures err { OnErr result (self.new ≡ self.old) }
     {
@@ -370,7 +385,7 @@ impl<W: Wheel + Drop> Timers<W> {
     ///
     /// Stretches in which nothing expires are skipped, as far as the wheel can skip them.
     pub fn advance(&mut self, most: u64) -> Result<u64, AdvanceFault>
-        ensures passed { IfOk result (λ passed. IsAdvanced most passed self.old self.new) }
+        ensures passed { IfOk result (λ passed. IsAdvanced W.count_advance most passed self.old self.new) }
         ensures fault { IfErr result (WhyNotAdvanced most self.old) }
         ensures err { OnErr result (self.new ≡ self.old) }
     {
@@ -390,7 +405,8 @@ impl<W: Wheel + Drop> Timers<W> {
     /// Passes ticks up to this one, as `advance`, and stops at the first at which a timer expires. A tick that
     /// is not after the present one is none to pass: then nothing changes, and there is no error.
     pub fn advance_to(&mut self, tick: u64) -> Result<u64, AdvanceFault>
-        ensures passed { IfOk result (λ passed. IsAdvanced (left_until tick self.old) passed self.old self.new) }
+        ensures passed { IfOk result (λ passed. IsAdvanced W.count_advance (left_until tick self.old) passed
+            self.old self.new) }
         ensures fault { IfErr result (WhyNotAdvanced (left_until tick self.old) self.old) }
         ensures err { OnErr result (self.new ≡ self.old) }
     {
@@ -399,8 +415,8 @@ impl<W: Wheel + Drop> Timers<W> {
 
     /// Removes the first of the expired timers, in order of starting, and returns it.
     pub fn expire(&mut self) -> Option<Timer>
-        ensures first { result ≡ first_due self.old }
-        ensures rest { self.new ≡ after_expiry self.old }
+        ensures first { result ≡ first_due self.old.wheel }
+        ensures rest { self.new ≡ with_wheel (after_expiry self.old.wheel) self.old }
     {
         self.wheel.expire()
     }
@@ -410,7 +426,7 @@ impl<W: Wheel + Drop> Timers<W> {
     ///
     /// With None the clock is at this tick, or at its last one, or was past it before. Does not allocate.
     pub fn take(&mut self, tick: u64) -> Option<Timer>
-        ensures { IsTakenBy tick result self.old self.new }
+        ensures { IsTakenBy W.count_advance tick result self.old self.new }
     {
         // Refused while an expired timer waits, and at the last tick: then no tick has to pass.
         let _passed = self.advance_to(tick);
@@ -420,7 +436,7 @@ impl<W: Wheel + Drop> Timers<W> {
     /// Drops every timer, pending or expired and not yet taken. The clock and the last serial stay. Does not
     /// allocate.
     pub fn clear(&mut self)
-        ensures { self.new ≡ after_drop self.old }
+        ensures { self.new ≡ with_wheel (after_drop self.old.wheel) self.old }
     {
         self.wheel.clear();
         drop_due(&mut self.wheel);
@@ -429,7 +445,8 @@ impl<W: Wheel + Drop> Timers<W> {
 
 /// Drops the timers that are due.
 fn drop_due<W: Wheel>(wheel: &mut W)
-    ensures { W.state wheel.new ≡ without_due (W.state wheel.old) }
+    ensures state { W.state wheel.new ≡ without_due (W.state wheel.old) }
+    ensures counts { W.counts wheel.new ≡ W.counts wheel.old }
 {
     while wheel.expire().is_some() {}
 }

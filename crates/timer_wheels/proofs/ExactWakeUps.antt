@@ -126,7 +126,11 @@ unfolding wide clock
 by_slots Wide = refl
 by_slots Clock = refl
 
+-- the radices of a wheel with the slots of its table
+pub radices_are : (table : Table) (slots : ℕ) → slots ≡ slots_of_table table → radices table ≡ radices_by_slots slots
+radices_are table slots e = sym (ap radices_by_slots e ∙ by_slots table)
+
 pub visit_by_slots : (table : Table) (slots now : ℕ) (es : List Entry) (o : Option ℕ) → slots ≡ slots_of_table table
     → o ≡ next_visit (radices table) now es → o ≡ next_visit (radices_by_slots slots) now es
 visit_by_slots table slots now es o e h =
-    h ∙ ap (λ (r : List ℕ). next_visit r now es) (sym (ap radices_by_slots e ∙ by_slots table))
+    h ∙ ap (λ (r : List ℕ). next_visit r now es) (radices_are table slots e)

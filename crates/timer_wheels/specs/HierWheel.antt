@@ -3,13 +3,15 @@ use Rattle.std.specs.Prelude.{◌≡◌, ◌⊎◌, ℕ, ◌+◌, ◌-◌, ◌<�
 use Rattle.std.proofs.Common.{sym, ◌∙◌}
 use Rattle.timer_base.specs.declared.fault.MakeFault.{MakeFault}
 use Rattle.timer_base.specs.declared.fault.MakeFault.TheVariants.{FirstTick, OutOfMemory}
+use Rattle.timer_base.specs.Counts.{WheelCounts}
 use Rattle.timer_base.specs.WheelState.{WheelState}
 use Rattle.timer_wheels.specs.Buckets.{state_of}
 use Rattle.timer_wheels.specs.declared.hier.HierWheel.{HierWheel}
 use Rattle.timer_wheels.specs.declared.table.Table.{Table}
 use Rattle.timer_wheels.specs.Digits.{lowest_radix}
 use Rattle.timer_wheels.specs.Placement.{hops_of, visited_between, has_any}
-use Rattle.timer_wheels.specs.Tables.{radices, table_by_slots}
+use Rattle.timer_wheels.specs.Tables.{table_by_slots}
+use Rattle.timer_wheels.specs.WakeUps.{radices_by_slots}
 
 -- the state of the wheel
 abbrev pub hier_state : HierWheel → WheelState
@@ -30,15 +32,6 @@ abbrev pub IsHierFault : ℕ → ℕ → MakeFault → Type 0
 IsHierFault last first_tick fault =
     ((fault ≡ FirstTick) × (last < first_tick)) ⊎ ((fault ≡ OutOfMemory) × (first_tick ≤ last))
 
--- the counts of a wheel since it was made
-pub record WheelCounts : Type 0 where
-  -- timers that were started or restarted
-  pub starts : ℕ
-  -- how often a timer moved to a lower wheel
-  pub moves : ℕ
-  -- buckets that were visited, counting those that were known to be empty
-  pub visits : ℕ
-
 -- its counts; each tick since it was made visited a bucket, except for those that it skipped
 abbrev pub counts_of : HierWheel → WheelCounts
 counts_of wheel = record {
@@ -58,13 +51,12 @@ with_ticks moves visits counts = record counts {
   visits = counts.visits + visits;
 }
 
--- how often the next ticks move a timer to a lower wheel
-abbrev pub hops_ahead : HierWheel → ℕ → ℕ
-hops_ahead wheel ticks =
-    hops_of (radices (table_of wheel)) (hier_state wheel).now ticks (hier_state wheel).pending
+-- the counts after a tick from this state: one bucket is visited
+abbrev pub counts_of_tick : WheelState → WheelCounts → WheelCounts
+counts_of_tick old counts = with_ticks (hops_of (radices_by_slots old.slots) old.now 1 old.pending) 1 counts
 
--- how many buckets are visited from one state of a wheel to a later one
-abbrev pub visits_to : HierWheel → HierWheel → ℕ
-visits_to old new =
-    visited_between (lowest_radix (radices (table_of old))) (hier_state old).now (hier_state new).now
-    (has_any (hier_state new).due)
+-- the counts after an advance from the first state to the second
+abbrev pub counts_of_advance : WheelState → WheelState → WheelCounts → WheelCounts
+counts_of_advance old new counts =
+    with_ticks (hops_of (radices_by_slots old.slots) old.now (new.now - old.now) old.pending)
+    (visited_between (lowest_radix (radices_by_slots old.slots)) old.now new.now (has_any new.due)) counts

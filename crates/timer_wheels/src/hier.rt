@@ -220,14 +220,20 @@ impl HierWheel {
     }
 }
 
-// A call that changes the wheel repeats the clauses of the trait, which its own would replace, and adds
-// what it counts.
 impl Wheel for HierWheel {
-    ghost use Rattle.timer_wheels.specs.HierWheel.{hier_state, table_of, counts_of, with_start, with_ticks, hops_ahead, visits_to};
+    ghost use Rattle.timer_wheels.specs.HierWheel.{hier_state, table_of, counts_of, with_start, counts_of_tick, counts_of_advance};
 
     ghost state = { λ wheel. hier_state wheel };
 
     ghost wake_up = { λ slots now pending. next_visit (radices_by_slots slots) now pending };
+
+    ghost counts = { λ wheel. counts_of wheel };
+
+    ghost count_start = { with_start };
+
+    ghost count_tick = { counts_of_tick };
+
+    ghost count_advance = { counts_of_advance };
 
     fn last_tick(&self) -> u64 {
         self.wheels.buckets.last_tick
@@ -251,30 +257,14 @@ impl Wheel for HierWheel {
 
     // Always inlined, as a restart is: the results of calls would go through memory.
     #[inline(always)]
-    fn start(&mut self, timer: Timer) -> Result<Handle, OutOfMemory>
-        requires not_past { (hier_state self.old).now ≤ timer.deadline }
-        requires deadline { timer.deadline ≤ (hier_state self.old).last_tick }
-        requires fresh { (hier_state self.old).last_serial < timer.serial }
-        requires serial { timer.serial ≤ LAST }
-        ensures named { IfOk result (λ handle. handle.serial ≡ timer.serial) }
-        ensures started { IfOk result (λ handle. hier_state self.new
-            ≡ after_held_start handle.place timer (hier_state self.old)) }
-        ensures full { OnErr result ((hier_state self.old).room ≤ held_count (hier_state self.old)) }
-        ensures err { OnErr result (hier_state self.new ≡ hier_state self.old) }
-        ensures counted { IfOk result (λ handle. counts_of self.new ≡ with_start (counts_of self.old)) }
-        ensures not_counted { OnErr result (counts_of self.new ≡ counts_of self.old) }
-    {
+    fn start(&mut self, timer: Timer) -> Result<Handle, OutOfMemory> {
         let handle = self.wheels.start(timer)?;
         let counts = &mut self.counts;
         counts.starts += 1;
         Ok(handle)
     }
 
-    fn reserve(&mut self, most: usize) -> Result<(), OutOfMemory>
-        ensures ok { OnOk result (hier_state self.new ≡ after_reserve most (hier_state self.old)) }
-        ensures err { OnErr result (hier_state self.new ≡ hier_state self.old) }
-        ensures counts { counts_of self.new ≡ counts_of self.old }
-    {
+    fn reserve(&mut self, most: usize) -> Result<(), OutOfMemory> {
         self.wheels.buckets.reserve(most)
     }
 
@@ -282,51 +272,25 @@ impl Wheel for HierWheel {
         self.wheels.buckets.look(handle)
     }
 
-    fn stop(&mut self, handle: Handle) -> Option<Timer>
-        ensures timer { result ≡ held_at handle (hier_state self.old) }
-        ensures stopped { hier_state self.new ≡ after_removal handle (hier_state self.old) }
-        ensures counts { counts_of self.new ≡ counts_of self.old }
-    {
+    fn stop(&mut self, handle: Handle) -> Option<Timer> {
         self.wheels.stop(handle)
     }
 
     #[inline(always)]
-    fn restart(&mut self, handle: Handle, timer: Timer) -> Option<(Handle, Timer)>
-        requires not_past { (hier_state self.old).now ≤ timer.deadline }
-        requires deadline { timer.deadline ≤ (hier_state self.old).last_tick }
-        requires fresh { (hier_state self.old).last_serial < timer.serial }
-        requires serial { timer.serial ≤ LAST }
-        ensures old { old_timer result ≡ held_at handle (hier_state self.old) }
-        ensures named { MatchOption result (Unit {0}) (λ r. r.0.serial ≡ timer.serial) }
-        ensures restarted { hier_state self.new ≡ after_replacement result handle timer (hier_state self.old) }
-        ensures counted { MatchOption result (counts_of self.new
-            ≡ counts_of self.old) (λ r. counts_of self.new ≡ with_start (counts_of self.old)) }
-    {
+    fn restart(&mut self, handle: Handle, timer: Timer) -> Option<(Handle, Timer)> {
         let restarted = self.wheels.restart(handle, timer)?;
         let counts = &mut self.counts;
         counts.starts += 1;
         Some(restarted)
     }
 
-    fn per_tick(&mut self)
-        requires nothing_due { (hier_state self.old).due ≡ [] }
-        requires before_last { (hier_state self.old).now < (hier_state self.old).last_tick }
-        ensures ticked { hier_state self.new ≡ after_tick (hier_state self.old) }
-        ensures counted { counts_of self.new ≡ with_ticks (hops_ahead self.old 1) 1 (counts_of self.old) }
-    {
+    fn per_tick(&mut self) {
         let moves = self.wheels.next_tick();
         let counts = &mut self.counts;
         counts.add_moves(moves);
     }
 
-    fn advance(&mut self, most: u64) -> u64
-        requires nothing_due { (hier_state self.old).due ≡ [] }
-        requires some { 0 < most }
-        requires before_last { most ≤ (hier_state self.old).last_tick - (hier_state self.old).now }
-        ensures advances { Advances most result (hier_state self.old) (hier_state self.new) }
-        ensures counted { counts_of self.new ≡ with_ticks (hops_ahead self.old result)
-            (visits_to self.old self.new) (counts_of self.old) }
-    {
+    fn advance(&mut self, most: u64) -> u64 {
         let table = self.wheels.table;
         let first = self.wheels.buckets.tick;
         let moves = self.wheels.advance_until_due(most);
@@ -359,19 +323,11 @@ impl Wheel for HierWheel {
 
     /// From the first call that walks a bucket on, first deadlines are kept, so that most calls need no walk. That of
     /// a bucket is lost if the last timer that has it is stopped or restarted, and others are left there.
-    fn find_next(&mut self) -> Option<u64>
-        ensures first { result ≡ next_deadline (hier_state self.old).pending }
-        ensures same { hier_state self.new ≡ hier_state self.old }
-        ensures counts { counts_of self.new ≡ counts_of self.old }
-    {
+    fn find_next(&mut self) -> Option<u64> {
         self.wheels.find_next()
     }
 
-    fn expire(&mut self) -> Option<Timer>
-        ensures first { result ≡ first_due (hier_state self.old) }
-        ensures rest { hier_state self.new ≡ after_expiry (hier_state self.old) }
-        ensures counts { counts_of self.new ≡ counts_of self.old }
-    {
+    fn expire(&mut self) -> Option<Timer> {
         self.wheels.buckets.expire()
     }
 
@@ -379,10 +335,7 @@ impl Wheel for HierWheel {
         self.wheels.buckets.list()
     }
 
-    fn clear(&mut self)
-        ensures cleared { hier_state self.new ≡ after_clear (hier_state self.old) }
-        ensures counts { counts_of self.new ≡ counts_of self.old }
-    {
+    fn clear(&mut self) {
         self.wheels.clear();
     }
 

@@ -12,7 +12,7 @@ const SIZES: [usize; 4] = [1, 8, 256, 65536];
 /// A name, the first tick, and the calls.
 type Row = (&'static str, u64, &'static [Call]);
 
-const ROWS: [Row; 20] = [
+const ROWS: [Row; 21] = [
     (
         "rollover",
         0,

@@ -6,13 +6,13 @@ use Rattle.timer_c.proofs.Batches.{IsTaken, taken_none, taken_next}
 use Rattle.timer_c.proofs.calls.expire_batch.Goals as goal
 
 pub loop-count-init : goal.loop-count-init
-loop-count-init g c = record { taken = taken_none c.args.out.now c.args.timers.now }
+loop-count-init c = record { taken = taken_none c.args.out.now c.args.timers.now }
 
 pub loop-count-preserved : goal.loop-count-preserved
-loop-count-preserved g c =
+loop-count-preserved c =
     let n = c.loop-count.count in let out = c.loop-count.out in let test = c.loop-count-test.true in
     let room : n < length c.args.out.now = omega arith in
-    let first : first_due c.loop-count.timers ≡ Some c.in-Some.timer = sym c.expire.ensures.first ∙ c.in-Some.is in
+    let first : first_due c.loop-count.timers.wheel ≡ Some c.in-Some.timer = sym c.expire.ensures.first ∙ c.in-Some.is in
     let next = taken_next n c.args.out.now out c.args.timers.now c.loop-count.timers c.expire.new.self c.in-Some.timer
     c.loop-count.invariant.taken first room c.expire.ensures.rest in
     record {

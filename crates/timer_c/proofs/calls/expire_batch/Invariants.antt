@@ -3,6 +3,6 @@ use Rattle.timer_c.proofs.calls.expire_batch.Given as goal
 
 -- this many were taken, and are written over the front of the array
 abbrev pub invariant-loop-count : goal.invariant-loop-count
-invariant-loop-count g l = record {
+invariant-loop-count l = record {
   taken : IsTaken l.count l.initial.out l.initial.timers l.out l.timers;
 }

@@ -1,7 +1,11 @@
-use Rattle.std.proofs.Common.{refl, sym, ◌∙◌}
+use Rattle.std.proofs.Common.{refl, sym, ◌∙◌, ap}
 use Rattle.timer_base.specs.HeldLaws.{none_removed}
+use Rattle.timer_base.specs.WheelState.{WheelState}
+use Rattle.timer_total.specs.TimersState.{with_wheel}
 use Rattle.timer_c.proofs.calls.stop.Goals as goal
 
 pub returns-in-None-clause-kept : goal.returns-in-None-clause-kept
-returns-in-None-clause-kept g c = λ refused.
-    (c.in-None.ensures.stopped ∙ sym (none_removed c.from_c_handle.result c.args.timers.now (sym c.in-None.ensures.timer)), refl)
+returns-in-None-clause-kept c = λ refused.
+    let s = c.args.timers.now in
+    let same = none_removed c.from_c_handle.result s.wheel (sym c.in-None.ensures.timer) in
+    (c.in-None.ensures.stopped ∙ ap (λ (w : WheelState). with_wheel w s) (sym same), refl)

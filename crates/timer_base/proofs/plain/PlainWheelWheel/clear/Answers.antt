@@ -18,7 +18,7 @@ invariant_of-self-clause-counted c =
     let s = c.args.self.now in
     rw c.keep_due.ensures.items (s.counted ∙ sym (due_count-after_clear s.now s.timers.items))
 
-pub returns : goal.returns
-returns c =
+pub returns-clause-cleared : goal.returns-clause-cleared
+returns-clause-cleared c =
     let s = c.args.self.now in
     rw c.keep_due.ensures.items (ap (with_room s.room) (plain_state-after_clear s.now s.last_serial s.timers.items))

@@ -14,8 +14,8 @@ invariant_of-self-clause-counted c =
     let s = c.args.self.now in
     c.count_due-self.ensures ∙ ap (due_count (s.now + 1)) c.as_slice.ensures.value
 
-pub returns : goal.returns
-returns c =
+pub returns-clause-ticked : goal.returns-clause-ticked
+returns-clause-ticked c =
     let s = c.args.self.now in
     ap (with_room s.room) (plain_state-after_tick s.now s.last_serial s.timers.items s.kept s.rising
     (none_of_them s.now s.last_serial s.timers.items c.requires.nothing_due))

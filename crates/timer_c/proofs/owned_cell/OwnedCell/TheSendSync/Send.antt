@@ -9,7 +9,7 @@ use denote.Struct.Owning.{shape, fields, to}
 use denote.Param.Send.{IsSend, AllSend, owning_send, struct_send, sendable}
 use Rattle.std.proofs.Crossing as free
 use Rattle.std_alloc.proofs.SendSync.{quiet, lies}
-use Rattle.timer_base.specs.WheelState.{WheelState}
+use Rattle.timer_total.specs.TimersState.{TimersState}
 use Rattle.timer_wheels.specs.contracts.hier.HierWheel as hier
 use Rattle.timer_wheels.specs.contracts.hier.HierWheelWheel.TheImpl as wheel
 use Rattle.timer_wheels.proofs.hier.HierWheel.TheSendSync as hier'
@@ -21,7 +21,7 @@ use Rattle.timer_c.specs.contracts.owned_cell.OwnedCell.{the_row, the_type}
 timers_send : IsSend the_timers
 timers_send = timers'.the_send hier.the_row wheel.ghosts hier'.the_send
 
-keyless : (held : Bool) (at : Ptr) (state : WheelState) → Keyless (owned_if the_timers held at state)
+keyless : (held : Bool) (at : Ptr) (state : TimersState) → Keyless (owned_if the_timers held at state)
 keyless true at state = (lies the_timers timers_send at state, free.frees.frees heap (raw (lone the_timers.mir)) at)
 keyless false at state = tt
 

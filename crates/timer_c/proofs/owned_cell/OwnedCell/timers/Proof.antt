@@ -31,7 +31,7 @@ use Rattle.std.proofs.VecSteps.Shapes.{after}
 use Rattle.std.specs.Box.Ownership.{box_owns}
 use Rattle.timer_ffi_base.specs.Cells.{is_open, owned_if, token}
 use Rattle.timer_c.specs.Slots.{the_timers}
-use Rattle.timer_base.specs.WheelState.{WheelState}
+use Rattle.timer_total.specs.TimersState.{TimersState}
 use Rattle.timer_c.specs.Lent.{with_state}
 use Rattle.timer_c.specs.contracts.owned_cell.OwnedCell as slot
 use Rattle.timer_c.specs.contracts.owned_cell.OwnedCell.{the_row as S}
@@ -53,7 +53,7 @@ module _ {M : Type 1} {𝓤 : Ura M} (𝓛 : Logic 𝓤) (s : S.Denot) (b o b' o
   behind = fsep (fsep (token (bare (lone the_timers.mir)) (block_ptr b' o')) (Words.own_val (to slot.the_type s) us))
       (cell_at full_share S.mir us b o)
 
-  whole_again : is_open s.mark ≡ true → s.at ≡ block_ptr b' o' → (w : WheelState)
+  whole_again : is_open s.mark ≡ true → s.at ≡ block_ptr b' o' → (w : TimersState)
       → ent 𝓤 (sep 𝓤 (sem 𝓛 ((mem the_timers).own_at w b' o')) (sem 𝓛 behind)) (sem 𝓛 ((mem S).own_at (with_state s w) b o))
   unfolding part_of
   whole_again opened at_b w =

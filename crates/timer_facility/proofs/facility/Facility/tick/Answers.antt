@@ -30,7 +30,7 @@ per_tick-requires-clause-nothing_due g c = nothing_due c.self.invariant c.self.v
 
 pub invariant_of-self : goal.invariant_of-self
 invariant_of-self g c = parts-tick c.self.invariant (nothing_due c.self.invariant c.self.view_is c.requires)
-    (g.W.Wheel.state c.per_tick.new.self) c.per_tick.ensures
+    (g.W.Wheel.state c.per_tick.new.self) c.per_tick.ensures.ticked
 
 pub returns-clause-ticked : goal.returns-clause-ticked
 returns-clause-ticked g c =
@@ -39,7 +39,7 @@ returns-clause-ticked g c =
     let told_now = c.now.ensures in
     let test = c.if-now-last_tick.false in
     view-tick c.self.invariant c.self.view_is c.requires c.if-self.false (λ e. test (told_now ∙ e ∙ sym told_last))
-    (g.W.Wheel.state c.per_tick.new.self) c.per_tick.ensures
+    (g.W.Wheel.state c.per_tick.new.self) c.per_tick.ensures.ticked
 
 pub returns-clause-fault : goal.returns-clause-fault
 returns-clause-fault g c =

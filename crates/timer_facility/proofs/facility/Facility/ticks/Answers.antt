@@ -28,7 +28,7 @@ invariant_of-self g c =
     let least = c.min.ensures in
     let most : c.min.result ≡ min c.args.limit (w.last_tick - w.now) = omega arith in
     parts-advanced c.self.invariant c.self.view_is c.requires.waiting c.if-self.false c.args.limit c.min.result c.advance.result most
-    (g.W.Wheel.state c.advance.new.self) c.advance.ensures
+    (g.W.Wheel.state c.advance.new.self) c.advance.ensures.advances
 
 pub returns-clause-ticked : goal.returns-clause-ticked
 returns-clause-ticked g c =
@@ -38,7 +38,7 @@ returns-clause-ticked g c =
     let least = c.min.ensures in
     let most : c.min.result ≡ min c.args.limit (w.last_tick - w.now) = omega arith in
     view-advanced c.self.invariant c.self.view_is c.requires.waiting c.if-self.false c.args.limit c.min.result c.advance.result most
-    (g.W.Wheel.state c.advance.new.self) c.advance.ensures
+    (g.W.Wheel.state c.advance.new.self) c.advance.ensures.advances
 
 pub returns-clause-fault : goal.returns-clause-fault
 returns-clause-fault g c =

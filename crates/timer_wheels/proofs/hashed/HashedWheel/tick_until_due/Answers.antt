@@ -17,14 +17,14 @@ per_tick-requires-clause-before_last c = before_last c.loop-passed.passed c.args
 pub loop-passed-preserved : goal.loop-passed-preserved
 loop-passed-preserved c = record {
   passing = passing_more c.loop-passed.passed (state_of c.args.self.now.buckets) (state_of c.loop-passed.self.buckets)
-      (state_of c.per_tick.new.self.buckets) c.loop-passed.invariant.passing c.per_tick.ensures
+      (state_of c.per_tick.new.self.buckets) c.loop-passed.invariant.passing c.per_tick.ensures.ticked
       (not_due (state_of c.per_tick.new.self.buckets).due c.has_due.result c.has_due.ensures c.if-has_due.false);
 }
 
 pub returns-then-has_due : goal.returns-then-has_due
 returns-then-has_due c = stops_early c.loop-passed.passed c.args.most (state_of c.args.self.now.buckets)
     (state_of c.loop-passed.self.buckets) (state_of c.per_tick.new.self.buckets) c.loop-passed.invariant.passing c.loop-passed-test.true
-    c.per_tick.ensures (c.has_due.ensures.0 c.if-has_due.true)
+    c.per_tick.ensures.ticked (c.has_due.ensures.0 c.if-has_due.true)
 
 pub returns : goal.returns
 returns c = let a : c.args.most ≤ c.loop-passed.passed = c.loop-passed-test.false

@@ -15,8 +15,8 @@ tick_until_due-passed-requires-clause-before_last c =
     let m : c.min.result ≡ min c.slots-revolution.result (c.args.most - c.loop-passed.passed) = c.min.ensures in
     omega arith
 
-pub returns-then-has_due : goal.returns-then-has_due
-returns-then-has_due c =
+pub returns-then-has_due-clause-advances : goal.returns-then-has_due-clause-advances
+returns-then-has_due-clause-advances c =
     let w = c.loop-passed.invariant in
     let mid = state_of c.loop-passed.self.buckets in
     let new = state_of c.tick_until_due-passed.new.self.buckets in

@@ -1,9 +1,13 @@
-use Rattle.std.proofs.Common.{◌<◌, ◌+◌, arith}
+use Rattle.std.proofs.Common.{◌≡◌, ◌<◌, ◌≤◌, ◌+◌, ◌-◌, ℕ, List, ap, ◌∙◌, arith}
+use Rattle.timer_base.specs.Counts.{WheelCounts}
+use Rattle.timer_base.specs.WheelState.{WheelState}
 use Rattle.timer_wheels.specs.Buckets.{state_of}
-use Rattle.timer_wheels.specs.Placement.{levels_of}
+use Rattle.timer_wheels.specs.Placement.{hops_of, levels_of}
 use Rattle.timer_wheels.specs.Tables.{radices}
 use Rattle.timer_wheels.proofs.HierLemmas.{paid_bound, moves_fit}
+use Rattle.timer_wheels.proofs.ExactWakeUps.{radices_are}
 use Rattle.timer_wheels.proofs.TableLaws.{of_table}
+use Rattle.timer_wheels.specs.declared.hier.Counts.{Counts}
 use Rattle.timer_wheels.proofs.hier.HierWheelWheel.per_tick.Goals as goal
 
 pub add_moves-requires : goal.add_moves-requires
@@ -17,3 +21,21 @@ add_moves-requires c =
     (state_of c.next_tick-moves.new.self.buckets).pending) (levels_of t w.wheels.buckets.tick (state_of w.wheels.buckets).pending) p
     c.next_tick-moves.ensures.falls in
     omega arith
+
+abbrev counts : ℕ → ℕ → ℕ → WheelCounts
+counts s m v = record { starts = s; moves = m; visits = v }
+
+pub returns-clause-counts : goal.returns-clause-counts
+returns-clause-counts c =
+    let w = c.args.self.now in
+    let b = w.wheels.buckets in
+    let n = c.next_tick-moves.new.self.buckets in
+    let k = w.counts in
+    let now : n.tick ≡ b.tick + 1 = ap (λ (u : WheelState). u.now) c.next_tick-moves.ensures.ticked in
+    let few = w.few_skipped in
+    let visits : n.tick - k.skipped ≡ b.tick - k.skipped + 1 = omega arith in
+    let moves = c.next_tick-moves.ensures.moves ∙ ap (λ (r : List ℕ). hops_of r b.tick 1 (state_of b).pending)
+    (radices_are w.wheels.table b.slots w.wheels.hier.has_slots) in
+    ap (λ (q : Counts). counts q.starts q.moves (n.tick - q.skipped)) c.add_moves.ensures
+    ∙ (ap (counts k.starts (k.moves + c.next_tick-moves.result)) visits
+    ∙ ap (λ (m : ℕ). counts k.starts (k.moves + m) (b.tick - k.skipped + 1)) moves)

@@ -1,0 +1,32 @@
+-- What a caller sees of `Timers`, and the state after a start and after ticks.
+use Rattle.std.specs.Prelude.{ℕ, ◌+◌, ◌==◌, if◌then◌else◌}
+use Rattle.timer_base.specs.Counts.{WheelCounts}
+use Rattle.timer_base.specs.WheelState.{WheelState}
+
+pub record TimersState : Type 0 where
+  -- the wheel's state; its last serial may be lower than that of the timers
+  pub wheel : WheelState
+  -- what the wheel counted
+  pub counts : WheelCounts
+  -- the serial of the last start or restart, also of one over an earlier wheel
+  pub last_serial : ℕ
+
+-- the wheel is in this state, and nothing was counted
+abbrev pub with_wheel : WheelState → TimersState → TimersState
+with_wheel wheel s = record s { wheel = wheel }
+
+-- a timer was started or restarted, and the wheel is in this state
+abbrev pub with_start : (WheelCounts → WheelCounts) → WheelState → TimersState → TimersState
+with_start count_start wheel s = record {
+  wheel = wheel;
+  counts = count_start s.counts;
+  last_serial = s.last_serial + 1;
+}
+
+-- how a wheel counts an advance from one state to another
+abbrev pub Counting : Type 0
+Counting = WheelState → WheelState → WheelCounts → WheelCounts
+
+-- the counts after an advance by this many ticks: one by none is no call of the wheel
+abbrev pub counts_of_ticks : Counting → ℕ → Counting
+counts_of_ticks count passed old new counts = if passed == 0 then counts else count old new counts
