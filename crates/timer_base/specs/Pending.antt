@@ -4,7 +4,7 @@ use Rattle.timer_base.specs.declared.timer.Timer.{Timer}
 use Rattle.timer_base.specs.declared.timer.Handle.{Handle}
 use Rattle.timer_base.specs.Order.{insert_by_deadline}
 
--- a pending timer and its place; its handle is the place and the timer's serial
+-- a held timer and its place; its handle is the place and the timer's serial
 pub record Entry : Type 0 where
   pub place : ℕ
   pub timer : Timer

@@ -16,7 +16,7 @@ pub record WheelState : Type 0 where
   pub now : ℕ
   -- by deadline, and then by serial
   pub pending : List Entry
-  -- by serial, each at the place where it was pending
+  -- by serial, each at its place
   pub due : List Entry
   -- 0 if none was started
   pub last_serial : ℕ

@@ -40,7 +40,7 @@ pub fn a_stopped_timer_is_gone()
     ensures { (w : WheelState) (handle : Handle) → held_at handle (after_removal handle w) ≡ None }
 {}
 
-/// When nothing is due, a look, a stop and a restart are of the pending timers alone.
+/// When nothing is due, a look and a stop are of the pending timers alone, and so is a restart for a later tick.
 pub fn with_nothing_due_calls_are_of_pending_timers()
     ensures look { (w : WheelState) (handle : Handle) → w.due ≡ [] → held_at handle w ≡ timer_at handle w }
     ensures stop { (w : WheelState) (handle : Handle) → IsWellFormed w → w.due ≡ []

@@ -107,7 +107,7 @@ pub trait Wheel {
     }
 
     /// Returns the timer with exactly this handle, place and serial, pending or due, or None if there is none.
-    /// A timer that becomes due keeps its handle until it is taken. Does not allocate.
+    /// A timer that becomes due keeps its handle until it is taken, stopped or restarted. Does not allocate.
     ///
     /// No handle names a pending timer and a due one.
     fn look(&self, handle: Handle) -> Option<Timer>

@@ -4,7 +4,7 @@
 //! the rules of that header; if it can't be done it returns a status that says why, and nothing changes.
 //!
 //!     exports      the functions that C calls: each checks that the struct is open, then forwards the call
-//!     calls        the calls over any wheel, with C's statuses and structs
+//!     calls        the calls, with C's statuses and structs
 //!     wheel_maker  a wheel by C's number for its table
 //!     c_timers     `struct timers`: the slot, and the last serial while the slot is empty
 //!     owned_cell   the slot: the two machine words by which it owns the timers on the heap; its four methods

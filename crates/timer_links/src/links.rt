@@ -412,8 +412,8 @@ impl Links {
 
     /// The first key in use from this one on, or None when no such key is in use. Does not allocate.
     ///
-    /// It looks at each key on the way. There are as many as the most nodes that were ever here at one time, and
-    /// up to 63 more, whatever `reserve` made room for.
+    /// It looks at each key on the way. In practice they are as many as the most nodes that were ever here at one
+    /// time, and up to 63 more, whatever `reserve` made room for.
     pub fn used_from(&self, from: usize) -> Option<usize>
         ensures found { IsFirstUsed from self.now.lists result }
         ensures in_range { IfSome result (λ key. key < INDEXES) }

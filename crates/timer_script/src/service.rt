@@ -1,4 +1,4 @@
-//! A session with a peer: each line is answered as soon as it is whole.
+//! Serves a peer: each line is answered as soon as it is whole.
 //!
 //! A turn reads once, plays the lines that came, and writes and flushes their answers. So whenever more
 //! is read, each whole line that came has been answered. A decorator may add text after an answer. A cutter

@@ -1,10 +1,10 @@
 //! The first deadline of each bucket above the lowest wheel of a hierarchy.
 //!
-//! A timer that comes to such a bucket is counted there if no other is earlier, and is no longer counted once it
+//! A timer that comes to such a bucket is counted there if its deadline is at most the bound, and no longer once it
 //! leaves (`first`). A slot of the lowest wheel is one tick, which is the deadline of all its timers: nothing is
 //! kept of it. A tick changes that of the bucket that it empties and of the buckets that its timers move to.
 //!
-//! They are kept from the first one on that is found by a walk. Until then none is known, and a timer that comes or
+//! They are kept from the first one on that a walk of `find_next` finds. Until then none is known, and a timer that comes or
 //! leaves pays for no more than to see that: a stop would have to find its bucket.
 ghost use Rattle.std.specs.Prelude.{◌≡◌, ◌<◌, ◌≤◌, [], ℕ, IfOk, length};
 ghost use Rattle.timer_wheels.specs.Digits.{bucket, slots, last_of, lowest_radix};

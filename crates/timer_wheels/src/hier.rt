@@ -211,7 +211,7 @@ impl HierWheel {
     /// The handle of the timer, pending or due, at this place or the first later one that has a timer, or
     /// None when there is none. Does not allocate.
     ///
-    /// It looks at each place on the way: there are at most 63 places more than there ever were timers at one time.
+    /// It looks at each place on the way: in practice at most 63 more than there ever were timers at one time.
     pub fn held_from(&self, place: usize) -> Option<Handle>
         ensures first { IsFirstHeld place (hier_state self.now) result }
         ensures in_range { IfSome result (λ handle. handle.place < 4294967296) }
