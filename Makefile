@@ -123,4 +123,4 @@ clean:
 	rm -rf crates/*/out build timers tools/install/*.[13]
 	$(MAKE) -C bench clean
 
-.PHONY: all lib pages run test prove try generate install uninstall dist deb bench bench-lines bench-scale bench-tail bench-desk hostile fuzz soak docs ports clean
+.PHONY: all lib pages run test prove try generate install uninstall dist deb bench bench-lines bench-scale bench-tail bench-next bench-desk hostile fuzz soak docs ports clean

@@ -78,6 +78,8 @@ def times():
 
 
 def main():
+    if set(sys.argv[1:]) - {"wheels", *SCRIPTS}:
+        sys.exit(__doc__)
     os.environ["RESULTS"] = figures.FOLDER = figures.KEPT
     settings = {row["part"]: row for row in figures.read("settings")}
     is_well = True

@@ -88,8 +88,9 @@
  *
  *     A move takes a timer to a lower wheel. A tick moves the timers of its bucket, unless they expire.
  *
- *     Of each bucket above the lowest wheel the first deadline is kept, and how many timers have it. A start, a
- *     restart, a stop and a move update that in constant time. It is lost if the last timer that has it is
+ *     From the first timers_find_next that walks a bucket on, the first deadline of each bucket above the lowest
+ *     wheel is kept, and how many timers have it. A bucket that has timers by then is walked once before its own is
+ *     known. A start, a restart, a stop and a move update that in constant time. It is lost if the last timer that has it is
  *     stopped or restarted, and others are left in the bucket. If that is the bucket of the next deadline,
  *     timers_next and timers_find_next look at each of its timers. timers_find_next keeps what it found: then
  *     both are constant until it is lost again.
@@ -157,8 +158,8 @@
  *     independent.
  *
  *     A `struct timers` may be handed from thread to thread by all that makes the one see what the other
- *     wrote: a lock, a thread's start or join, an atomic that the one stores with release order and the other
- *     loads with acquire order.
+ *     wrote. A lock does, a thread's start or join, or an atomic stored with release order and loaded with
+ *     acquire order.
  *
  *     No call waits for another thread, unless the allocator does. malloc, realloc and free are called only by
  *     the calls that MEMORY names, and by timers_free. No call is a cancellation point. timers_set_allocator
@@ -401,8 +402,8 @@ enum timers_status timers_tick(struct timers *t);
 enum timers_status timers_advance(struct timers *t, uint64_t most, uint64_t *passed);
 
 /* Passes the ticks up to `tick`, and stops at the first at which a timer expires, or at the last tick of the
- * clock. A tick that is not after the present one is none to pass: then nothing changes, and the status is
- * TIMERS_OK, also while an expired timer waits or at the last tick.
+ * clock. A tick that is not after the present one is none to pass. Then nothing changes and the status is
+ * TIMERS_OK. So it is while an expired timer waits, and at the last tick.
  * TIMERS_NOT_OPEN, TIMERS_DUE, TIMERS_CLOCK_END. */
 enum timers_status timers_advance_to(struct timers *t, uint64_t tick);
 

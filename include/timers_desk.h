@@ -49,12 +49,11 @@
  *
  *     Either end may be freed while the other goes on. The owner learns by timers_desk_line_freed that a
  *     client's line was freed. What the client sent before is still taken; words to it are dropped by the
- *     flushes. A client learns by timers_line_abandoned that the desk was freed, once it has received all
- *     words that a flush had moved into its line before; words that waited in its outbox are lost. So a
- *     client's loop ends if timers_line_ended or timers_line_abandoned returns true.
+ *     flushes. A client learns by timers_line_abandoned that the desk was freed. That is once it has received
+ *     all words that a flush had moved into its line. Words that waited in its outbox are lost. So a client's loop ends if timers_line_ended or timers_line_abandoned returns true.
  *
- *     Clients come and go. Once a client has freed its line, all that it sent was taken, and none of its
- *     timers is pending, timers_desk_open opens a line under the same number for another client. Its timers
+ *     Clients come and go. A line that was freed is opened again for another client by timers_desk_open, under
+ *     the same number. By then all that was sent was taken, no word waits, and no timer is pending. The timers
  *     need not expire before: timers_desk_stop_pending stops all of them in one call. The numbers of the new
  *     client's requests go on from those of the client before, since the desk counts them. The new line shares
  *     nothing with the old one, which is gone with all that stood in it. So no word of the old client reaches
@@ -96,8 +95,8 @@
  *     crates/timer_desk_c/src/desk_exports.rt or line_exports.rt, for every call that keeps the rules
  *     below. Nothing checks that a caller keeps them. Nothing is proved about time: when a thread runs, and
  *     when a word arrives. Nor is what timers_desk_line_freed and timers_line_abandoned return about the
- *     other end. It is proved that they change nothing, and that they look in the right order: only once the
- *     desk was seen to be gone do words that are missing count, so that none that was put before is lost. The
+ *     other end. It is proved that they change nothing, and that they look in the right order. Words that
+ *     are missing count only once the desk was seen to be gone, so that none that was put before is lost. The
  *     same holds of a client's requests before its line is opened again.
  *
  * RULES
@@ -200,7 +199,7 @@ enum timers_desk_status {
 #define TIMERS_DESK_CLIENTS 64   /* the most clients */
 
 /* The kinds of words, and the members of a word that each one sets. A request gets the first reason that
- * holds: CLOSED and NUMBERS_SPENT before all others. Then a start is tested for ZERO_INTERVAL, TOO_LATE,
+ * holds: CLOSED, REPEATED and NUMBERS_SPENT before all others, in this order. Then a start is tested for ZERO_INTERVAL, TOO_LATE,
  * SERIALS_SPENT and CAPACITY; a restart for NOT_PENDING, ZERO_INTERVAL, TOO_LATE and SERIALS_SPENT; and a stop
  * for NOT_PENDING. */
 enum timers_word_kind {
@@ -361,8 +360,8 @@ enum timers_desk_status timers_desk_end_all(struct timers_desk *d, struct timers
 TIMERS_CHECKED
 enum timers_desk_status timers_desk_stop_pending(struct timers_desk *d, size_t client, size_t *stopped);
 
-/* Opens a line for another client under the number of one that is gone: its line was freed, each request that it sent
- * was taken, no word waits for it (a flush drops them), and no timer of it is pending. `line` holds the new client's
+/* Opens a line for another client under the number of one that is gone. That one's line was freed, and each request
+ * that it sent was taken. No word waits for it (a flush drops them), and no timer of it is pending. `line` holds the new client's
  * end from then on, and has room for `room` requests and as many words, as `line` in struct timers_desk_config. The
  * numbers of the client's requests go on: the first is one above the last that was taken. Waits for no thread.
  * TIMERS_DESK_NOT_OPEN (the desk), TIMERS_DESK_OPEN (`line` holds one), TIMERS_DESK_NO_CLIENT, TIMERS_DESK_OUT_OF_RANGE
@@ -472,7 +471,7 @@ static TIMERS_INLINE const char *timers_desk_message(enum timers_desk_status sta
 	case TIMERS_DESK_OPEN: return "a desk or a line is held already";
 	case TIMERS_DESK_NO_MEMORY: return "out of memory";
 	case TIMERS_DESK_NOT_PENDING: return "no timer of the client has this handle";
-	case TIMERS_DESK_ZERO_INTERVAL: return "the interval is 0";
+	case TIMERS_DESK_ZERO_INTERVAL: return "the interval is 0, or the deadline has passed";
 	case TIMERS_DESK_TOO_LATE: return "after the last tick";
 	case TIMERS_DESK_SERIALS_SPENT: return "every serial was used";
 	case TIMERS_DESK_CLOCK_END: return "the clock is at its last tick";

@@ -111,8 +111,8 @@ EOT
 declared() {
     sed -n 's/^[a-z].*[ *]\(timers_[a-z_]*\)(\(\(const \)*struct timers.*\|void \*(\*.*\|void);\)$/\1/p' include/timers.h include/timers_desk.h | sort
 }
-@test "the shared object exports the headers' 56 functions and no more" {
-    [ "$(declared | wc -l)" -eq 56 ]
+@test "the shared object exports the headers' 59 functions and no more" {
+    [ "$(declared | wc -l)" -eq 59 ]
     diff <(declared) <(nm -D --defined-only "$lib/libtimers.so" | sed -n 's/.* T \([^@]*\).*/\1/p' | sort)
 }
 @test "only they can be linked with in the archive, and a shared object that embeds it exports none of them" {

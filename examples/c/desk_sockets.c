@@ -182,7 +182,7 @@ int main(void)
 	address.sin_addr.s_addr = htonl(INADDR_LOOPBACK);
 	need(bind(listener, (struct sockaddr *)&address, size) == 0 && listen(listener, PEERS) == 0, "no listener");
 	need(getsockname(listener, (struct sockaddr *)&address, &size) == 0, "no port");
-	need(timers_desk_new(&desk, lines, LINES, &config) == TIMERS_DESK_OK, "no desk");
+	need(!timers_desk_new(&desk, lines, LINES, &config) && !timers_desk_reserve(&desk), "no desk, or no room for its timers");
 	owners_bell = eventfd(0, EFD_NONBLOCK);
 	for (size_t c = 0; c < LINES; c++)              /* moved: lines[c] is not used from here on */
 		connections[c].line = lines[c], connections[c].bell = eventfd(0, EFD_NONBLOCK);
