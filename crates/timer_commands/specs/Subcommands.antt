@@ -55,10 +55,14 @@ abbrev pub HasServedStreams : {R S F : Type 0} → OnBadLine → Decoration → 
     → (old new : Channels R S F) → Result Bool ServeFault → Type 0
 HasServedStreams on_bad Adds before bytes old new result =
     HasServed (server_with on_bad Adds before bytes.reports)
-    (record { peer = streams_state bytes.remaining bytes.contents old.streams.reader old.streams.writer;
-    faults = old.faults })
-    (record { peer = streams_state bytes.remaining bytes.contents new.streams.reader new.streams.writer;
-    faults = new.faults }) result
+    (record {
+      peer = streams_state bytes.remaining bytes.contents old.streams.reader old.streams.writer;
+      faults = old.faults;
+    })
+    (record {
+      peer = streams_state bytes.remaining bytes.contents new.streams.reader new.streams.writer;
+      faults = new.faults;
+    }) result
 
 -- the exit status of serving
 abbrev pub serving_status : Result Bool ServeFault → ℕ
