@@ -7,7 +7,8 @@ use Rattle.timer_base.specs.declared.timer.Timer.{Timer}
 use Rattle.timer_base.specs.declared.timer.Handle.{Handle}
 use Rattle.timer_base.specs.Order.{is_before, insert_in_order, in_order}
 use Rattle.timer_base.specs.Pending.{Entry, timers_of, has_handle, first_timer}
-use Rattle.timer_base.specs.WheelState.{WheelState, IsPending, timer_at, due_at}
+use Rattle.timer_base.specs.HeldLaws.{held_when_none_due}
+use Rattle.timer_base.specs.WheelState.{WheelState, IsPending, timer_at, held_at}
 use Rattle.timer_links.specs.declared.node.Node.{Node}
 use Rattle.timer_links.specs.Lists.{list_at, node_at, AreApart, KeyedLists}
 use Rattle.timer_wheels.specs.declared.hier.HierWheel.{HierWheel}
@@ -150,22 +151,17 @@ some_of : (o : Option Timer) → IsSome o → (t : Timer) × (o ≡ Some t)
 some_of None h = absurd (cc)
 some_of (Some t) h = (t, refl)
 
-nothing_due_at : (handle : Handle) (w : WheelState) → w.due ≡ [] → due_at handle w ≡ None
-nothing_due_at handle w e = ap (λ es. first_timer (has_handle handle) es) e
-
 first_at : (rounds_of : Timer → ℕ) (lists : KeyedLists) (w : WheelState) (from : ℕ) (handle : Handle)
     → AllByRecursion (IsUnder rounds_of lists) w.pending → w.due ≡ [] → IsFirstHeld from w (Some handle) → IsFirstAt from w.pending handle
-first_at rounds_of lists w from handle under none h = elim h.1 [
-  | inl held ↦ let some = some_of (timer_at handle w) held in record {
-    from_on = h.0;
-    timer = some.0;
-    there = some.1;
-    alone = alone_at rounds_of lists handle some.0 w.pending under some.1;
-    elsewhere = h.2;
-  }
-  | inr due ↦ let some = some_of (due_at handle w) due in
-      absurd (let e : None ≡ Some some.0 = sym (nothing_due_at handle w none) ∙ some.1 in cc)
-]
+first_at rounds_of lists w from handle under none h =
+    let some = some_of (held_at handle w) h.1 in
+    let there : timer_at handle w ≡ Some some.0 = sym (held_when_none_due handle w none) ∙ some.1 in record {
+      from_on = h.0;
+      timer = some.0;
+      there = there;
+      alone = alone_at rounds_of lists handle some.0 w.pending under there;
+      elsewhere = h.2;
+    }
 
 -- what a wheel without due timers has from a place on
 pub first_pending : (wheel : HierWheel) (lists : KeyedLists) (from : ℕ) (found : Option Handle)
