@@ -90,7 +90,7 @@
  *
  *     From the first timers_find_next that walks a bucket on, the first deadline of each bucket above the lowest
  *     wheel is kept, and how many timers have it. A bucket that has timers by then is walked once before its own is
- *     known. A start, a restart, a stop and a move update that in constant time. It is lost if the last timer that has it is
+ *     known. Before that, timers_next looks at each timer of the next deadline's bucket. A start, a restart, a stop and a move update that in constant time. It is lost if the last timer that has it is
  *     stopped or restarted, and others are left in the bucket. If that is the bucket of the next deadline,
  *     timers_next and timers_find_next look at each of its timers. timers_find_next keeps what it found: then
  *     both are constant until it is lost again.
