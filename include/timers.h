@@ -89,11 +89,11 @@
  *     A move takes a timer to a lower wheel. A tick moves the timers of its bucket, unless they expire.
  *
  *     From the first timers_find_next that walks a bucket on, the first deadline of each bucket above the lowest
- *     wheel is kept, and how many timers have it. A bucket that has timers by then is walked once before its own is
- *     known. Before that, timers_next looks at each timer of the next deadline's bucket. A start, a restart, a stop and a move update that in constant time. It is lost if the last timer that has it is
- *     stopped or restarted, and others are left in the bucket. If that is the bucket of the next deadline,
- *     timers_next and timers_find_next look at each of its timers. timers_find_next keeps what it found: then
- *     both are constant until it is lost again.
+ *     wheel is kept, and how many timers have it. A start, a restart, a stop and a move update that in constant
+ *     time. A bucket that has timers by then is walked once before its own is known. It is lost if the last timer
+ *     that has it is stopped or restarted, and others are left in the bucket. If the bucket of the next deadline
+ *     has none that is known, timers_next and timers_find_next look at each of its timers. timers_find_next keeps
+ *     what it found, timers_next does not. So a loop that asks in each turn calls timers_find_next.
  *
  *     Two of these are proved. No start returns TIMERS_NO_MEMORY while fewer timers are held than
  *     timers_reserve made room for. And there are at most 9 moves for each start and restart. (With
