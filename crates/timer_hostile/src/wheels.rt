@@ -3,7 +3,6 @@ ghost use Rattle.std.specs.Prelude.{◌≡◌, IfOk};
 ghost use Rattle.timer_base.specs.declared.limits.TheConstants.{LAST};
 ghost use Rattle.timer_base.specs.declared.plain.PlainWheel.{PlainWheel};
 ghost use Rattle.timer_base.specs.WheelState.{empty_wheel};
-ghost use Rattle.timer_total.specs.Deadlines.{IsCounted};
 ghost use Rattle.timer_wheels.specs.declared.hashed.HashedWheel.{HashedWheel};
 ghost use Rattle.timer_wheels.specs.declared.hier.HierWheel.{HierWheel};
 ghost use Rattle.timer_wheels.specs.Tables.{last_of_table, slots_of_table};
@@ -142,7 +141,7 @@ fn expire_at_next_tick<W: Wheel + Drop>(timers: &mut Timers<W>) -> Result<(), Fa
 
 /// Starts a hundred timers, and lets each of them expire. In their room, each call is made that doesn't allocate.
 pub fn start_a_hundred<W: Wheel + Drop>(wheel: W) -> Result<(), Fault>
-    requires { IsCounted 0 (W.state wheel) }
+    requires { (W.state wheel).last_serial ≡ 0 }
 {
     let mut timers = Timers::new(wheel, 0);
     for _ in 0..STARTS {
@@ -157,7 +156,7 @@ pub fn start_a_hundred<W: Wheel + Drop>(wheel: W) -> Result<(), Fault>
 
 /// Starts a few timers, and lists them.
 pub fn list_a_few<W: Wheel + Drop>(wheel: W) -> Result<(), Fault>
-    requires { IsCounted 0 (W.state wheel) }
+    requires { (W.state wheel).last_serial ≡ 0 }
 {
     let mut timers = Timers::new(wheel, 0);
     for last in 1..=5 {
